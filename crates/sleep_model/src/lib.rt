@@ -1,0 +1,26 @@
+//! Plain data of a machine and of its sleep log, and the definitions that every contract cites.
+#![tactic(auto)]
+
+mod entry;
+mod flags;
+mod list;
+mod log;
+mod machine;
+mod name;
+mod phase;
+mod word;
+
+pub use entry::{
+    Actor, Entry, EntryList, FrozeEnd, Group, JournalEntry, Kind, SkipCause, SourceEntry,
+    SourceList, State, Thaw,
+};
+pub use flags::DeviceFlags;
+pub use list::ListOf;
+pub use log::{Log, LogEnd, Move, Runtime, Stats, Waiting, Want, Why};
+pub use machine::{
+    Answer, Device, Link, Machine, Notifier, Op, PlatDo, PlatPart, PlatUndo, Report, Script,
+    SourceCall, Step, TaskKind, Text, What,
+};
+pub use name::{NAME_BYTES, Name};
+pub use phase::Phase;
+pub use word::{EventNow, Stamp, WordKind, WordStep, pos};
