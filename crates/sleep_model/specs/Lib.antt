@@ -1,3 +1,13 @@
 pub mod Accepted
+pub mod Due
+pub mod Guard
+pub mod Legal
 pub mod NameBytes
+pub mod Numbers
+pub mod Order
+pub mod Path
+pub mod Scripts
+pub mod Seats
+pub mod Text
+pub mod Walk
 pub mod Word

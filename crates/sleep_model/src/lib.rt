@@ -8,6 +8,7 @@ mod log;
 mod machine;
 mod name;
 mod phase;
+mod place;
 mod word;
 
 pub use entry::{
@@ -23,4 +24,5 @@ pub use machine::{
 };
 pub use name::{NAME_BYTES, Name};
 pub use phase::Phase;
+pub use place::{Due, Row, Seat};
 pub use word::{EventNow, Stamp, WordKind, WordStep, pos};

@@ -1,0 +1,103 @@
+-- What is due of an actor at a place: at most one entry is legal there, given the word that it sees.
+use Rattle.std.specs.Prelude.{ℕ, ◌+◌, Bool, true, false, ◌==◌, ◌&&◌, nat_lt, nat_le, List, length, if◌then◌else◌, Option, Some, None, unwrap_or, slice_get, slice_index_or}
+use Rattle.sleep_base.specs.declared.errno.Errno.{Errno}
+use Rattle.sleep_base.specs.declared.errno.Errno.TheVariants.{EINVAL}
+use Rattle.sleep_model.specs.declared.word.EventNow.{EventNow}
+use Rattle.sleep_model.specs.declared.entry.Actor.{Actor}
+use Rattle.sleep_model.specs.declared.entry.Actor.TheVariants as actor
+use Rattle.sleep_model.specs.declared.entry.Entry.{Entry}
+use Rattle.sleep_model.specs.declared.entry.Kind.TheVariants as kind
+use Rattle.sleep_model.specs.declared.entry.SkipCause.TheVariants.{Pending}
+use Rattle.sleep_model.specs.declared.phase.Phase.TheVariants as phase
+use Rattle.sleep_model.specs.declared.machine.Machine.{Machine}
+use Rattle.sleep_model.specs.declared.machine.Script.{Script}
+use Rattle.sleep_model.specs.declared.machine.Op.{Op}
+use Rattle.sleep_model.specs.declared.machine.Op.TheVariants as op
+use Rattle.sleep_model.specs.declared.log.Why.TheVariants as why
+use Rattle.sleep_model.specs.declared.place.Seat.{Seat}
+use Rattle.sleep_model.specs.declared.place.Row.{Row}
+use Rattle.sleep_model.specs.declared.place.Row.TheVariants as row
+use Rattle.sleep_model.specs.declared.place.Due.{Due}
+use Rattle.sleep_model.specs.declared.place.Due.TheVariants.{Makes, Waits, Gone}
+use Rattle.sleep_model.specs.Word.{visible, position}
+use Rattle.sleep_model.specs.Numbers.{time_of}
+use Rattle.sleep_model.specs.Guard.{in_force, pending}
+use Rattle.sleep_model.specs.Seats.{seats, first_seat}
+use Rattle.sleep_model.specs.Path.{attempts, maker, row_of, failure}
+use Rattle.sleep_model.specs.Walk.{inside, error_of, next_down, next_up}
+use Rattle.sleep_model.specs.Scripts.{entry_steps}
+
+-- the walk of suspend at its next device: a pending wakeup skips it, else its callback begins
+abbrev pub take_down : Option ℕ → Bool → Due
+take_down None busy = Makes (kind.Done phase.Suspend None)
+take_down (Some d) busy = if busy then Makes (kind.Skip phase.Suspend d Pending) else Makes (kind.Begin phase.Suspend d)
+
+-- between callbacks of suspend: an error ends the phase, else the walk goes on
+abbrev pub between_down : Option Errno → Option ℕ → Bool → Due
+between_down (Some r) next busy = Makes (kind.Done phase.Suspend (Some r))
+between_down None next busy = take_down next busy
+
+-- suspend (dpm_suspend): a callback that runs ends, and answers 0
+abbrev pub suspend_due : Option ℕ → Option Errno → Option ℕ → Bool → Due
+suspend_due (Some d) error next busy = Makes (kind.End phase.Suspend d None)
+suspend_due None error next busy = between_down error next busy
+
+-- the walk of resume at its next device
+abbrev pub take_up : Option ℕ → Due
+take_up None = Makes (kind.Done phase.Resume None)
+take_up (Some d) = Makes (kind.Begin phase.Resume d)
+
+-- resume (dpm_resume): it tests for no wakeup
+abbrev pub resume_due : Option ℕ → Option ℕ → Due
+resume_due (Some d) next = Makes (kind.End phase.Resume d None)
+resume_due None next = take_up next
+
+-- a sleeping machine wakes by a step of the word, else by the alarm
+abbrev pub wake_due : ℕ → ℕ → ℕ → ℕ → Due
+wake_due pos until now time = if nat_lt pos now then Makes (kind.Wake true) else (if nat_le until time then Makes (kind.Wake false) else Waits why.Asleep)
+
+-- the maker's next entry in its attempt, by the table of the attempt
+abbrev pub path_due : Machine → List Entry → EventNow → Row → Due
+path_due m past now row.Outside = Gone
+path_due m past now row.Suspend = suspend_due (inside past) (error_of past) (next_down m past) (pending past now)
+path_due m past now row.Enter = Makes (kind.Enter (pending past now))
+path_due m past now (row.Asleep pos since) = wake_due pos (since + m.alarm_ms) (position now) (time_of past)
+path_due m past now row.Resume = resume_due (inside past) (next_up m past)
+path_due m past now row.Clear = Makes kind.Clear
+path_due m past now row.Over = Makes (kind.Over (attempts past) (failure past))
+
+-- a read answers the count where no event is in progress, else it says once that it waits (pm_get_wakeup_count)
+abbrev pub read_due : EventNow → Bool → Due
+read_due now waits = if now.inpr == 0 then Makes (kind.Read (visible now)) else (if waits then Waits why.InProgress else Makes kind.ReadWait)
+
+-- a save is ok exactly where its number is the count and no event is in progress (pm_save_wakeup_count)
+abbrev pub save_due : EventNow → ℕ → Due
+save_due now c = if (visible now == c) && (now.inpr == 0) then Makes (kind.Saved c) else Makes (kind.SaveErr c EINVAL)
+
+-- the script's next step, or its exit
+abbrev pub step_due : List Entry → EventNow → Seat → Option Op → Due
+step_due past now seat None = Makes kind.Exit
+step_due past now seat (Some op.Read) = read_due now seat.waits
+step_due past now seat (Some (op.Save None)) = save_due now (unwrap_or seat.last_read 0)
+step_due past now seat (Some (op.Save (Some c))) = save_due now c
+step_due past now seat (Some (op.State text if_saved)) = Makes (kind.Attempt (attempts past + 1) (in_force past))
+-- no file may use the others yet
+step_due past now seat (Some _) = Gone
+
+-- a script that has exited makes nothing more
+abbrev pub seat_due : List Entry → EventNow → Option Script → Seat → Due
+seat_due past now None seat = Gone
+seat_due past now (Some s) seat = if seat.exited then Gone else step_due past now seat (slice_get (entry_steps s) seat.done)
+
+-- the maker of the open attempt follows its path, another script its own steps
+abbrev pub script_due : Machine → List Entry → EventNow → ℕ → Option Actor → Due
+script_due m past now i (Some (actor.Script j)) = if j == i then path_due m past now (row_of past) else seat_due past now (slice_get m.actors i) (slice_index_or (seats (length m.actors) past) i first_seat)
+script_due m past now i _ = seat_due past now (slice_get m.actors i) (slice_index_or (seats (length m.actors) past) i first_seat)
+
+-- what is due of an actor that sees this word
+abbrev pub due : Machine → List Entry → Actor → EventNow → Due
+due m past (actor.Script i) now = script_due m past now i (maker past)
+due m past actor.Auto now = Waits why.NoWork
+due m past (actor.Dev d) now = Waits why.NotScheduled
+due m past (actor.Timer s) now = Gone
+due m past actor.Time now = Gone

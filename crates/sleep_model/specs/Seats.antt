@@ -1,0 +1,48 @@
+-- Where each script stands: what its own entries made of its steps.
+use Rattle.std.specs.Prelude.{ℕ, ◌+◌, true, false, List, [], ◌∷◌, slice_set, slice_index_or, replicate, Some, None}
+use Rattle.sleep_model.specs.declared.entry.Actor.{Actor}
+use Rattle.sleep_model.specs.declared.entry.Actor.TheVariants.{Script}
+use Rattle.sleep_model.specs.declared.entry.Entry.{Entry}
+use Rattle.sleep_model.specs.declared.entry.Kind.{Kind}
+use Rattle.sleep_model.specs.declared.entry.Kind.TheVariants.{ReadWait, Read, Saved, SaveErr, Over, Exit}
+use Rattle.sleep_model.specs.declared.place.Seat.{Seat}
+
+-- what an entry of a script does to its place
+pub data SeatPart : Type 0 where
+  Waits : SeatPart
+  Reads : (c : ℕ) → SeatPart
+  Steps : SeatPart
+  Exits : SeatPart
+  Stays : SeatPart
+
+-- a step ends by its answer, a state's attempt by its over; an entry that says it waits ends none
+abbrev pub seat_part : Kind → SeatPart
+seat_part ReadWait = Waits
+seat_part (Read c) = Reads c
+seat_part (Saved c) = Steps
+seat_part (SaveErr c r) = Steps
+seat_part (Over n r) = Steps
+seat_part Exit = Exits
+seat_part _ = Stays
+
+-- a script at its first step
+abbrev pub first_seat : Seat
+first_seat = record { done = 0; waits = false; last_read = None; exited = false }
+
+-- the place after that
+abbrev pub seat_after : SeatPart → Seat → Seat
+seat_after Waits s = record s { waits = true }
+seat_after (Reads c) s = record s { done = s.done + 1; waits = false; last_read = Some c }
+seat_after Steps s = record s { done = s.done + 1; waits = false }
+seat_after Exits s = record s { exited = true }
+seat_after Stays s = s
+
+-- only a script's own entries move it
+abbrev pub seats_after : Actor → SeatPart → List Seat → List Seat
+seats_after (Script i) part seats = slice_set seats i (seat_after part (slice_index_or seats i first_seat))
+seats_after _ part seats = seats
+
+-- the places of n scripts
+abbrev pub seats : ℕ → List Entry → List Seat
+seats n [] = replicate n first_seat
+seats n (e ∷ past) = seats_after e.actor (seat_part e.kind) (seats n past)
