@@ -1,1 +1,4 @@
 pub mod Padding
+pub mod Tails
+pub mod Walking
+pub mod Walks

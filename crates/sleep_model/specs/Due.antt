@@ -90,13 +90,13 @@ seat_due past now None seat = Gone
 seat_due past now (Some s) seat = if seat.exited then Gone else step_due past now seat (slice_get (entry_steps s) seat.done)
 
 -- the maker of the open attempt follows its path, another script its own steps
-abbrev pub script_due : Machine → List Entry → EventNow → ℕ → Option Actor → Due
-script_due m past now i (Some (actor.Script j)) = if j == i then path_due m past now (row_of past) else seat_due past now (slice_get m.actors i) (slice_index_or (seats (length m.actors) past) i first_seat)
-script_due m past now i _ = seat_due past now (slice_get m.actors i) (slice_index_or (seats (length m.actors) past) i first_seat)
+abbrev pub script_due : Machine → List Entry → EventNow → ℕ → Option Actor → Row → Due
+script_due m past now i (Some (actor.Script j)) r = if j == i then path_due m past now r else seat_due past now (slice_get m.actors i) (slice_index_or (seats (length m.actors) past) i first_seat)
+script_due m past now i _ r = seat_due past now (slice_get m.actors i) (slice_index_or (seats (length m.actors) past) i first_seat)
 
 -- what is due of an actor that sees this word
 abbrev pub due : Machine → List Entry → Actor → EventNow → Due
-due m past (actor.Script i) now = script_due m past now i (maker past)
+due m past (actor.Script i) now = script_due m past now i (maker past) (row_of past)
 due m past actor.Auto now = Waits why.NoWork
 due m past (actor.Dev d) now = Waits why.NotScheduled
 due m past (actor.Timer s) now = Gone

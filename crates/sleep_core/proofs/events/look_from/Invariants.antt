@@ -1,0 +1,11 @@
+use Rattle.std.proofs.Common.{◌≡◌, ◌≤◌}
+use Rattle.sleep_core.proofs.events.look_from.Given as goal
+
+abbrev pub invariant-loop : goal.invariant-loop
+invariant-loop g l = record {
+  can : (goal.iterator-loop g).can_next l.iterator';
+  ends : (goal.iterator-loop g).is_finite l.iterator';
+  tells : g.E.Events.tells l.events ≡ g.E.Events.tells l.fn.events;
+  root : g.E.Events.root l.events ≡ g.E.Events.root l.fn.events;
+  rises : g.E.Events.floor l.fn.events ≤ g.E.Events.floor l.events;
+}

@@ -1,0 +1,5 @@
+pub mod Cursors
+pub mod Histories
+pub mod HistoryFields
+pub mod Looks
+pub mod Places

@@ -1,0 +1,9 @@
+//! The core of system sleep: what each actor may do next, and the journal of what it did.
+#![tactic(auto)]
+
+mod events;
+mod history;
+mod journal;
+mod steps;
+
+pub use events::{Events, PlainEvents};

@@ -1,0 +1,220 @@
+-- Where the walks stand at each place of a legal journal.
+use Rattle.std.proofs.Common.{◌≡◌, ◌<◌, ◌≤◌, ℕ, zero, suc, Bool, true, false, not, ◌==◌, List, [], ◌∷◌, length, ◌⊎◌, inl, inr, Option, Some, None, IfSome, refl, sym, ap, subst, cond, arith, slice_get, slice_index_or}
+use Rattle.sleep_base.specs.declared.errno.Errno.{Errno}
+use Rattle.sleep_base.specs.declared.errno.Errno.TheVariants.{EINVAL}
+use Rattle.sleep_model.specs.declared.entry.Actor.{Actor}
+use Rattle.sleep_model.specs.declared.entry.Actor.TheVariants as actor
+use Rattle.sleep_model.specs.declared.entry.Entry.{Entry}
+use Rattle.sleep_model.specs.declared.entry.Kind.{Kind}
+use Rattle.sleep_model.specs.declared.entry.Kind.TheVariants as kind
+use Rattle.sleep_model.specs.declared.machine.Machine.{Machine}
+use Rattle.sleep_model.specs.declared.machine.Script.{Script}
+use Rattle.sleep_model.specs.declared.machine.Op.{Op}
+use Rattle.sleep_model.specs.declared.machine.Op.TheVariants as op
+use Rattle.sleep_model.specs.declared.log.Why.TheVariants as why
+use Rattle.sleep_model.specs.declared.place.Due.{Due}
+use Rattle.sleep_model.specs.declared.place.Due.TheVariants.{Makes, Waits, Gone}
+use Rattle.sleep_model.specs.declared.place.Row.{Row}
+use Rattle.sleep_model.specs.declared.place.Row.TheVariants as row
+use Rattle.sleep_model.specs.declared.place.Seat.{Seat}
+use Rattle.sleep_model.specs.declared.word.EventNow.{EventNow}
+use Rattle.sleep_model.specs.Word.{position, visible}
+use Rattle.sleep_model.specs.Accepted.{IsOneWriter}
+use Rattle.sleep_model.specs.Order.{order}
+use Rattle.sleep_model.specs.Guard.{pending}
+use Rattle.sleep_model.specs.Path.{maker, maker_after, row_of, row_after}
+use Rattle.sleep_model.specs.Seats.{seats, first_seat}
+use Rattle.sleep_model.specs.Scripts.{entry_steps}
+use Rattle.sleep_model.specs.Walk.{is_among, first_where, last_where, inside, inside_after, error_of, error_after, settled, settled_after, suspended, suspended_after}
+use Rattle.sleep_model.specs.Due.{due, script_due, seat_due, step_due, path_due, suspend_due, resume_due}
+use Rattle.sleep_model.specs.Legal.{JournalPart, JournalStep, part_of}
+use Rattle.std.proofs.lemmas.Bool.Decides.{nat_tests}
+use Rattle.sleep_model.proofs.Walks.{AllDifferent, run_different, first_suspended_none}
+use Rattle.sleep_model.proofs.Tails.{IsTail, tail_fits, tail_nil, before_tail, down_none, down_some, tail_more, tail_less, up_some, without_first}
+
+-- the attempt is the writer's
+abbrev pub IsWriters : Option Actor → Type 0
+IsWriters who = who ≡ Some (actor.Script 0)
+
+-- while no error stands all that are through are suspended, and a callback that runs is that of the device before them
+abbrev pub InSuspend : List ℕ → Option ℕ → Option Errno → List ℕ → List ℕ → Type 0
+InSuspend o i None se su = (se ≡ su) × IfSome i (λ d. (length se < length o) × (before_tail se o ≡ d))
+InSuspend o i (Some r) se su = i ≡ None
+
+-- what holds at each step of an attempt
+abbrev pub AtRow : List ℕ → Option Actor → Row → Option ℕ → Option Errno → List ℕ → List ℕ → Type 0
+AtRow o who row.Outside i er se su = (who ≡ None) × (su ≡ []) × (i ≡ None)
+AtRow o who row.Suspend i er se su = IsWriters who × InSuspend o i er se su
+AtRow o who row.Enter i er se su = IsWriters who × (i ≡ None)
+AtRow o who (row.Asleep pos since) i er se su = IsWriters who × (i ≡ None)
+AtRow o who row.Resume i er se su = IsWriters who
+AtRow o who row.Clear i er se su = IsWriters who × (su ≡ []) × (i ≡ None)
+AtRow o who row.Over i er se su = IsWriters who × (su ≡ []) × (i ≡ None)
+
+-- the devices that are through, and those that are suspended, are the last of the order
+pub record WalkFacts (o : List ℕ) (who : Option Actor) (r : Row) (i : Option ℕ) (er : Option Errno) (se su : List ℕ) : Type 0 where
+  pub settled_tail : IsTail se o
+  pub suspended_tail : IsTail su o
+  pub at_row : AtRow o who r i er se su
+
+-- the facts hold after what is due
+abbrev pub Keeps : List ℕ → Option Actor → Row → Option ℕ → Option Errno → List ℕ → List ℕ → Actor → ℕ → ℕ → Due → Type 0
+Keeps o who r i er se su a pos time (Makes k) = WalkFacts o (maker_after k a who) (row_after k pos time r) (inside_after k i) (error_after k er) (settled_after k se) (suspended_after k su)
+Keeps o who r i er se su a pos time _ = Unit {0}
+
+below_or_all : (m n : ℕ) → m ≤ n → ((m < n) ⊎ (m ≡ n))
+below_or_all m n h = grind arith
+
+suspend_keeps : (o : List ℕ) → AllDifferent o → (who : Option Actor) (i : Option ℕ) (er : Option Errno) (se su : List ℕ) (busy : Bool) (a : Actor) (pos time : ℕ) → WalkFacts o who row.Suspend i er se su → Keeps o who row.Suspend i er se su a pos time (suspend_due i er (last_where (λ d. not (is_among se d)) o) busy)
+suspend_keeps o diff who (Some d) None se su busy a pos time w =
+    let e : before_tail se o ≡ d = w.at_row.1.1.1 in
+    let t : IsTail (d ∷ se) o = subst (λ (x : ℕ). IsTail (x ∷ se) o) e (tail_more se o w.settled_tail w.at_row.1.1.0) in
+    record {
+      settled_tail = t;
+      suspended_tail = subst (λ (xs : List ℕ). IsTail (d ∷ xs) o) w.at_row.1.0 t;
+      at_row = (w.at_row.0, (ap (λ xs. d ∷ xs) w.at_row.1.0, tt));
+    }
+suspend_keeps o diff who (Some d) (Some r) se su busy a pos time w = absurd (let h : Some d ≡ None = w.at_row.1 in cc)
+suspend_keeps o diff who None (Some r) se su busy a pos time w = record { settled_tail = tail_nil o; suspended_tail = w.suspended_tail; at_row = w.at_row.0 }
+suspend_keeps o diff who None None se su busy a pos time w =
+    elim (below_or_all (length se) (length o) (tail_fits se o w.settled_tail)) [
+      | inl l ↦ subst (λ (next : Option ℕ). Keeps o who row.Suspend None None se su a pos time (suspend_due None None next busy)) (sym (down_some se o diff w.settled_tail l)) (taken busy l)
+      | inr e ↦ subst (λ (next : Option ℕ). Keeps o who row.Suspend None None se su a pos time (suspend_due None None next busy)) (sym (down_none se o w.settled_tail e)) (record { settled_tail = tail_nil o; suspended_tail = w.suspended_tail; at_row = (w.at_row.0, refl) })
+    ]
+  where
+    taken : (b : Bool) → length se < length o → Keeps o who row.Suspend None None se su a pos time (suspend_due None None (Some (before_tail se o)) b)
+    taken true l = record { settled_tail = tail_more se o w.settled_tail l; suspended_tail = w.suspended_tail; at_row = (w.at_row.0, refl) }
+    taken false l = record { settled_tail = w.settled_tail; suspended_tail = w.suspended_tail; at_row = (w.at_row.0, (w.at_row.1.0, (l, refl))) }
+
+resume_keeps : (o : List ℕ) → AllDifferent o → (who : Option Actor) (i : Option ℕ) (er : Option Errno) (se su : List ℕ) (a : Actor) (pos time : ℕ) → WalkFacts o who row.Resume i er se su → Keeps o who row.Resume i er se su a pos time (resume_due i (first_where (is_among su) o))
+resume_keeps o diff who (Some d) er se su a pos time w = record { settled_tail = w.settled_tail; suspended_tail = w.suspended_tail; at_row = w.at_row }
+resume_keeps o diff who None er se [] a pos time w =
+    subst (λ (next : Option ℕ). Keeps o who row.Resume None er se [] a pos time (resume_due None next)) (sym (first_suspended_none o)) (record { settled_tail = tail_nil o; suspended_tail = w.suspended_tail; at_row = (w.at_row, refl, refl) })
+resume_keeps o diff who None er se (x ∷ xs) a pos time w =
+    subst (λ (next : Option ℕ). Keeps o who row.Resume None er se (x ∷ xs) a pos time (resume_due None next)) (sym (up_some x xs o diff w.suspended_tail))
+    (record { settled_tail = w.settled_tail; suspended_tail = subst (λ (ys : List ℕ). IsTail ys o) (sym (without_first x xs)) (tail_less x xs o w.suspended_tail); at_row = w.at_row })
+
+wake_keeps : (o : List ℕ) (who : Option Actor) (p s : ℕ) (i : Option ℕ) (er : Option Errno) (se su : List ℕ) (event alarm : Bool) (a : Actor) (pos time : ℕ) → WalkFacts o who (row.Asleep p s) i er se su → Keeps o who (row.Asleep p s) i er se su a pos time (cond event (Makes (kind.Wake true)) (cond alarm (Makes (kind.Wake false)) (Waits why.Asleep)))
+wake_keeps o who p s i er se su true alarm a pos time w = record { settled_tail = w.settled_tail; suspended_tail = w.suspended_tail; at_row = w.at_row.0 }
+wake_keeps o who p s i er se su false true a pos time w = record { settled_tail = w.settled_tail; suspended_tail = w.suspended_tail; at_row = w.at_row.0 }
+wake_keeps o who p s i er se su false false a pos time w = tt
+
+enter_keeps : (o : List ℕ) (who : Option Actor) (i : Option ℕ) (er : Option Errno) (se su : List ℕ) (busy : Bool) (a : Actor) (pos time : ℕ) → WalkFacts o who row.Enter i er se su → Keeps o who row.Enter i er se su a pos time (Makes (kind.Enter busy))
+enter_keeps o who i er se su true a pos time w = record { settled_tail = w.settled_tail; suspended_tail = w.suspended_tail; at_row = w.at_row.0 }
+enter_keeps o who i er se su false a pos time w = record { settled_tail = w.settled_tail; suspended_tail = w.suspended_tail; at_row = w.at_row }
+
+-- the devices of the order are different
+pub order_different : (m : Machine) → AllDifferent (order m)
+order_different m = run_different 0 (length m.devices)
+
+-- the facts that the journal so far gives
+abbrev pub Facts : Machine → List Entry → Type 0
+Facts m past = WalkFacts (order m) (maker past) (row_of past) (inside past) (error_of past) (settled past) (suspended past)
+
+path_keeps : (m : Machine) (past : List Entry) (now : EventNow) (a : Actor) (pos time : ℕ) (who : Option Actor) (r : Row) → WalkFacts (order m) who r (inside past) (error_of past) (settled past) (suspended past) → Keeps (order m) who r (inside past) (error_of past) (settled past) (suspended past) a pos time (path_due m past now r)
+path_keeps m past now a pos time who row.Outside w = tt
+path_keeps m past now a pos time who row.Suspend w = suspend_keeps (order m) (order_different m) who (inside past) (error_of past) (settled past) (suspended past) (pending past now) a pos time w
+path_keeps m past now a pos time who row.Enter w = enter_keeps (order m) who (inside past) (error_of past) (settled past) (suspended past) (pending past now) a pos time w
+path_keeps m past now a pos time who (row.Asleep p s) w = wake_keeps (order m) who p s (inside past) (error_of past) (settled past) (suspended past) _ _ a pos time w
+path_keeps m past now a pos time who row.Resume w = resume_keeps (order m) (order_different m) who (inside past) (error_of past) (settled past) (suspended past) a pos time w
+path_keeps m past now a pos time who row.Clear w = record { settled_tail = w.settled_tail; suspended_tail = w.suspended_tail; at_row = w.at_row }
+path_keeps m past now a pos time who row.Over w = record { settled_tail = w.settled_tail; suspended_tail = w.suspended_tail; at_row = (refl, w.at_row.1, w.at_row.2) }
+
+save_keeps : (o : List ℕ) (i : Option ℕ) (er : Option Errno) (se su : List ℕ) (pos time c : ℕ) (ok : Bool) → WalkFacts o None row.Outside i er se su → Keeps o None row.Outside i er se su (actor.Script 0) pos time (cond ok (Makes (kind.Saved c)) (Makes (kind.SaveErr c EINVAL)))
+save_keeps o i er se su pos time c true w = record { settled_tail = w.settled_tail; suspended_tail = w.suspended_tail; at_row = w.at_row }
+save_keeps o i er se su pos time c false w = record { settled_tail = w.settled_tail; suspended_tail = w.suspended_tail; at_row = w.at_row }
+
+-- outside an attempt a script's own step begins one, or leaves the walks alone
+step_keeps : (o : List ℕ) (past : List Entry) (now : EventNow) (seat : Seat) (i : Option ℕ) (er : Option Errno) (se su : List ℕ) (pos time : ℕ) (step : Option Op) → WalkFacts o None row.Outside i er se su → Keeps o None row.Outside i er se su (actor.Script 0) pos time (step_due past now seat step)
+step_keeps o past now seat i er se su pos time None w = record { settled_tail = w.settled_tail; suspended_tail = w.suspended_tail; at_row = w.at_row }
+step_keeps o past now seat i er se su pos time (Some op.Read) w = reads (now.inpr == 0) seat.waits
+  where
+    reads : (quiet waits : Bool) → Keeps o None row.Outside i er se su (actor.Script 0) pos time (cond quiet (Makes (kind.Read (visible now))) (cond waits (Waits why.InProgress) (Makes kind.ReadWait)))
+    reads true waits = record { settled_tail = w.settled_tail; suspended_tail = w.suspended_tail; at_row = w.at_row }
+    reads false true = tt
+    reads false false = record { settled_tail = w.settled_tail; suspended_tail = w.suspended_tail; at_row = w.at_row }
+step_keeps o past now seat i er se su pos time (Some (op.Save None)) w = save_keeps o i er se su pos time _ _ w
+step_keeps o past now seat i er se su pos time (Some (op.Save (Some c))) w = save_keeps o i er se su pos time _ _ w
+step_keeps o past now seat i er se su pos time (Some (op.State text if_saved)) w = record { settled_tail = tail_nil o; suspended_tail = w.suspended_tail; at_row = (refl, (sym w.at_row.1, subst (λ (x : Option ℕ). IfSome x (λ d. (0 < length o) × (before_tail [] o ≡ d))) (sym w.at_row.2) tt)) }
+step_keeps o past now seat i er se su pos time (Some _) w = tt
+
+seat_keeps : (o : List ℕ) (past : List Entry) (now : EventNow) (script : Option Script) (seat : Seat) (i : Option ℕ) (er : Option Errno) (se su : List ℕ) (pos time : ℕ) → WalkFacts o None row.Outside i er se su → Keeps o None row.Outside i er se su (actor.Script 0) pos time (seat_due past now script seat)
+seat_keeps o past now None seat i er se su pos time w = tt
+seat_keeps o past now (Some s) seat i er se su pos time w = exits seat.exited
+  where
+    exits : (exited : Bool) → Keeps o None row.Outside i er se su (actor.Script 0) pos time (cond exited Gone (step_due past now seat (slice_get (entry_steps s) seat.done)))
+    exits true = tt
+    exits false = step_keeps o past now seat i er se su pos time (slice_get (entry_steps s) seat.done) w
+
+-- nothing is due of a script that the machine does not have
+none_beyond : (m : Machine) → IsOneWriter (length m.devices) m.actors → (i : ℕ) → slice_get m.actors (suc i) ≡ None
+none_beyond m h i = at_list m.actors h
+  where
+    at_list : (ss : List Script) → IsOneWriter (length m.devices) ss → slice_get ss (suc i) ≡ None
+    at_list [] h = absurd h
+    at_list (s ∷ []) h = refl
+    at_list (s ∷ t ∷ rest) h = absurd h
+
+-- who makes the attempt that is open is the writer; outside none does
+abbrev pub IsOneOf : Option Actor → Row → Type 0
+IsOneOf who row.Outside = who ≡ None
+IsOneOf who _ = who ≡ Some (actor.Script 0)
+
+maker_of : (o : List ℕ) (who : Option Actor) (r : Row) (i : Option ℕ) (er : Option Errno) (se su : List ℕ) → AtRow o who r i er se su → IsOneOf who r
+maker_of o who row.Outside i er se su h = h.0
+maker_of o who row.Suspend i er se su h = h.0
+maker_of o who row.Enter i er se su h = h.0
+maker_of o who (row.Asleep p s) i er se su h = h.0
+maker_of o who row.Resume i er se su h = h
+maker_of o who row.Clear i er se su h = h.0
+maker_of o who row.Over i er se su h = h.0
+
+-- what is due of script i keeps the facts
+abbrev pub ScriptKeeps : Machine → List Entry → EventNow → ℕ → ℕ → ℕ → Option Actor → Row → Type 0
+ScriptKeeps m past now i pos time who r = WalkFacts (order m) who r (inside past) (error_of past) (settled past) (suspended past) → Keeps (order m) who r (inside past) (error_of past) (settled past) (suspended past) (actor.Script i) pos time (script_due m past now i who r)
+
+outside_keeps : (m : Machine) → IsOneWriter (length m.devices) m.actors → (past : List Entry) (now : EventNow) (i pos time : ℕ) → ScriptKeeps m past now i pos time None row.Outside
+outside_keeps m acc past now zero pos time w = seat_keeps (order m) past now (slice_get m.actors 0) (slice_index_or (seats (length m.actors) past) 0 first_seat) (inside past) (error_of past) (settled past) (suspended past) pos time w
+outside_keeps m acc past now (suc i) pos time w =
+    subst (λ (s : Option Script). Keeps (order m) None row.Outside (inside past) (error_of past) (settled past) (suspended past) (actor.Script (suc i)) pos time (seat_due past now s (slice_index_or (seats (length m.actors) past) (suc i) first_seat))) (sym (none_beyond m acc i)) tt
+
+inside_keeps : (m : Machine) → IsOneWriter (length m.devices) m.actors → (past : List Entry) (now : EventNow) (i pos time : ℕ) (r : Row) → ScriptKeeps m past now i pos time (Some (actor.Script 0)) r
+inside_keeps m acc past now zero pos time r w = path_keeps m past now (actor.Script 0) pos time (Some (actor.Script 0)) r w
+inside_keeps m acc past now (suc i) pos time r w =
+    let other : (0 == suc i) ≡ false = grind (arith, nat_tests) in
+    subst (λ (b : Bool). Keeps (order m) (Some (actor.Script 0)) r (inside past) (error_of past) (settled past) (suspended past) (actor.Script (suc i)) pos time (cond b (path_due m past now r) (seat_due past now (slice_get m.actors (suc i)) (slice_index_or (seats (length m.actors) past) (suc i) first_seat)))) (sym other)
+    (subst (λ (s : Option Script). Keeps (order m) (Some (actor.Script 0)) r (inside past) (error_of past) (settled past) (suspended past) (actor.Script (suc i)) pos time (seat_due past now s (slice_index_or (seats (length m.actors) past) (suc i) first_seat))) (sym (none_beyond m acc i)) tt)
+
+script_keeps : (m : Machine) → IsOneWriter (length m.devices) m.actors → (past : List Entry) (now : EventNow) (i pos time : ℕ) (who : Option Actor) (r : Row) → IsOneOf who r → ScriptKeeps m past now i pos time who r
+script_keeps m acc past now i pos time who row.Outside e = subst (λ (x : Option Actor). ScriptKeeps m past now i pos time x row.Outside) (sym e) (outside_keeps m acc past now i pos time)
+script_keeps m acc past now i pos time who row.Suspend e = subst (λ (x : Option Actor). ScriptKeeps m past now i pos time x row.Suspend) (sym e) (inside_keeps m acc past now i pos time row.Suspend)
+script_keeps m acc past now i pos time who row.Enter e = subst (λ (x : Option Actor). ScriptKeeps m past now i pos time x row.Enter) (sym e) (inside_keeps m acc past now i pos time row.Enter)
+script_keeps m acc past now i pos time who (row.Asleep p s) e = subst (λ (x : Option Actor). ScriptKeeps m past now i pos time x (row.Asleep p s)) (sym e) (inside_keeps m acc past now i pos time (row.Asleep p s))
+script_keeps m acc past now i pos time who row.Resume e = subst (λ (x : Option Actor). ScriptKeeps m past now i pos time x row.Resume) (sym e) (inside_keeps m acc past now i pos time row.Resume)
+script_keeps m acc past now i pos time who row.Clear e = subst (λ (x : Option Actor). ScriptKeeps m past now i pos time x row.Clear) (sym e) (inside_keeps m acc past now i pos time row.Clear)
+script_keeps m acc past now i pos time who row.Over e = subst (λ (x : Option Actor). ScriptKeeps m past now i pos time x row.Over) (sym e) (inside_keeps m acc past now i pos time row.Over)
+
+-- what is due of anybody keeps the facts
+due_keeps : (m : Machine) → IsOneWriter (length m.devices) m.actors → (past : List Entry) (now : EventNow) (a : Actor) (pos time : ℕ) → Facts m past → Keeps (order m) (maker past) (row_of past) (inside past) (error_of past) (settled past) (suspended past) a pos time (due m past a now)
+due_keeps m acc past now (actor.Script i) pos time w = script_keeps m acc past now i pos time (maker past) (row_of past) (maker_of _ _ _ _ _ _ _ w.at_row) w
+due_keeps m acc past now actor.Auto pos time w = tt
+due_keeps m acc past now (actor.Dev d) pos time w = tt
+due_keeps m acc past now (actor.Timer s) pos time w = tt
+due_keeps m acc past now actor.Time pos time w = tt
+
+-- the facts hold after an entry of any part
+step_facts : (m : Machine) → IsOneWriter (length m.devices) m.actors → (past : List Entry) (time : ℕ) (now : EventNow) (a : Actor) (k : Kind) → Facts m past → JournalStep m past (record { time = time; now = now; actor = a; kind = k }) (part_of k) → Facts m (record { time = time; now = now; actor = a; kind = k } ∷ past)
+step_facts m acc past time now a (kind.Awake s) w h = record { settled_tail = w.settled_tail; suspended_tail = w.suspended_tail; at_row = w.at_row }
+step_facts m acc past time now a (kind.Relax s) w h = record { settled_tail = w.settled_tail; suspended_tail = w.suspended_tail; at_row = w.at_row }
+step_facts m acc past time now a (kind.Event s ms hard) w h = record { settled_tail = w.settled_tail; suspended_tail = w.suspended_tail; at_row = w.at_row }
+step_facts m acc past time now a (kind.Expire s) w h = record { settled_tail = w.settled_tail; suspended_tail = w.suspended_tail; at_row = w.at_row }
+step_facts m acc past time now a (kind.Start s) w h = record { settled_tail = w.settled_tail; suspended_tail = w.suspended_tail; at_row = w.at_row }
+step_facts m acc past time now a (kind.Finish s) w h = record { settled_tail = w.settled_tail; suspended_tail = w.suspended_tail; at_row = w.at_row }
+step_facts m acc past time now a (kind.Hard s) w h = record { settled_tail = w.settled_tail; suspended_tail = w.suspended_tail; at_row = w.at_row }
+step_facts m acc past time now a kind.Jump w h = record { settled_tail = w.settled_tail; suspended_tail = w.suspended_tail; at_row = w.at_row }
+step_facts m acc past time now a k w h = subst (Keeps (order m) (maker past) (row_of past) (inside past) (error_of past) (settled past) (suspended past) a (position now) time) h.0 (due_keeps m acc past now a (position now) time w)
+
+-- a legal journal has the facts at each place
+pub facts_of : (m : Machine) → IsOneWriter (length m.devices) m.actors → (past : List Entry) → JournalPart m past → Facts m past
+facts_of m acc [] h = record { settled_tail = tail_nil (order m); suspended_tail = tail_nil (order m); at_row = (refl, refl, refl) }
+facts_of m acc (e ∷ past) h = step_facts m acc past e.time e.now e.actor e.kind (facts_of m acc past h.1) h.0
