@@ -3,3 +3,4 @@ pub mod Histories
 pub mod HistoryFields
 pub mod Looks
 pub mod Places
+pub mod Room
