@@ -1,1 +1,3 @@
 pub mod Errno
+pub mod Faults
+pub mod Whole
