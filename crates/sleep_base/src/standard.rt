@@ -1,4 +1,5 @@
 ghost use Rattle.std.specs.Prelude.{◌≡◌};
+ghost use Rattle.sleep_base.specs.Streams.{IsOutput, IsError};
 
 use crate::{ByteSink, ByteSource, Failed};
 use std::io;
@@ -13,7 +14,9 @@ pub struct StdSource<R = Stdin> {
 
 impl StdSource<Stdin> {
     /// Standard input, whose bytes no contract knows.
-    pub fn input(rt: &HostRuntime) -> Self {
+    pub fn input(rt: &HostRuntime) -> Self
+        ensures { ⟦<StdSource<Stdin> as ByteSource>⟧.faults result ≡ 0 }
+    {
         StdSource::new(rt.stdin())
     }
 }
@@ -23,6 +26,7 @@ impl<R: Read> StdSource<R> {
     pub fn new(reader: R) -> Self
         ensures left { ⟦<StdSource<R> as ByteSource>⟧.left result ≡ R.remaining reader }
         ensures faults { ⟦<StdSource<R> as ByteSource>⟧.faults result ≡ 0 }
+        ensures reader { result.reader ≡ reader }
     {
         StdSource { reader, faults: 0 }
     }
@@ -54,7 +58,9 @@ impl<R: Read> ByteSource for StdSource<R> {
 /// Standard output or standard error, as one type.
 #[derive(Drop)]
 pub enum Stream {
+    /// Standard output.
     Output(Stdout),
+    /// Standard error.
     Error(Stderr),
 }
 
@@ -81,12 +87,18 @@ pub struct StdSink<W = Stream> {
 
 impl StdSink<Stream> {
     /// Standard output.
-    pub fn output(rt: &HostRuntime) -> Self {
+    pub fn output(rt: &HostRuntime) -> Self
+        ensures stream { IsOutput result.writer }
+        ensures faults { ⟦<StdSink<Stream> as ByteSink>⟧.faults result ≡ 0 }
+    {
         StdSink::new(Stream::Output(rt.stdout()))
     }
 
     /// Standard error.
-    pub fn error(rt: &HostRuntime) -> Self {
+    pub fn error(rt: &HostRuntime) -> Self
+        ensures stream { IsError result.writer }
+        ensures faults { ⟦<StdSink<Stream> as ByteSink>⟧.faults result ≡ 0 }
+    {
         StdSink::new(Stream::Error(rt.stderr()))
     }
 }
@@ -96,6 +108,7 @@ impl<W: Write> StdSink<W> {
     pub fn new(writer: W) -> Self
         ensures written { ⟦<StdSink<W> as ByteSink>⟧.written result ≡ W.contents writer }
         ensures faults { ⟦<StdSink<W> as ByteSink>⟧.faults result ≡ 0 }
+        ensures writer { result.writer ≡ writer }
     {
         StdSink { writer, faults: 0 }
     }
