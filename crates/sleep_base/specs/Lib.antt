@@ -1,1 +1,5 @@
+pub mod Calls
 pub mod Errno
+pub mod Faults
+pub mod Streams
+pub mod Whole

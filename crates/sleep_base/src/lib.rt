@@ -2,5 +2,16 @@
 #![tactic(auto)]
 
 mod errno;
+mod memory;
+mod outside;
+mod standard;
+mod whole;
 
 pub use errno::Errno;
+pub use memory::{MemSink, MemSource};
+pub use outside::{ByteSink, ByteSource, Failed, Mem};
+pub use standard::{StdSink, StdSource, Stream};
+pub use whole::{ReadStop, read_all, write_all};
+
+#[cfg(test)]
+mod tests;

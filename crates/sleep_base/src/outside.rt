@@ -1,0 +1,64 @@
+ghost use Rattle.std.specs.Prelude.{◌≤◌, ◌<◌, ℕ, List, Option, IfOk, length};
+ghost use Rattle.std.specs.Io.{ReadsAtMost};
+ghost use Rattle.std.specs.Io.KnownBytes.{ReadConsumes, WriteAppends};
+ghost use Rattle.sleep_base.specs.Faults.{HasCause};
+
+use std::alloc::{AllocError, AllocFailed};
+
+/// Want of memory: an allocation was refused.
+#[derive(Clone, Copy, Debug, PartialEq, Eq)]
+pub struct Mem;
+
+impl From<AllocError> for Mem {
+    ghost from_gives = { λ _ _. Unit {0} };
+
+    fn from(_: AllocError) -> Self {
+        Mem
+    }
+}
+
+impl<T: Drop> From<AllocFailed<T>> for Mem {
+    ghost from_gives = { λ _ _. Unit {0} };
+
+    fn from(_: AllocFailed<T>) -> Self {
+        Mem
+    }
+}
+
+/// A read or a write that failed. The source or the sink has counted it as a fault.
+#[derive(Clone, Copy, Debug, PartialEq, Eq)]
+pub struct Failed;
+
+/// Where bytes come from.
+pub trait ByteSource {
+    /// The bytes that reads will give from here on, where they are known.
+    ghost left: { Self → Option (List ℕ) };
+
+    /// How many reads have failed.
+    ghost faults: { Self → ℕ };
+
+    /// Fills the front of `buf` and tells how many bytes: 0 only at the end.
+    /// `Failed` if the read failed: it took no byte, and the count of faults rose.
+    fn read(&mut self, buf: &mut [u8]) -> Result<usize, Failed>
+        requires { 0 < length buf.old }
+        ensures bound { ReadsAtMost result buf.new }
+        ensures bytes { ReadConsumes (left self.old) (left self.new) result buf.new }
+        ensures cause { HasCause (faults self.old) (faults self.new) result };
+}
+
+/// Where bytes go.
+pub trait ByteSink {
+    /// The bytes that were written, where they are known.
+    ghost written: { Self → Option (List ℕ) };
+
+    /// How many writes have failed.
+    ghost faults: { Self → ℕ };
+
+    /// Writes the front of `piece` and tells how many bytes: at least 1.
+    /// `Failed` if the write failed: it wrote no byte, and the count of faults rose.
+    fn write(&mut self, piece: &[u8]) -> Result<usize, Failed>
+        requires { 0 < length piece.now }
+        ensures count { IfOk result (λ n. (1 ≤ n) × (n ≤ length piece.now)) }
+        ensures bytes { WriteAppends (written self.old) (written self.new) result piece.now }
+        ensures cause { HasCause (faults self.old) (faults self.new) result };
+}
