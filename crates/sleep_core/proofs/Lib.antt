@@ -1,2 +1,7 @@
+pub mod Cursoring
 pub mod Looking
+pub mod Operations
+pub mod Resuming
 pub mod Rooms
+pub mod Small
+pub mod Turning

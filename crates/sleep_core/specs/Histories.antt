@@ -14,6 +14,11 @@ use Rattle.sleep_model.specs.Seats.{seats, first_seat}
 use Rattle.sleep_core.specs.Places.{entries}
 use Rattle.sleep_core.specs.Cursors.{ResumesLast}
 
+-- the script's own step count stays small
+abbrev pub SeatIsSmall : Actor → List Seat → Type 0
+SeatIsSmall (Script i) ss = (slice_index_or ss i first_seat).done < 2 ^ 63
+SeatIsSmall _ ss = Unit {0}
+
 -- how many scripts there are, the entries so far, the newest first, and how many more have a place
 pub record Kept : Type 0 where
   pub scripts : ℕ
@@ -25,18 +30,10 @@ abbrev pub last_stamp : List JournalEntry → Stamp
 last_stamp [] = record { pos = 0; tick = 0 }
 last_stamp (j ∷ past) = j.stamp
 
--- the script's own step count stays small
-abbrev pub SeatIsSmall : Actor → List Seat → Type 0
-SeatIsSmall (Script i) ss = (slice_index_or ss i first_seat).done < 2 ^ 63
-SeatIsSmall _ ss = Unit {0}
-
 -- an entry may be appended: it has a place, and no number runs over
 pub record Admits (kept : Kept) (e : Entry) : Type 0 where
   pub room : 0 < kept.room
   pub few_attempts : attempts_after e.kind (attempts (entries kept.past)) < 2 ^ 32
-  pub small_seat : SeatIsSmall e.actor (seats kept.scripts (entries kept.past))
-  pub few_settled : length (settled (entries kept.past)) < 2 ^ 63
-  pub few_suspended : length (suspended (entries kept.past)) < 2 ^ 63
   pub resumes : ResumesLast e.kind (suspended (entries kept.past))
 
 -- the history after an entry

@@ -1,3 +1,5 @@
+pub mod CoreFields
+pub mod Cores
 pub mod Cursors
 pub mod Histories
 pub mod HistoryFields

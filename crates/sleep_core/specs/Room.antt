@@ -1,5 +1,10 @@
 -- How many places of the journal an attempt may still need.
-use Rattle.std.specs.Prelude.{ℕ, ◌+◌, ◌*◌, ◌-◌, Option, Some, None}
+use Rattle.std.specs.Prelude.{ℕ, ◌+◌, ◌*◌, ◌-◌, List, length, Option, Some, None}
+use Rattle.sleep_model.specs.declared.entry.Entry.{Entry}
+use Rattle.sleep_model.specs.declared.machine.Machine.{Machine}
+use Rattle.sleep_model.specs.Order.{order}
+use Rattle.sleep_model.specs.Path.{row_of}
+use Rattle.sleep_model.specs.Walk.{settled, suspended, inside}
 use Rattle.sleep_model.specs.declared.entry.Kind.{Kind}
 use Rattle.sleep_model.specs.declared.entry.Kind.TheVariants as kind
 use Rattle.sleep_model.specs.declared.place.Row.{Row}
@@ -21,3 +26,7 @@ needed row.Over n settled suspended inside = 1
 abbrev pub places_for : Kind → ℕ → ℕ
 places_for (kind.Attempt n guarded) devices = 40 + 20 * devices
 places_for _ devices = 1
+
+-- places that the open attempt may still need
+abbrev pub needed_at : Machine → List Entry → ℕ
+needed_at m past = needed (row_of past) (length (order m)) (length (settled past)) (length (suspended past)) (inside past)

@@ -41,7 +41,7 @@ impl Model for History {
 }
 
 impl History {
-    ghost use Rattle.std.specs.Prelude.{◌≡◌, ◌≤◌, ◌<◌, ◌+◌, ◌-◌, [], ◌∷◌, length, reverse, OnOk, OnErr, IfOk, slice_index_or};
+    ghost use Rattle.std.specs.Prelude.{◌≡◌, ◌≤◌, ◌<◌, ◌+◌, ◌-◌, ◌^◌, [], ◌∷◌, length, reverse, IsOk, OnOk, OnErr, IfOk, slice_index_or};
     ghost use Rattle.sleep_model.specs.Numbers.{time_of};
     ghost use Rattle.sleep_model.specs.Guard.{in_force, forgotten};
     ghost use Rattle.sleep_model.specs.Path.{attempts, maker, row_of, failure};
@@ -79,6 +79,7 @@ impl History {
     }
 
     /// Appends an entry in a reserved place.
+    #[tactic(auto, using(crate::proofs::Small::settled_small, crate::proofs::Small::suspended_small, crate::proofs::Small::seat_small))]
     pub fn append(&mut self, stamped: JournalEntry)
         requires { Admits self.old stamped.entry }
         ensures { self.new ≡ after_entry self.old stamped }
@@ -89,6 +90,8 @@ impl History {
             actor,
             kind,
         } = stamped.entry;
+        // No count exceeds the number of entries, so none runs over.
+        let _made = self.journal.len();
         self.last = stamped.stamp;
         self.time = steps::time_after(kind, time, self.time);
         self.force = steps::force_after(kind, now, self.force);
@@ -111,6 +114,7 @@ impl History {
         ensures scripts { self.new.scripts ≡ self.old.scripts }
         ensures room { self.old.room ≤ self.new.room }
         ensures ok { OnOk result (places ≤ self.new.room) }
+        ensures enough { places ≤ self.old.room → IsOk result }
         ensures err { OnErr result (self.new ≡ self.old) }
     {
         self.journal.reserve(places)
@@ -210,7 +214,8 @@ impl History {
 
     /// How many places are reserved.
     pub fn room(&self) -> usize
-        ensures { result ≡ self.now.room }
+        ensures room { result ≡ self.now.room }
+        ensures small { result < 2 ^ 63 }
     {
         self.journal.room()
     }

@@ -21,7 +21,7 @@ impl Model for Journal {
 }
 
 impl Journal {
-    ghost use Rattle.std.specs.Prelude.{◌≡◌, ◌≤◌, ◌<◌, ◌+◌, ◌-◌, [], ◌∷◌, reverse, OnOk, OnErr};
+    ghost use Rattle.std.specs.Prelude.{◌≡◌, ◌≤◌, ◌<◌, ◌+◌, ◌-◌, ◌^◌, [], ◌∷◌, length, reverse, IsOk, OnOk, OnErr};
 
     /// An empty journal without a reserved place.
     pub fn new(alloc: Global) -> Self
@@ -38,6 +38,7 @@ impl Journal {
         ensures past { self.new.past ≡ self.old.past }
         ensures room { self.old.room ≤ self.new.room }
         ensures ok { OnOk result (places ≤ self.new.room) }
+        ensures enough { places ≤ self.old.room → IsOk result }
         ensures err { OnErr result (self.new ≡ self.old) }
     {
         if self.room < places {
@@ -47,9 +48,18 @@ impl Journal {
         Ok(())
     }
 
+    /// How many entries there are. A vector has fewer than 2^63.
+    pub fn len(&self) -> usize
+        ensures len { result ≡ length self.now.past }
+        ensures small { result < 2 ^ 63 }
+    {
+        self.entries.len()
+    }
+
     /// How many places are reserved.
     pub fn room(&self) -> usize
-        ensures { result ≡ self.now.room }
+        ensures room { result ≡ self.now.room }
+        ensures small { result < 2 ^ 63 }
     {
         self.room
     }

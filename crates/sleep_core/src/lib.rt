@@ -5,5 +5,6 @@ mod events;
 mod history;
 mod journal;
 mod steps;
+mod turns;
 
 pub use events::{Events, PlainEvents};

@@ -1,6 +1,7 @@
 //! What an entry does to each number that the core keeps, as the definitions say it.
 
-ghost use Rattle.std.specs.Prelude.{◌≡◌, ◌+◌, ◌<◌, ◌-◌, ◌^◌, ◌∷◌, length, List, ℕ};
+ghost use Rattle.std.specs.Bool.{OnTrue, OnFalse};
+ghost use Rattle.std.specs.Prelude.{◌≡◌, ◌≤◌, ◌*◌, max, ◌+◌, ◌<◌, ◌-◌, ◌^◌, ◌∷◌, length, List, ℕ};
 ghost use Rattle.sleep_model.specs.Word.{visible, position};
 ghost use Rattle.sleep_model.specs.Numbers.{time_after};
 ghost use Rattle.sleep_model.specs.Guard.{has_changed, count_pending, count_part, force_after, forgotten_after};
@@ -8,10 +9,13 @@ ghost use Rattle.sleep_model.specs.Path.{attempts_after, maker_after, row_after,
 ghost use Rattle.sleep_model.specs.Walk.{inside_after, error_after, settled_after, suspended_after};
 ghost use Rattle.sleep_model.specs.Seats.{seat_part, seat_after};
 
+ghost use Rattle.sleep_core.specs.Cores.{IsAttempt};
 ghost use Rattle.sleep_core.specs.Cursors.{ResumesLast};
+ghost use Rattle.sleep_core.specs.Room.{places_for};
 
 use sleep_base::Errno;
 use sleep_model::{Actor, EventNow, FrozeEnd, Group, Kind, Phase, Row, Seat, SkipCause};
+use std::sync::Wait;
 
 /// The visible count: the registered events modulo 65,536.
 pub(crate) fn visible(now: EventNow) -> u32
@@ -185,4 +189,39 @@ pub(crate) fn suspended_after(kind: Kind, before: usize) -> usize
         Kind::Begin(Phase::Resume, _) => before.saturating_sub(1),
         _ => before,
     }
+}
+
+/// Whether a further attempt still has a number after an entry.
+pub(crate) fn leaves_number(kind: Kind, attempts: u32) -> bool
+    requires { attempts + 1 < 2 ^ 32 }
+    ensures fits { OnTrue result (attempts_after kind attempts + 1 < 2 ^ 32) }
+    ensures full { OnFalse result (IsAttempt kind) }
+{
+    match kind {
+        Kind::Attempt { .. } => attempts < u32::MAX - 1,
+        _ => true,
+    }
+}
+
+/// How many places an entry wants reserved before it is made.
+pub(crate) fn places_for(kind: Kind, devices: usize) -> usize
+    requires { devices ≤ 1000 }
+    ensures { result ≡ places_for kind devices }
+{
+    match kind {
+        Kind::Attempt { .. } => 40 + 20 * devices,
+        _ => 1,
+    }
+}
+
+/// The tick after two. Where none is left it waits for ever.
+pub(crate) fn next_tick<R: Wait>(rt: &R, one: u64, other: u64) -> u64
+    ensures { result ≡ max one other + 1 }
+{
+    let last = one.max(other);
+    if last < u64::MAX {
+        return last + 1;
+    }
+    for _ in rt.forever() {}
+    unreachable!()
 }

@@ -1,3 +1,5 @@
+pub mod Counts
+pub mod Made
 pub mod Padding
 pub mod Tails
 pub mod Walking

@@ -1,5 +1,5 @@
 -- Where the walks stand at each place of a legal journal.
-use Rattle.std.proofs.Common.{◌≡◌, ◌<◌, ◌≤◌, ℕ, zero, suc, Bool, true, false, not, ◌==◌, List, [], ◌∷◌, length, ◌⊎◌, inl, inr, Option, Some, None, IfSome, refl, sym, ap, subst, cond, arith, slice_get, slice_index_or}
+use Rattle.std.proofs.Common.{◌≡◌, ◌<◌, ◌≤◌, ℕ, zero, suc, Bool, true, false, not, ◌==◌, List, [], ◌∷◌, length, ◌⊎◌, inl, inr, Option, Some, None, IfSome, refl, sym, ap, subst, cond, arith, slice_get, slice_index_or, ◌∙◌}
 use Rattle.sleep_base.specs.declared.errno.Errno.{Errno}
 use Rattle.sleep_base.specs.declared.errno.Errno.TheVariants.{EINVAL}
 use Rattle.sleep_model.specs.declared.entry.Actor.{Actor}
@@ -169,34 +169,56 @@ maker_of o who row.Resume i er se su h = h
 maker_of o who row.Clear i er se su h = h.0
 maker_of o who row.Over i er se su h = h.0
 
--- what is due of script i keeps the facts
-abbrev pub ScriptKeeps : Machine → List Entry → EventNow → ℕ → ℕ → ℕ → Option Actor → Row → Type 0
-ScriptKeeps m past now i pos time who r = WalkFacts (order m) who r (inside past) (error_of past) (settled past) (suspended past) → Keeps (order m) who r (inside past) (error_of past) (settled past) (suspended past) (actor.Script i) pos time (script_due m past now i who r)
+-- what is due of a script is nothing more, the writer's own step outside an attempt, or the attempt's path
+pub data ScriptCase (m : Machine) (past : List Entry) (now : EventNow) (who : Option Actor) (r : Row) (i : ℕ) : Type 0 where
+  Nothing : script_due m past now i who r ≡ Gone → ScriptCase m past now who r i
+  OwnStep : (i ≡ 0) × (who ≡ None) × (r ≡ row.Outside) × (script_due m past now i who r ≡ seat_due past now (slice_get m.actors 0) (slice_index_or (seats (length m.actors) past) 0 first_seat)) → ScriptCase m past now who r i
+  OnPath : (i ≡ 0) × (who ≡ Some (actor.Script 0)) × (script_due m past now i who r ≡ path_due m past now r) → ScriptCase m past now who r i
 
-outside_keeps : (m : Machine) → IsOneWriter (length m.devices) m.actors → (past : List Entry) (now : EventNow) (i pos time : ℕ) → ScriptKeeps m past now i pos time None row.Outside
-outside_keeps m acc past now zero pos time w = seat_keeps (order m) past now (slice_get m.actors 0) (slice_index_or (seats (length m.actors) past) 0 first_seat) (inside past) (error_of past) (settled past) (suspended past) pos time w
-outside_keeps m acc past now (suc i) pos time w =
-    subst (λ (s : Option Script). Keeps (order m) None row.Outside (inside past) (error_of past) (settled past) (suspended past) (actor.Script (suc i)) pos time (seat_due past now s (slice_index_or (seats (length m.actors) past) (suc i) first_seat))) (sym (none_beyond m acc i)) tt
+outside_case : (m : Machine) → IsOneWriter (length m.devices) m.actors → (past : List Entry) (now : EventNow) (i : ℕ) → ScriptCase m past now None row.Outside i
+outside_case m acc past now zero = OwnStep (refl, refl, refl, refl)
+outside_case m acc past now (suc i) = Nothing (ap (λ (s : Option Script). seat_due past now s (slice_index_or (seats (length m.actors) past) (suc i) first_seat)) (none_beyond m acc i))
 
-inside_keeps : (m : Machine) → IsOneWriter (length m.devices) m.actors → (past : List Entry) (now : EventNow) (i pos time : ℕ) (r : Row) → ScriptKeeps m past now i pos time (Some (actor.Script 0)) r
-inside_keeps m acc past now zero pos time r w = path_keeps m past now (actor.Script 0) pos time (Some (actor.Script 0)) r w
-inside_keeps m acc past now (suc i) pos time r w =
+inside_case : (m : Machine) → IsOneWriter (length m.devices) m.actors → (past : List Entry) (now : EventNow) (i : ℕ) (r : Row) → ScriptCase m past now (Some (actor.Script 0)) r i
+inside_case m acc past now zero r = OnPath (refl, refl, refl)
+inside_case m acc past now (suc i) r =
     let other : (0 == suc i) ≡ false = grind (arith, nat_tests) in
-    subst (λ (b : Bool). Keeps (order m) (Some (actor.Script 0)) r (inside past) (error_of past) (settled past) (suspended past) (actor.Script (suc i)) pos time (cond b (path_due m past now r) (seat_due past now (slice_get m.actors (suc i)) (slice_index_or (seats (length m.actors) past) (suc i) first_seat)))) (sym other)
-    (subst (λ (s : Option Script). Keeps (order m) (Some (actor.Script 0)) r (inside past) (error_of past) (settled past) (suspended past) (actor.Script (suc i)) pos time (seat_due past now s (slice_index_or (seats (length m.actors) past) (suc i) first_seat))) (sym (none_beyond m acc i)) tt)
+    Nothing (ap (λ (b : Bool). cond b (path_due m past now r) (seat_due past now (slice_get m.actors (suc i)) (slice_index_or (seats (length m.actors) past) (suc i) first_seat))) other
+      ∙ ap (λ (s : Option Script). seat_due past now s (slice_index_or (seats (length m.actors) past) (suc i) first_seat)) (none_beyond m acc i))
 
-script_keeps : (m : Machine) → IsOneWriter (length m.devices) m.actors → (past : List Entry) (now : EventNow) (i pos time : ℕ) (who : Option Actor) (r : Row) → IsOneOf who r → ScriptKeeps m past now i pos time who r
-script_keeps m acc past now i pos time who row.Outside e = subst (λ (x : Option Actor). ScriptKeeps m past now i pos time x row.Outside) (sym e) (outside_keeps m acc past now i pos time)
-script_keeps m acc past now i pos time who row.Suspend e = subst (λ (x : Option Actor). ScriptKeeps m past now i pos time x row.Suspend) (sym e) (inside_keeps m acc past now i pos time row.Suspend)
-script_keeps m acc past now i pos time who row.Enter e = subst (λ (x : Option Actor). ScriptKeeps m past now i pos time x row.Enter) (sym e) (inside_keeps m acc past now i pos time row.Enter)
-script_keeps m acc past now i pos time who (row.Asleep p s) e = subst (λ (x : Option Actor). ScriptKeeps m past now i pos time x (row.Asleep p s)) (sym e) (inside_keeps m acc past now i pos time (row.Asleep p s))
-script_keeps m acc past now i pos time who row.Resume e = subst (λ (x : Option Actor). ScriptKeeps m past now i pos time x row.Resume) (sym e) (inside_keeps m acc past now i pos time row.Resume)
-script_keeps m acc past now i pos time who row.Clear e = subst (λ (x : Option Actor). ScriptKeeps m past now i pos time x row.Clear) (sym e) (inside_keeps m acc past now i pos time row.Clear)
-script_keeps m acc past now i pos time who row.Over e = subst (λ (x : Option Actor). ScriptKeeps m past now i pos time x row.Over) (sym e) (inside_keeps m acc past now i pos time row.Over)
+script_case : (m : Machine) → IsOneWriter (length m.devices) m.actors → (past : List Entry) (now : EventNow) (who : Option Actor) (r : Row) (i : ℕ) → IsOneOf who r → ScriptCase m past now who r i
+script_case m acc past now who row.Outside i e = subst (λ (x : Option Actor). ScriptCase m past now x row.Outside i) (sym e) (outside_case m acc past now i)
+script_case m acc past now who row.Suspend i e = subst (λ (x : Option Actor). ScriptCase m past now x row.Suspend i) (sym e) (inside_case m acc past now i row.Suspend)
+script_case m acc past now who row.Enter i e = subst (λ (x : Option Actor). ScriptCase m past now x row.Enter i) (sym e) (inside_case m acc past now i row.Enter)
+script_case m acc past now who (row.Asleep p s) i e = subst (λ (x : Option Actor). ScriptCase m past now x (row.Asleep p s) i) (sym e) (inside_case m acc past now i (row.Asleep p s))
+script_case m acc past now who row.Resume i e = subst (λ (x : Option Actor). ScriptCase m past now x row.Resume i) (sym e) (inside_case m acc past now i row.Resume)
+script_case m acc past now who row.Clear i e = subst (λ (x : Option Actor). ScriptCase m past now x row.Clear i) (sym e) (inside_case m acc past now i row.Clear)
+script_case m acc past now who row.Over i e = subst (λ (x : Option Actor). ScriptCase m past now x row.Over i) (sym e) (inside_case m acc past now i row.Over)
+
+-- the case of what is due of script i
+pub due_case : (m : Machine) → IsOneWriter (length m.devices) m.actors → (past : List Entry) (now : EventNow) (i : ℕ) → Facts m past → ScriptCase m past now (maker past) (row_of past) i
+due_case m acc past now i w = script_case m acc past now (maker past) (row_of past) i (maker_of _ _ _ _ _ _ _ w.at_row)
+
+own_keeps : (o : List ℕ) (past : List Entry) (now : EventNow) (script : Option Script) (seat : Seat) (who : Option Actor) (r : Row) (i : Option ℕ) (er : Option Errno) (se su : List ℕ) (pos time : ℕ) → who ≡ None → r ≡ row.Outside → WalkFacts o who r i er se su → Keeps o who r i er se su (actor.Script 0) pos time (seat_due past now script seat)
+own_keeps o past now script seat who r i er se su pos time e f =
+    subst (λ (x : Option Actor). WalkFacts o x r i er se su → Keeps o x r i er se su (actor.Script 0) pos time (seat_due past now script seat)) (sym e)
+      (subst (λ (x : Row). WalkFacts o None x i er se su → Keeps o None x i er se su (actor.Script 0) pos time (seat_due past now script seat)) (sym f) (seat_keeps o past now script seat i er se su pos time))
+
+-- the facts that hold now, kept by what is due
+abbrev pub KeepsFacts : Machine → List Entry → Actor → ℕ → ℕ → Due → Type 0
+KeepsFacts m past a pos time d = Keeps (order m) (maker past) (row_of past) (inside past) (error_of past) (settled past) (suspended past) a pos time d
+
+script_keeps : (m : Machine) (past : List Entry) (now : EventNow) (i pos time : ℕ) → Facts m past → ScriptCase m past now (maker past) (row_of past) i → KeepsFacts m past (actor.Script i) pos time (due m past (actor.Script i) now)
+script_keeps m past now i pos time w (Nothing e) = subst (KeepsFacts m past (actor.Script i) pos time) (sym e) tt
+script_keeps m past now i pos time w (OwnStep h) =
+    subst (λ (j : ℕ). KeepsFacts m past (actor.Script j) pos time (due m past (actor.Script i) now)) (sym h.0)
+      (subst (KeepsFacts m past (actor.Script 0) pos time) (sym h.3) (own_keeps (order m) past now (slice_get m.actors 0) (slice_index_or (seats (length m.actors) past) 0 first_seat) (maker past) (row_of past) (inside past) (error_of past) (settled past) (suspended past) pos time h.1 h.2 w))
+script_keeps m past now i pos time w (OnPath h) =
+    subst (KeepsFacts m past (actor.Script i) pos time) (sym h.2) (path_keeps m past now (actor.Script i) pos time (maker past) (row_of past) w)
 
 -- what is due of anybody keeps the facts
-due_keeps : (m : Machine) → IsOneWriter (length m.devices) m.actors → (past : List Entry) (now : EventNow) (a : Actor) (pos time : ℕ) → Facts m past → Keeps (order m) (maker past) (row_of past) (inside past) (error_of past) (settled past) (suspended past) a pos time (due m past a now)
-due_keeps m acc past now (actor.Script i) pos time w = script_keeps m acc past now i pos time (maker past) (row_of past) (maker_of _ _ _ _ _ _ _ w.at_row) w
+due_keeps : (m : Machine) → IsOneWriter (length m.devices) m.actors → (past : List Entry) (now : EventNow) (a : Actor) (pos time : ℕ) → Facts m past → KeepsFacts m past a pos time (due m past a now)
+due_keeps m acc past now (actor.Script i) pos time w = script_keeps m past now i pos time w (due_case m acc past now i w)
 due_keeps m acc past now actor.Auto pos time w = tt
 due_keeps m acc past now (actor.Dev d) pos time w = tt
 due_keeps m acc past now (actor.Timer s) pos time w = tt

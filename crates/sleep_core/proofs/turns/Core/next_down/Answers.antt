@@ -1,0 +1,26 @@
+use Rattle.std.proofs.Common.{◌≡◌, ◌≤◌, ◌<◌, length, sym, arith}
+use Rattle.std.proofs.lemmas.Bool.Decides.{nat_tests}
+use Rattle.sleep_model.specs.Walk.{settled}
+use Rattle.sleep_core.specs.Places.{entries}
+use Rattle.sleep_core.proofs.Cursoring.{down_over, down_next, settled_fits}
+use Rattle.sleep_core.proofs.turns.Core.next_down.Goals as goal
+
+pub overflow_sub-left : goal.overflow_sub-left
+overflow_sub-left c =
+    omega (arith, settled_fits c.self.inside.machine.now c.self.invariant.accepted.writer (entries c.self.inside.history.past) c.self.invariant.legal)
+
+pub returns-then-left-eq0 : goal.returns-then-left-eq0
+returns-then-left-eq0 c =
+    let m = c.self.inside.machine.now in
+    let past = entries c.self.inside.history.past in
+    let fits = settled_fits m c.self.invariant.accepted.writer past c.self.invariant.legal in
+    let all : length (settled past) ≡ length m.devices = grind (arith, nat_tests) in
+    rw (← c.self.view_is) (sym (down_over m c.self.invariant.accepted.writer past c.self.invariant.legal all))
+
+pub returns-else-left-eq0 : goal.returns-else-left-eq0
+returns-else-left-eq0 c =
+    let m = c.self.inside.machine.now in
+    let past = entries c.self.inside.history.past in
+    let fits = settled_fits m c.self.invariant.accepted.writer past c.self.invariant.legal in
+    let some : length (settled past) < length m.devices = grind (arith, nat_tests) in
+    rw (← c.self.view_is, c.len.ensures, c.settled.ensures) (sym (down_next m c.self.invariant.accepted.writer past c.self.invariant.legal some))
