@@ -1,6 +1,5 @@
 pub mod Cursoring
 pub mod Looking
-pub mod Operations
 pub mod Resuming
 pub mod Rooms
 pub mod Small

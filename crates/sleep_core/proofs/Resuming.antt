@@ -88,7 +88,7 @@ own_resumes su past now (Some s) seat = exits seat.exited
     exits false = step_resumes su past now seat (slice_get (entry_steps s) seat.done)
 
 script_resumes : (m : Machine) (past : List Entry) (now : EventNow) (i : ℕ) → Facts m past → ScriptCase m past now (maker past) (row_of past) i → Resumes (suspended past) (due m past (actor.Script i) now)
-script_resumes m past now i w (Nothing e) = subst (Resumes (suspended past)) (sym e) tt
+script_resumes m past now i w (Nothing l e) = subst (Resumes (suspended past)) (sym e) tt
 script_resumes m past now i w (OwnStep h) = subst (Resumes (suspended past)) (sym h.3) (own_resumes (suspended past) past now (slice_get m.actors 0) (slice_index_or (seats (length m.actors) past) 0 first_seat))
 script_resumes m past now i w (OnPath h) = subst (Resumes (suspended past)) (sym h.2) (path_resumes m past now (maker past) (row_of past) w)
 

@@ -148,7 +148,7 @@ outside_facts : (o : List ℕ) (who : Option Actor) (r : Row) (i : Option ℕ) (
 outside_facts o who r i er se su w e = let h = subst (λ (x : Row). AtRow o who x i er se su) e w.at_row in (h.2, h.1)
 
 script_leaves : (m : Machine) (past : List Entry) (now : EventNow) (i pos time : ℕ) → Facts m past → ScriptCase m past now (maker past) (row_of past) i → LeavesAt m past pos time (due m past (actor.Script i) now)
-script_leaves m past now i pos time w (Nothing e) = subst (LeavesAt m past pos time) (sym e) tt
+script_leaves m past now i pos time w (Nothing l e) = subst (LeavesAt m past pos time) (sym e) tt
 script_leaves m past now i pos time w (OwnStep h) =
     let f = outside_facts (order m) (maker past) (row_of past) (inside past) (error_of past) (settled past) (suspended past) w h.2 in
     subst (LeavesAt m past pos time) (sym h.3)

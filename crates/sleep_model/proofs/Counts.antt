@@ -1,5 +1,5 @@
 -- No count of a journal exceeds the number of its entries.
-use Rattle.std.proofs.Common.{◌≡◌, ◌≢◌, ◌≤◌, ◌<◌, ◌+◌, ◌⊎◌, inl, inr, ℕ, zero, suc, List, [], ◌∷◌, length, Option, Some, None, slice_index_or, slice_set, replicate, refl, ap, sym, subst, arith}
+use Rattle.std.proofs.Common.{◌≡◌, ◌≤◌, ◌⊎◌, inl, inr, ℕ, zero, suc, List, [], ◌∷◌, length, None, slice_index_or, slice_set, replicate, refl, ap, sym, subst, arith}
 use Rattle.std.proofs.lemmas.Grind.{common_steps}
 use Rattle.sleep_model.specs.declared.entry.Actor.{Actor}
 use Rattle.sleep_model.specs.declared.entry.Actor.TheVariants as actor
@@ -60,8 +60,8 @@ seat_step Stays s = omega arith
 seats_step : (a : Actor) (part : SeatPart) (ss : List Seat) (j n : ℕ) → ((i : ℕ) → (slice_index_or ss i first_seat).done ≤ n) → (slice_index_or (seats_after a part ss) j first_seat).done ≤ suc n
 seats_step (actor.Script i) part ss j n h =
     elim (set_read ss i j (seat_after part (slice_index_or ss i first_seat))) [
-      inl e ↦ subst (λ (s : Seat). s.done ≤ suc n) (sym e.1) (omega (arith, seat_step part (slice_index_or ss i first_seat), h i))
-    | inr e ↦ subst (λ (s : Seat). s.done ≤ suc n) (sym e) (omega (arith, h j))
+      | inl e ↦ subst (λ (s : Seat). s.done ≤ suc n) (sym e.1) (omega (arith, seat_step part (slice_index_or ss i first_seat), h i))
+      | inr e ↦ subst (λ (s : Seat). s.done ≤ suc n) (sym e) (omega (arith, h j))
     ]
 seats_step _ part ss j n h = omega (arith, h j)
 

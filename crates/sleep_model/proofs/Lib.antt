@@ -1,5 +1,10 @@
 pub mod Counts
+pub mod Dependents
+pub mod Growing
+pub mod Idling
+pub mod Lawful
 pub mod Made
+pub mod Operations
 pub mod Padding
 pub mod Tails
 pub mod Walking

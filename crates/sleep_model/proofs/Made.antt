@@ -1,5 +1,5 @@
 -- What was due where an entry was made: each kind of entry, with what held at its place.
-use Rattle.std.proofs.Common.{◌≡◌, ◌+◌, ℕ, Bool, true, false, ◌==◌, ◌&&◌, List, [], ◌∷◌, length, nat_lt, nat_le, Option, Some, None, refl, sym, ap, subst, cond, slice_get, slice_index_or, unwrap_or}
+use Rattle.std.proofs.Common.{◌≡◌, ◌+◌, ℕ, Bool, true, false, ◌==◌, ◌&&◌, List, length, Option, Some, None, refl, sym, subst, cond, slice_get, slice_index_or}
 use Rattle.sleep_base.specs.declared.errno.Errno.{Errno}
 use Rattle.sleep_base.specs.declared.errno.Errno.TheVariants.{EINVAL}
 use Rattle.sleep_model.specs.declared.entry.Actor.{Actor}
@@ -20,16 +20,15 @@ use Rattle.sleep_model.specs.declared.place.Row.{Row}
 use Rattle.sleep_model.specs.declared.place.Row.TheVariants as row
 use Rattle.sleep_model.specs.declared.place.Seat.{Seat}
 use Rattle.sleep_model.specs.declared.word.EventNow.{EventNow}
-use Rattle.sleep_model.specs.Word.{visible, position}
+use Rattle.sleep_model.specs.Word.{visible}
 use Rattle.sleep_model.specs.Accepted.{IsOneWriter}
-use Rattle.sleep_model.specs.Numbers.{time_of}
 use Rattle.sleep_model.specs.Guard.{in_force, pending}
 use Rattle.sleep_model.specs.Path.{attempts, maker, row_of, failure}
 use Rattle.sleep_model.specs.Scripts.{entry_steps}
 use Rattle.sleep_model.specs.Seats.{seats, first_seat}
 use Rattle.sleep_model.specs.Walk.{inside, error_of, next_down, next_up}
 use Rattle.sleep_model.specs.Due.{due, seat_due, step_due, path_due, suspend_due, resume_due}
-use Rattle.sleep_model.specs.Legal.{JournalPart, JournalStep, part_of, OfJournal}
+use Rattle.sleep_model.specs.Legal.{part_of, OfJournal}
 use Rattle.sleep_model.proofs.Walking.{Facts, ScriptCase, Nothing, OwnStep, OnPath, due_case}
 
 -- an entry of that kind was due of somebody who saw this word
@@ -110,7 +109,7 @@ own_made m past now (Some s) seat r = exits seat.exited
     exits false = step_made m past now seat (slice_get (entry_steps s) seat.done) r
 
 script_made : (m : Machine) (past : List Entry) (now : EventNow) (i : ℕ) → ScriptCase m past now (maker past) (row_of past) i → MadeIf m past now (due m past (actor.Script i) now)
-script_made m past now i (Nothing e) = subst (MadeIf m past now) (sym e) tt
+script_made m past now i (Nothing l e) = subst (MadeIf m past now) (sym e) tt
 script_made m past now i (OwnStep h) = subst (MadeIf m past now) (sym h.3) (own_made m past now (slice_get m.actors 0) (slice_index_or (seats (length m.actors) past) 0 first_seat) h.2)
 script_made m past now i (OnPath h) = subst (MadeIf m past now) (sym h.2) (path_made m past now (row_of past) refl)
 

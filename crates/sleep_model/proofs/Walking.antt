@@ -171,20 +171,20 @@ maker_of o who row.Over i er se su h = h.0
 
 -- what is due of a script is nothing more, the writer's own step outside an attempt, or the attempt's path
 pub data ScriptCase (m : Machine) (past : List Entry) (now : EventNow) (who : Option Actor) (r : Row) (i : ℕ) : Type 0 where
-  Nothing : script_due m past now i who r ≡ Gone → ScriptCase m past now who r i
+  Nothing : 0 < i → script_due m past now i who r ≡ Gone → ScriptCase m past now who r i
   OwnStep : (i ≡ 0) × (who ≡ None) × (r ≡ row.Outside) × (script_due m past now i who r ≡ seat_due past now (slice_get m.actors 0) (slice_index_or (seats (length m.actors) past) 0 first_seat)) → ScriptCase m past now who r i
   OnPath : (i ≡ 0) × (who ≡ Some (actor.Script 0)) × (script_due m past now i who r ≡ path_due m past now r) → ScriptCase m past now who r i
 
 outside_case : (m : Machine) → IsOneWriter (length m.devices) m.actors → (past : List Entry) (now : EventNow) (i : ℕ) → ScriptCase m past now None row.Outside i
 outside_case m acc past now zero = OwnStep (refl, refl, refl, refl)
-outside_case m acc past now (suc i) = Nothing (ap (λ (s : Option Script). seat_due past now s (slice_index_or (seats (length m.actors) past) (suc i) first_seat)) (none_beyond m acc i))
+outside_case m acc past now (suc i) = Nothing (omega arith) (ap (λ (s : Option Script). seat_due past now s (slice_index_or (seats (length m.actors) past) (suc i) first_seat)) (none_beyond m acc i))
 
 inside_case : (m : Machine) → IsOneWriter (length m.devices) m.actors → (past : List Entry) (now : EventNow) (i : ℕ) (r : Row) → ScriptCase m past now (Some (actor.Script 0)) r i
 inside_case m acc past now zero r = OnPath (refl, refl, refl)
 inside_case m acc past now (suc i) r =
     let other : (0 == suc i) ≡ false = grind (arith, nat_tests) in
-    Nothing (ap (λ (b : Bool). cond b (path_due m past now r) (seat_due past now (slice_get m.actors (suc i)) (slice_index_or (seats (length m.actors) past) (suc i) first_seat))) other
-      ∙ ap (λ (s : Option Script). seat_due past now s (slice_index_or (seats (length m.actors) past) (suc i) first_seat)) (none_beyond m acc i))
+    Nothing (omega arith) (ap (λ (b : Bool). cond b (path_due m past now r) (seat_due past now (slice_get m.actors (suc i)) (slice_index_or (seats (length m.actors) past) (suc i) first_seat))) other
+    ∙ ap (λ (s : Option Script). seat_due past now s (slice_index_or (seats (length m.actors) past) (suc i) first_seat)) (none_beyond m acc i))
 
 script_case : (m : Machine) → IsOneWriter (length m.devices) m.actors → (past : List Entry) (now : EventNow) (who : Option Actor) (r : Row) (i : ℕ) → IsOneOf who r → ScriptCase m past now who r i
 script_case m acc past now who row.Outside i e = subst (λ (x : Option Actor). ScriptCase m past now x row.Outside i) (sym e) (outside_case m acc past now i)
@@ -202,17 +202,17 @@ due_case m acc past now i w = script_case m acc past now (maker past) (row_of pa
 own_keeps : (o : List ℕ) (past : List Entry) (now : EventNow) (script : Option Script) (seat : Seat) (who : Option Actor) (r : Row) (i : Option ℕ) (er : Option Errno) (se su : List ℕ) (pos time : ℕ) → who ≡ None → r ≡ row.Outside → WalkFacts o who r i er se su → Keeps o who r i er se su (actor.Script 0) pos time (seat_due past now script seat)
 own_keeps o past now script seat who r i er se su pos time e f =
     subst (λ (x : Option Actor). WalkFacts o x r i er se su → Keeps o x r i er se su (actor.Script 0) pos time (seat_due past now script seat)) (sym e)
-      (subst (λ (x : Row). WalkFacts o None x i er se su → Keeps o None x i er se su (actor.Script 0) pos time (seat_due past now script seat)) (sym f) (seat_keeps o past now script seat i er se su pos time))
+    (subst (λ (x : Row). WalkFacts o None x i er se su → Keeps o None x i er se su (actor.Script 0) pos time (seat_due past now script seat)) (sym f) (seat_keeps o past now script seat i er se su pos time))
 
 -- the facts that hold now, kept by what is due
 abbrev pub KeepsFacts : Machine → List Entry → Actor → ℕ → ℕ → Due → Type 0
 KeepsFacts m past a pos time d = Keeps (order m) (maker past) (row_of past) (inside past) (error_of past) (settled past) (suspended past) a pos time d
 
 script_keeps : (m : Machine) (past : List Entry) (now : EventNow) (i pos time : ℕ) → Facts m past → ScriptCase m past now (maker past) (row_of past) i → KeepsFacts m past (actor.Script i) pos time (due m past (actor.Script i) now)
-script_keeps m past now i pos time w (Nothing e) = subst (KeepsFacts m past (actor.Script i) pos time) (sym e) tt
+script_keeps m past now i pos time w (Nothing l e) = subst (KeepsFacts m past (actor.Script i) pos time) (sym e) tt
 script_keeps m past now i pos time w (OwnStep h) =
     subst (λ (j : ℕ). KeepsFacts m past (actor.Script j) pos time (due m past (actor.Script i) now)) (sym h.0)
-      (subst (KeepsFacts m past (actor.Script 0) pos time) (sym h.3) (own_keeps (order m) past now (slice_get m.actors 0) (slice_index_or (seats (length m.actors) past) 0 first_seat) (maker past) (row_of past) (inside past) (error_of past) (settled past) (suspended past) pos time h.1 h.2 w))
+    (subst (KeepsFacts m past (actor.Script 0) pos time) (sym h.3) (own_keeps (order m) past now (slice_get m.actors 0) (slice_index_or (seats (length m.actors) past) 0 first_seat) (maker past) (row_of past) (inside past) (error_of past) (settled past) (suspended past) pos time h.1 h.2 w))
 script_keeps m past now i pos time w (OnPath h) =
     subst (KeepsFacts m past (actor.Script i) pos time) (sym h.2) (path_keeps m past now (actor.Script i) pos time (maker past) (row_of past) w)
 

@@ -1,5 +1,6 @@
 -- Legal logs, in three parts: the journal's entries, the sources' entries, and what ties them together.
 use Rattle.std.specs.Prelude.{◌≡◌, ◌<◌, ◌+◌, ℕ, zero, suc, Bool, true, false, not, ◌&&◌, List, [], ◌∷◌, length, reverse, replicate, Option, Some, None, is_none}
+use Rattle.std.specs.List.{list_all}
 use Rattle.sleep_model.specs.declared.entry.Actor.TheVariants as actor
 use Rattle.sleep_model.specs.declared.entry.Entry.{Entry}
 use Rattle.sleep_model.specs.declared.entry.Kind.{Kind}
@@ -74,8 +75,7 @@ is_idle m past = none_enabled m past (length m.actors)
 
 -- each of these has made its exit
 abbrev pub all_exited : List Seat → Bool
-all_exited [] = true
-all_exited (s ∷ ss) = s.exited && all_exited ss
+all_exited seats = list_all (λ s. s.exited) seats
 
 -- every script has made its exit, no attempt is open, and no actor is enabled
 abbrev pub is_finished : Machine → List Entry → Bool

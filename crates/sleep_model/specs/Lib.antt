@@ -1,6 +1,7 @@
 pub mod Accepted
 pub mod Due
 pub mod Guard
+pub mod Laws
 pub mod Legal
 pub mod NameBytes
 pub mod Numbers

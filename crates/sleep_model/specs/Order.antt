@@ -1,5 +1,5 @@
 -- The order of devices, and which must go first (drivers/base/power/main.c, dpm_list).
-use Rattle.std.specs.Prelude.{ℕ, suc, Bool, false, ◌==◌, List, [], ◌∷◌, length, if◌then◌else◌, Option, Some, None}
+use Rattle.std.specs.Prelude.{ℕ, suc, Bool, false, ◌==◌, List, [], ◌∷◌, length, if◌then◌else◌, Option, Some, None, option_to_list, slice_get}
 use Rattle.std.specs.List.{range_with_len}
 use Rattle.sleep_model.specs.declared.machine.Machine.{Machine}
 use Rattle.sleep_model.specs.declared.machine.Device.{Device}
@@ -21,3 +21,12 @@ children_from d n (x ∷ xs) = if is_parent d x.parent then n ∷ children_from 
 -- the devices that must sleep before d does: its children
 abbrev pub below : Machine → ℕ → List ℕ
 below m d = children_from d 0 m.devices
+
+-- the parent of a device, if there is one
+abbrev pub parent_of : Option Device → List ℕ
+parent_of None = []
+parent_of (Some d) = option_to_list d.parent
+
+-- the devices that must be awake before d is: its parent
+abbrev pub above : Machine → ℕ → List ℕ
+above m d = parent_of (slice_get m.devices d)

@@ -1,5 +1,5 @@
 use Rattle.std.proofs.Common.{◌<◌, ◌≤◌, length, sym, arith, ap}
-use Rattle.sleep_core.proofs.Operations.{operation_here, operation_none}
+use Rattle.sleep_model.proofs.Operations.{operation_here, operation_none}
 use Rattle.sleep_core.proofs.turns.operation.Goals as goal
 
 pub returns-then-done-steps : goal.returns-then-done-steps
