@@ -4,6 +4,7 @@ ghost use Rattle.sleep_model.specs.Word.{position};
 ghost use Rattle.sleep_core.specs.Looks.{IsTold, GainsLook, IsNewest};
 
 use sleep_model::{EventNow, pos};
+use std::marker::Model;
 use std::sync::Wait;
 
 /// The event word as one holder sees it (`drivers/base/power/wakeup.c`, `combined_event_count`).
@@ -52,18 +53,28 @@ pub fn look_from<R: Wait, E: Events>(rt: &R, events: &mut E, floor: u64) -> Even
     unreachable!()
 }
 
-/// One plain counter, which nobody else moves.
+/// One plain counter, which nobody else moves: contracts see its word.
 #[derive(Clone, Copy, Drop)]
 pub struct PlainEvents {
     now: EventNow,
 }
 
+impl Model for PlainEvents {
+    ghost use Rattle.sleep_model.specs.declared.word.EventNow.{EventNow};
+
+    ghost Value = { EventNow };
+
+    ghost view = { λ e. e.now };
+
+    ghost inverse = { λ word. record { now = word } };
+}
+
 impl Events for PlainEvents {
-    ghost tells = { λ e. Some e.now };
+    ghost tells = { λ word. Some word };
 
     ghost looked = { λ _. None };
 
-    ghost floor = { λ e. position e.now };
+    ghost floor = { λ word. position word };
 
     ghost Root = { Unit {0} };
 
@@ -77,7 +88,7 @@ impl Events for PlainEvents {
 impl PlainEvents {
     /// The word 0/0/0: no event in progress, none registered.
     pub fn new() -> Self
-        ensures { result.now ≡ record { inpr = 0; count = 0; hard = 0 } }
+        ensures { result ≡ record { inpr = 0; count = 0; hard = 0 } }
     {
         PlainEvents {
             now: EventNow {

@@ -8,3 +8,4 @@ mod steps;
 mod turns;
 
 pub use events::{Events, PlainEvents};
+pub use turns::{Core, CoreFault, CoreTurn};
