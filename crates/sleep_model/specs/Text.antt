@@ -174,7 +174,26 @@ abbrev pub prepare_text : ℤ → List ℕ
 prepare_text (pos n) = decimal n
 prepare_text (negsuc n) = error_text (suc n)
 
--- entries of attempts but for those of device phases
+-- entries of the platform, of processors and of syscore steps
+abbrev pub platform_body : Machine → Kind → List ℕ
+platform_body m (kind.PlatformDo what r) = codes "platform " ++ down_word what ++ space ++ answer_text r
+platform_body m (kind.PlatformUndo what) = codes "platform " ++ up_word what
+platform_body m (kind.CpuOff k) = codes "cpu off " ++ decimal k
+platform_body m (kind.CpuBusy k) = codes "cpu EBUSY " ++ decimal k
+platform_body m (kind.CpuOn k) = codes "cpu on " ++ decimal k
+platform_body m (kind.Irqs true) = codes "irqs on"
+platform_body m (kind.Irqs false) = codes "irqs off"
+platform_body m (kind.SyscoreCheck r) = codes "syscore check " ++ answer_text r
+platform_body m (kind.SyscoreSuspend x r) = codes "syscore suspend " ++ syscore m x ++ space ++ answer_text r
+platform_body m (kind.SyscoreResume x) = codes "syscore resume " ++ syscore m x
+platform_body m (kind.Enter true) = codes "enter EBUSY"
+platform_body m (kind.Enter false) = codes "enter"
+platform_body m (kind.Wake true) = codes "wake event"
+platform_body m (kind.Wake false) = codes "wake alarm"
+platform_body m kind.Clear = codes "clear"
+platform_body m _ = []
+
+-- entries of an attempt's start and end, of notifiers and of the freezer, and of the platform
 abbrev pub attempt_body : Machine → Kind → List ℕ
 attempt_body m (kind.Attempt n guarded) = codes "attempt " ++ decimal n ++ space ++ guard_text guarded
 attempt_body m (kind.Over n r) = codes "over " ++ decimal n ++ space ++ answer_text r
@@ -184,22 +203,7 @@ attempt_body m (kind.Freeze g) = codes "freeze " ++ group_word g
 attempt_body m (kind.Froze g end) = codes "froze " ++ group_word g ++ space ++ froze_text m end
 attempt_body m (kind.Thaw thaw.Kernel) = codes "thaw kernel"
 attempt_body m (kind.Thaw thaw.All) = codes "thaw all"
-attempt_body m (kind.PlatformDo what r) = codes "platform " ++ down_word what ++ space ++ answer_text r
-attempt_body m (kind.PlatformUndo what) = codes "platform " ++ up_word what
-attempt_body m (kind.CpuOff k) = codes "cpu off " ++ decimal k
-attempt_body m (kind.CpuBusy k) = codes "cpu EBUSY " ++ decimal k
-attempt_body m (kind.CpuOn k) = codes "cpu on " ++ decimal k
-attempt_body m (kind.Irqs true) = codes "irqs on"
-attempt_body m (kind.Irqs false) = codes "irqs off"
-attempt_body m (kind.SyscoreCheck r) = codes "syscore check " ++ answer_text r
-attempt_body m (kind.SyscoreSuspend x r) = codes "syscore suspend " ++ syscore m x ++ space ++ answer_text r
-attempt_body m (kind.SyscoreResume x) = codes "syscore resume " ++ syscore m x
-attempt_body m (kind.Enter true) = codes "enter EBUSY"
-attempt_body m (kind.Enter false) = codes "enter"
-attempt_body m (kind.Wake true) = codes "wake event"
-attempt_body m (kind.Wake false) = codes "wake alarm"
-attempt_body m kind.Clear = codes "clear"
-attempt_body m _ = []
+attempt_body m k = platform_body m k
 
 -- entries of device phases, and of attempts
 abbrev pub phase_body : Machine → Kind → List ℕ
@@ -272,9 +276,17 @@ word_text now = decimal now.inpr ++ codes "/" ++ decimal now.count ++ codes "/" 
 abbrev pub entry_line : Machine → Entry → List ℕ
 entry_line m e = decimal e.time ++ space ++ word_text e.now ++ space ++ actor_text m e.actor ++ space ++ body m e.kind ++ newline
 
+-- a source's counts, each after a space
+abbrev pub counts_text : Stats → List ℕ
+counts_text s = space ++ decimal s.active_count ++ space ++ decimal s.event_count ++ space ++ decimal s.expire_count
+
+-- a source's times in ms, each after a space
+abbrev pub times_text : Stats → List ℕ
+times_text s = space ++ decimal s.active_time ++ space ++ decimal s.total_time ++ space ++ decimal s.max_time ++ space ++ decimal s.last_time
+
 -- the line of a source
 abbrev pub source_line : List ℕ → Stats → List ℕ
-source_line name s = codes "source " ++ name ++ space ++ decimal s.active_count ++ space ++ decimal s.event_count ++ space ++ decimal s.expire_count ++ space ++ decimal s.active_time ++ space ++ decimal s.total_time ++ space ++ decimal s.max_time ++ space ++ decimal s.last_time ++ newline
+source_line name s = codes "source " ++ name ++ counts_text s ++ times_text s ++ newline
 
 -- a line a source, in the order of the file
 abbrev pub source_lines : List (List ℕ) → List Stats → List ℕ
