@@ -11,3 +11,6 @@ mod writer;
 
 pub use log::write_log;
 pub use mem::Mem;
+
+#[cfg(test)]
+mod tests;

@@ -1,11 +1,9 @@
 ghost use Rattle.std.specs.Prelude.{decimal};
 
+use crate::mem::Mem;
+use itoa::Buffer;
 use std::alloc::Global;
 use std::marker::Model;
-
-use itoa::Buffer;
-
-use crate::mem::Mem;
 
 /// Bytes that grow at their end, and that contracts see as their list.
 #[derive(Drop)]

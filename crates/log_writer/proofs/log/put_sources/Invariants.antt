@@ -1,8 +1,6 @@
-use Rattle.std.proofs.Common.{◌≡◌, ◌++◌, drop, length, codes, [], ◌∷◌}
-use Rattle.sleep_model.specs.Text.{source_lines}
+use Rattle.std.proofs.Common.{◌≡◌, ◌++◌, length}
+use Rattle.log_writer.proofs.Sources.{lines_from}
 use Rattle.log_writer.proofs.log.put_sources.Given as goal
 
 abbrev pub invariant-loop-name : goal.invariant-loop-name
-invariant-loop-name l =
-    l.out ++ source_lines (drop (length l.yielded) l.names ++ codes "autosleep" ∷ []) (drop (length l.yielded) l.stats)
-    ≡ l.initial.out ++ source_lines (l.names ++ codes "autosleep" ∷ []) l.stats
+invariant-loop-name l = l.out ++ lines_from l.names l.stats (length l.yielded) ≡ l.initial.out ++ lines_from l.names l.stats 0
