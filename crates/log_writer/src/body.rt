@@ -157,7 +157,6 @@ fn put_attempt(out: &mut LineWriter, machine: &Machine, kind: Kind) -> Result<()
 }
 
 /// Writes how a freeze ended.
-#[tactic(auto, using(std::proofs::Common::append_assoc))]
 fn put_froze_end(out: &mut LineWriter, machine: &Machine, end: FrozeEnd) -> Result<(), Mem>
     ensures { OnOk result (out.new ≡ out.old ++ froze_text machine.now end) }
 {

@@ -1,8 +1,7 @@
-use Rattle.std.proofs.Common.{rules, arith, ◌≡◌, ◌++◌, OnOk, ℕ, ◌+◌, ◌<◌, ◌≤◌, length, List, [], ◌∷◌, get_or, min, length-append, append_assoc, append-nil}
+use Rattle.std.proofs.Common.{rules, arith, ◌≡◌, ℕ, ◌<◌, ◌≤◌, length, List, get_or, min, length-append}
 use Rattle.std.proofs.lemmas.Slice.Zip.{zip_turn, zip_end}
 use Rattle.std.proofs.lemmas.Grind.{common_steps}
 use Rattle.sleep_model.specs.declared.log.Stats.{Stats}
-use Rattle.sleep_model.specs.Text.{source_lines, source_names}
 use Rattle.std.proofs.lemmas.Result.{IfOk-equal}
 use Rattle.log_writer.proofs.Sources.{written_more, written_last, written_all}
 use Rattle.log_writer.proofs.log.put_sources.Goals as goal
