@@ -37,10 +37,11 @@ use Rattle.sleep_model.specs.declared.log.Waiting.{Waiting}
 use Rattle.sleep_model.specs.declared.log.Why.{Why}
 use Rattle.sleep_model.specs.declared.log.Why.TheVariants.{InProgress, Mark}
 
--- a space, a newline
+-- a space
 abbrev pub space : List ℕ
 space = 32 ∷ []
 
+-- the end of a line
 abbrev pub newline : List ℕ
 newline = 10 ∷ []
 
@@ -101,7 +102,7 @@ actor_text m (actor.Dev d) = codes "dev:" ++ device_name (slice_get m.devices d)
 actor_text m (actor.Timer s) = codes "timer:" ++ name_in (slice_get m.sources s)
 actor_text m actor.Time = codes "time"
 
--- a device's, a source's, a notifier's, a syscore step's, a mark's and a task's name by its number
+-- the name of the device with that number
 abbrev pub device : Machine → ℕ → List ℕ
 device m d = device_name (slice_get m.devices d)
 
@@ -109,41 +110,52 @@ device m d = device_name (slice_get m.devices d)
 abbrev pub source_names : Machine → List (List ℕ)
 source_names m = m.sources ++ codes "autosleep" ∷ []
 
+-- the name of the source with that number
 abbrev pub source : Machine → ℕ → List ℕ
 source m s = name_in (slice_get (source_names m) s)
 
+-- the notifier's name
 abbrev pub notifier_name : Option Notifier → List ℕ
 notifier_name None = []
 notifier_name (Some x) = x.name
 
+-- the name of the notifier with that number
 abbrev pub notifier : Machine → ℕ → List ℕ
 notifier m x = notifier_name (slice_get m.notifiers x)
 
+-- the name of the syscore step with that number
 abbrev pub syscore : Machine → ℕ → List ℕ
 syscore m x = name_in (slice_get m.syscore x)
 
+-- the name of the mark with that number
 abbrev pub mark : Machine → ℕ → List ℕ
 mark m x = name_in (slice_get m.marks x)
 
+-- the script's name
 abbrev pub task_name : Option Script → List ℕ
 task_name None = []
 task_name (Some s) = s.name
 
+-- the name of the script with that number
 abbrev pub task : Machine → ℕ → List ℕ
 task m i = task_name (slice_get m.actors i)
 
+-- what autosleep is set to
 abbrev pub state_word : State → List ℕ
 state_word Mem = codes "mem"
 state_word Off = codes "off"
 
+-- whom a freeze asks
 abbrev pub group_word : Group → List ℕ
 group_word User = codes "user"
 group_word Kernel = codes "kernel"
 
+-- the runtime status that is asked for, true for suspended
 abbrev pub runtime_word : Bool → List ℕ
 runtime_word true = codes "suspended"
 runtime_word false = codes "active"
 
+-- whether an event is hard
 abbrev pub hard_word : Bool → List ℕ
 hard_word true = codes "hard"
 hard_word false = codes "soft"
@@ -154,11 +166,13 @@ froze_text m AllFrozen = codes "0"
 froze_text m (Timeout left first) = codes "EBUSY timeout " ++ decimal left ++ space ++ task m first
 froze_text m (Wakeup left first) = codes "EBUSY wakeup " ++ decimal left ++ space ++ task m first
 
+-- the platform's step on the way down
 abbrev pub down_word : PlatDo → List ℕ
 down_word down.Begin = codes "begin"
 down_word down.Prepare = codes "prepare"
 down_word down.PrepareLate = codes "prepare_late"
 
+-- the platform's step on the way up
 abbrev pub up_word : PlatUndo → List ℕ
 up_word up.Recover = codes "recover"
 up_word up.Wake = codes "wake"
