@@ -37,10 +37,11 @@ use Rattle.sleep_model.specs.declared.log.Waiting.{Waiting}
 use Rattle.sleep_model.specs.declared.log.Why.{Why}
 use Rattle.sleep_model.specs.declared.log.Why.TheVariants.{InProgress, Mark}
 
--- a space, a newline
+-- a space
 abbrev pub space : List ℕ
 space = 32 ∷ []
 
+-- the end of a line
 abbrev pub newline : List ℕ
 newline = 10 ∷ []
 
@@ -101,7 +102,7 @@ actor_text m (actor.Dev d) = codes "dev:" ++ device_name (slice_get m.devices d)
 actor_text m (actor.Timer s) = codes "timer:" ++ name_in (slice_get m.sources s)
 actor_text m actor.Time = codes "time"
 
--- a device's, a source's, a notifier's, a syscore step's, a mark's and a task's name by its number
+-- the name of the device with that number
 abbrev pub device : Machine → ℕ → List ℕ
 device m d = device_name (slice_get m.devices d)
 
@@ -109,41 +110,52 @@ device m d = device_name (slice_get m.devices d)
 abbrev pub source_names : Machine → List (List ℕ)
 source_names m = m.sources ++ codes "autosleep" ∷ []
 
+-- the name of the source with that number
 abbrev pub source : Machine → ℕ → List ℕ
 source m s = name_in (slice_get (source_names m) s)
 
+-- the notifier's name
 abbrev pub notifier_name : Option Notifier → List ℕ
 notifier_name None = []
 notifier_name (Some x) = x.name
 
+-- the name of the notifier with that number
 abbrev pub notifier : Machine → ℕ → List ℕ
 notifier m x = notifier_name (slice_get m.notifiers x)
 
+-- the name of the syscore step with that number
 abbrev pub syscore : Machine → ℕ → List ℕ
 syscore m x = name_in (slice_get m.syscore x)
 
+-- the name of the mark with that number
 abbrev pub mark : Machine → ℕ → List ℕ
 mark m x = name_in (slice_get m.marks x)
 
+-- the script's name
 abbrev pub task_name : Option Script → List ℕ
 task_name None = []
 task_name (Some s) = s.name
 
+-- the name of the script with that number
 abbrev pub task : Machine → ℕ → List ℕ
 task m i = task_name (slice_get m.actors i)
 
+-- what autosleep is set to
 abbrev pub state_word : State → List ℕ
 state_word Mem = codes "mem"
 state_word Off = codes "off"
 
+-- whom a freeze asks
 abbrev pub group_word : Group → List ℕ
 group_word User = codes "user"
 group_word Kernel = codes "kernel"
 
+-- the runtime status that is asked for, true for suspended
 abbrev pub runtime_word : Bool → List ℕ
 runtime_word true = codes "suspended"
 runtime_word false = codes "active"
 
+-- whether an event is hard
 abbrev pub hard_word : Bool → List ℕ
 hard_word true = codes "hard"
 hard_word false = codes "soft"
@@ -154,11 +166,13 @@ froze_text m AllFrozen = codes "0"
 froze_text m (Timeout left first) = codes "EBUSY timeout " ++ decimal left ++ space ++ task m first
 froze_text m (Wakeup left first) = codes "EBUSY wakeup " ++ decimal left ++ space ++ task m first
 
+-- the platform's step on the way down
 abbrev pub down_word : PlatDo → List ℕ
 down_word down.Begin = codes "begin"
 down_word down.Prepare = codes "prepare"
 down_word down.PrepareLate = codes "prepare_late"
 
+-- the platform's step on the way up
 abbrev pub up_word : PlatUndo → List ℕ
 up_word up.Recover = codes "recover"
 up_word up.Wake = codes "wake"
@@ -174,7 +188,26 @@ abbrev pub prepare_text : ℤ → List ℕ
 prepare_text (pos n) = decimal n
 prepare_text (negsuc n) = error_text (suc n)
 
--- entries of attempts but for those of device phases
+-- entries of the platform, of processors and of syscore steps
+abbrev pub platform_body : Machine → Kind → List ℕ
+platform_body m (kind.PlatformDo what r) = codes "platform " ++ down_word what ++ space ++ answer_text r
+platform_body m (kind.PlatformUndo what) = codes "platform " ++ up_word what
+platform_body m (kind.CpuOff k) = codes "cpu off " ++ decimal k
+platform_body m (kind.CpuBusy k) = codes "cpu EBUSY " ++ decimal k
+platform_body m (kind.CpuOn k) = codes "cpu on " ++ decimal k
+platform_body m (kind.Irqs true) = codes "irqs on"
+platform_body m (kind.Irqs false) = codes "irqs off"
+platform_body m (kind.SyscoreCheck r) = codes "syscore check " ++ answer_text r
+platform_body m (kind.SyscoreSuspend x r) = codes "syscore suspend " ++ syscore m x ++ space ++ answer_text r
+platform_body m (kind.SyscoreResume x) = codes "syscore resume " ++ syscore m x
+platform_body m (kind.Enter true) = codes "enter EBUSY"
+platform_body m (kind.Enter false) = codes "enter"
+platform_body m (kind.Wake true) = codes "wake event"
+platform_body m (kind.Wake false) = codes "wake alarm"
+platform_body m kind.Clear = codes "clear"
+platform_body m _ = []
+
+-- entries of an attempt's start and end, of notifiers and of the freezer, and of the platform
 abbrev pub attempt_body : Machine → Kind → List ℕ
 attempt_body m (kind.Attempt n guarded) = codes "attempt " ++ decimal n ++ space ++ guard_text guarded
 attempt_body m (kind.Over n r) = codes "over " ++ decimal n ++ space ++ answer_text r
@@ -184,22 +217,7 @@ attempt_body m (kind.Freeze g) = codes "freeze " ++ group_word g
 attempt_body m (kind.Froze g end) = codes "froze " ++ group_word g ++ space ++ froze_text m end
 attempt_body m (kind.Thaw thaw.Kernel) = codes "thaw kernel"
 attempt_body m (kind.Thaw thaw.All) = codes "thaw all"
-attempt_body m (kind.PlatformDo what r) = codes "platform " ++ down_word what ++ space ++ answer_text r
-attempt_body m (kind.PlatformUndo what) = codes "platform " ++ up_word what
-attempt_body m (kind.CpuOff k) = codes "cpu off " ++ decimal k
-attempt_body m (kind.CpuBusy k) = codes "cpu EBUSY " ++ decimal k
-attempt_body m (kind.CpuOn k) = codes "cpu on " ++ decimal k
-attempt_body m (kind.Irqs true) = codes "irqs on"
-attempt_body m (kind.Irqs false) = codes "irqs off"
-attempt_body m (kind.SyscoreCheck r) = codes "syscore check " ++ answer_text r
-attempt_body m (kind.SyscoreSuspend x r) = codes "syscore suspend " ++ syscore m x ++ space ++ answer_text r
-attempt_body m (kind.SyscoreResume x) = codes "syscore resume " ++ syscore m x
-attempt_body m (kind.Enter true) = codes "enter EBUSY"
-attempt_body m (kind.Enter false) = codes "enter"
-attempt_body m (kind.Wake true) = codes "wake event"
-attempt_body m (kind.Wake false) = codes "wake alarm"
-attempt_body m kind.Clear = codes "clear"
-attempt_body m _ = []
+attempt_body m k = platform_body m k
 
 -- entries of device phases, and of attempts
 abbrev pub phase_body : Machine → Kind → List ℕ
@@ -272,9 +290,17 @@ word_text now = decimal now.inpr ++ codes "/" ++ decimal now.count ++ codes "/" 
 abbrev pub entry_line : Machine → Entry → List ℕ
 entry_line m e = decimal e.time ++ space ++ word_text e.now ++ space ++ actor_text m e.actor ++ space ++ body m e.kind ++ newline
 
+-- a source's counts, each after a space
+abbrev pub counts_text : Stats → List ℕ
+counts_text s = space ++ decimal s.active_count ++ space ++ decimal s.event_count ++ space ++ decimal s.expire_count
+
+-- a source's times in ms, each after a space
+abbrev pub times_text : Stats → List ℕ
+times_text s = space ++ decimal s.active_time ++ space ++ decimal s.total_time ++ space ++ decimal s.max_time ++ space ++ decimal s.last_time
+
 -- the line of a source
 abbrev pub source_line : List ℕ → Stats → List ℕ
-source_line name s = codes "source " ++ name ++ space ++ decimal s.active_count ++ space ++ decimal s.event_count ++ space ++ decimal s.expire_count ++ space ++ decimal s.active_time ++ space ++ decimal s.total_time ++ space ++ decimal s.max_time ++ space ++ decimal s.last_time ++ newline
+source_line name s = codes "source " ++ name ++ counts_text s ++ times_text s ++ newline
 
 -- a line a source, in the order of the file
 abbrev pub source_lines : List (List ℕ) → List Stats → List ℕ

@@ -1,0 +1,199 @@
+ghost use Rattle.std.specs.Prelude.{◌≡◌, ◌++◌, OnOk};
+ghost use Rattle.sleep_model.specs.Text.{body, step_body, auto_body, source_body, phase_body, attempt_body, platform_body, froze_text, prepare_text};
+
+use crate::mem::Mem;
+use crate::names::{device_name, mark_name, notifier_name, source_name, syscore_name, task_name};
+use crate::writer::{LineWriter, Spelled, put};
+use sleep_model::{FrozeEnd, Kind, Machine, Thaw};
+
+/// Writes what an entry says.
+#[tactic(auto, using(std::proofs::Common::append_assoc))]
+pub fn put_body(out: &mut LineWriter, machine: &Machine, kind: Kind) -> Result<(), Mem>
+    ensures { OnOk result (out.new ≡ out.old ++ body machine.now kind) }
+{
+    match kind {
+        Kind::Frozen => put!(out; "frozen"),
+        Kind::ReadWait => put!(out; "read wait"),
+        Kind::Read(count) => put!(out; "read ", count),
+        Kind::ReadIntr => put!(out; "read EINTR"),
+        Kind::SaveWait(count) => put!(out; "save ", count, " wait"),
+        Kind::Saved(count) => put!(out; "save ", count, " ok"),
+        Kind::SaveErr(count, error) => put!(out; "save ", count, " ", error),
+        Kind::StateWait => put!(out; "state wait"),
+        Kind::StateErr(error) => put!(out; "state ", error),
+        Kind::StateUnsaved => put!(out; "state unsaved"),
+        Kind::AutoBad => put!(out; "autosleep EINVAL"),
+        Kind::AutoSet(state) => put!(out; "autosleep set ", state),
+        Kind::AutoDone => put!(out; "autosleep done"),
+        _ => put_step(out, machine, kind),
+    }
+}
+
+/// Writes what an entry of a task's other steps says.
+fn put_step(out: &mut LineWriter, machine: &Machine, kind: Kind) -> Result<(), Mem>
+    ensures { OnOk result (out.new ≡ out.old ++ step_body machine.now kind) }
+{
+    match kind {
+        Kind::Sleep(ms) => put!(out; "sleep ", ms),
+        Kind::SleepD(ms) => put!(out; "sleep_d ", ms),
+        Kind::Slept => put!(out; "slept"),
+        Kind::Pass => put!(out; "pass"),
+        Kind::Post(index) => put!(out; "post ", mark_name(machine, index)),
+        Kind::Got(index) => put!(out; "got ", mark_name(machine, index)),
+        Kind::Exit => put!(out; "exit"),
+        Kind::RuntimeAsk {
+            device,
+            to_suspended,
+            r,
+        } => {
+            let to = if to_suspended { "suspended" } else { "active" };
+            put!(out; "runtime ", device_name(machine, device), " ", to, " ", r)
+        }
+        _ => put_auto(out, machine, kind),
+    }
+}
+
+/// Writes what an entry of the autosleep work says.
+fn put_auto(out: &mut LineWriter, machine: &Machine, kind: Kind) -> Result<(), Mem>
+    ensures { OnOk result (out.new ≡ out.old ++ auto_body machine.now kind) }
+{
+    match kind {
+        Kind::AutoRun => put!(out; "run"),
+        Kind::AutoSaved(count) => put!(out; "saved ", count),
+        Kind::AutoUnsaved(count) => put!(out; "unsaved ", count),
+        Kind::AutoAfter(Some(count)) => put!(out; "after ", count),
+        Kind::AutoAfter(None) => put!(out; "after busy"),
+        Kind::AutoAgain => put!(out; "again"),
+        Kind::AutoOff => put!(out; "off"),
+        _ => put_source(out, machine, kind),
+    }
+}
+
+/// Writes what an entry of a wakeup source or of time says.
+fn put_source(out: &mut LineWriter, machine: &Machine, kind: Kind) -> Result<(), Mem>
+    ensures { OnOk result (out.new ≡ out.old ++ source_body machine.now kind) }
+{
+    match kind {
+        Kind::Awake(index) => put!(out; "awake ", source_name(machine, index)),
+        Kind::Relax(index) => put!(out; "relax ", source_name(machine, index)),
+        Kind::Event { source, ms, hard } => {
+            let hard = if hard { "hard" } else { "soft" };
+            put!(out; "event ", source_name(machine, source), " ", ms, " ", hard)
+        }
+        Kind::Expire(index) => put!(out; "expire ", source_name(machine, index)),
+        Kind::Start(index) => put!(out; "start ", source_name(machine, index)),
+        Kind::Finish(index) => put!(out; "finish ", source_name(machine, index)),
+        Kind::Hard(index) => put!(out; "hard ", source_name(machine, index)),
+        Kind::Jump => put!(out; "jump"),
+        _ => put_phase(out, machine, kind),
+    }
+}
+
+/// Writes what an entry of a device phase says.
+fn put_phase(out: &mut LineWriter, machine: &Machine, kind: Kind) -> Result<(), Mem>
+    ensures { OnOk result (out.new ≡ out.old ++ phase_body machine.now kind) }
+{
+    match kind {
+        Kind::Prepare { device, r } => {
+            put!(out; "prepare ", device_name(machine, device), " ")?;
+            put_prepare_answer(out, r)
+        }
+        Kind::Complete(index) => put!(out; "complete ", device_name(machine, index)),
+        Kind::Schedule(phase, index) => {
+            put!(out; "schedule ", phase, " ", device_name(machine, index))
+        }
+        Kind::Begin(phase, index) => put!(out; "begin ", phase, " ", device_name(machine, index)),
+        Kind::End(phase, index, r) => {
+            put!(out; "end ", phase, " ", device_name(machine, index), " ", r)
+        }
+        Kind::Skip(phase, index, cause) => {
+            put!(out; "skip ", phase, " ", device_name(machine, index), " ", cause)
+        }
+        Kind::Done(phase, r) => put!(out; "done ", phase, " ", r),
+        _ => put_attempt(out, machine, kind),
+    }
+}
+
+/// Writes what a device's prepare answered: 0, 1, or an error's name.
+fn put_prepare_answer(out: &mut LineWriter, r: i32) -> Result<(), Mem>
+    ensures { OnOk result (out.new ≡ out.old ++ prepare_text r) }
+{
+    match r {
+        -4 => out.push_text("EINTR"),
+        -5 => out.push_text("EIO"),
+        -11 => out.push_text("EAGAIN"),
+        -13 => out.push_text("EACCES"),
+        -16 => out.push_text("EBUSY"),
+        -19 => out.push_text("ENODEV"),
+        _ if r < 0 => out.push_text("EINVAL"),
+        _ => out.push_number(r as u64),
+    }
+}
+
+/// Writes what an entry of an attempt's start, of its end, of the notifiers or of the freezer says.
+fn put_attempt(out: &mut LineWriter, machine: &Machine, kind: Kind) -> Result<(), Mem>
+    ensures { OnOk result (out.new ≡ out.old ++ attempt_body machine.now kind) }
+{
+    match kind {
+        Kind::Attempt { n, guarded: None } => put!(out; "attempt ", n, " plain"),
+        Kind::Attempt {
+            n,
+            guarded: Some(count),
+        } => put!(out; "attempt ", n, " guarded ", count),
+        Kind::Over { n, r } => put!(out; "over ", n, " ", r),
+        Kind::NotifyPrepare(index, r) => {
+            put!(out; "notify ", notifier_name(machine, index), " prepare ", r)
+        }
+        Kind::NotifyPost(index) => put!(out; "notify ", notifier_name(machine, index), " post"),
+        Kind::Freeze(group) => put!(out; "freeze ", group),
+        Kind::Froze(group, end) => {
+            put!(out; "froze ", group, " ")?;
+            put_froze_end(out, machine, end)
+        }
+        Kind::Thaw(Thaw::Kernel) => put!(out; "thaw kernel"),
+        Kind::Thaw(Thaw::All) => put!(out; "thaw all"),
+        _ => put_platform(out, machine, kind),
+    }
+}
+
+/// Writes how a freeze ended.
+fn put_froze_end(out: &mut LineWriter, machine: &Machine, end: FrozeEnd) -> Result<(), Mem>
+    ensures { OnOk result (out.new ≡ out.old ++ froze_text machine.now end) }
+{
+    match end {
+        FrozeEnd::AllFrozen => put!(out; "0"),
+        FrozeEnd::Timeout { left, first } => {
+            put!(out; "EBUSY timeout ", left, " ", task_name(machine, first))
+        }
+        FrozeEnd::Wakeup { left, first } => {
+            put!(out; "EBUSY wakeup ", left, " ", task_name(machine, first))
+        }
+    }
+}
+
+/// Writes what an entry of the platform, of a processor or of a syscore step says.
+#[tactic(auto, using(std::proofs::Common::append_assoc))]
+fn put_platform(out: &mut LineWriter, machine: &Machine, kind: Kind) -> Result<(), Mem>
+    ensures { OnOk result (out.new ≡ out.old ++ platform_body machine.now kind) }
+{
+    match kind {
+        Kind::PlatformDo(what, r) => put!(out; "platform ", what, " ", r),
+        Kind::PlatformUndo(what) => put!(out; "platform ", what),
+        Kind::CpuOff(cpu) => put!(out; "cpu off ", cpu),
+        Kind::CpuBusy(cpu) => put!(out; "cpu EBUSY ", cpu),
+        Kind::CpuOn(cpu) => put!(out; "cpu on ", cpu),
+        Kind::Irqs { on: true } => put!(out; "irqs on"),
+        Kind::Irqs { on: false } => put!(out; "irqs off"),
+        Kind::SyscoreCheck(r) => put!(out; "syscore check ", r),
+        Kind::SyscoreSuspend(index, r) => {
+            put!(out; "syscore suspend ", syscore_name(machine, index), " ", r)
+        }
+        Kind::SyscoreResume(index) => put!(out; "syscore resume ", syscore_name(machine, index)),
+        Kind::Enter { busy: true } => put!(out; "enter EBUSY"),
+        Kind::Enter { busy: false } => put!(out; "enter"),
+        Kind::Wake { by_event: true } => put!(out; "wake event"),
+        Kind::Wake { by_event: false } => put!(out; "wake alarm"),
+        Kind::Clear => put!(out; "clear"),
+        _ => Ok(()),
+    }
+}

@@ -1,0 +1,16 @@
+//! The text of a sleep log: a line for each entry, a line for each wakeup source, and how the run ended.
+#![tactic(auto)]
+
+mod body;
+mod line;
+mod log;
+mod mem;
+mod names;
+mod words;
+mod writer;
+
+pub use log::write_log;
+pub use mem::Mem;
+
+#[cfg(test)]
+mod tests;

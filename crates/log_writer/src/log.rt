@@ -1,0 +1,63 @@
+ghost use Rattle.std.specs.Prelude.{◌≡◌, ◌++◌, OnOk, IfOk, flat_map};
+ghost use Rattle.sleep_model.specs.Text.{entry_line, source_lines, source_names, end_text, waiting_line, text};
+
+use crate::line::{put_entry, put_source, put_waiting};
+use crate::mem::Mem;
+use crate::writer::{LineWriter, Spelled, put};
+use sleep_model::{Entry, Log, LogEnd, Machine, Stats, Waiting};
+use std::alloc::Global;
+
+/// The text of the log that this machine made.
+pub fn write_log(alloc: Global, machine: &Machine, log: &Log) -> Result<Vec<u8>, Mem>
+    ensures { IfOk result (λ v. v.items ≡ text machine.now log.now) }
+{
+    let mut out = LineWriter::new(alloc);
+    put_entries(&mut out, machine, log.entries.as_slice())?;
+    put_sources(&mut out, machine, log.stats.as_slice())?;
+    put_end(&mut out, machine, &log.end)?;
+    Ok(out.into_vec())
+}
+
+/// Writes a line for each entry.
+fn put_entries(out: &mut LineWriter, machine: &Machine, entries: &[Entry]) -> Result<(), Mem>
+    ensures { OnOk result (out.new ≡ out.old ++ flat_map (entry_line machine.now) entries.now) }
+{
+    for entry in entries {
+        put_entry(out, machine, *entry)?;
+    }
+    Ok(())
+}
+
+/// Writes a line for each source, `autosleep` last.
+fn put_sources(out: &mut LineWriter, machine: &Machine, stats: &[Stats]) -> Result<(), Mem>
+    ensures { OnOk result (out.new ≡ out.old ++ source_lines (source_names machine.now) stats.now) }
+{
+    let names = machine.sources.as_slice();
+    for (name, own) in names.iter().zip(stats) {
+        put_source(out, name.bytes(), own)?;
+    }
+    match stats.get(names.len()) {
+        Some(own) => put_source(out, b"autosleep", own),
+        None => Ok(()),
+    }
+}
+
+/// Writes how the run ended: a line for each script that never exits, if there are any.
+fn put_end(out: &mut LineWriter, machine: &Machine, end: &LogEnd) -> Result<(), Mem>
+    ensures { OnOk result (out.new ≡ out.old ++ end_text machine.now end.now) }
+{
+    match end {
+        LogEnd::Finished => put!(out; "finished", "\n"),
+        LogEnd::Stuck(waiting) => put_stuck(out, machine, waiting.as_slice()),
+    }
+}
+
+/// Writes a line for each script that never exits.
+fn put_stuck(out: &mut LineWriter, machine: &Machine, waiting: &[Waiting]) -> Result<(), Mem>
+    ensures { OnOk result (out.new ≡ out.old ++ flat_map (waiting_line machine.now) waiting.now) }
+{
+    for stuck in waiting {
+        put_waiting(out, machine, stuck)?;
+    }
+    Ok(())
+}

@@ -1,0 +1,124 @@
+ghost use Rattle.sleep_base.specs.Errno.{name_of};
+ghost use Rattle.sleep_model.specs.Text.{answer_text, phase_name, cause_text, script_word, state_word, group_word, down_word, up_word, word_text};
+
+use crate::mem::Mem;
+use crate::writer::{LineWriter, Spelled, put};
+use sleep_base::Errno;
+use sleep_model::{EventNow, Group, Phase, PlatDo, PlatUndo, SkipCause, State, TaskKind};
+
+impl Spelled for Errno {
+    ghost spelling = { name_of };
+
+    fn write_to(self, out: &mut LineWriter) -> Result<(), Mem> {
+        out.push_text(self.name())
+    }
+}
+
+impl Spelled for Option<Errno> {
+    ghost spelling = { answer_text };
+
+    fn write_to(self, out: &mut LineWriter) -> Result<(), Mem> {
+        match self {
+            None => out.push_text("0"),
+            Some(error) => out.push_text(error.name()),
+        }
+    }
+}
+
+impl Spelled for Phase {
+    ghost spelling = { phase_name };
+
+    fn write_to(self, out: &mut LineWriter) -> Result<(), Mem> {
+        out.push_text(match self {
+            Phase::Prepare => "prepare",
+            Phase::Suspend => "suspend",
+            Phase::Late => "late",
+            Phase::Noirq => "noirq",
+            Phase::Syscore => "syscore",
+            Phase::SyscoreResume => "syscore_resume",
+            Phase::ResumeNoirq => "resume_noirq",
+            Phase::Early => "early",
+            Phase::Resume => "resume",
+            Phase::Complete => "complete",
+        })
+    }
+}
+
+impl Spelled for SkipCause {
+    ghost spelling = { cause_text };
+
+    fn write_to(self, out: &mut LineWriter) -> Result<(), Mem> {
+        out.push_text(match self {
+            SkipCause::Error => "error",
+            SkipCause::Pending => "pending",
+            SkipCause::Direct => "direct",
+        })
+    }
+}
+
+impl Spelled for State {
+    ghost spelling = { state_word };
+
+    fn write_to(self, out: &mut LineWriter) -> Result<(), Mem> {
+        out.push_text(match self {
+            State::Mem => "mem",
+            State::Off => "off",
+        })
+    }
+}
+
+impl Spelled for Group {
+    ghost spelling = { group_word };
+
+    fn write_to(self, out: &mut LineWriter) -> Result<(), Mem> {
+        out.push_text(match self {
+            Group::User => "user",
+            Group::Kernel => "kernel",
+        })
+    }
+}
+
+impl Spelled for PlatDo {
+    ghost spelling = { down_word };
+
+    fn write_to(self, out: &mut LineWriter) -> Result<(), Mem> {
+        out.push_text(match self {
+            PlatDo::Begin => "begin",
+            PlatDo::Prepare => "prepare",
+            PlatDo::PrepareLate => "prepare_late",
+        })
+    }
+}
+
+impl Spelled for PlatUndo {
+    ghost spelling = { up_word };
+
+    fn write_to(self, out: &mut LineWriter) -> Result<(), Mem> {
+        out.push_text(match self {
+            PlatUndo::Recover => "recover",
+            PlatUndo::Wake => "wake",
+            PlatUndo::Finish => "finish",
+            PlatUndo::End => "end",
+        })
+    }
+}
+
+/// What stands before a script's name.
+impl Spelled for TaskKind {
+    ghost spelling = { script_word };
+
+    fn write_to(self, out: &mut LineWriter) -> Result<(), Mem> {
+        out.push_text(match self {
+            TaskKind::Irq => "irq:",
+            _ => "task:",
+        })
+    }
+}
+
+impl Spelled for EventNow {
+    ghost spelling = { word_text };
+
+    fn write_to(self, out: &mut LineWriter) -> Result<(), Mem> {
+        put!(out; self.inpr, "/", self.count, "/", self.hard)
+    }
+}

@@ -1,0 +1,117 @@
+ghost use Rattle.std.specs.Prelude.{decimal};
+
+use crate::mem::Mem;
+use itoa::Buffer;
+use std::alloc::Global;
+use std::marker::Model;
+
+/// Bytes that grow at their end, and that contracts see as their list.
+#[derive(Drop)]
+pub struct LineWriter {
+    bytes: Vec<u8>,
+}
+
+impl Model for LineWriter {
+    ghost use Rattle.std.specs.Prelude.{ℕ, List};
+
+    ghost Value = { List ℕ };
+
+    ghost view = { λ w. w.bytes.items };
+}
+
+impl LineWriter {
+    ghost use Rattle.std.specs.Prelude.{◌≡◌, ◌++◌, [], OnOk};
+
+    /// A writer that has written nothing.
+    pub fn new(alloc: Global) -> Self
+        ensures { result ≡ [] }
+    {
+        LineWriter {
+            bytes: Vec::new(alloc),
+        }
+    }
+
+    /// All that was written.
+    pub fn into_vec(self) -> Vec<u8>
+        ensures { result.items ≡ self }
+    {
+        let LineWriter { bytes } = self;
+        bytes
+    }
+
+    /// Writes these bytes.
+    pub fn push_bytes(&mut self, bytes: &[u8]) -> Result<(), Mem>
+        ensures { OnOk result (self.new ≡ self.old ++ bytes.now) }
+    {
+        self.bytes.extend_from_slice(bytes)?;
+        Ok(())
+    }
+
+    /// Writes this text.
+    pub fn push_text(&mut self, text: &str) -> Result<(), Mem>
+        ensures { OnOk result (self.new ≡ self.old ++ text.now) }
+    {
+        self.push_bytes(text.as_bytes())
+    }
+
+    /// Writes the number in decimal.
+    pub fn push_number(&mut self, number: u64) -> Result<(), Mem>
+        ensures { OnOk result (self.new ≡ self.old ++ decimal number) }
+    {
+        let mut digits = Buffer::new();
+        self.push_text(digits.format(number))
+    }
+}
+
+/// What has one spelling in a log.
+pub trait Spelled {
+    ghost use Rattle.std.specs.Prelude.{ℕ, List, ◌≡◌, ◌++◌, OnOk};
+
+    ghost spelling: { Self → List ℕ };
+
+    /// Writes it.
+    fn write_to(self, out: &mut LineWriter) -> Result<(), Mem>
+        ensures { OnOk result (out.new ≡ out.old ++ spelling self) };
+}
+
+impl Spelled for &str {
+    ghost spelling = { λ text. text.now };
+
+    fn write_to(self, out: &mut LineWriter) -> Result<(), Mem> {
+        out.push_text(self)
+    }
+}
+
+impl Spelled for &[u8] {
+    ghost spelling = { λ bytes. bytes.now };
+
+    fn write_to(self, out: &mut LineWriter) -> Result<(), Mem> {
+        out.push_bytes(self)
+    }
+}
+
+impl Spelled for u32 {
+    ghost spelling = { decimal };
+
+    fn write_to(self, out: &mut LineWriter) -> Result<(), Mem> {
+        out.push_number(u64::from(self))
+    }
+}
+
+impl Spelled for u64 {
+    ghost spelling = { decimal };
+
+    fn write_to(self, out: &mut LineWriter) -> Result<(), Mem> {
+        out.push_number(self)
+    }
+}
+
+/// Writes each part in turn, as `put!(out; "save ", count, " ok")`: a `Result<(), Mem>`.
+macro_rules! put {
+    ($out:expr; $($part:expr),+) => {{
+        $(Spelled::write_to($part, $out)?;)+
+        Ok::<(), Mem>(())
+    }};
+}
+
+pub(crate) use put;
