@@ -1,7 +1,7 @@
 ghost use Rattle.std.specs.Prelude.{decimal};
 
-use crate::mem::Mem;
 use itoa::Buffer;
+use sleep_base::Mem;
 use std::alloc::Global;
 use std::marker::Model;
 

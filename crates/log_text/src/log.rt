@@ -2,8 +2,8 @@ ghost use Rattle.std.specs.Prelude.{◌≡◌, ◌++◌, OnOk, IfOk, flat_map};
 ghost use Rattle.sleep_model.specs.Text.{entry_line, source_lines, source_names, end_text, waiting_line, text};
 
 use crate::line::{put_entry, put_source, put_waiting};
-use crate::mem::Mem;
 use crate::writer::{LineWriter, Spelled, put};
+use sleep_base::Mem;
 use sleep_model::{Entry, Log, LogEnd, Machine, Stats, Waiting};
 use std::alloc::Global;
 

@@ -2,9 +2,9 @@ ghost use Rattle.std.specs.Prelude.{◌≡◌, ◌++◌, OnOk, slice_get};
 ghost use Rattle.sleep_model.specs.Text.{actor_text, script_text, waiting_text, entry_line, source_line, counts_text, times_text, waiting_line};
 
 use crate::body::put_body;
-use crate::mem::Mem;
 use crate::names::{device_name, mark_name, name_at};
 use crate::writer::{LineWriter, Spelled, put};
+use sleep_base::Mem;
 use sleep_model::{Actor, Entry, Machine, Stats, Waiting, Why};
 
 /// Writes who makes an entry.

@@ -1,9 +1,8 @@
 ghost use Rattle.sleep_base.specs.Errno.{name_of};
 ghost use Rattle.sleep_model.specs.Text.{answer_text, phase_name, cause_text, script_word, state_word, group_word, down_word, up_word, word_text};
 
-use crate::mem::Mem;
 use crate::writer::{LineWriter, Spelled, put};
-use sleep_base::Errno;
+use sleep_base::{Errno, Mem};
 use sleep_model::{EventNow, Group, Phase, PlatDo, PlatUndo, SkipCause, State, TaskKind};
 
 impl Spelled for Errno {

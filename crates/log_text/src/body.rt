@@ -1,9 +1,9 @@
 ghost use Rattle.std.specs.Prelude.{◌≡◌, ◌++◌, OnOk};
 ghost use Rattle.sleep_model.specs.Text.{body, step_body, auto_body, source_body, phase_body, attempt_body, platform_body, froze_text, prepare_text};
 
-use crate::mem::Mem;
 use crate::names::{device_name, mark_name, notifier_name, source_name, syscore_name, task_name};
 use crate::writer::{LineWriter, Spelled, put};
+use sleep_base::Mem;
 use sleep_model::{FrozeEnd, Kind, Machine, Thaw};
 
 /// Writes what an entry says.

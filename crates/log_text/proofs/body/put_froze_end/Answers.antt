@@ -1,6 +1,6 @@
 -- The parts that were written, one after another.
 use Rattle.std.proofs.Common.{append_assoc}
-use Rattle.log_writer.proofs.body.put_froze_end.Goals as goal
+use Rattle.log_text.proofs.body.put_froze_end.Goals as goal
 
 pub returns-in_ok-write_to-in-Timeout-4 : goal.returns-in_ok-write_to-in-Timeout-4
 returns-in_ok-write_to-in-Timeout-4 c =

@@ -3,8 +3,8 @@ use Rattle.std.proofs.lemmas.Slice.Zip.{zip_turn, zip_end}
 use Rattle.std.proofs.lemmas.Grind.{common_steps}
 use Rattle.sleep_model.specs.declared.log.Stats.{Stats}
 use Rattle.std.proofs.lemmas.Result.{IfOk-equal}
-use Rattle.log_writer.proofs.Sources.{written_more, written_last, written_all}
-use Rattle.log_writer.proofs.log.put_sources.Goals as goal
+use Rattle.log_text.proofs.Sources.{written_more, written_last, written_all}
+use Rattle.log_text.proofs.log.put_sources.Goals as goal
 
 pub loop-name-preserved : goal.loop-name-preserved
 loop-name-preserved c =

@@ -4,13 +4,11 @@
 mod body;
 mod line;
 mod log;
-mod mem;
 mod names;
 mod words;
 mod writer;
 
 pub use log::write_log;
-pub use mem::Mem;
 
 #[cfg(test)]
 mod tests;

@@ -1,6 +1,6 @@
 -- The parts that were written, one after another.
 use Rattle.std.proofs.Common.{append_assoc}
-use Rattle.log_writer.proofs.line.put_entry.Goals as goal
+use Rattle.log_text.proofs.line.put_entry.Goals as goal
 
 pub returns : goal.returns
 returns c =
