@@ -1,0 +1,3 @@
+pub mod Look
+pub mod Gives
+pub mod Rules

@@ -1,0 +1,7 @@
+//! Reads a machine file: one JSON object that spells a machine.
+#![tactic(auto)]
+
+mod fault;
+mod look;
+
+pub use fault::MachineFault;
