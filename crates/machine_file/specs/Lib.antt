@@ -1,3 +1,4 @@
 pub mod Look
 pub mod Gives
 pub mod Rules
+pub mod Spelled

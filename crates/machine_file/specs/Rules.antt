@@ -59,7 +59,7 @@ has_earlier_parent earlier d = is_none_or (λ p. is_some_and (λ s. list_any (by
 
 -- a device after the devices of these names
 abbrev pub is_device : List (List ℕ) → Data → Bool
-is_device earlier d = is_plain_device d && is_name (name_of d) && is_new earlier d && has_earlier_parent earlier d
+is_device earlier d = is_plain_device d && is_name (name_of d) && has_earlier_parent earlier d && is_new earlier d
 
 -- devices after the devices of these names
 abbrev pub are_devices : List (List ℕ) → Items → Bool

@@ -1,6 +1,7 @@
 //! Reads a machine file: one JSON object that spells a machine.
 #![tactic(auto)]
 
+mod devices;
 mod fault;
 mod look;
 

@@ -1,0 +1,72 @@
+-- The machine that a JSON value spells, where it keeps the rules.
+use Rattle.std.specs.Prelude.{ℕ, ◌||◌, ◌++◌, List, [], ◌∷◌, codes, Bool, true, false, Option, Some, None, option_and_then, position, bytes_eq, unwrap_or, if◌then◌else◌}
+use Rattle.sleep_model.specs.declared.flags.DeviceFlags.{DeviceFlags}
+use Rattle.sleep_model.specs.declared.machine.Machine.{Machine}
+use Rattle.sleep_model.specs.declared.machine.Device.{Device}
+use Rattle.sleep_model.specs.declared.machine.Script.{Script}
+use Rattle.sleep_model.specs.declared.machine.Step.{Step}
+use Rattle.sleep_model.specs.declared.machine.Op.{Op}
+use Rattle.sleep_model.specs.declared.machine.Op.TheVariants.{Read, Save, State}
+use Rattle.sleep_model.specs.declared.machine.TaskKind.TheVariants.{User}
+use Rattle.serde_json.specs.Data.{Data, Items, no_items, item}
+use Rattle.serde_json.specs.Find.{get, as_str}
+use Rattle.machine_file.specs.Look.{list_at}
+use Rattle.machine_file.specs.Rules.{name_of, is_op}
+
+-- ---- devices
+
+abbrev pub no_flags : DeviceFlags
+no_flags = record { 0 = 0 }
+
+-- the place of the device's parent among the names of the earlier devices
+abbrev pub parent_of : List (List ℕ) → Data → Option ℕ
+parent_of earlier d = option_and_then (λ s. position (bytes_eq s) earlier) (option_and_then as_str (get (codes "parent") d))
+
+abbrev pub device_of : List (List ℕ) → Data → Device
+device_of earlier d = record { name = name_of d; parent = parent_of earlier d; flags = no_flags }
+
+abbrev pub devices_of : List (List ℕ) → Items → List Device
+devices_of earlier no_items = []
+devices_of earlier (item d ds) = device_of earlier d ∷ devices_of (earlier ++ name_of d ∷ []) ds
+
+-- ---- wakeup sources
+
+abbrev pub sources_of : Items → List (List ℕ)
+sources_of no_items = []
+sources_of (item d ds) = unwrap_or (as_str d) [] ∷ sources_of ds
+
+-- ---- actors
+
+abbrev pub op_of : Data → Op
+op_of o = if is_op (codes "read") o then Read else if is_op (codes "save") o then Save None else State (codes "mem") false
+
+abbrev pub step_of : Data → Step
+step_of o = record { op = op_of o; times = 1 }
+
+abbrev pub steps_of : Items → List Step
+steps_of no_items = []
+steps_of (item o os) = step_of o ∷ steps_of os
+
+abbrev pub script_of : Data → Script
+script_of a = record { name = name_of a; kind = User; repeat = 1; steps = steps_of (list_at (codes "script") a) }
+
+abbrev pub scripts_of : Items → List Script
+scripts_of no_items = []
+scripts_of (item a rest) = script_of a ∷ scripts_of rest
+
+-- ---- the machine
+
+abbrev pub machine_of : Data → Machine
+machine_of d = record {
+  alarm_ms = 1000;
+  cpus = 1;
+  auto_cycles = 16;
+  devices = devices_of [] (list_at (codes "devices") d);
+  links = [];
+  syscore = [];
+  notifiers = [];
+  sources = sources_of (list_at (codes "sources") d);
+  marks = [];
+  actors = scripts_of (list_at (codes "actors") d);
+  answers = [];
+}
