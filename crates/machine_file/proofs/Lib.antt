@@ -1,2 +1,4 @@
 pub mod Looks
 pub mod Parents
+pub mod DeviceWalk
+pub mod Given

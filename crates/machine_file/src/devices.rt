@@ -1,6 +1,6 @@
 //! Names, and the devices of a machine.
 
-ghost use Rattle.std.specs.Prelude.{◌≡◌, ◌≤◌, ◌<◌, ◌^◌, [], length, map, position, bytes_eq, is_some, IfSome, vec_len};
+ghost use Rattle.std.specs.Prelude.{◌≡◌, ◌≤◌, ◌<◌, ◌^◌, [], length, map, position, bytes_eq, is_some, IfSome, vec_len, codes, ◌&&◌};
 ghost use Rattle.std.specs.List.{list_any, list_all};
 ghost use Rattle.serde_json.specs.View.{view, items_view};
 ghost use Rattle.indexmap.specs.IndexSet.{index_set_len};
@@ -85,4 +85,54 @@ fn parent_of(value: &Value, names: &IndexSet<&str>) -> Result<Option<u32>, Machi
         Some(place) => Ok(Some(place as u32)),
         None => Err(MachineFault::Refused),
     }
+}
+
+// The device after the devices of these names. That its name is new is for the caller to test.
+fn device_of(value: &Value, names: &IndexSet<&str>) -> Result<Device, MachineFault>
+    requires { index_set_len names.now < 2 ^ 32 }
+    ensures { Gives (λ d. d) result
+        (is_plain_device (view value.now) && is_name (name_in (view value.now))
+        && has_earlier_parent (map (λ s. s.now) names.now.keys) (view value.now))
+        (device_in (map (λ s. s.now) names.now.keys) (view value.now)) }
+{
+    if !is_plain_device(value) {
+        return Err(MachineFault::Refused);
+    }
+    let name = name_of(value)?;
+    let parent = parent_of(value, names)?;
+    Ok(Device {
+        name,
+        parent,
+        flags: DeviceFlags::from_bits_retain(0),
+    })
+}
+
+// The devices of this list, each after those before it.
+fn devices_of(alloc: Global, list: &[Value]) -> Result<Vec<Device>, MachineFault>
+    requires { length list.now ≤ 1000 }
+    ensures { Gives (λ v. v.items) result (are_devices [] (items_view list.now))
+        (devices_in [] (items_view list.now)) }
+{
+    let mut names = IndexSet::new(alloc);
+    let mut devices = Vec::new(alloc);
+    for value in list {
+        let device = device_of(value, &names)?;
+        if !names.insert(text_at(value, "name"))? {
+            return Err(MachineFault::Refused);
+        }
+        devices.push(device)?;
+    }
+    Ok(devices)
+}
+
+/// The devices of a machine.
+pub(crate) fn devices_in(alloc: Global, tree: &Value) -> Result<Vec<Device>, MachineFault>
+    ensures { Gives (λ v. v.items) result (has_devices (view tree.now))
+        (devices_in [] (list_at (codes "devices") (view tree.now))) }
+{
+    let list = list_at(tree, "devices")?;
+    if list.len() > MOST_DEVICES {
+        return Err(MachineFault::Refused);
+    }
+    devices_of(alloc, list)
 }
