@@ -2,3 +2,4 @@ pub mod Looks
 pub mod Parents
 pub mod DeviceWalk
 pub mod Given
+pub mod Attempts

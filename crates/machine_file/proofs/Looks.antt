@@ -1,10 +1,11 @@
 -- Members and items of a value, one after another.
-use Rattle.std.proofs.Common.{◌≡◌, ◌==◌, ◌&&◌, ◌||◌, ℕ, suc, List, [], ◌∷◌, length, map, Bool, bytes_eq, string_bytes, Bor, refl, sym, ap, ◌∙◌, arith, true, false}
+use Rattle.std.proofs.Common.{◌≡◌, ◌≤◌, ◌==◌, ◌&&◌, ◌||◌, ℕ, suc, List, [], ◌∷◌, length, map, Bool, bytes_eq, string_bytes, Bor, refl, sym, ap, ◌∙◌, arith, true, false}
 use Rattle.std.proofs.lemmas.Bool.Decides.{nat_tests}
 use Rattle.std.specs.List.{list_any}
 use Rattle.serde_json.specs.View.{items_view, members_view}
 use Rattle.serde_json.specs.declared.value.Value.{Value}
 use Rattle.serde_json.proofs.Views.{Entry}
+use Rattle.machine_file.specs.Rules.{are_sources, is_one_actor}
 use Rattle.machine_file.specs.Look.{are_named, has_no_items, items_len}
 
 -- a text among texts behind references
@@ -38,3 +39,15 @@ has_no_items-length (v ∷ vs) = grind (arith, nat_tests)
 pub items_len-length : (vs : List Value) → items_len (items_view vs) ≡ length vs
 items_len-length [] = refl
 items_len-length (v ∷ vs) = ap suc (items_len-length vs)
+
+-- more than one source
+pub are_sources-many : (vs : List Value) → 2 ≤ length vs → are_sources (items_view vs) ≡ false
+are_sources-many [] many = absurd (omega arith)
+are_sources-many (v ∷ []) many = absurd (omega arith)
+are_sources-many (v ∷ w ∷ vs) many = refl
+
+-- no actor, or more than one
+pub is_one_actor-other : (vs : List Value) → (length vs ≡ 1 → ⊥) → is_one_actor (items_view vs) ≡ false
+is_one_actor-other [] other = refl
+is_one_actor-other (v ∷ []) other = absurd (other refl)
+is_one_actor-other (v ∷ w ∷ vs) other = refl

@@ -48,6 +48,10 @@ are_named names (member k d ms) = list_any (bytes_eq k) names && are_named names
 abbrev pub has_only : List (List ℕ) → Data → Bool
 has_only names d = is_some_and (are_named names) (as_object d)
 
+-- the text that it is; no bytes where it is none
+abbrev pub text_of : Data → List ℕ
+text_of d = unwrap_or (as_str d) []
+
 -- the text at this name; no bytes where there is none
 abbrev pub text_at : List ℕ → Data → List ℕ
 text_at name d = unwrap_or (option_and_then as_str (get name d)) []

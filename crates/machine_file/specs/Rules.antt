@@ -3,7 +3,7 @@ use Rattle.std.specs.Prelude.{ℕ, suc, ◌+◌, ◌*◌, ◌==◌, ◌&&◌, �
 use Rattle.std.specs.List.{list_any, list_all}
 use Rattle.serde_json.specs.Data.{Data, null, Items, no_items, item}
 use Rattle.serde_json.specs.Find.{get, as_str}
-use Rattle.machine_file.specs.Look.{is_some_and, is_none_or, is_number, is_text, is_false, is_list, is_empty_list, has_only, text_at, list_at, items_len}
+use Rattle.machine_file.specs.Look.{is_some_and, is_none_or, is_number, is_text, is_false, is_list, is_empty_list, has_only, text_of, text_at, list_at, items_len}
 
 -- ---- names
 
@@ -41,6 +41,10 @@ are_lists_empty d =
     is_none_or is_empty_list (get (codes "links") d) && is_none_or is_empty_list (get (codes "syscore") d) && is_none_or is_empty_list (get (codes "notifiers") d)
     && is_none_or is_empty_list (get (codes "answers") d)
 
+-- the members that say nothing today are known, and say no more than their defaults
+abbrev pub has_only_defaults : Data → Bool
+has_only_defaults d = has_known_members d && is_version_one d && are_numbers_default d && are_lists_empty d
+
 -- ---- devices
 
 -- no unknown member, no flag, and runtime active
@@ -75,7 +79,7 @@ has_devices d =
 
 -- a name, and not the one that autosleep has
 abbrev pub is_source : Data → Bool
-is_source d = is_some_and is_name (as_str d) && not (is_text (codes "autosleep") d)
+is_source d = is_name (text_of d) && not (bytes_eq (text_of d) (codes "autosleep"))
 
 -- at most one source
 abbrev pub are_sources : Items → Bool
@@ -93,14 +97,18 @@ abbrev pub is_op : List ℕ → Data → Bool
 is_op name o = is_some_and (is_text name) (get (codes "op") o)
 
 -- a write of the text mem to the state, whatever was saved
-abbrev pub is_state : Data → Bool
-is_state o =
-    is_op (codes "state") o && has_only (codes "op" ∷ codes "text" ∷ codes "if_saved" ∷ codes "times" ∷ []) o && is_some_and (is_text (codes "mem")) (get (codes "text") o)
+abbrev pub is_state_mem : Data → Bool
+is_state_mem o =
+    has_only (codes "op" ∷ codes "text" ∷ codes "if_saved" ∷ codes "times" ∷ []) o && is_some_and (is_text (codes "mem")) (get (codes "text") o)
     && is_none_or is_false (get (codes "if_saved") o)
 
--- a read or a save, which have no more members, or a write to the state
+-- a read or a save, which take nothing more
+abbrev pub is_read_or_save : Data → Bool
+is_read_or_save o = (is_op (codes "read") o || is_op (codes "save") o) && has_only (codes "op" ∷ codes "times" ∷ []) o
+
+-- a write to the state, a read or a save, and no other operation
 abbrev pub is_operation : Data → Bool
-is_operation o = if is_op (codes "read") o || is_op (codes "save") o then has_only (codes "op" ∷ codes "times" ∷ []) o else is_state o
+is_operation o = if is_op (codes "state") o then is_state_mem o else is_read_or_save o
 
 -- an operation that is made once
 abbrev pub is_step : Data → Bool
@@ -121,14 +129,14 @@ is_actor a =
     has_only (codes "name" ∷ codes "kind" ∷ codes "repeat" ∷ codes "script" ∷ []) a && is_some_and (is_text (codes "user")) (get (codes "kind") a)
     && is_none_or (is_number 1) (get (codes "repeat") a) && is_name (name_of a) && has_script a
 
--- exactly one actor
+-- exactly one actor, so the list is there
 abbrev pub is_one_actor : Items → Bool
 is_one_actor no_items = false
 is_one_actor (item a no_items) = is_actor a
 is_one_actor (item a (item b rest)) = false
 
 abbrev pub has_one_actor : Data → Bool
-has_one_actor d = is_one_actor (list_at (codes "actors") d)
+has_one_actor d = is_none_or is_list (get (codes "actors") d) && is_one_actor (list_at (codes "actors") d)
 
 -- ---- how much may happen
 
@@ -150,5 +158,4 @@ are_attempts_few d = nat_le (actors_state_count (list_at (codes "actors") d) * (
 
 -- a value that spells a machine
 abbrev pub is_accepted : Data → Bool
-is_accepted d =
-    has_known_members d && is_version_one d && are_numbers_default d && are_lists_empty d && has_devices d && has_sources d && has_one_actor d && are_attempts_few d
+is_accepted d = has_only_defaults d && has_devices d && has_sources d && has_one_actor d && are_attempts_few d

@@ -10,7 +10,7 @@ use Rattle.sleep_model.specs.declared.machine.Op.TheVariants.{Read, Save, State}
 use Rattle.sleep_model.specs.declared.machine.TaskKind.TheVariants.{User}
 use Rattle.serde_json.specs.Data.{Data, Items, no_items, item}
 use Rattle.serde_json.specs.Find.{get, as_str}
-use Rattle.machine_file.specs.Look.{list_at}
+use Rattle.machine_file.specs.Look.{text_of, list_at}
 use Rattle.machine_file.specs.Rules.{name_of, is_op}
 
 -- ---- devices
@@ -31,14 +31,21 @@ devices_of earlier (item d ds) = device_of earlier d ∷ devices_of (earlier ++ 
 
 -- ---- wakeup sources
 
+abbrev pub source_of : Data → List ℕ
+source_of d = text_of d
+
 abbrev pub sources_of : Items → List (List ℕ)
 sources_of no_items = []
-sources_of (item d ds) = unwrap_or (as_str d) [] ∷ sources_of ds
+sources_of (item d ds) = source_of d ∷ sources_of ds
 
 -- ---- actors
 
+-- a write of the text mem to the state, whatever was saved
+abbrev pub state_mem : Op
+state_mem = State (codes "mem") false
+
 abbrev pub op_of : Data → Op
-op_of o = if is_op (codes "read") o then Read else if is_op (codes "save") o then Save None else State (codes "mem") false
+op_of o = if is_op (codes "state") o then state_mem else if is_op (codes "read") o then Read else Save None
 
 abbrev pub step_of : Data → Step
 step_of o = record { op = op_of o; times = 1 }
@@ -56,17 +63,21 @@ scripts_of (item a rest) = script_of a ∷ scripts_of rest
 
 -- ---- the machine
 
-abbrev pub machine_of : Data → Machine
-machine_of d = record {
+-- what has its default in each machine, around these parts
+abbrev pub machine_of_parts : List Device → List (List ℕ) → List Script → Machine
+machine_of_parts devices sources actors = record {
   alarm_ms = 1000;
   cpus = 1;
   auto_cycles = 16;
-  devices = devices_of [] (list_at (codes "devices") d);
+  devices = devices;
   links = [];
   syscore = [];
   notifiers = [];
-  sources = sources_of (list_at (codes "sources") d);
+  sources = sources;
   marks = [];
-  actors = scripts_of (list_at (codes "actors") d);
+  actors = actors;
   answers = [];
 }
+
+abbrev pub machine_of : Data → Machine
+machine_of d = machine_of_parts (devices_of [] (list_at (codes "devices") d)) (sources_of (list_at (codes "sources") d)) (scripts_of (list_at (codes "actors") d))

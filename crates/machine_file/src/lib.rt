@@ -4,5 +4,8 @@
 mod devices;
 mod fault;
 mod look;
+mod machine;
+mod script;
+mod sources;
 
 pub use fault::MachineFault;
