@@ -3,3 +3,5 @@ pub mod Parents
 pub mod DeviceWalk
 pub mod Given
 pub mod Attempts
+pub mod Trees
+pub mod Accepting
