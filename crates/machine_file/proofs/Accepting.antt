@@ -1,9 +1,9 @@
 -- A machine that a value spells by the rules may be run today.
-use Rattle.std.proofs.Common.{◌≡◌, ◌≤◌, ◌<◌, ◌+◌, ◌*◌, ◌++◌, ◌&&◌, ℕ, suc, List, [], ◌∷◌, length, cond, ltb, leb, position, codes, bytes_eq, Bool, true, false, Option, Some, None, IfSome, IfOk, Result, Ok, Err, option_and_then, refl, sym, ap, ◌∙◌, subst, arith, add-one}
+use Rattle.std.proofs.Common.{◌≡◌, ◌≤◌, ◌<◌, ◌+◌, ◌*◌, ◌++◌, ℕ, List, [], ◌∷◌, length, cond, ltb, position, codes, bytes_eq, Bool, true, false, Option, Some, None, IfSome, IfOk, Result, Ok, Err, option_and_then, refl, sym, ◌∙◌, subst, arith, add-one}
 use Rattle.std.proofs.lemmas.Bool.{and_parts, leb-true, ltb-true, false≢true}
 use Rattle.std.proofs.lemmas.List.{length_push}
 use Rattle.std.specs.List.{position_or_len}
-use Rattle.sleep_model.specs.Accepted.{ParentsEarlier, IsGiven, AreGiven, IsWriter, IsOneWriter, IsAccepted, attempts_of}
+use Rattle.sleep_model.specs.Accepted.{ParentsEarlier, IsGiven, AreGiven, IsOneWriter, IsAccepted}
 use Rattle.sleep_model.specs.declared.machine.Machine.{Machine}
 use Rattle.sleep_model.specs.declared.machine.Op.TheVariants.{Read, Save}
 use Rattle.serde_json.specs.Data.{Data, Items, no_items, item}
@@ -11,8 +11,8 @@ use Rattle.serde_json.specs.Find.{get, as_str}
 use Rattle.machine_file.specs.declared.fault.MachineFault.{MachineFault}
 use Rattle.machine_file.specs.Gives.{Gives}
 use Rattle.machine_file.specs.Look.{list_at, items_len}
-use Rattle.machine_file.specs.Rules.{name_of, is_op, are_sources, is_actor, is_one_actor, has_script, actors_state_count, are_attempts_few, has_devices, has_sources, has_one_actor, has_only_defaults, is_accepted}
-use Rattle.machine_file.specs.Spelled.{parent_of, device_of, devices_of, state_mem, op_of, steps_of, script_of, scripts_of, sources_of, machine_of}
+use Rattle.machine_file.specs.Rules.{name_of, is_op, are_sources, is_actor, is_one_actor, has_script, actors_state_count, has_devices, has_sources, has_one_actor, is_accepted}
+use Rattle.machine_file.specs.Spelled.{devices_of, state_mem, steps_of, script_of, scripts_of, sources_of, machine_of}
 use Rattle.machine_file.proofs.Attempts.{length-devices_of, length-steps_of, attempts_of-scripts_of}
 
 -- a place is below the length
@@ -52,8 +52,7 @@ few_sources (item d (item f ds)) e = absurd (false≢true e)
 few_steps : (a : Data) → is_actor a ≡ true → length (script_of a).steps ≤ 200000
 few_steps a e =
     let script : has_script a ≡ true = (and_parts _ _ e).1 in
-    let len : items_len (list_at (codes "script") a) ≤ 200000 = leb-true _ _ (and_parts _ _ (and_parts _ _ script).0).1 in
-    omega (arith, len, length-steps_of (list_at (codes "script") a))
+    subst (λ n. n ≤ 200000) (sym (length-steps_of (list_at (codes "script") a))) (leb-true _ _ (and_parts _ _ (and_parts _ _ script).0).1)
 
 one_writer : (ds : Items) (n : ℕ) → is_one_actor ds ≡ true → actors_state_count ds * (n + 50) ≤ 100000 → IsOneWriter n (scripts_of ds)
 one_writer no_items n e few = absurd (false≢true e)
@@ -80,7 +79,7 @@ IsAccepted-machine_of d e =
       alarm = refl;
       cpus = refl;
       cycles = refl;
-      devices = omega (arith, few, length-devices_of [] ds);
+      devices = subst (λ n. n ≤ 1000) (sym (length-devices_of [] ds)) few;
       parents = ParentsEarlier-devices_of ds [];
       links = refl;
       syscore = refl;

@@ -1,9 +1,9 @@
 -- A step of the walk over the devices.
-use Rattle.std.proofs.Common.{◌≡◌, ◌<◌, ◌≤◌, ◌+◌, ◌++◌, ◌&&◌, ℕ, List, [], ◌∷◌, length, map, drop, get_or, bytes_eq, not, Bool, true, false, cond, Bor, refl, sym, ap, ◌∙◌, append_assoc, length-append, arith}
+use Rattle.std.proofs.Common.{◌≡◌, ◌<◌, ◌≤◌, ◌+◌, ◌++◌, ◌&&◌, ℕ, List, [], ◌∷◌, length, map, drop, get_or, bytes_eq, not, Bool, true, false, cond, Bor, sym, ap, ◌∙◌, append_assoc, length-append, arith}
 use Rattle.std.proofs.lemmas.List.{drop_more, map_push}
 use Rattle.std.proofs.lemmas.Bool.{false≢true}
 use Rattle.std.specs.List.{list_any}
-use Rattle.serde_json.specs.Data.{Data, Items, item}
+use Rattle.serde_json.specs.Data.{Data, item}
 use Rattle.serde_json.specs.View.{view, items_view}
 use Rattle.serde_json.specs.declared.value.Value.{Value}
 use Rattle.sleep_model.specs.declared.machine.Device.{Device}
@@ -54,18 +54,18 @@ pub devices_of-more : (xs : List Value) (i : ℕ) (x : Value) (names : List (Bor
     → (ys ++ y ∷ []) ++ devices_of (texts (names ++ text ∷ [])) (items_view (drop (i + 1) xs)) ≡ ys ++ devices_of (texts names) (items_view (drop i xs))
 devices_of-more xs i x names text ys y within at named is =
     append_assoc ys (y ∷ []) _ ∙ ap (λ zs. ys ++ zs) (
-      ap (λ ns. y ∷ devices_of ns (items_view (drop (i + 1) xs))) (texts-push names text _ named)
-      ∙ ap (λ z. z ∷ devices_of (texts names ++ name_of (view x) ∷ []) (items_view (drop (i + 1) xs))) is
-      ∙ sym (ap (devices_of (texts names)) (items_view-drop xs i x within at)))
+    ap (λ ns. y ∷ devices_of ns (items_view (drop (i + 1) xs))) (texts-push names text _ named)
+    ∙ ap (λ z. z ∷ devices_of (texts names ++ name_of (view x) ∷ []) (items_view (drop (i + 1) xs))) is
+    ∙ sym (ap (devices_of (texts names)) (items_view-drop xs i x within at)))
 
 -- the names with one more
 pub keys-added : (keys names : List (Bor (List ℕ))) (text : Bor (List ℕ)) (added : Bool) → keys ≡ cond (list_any (λ s. bytes_eq text.now s.now) names) names (names ++ text ∷ [])
     → added ≡ not (list_any (λ s. bytes_eq text.now s.now) names) → added ≡ true → keys ≡ names ++ text ∷ []
 keys-added keys names text added e is new = key_at _ keys names text e (sym is ∙ new)
   where
-  key_at : (b : Bool) (keys names : List (Bor (List ℕ))) (text : Bor (List ℕ)) → keys ≡ cond b names (names ++ text ∷ []) → not b ≡ true → keys ≡ names ++ text ∷ []
-  key_at true keys names text e h = absurd (false≢true h)
-  key_at false keys names text e h = e
+    key_at : (b : Bool) (keys names : List (Bor (List ℕ))) (text : Bor (List ℕ)) → keys ≡ cond b names (names ++ text ∷ []) → not b ≡ true → keys ≡ names ++ text ∷ []
+    key_at true keys names text e h = absurd (false≢true h)
+    key_at false keys names text e h = e
 
 pub length-added : (keys names : List (Bor (List ℕ))) (text : Bor (List ℕ)) (i : ℕ) → keys ≡ names ++ text ∷ [] → length names ≤ i → length keys ≤ i + 1
 length-added keys names text i e few = rw (e, length-append) (omega arith)

@@ -1,12 +1,11 @@
 -- `Gives` at rules and a value that are the same by other words.
-use Rattle.std.proofs.Common.{◌≡◌, ◌≤◌, ◌&&◌, ℕ, List, [], length, Bool, true, false, Result, leb, codes, sym, ap, ◌∙◌, subst}
-use Rattle.serde_json.specs.Data.{Data, Items}
-use Rattle.serde_json.specs.Find.{get}
+use Rattle.std.proofs.Common.{◌≡◌, ◌&&◌, ℕ, List, length, Bool, true, Result, leb, sym, ap, ◌∙◌, subst}
+use Rattle.serde_json.specs.Data.{Items}
 use Rattle.serde_json.specs.View.{items_view}
 use Rattle.serde_json.specs.declared.value.Value.{Value}
 use Rattle.machine_file.specs.declared.fault.MachineFault.{MachineFault}
 use Rattle.machine_file.specs.Gives.{Gives}
-use Rattle.machine_file.specs.Look.{is_none_or, is_list, list_at, items_len}
+use Rattle.machine_file.specs.Look.{items_len}
 use Rattle.machine_file.proofs.Looks.{items_len-length}
 
 pub Gives-same : {X Y : Type 0} (view : X → Y) (r : Result X MachineFault) (b c : Bool) (y z : Y) → b ≡ c → y ≡ z → Gives view r b y → Gives view r c z

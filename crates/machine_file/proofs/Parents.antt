@@ -1,6 +1,6 @@
 -- The place of a text among texts behind references.
-use Rattle.std.proofs.Common.{◌≡◌, ◌+◌, ℕ, suc, List, [], ◌∷◌, length, map, Some, option_and_then, position, bytes_eq, cond, not, ltb, codes, Bool, true, false, Bor, refl, sym, ap, ◌∙◌}
-use Rattle.std.specs.List.{list_any, prefix_len}
+use Rattle.std.proofs.Common.{◌≡◌, ◌+◌, ℕ, suc, List, [], ◌∷◌, length, map, position, bytes_eq, cond, not, Bool, Bor, refl, ap}
+use Rattle.std.specs.List.{prefix_len}
 
 prefix_len-texts : (p : List ℕ → Bool) (names : List (Bor (List ℕ))) → prefix_len p (map (λ s. s.now) names) ≡ prefix_len (λ s. p s.now) names
 prefix_len-texts p [] = refl

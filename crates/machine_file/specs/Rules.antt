@@ -1,7 +1,7 @@
--- The rules of a machine file, each a test of its JSON value. Whatever may be left out is absent or as a rule says.
+-- The rules of a machine file, each a test of its JSON value. A member that may be left out is absent, or as its rule says.
 use Rattle.std.specs.Prelude.{ℕ, suc, ◌+◌, ◌*◌, ◌==◌, ◌&&◌, ◌||◌, ◌++◌, List, [], ◌∷◌, length, codes, Bool, true, false, not, bytes_eq, nat_le, if◌then◌else◌}
 use Rattle.std.specs.List.{list_any, list_all}
-use Rattle.serde_json.specs.Data.{Data, null, Items, no_items, item}
+use Rattle.serde_json.specs.Data.{Data, Items, no_items, item}
 use Rattle.serde_json.specs.Find.{get, as_str}
 use Rattle.machine_file.specs.Look.{is_some_and, is_none_or, is_number, is_text, is_false, is_list, is_empty_list, has_only, text_of, text_at, list_at, items_len}
 
@@ -15,7 +15,7 @@ is_name_byte b = (nat_le 97 b && nat_le b 122) || (nat_le 48 b && nat_le b 57) |
 abbrev pub is_name : List ℕ → Bool
 is_name s = nat_le 1 (length s) && nat_le (length s) 32 && list_all is_name_byte s
 
--- the name of a device, a source or an actor
+-- the name of a device or an actor
 abbrev pub name_of : Data → List ℕ
 name_of d = text_at (codes "name") d
 
@@ -57,7 +57,7 @@ is_plain_device d =
 abbrev pub is_new : List (List ℕ) → Data → Bool
 is_new earlier d = not (list_any (bytes_eq (name_of d)) earlier)
 
--- its parent, where it has one, is an earlier device
+-- its parent, where it has one, is the name of an earlier device, and so a name
 abbrev pub has_earlier_parent : List (List ℕ) → Data → Bool
 has_earlier_parent earlier d = is_none_or (λ p. is_some_and (λ s. list_any (bytes_eq s) earlier) (as_str p)) (get (codes "parent") d)
 
@@ -65,12 +65,12 @@ has_earlier_parent earlier d = is_none_or (λ p. is_some_and (λ s. list_any (by
 abbrev pub is_device : List (List ℕ) → Data → Bool
 is_device earlier d = is_plain_device d && is_name (name_of d) && has_earlier_parent earlier d && is_new earlier d
 
--- devices after the devices of these names
+-- each is a device after those of these names and those before it
 abbrev pub are_devices : List (List ℕ) → Items → Bool
 are_devices earlier no_items = true
 are_devices earlier (item d ds) = is_device earlier d && are_devices (earlier ++ name_of d ∷ []) ds
 
--- at most 1000 devices
+-- at most 1000 devices, each after its parent
 abbrev pub has_devices : Data → Bool
 has_devices d =
     is_none_or is_list (get (codes "devices") d) && nat_le (items_len (list_at (codes "devices") d)) 1000 && are_devices [] (list_at (codes "devices") d)
@@ -87,6 +87,7 @@ are_sources no_items = true
 are_sources (item d no_items) = is_source d
 are_sources (item d (item e ds)) = false
 
+-- no source, or that one
 abbrev pub has_sources : Data → Bool
 has_sources d = is_none_or is_list (get (codes "sources") d) && are_sources (list_at (codes "sources") d)
 
@@ -114,11 +115,12 @@ is_operation o = if is_op (codes "state") o then is_state_mem o else is_read_or_
 abbrev pub is_step : Data → Bool
 is_step o = is_none_or (is_number 1) (get (codes "times") o) && is_operation o
 
+-- each is an operation that is made once
 abbrev pub are_steps : Items → Bool
 are_steps no_items = true
 are_steps (item o os) = is_step o && are_steps os
 
--- at most 200000 operations
+-- at most 200000 such operations
 abbrev pub has_script : Data → Bool
 has_script a =
     is_none_or is_list (get (codes "script") a) && nat_le (items_len (list_at (codes "script") a)) 200000 && are_steps (list_at (codes "script") a)
@@ -135,6 +137,7 @@ is_one_actor no_items = false
 is_one_actor (item a no_items) = is_actor a
 is_one_actor (item a (item b rest)) = false
 
+-- the list has that one actor
 abbrev pub has_one_actor : Data → Bool
 has_one_actor d = is_none_or is_list (get (codes "actors") d) && is_one_actor (list_at (codes "actors") d)
 

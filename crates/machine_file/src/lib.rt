@@ -12,19 +12,20 @@ mod look;
 mod machine;
 mod script;
 mod sources;
+#[cfg(test)]
+mod tests;
 mod tree;
 
+pub use fault::MachineFault;
 use machine::machine_in;
 use sleep_model::Machine;
 use std::alloc::Global;
 use tree::tree_of;
 
-pub use fault::MachineFault;
-
 /// The machine that the bytes of a machine file spell.
 ///
-/// It is `Refused` only where the bytes spell no machine: they are not UTF-8, or no JSON, or the
-/// value breaks one of the format's rules (`specs/Rules.antt`). It is `Mem` only where memory ran
+/// `Refused`: the bytes spell no machine, as they are not UTF-8, are no JSON or nest deeper than
+/// 127, or as the value breaks one of the format's rules (`specs/Rules.antt`). `Mem`: memory ran
 /// out.
 pub fn read_machine(alloc: Global, bytes: &[u8]) -> Result<Machine, MachineFault>
     // What is read is what the bytes spell.

@@ -72,7 +72,12 @@ fn has_few_turns(script: &Script, devices: &[Device]) -> bool
 }
 
 // The machine of these parts, with no other.
-fn machine_of(alloc: Global, devices: Vec<Device>, sources: Vec<Name>, actors: Vec<Script>) -> Machine
+fn machine_of(
+    alloc: Global,
+    devices: Vec<Device>,
+    sources: Vec<Name>,
+    actors: Vec<Script>,
+) -> Machine
     ensures { result ≡ machine_of_parts devices.items sources.items actors.items }
 {
     Machine {

@@ -1,5 +1,5 @@
-use Rattle.std.proofs.Common.{◌≡◌, ◌≤◌, ◌<◌, ◌∷◌, [], ◌++◌, length, sym, ap, ap₂, ◌∙◌, subst, arith, true}
-use Rattle.serde_json.specs.View.{view, items_view}
+use Rattle.std.proofs.Common.{◌≡◌, ◌<◌, ◌∷◌, [], ◌++◌, length, sym, ap, ap₂, ◌∙◌, arith}
+use Rattle.serde_json.specs.View.{items_view}
 use Rattle.std.proofs.Common.{drop, ◌+◌}
 use Rattle.machine_file.specs.Rules.{are_devices}
 use Rattle.machine_file.specs.Spelled.{devices_of}
@@ -24,9 +24,9 @@ loop-value-preserved c =
     let rest = items_view (drop (i + 1) xs) in (
       length-added _ names text i keys l.invariant.0,
       ap (λ ks. are_devices (texts ks) rest) keys
-      ∙ are_devices-more xs i x names text c.in_ok-insert.field-0 within c.value-item.is c.text_at.ensures c.in_ok-insert.ensures.added c.in_ok-device.ensures.0 c.if-not-branch.false
-      ∙ l.invariant.1,
+          ∙ are_devices-more xs i x names text c.in_ok-insert.field-0 within c.value-item.is c.text_at.ensures c.in_ok-insert.ensures.added c.in_ok-device.ensures.0 c.if-not-branch.false
+          ∙ l.invariant.1,
       ap₂ (λ ds ks. ds ++ devices_of (texts ks) rest) c.in_ok-push.ensures.items keys
-      ∙ devices_of-more xs i x names text l.devices.items c.in_ok-device.device within c.value-item.is c.text_at.ensures c.in_ok-device.ensures.1
-      ∙ l.invariant.2,
+          ∙ devices_of-more xs i x names text l.devices.items c.in_ok-device.device within c.value-item.is c.text_at.ensures c.in_ok-device.ensures.1
+          ∙ l.invariant.2,
     )

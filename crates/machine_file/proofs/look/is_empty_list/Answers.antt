@@ -1,4 +1,4 @@
-use Rattle.std.proofs.Common.{arith, rules, sym, ap, ◌∙◌}
+use Rattle.std.proofs.Common.{arith}
 use Rattle.std.proofs.lemmas.Grind.{common_steps}
 use Rattle.machine_file.proofs.Looks.{has_no_items-length}
 use Rattle.machine_file.proofs.look.is_empty_list.Goals as goal

@@ -1,4 +1,4 @@
-use Rattle.std.proofs.Common.{◌≡◌, ◌+◌, ◌*◌, ◌++◌, ◌&&◌, [], ◌∷◌, length, leb, ℕ, List, Bool, true, false, refl, sym, ap, ◌∙◌}
+use Rattle.std.proofs.Common.{◌≡◌, ◌+◌, ◌*◌, ◌++◌, ◌&&◌, [], ◌∷◌, length, leb, ℕ, List, Bool, true, refl, sym, ap, ◌∙◌}
 use Rattle.sleep_model.specs.Accepted.{attempts_of}
 use Rattle.sleep_model.specs.declared.machine.Device.{Device}
 use Rattle.sleep_model.specs.declared.machine.Script.{Script}
@@ -29,9 +29,9 @@ returns c =
     let sources = c.in_ok-sources in
     let script = c.in_ok-script in (
       last_of _ _ _ _ _ (sym c.has_only_defaults.ensures ∙ c.if-not-has_only_defaults.false) devices.ensures.0 sources.ensures.0 script.ensures.0
-      ∙ are_attempts_few-parts (view c.args.tree.now) devices.devices.items script.script devices.ensures.1 script.ensures.1
-      ∙ sym (c.has_few_turns.ensures ∙ ap (λ ds. leb (attempts_of script.script * (length ds + 50)) 100000) c.deref.ensures.value)
-      ∙ c.if-not-has_few_turns.false,
+          ∙ are_attempts_few-parts (view c.args.tree.now) devices.devices.items script.script devices.ensures.1 script.ensures.1
+          ∙ sym (c.has_few_turns.ensures ∙ ap (λ ds. leb (attempts_of script.script * (length ds + 50)) 100000) c.deref.ensures.value)
+          ∙ c.if-not-has_few_turns.false,
       c.machine_of.ensures
-      ∙ same_parts _ _ _ _ _ _ devices.ensures.1 sources.ensures.1 (c.in_ok-push.ensures.items ∙ ap (λ ss. ss ++ script.script ∷ []) c.new-actors.ensures.items ∙ script.ensures.1),
+          ∙ same_parts _ _ _ _ _ _ devices.ensures.1 sources.ensures.1 (c.in_ok-push.ensures.items ∙ ap (λ ss. ss ++ script.script ∷ []) c.new-actors.ensures.items ∙ script.ensures.1),
     )

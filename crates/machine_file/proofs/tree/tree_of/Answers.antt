@@ -1,4 +1,3 @@
-use Rattle.std.proofs.Common.{sym, ◌∙◌}
 use Rattle.std.proofs.lemmas.Bool.{both_ways}
 use Rattle.machine_file.proofs.Trees.{tree-some, tree-none}
 use Rattle.machine_file.proofs.tree.tree_of.Goals as goal
