@@ -71,7 +71,7 @@ fn has_few_turns(script: &Script, devices: &[Device]) -> bool
     attempts_of(script).saturating_mul(turns) <= MOST_TURNS
 }
 
-// The machine of these parts, with no other.
+// The machine of these parts, with the defaults of today around them.
 fn machine_of(
     alloc: Global,
     devices: Vec<Device>,
