@@ -1,0 +1,94 @@
+-- The machine that a JSON value spells, where it keeps the rules.
+use Rattle.std.specs.Prelude.{ℕ, ◌++◌, List, [], ◌∷◌, codes, false, Option, None, option_and_then, position, bytes_eq, if◌then◌else◌}
+use Rattle.sleep_model.specs.declared.flags.DeviceFlags.{DeviceFlags}
+use Rattle.sleep_model.specs.declared.machine.Machine.{Machine}
+use Rattle.sleep_model.specs.declared.machine.Device.{Device}
+use Rattle.sleep_model.specs.declared.machine.Script.{Script}
+use Rattle.sleep_model.specs.declared.machine.Step.{Step}
+use Rattle.sleep_model.specs.declared.machine.Op.{Op}
+use Rattle.sleep_model.specs.declared.machine.Op.TheVariants.{Read, Save, State}
+use Rattle.sleep_model.specs.declared.machine.TaskKind.TheVariants.{User}
+use Rattle.serde_json.specs.Data.{Data, Items, no_items, item}
+use Rattle.serde_json.specs.Find.{get, as_str}
+use Rattle.machine_file.specs.Look.{text_of, list_at}
+use Rattle.machine_file.specs.Rules.{name_of, is_op}
+
+-- ---- devices
+
+-- not async, no wakeup, and active at first
+abbrev pub no_flags : DeviceFlags
+no_flags = record { 0 = 0 }
+
+-- the place of the device's parent among the names of the earlier devices
+abbrev pub parent_of : List (List ℕ) → Data → Option ℕ
+parent_of earlier d = option_and_then (λ s. position (bytes_eq s) earlier) (option_and_then as_str (get (codes "parent") d))
+
+-- a device after the devices of these names
+abbrev pub device_of : List (List ℕ) → Data → Device
+device_of earlier d = record { name = name_of d; parent = parent_of earlier d; flags = no_flags }
+
+-- devices in their order, after the devices of these names
+abbrev pub devices_of : List (List ℕ) → Items → List Device
+devices_of earlier no_items = []
+devices_of earlier (item d ds) = device_of earlier d ∷ devices_of (earlier ++ name_of d ∷ []) ds
+
+-- ---- wakeup sources
+
+-- a source is its name
+abbrev pub source_of : Data → List ℕ
+source_of d = text_of d
+
+-- sources in their order
+abbrev pub sources_of : Items → List (List ℕ)
+sources_of no_items = []
+sources_of (item d ds) = source_of d ∷ sources_of ds
+
+-- ---- actors
+
+-- a write of the text mem to the state, whatever was saved
+abbrev pub state_mem : Op
+state_mem = State (codes "mem") false
+
+-- a read; a save of the number that was last read; or that write
+abbrev pub op_of : Data → Op
+op_of o = if is_op (codes "state") o then state_mem else if is_op (codes "read") o then Read else Save None
+
+-- an operation, made once
+abbrev pub step_of : Data → Step
+step_of o = record { op = op_of o; times = 1 }
+
+-- operations in their order
+abbrev pub steps_of : Items → List Step
+steps_of no_items = []
+steps_of (item o os) = step_of o ∷ steps_of os
+
+-- a user's task, whose script is made once
+abbrev pub script_of : Data → Script
+script_of a = record { name = name_of a; kind = User; repeat = 1; steps = steps_of (list_at (codes "script") a) }
+
+-- actors in their order
+abbrev pub scripts_of : Items → List Script
+scripts_of no_items = []
+scripts_of (item a rest) = script_of a ∷ scripts_of rest
+
+-- ---- the machine
+
+-- what has its default in each machine, around these parts
+abbrev pub machine_of_parts : List Device → List (List ℕ) → List Script → Machine
+machine_of_parts devices sources actors = record {
+  alarm_ms = 1000;
+  cpus = 1;
+  auto_cycles = 16;
+  devices = devices;
+  links = [];
+  syscore = [];
+  notifiers = [];
+  sources = sources;
+  marks = [];
+  actors = actors;
+  answers = [];
+}
+
+-- the machine of a value's devices, sources and actors
+abbrev pub machine_of : Data → Machine
+machine_of d = machine_of_parts (devices_of [] (list_at (codes "devices") d)) (sources_of (list_at (codes "sources") d)) (scripts_of (list_at (codes "actors") d))

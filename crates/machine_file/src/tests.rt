@@ -1,0 +1,180 @@
+use crate::{MachineFault, read_machine};
+use sleep_model::{Op, TaskKind};
+use std::alloc::{AllocError, Global};
+use std::test::Fail;
+
+const ACTOR: &str = r#"{"name":"w","kind":"user"}"#;
+
+// A file with these further members, devices and actors.
+fn file(alloc: Global, more: &str, devices: &str, actors: &str) -> Result<String, AllocError> {
+    format!(in alloc; "{{\"version\":1{more},\"devices\":[{devices}],\"actors\":[{actors}]}}")
+}
+
+// A file whose one actor makes these operations.
+fn script(alloc: Global, operations: &str) -> Result<String, AllocError> {
+    format!(in alloc;
+        "{{\"version\":1,\"actors\":[{{\"name\":\"w\",\"kind\":\"user\",\"script\":[{operations}]}}]}}"
+    )
+}
+
+fn is_refused(alloc: Global, text: &str) -> bool {
+    matches!(
+        read_machine(alloc, text.as_bytes()),
+        Err(MachineFault::Refused)
+    )
+}
+
+fn is_read(alloc: Global, text: &str) -> bool {
+    read_machine(alloc, text.as_bytes()).is_ok()
+}
+
+#[test]
+fn reads_a_machine(rt: HostRuntime) -> Result<(), Fail> {
+    let text = r#"{"version":1,
+        "devices":[{"name":"p"},{"name":"c","parent":"p"}],
+        "sources":["lid"],
+        "actors":[{"name":"w","kind":"user",
+            "script":[{"op":"read"},{"op":"save"},{"op":"state","text":"mem"}]}]}"#;
+    let machine = read_machine(rt.alloc(), text.as_bytes())?;
+    let [p, c] = machine.devices.as_slice() else {
+        return Err(Fail::from("two devices"));
+    };
+    assert_eq!(rt; p.name.bytes(), b"p".as_slice());
+    assert_eq!(rt; p.parent, None);
+    assert_eq!(rt; c.name.bytes(), b"c".as_slice());
+    assert_eq!(rt; c.parent, Some(0));
+    let [lid] = machine.sources.as_slice() else {
+        return Err(Fail::from("one source"));
+    };
+    assert_eq!(rt; lid.bytes(), b"lid".as_slice());
+    let [actor] = machine.actors.as_slice() else {
+        return Err(Fail::from("one actor"));
+    };
+    assert_eq!(rt; actor.name.bytes(), b"w".as_slice());
+    assert_eq!(rt; actor.kind, TaskKind::User);
+    let [read, save, state] = actor.steps.as_slice() else {
+        return Err(Fail::from("three steps"));
+    };
+    assert!(rt; matches!(&read.op, Op::Read));
+    assert!(rt; matches!(&save.op, Op::Save { count: None }));
+    assert!(rt;
+        matches!(
+            &state.op,
+            Op::State {
+                if_saved: false,
+                ..
+            }
+        )
+    );
+    Ok(())
+}
+
+#[test]
+fn reads_defaults(rt: HostRuntime) {
+    let text = r#"{"version":1,"alarm_ms":1000,"cpus":1,"auto_cycles":16,
+        "devices":[{"name":"a","async":false,"wakeup":false,"runtime":"active"}],
+        "links":[],"syscore":[],"notifiers":[],"answers":[],"sources":[],
+        "actors":[{"name":"w","kind":"user","repeat":1,
+            "script":[{"op":"state","text":"mem","if_saved":false,"times":1},
+                {"op":"read","times":1}]}]}"#;
+    assert!(rt; is_read(rt.alloc(), text));
+}
+
+#[test]
+fn refuses_the_file(rt: HostRuntime) -> Result<(), Fail> {
+    for text in [
+        "not JSON",
+        "[]",
+        r#"{"actors":[{"name":"w","kind":"user"}]}"#,
+        r#"{"version":2,"actors":[{"name":"w","kind":"user"}]}"#,
+        r#"{"version":1}"#,
+    ] {
+        assert!(rt; is_refused(rt.alloc(), text), "{text}");
+    }
+    for (more, actors) in [
+        (r#","sleep":1"#, ACTOR),
+        (r#","cpus":2"#, ACTOR),
+        (r#","cpus":1.0"#, ACTOR),
+        (r#","sources":["a","b"]"#, ACTOR),
+        (r#","sources":["autosleep"]"#, ACTOR),
+        (
+            "",
+            r#"{"name":"v","kind":"user"},{"name":"w","kind":"user"}"#,
+        ),
+        ("", ""),
+        ("", r#"{"name":"w","kind":"irq"}"#),
+        ("", r#"{"name":"w","kind":"user","repeat":2}"#),
+    ] {
+        let text = file(rt.alloc(), more, "", actors)?;
+        assert!(rt; is_refused(rt.alloc(), text.as_str()), "{more} {actors}");
+    }
+    Ok(())
+}
+
+#[test]
+fn refuses_devices(rt: HostRuntime) -> Result<(), Fail> {
+    for devices in [
+        r#"{"name":"a","color":1}"#,
+        r#"{"name":"A"}"#,
+        r#"{"name":"abcdefghijklmnopqrstuvwxyz0123456"}"#,
+        r#"{"name":"a"},{"name":"a"}"#,
+        r#"{"name":"a","parent":"b"},{"name":"b"}"#,
+    ] {
+        let text = file(rt.alloc(), "", devices, ACTOR)?;
+        assert!(rt; is_refused(rt.alloc(), text.as_str()), "{devices}");
+    }
+    let text = file(
+        rt.alloc(),
+        "",
+        r#"{"name":"abcdefghijklmnopqrstuvwxyz012345"}"#,
+        ACTOR,
+    )?;
+    assert!(rt; is_read(rt.alloc(), text.as_str()));
+    Ok(())
+}
+
+#[test]
+fn refuses_operations(rt: HostRuntime) -> Result<(), Fail> {
+    for operation in [
+        r#"{"op":"event","source":"lid","ms":1}"#,
+        r#"{"op":"fly"}"#,
+        r#"{"op":"save","count":1}"#,
+        r#"{"op":"state","text":"freeze"}"#,
+        r#"{"op":"state","text":"mem","if_saved":true}"#,
+        r#"{"op":"read","times":2}"#,
+    ] {
+        let text = script(rt.alloc(), operation)?;
+        assert!(rt; is_refused(rt.alloc(), text.as_str()), "{operation}");
+    }
+    Ok(())
+}
+
+// So many times the item, with commas between, and none after the last.
+fn repeated(alloc: Global, item: &str, times: u32) -> Result<String, AllocError> {
+    let mut text = String::from_str(alloc, item)?;
+    for _ in 1..times {
+        text.push_str(",")?;
+        text.push_str(item)?;
+    }
+    Ok(text)
+}
+
+#[test]
+fn keeps_the_limits(rt: HostRuntime) -> Result<(), Fail> {
+    let state = r#"{"op":"state","text":"mem"}"#;
+    let most = script(rt.alloc(), repeated(rt.alloc(), state, 2000)?.as_str())?;
+    assert!(rt; is_read(rt.alloc(), most.as_str()));
+    let over = script(rt.alloc(), repeated(rt.alloc(), state, 2001)?.as_str())?;
+    assert!(rt; is_refused(rt.alloc(), over.as_str()));
+    let mut devices = String::from_str(rt.alloc(), r#"{"name":"d1"}"#)?;
+    for number in 2..1001 {
+        let device = format!(in rt.alloc(); ",{{\"name\":\"d{number}\",\"parent\":\"d1\"}}")?;
+        devices.push_str(device.as_str())?;
+    }
+    let most = file(rt.alloc(), "", devices.as_str(), ACTOR)?;
+    assert!(rt; is_read(rt.alloc(), most.as_str()));
+    devices.push_str(r#",{"name":"d1001"}"#)?;
+    let over = file(rt.alloc(), "", devices.as_str(), ACTOR)?;
+    assert!(rt; is_refused(rt.alloc(), over.as_str()));
+    Ok(())
+}
