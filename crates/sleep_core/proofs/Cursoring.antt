@@ -32,7 +32,7 @@ pub down_next : (m : Machine) → IsOneWriter (length m.devices) m.actors → (p
 down_next m acc past legal l =
     let k : length (order m) - length (settled past) - 1 ≡ length m.devices - length (settled past) - 1 = omega (arith, order_len m) in
     down_some (settled past) (order m) (order_different m) (facts_of m acc past legal).settled_tail (omega (arith, order_len m))
-      ∙ ap Some (ap (λ j. get_or (order m) j 0) k ∙ order_at m (length m.devices - length (settled past) - 1) (omega arith))
+    ∙ ap Some (ap (λ j. get_or (order m) j 0) k ∙ order_at m (length m.devices - length (settled past) - 1) (omega arith))
 
 -- no more are suspended than there are
 pub suspended_fits : (m : Machine) → IsOneWriter (length m.devices) m.actors → (past : List Entry) → JournalPart m past → length (suspended past) ≤ length m.devices

@@ -46,12 +46,13 @@ suspend_spends o diff who (Some d) (Some r) se su busy pos time w = absurd (let 
 suspend_spends o diff who None (Some r) se su busy pos time w = (omega arith, omega arith)
 suspend_spends o diff who None None se su busy pos time w =
     elim (below_or_all (length se) (length o) (tail_fits se o w.settled_tail)) [
-      inl l ↦ subst (λ (next : Option ℕ). Spends (length o) row.Suspend None se su pos time (suspend_due None None next busy)) (sym (down_some se o diff w.settled_tail l)) (taken _ busy l)
-    | inr e ↦ subst (λ (next : Option ℕ). Spends (length o) row.Suspend None se su pos time (suspend_due None None next busy)) (sym (down_none se o w.settled_tail e)) (omega arith, omega arith)
+      | inl l ↦ subst (λ (next : Option ℕ). Spends (length o) row.Suspend None se su pos time (suspend_due None None next busy)) (sym (down_some se o diff w.settled_tail l)) (taken _ busy l)
+      | inr e ↦ subst (λ (next : Option ℕ). Spends (length o) row.Suspend None se su pos time (suspend_due None None next busy)) (sym (down_none se o w.settled_tail e)) (omega arith, omega arith)
     ]
   where
     below_or_all : (m n : ℕ) → m ≤ n → ((m < n) ⊎ (m ≡ n))
     below_or_all m n h = grind arith
+
     taken : (d : ℕ) (b : Bool) → length se < length o → Spends (length o) row.Suspend None se su pos time (suspend_due None None (Some d) b)
     taken d true l = (omega arith, omega arith)
     taken d false l = (omega arith, omega arith)
@@ -62,7 +63,7 @@ resume_spends o diff who None er se [] pos time w =
     subst (λ (next : Option ℕ). Spends (length o) row.Resume None se [] pos time (resume_due None next)) (sym (first_suspended_none o)) (omega arith, omega arith)
 resume_spends o diff who None er se (x ∷ xs) pos time w =
     subst (λ (next : Option ℕ). Spends (length o) row.Resume None se (x ∷ xs) pos time (resume_due None next)) (sym (up_some x xs o diff w.suspended_tail))
-      (let e = ap length (without_first x xs) in (omega arith, omega (arith, e)))
+    (let e = ap length (without_first x xs) in (omega arith, omega (arith, e)))
 
 -- an entry of an open attempt takes one of its places
 pub path_spends : (m : Machine) (past : List Entry) (now : EventNow) (pos time : ℕ) (who : Option Actor) (r : Row) → WalkFacts (order m) who r (inside past) (error_of past) (settled past) (suspended past) → Spends (length (order m)) r (inside past) (settled past) (suspended past) pos time (path_due m past now r)
@@ -82,6 +83,7 @@ path_spends m past now pos time who (row.Asleep p s) w = wakes _ _
     at_inside : (i : Option ℕ) → i ≡ None → suc (needed row.Resume (length (order m)) (length (settled past)) (length (suspended past)) i) ≤ 2 * length (suspended past) + 4
     at_inside None e = omega arith
     at_inside (Some d) e = absurd (cc)
+
     wakes : (event alarm : Bool) → Spends (length (order m)) (row.Asleep p s) (inside past) (settled past) (suspended past) pos time (cond event (Makes (kind.Wake true)) (cond alarm (Makes (kind.Wake false)) (Waits why.Asleep)))
     wakes true alarm = (omega arith, at_inside (inside past) w.at_row.1)
     wakes false true = (omega arith, at_inside (inside past) w.at_row.1)
@@ -128,10 +130,11 @@ Leaves n who r i se su pos time (Makes k) =
 Leaves n who r i se su pos time _ = Unit {0}
 
 leaves_own : (n : ℕ) (who : Option Actor) (i : Option ℕ) (se su : List ℕ) (pos time : ℕ) (d : Due) → who ≡ None → i ≡ None → su ≡ [] → OwnRoom n se pos time d → Leaves n who row.Outside i se su pos time d
-leaves_own n who i se su pos time (Makes k) e f g h =
-    (λ room p q. subst (λ (j : Option ℕ). needed (row_after k pos time row.Outside) n (length (settled_after k se)) (length (suspended_after k su)) (inside_after k j) ≤ room - 1) (sym f)
-        (subst (λ (xs : List ℕ). needed (row_after k pos time row.Outside) n (length (settled_after k se)) (length (suspended_after k xs)) (inside_after k None) ≤ room - 1) (sym g) (h room p)),
-      λ some. absurd (some e))
+leaves_own n who i se su pos time (Makes k) e f g h = (
+  λ room p q. subst (λ (j : Option ℕ). needed (row_after k pos time row.Outside) n (length (settled_after k se)) (length (suspended_after k su)) (inside_after k j) ≤ room - 1) (sym f)
+      (subst (λ (xs : List ℕ). needed (row_after k pos time row.Outside) n (length (settled_after k se)) (length (suspended_after k xs)) (inside_after k None) ≤ room - 1) (sym g) (h room p)),
+  λ some. absurd (some e),
+)
 leaves_own n who i se su pos time (Waits y) e f g h = tt
 leaves_own n who i se su pos time Gone e f g h = tt
 
@@ -152,8 +155,8 @@ script_leaves m past now i pos time w (Nothing l e) = subst (LeavesAt m past pos
 script_leaves m past now i pos time w (OwnStep h) =
     let f = outside_facts (order m) (maker past) (row_of past) (inside past) (error_of past) (settled past) (suspended past) w h.2 in
     subst (LeavesAt m past pos time) (sym h.3)
-      (subst (λ (x : Row). Leaves (length (order m)) (maker past) x (inside past) (settled past) (suspended past) pos time (seat_due past now (slice_get m.actors 0) (slice_index_or (seats (length m.actors) past) 0 first_seat))) (sym h.2)
-        (leaves_own (length (order m)) (maker past) (inside past) (settled past) (suspended past) pos time _ h.1 f.0 f.1 (own_room (length (order m)) (settled past) past now (slice_get m.actors 0) (slice_index_or (seats (length m.actors) past) 0 first_seat) pos time)))
+    (subst (λ (x : Row). Leaves (length (order m)) (maker past) x (inside past) (settled past) (suspended past) pos time (seat_due past now (slice_get m.actors 0) (slice_index_or (seats (length m.actors) past) 0 first_seat))) (sym h.2)
+    (leaves_own (length (order m)) (maker past) (inside past) (settled past) (suspended past) pos time _ h.1 f.0 f.1 (own_room (length (order m)) (settled past) past now (slice_get m.actors 0) (slice_index_or (seats (length m.actors) past) 0 first_seat) pos time)))
 script_leaves m past now i pos time w (OnPath h) =
     subst (LeavesAt m past pos time) (sym h.2) (leaves_path (length (order m)) (maker past) (row_of past) (inside past) (settled past) (suspended past) pos time _ (path_spends m past now pos time (maker past) (row_of past) w))
 

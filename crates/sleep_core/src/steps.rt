@@ -8,7 +8,6 @@ ghost use Rattle.sleep_model.specs.Guard.{has_changed, count_pending, count_part
 ghost use Rattle.sleep_model.specs.Path.{attempts_after, maker_after, row_after, failure_after};
 ghost use Rattle.sleep_model.specs.Walk.{inside_after, error_after, settled_after, suspended_after};
 ghost use Rattle.sleep_model.specs.Seats.{seat_part, seat_after};
-
 ghost use Rattle.sleep_core.specs.Cores.{IsAttempt};
 ghost use Rattle.sleep_core.specs.Cursors.{ResumesLast};
 ghost use Rattle.sleep_core.specs.Room.{places_for};
@@ -157,12 +156,27 @@ pub(crate) fn seat_after(kind: Kind, before: Seat) -> Seat
 {
     let next = before.done + 1;
     match kind {
-        Kind::ReadWait => Seat { waits: true, ..before },
-        Kind::Read(c) => Seat { done: next, waits: false, last_read: Some(c), ..before },
+        Kind::ReadWait => Seat {
+            waits: true,
+            ..before
+        },
+        Kind::Read(c) => Seat {
+            done: next,
+            waits: false,
+            last_read: Some(c),
+            ..before
+        },
         Kind::Saved(_) | Kind::SaveErr(_, _) | Kind::Over { .. } => {
-            Seat { done: next, waits: false, ..before }
+            Seat {
+                done: next,
+                waits: false,
+                ..before
+            }
         }
-        Kind::Exit => Seat { exited: true, ..before },
+        Kind::Exit => Seat {
+            exited: true,
+            ..before
+        },
         _ => before,
     }
 }

@@ -275,8 +275,10 @@ impl<'m> Core<'m> {
     /// Makes the entry that is due. `Mem` where there is no memory for it, outside attempts alone.
     fn make(&mut self, who: Actor, now: EventNow, kind: Kind, stamp: Stamp) -> Result<(), CoreFault>
         requires { due self.old.machine (entries self.old.past) who now ≡ Makes kind }
-        ensures ok { OnOk result (self.new ≡ with_entry self.old (record { stamp = stamp;
-            entry = record { time = time_of (entries self.old.past); now = now; actor = who; kind = kind } })) }
+        ensures ok { OnOk result (self.new ≡ with_entry self.old (record {
+          stamp = stamp;
+          entry = record { time = time_of (entries self.old.past); now = now; actor = who; kind = kind };
+        })) }
         ensures err { OnErr result ((maker (entries self.old.past) ≡ None) × (self.new ≡ self.old)) }
     {
         if !steps::leaves_number(kind, self.history.attempts()) {
@@ -432,7 +434,10 @@ impl<'m> Core<'m> {
     pub fn into_journal(self) -> Vec<JournalEntry>
         ensures { reverse result.items ≡ self.entry.past }
     {
-        let Core { history, machine: _ } = self;
+        let Core {
+            history,
+            machine: _,
+        } = self;
         history.into_entries()
     }
 }

@@ -34,12 +34,12 @@ append-requires c =
       room = omega (arith, wants_place c.args.kind c.len.result, c.places_for-places.ensures, c.in-Ok.ensures.ok);
       few_attempts = rw (c.in-Ok.ensures.past, ← c.attempts.ensures) (omega (arith, c.if-not-leaves_number.ensures.fits));
       resumes = subst (λ (xs : List JournalEntry). ResumesLast c.args.kind (suspended (entries xs))) (sym c.in-Ok.ensures.past)
-        (resumes_last c.self.inside.machine.now c.self.invariant.accepted.writer (entries c.self.inside.history.past) c.self.invariant.legal (record { time = c.time.result; now = c.args.now; actor = c.args.who; kind = c.args.kind }) is);
+          (resumes_last c.self.inside.machine.now c.self.invariant.accepted.writer (entries c.self.inside.history.past) c.self.invariant.legal (record { time = c.time.result; now = c.args.now; actor = c.args.who; kind = c.args.kind }) is);
     }
 
 pub invariant_of-self-2 : goal.invariant_of-self-2
 invariant_of-self-2 c =
     let is = subst (λ (s : CoreState). due s.machine (entries s.past) c.args.who c.args.now ≡ Makes c.args.kind) (sym c.self.view_is) c.requires in
     core_more c.self.inside.machine.now c.self.inside.history c.reserve.new.self c.append.new.self
-      (record { stamp = c.args.stamp; entry = record { time = c.time.result; now = c.args.now; actor = c.args.who; kind = c.args.kind } })
-      c.self.invariant is (c.time.ensures ∙ ap (λ (xs : List JournalEntry). time_of (entries xs)) c.in-Ok.ensures.past) (rw (← c.attempts.ensures) c.if-not-leaves_number.ensures.fits) c.in-Ok.ensures.past c.in-Ok.ensures.scripts c.in-Ok.ensures.room (rw (← c.len.ensures, ← c.places_for-places.ensures) c.in-Ok.ensures.ok) c.append.ensures
+    (record { stamp = c.args.stamp; entry = record { time = c.time.result; now = c.args.now; actor = c.args.who; kind = c.args.kind } })
+    c.self.invariant is (c.time.ensures ∙ ap (λ (xs : List JournalEntry). time_of (entries xs)) c.in-Ok.ensures.past) (rw (← c.attempts.ensures) c.if-not-leaves_number.ensures.fits) c.in-Ok.ensures.past c.in-Ok.ensures.scripts c.in-Ok.ensures.room (rw (← c.len.ensures, ← c.places_for-places.ensures) c.in-Ok.ensures.ok) c.append.ensures
