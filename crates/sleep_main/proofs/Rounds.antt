@@ -2,6 +2,7 @@
 use Rattle.std.proofs.Common.{◌≡◌, ◌∙◌, ◌≤◌, ◌<◌, ◌+◌, ℕ, Bool, true, false, List, [], ◌∷◌, Option, Some, None, Ok, refl, sym, ap, subst, arith}
 use Rattle.sleep_model.specs.declared.entry.Actor.TheVariants as actor
 use Rattle.sleep_model.specs.declared.entry.Entry.{Entry}
+use Rattle.sleep_model.specs.declared.entry.JournalEntry.{JournalEntry}
 use Rattle.sleep_model.specs.declared.entry.Kind.{Kind}
 use Rattle.sleep_model.specs.declared.log.Why.{Why}
 use Rattle.sleep_model.specs.declared.machine.Machine.{Machine}
@@ -79,3 +80,27 @@ round_done core new word after seen floor turn r same kept done h =
     let w : after ≡ word = cc in
     (subst (λ (x : EventNow). Runs core.machine new x floor) (sym w) (subst (λ (c : CoreState). Runs core.machine c word floor) (sym t.1) r),
       subst (λ (c : CoreState). is_finished core.machine (entries c.past) ≡ true) (sym t.1) (runs_over core word seen floor r same t.0))
+
+-- a run of a machine is one of its core's machine, and the other way round
+pub runs_own : (m : Machine) (core : CoreState) (word : EventNow) (floor : Stamp) → Runs m core word floor → Runs core.machine core word floor
+runs_own m core word floor r = subst (λ (x : Machine). Runs x core word floor) (sym r.machine) r
+
+pub runs_on : (m : Machine) (core new : CoreState) (word after : EventNow) (floor stamp : Stamp) → Runs m core word floor → Runs core.machine new after stamp → Runs m new after stamp
+runs_on m core new word after floor stamp r h = subst (λ (x : Machine). Runs x new after stamp) r.machine h
+
+-- a run that is over is legal and finished for its machine
+pub over_legal : (m : Machine) (core new : CoreState) (word after : EventNow) (floor last : Stamp) → Runs m core word floor → Runs core.machine new after last × (is_finished core.machine (entries new.past) ≡ true) → IsLegal m (entries new.past) × (is_finished m (entries new.past) ≡ true)
+over_legal m core new word after floor last r h = subst (λ (x : Machine). IsLegal x (entries new.past) × (is_finished x (entries new.past) ≡ true)) r.machine (h.0.legal, h.1)
+
+-- at first nothing is done
+pub runs_first : (m : Machine) (core : CoreState) (word : EventNow) → IsAccepted m → (core.machine ≡ m) × (core.past ≡ []) → word ≡ record { inpr = 0; count = 0; hard = 0 } → Runs m core word (record { pos = 0; tick = 0 })
+runs_first m core word acc new zero =
+    record {
+      accepted = acc;
+      machine = new.0;
+      legal = subst (λ (xs : List JournalEntry). IsLegal m (entries xs)) (sym new.1) (record { journal = tt; sources = tt; joint = tt });
+      word_is = ap (λ (xs : List JournalEntry). numbers (entries xs)) new.1 ∙ sym zero;
+      quiet = ap (λ (w : EventNow). w.inpr) zero;
+      floor_is = ap last_stamp new.1;
+      low = omega arith;
+    }

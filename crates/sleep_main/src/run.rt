@@ -1,17 +1,17 @@
-ghost use Rattle.std.specs.Prelude.{◌≡◌, ℕ, true, Option, Some, IfOk, OnOk};
+ghost use Rattle.std.specs.Prelude.{◌≡◌, ℕ, true, map, Option, Some, IfOk, OnOk};
 ghost use Rattle.sleep_model.specs.declared.machine.Machine.{Machine};
 ghost use Rattle.sleep_model.specs.declared.place.Due.TheVariants.{Waits};
 ghost use Rattle.sleep_model.specs.declared.entry.Actor.TheVariants.{Script};
 ghost use Rattle.sleep_model.specs.declared.log.Why.{Why};
 ghost use Rattle.sleep_model.specs.Accepted.{IsAccepted};
 ghost use Rattle.sleep_model.specs.Due.{due};
-ghost use Rattle.sleep_model.specs.Legal.{IsLegal, is_finished};
+ghost use Rattle.sleep_model.specs.Legal.{IsLegal, is_finished, stats_of};
 ghost use Rattle.sleep_core.specs.Places.{entries};
 ghost use Rattle.sleep_main.specs.Runs.{Runs, AfterRound, IsRun};
 
 use sleep_base::Mem;
 use sleep_core::{Core, CoreFault, CoreTurn, Events, PlainEvents};
-use sleep_model::{Actor, Entry, EntryList, EventNow, ListOf, Log, LogEnd, Machine, Stamp, Stats};
+use sleep_model::{Actor, Entry, EntryList, EventNow, JournalEntry, ListOf, Log, LogEnd, Machine, Stamp, Stats};
 use std::alloc::{AllocError, Global};
 use std::sync::Wait;
 
@@ -98,6 +98,25 @@ const NO_CALLS: Stats = Stats {
     last_time: 0,
 };
 
+/// The entries of a journal without their stamps.
+fn entries_of(alloc: Global, journal: &[JournalEntry]) -> Result<Vec<Entry>, AllocError>
+    ensures { IfOk result (λ v. v.items ≡ map (λ j. j.entry) journal.now) }
+{
+    let mut entries = Vec::with_capacity(alloc, journal.len())?;
+    for made in journal {
+        entries.push(made.entry)?;
+    }
+    Ok(entries)
+}
+
+/// The statistics of sources that were never called.
+fn stats_of(alloc: Global, machine: &Machine) -> Result<Vec<Stats>, AllocError>
+    requires { IsAccepted machine.now }
+    ensures { IfOk result (λ v. v.items ≡ stats_of machine.now) }
+{
+    vec![in alloc; NO_CALLS; machine.sources.len() + 1]
+}
+
 /// The log of a run that is over.
 fn log_of(alloc: Global, machine: &Machine, core: Core<'_>) -> Result<Log, AllocError>
     requires accepted { IsAccepted machine.now }
@@ -106,8 +125,8 @@ fn log_of(alloc: Global, machine: &Machine, core: Core<'_>) -> Result<Log, Alloc
     ensures { IfOk result (λ log. IsRun machine.now log) }
 {
     let journal = core.into_journal();
-    let entries: Vec<Entry> = journal.iter().map(|j| j.entry).collect(alloc)?;
-    let stats = vec![in alloc; NO_CALLS; machine.sources.len() + 1]?;
+    let entries = entries_of(alloc, &journal)?;
+    let stats = stats_of(alloc, machine)?;
     Ok(Log {
         entries: EntryList::of_vec(entries),
         stats: ListOf::of_vec(stats),

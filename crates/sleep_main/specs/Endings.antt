@@ -1,0 +1,103 @@
+-- How the program ends: its status, its text on standard error, and what it has read and written.
+use Rattle.std.specs.Prelude.{◌≡◌, ◌≤◌, ◌<◌, ◌+◌, ◌⊎◌, ℕ, List, [], ◌∷◌, ◌++◌, length, codes, Option, Some, None, Result, Ok, Err, Vec}
+use Rattle.std.specs.Io.KnownBytes.{Consumes, Appends, IsAtEnd}
+use Rattle.sleep_base.specs.Faults.{Rose}
+use Rattle.sleep_base.specs.Whole.{Took}
+use Rattle.sleep_model.specs.declared.log.Log.{Log}
+use Rattle.sleep_model.specs.declared.machine.Machine.{Machine}
+use Rattle.sleep_model.specs.Text.{text}
+use Rattle.machine_file.specs.Spells.{Spells}
+use Rattle.machine_file.specs.declared.fault.MachineFault.{MachineFault}
+use Rattle.machine_file.specs.declared.fault.MachineFault.TheVariants as fault
+use Rattle.std.specs.declared.alloc.Global.{Global}
+use Rattle.sleep_main.specs.declared.ending.Ending.{Ending}
+use Rattle.sleep_main.specs.declared.ending.Ending.TheVariants.{Ran, NoForm, TooLong, Refused, ReadFault, WriteFault, NoMemory}
+use Rattle.sleep_main.specs.Runs.{IsRun}
+
+-- the program's status
+abbrev pub status_of : Ending → ℕ
+status_of Ran = 0
+status_of NoForm = 2
+status_of TooLong = 3
+status_of Refused = 3
+status_of ReadFault = 4
+status_of WriteFault = 5
+status_of NoMemory = 8
+
+-- a line of standard error
+abbrev pub line : List ℕ → List ℕ
+line text = text ++ 10 ∷ []
+
+-- what the program says on standard error
+abbrev pub text_of : Ending → List ℕ
+text_of Ran = []
+text_of NoForm = line (codes "usage: run --workers 1")
+text_of TooLong = line (codes "machine: longer than 16777216 bytes")
+text_of Refused = line (codes "machine: refused")
+text_of ReadFault = line (codes "read fault")
+text_of WriteFault = line (codes "write fault")
+text_of NoMemory = line (codes "want of memory")
+
+-- the words are a name, and then `run --workers 1`
+abbrev pub IsForm : List (List ℕ) → Type 0
+IsForm (name ∷ run ∷ workers ∷ one ∷ []) = (run ≡ codes "run") × (workers ≡ codes "--workers") × (one ≡ codes "1")
+IsForm _ = ⊥
+
+-- input and output at a moment: the bytes that are left and that were written, where they are told, and the counts of faults
+pub record Streams : Type 0 where
+  pub left : Option (List ℕ)
+  pub read_faults : ℕ
+  pub out : Option (List ℕ)
+  pub out_faults : ℕ
+
+-- the whole input was read, and was these bytes
+pub record ReadWhole (old new : Streams) (bytes : List ℕ) : Type 0 where
+  pub taken : Consumes old.left new.left bytes
+  pub at_end : IsAtEnd new.left
+  pub fits : length bytes ≤ 16777216
+
+-- the text is that of the log of a run of the machine that the bytes spell
+pub record IsLogOf (bytes said : List ℕ) : Type 0 where
+  pub machine : Machine
+  pub log : Log
+  pub spells : Spells bytes machine
+  pub run : IsRun machine log
+  pub is_text : said ≡ text machine log
+
+-- the bytes give the text of a log, or spell no machine
+abbrev pub GivesLog : List ℕ → Result (Vec ℕ Global) MachineFault → Type 0
+GivesLog bytes (Ok said) = IsLogOf bytes said.items
+GivesLog bytes (Err fault.Refused) = (m : Machine) → ¬ Spells bytes m
+GivesLog bytes (Err fault.Mem) = Unit {0}
+
+-- the whole input was a machine file, and the text is that of its log
+abbrev pub RanFile : Streams → Streams → List ℕ → Type 0
+RanFile old new said = (bytes : List ℕ) × ReadWhole old new bytes × IsLogOf bytes said
+
+-- nothing was written on standard output
+abbrev pub KeepsOut : Streams → Streams → Type 0
+KeepsOut old new = new.out ≡ old.out
+
+-- what an ending of a run of a file means
+abbrev pub FileEnded : Streams → Streams → Ending → Type 0
+-- the log's text was written
+FileEnded old new Ran = (said : List ℕ) × RanFile old new said × Appends old.out new.out said
+FileEnded old new NoForm = ⊥
+-- more than 16,777,216 bytes came
+FileEnded old new TooLong = Took old.left new.left (λ n. 16777216 < n) × KeepsOut old new
+-- the bytes spell no machine
+FileEnded old new Refused = ((bytes : List ℕ) × ReadWhole old new bytes × ((m : Machine) → ¬ Spells bytes m)) × KeepsOut old new
+-- a read failed
+FileEnded old new ReadFault = Rose old.read_faults new.read_faults × KeepsOut old new
+-- a write failed, after a front of the log's text
+FileEnded old new WriteFault = Rose old.out_faults new.out_faults × ((front back : List ℕ) × RanFile old new (front ++ back) × Appends old.out new.out front)
+FileEnded old new NoMemory = KeepsOut old new
+
+-- what an ending means: the words are of no form, exactly where nothing was read or written; or they are, and a file was run
+abbrev pub Ended : List (List ℕ) → Streams → Streams → Ending → Type 0
+Ended words old new NoForm = (IsForm words → ⊥) × (new.left ≡ old.left) × (new.read_faults ≡ old.read_faults) × KeepsOut old new × (new.out_faults ≡ old.out_faults)
+Ended words old new ending = IsForm words × FileEnded old new ending
+
+-- the text was said on a stream, or a front of it where its count of faults rose
+abbrev pub Says : Option (List ℕ) → Option (List ℕ) → ℕ → ℕ → List ℕ → Type 0
+Says old new before now said = Appends old new said ⊎ ((front back : List ℕ) × (said ≡ front ++ back) × Appends old new front × Rose before now)

@@ -1,0 +1,138 @@
+ghost use Rattle.std.specs.Prelude.{◌≡◌, ◌↔◌, ℕ, IsTrue, codes, map, string_bytes};
+ghost use Rattle.sleep_main.specs.declared.ending.Ending.{Ending};
+ghost use Rattle.sleep_main.specs.Endings.{IsForm, GivesLog, FileEnded, Ended, Says, status_of, text_of};
+
+use crate::ending::Ending;
+use crate::run::{RunFault, run_machine};
+use log_text::write_log;
+use machine_file::{MachineFault, read_machine};
+use sleep_base::{ByteSink, ByteSource, ReadStop, read_all, write_all};
+use std::alloc::Global;
+use std::sync::Wait;
+
+/// The most bytes that a machine file has.
+const MOST_BYTES: u32 = 16_777_216;
+
+/// Whether these are the words `run --workers 1`.
+fn is_run_one(run: &str, workers: &str, one: &str) -> bool
+    ensures { IsTrue result ↔ ((run.now ≡ codes "run") × (workers.now ≡ codes "--workers") × (one.now ≡ codes "1")) }
+{
+    run == "run" && workers == "--workers" && one == "1"
+}
+
+/// Whether the words are a name, and then `run --workers 1`.
+fn is_form(words: &[String]) -> bool
+    ensures { IsTrue result ↔ IsForm (map string_bytes words.now) }
+{
+    match words {
+        [_, run, workers, one] => is_run_one(run.as_str(), workers.as_str(), one.as_str()),
+        _ => false,
+    }
+}
+
+/// The text of the log of the machine that the bytes spell. `Refused` where they spell none, `Mem`
+/// where there is no memory.
+fn log_of_bytes<R: Wait>(rt: &R, alloc: Global, bytes: &[u8]) -> Result<Vec<u8>, MachineFault>
+    ensures { GivesLog bytes.now result }
+{
+    let machine = match read_machine(alloc, bytes) {
+        Ok(machine) => machine,
+        Err(MachineFault::Refused) => return Err(MachineFault::Refused),
+        Err(MachineFault::Mem) => return Err(MachineFault::Mem),
+    };
+    match run_machine(rt, alloc, &machine) {
+        Ok(end) => match write_log(alloc, &machine, &end.log) {
+            Ok(text) => Ok(text),
+            Err(_) => Err(MachineFault::Mem),
+        },
+        Err(RunFault::Mem) => Err(MachineFault::Mem),
+    }
+}
+
+/// Reads a machine file, runs the machine, and writes its log.
+fn run_file<R: Wait, S: ByteSource, K: ByteSink>(
+    rt: &R,
+    alloc: Global,
+    input: &mut S,
+    out: &mut K,
+) -> Ending
+    ensures { FileEnded
+        (record { left = S.left input.old; read_faults = S.faults input.old; out = K.written out.old; out_faults = K.faults out.old })
+        (record { left = S.left input.new; read_faults = S.faults input.new; out = K.written out.new; out_faults = K.faults out.new })
+        result }
+{
+    let bytes = match read_all(alloc, input, MOST_BYTES) {
+        Ok(bytes) => bytes,
+        Err(ReadStop::Fault) => return Ending::ReadFault,
+        Err(ReadStop::TooLong) => return Ending::TooLong,
+        Err(ReadStop::Mem) => return Ending::NoMemory,
+    };
+    let text = match log_of_bytes(rt, alloc, &bytes) {
+        Ok(text) => text,
+        Err(MachineFault::Refused) => return Ending::Refused,
+        Err(MachineFault::Mem) => return Ending::NoMemory,
+    };
+    match write_all(out, &text) {
+        Ok(()) => Ending::Ran,
+        Err(_) => Ending::WriteFault,
+    }
+}
+
+/// Does what the words say, and answers how it ended.
+fn do_words<R: Wait, S: ByteSource, K: ByteSink>(
+    rt: &R,
+    alloc: Global,
+    words: &[String],
+    input: &mut S,
+    out: &mut K,
+) -> Ending
+    ensures { Ended (map string_bytes words.now)
+        (record { left = S.left input.old; read_faults = S.faults input.old; out = K.written out.old; out_faults = K.faults out.old })
+        (record { left = S.left input.new; read_faults = S.faults input.new; out = K.written out.new; out_faults = K.faults out.new })
+        result }
+{
+    if is_form(words) {
+        run_file(rt, alloc, input, out)
+    } else {
+        Ending::NoForm
+    }
+}
+
+/// Says a text on a stream, as far as the stream takes it.
+fn say<K: ByteSink>(err: &mut K, text: &str)
+    ensures { Says (K.written err.old) (K.written err.new) (K.faults err.old) (K.faults err.new) text.now }
+{
+    let _ = write_all(err, text.as_bytes());
+}
+
+/// The whole program: `run --workers 1` reads a machine file from `input`, runs the machine, and
+/// writes its log to `out`. The first word is the program's name. The answer is the status, and
+/// `err` is told what it means:
+///
+/// - 0: the log was written.
+/// - 2: exactly where the words are others; nothing is read or written.
+/// - 3: exactly where the input has more than 16,777,216 bytes or spells no machine that may be
+///   run today.
+/// - 4: a read failed. 5: a write failed, after a front of the log's text.
+/// - 8: there was no memory.
+///
+/// At 2, 3, 4 and 8 nothing is written to `out`.
+pub fn run_words<R: Wait, S: ByteSource, K: ByteSink>(
+    rt: &R,
+    alloc: Global,
+    words: &[String],
+    input: &mut S,
+    out: &mut K,
+    err: &mut K,
+) -> u8
+    ensures { (ending : Ending) × (result ≡ status_of ending)
+        × Ended (map string_bytes words.now)
+            (record { left = S.left input.old; read_faults = S.faults input.old; out = K.written out.old; out_faults = K.faults out.old })
+            (record { left = S.left input.new; read_faults = S.faults input.new; out = K.written out.new; out_faults = K.faults out.new })
+            ending
+        × Says (K.written err.old) (K.written err.new) (K.faults err.old) (K.faults err.new) (text_of ending) }
+{
+    let ending = do_words(rt, alloc, words, input, out);
+    say(err, ending.text());
+    ending.status()
+}
