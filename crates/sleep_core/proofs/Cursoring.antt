@@ -1,6 +1,5 @@
 -- Which device a walk takes next, from how many it has passed.
-use Rattle.std.proofs.Common.{◌≡◌, ◌<◌, ◌≤◌, ◌+◌, ◌-◌, ◌∙◌, ℕ, zero, suc, List, [], ◌∷◌, length, drop, get_or, Option, Some, None, refl, sym, ap, subst, arith}
-use Rattle.std.specs.List.{range_with_len}
+use Rattle.std.proofs.Common.{◌≡◌, ◌<◌, ◌≤◌, ◌-◌, ◌∙◌, ℕ, suc, List, [], ◌∷◌, length, get_or, Some, None, sym, ap, arith}
 use Rattle.std.proofs.Math.Seq.{drop-cons}
 use Rattle.std.proofs.lemmas.List.FromFn.{length-range_with_len, get_or-range_with_len}
 use Rattle.sleep_model.specs.declared.entry.Entry.{Entry}
@@ -9,9 +8,9 @@ use Rattle.sleep_model.specs.Accepted.{IsOneWriter}
 use Rattle.sleep_model.specs.Legal.{JournalPart}
 use Rattle.sleep_model.specs.Order.{order}
 use Rattle.sleep_model.specs.Walk.{is_among, first_where, settled, suspended, next_down, next_up}
-use Rattle.sleep_model.proofs.Tails.{IsTail, tail_fits, before_tail, down_none, down_some, up_some}
+use Rattle.sleep_model.proofs.Tails.{IsTail, tail_fits, down_none, down_some, up_some}
 use Rattle.sleep_model.proofs.Walks.{first_suspended_none}
-use Rattle.sleep_model.proofs.Walking.{Facts, order_different, facts_of}
+use Rattle.sleep_model.proofs.Walking.{order_different, facts_of}
 
 pub order_len : (m : Machine) → length (order m) ≡ length m.devices
 order_len m = length-range_with_len 0 (length m.devices)

@@ -2,8 +2,6 @@
 use Rattle.std.proofs.Common.{List, [], ◌∷◌, Option, Some, None}
 use Rattle.sleep_model.specs.declared.word.EventNow.{EventNow}
 use Rattle.sleep_core.specs.Looks.{GainsLook, IsNewest}
-use Rattle.std.proofs.Common.{ap}
-use Rattle.std.proofs.lemmas.Grind.{common_steps}
 
 pub newest_from_gain : (word : EventNow) (old new : Option (List EventNow)) → GainsLook word old new → IsNewest word new
 newest_from_gain word None None h = tt

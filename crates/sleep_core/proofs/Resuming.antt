@@ -1,5 +1,5 @@
 -- A device that resumes was the last that suspended.
-use Rattle.std.proofs.Common.{◌≡◌, ◌+◌, ℕ, Bool, true, false, List, [], ◌∷◌, length, Option, Some, None, refl, sym, subst, cond, slice_get, slice_index_or, not}
+use Rattle.std.proofs.Common.{◌≡◌, ℕ, Bool, true, false, List, [], ◌∷◌, length, Option, Some, None, refl, sym, subst, cond, slice_get, slice_index_or}
 use Rattle.sleep_base.specs.declared.errno.Errno.{Errno}
 use Rattle.sleep_base.specs.declared.errno.Errno.TheVariants.{EINVAL}
 use Rattle.sleep_model.specs.declared.entry.Actor.{Actor}
@@ -17,7 +17,6 @@ use Rattle.sleep_model.specs.declared.place.Row.{Row}
 use Rattle.sleep_model.specs.declared.place.Row.TheVariants as row
 use Rattle.sleep_model.specs.declared.place.Seat.{Seat}
 use Rattle.sleep_model.specs.declared.word.EventNow.{EventNow}
-use Rattle.sleep_model.specs.Word.{visible}
 use Rattle.sleep_model.specs.Accepted.{IsOneWriter}
 use Rattle.sleep_model.specs.Order.{order}
 use Rattle.sleep_model.specs.Guard.{pending}
@@ -25,7 +24,7 @@ use Rattle.sleep_model.specs.Legal.{JournalPart}
 use Rattle.sleep_model.specs.Path.{maker, row_of}
 use Rattle.sleep_model.specs.Seats.{seats, first_seat}
 use Rattle.sleep_model.specs.Scripts.{entry_steps}
-use Rattle.sleep_model.specs.Walk.{is_among, first_where, last_where, inside, error_of, settled, suspended, next_down}
+use Rattle.sleep_model.specs.Walk.{is_among, first_where, inside, error_of, settled, suspended, next_down}
 use Rattle.sleep_model.specs.Due.{due, seat_due, step_due, path_due, suspend_due, resume_due}
 use Rattle.sleep_model.proofs.Tails.{up_some}
 use Rattle.sleep_model.proofs.Walks.{AllDifferent, first_suspended_none}

@@ -1,7 +1,5 @@
 -- The places that an attempt reserved suffice for its entries.
-use Rattle.std.proofs.Common.{◌≡◌, ◌<◌, ◌≤◌, ◌+◌, ◌-◌, ◌*◌, ℕ, zero, suc, Bool, true, false, not, ◌==◌, ◌&&◌, List, [], ◌∷◌, length, ◌⊎◌, inl, inr, Option, Some, None, IfSome, refl, sym, ap, subst, cond, arith, slice_get, slice_index_or}
-use Rattle.std.proofs.lemmas.List.FromFn.{length-range_with_len}
-use Rattle.std.proofs.lemmas.Bool.Decides.{nat_tests}
+use Rattle.std.proofs.Common.{◌≡◌, ◌<◌, ◌≤◌, ◌+◌, ◌-◌, ◌*◌, ℕ, suc, Bool, true, false, not, List, [], ◌∷◌, length, ◌⊎◌, inl, inr, Option, Some, None, sym, ap, subst, cond, arith, slice_get, slice_index_or}
 use Rattle.sleep_base.specs.declared.errno.Errno.{Errno}
 use Rattle.sleep_base.specs.declared.errno.Errno.TheVariants.{EINVAL}
 use Rattle.sleep_model.specs.declared.entry.Actor.{Actor}
@@ -20,18 +18,18 @@ use Rattle.sleep_model.specs.declared.place.Row.{Row}
 use Rattle.sleep_model.specs.declared.place.Row.TheVariants as row
 use Rattle.sleep_model.specs.declared.place.Seat.{Seat}
 use Rattle.sleep_model.specs.declared.word.EventNow.{EventNow}
-use Rattle.sleep_model.specs.Word.{position, visible}
-use Rattle.sleep_model.specs.Accepted.{IsAccepted, IsOneWriter}
+use Rattle.sleep_model.specs.Word.{position}
+use Rattle.sleep_model.specs.Accepted.{IsOneWriter}
 use Rattle.sleep_model.specs.Order.{order}
 use Rattle.sleep_model.specs.Guard.{pending}
 use Rattle.sleep_model.specs.Path.{maker, row_of, row_after}
 use Rattle.sleep_model.specs.Seats.{seats, first_seat}
 use Rattle.sleep_model.specs.Scripts.{entry_steps}
 use Rattle.sleep_model.specs.Walk.{is_among, first_where, last_where, inside, inside_after, error_of, settled, settled_after, suspended, suspended_after}
-use Rattle.sleep_model.specs.Due.{due, script_due, seat_due, read_due, save_due, step_due, path_due, suspend_due, resume_due}
-use Rattle.sleep_model.proofs.Tails.{IsTail, tail_fits, down_none, down_some, up_some, without_first}
+use Rattle.sleep_model.specs.Due.{due, seat_due, step_due, path_due, suspend_due, resume_due}
+use Rattle.sleep_model.proofs.Tails.{tail_fits, down_none, down_some, up_some, without_first}
 use Rattle.sleep_model.proofs.Walks.{AllDifferent, first_suspended_none}
-use Rattle.sleep_model.proofs.Walking.{WalkFacts, Facts, InSuspend, AtRow, IsOneOf, order_different, ScriptCase, Nothing, OwnStep, OnPath, due_case, facts_of}
+use Rattle.sleep_model.proofs.Walking.{WalkFacts, Facts, AtRow, order_different, ScriptCase, Nothing, OwnStep, OnPath, due_case, facts_of}
 use Rattle.sleep_model.specs.Legal.{JournalPart}
 use Rattle.sleep_core.specs.Room.{needed, needed_at, places_for}
 

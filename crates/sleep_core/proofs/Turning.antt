@@ -1,24 +1,22 @@
 -- An entry that is due keeps what the core keeps.
-use Rattle.std.proofs.Common.{◌≡◌, ◌∙◌, ◌≤◌, ◌<◌, ◌+◌, ◌-◌, ◌^◌, ℕ, suc, Bool, true, false, List, [], ◌∷◌, length, Option, Some, None, refl, sym, ap, subst, arith}
+use Rattle.std.proofs.Common.{◌≡◌, ◌∙◌, ◌≤◌, ◌<◌, ◌+◌, ◌-◌, ◌^◌, ℕ, true, false, List, ◌∷◌, length, Option, Some, None, refl, sym, subst, arith}
 use Rattle.sleep_model.specs.declared.entry.Actor.{Actor}
-use Rattle.sleep_model.specs.declared.entry.Actor.TheVariants as actor
 use Rattle.sleep_model.specs.declared.entry.Entry.{Entry}
 use Rattle.sleep_model.specs.declared.entry.Kind.{Kind}
 use Rattle.sleep_model.specs.declared.entry.Kind.TheVariants as kind
 use Rattle.sleep_model.specs.declared.phase.Phase.TheVariants as phase
 use Rattle.sleep_model.specs.declared.machine.Machine.{Machine}
-use Rattle.sleep_model.specs.declared.place.Due.TheVariants.{Makes, Waits, Gone}
+use Rattle.sleep_model.specs.declared.place.Due.TheVariants.{Makes}
 use Rattle.sleep_model.specs.declared.place.Row.{Row}
 use Rattle.sleep_model.specs.declared.place.Row.TheVariants as row
 use Rattle.sleep_model.specs.declared.word.EventNow.{EventNow}
 use Rattle.sleep_model.specs.Accepted.{IsOneWriter}
-use Rattle.sleep_model.specs.Legal.{Part, JournalPart, JournalStep, part_of, OfJournal}
+use Rattle.sleep_model.specs.Legal.{JournalPart, JournalStep}
 use Rattle.sleep_model.specs.Numbers.{time_of, time_after}
 use Rattle.sleep_model.specs.Path.{maker, row_of, row_after, attempts, attempts_after}
 use Rattle.sleep_model.specs.Due.{due}
-use Rattle.sleep_model.proofs.Made
 use Rattle.sleep_model.proofs.Made.{Made, made, made_of_journal}
-use Rattle.sleep_model.proofs.Walking.{Facts, facts_of, AtRow}
+use Rattle.sleep_model.proofs.Walking.{facts_of, AtRow}
 use Rattle.sleep_model.specs.declared.entry.JournalEntry.{JournalEntry}
 use Rattle.sleep_model.specs.Word.{position}
 use Rattle.sleep_core.specs.CoreFields.{SleptEarly, IsCore}

@@ -1,5 +1,5 @@
 -- The walks as counts: how far each has come in the devices' order.
-use Rattle.std.specs.Prelude.{◌≡◌, ◌-◌, ℕ, List, [], ◌∷◌, length, drop}
+use Rattle.std.specs.Prelude.{◌≡◌, ℕ, List, [], ◌∷◌}
 use Rattle.sleep_model.specs.declared.entry.Kind.{Kind}
 use Rattle.sleep_model.specs.declared.entry.Kind.TheVariants as kind
 use Rattle.sleep_model.specs.declared.phase.Phase.TheVariants as phase
@@ -13,7 +13,3 @@ IsFirst d (x ∷ xs) = x ≡ d
 abbrev pub ResumesLast : Kind → List ℕ → Type 0
 ResumesLast (kind.Begin phase.Resume d) xs = IsFirst d xs
 ResumesLast _ xs = Unit {0}
-
--- the devices are the last ones of the order
-abbrev pub IsTail : List ℕ → List ℕ → Type 0
-IsTail xs order = drop (length order - length xs) order ≡ xs

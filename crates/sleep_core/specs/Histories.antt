@@ -1,16 +1,14 @@
 -- The history as contracts see it, and when an entry may be appended to it.
-use Rattle.std.specs.Prelude.{◌≡◌, ◌≤◌, ◌<◌, ◌+◌, ◌-◌, ◌^◌, ℕ, List, [], ◌∷◌, length, vec_len, slice_index_or, Option, Some, None}
-use Rattle.sleep_base.specs.declared.errno.Errno.{Errno}
+use Rattle.std.specs.Prelude.{◌<◌, ◌-◌, ◌^◌, ℕ, List, [], ◌∷◌, slice_index_or}
 use Rattle.sleep_model.specs.declared.entry.Actor.{Actor}
 use Rattle.sleep_model.specs.declared.entry.Actor.TheVariants.{Script}
 use Rattle.sleep_model.specs.declared.entry.Entry.{Entry}
-use Rattle.sleep_model.specs.declared.entry.Kind.{Kind}
 use Rattle.sleep_model.specs.declared.entry.JournalEntry.{JournalEntry}
 use Rattle.sleep_model.specs.declared.word.Stamp.{Stamp}
 use Rattle.sleep_model.specs.declared.place.Seat.{Seat}
 use Rattle.sleep_model.specs.Path.{attempts, attempts_after}
-use Rattle.sleep_model.specs.Walk.{settled, suspended}
-use Rattle.sleep_model.specs.Seats.{seats, first_seat}
+use Rattle.sleep_model.specs.Walk.{suspended}
+use Rattle.sleep_model.specs.Seats.{first_seat}
 use Rattle.sleep_core.specs.Places.{entries}
 use Rattle.sleep_core.specs.Cursors.{ResumesLast}
 

@@ -1,5 +1,5 @@
 -- What the history's fields are: each is a definition of the journal's entries.
-use Rattle.std.specs.Prelude.{◌≡◌, ◌≤◌, length}
+use Rattle.std.specs.Prelude.{◌≡◌, length}
 use Rattle.sleep_model.specs.Numbers.{time_of}
 use Rattle.sleep_model.specs.Guard.{in_force, forgotten}
 use Rattle.sleep_model.specs.Path.{attempts, maker, row_of, failure}

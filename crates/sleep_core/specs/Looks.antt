@@ -1,5 +1,5 @@
 -- What a look at the event word says, by what the looked-at object tells.
-use Rattle.std.specs.Prelude.{◌≡◌, ℕ, List, [], ◌∷◌, Option, Some, None}
+use Rattle.std.specs.Prelude.{◌≡◌, List, [], ◌∷◌, Option, Some, None}
 use Rattle.sleep_model.specs.declared.word.EventNow.{EventNow}
 
 -- the word is the one that is told, where one is

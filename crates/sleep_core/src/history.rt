@@ -44,6 +44,7 @@ impl History {
     ghost use Rattle.std.specs.Prelude.{◌≡◌, ◌≤◌, ◌<◌, ◌+◌, ◌-◌, ◌^◌, [], ◌∷◌, length, reverse, IsOk, OnOk, OnErr, IfOk, slice_index_or};
     ghost use Rattle.sleep_model.specs.Numbers.{time_of};
     ghost use Rattle.sleep_model.specs.Guard.{in_force, forgotten};
+    ghost use Rattle.sleep_model.specs.Legal.{all_exited};
     ghost use Rattle.sleep_model.specs.Path.{attempts, maker, row_of, failure};
     ghost use Rattle.sleep_model.specs.Walk.{inside, error_of, settled, suspended};
     ghost use Rattle.sleep_model.specs.Seats.{seats, first_seat};
@@ -210,6 +211,13 @@ impl History {
         ensures { result ≡ slice_index_or (seats self.now.scripts (entries self.now.past)) script first_seat }
     {
         self.seats[script as usize]
+    }
+
+    /// Whether every script has exited.
+    pub fn all_exited(&self) -> bool
+        ensures { result ≡ all_exited (seats self.now.scripts (entries self.now.past)) }
+    {
+        self.seats.iter().all(|seat| seat.exited)
     }
 
     /// How many places are reserved.

@@ -1,11 +1,7 @@
-ghost use Rattle.std.specs.Prelude.{◌≡◌, ℕ, ◌≤◌, ◌<◌, ◌+◌, ◌^◌, [], ◌∷◌, length, reverse, IfOk, IfErr, OnOk, OnErr, option_map, option_copied, slice_get};
-ghost use Rattle.sleep_model.specs.Word.{position};
-ghost use Rattle.sleep_model.specs.Accepted.{IsAccepted, IsWriter};
-ghost use Rattle.sleep_model.specs.Legal.{JournalPart, next_time, is_made};
-ghost use Rattle.sleep_model.specs.Numbers.{time_of};
+ghost use Rattle.std.specs.Prelude.{◌≡◌, ℕ, option_copied, slice_get};
+ghost use Rattle.sleep_model.specs.Accepted.{IsWriter};
 ghost use Rattle.sleep_model.specs.Scripts.{entry_steps};
 ghost use Rattle.sleep_model.specs.Due.{read_due, save_due};
-ghost use Rattle.sleep_core.specs.Places.{entries};
 
 use crate::events::{Events, look_from};
 use crate::history::History;
@@ -62,7 +58,6 @@ impl<'m> Model for Core<'m> {
 }
 
 /// The operation that a script is at.
-
 fn operation(script: &Script, done: usize) -> Option<&Op>
     requires { (n : ℕ) × IsWriter n script.now }
     ensures { option_copied result ≡ slice_get (entry_steps script.now) done }
@@ -100,23 +95,22 @@ fn save_due(now: EventNow, count: u32) -> Due
 }
 
 impl<'m> Core<'m> {
-    ghost use Rattle.std.specs.Prelude.{◌≡◌, ◌≤◌, ◌<◌, ◌+◌, ◌-◌, ◌^◌, [], None, reverse, IfOk, OnOk, OnErr, Option, slice_get, slice_index_or, option_copied, length};
+    ghost use Rattle.std.specs.Prelude.{◌≡◌, ◌≤◌, ◌<◌, ◌+◌, ◌-◌, ◌^◌, [], ◌&&◌, None, is_none, reverse, IfOk, OnOk, OnErr, Option, slice_get, slice_index_or, option_copied, length};
+    ghost use Rattle.sleep_model.specs.declared.place.Due.TheVariants.{Makes};
+    ghost use Rattle.sleep_model.specs.declared.word.EventNow.{EventNow};
     ghost use Rattle.sleep_model.specs.Accepted.{IsAccepted};
+    ghost use Rattle.sleep_model.specs.Due.{due, seat_due, step_due, path_due, suspend_due, resume_due, wake_due};
     ghost use Rattle.sleep_model.specs.Guard.{pending};
-    ghost use Rattle.sleep_model.specs.Path.{row_of};
+    ghost use Rattle.sleep_model.specs.Legal.{JournalPart, next_time, is_made, all_exited};
+    ghost use Rattle.sleep_model.specs.Numbers.{time_of};
+    ghost use Rattle.sleep_model.specs.Path.{maker, row_of};
+    ghost use Rattle.sleep_model.specs.Seats.{seats, first_seat};
     ghost use Rattle.sleep_model.specs.Walk.{inside, error_of, next_down, next_up};
     ghost use Rattle.sleep_model.specs.Word.{position};
-    ghost use Rattle.sleep_model.specs.Numbers.{time_of};
-    ghost use Rattle.sleep_model.specs.Seats.{seats, first_seat};
-    ghost use Rattle.sleep_model.specs.Due.{due, seat_due, step_due, path_due, suspend_due, resume_due, wake_due};
-    ghost use Rattle.sleep_core.specs.Places.{entries};
     ghost use Rattle.sleep_core.specs.Cores.{IsActor, with_entry, calls_due, AfterTurn, next_stamp, jump_entry};
     ghost use Rattle.sleep_core.specs.Histories.{last_stamp};
     ghost use Rattle.sleep_core.specs.Looks.{IsTold, IsNewest};
-    ghost use Rattle.sleep_model.specs.declared.word.EventNow.{EventNow};
-    ghost use Rattle.sleep_model.specs.Legal.{JournalPart, next_time, is_made};
-    ghost use Rattle.sleep_model.specs.Path.{maker};
-    ghost use Rattle.sleep_model.specs.declared.place.Due.TheVariants.{Makes};
+    ghost use Rattle.sleep_core.specs.Places.{entries};
 
     /// The core of a machine, with nothing done yet. `Mem` where there is no memory.
     pub fn new(alloc: Global, machine: &'m Machine) -> Result<Core<'m>, Mem>
@@ -428,6 +422,14 @@ impl<'m> Core<'m> {
         ensures small { result ≤ 2 ^ 63 }
     {
         self.history.time()
+    }
+
+    /// Whether every script has exited and no attempt is open.
+    pub fn whole(&self) -> bool
+        ensures { result ≡ (all_exited (seats (length self.now.machine.actors) (entries self.now.past))
+            && is_none (maker (entries self.now.past))) }
+    {
+        self.history.all_exited() && self.history.maker().is_none()
     }
 
     /// The journal, the oldest entry first.

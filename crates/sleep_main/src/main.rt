@@ -1,10 +1,36 @@
-//! Runs a machine file through system sleep and prints the log of every step.
+//! Runs the machine of a machine file through system sleep and prints the log of every step.
 #![tactic(auto)]
 
 mod ending;
 mod run;
 mod top;
 
-fn main(rt: HostRuntime) {
-    let _ = rt;
+use ending::Ending;
+use sleep_base::{StdSink, StdSource, write_all};
+use std::alloc::{AllocError, Global};
+use std::env;
+use std::process::ExitCode;
+use top::run_words;
+
+/// The words of the command line. Words that are no text count as none.
+fn words_of(rt: &HostRuntime, alloc: Global) -> Result<Vec<String>, AllocError> {
+    match env::args(rt) {
+        Ok(args) => args.collect(alloc),
+        Err(_) => Ok(Vec::new(alloc)),
+    }
+}
+
+fn main(rt: HostRuntime) -> ExitCode {
+    let alloc = rt.alloc();
+    let mut input = StdSource::input(&rt);
+    let mut out = StdSink::output(&rt);
+    let mut err = StdSink::error(&rt);
+    let status = match words_of(&rt, alloc) {
+        Ok(words) => run_words(&rt, alloc, &words, &mut input, &mut out, &mut err),
+        Err(_) => {
+            let _ = write_all(&mut err, Ending::NoMemory.text().as_bytes());
+            Ending::NoMemory.status()
+        }
+    };
+    ExitCode::from(status)
 }
