@@ -26,8 +26,8 @@ use Rattle.sleep_main.specs.Runs.{Runs}
 pub jump_of : (core : CoreState) (word : EventNow) (floor : Stamp) → Runs core.machine core word floor → (why : Why) → due core.machine (entries core.past) (actor.Script 0) word ≡ Waits why → (at : ℕ) × MayJump core.machine (entries core.past) at
 jump_of core word floor r why e =
     may_jump core.machine r.accepted (entries core.past) r.legal.journal why
-      (subst (λ (w : EventNow). due core.machine (entries core.past) (actor.Script 0) w ≡ Waits why) (sym r.word_is) e)
-      (ap (λ (w : EventNow). w.inpr) r.word_is ∙ r.quiet)
+    (subst (λ (w : EventNow). due core.machine (entries core.past) (actor.Script 0) w ≡ Waits why) (sym r.word_is) e)
+    (ap (λ (w : EventNow). w.inpr) r.word_is ∙ r.quiet)
 
 -- the jump is to the pending moment
 pub jump_to : (m : Machine) (past : List Entry) (at to : ℕ) → MayJump m past at → Some to ≡ next_time m past → to ≡ at
@@ -77,9 +77,10 @@ round_did core new word after seen floor stamp turn k attempt r same kept did h 
 pub round_done : (core new : CoreState) (word after seen : EventNow) (floor : Stamp) (turn : CoreTurn) → Runs core.machine core word floor → seen ≡ word → Some after ≡ Some word → turn ≡ Done → AfterTurn core new (actor.Script 0) seen floor (Ok turn) → Runs core.machine new after floor × (is_finished core.machine (entries new.past) ≡ true)
 round_done core new word after seen floor turn r same kept done h =
     let t = subst (λ (x : CoreTurn). AfterTurn core new (actor.Script 0) seen floor (Ok x)) done h in
-    let w : after ≡ word = cc in
-    (subst (λ (x : EventNow). Runs core.machine new x floor) (sym w) (subst (λ (c : CoreState). Runs core.machine c word floor) (sym t.1) r),
-      subst (λ (c : CoreState). is_finished core.machine (entries c.past) ≡ true) (sym t.1) (runs_over core word seen floor r same t.0))
+    let w : after ≡ word = cc in (
+      subst (λ (x : EventNow). Runs core.machine new x floor) (sym w) (subst (λ (c : CoreState). Runs core.machine c word floor) (sym t.1) r),
+      subst (λ (c : CoreState). is_finished core.machine (entries c.past) ≡ true) (sym t.1) (runs_over core word seen floor r same t.0),
+    )
 
 -- a run of a machine is one of its core's machine, and the other way round
 pub runs_own : (m : Machine) (core : CoreState) (word : EventNow) (floor : Stamp) → Runs m core word floor → Runs core.machine core word floor

@@ -11,7 +11,9 @@ ghost use Rattle.sleep_main.specs.Runs.{Runs, AfterRound, IsRun};
 
 use sleep_base::Mem;
 use sleep_core::{Core, CoreFault, CoreTurn, Events, PlainEvents};
-use sleep_model::{Actor, Entry, EntryList, EventNow, JournalEntry, ListOf, Log, LogEnd, Machine, Stamp, Stats};
+use sleep_model::{
+    Actor, Entry, EntryList, EventNow, JournalEntry, ListOf, Log, LogEnd, Machine, Stamp, Stats,
+};
 use std::alloc::{AllocError, Global};
 use std::sync::Wait;
 

@@ -127,9 +127,9 @@ pub fn run_words<R: Wait, S: ByteSource, K: ByteSink>(
 ) -> u8
     ensures { (ending : Ending) × (result ≡ status_of ending)
         × Ended (map string_bytes words.now)
-            (record { left = S.left input.old; read_faults = S.faults input.old; out = K.written out.old; out_faults = K.faults out.old })
-            (record { left = S.left input.new; read_faults = S.faults input.new; out = K.written out.new; out_faults = K.faults out.new })
-            ending
+        (record { left = S.left input.old; read_faults = S.faults input.old; out = K.written out.old; out_faults = K.faults out.old })
+        (record { left = S.left input.new; read_faults = S.faults input.new; out = K.written out.new; out_faults = K.faults out.new })
+        ending
         × Says (K.written err.old) (K.written err.new) (K.faults err.old) (K.faults err.new) (text_of ending) }
 {
     let ending = do_words(rt, alloc, words, input, out);

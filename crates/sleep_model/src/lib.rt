@@ -9,6 +9,8 @@ mod machine;
 mod name;
 mod phase;
 mod place;
+#[cfg(test)]
+mod tests;
 mod word;
 
 pub use entry::{

@@ -1,0 +1,225 @@
+use crate::top::run_words;
+use sleep_base::{MemSink, MemSource};
+use std::alloc::{AllocError, Global};
+use std::process::Abort;
+use std::sync::Wait;
+use std::test::Fail;
+
+/// A parent and its child, one source, and a task that reads the count, saves it and writes mem.
+const SMALL: &str =
+    r#"{"version": 1, "devices": [{"name": "p"}, {"name": "c", "parent": "p"}], "sources": ["lid"], "actors": [{"name": "w", "kind": "user", "script": [{"op": "read"}, {"op": "save"}, {"op": "state", "text": "mem"}]}]}"#;
+
+/// What the program writes for it.
+const SMALL_LOG: &str = "\
+0 0/0/0 task:w read 0\n\
+0 0/0/0 task:w save 0 ok\n\
+0 0/0/0 task:w attempt 1 guarded 0\n\
+0 0/0/0 task:w begin suspend c\n\
+0 0/0/0 task:w end suspend c 0\n\
+0 0/0/0 task:w begin suspend p\n\
+0 0/0/0 task:w end suspend p 0\n\
+0 0/0/0 task:w done suspend 0\n\
+0 0/0/0 task:w enter\n\
+1000 0/0/0 time jump\n\
+1000 0/0/0 task:w wake alarm\n\
+1000 0/0/0 task:w begin resume p\n\
+1000 0/0/0 task:w end resume p 0\n\
+1000 0/0/0 task:w begin resume c\n\
+1000 0/0/0 task:w end resume c 0\n\
+1000 0/0/0 task:w done resume 0\n\
+1000 0/0/0 task:w clear\n\
+1000 0/0/0 task:w over 1 0\n\
+1000 0/0/0 task:w exit\n\
+source lid 0 0 0 0 0 0 0\n\
+source autosleep 0 0 0 0 0 0 0\n\
+finished\n";
+
+/// The words of the one form.
+const RUN: [&str; 4] = ["sleep", "run", "--workers", "1"];
+
+/// The most bytes that a machine file has.
+const MOST_BYTES: usize = 16_777_216;
+
+/// What a call of the program gave.
+#[derive(Drop)]
+struct Outcome {
+    status: u8,
+    out: Vec<u8>,
+    err: Vec<u8>,
+    left: usize,
+}
+
+/// How the streams behave: bytes a call, and the calls that fail.
+#[derive(Clone, Copy)]
+struct Streams<'a> {
+    read_chunk: usize,
+    read_fails: &'a [u64],
+    write_chunk: usize,
+    write_fails: &'a [u64],
+}
+
+const GOOD: Streams<'static> = Streams {
+    read_chunk: 4096,
+    read_fails: &[],
+    write_chunk: 4096,
+    write_fails: &[],
+};
+
+fn texts(alloc: Global, words: &[&str]) -> Result<Vec<String>, AllocError> {
+    let mut texts = Vec::new(alloc);
+    for word in words {
+        texts.push(String::from_str(alloc, word)?)?;
+    }
+    Ok(texts)
+}
+
+/// Runs the program over memory.
+fn given<R: Wait>(
+    rt: &R,
+    alloc: Global,
+    words: &[&str],
+    input: Vec<u8>,
+    streams: &Streams<'_>,
+) -> Result<Outcome, Fail> {
+    let words = texts(alloc, words)?;
+    let read_fails = streams.read_fails.to_vec(alloc)?;
+    let write_fails = streams.write_fails.to_vec(alloc)?;
+    let mut source = MemSource::new(input, streams.read_chunk.max(1), read_fails);
+    let mut out = MemSink::new(alloc, 1 << 20, streams.write_chunk.max(1), write_fails)?;
+    let mut err = MemSink::new(alloc, 4096, 4096, Vec::new(alloc))?;
+    let status = run_words(rt, alloc, &words, &mut source, &mut out, &mut err);
+    Ok(Outcome {
+        status,
+        out: out.bytes().to_vec(alloc)?,
+        err: err.bytes().to_vec(alloc)?,
+        left: source.left().len(),
+    })
+}
+
+/// Runs the program over a machine file, and compares all that it answers.
+fn expect<R: Wait + Abort>(
+    rt: &R,
+    alloc: Global,
+    machine: &str,
+    status: u8,
+    out: &str,
+    err: &str,
+) -> Result<(), Fail> {
+    let bytes = machine.as_bytes().to_vec(alloc)?;
+    let given = given(rt, alloc, &RUN, bytes, &GOOD)?;
+    assert_eq!(rt; given.status, status, "{machine}");
+    assert!(rt; given.out.as_slice() == out.as_bytes(), "{machine}");
+    assert!(rt; given.err.as_slice() == err.as_bytes(), "{machine}");
+    assert_eq!(rt; given.left, 0, "{machine}");
+    Ok(())
+}
+
+/// An attempt of a parent and its child: the child suspends first, the parent resumes first.
+#[test]
+fn a_small_machine_sleeps_and_wakes(rt: HostRuntime) -> Result<(), Fail> {
+    expect(&rt, rt.alloc(), SMALL, 0, SMALL_LOG, "")
+}
+
+/// What may not be used today, and what no machine file is.
+#[test]
+fn other_files_are_refused(rt: HostRuntime) -> Result<(), Fail> {
+    for file in [
+        r#"{"version": 1, "actors": [{"name": "w", "kind": "user", "script": [{"op": "sleep", "ms": 5}]}]}"#,
+        r#"not json"#,
+        r#"{"version":1}"#,
+        r#"{"version":1,"actors":[{"name":"w","kind":"user"},{"name":"v","kind":"user"}]}"#,
+        r#"{"version":1,"devices":[{"name":"a","parent":"b"},{"name":"b"}],"actors":[{"name":"w","kind":"user"}]}"#,
+        r#"{"version":1,"colour":"red","actors":[{"name":"w","kind":"user"}]}"#,
+    ] {
+        expect(&rt, rt.alloc(), file, 3, "", "machine: refused\n")?;
+    }
+    Ok(())
+}
+
+/// Words of no form: nothing is read.
+#[test]
+fn other_words_are_refused(rt: HostRuntime) -> Result<(), Fail> {
+    let forms: [&[&str]; 7] = [
+        &[],
+        &["sleep"],
+        &["sleep", "run"],
+        &["sleep", "run", "--workers", "2"],
+        &["sleep", "run", "--workers", "1", "1"],
+        &["sleep", "fly", "--workers", "1"],
+        &["sleep", "--help"],
+    ];
+    for words in forms {
+        let bytes = SMALL.as_bytes().to_vec(rt.alloc())?;
+        let count = bytes.len();
+        let given = given(&rt, rt.alloc(), words, bytes, &GOOD)?;
+        assert_eq!(rt; given.status, 2);
+        assert_eq!(rt; given.out.len(), 0);
+        assert!(rt; given.err.as_slice() == b"usage: run --workers 1\n".as_slice());
+        assert_eq!(rt; given.left, count);
+    }
+    Ok(())
+}
+
+/// One byte more than a machine file may have.
+#[test]
+fn too_long_an_input_is_refused(rt: HostRuntime) -> Result<(), Fail> {
+    let bytes = vec![in rt.alloc(); b' '; MOST_BYTES + 1]?;
+    let given = given(&rt, rt.alloc(), &RUN, bytes, &GOOD)?;
+    assert_eq!(rt; given.status, 3);
+    assert_eq!(rt; given.out.len(), 0);
+    assert!(rt; given.err.as_slice() == b"machine: longer than 16777216 bytes\n".as_slice());
+    Ok(())
+}
+
+/// A read that fails: nothing is written. The machine's file takes five reads, the one at its end
+/// included.
+#[test]
+fn a_failing_read_is_told(rt: HostRuntime) -> Result<(), Fail> {
+    for call in 1..=5u64 {
+        let streams = Streams {
+            read_chunk: 64,
+            read_fails: &[call],
+            write_chunk: 4096,
+            write_fails: &[],
+        };
+        let given = given(
+            &rt,
+            rt.alloc(),
+            &RUN,
+            SMALL.as_bytes().to_vec(rt.alloc())?,
+            &streams,
+        )?;
+        assert_eq!(rt; given.status, 4, "call {call}");
+        assert_eq!(rt; given.out.len(), 0);
+        assert!(rt; given.err.as_slice() == b"read fault\n".as_slice());
+    }
+    Ok(())
+}
+
+/// A write that fails: what came before it stands.
+#[test]
+fn a_failing_write_is_told(rt: HostRuntime) -> Result<(), Fail> {
+    for (call, front) in [(1u64, 0usize), (2, 100), (7, 600)] {
+        let streams = Streams {
+            read_chunk: 4096,
+            read_fails: &[],
+            write_chunk: 100,
+            write_fails: &[call],
+        };
+        let given = given(
+            &rt,
+            rt.alloc(),
+            &RUN,
+            SMALL.as_bytes().to_vec(rt.alloc())?,
+            &streams,
+        )?;
+        assert_eq!(rt; given.status, 5, "call {call}");
+        assert!(rt; front <= SMALL_LOG.len());
+        assert!(rt;
+            given.out.as_slice() == &SMALL_LOG.as_bytes()[..front],
+            "call {call}"
+        );
+        assert!(rt; given.err.as_slice() == b"write fault\n".as_slice());
+    }
+    Ok(())
+}
