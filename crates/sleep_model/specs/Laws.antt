@@ -50,6 +50,7 @@ test_part (kind.Skip p d cause) = Tests
 test_part (kind.Enter busy) = Tests
 test_part _ = Else
 
+-- whether the open attempt was disturbed, after an entry whose test found that
 abbrev pub disturbed_after : TestPart → Bool → Bool → Bool
 disturbed_after Opens busy before = false
 disturbed_after Tests busy before = busy || before
@@ -60,6 +61,7 @@ abbrev pub disturbed : List Entry → Bool
 disturbed [] = false
 disturbed (e ∷ past) = disturbed_after (test_part e.kind) (pending past e.now) (disturbed past)
 
+-- whether the open attempt has entered, after an entry
 abbrev pub entered_after : Kind → Bool → Bool
 entered_after (kind.Attempt n guarded) before = false
 entered_after (kind.Enter false) before = true
@@ -75,6 +77,7 @@ abbrev pub Enters : List Entry → Kind → Type 0
 Enters past (kind.Over n r) = disturbed past ≡ false → (entered past ≡ true) × (r ≡ None)
 Enters past _ = Unit {0}
 
+-- the count that guards the attempt, after an entry
 abbrev pub guard_after : Kind → Option ℕ → Option ℕ
 guard_after (kind.Attempt n guarded) before = guarded
 guard_after _ before = before
@@ -89,6 +92,7 @@ abbrev pub counted : Option WordKind → ℕ → ℕ
 counted None n = n
 counted (Some step) n = n + 1
 
+-- the steps since the last answered read, after an entry
 abbrev pub unread_after : Kind → Option ℕ → Option ℕ
 unread_after (kind.Read c) before = Some 0
 unread_after k before = option_map (counted (word_step k)) before
@@ -98,6 +102,7 @@ abbrev pub unread : List Entry → Option ℕ
 unread [] = None
 unread (e ∷ past) = unread_after e.kind (unread past)
 
+-- the steps since the read behind the last good save, after an entry
 abbrev pub unsaved_after : Kind → Option ℕ → ℕ → ℕ
 unsaved_after (kind.Saved c) unread before = unwrap_or unread 0
 unsaved_after k unread before = counted (word_step k) before

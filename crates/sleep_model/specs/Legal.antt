@@ -97,6 +97,7 @@ pub record JumpStep (m : Machine) (past : List Entry) (e : Entry) : Type 0 where
   pub goes_on : is_finished m past ≡ false
   pub least : next_time m past ≡ Some e.time
 
+-- an entry of a part carries the numbers of its place, and a jump stands where it may
 abbrev pub JointStep : Machine → List Entry → Entry → Part → Type 0
 JointStep m past e OfJournal = e.now ≡ numbers past
 JointStep m past e OfSource = e.now ≡ numbers past
