@@ -28,8 +28,10 @@ pub record IsCore (m : Machine) (h : Kept) : Type 0 where
   pub early : time_of (entries h.past) ≤ 2 ^ 63
   pub slept : SleptEarly (row_of (entries h.past))
 
+-- the core as contracts see it
 abbrev pub state : Inside → CoreState
 state c = record { machine = c.machine.now; past = c.history.past }
 
+-- what holds of a core between calls
 abbrev pub keeps : Inside → Type 0
 keeps c = IsCore c.machine.now c.history

@@ -9,9 +9,11 @@ use Rattle.sleep_core.specs.Places.{entries}
 use Rattle.sleep_core.specs.Histories.{Kept, last_stamp}
 use Rattle.sleep_core.specs.declared.history.History.TheInside.{Inside}
 
+-- the history as contracts see it
 abbrev pub kept : Inside → Kept
 kept h = record { scripts = length h.seats.items; past = h.journal.past; room = h.journal.room }
 
+-- each field is what its definition says of the entries
 pub record IsHistory (h : Inside) : Type 0 where
   pub last_is : h.last ≡ last_stamp h.journal.past
   pub time_is : h.time ≡ time_of (entries h.journal.past)
