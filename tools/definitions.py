@@ -1,0 +1,163 @@
+#!/usr/bin/env python3
+"""Writes docs/DEFINITIONS.md from the comment lines of the crates' specs/.
+
+usage: tools/definitions.py
+
+Ends with status 1, and names the definition, where one has no comment line.
+"""
+
+import pathlib
+import re
+import sys
+
+ROOT = pathlib.Path(__file__).resolve().parent.parent
+
+HEAD = """# Definitions
+
+What sleep is, in the words that contracts use. Each definition stands in a crate's `specs/`, on one
+screen, with one comment line. They speak of one list of entries, looking backward: `past` is the
+entries before a place, the newest first. The code keeps words, flags and counters instead, and the
+proofs say that both agree.
+
+The last column names the function or field of Linux 6.1 that a definition states; "own" means that
+the kernel has none.
+
+Where to begin: `IsLegalLog` says what a log is, `due` says which entry may stand next, `Laws` says
+what every legal log keeps, and `text` says how it is printed.
+
+`tools/definitions.py` writes this page.
+"""
+
+# What of the kernel a definition states, where it states something of its own.
+KERNEL = {
+    "position": "own",
+    "visible": "`pm_get_wakeup_count`, `split_counters`",
+    "word_step": "`wakeup_source_activate`, `wakeup_source_deactivate`",
+    "after_step": "the same",
+    "numbers": "`combined_event_count`",
+    "time_after": "own",
+    "time_of": "own: one virtual clock",
+    "CountPart": "`saved_count`, `events_check_enabled`",
+    "count_part": "`pm_save_wakeup_count`, `pm_wakeup_pending`",
+    "has_changed": "`pm_wakeup_pending`",
+    "count_pending": "`pm_wakeup_pending`",
+    "force_after": "`pm_save_wakeup_count`, `pm_wakeup_pending`",
+    "in_force": "`events_check_enabled`, `saved_count`",
+    "forgotten_after": "`pm_wakeup_clear`",
+    "forgotten": "`pm_abort_suspend`, `pm_wakeup_clear`",
+    "pending": "`pm_wakeup_pending`",
+    "order": "`dpm_list`, `device_pm_add`",
+    "is_parent": "`struct device`, `parent`",
+    "children_from": "`device_for_each_child`",
+    "below": "`dpm_wait_for_subordinate`",
+    "parent_of": "`struct device`, `parent`",
+    "above": "`dpm_wait_for_superior`",
+    "inside_after": "`dpm_run_callback`",
+    "inside": "`dpm_run_callback`",
+    "error_after": "`async_error`",
+    "error_of": "`async_error`",
+    "settled_after": "`dpm_suspend`",
+    "settled": "`dpm_suspended_list`",
+    "suspended_after": "`__device_suspend`, `device_resume`",
+    "suspended": "`power.is_suspended`",
+    "next_down": "`dpm_suspend`",
+    "next_up": "`dpm_resume`",
+    "attempts_after": "own",
+    "attempts": "own",
+    "maker_after": "`pm_suspend`",
+    "maker": "`system_transition_mutex`",
+    "row_after": "`enter_state`, `suspend_devices_and_enter`, `suspend_enter`",
+    "row_of": "the same",
+    "failure_after": "`suspend_enter`",
+    "failure": "`pm_suspend`",
+    "take_down": "`__device_suspend`",
+    "between_down": "`dpm_suspend`",
+    "suspend_due": "`dpm_suspend`",
+    "take_up": "`dpm_resume`",
+    "resume_due": "`dpm_resume`",
+    "wake_due": "`suspend_enter`, `pm_wakeup_pending`; the alarm is own",
+    "path_due": "`suspend_devices_and_enter`, `suspend_enter`",
+    "read_due": "`pm_get_wakeup_count`, `wakeup_count_show`",
+    "save_due": "`pm_save_wakeup_count`, `wakeup_count_store`",
+    "step_due": "`kernel/power/main.c`, `state_store`",
+    "ParentsEarlier": "`device_add`",
+    "is_state": "`state_store`",
+    "DependentsFirst": "`dpm_wait_for_subordinate`",
+    "SuppliersFirst": "`dpm_wait_for_superior`",
+    "Restored": "`dpm_resume`",
+    "Enters": "`suspend_enter`",
+    "SeesNothing": "`pm_save_wakeup_count`, `pm_wakeup_pending`",
+    "test_part": "`__device_suspend`, `suspend_enter`",
+    "stats_of": "`wakeup_stats.c`",
+    "no_calls": "`wakeup_stats.c`",
+    "number_of": "`errno-base.h`",
+    "name_of": "`errno-base.h`",
+}
+
+# A section: its crate, its title, what of the kernel it is about, and its modules.
+SECTIONS = [
+    ("sleep_model", "The event word", "`drivers/base/power/wakeup.c`", ["Word", "Numbers"]),
+    ("sleep_model", "The saved count and pending wakeups", "`drivers/base/power/wakeup.c`", ["Guard"]),
+    ("sleep_model", "The machine that a file may spell", "`drivers/base/core.c`", ["Accepted"]),
+    ("sleep_model", "Scripts", "own", ["Scripts", "Seats"]),
+    ("sleep_model", "The order of devices", "`drivers/base/power/main.c`", ["Order"]),
+    ("sleep_model", "The walk of a phase", "`drivers/base/power/main.c`", ["Walk"]),
+    ("sleep_model", "The path of an attempt", "`kernel/power/suspend.c`", ["Path"]),
+    ("sleep_model", "What is due", "`kernel/power/suspend.c`, `drivers/base/power/main.c`", ["Due"]),
+    ("sleep_model", "Legal logs", "own", ["Legal"]),
+    ("sleep_model", "The laws of sleep", "`drivers/base/power/main.c`, `kernel/power/suspend.c`", ["Laws"]),
+    ("sleep_model", "The text of a log", "own", ["NameBytes", "Text"]),
+    ("sleep_base", "The outside", "`include/uapi/asm-generic/errno-base.h`, for errors; the rest is own", ["Errno", "Faults", "Calls", "Streams", "Whole"]),
+    ("machine_file", "Accepted bytes", "own", ["Tree", "Look", "Rules", "Spelled", "Spells", "Gives"]),
+    ("sleep_core", "The core", "own", ["Places", "Histories", "HistoryFields", "Cursors", "Looks", "Room", "Cores", "CoreFields"]),
+    ("sleep_main", "A whole run", "own", ["Runs", "Endings"]),
+]
+
+DEFINITION = re.compile(r"(?:abbrev pub|pub record|pub data) (\w+)")
+CITED = re.compile(r" \((?:own: )?[^()]*(?:\.c|\.h|_|own)[^()]*\)")
+
+
+def sentence(comment):
+    """A comment line as a sentence of its own, without the kernel's names, which have a column."""
+    text = CITED.sub("", comment).replace("|", "\\|")
+    if not re.match(r"(d\b|a to z\b)", text):
+        text = text[0].upper() + text[1:]
+    return text if text.endswith(".") else text + "."
+
+
+def definitions(path):
+    """The names of a module's definitions, and the comment line of each."""
+    comment = None
+    for line in path.read_text().split("\n"):
+        found = DEFINITION.match(line)
+        if found:
+            if comment is None:
+                sys.exit(f"{path}: {found.group(1)} has no comment line")
+            yield found.group(1), comment
+        said = line.startswith("-- ") and not line.startswith("-- ----")
+        comment = line[3:] if said else None
+
+
+def section(crate, title, kernel, modules):
+    """The lines of a section."""
+    names = ", ".join(f"`{module}`" for module in modules)
+    rows = [row for module in modules for row in definitions(ROOT / "crates" / crate / "specs" / f"{module}.antt")]
+    stated = KERNEL if kernel != "own" else {}
+    wide = any(name in stated for name, _ in rows)
+    yield f"\n## {title}\n"
+    yield f"`crates/{crate}/specs`: {names}. Kernel: {kernel}.\n"
+    yield "| definition | what it says |" + (" Linux 6.1 |" if wide else "")
+    yield "|---|---|" + ("---|" if wide else "")
+    for name, comment in rows:
+        yield f"| `{name}` | {sentence(comment)} |" + (f" {stated.get(name, '')} |" if wide else "")
+
+
+def main():
+    lines = [HEAD.rstrip("\n")]
+    for crate, title, kernel, modules in SECTIONS:
+        lines += section(crate, title, kernel, modules)
+    (ROOT / "docs" / "DEFINITIONS.md").write_text("\n".join(lines) + "\n")
+
+
+if __name__ == "__main__":
+    main()
