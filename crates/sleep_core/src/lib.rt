@@ -5,6 +5,8 @@ mod events;
 mod history;
 mod journal;
 mod steps;
+#[cfg(test)]
+mod tests;
 mod turns;
 
 pub use events::{Events, PlainEvents};

@@ -1,0 +1,181 @@
+ghost use Rattle.std.specs.Prelude.{◌≡◌, ◌≤◌, ◌<◌, [], length, IfOk, OnOk};
+ghost use Rattle.sleep_model.specs.Accepted.{IsAccepted};
+ghost use Rattle.sleep_model.specs.Word.{position};
+ghost use Rattle.sleep_core.specs.Histories.{last_stamp};
+
+use crate::{Core, CoreTurn, Events, PlainEvents};
+use sleep_model::{
+    Actor, Device, DeviceFlags, EventNow, Kind, ListOf, Machine, Name, Op, Script, Stamp, Step,
+    TaskKind, Why,
+};
+use std::alloc::Global;
+use std::sync::Wait;
+use std::test::Fail;
+
+// The device p, its child c, and a task that reads, saves and sleeps.
+fn machine(alloc: Global) -> Result<Machine, Fail>
+    ensures { IfOk result (λ m. IsAccepted m) }
+{
+    let name = Name::of_bytes(b"p").ok_or("no name")?;
+    let flags = DeviceFlags::WAKEUP;
+    let text = ListOf::of_vec(Vec::from_slice(alloc, b"mem")?);
+    let op = Op::State {
+        text,
+        if_saved: false,
+    };
+    let parent = Device {
+        name,
+        parent: None,
+        flags,
+    };
+    let child = Device {
+        name,
+        parent: Some(0),
+        flags,
+    };
+    let read = Step {
+        op: Op::Read,
+        times: 1,
+    };
+    let save = Step {
+        op: Op::Save { count: None },
+        times: 1,
+    };
+    let state = Step { op, times: 1 };
+    let task = Script {
+        name,
+        kind: TaskKind::User,
+        repeat: 1,
+        steps: ListOf::of_vec(Vec::from_array(alloc, [read, save, state])?),
+    };
+    Ok(Machine {
+        alarm_ms: 1000,
+        cpus: 1,
+        auto_cycles: 16,
+        devices: ListOf::of_vec(Vec::from_array(alloc, [parent, child])?),
+        links: ListOf::of_vec(Vec::new(alloc)),
+        syscore: ListOf::of_vec(Vec::new(alloc)),
+        notifiers: ListOf::of_vec(Vec::new(alloc)),
+        sources: ListOf::of_vec(Vec::new(alloc)),
+        marks: ListOf::of_vec(Vec::new(alloc)),
+        actors: ListOf::of_vec(Vec::from_array(alloc, [task])?),
+        answers: ListOf::of_vec(Vec::new(alloc)),
+    })
+}
+
+const TASK: Actor = Actor::Script(0);
+
+// Turns of the task up to the first that makes no entry, which is answered with the last stamp.
+fn drive<R: Wait, E: Events>(
+    rt: &R,
+    core: &mut Core<'_>,
+    events: &mut E,
+    floor: Stamp,
+    most: u32,
+) -> Result<(Stamp, CoreTurn), Fail>
+    requires task { 0 < length core.old.machine.actors }
+    requires last { last_stamp core.old.past ≡ floor }
+    requires low { floor.pos ≤ E.floor events.old }
+    ensures machine { core.new.machine ≡ core.old.machine }
+    ensures last { IfOk result (λ r. last_stamp core.new.past ≡ r.0) }
+    ensures low { IfOk result (λ r. r.0.pos ≤ E.floor events.new) }
+{
+    if most == 0 {
+        return Err("too many turns".into());
+    }
+    let now = core.time();
+    match core.turn(rt, events, TASK, 0, floor, now)? {
+        CoreTurn::Did { stamp, .. } => drive(rt, core, events, stamp, most - 1),
+        turn => Ok((floor, turn)),
+    }
+}
+
+/// Every call once: the task sleeps, the alarm comes by a jump, and the journal holds its 18 entries
+/// and the jump.
+#[test]
+fn sleeps_till_the_alarm(rt: HostRuntime) -> Result<(), Fail> {
+    let alloc = rt.alloc();
+    let machine = machine(alloc)?;
+    let mut core = Core::new(alloc, &machine)?;
+    let mut events = PlainEvents::new();
+    let start = Stamp { pos: 0, tick: 0 };
+    let (asleep, turn) = drive(&rt, &mut core, &mut events, start, 10)?;
+    assert!(rt; matches!(turn, CoreTurn::NotYet(Why::Asleep)));
+    let word = events.look();
+    assert!(rt; !core.enabled(TASK, core.calls_due(TASK), word, core.time()));
+    let alarm = core.next_time().ok_or("no alarm")?;
+    assert_eq!(rt; (asleep.pos, asleep.tick, alarm), (0, 9, 1000));
+    assert!(rt; core.time() < alarm);
+    let awake = core.jump(word, alarm, asleep)?;
+    assert!(rt; core.enabled(TASK, core.calls_due(TASK), word, core.time()));
+    assert!(rt; !core.whole());
+    let (_, turn) = drive(&rt, &mut core, &mut events, awake, 10)?;
+    assert!(rt; matches!(turn, CoreTurn::Done));
+    assert!(rt; core.whole());
+    assert_eq!(rt; core.into_journal().len(), 19);
+    Ok(())
+}
+
+// A word whose one event ends after so many looks.
+#[derive(Drop)]
+struct Passing {
+    left: u32,
+    now: EventNow,
+}
+
+impl Events for Passing {
+    ghost use Rattle.std.specs.Prelude.{None};
+
+    ghost tells = { λ _. None };
+
+    ghost looked = { λ _. None };
+
+    ghost floor = { λ e. position e.now };
+
+    ghost Root = { Unit {0} };
+
+    ghost root = { λ _. tt };
+
+    fn look(&mut self) -> EventNow {
+        if self.left > 0 {
+            self.left -= 1;
+        } else if self.now.inpr > 0 && self.now.count < u32::MAX {
+            self.now.inpr -= 1;
+            self.now.count += 1;
+        }
+        self.now
+    }
+}
+
+/// A read says once that it waits, and answers when the event in progress has ended.
+#[test]
+fn read_waits_for_an_event(rt: HostRuntime) -> Result<(), Fail> {
+    let alloc = rt.alloc();
+    let machine = machine(alloc)?;
+    let mut core = Core::new(alloc, &machine)?;
+    let now = EventNow {
+        inpr: 1,
+        count: 0,
+        hard: 0,
+    };
+    let mut events = Passing { left: 2, now };
+    let start = Stamp { pos: 0, tick: 0 };
+    let CoreTurn::Did { stamp, kind, .. } = core.turn(&rt, &mut events, TASK, 0, start, 0)? else {
+        return Err("no entry".into());
+    };
+    assert!(rt; matches!(kind, Kind::ReadWait));
+    let turn = core.turn(&rt, &mut events, TASK, 0, stamp, 0)?;
+    assert!(rt; matches!(turn, CoreTurn::NotYet(Why::InProgress)));
+    let turn = core.turn(&rt, &mut events, TASK, 0, stamp, 0)?;
+    assert!(rt;
+        matches!(
+            turn,
+            CoreTurn::Did {
+                kind: Kind::Read(1),
+                attempt: 0,
+                ..
+            }
+        )
+    );
+    Ok(())
+}
