@@ -24,16 +24,17 @@ pub enum CoreTurn {
         kind: Kind,
         attempt: u32,
     },
-    /// The actor is not enabled.
+    /// The actor waits, and for what.
     NotYet(Why),
-    /// The actor has exited.
+    /// Nothing is due of the actor any more: it has exited.
     Done,
 }
 
 /// Why a turn was refused.
 #[derive(Clone, Copy, Debug, PartialEq, Eq)]
 pub enum CoreFault {
-    /// There was no memory for the journal. It never comes inside an attempt.
+    /// There was no memory for the journal, or no number for one more attempt. It never comes
+    /// inside an attempt.
     Mem,
 }
 
@@ -326,8 +327,9 @@ impl<'m> Core<'m> {
 
     /// One turn of an actor: looks at the word until it is at least the floor's, decides, and makes
     /// at most one entry. `calls` is the number of source calls that the actor has made, `now` the
-    /// time in ms. `NotYet` exactly where the actor is not enabled, `Done` exactly where it has
-    /// exited. `Mem` where there is no memory, never inside an attempt.
+    /// time in ms. `NotYet` exactly where the actor waits, `Done` exactly where nothing is due of it.
+    /// `Mem` where there is no memory, or no number for one more attempt, and never inside an
+    /// attempt; nothing has changed then.
     pub fn turn<R: Wait, E: Events>(
         &mut self,
         rt: &R,
@@ -352,11 +354,13 @@ impl<'m> Core<'m> {
         let _ = (calls, now);
         let word = look_from(rt, events, floor.pos);
         let answer = self.step(rt, who, word, floor);
+        // A look at the field makes the invariant known here: the journal is legal.
         let _ = &self.history;
         answer
     }
 
-    /// Time jumps to `to` ms, as seen at that word. `Mem` where there is no memory; nothing has
+    /// Time jumps to `to` ms, later than now, as seen at a word that was looked at. That the moment is
+    /// the next pending one is for the caller to see to. `Mem` where there is no memory; nothing has
     /// changed then.
     pub fn jump(&mut self, seen: EventNow, to: u64, floor: Stamp) -> Result<Stamp, Mem>
         requires floor { floor.pos ≤ position seen }
