@@ -1,5 +1,5 @@
 -- A round keeps what a run keeps.
-use Rattle.std.proofs.Common.{◌≡◌, ◌∙◌, ◌≤◌, ◌<◌, ◌+◌, ℕ, Bool, true, false, List, [], ◌∷◌, Option, Some, None, Ok, refl, sym, ap, subst, arith}
+use Rattle.std.proofs.Common.{◌≡◌, ◌∙◌, ℕ, true, List, [], Some, Ok, refl, sym, ap, subst, arith}
 use Rattle.sleep_model.specs.declared.entry.Actor.TheVariants as actor
 use Rattle.sleep_model.specs.declared.entry.Entry.{Entry}
 use Rattle.sleep_model.specs.declared.entry.JournalEntry.{JournalEntry}
@@ -12,7 +12,7 @@ use Rattle.sleep_model.specs.declared.word.Stamp.{Stamp}
 use Rattle.sleep_model.specs.Accepted.{IsAccepted}
 use Rattle.sleep_model.specs.Due.{due}
 use Rattle.sleep_model.specs.Legal.{IsLegal, is_finished, next_time}
-use Rattle.sleep_model.specs.Numbers.{numbers, time_of}
+use Rattle.sleep_model.specs.Numbers.{numbers}
 use Rattle.sleep_model.specs.Word.{position}
 use Rattle.sleep_model.proofs.Growing.{MayJump, may_jump, entry_legal, entry_quiet, jump_legal, finished_of}
 use Rattle.sleep_core.specs.declared.turns.CoreTurn.{CoreTurn}
@@ -20,7 +20,7 @@ use Rattle.sleep_core.specs.declared.turns.CoreTurn.TheVariants.{Did, Done}
 use Rattle.sleep_core.specs.Cores.{CoreState, AfterTurn, with_entry, made_entry, jump_entry, next_stamp}
 use Rattle.sleep_core.specs.Histories.{last_stamp}
 use Rattle.sleep_core.specs.Places.{entries}
-use Rattle.sleep_main.specs.Runs.{Runs}
+use Rattle.sleep_main.specs.Runs.{Runs, MadeOne}
 
 -- where the writer waits, time may jump
 pub jump_of : (core : CoreState) (word : EventNow) (floor : Stamp) → Runs core.machine core word floor → (why : Why) → due core.machine (entries core.past) (actor.Script 0) word ≡ Waits why → (at : ℕ) × MayJump core.machine (entries core.past) at
@@ -66,12 +66,14 @@ pub runs_over : (core : CoreState) (word seen : EventNow) (floor : Stamp) → Ru
 runs_over core word seen floor r same e =
     finished_of core.machine r.accepted (entries core.past) r.legal.journal (subst (λ (w : EventNow). due core.machine (entries core.past) (actor.Script 0) w ≡ Gone) (same ∙ sym r.word_is) e)
 
--- after the writer's entry the run goes on
-pub round_did : (core new : CoreState) (word after seen : EventNow) (floor stamp : Stamp) (turn : CoreTurn) (k : Kind) (attempt : ℕ) → Runs core.machine core word floor → seen ≡ word → Some after ≡ Some word → turn ≡ Did stamp k attempt → AfterTurn core new (actor.Script 0) seen floor (Ok turn) → Runs core.machine new after stamp
+-- after the writer's entry the run goes on, with one entry more
+pub round_did : (core new : CoreState) (word after seen : EventNow) (floor stamp : Stamp) (turn : CoreTurn) (k : Kind) (attempt : ℕ) → Runs core.machine core word floor → seen ≡ word → Some after ≡ Some word → turn ≡ Did stamp k attempt → AfterTurn core new (actor.Script 0) seen floor (Ok turn) → Runs core.machine new after stamp × MadeOne core new
 round_did core new word after seen floor stamp turn k attempt r same kept did h =
     let t = subst (λ (x : CoreTurn). AfterTurn core new (actor.Script 0) seen floor (Ok x)) did h in
-    let w : after ≡ word = cc in
-    subst (λ (x : EventNow). Runs core.machine new x stamp) (sym w) (runs_turn core new word seen floor stamp k r same t.0 t.1 t.2)
+    let w : after ≡ word = cc in (
+      subst (λ (x : EventNow). Runs core.machine new x stamp) (sym w) (runs_turn core new word seen floor stamp k r same t.0 t.1 t.2),
+      subst (λ (c : CoreState). MadeOne core c) (sym t.1) refl,
+    )
 
 -- where the writer is through, the run is over
 pub round_done : (core new : CoreState) (word after seen : EventNow) (floor : Stamp) (turn : CoreTurn) → Runs core.machine core word floor → seen ≡ word → Some after ≡ Some word → turn ≡ Done → AfterTurn core new (actor.Script 0) seen floor (Ok turn) → Runs core.machine new after floor × (is_finished core.machine (entries new.past) ≡ true)

@@ -1,5 +1,5 @@
 -- A run of a machine, as far as it has come.
-use Rattle.std.specs.Prelude.{◌≡◌, ◌≤◌, ℕ, true, List, reverse, Option, Some, None, Result, Ok, Err}
+use Rattle.std.specs.Prelude.{◌≡◌, ◌≤◌, suc, true, length, reverse, Option, Some, None, Result, Ok, Err}
 use Rattle.sleep_model.specs.declared.log.Log.{Log}
 use Rattle.sleep_model.specs.declared.machine.Machine.{Machine}
 use Rattle.sleep_model.specs.declared.word.EventNow.{EventNow}
@@ -24,11 +24,15 @@ pub record Runs (m : Machine) (core : CoreState) (word : EventNow) (floor : Stam
   pub floor_is : last_stamp core.past ≡ floor
   pub low : floor.pos ≤ position word
 
--- a round goes on from a new floor, or ends where the run is finished
-abbrev pub AfterRound : Machine → CoreState → EventNow → Stamp → Result (Option Stamp) RunFault → Type 0
-AfterRound m core word floor (Ok (Some stamp)) = Runs m core word stamp
-AfterRound m core word floor (Ok None) = Runs m core word floor × (is_finished m (entries core.past) ≡ true)
-AfterRound m core word floor (Err fault) = Unit {0}
+-- one entry was made since
+abbrev pub MadeOne : CoreState → CoreState → Type 0
+MadeOne old new = length new.past ≡ suc (length old.past)
+
+-- a round made one entry and goes on from its stamp, or ends where the run is finished
+abbrev pub AfterRound : Machine → CoreState → CoreState → EventNow → Stamp → Result (Option Stamp) RunFault → Type 0
+AfterRound m old new word floor (Ok (Some stamp)) = Runs m new word stamp × MadeOne old new
+AfterRound m old new word floor (Ok None) = Runs m new word floor × (is_finished m (entries new.past) ≡ true)
+AfterRound m old new word floor (Err fault) = Unit {0}
 
 -- the log of a whole run: legal and finished, and so the laws hold of it
 pub record IsRun (m : Machine) (log : Log) : Type 0 where

@@ -7,7 +7,7 @@ ghost use Rattle.sleep_model.specs.Accepted.{IsAccepted};
 ghost use Rattle.sleep_model.specs.Due.{due};
 ghost use Rattle.sleep_model.specs.Legal.{IsLegal, is_finished, stats_of};
 ghost use Rattle.sleep_core.specs.Places.{entries};
-ghost use Rattle.sleep_main.specs.Runs.{Runs, AfterRound, IsRun};
+ghost use Rattle.sleep_main.specs.Runs.{Runs, MadeOne, AfterRound, IsRun};
 
 use sleep_base::Mem;
 use sleep_core::{Core, CoreFault, CoreTurn, Events, PlainEvents};
@@ -54,6 +54,7 @@ fn pass_time<R: Wait>(
     requires runs { Runs core.old.machine core.old seen floor }
     requires waits { (why : Why) × (due core.old.machine (entries core.old.past) (Script 0) seen ≡ Waits why) }
     ensures runs { IfOk result (λ stamp. Runs core.old.machine core.new seen stamp) }
+    ensures made { IfOk result (λ stamp. MadeOne core.old core.new) }
 {
     match core.next_time() {
         Some(to) => {
@@ -75,7 +76,7 @@ fn round<R: Wait>(
     floor: Stamp,
 ) -> Result<Option<Stamp>, RunFault>
     requires { Runs core.old.machine core.old events.old floor }
-    ensures after { AfterRound core.old.machine core.new events.new floor result }
+    ensures after { AfterRound core.old.machine core.old core.new events.new floor result }
 {
     let now = core.time();
     match core.turn(rt, events, Actor::Script(0), 0, floor, now) {

@@ -1,4 +1,4 @@
-use Rattle.std.proofs.Common.{◌≡◌, ◌∙◌, ◌++◌, List, ℕ, refl, sym, subst, Err}
+use Rattle.std.proofs.Common.{◌∙◌, List, ℕ, refl, sym, subst, Err}
 use Rattle.sleep_model.specs.declared.machine.Machine.{Machine}
 use Rattle.machine_file.specs.Spells.{Spells}
 use Rattle.machine_file.specs.declared.fault.MachineFault.{MachineFault}
