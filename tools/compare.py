@@ -25,7 +25,9 @@ NAME = re.compile(r"[a-z0-9_.\-]{1,32}\Z")
 MEMBERS = "version alarm_ms cpus auto_cycles devices links syscore notifiers sources actors answers".split()
 DEFAULTS = {"alarm_ms": 1000, "cpus": 1, "auto_cycles": 16}
 EMPTY = "links syscore notifiers answers".split()
-WRONG = [None, 0, 1, -1, 1.0, 1.5, True, False, "", [], {}, "x", [1], 2**64, "mem", "user"]
+# What each operation may have beside "op" and "times".
+OPERATIONS = {"read": [], "save": [], "state": ["text", "if_saved"], "event": ["source", "ms", "hard"]}
+VISIBLE = 65_536  # The count that a task sees starts again at 0 here.
 
 
 class Refused(Exception):
@@ -94,17 +96,19 @@ def devices_of(devices):
     return names
 
 
-def operation_of(operation):
-    """The operation's name."""
+def need_operation(operation, sources):
     need(isinstance(operation, dict))
     name = operation.get("op")
-    need(isinstance(name, str) and name in ("read", "save", "state"))
-    has_only(operation, ["op", "times"] + (["text", "if_saved"] if name == "state" else []))
+    need(isinstance(name, str) and name in OPERATIONS)
+    has_only(operation, ["op", "times", *OPERATIONS[name]])
     may_have(operation, "times", lambda times: is_number(times, 1))
     if name == "state":
         need(operation.get("text") == "mem")
         may_have(operation, "if_saved", lambda flag: flag is False)
-    return name
+    if name == "event":
+        need(isinstance(operation.get("source"), str) and operation["source"] in sources)
+        may_have(operation, "ms", lambda ms: is_number(ms, 0))
+        may_have(operation, "hard", lambda flag: flag is False)
 
 
 def machine_of(text):
@@ -129,49 +133,142 @@ def machine_of(text):
     need_name(actor.get("name"))
     need(actor.get("kind") == "user")
     may_have(actor, "repeat", lambda repeat: is_number(repeat, 1))
-    script = [operation_of(operation) for operation in list_at(actor, "script")]
-    need(len(script) <= 200_000 and script.count("state") * (len(devices) + 50) <= 100_000)
+    script = list_at(actor, "script")
+    need(len(script) <= 200_000)
+    for operation in script:
+        need_operation(operation, sources)
+    states = sum(operation["op"] == "state" for operation in script)
+    need(states * (len(devices) + 50) <= 100_000)
     return devices, sources, actor["name"], script
 
 
 # ---- a run
 
 
-def attempt(devices, begin, number):
-    """What a task makes in an attempt, before and after the jump to the alarm."""
-    before = [begin]
-    for device in reversed(devices):
-        before += [f"begin suspend {device}", f"end suspend {device} 0"]
-    after = ["wake alarm"]
-    for device in devices:
-        after += [f"begin resume {device}", f"end resume {device} 0"]
-    return before + ["done suspend 0", "enter"], after + ["done resume 0", "clear", f"over {number} 0"]
+class Source:
+    """What a wakeup source counts."""
+
+    def __init__(self):
+        self.starts, self.events, self.last = 0, 0, 0
+
+    def line(self, name):
+        return f"source {name} {self.starts} {self.events} 0 0 0 0 {self.last}"
+
+
+class Run:
+    """A run so far: its time, its event word, what its task read and saved, and its lines."""
+
+    def __init__(self, devices, sources, task):
+        self.devices, self.task = devices, task
+        self.sources = {name: Source() for name in [*sources, "autosleep"]}
+        self.time, self.in_progress, self.registered = 0, 0, 0
+        self.last_read, self.in_force, self.attempts = 0, None, 0
+        self.lines = []
+
+    def line(self, rest):
+        self.lines.append(f"{self.time} {self.in_progress}/{self.registered}/0 {rest}")
+
+    def say(self, entry):
+        self.line(f"task:{self.task} {entry}")
+
+    def visible(self):
+        return self.registered % VISIBLE
+
+    def is_still(self, count):
+        """Whether the visible count is this one, and no event is in progress."""
+        return self.visible() == count and self.in_progress == 0
+
+    def finds_wakeup(self):
+        """A test for wakeup. What it finds changed is in force no more."""
+        if self.in_force is None or self.is_still(self.in_force):
+            return False
+        self.in_force = None
+        return True
+
+    def read(self):
+        self.last_read = self.visible()
+        self.say(f"read {self.last_read}")
+
+    def save(self):
+        fits = self.is_still(self.last_read)
+        self.say(f"save {self.last_read} " + ("ok" if fits else "EINVAL"))
+        self.in_force = self.last_read if fits else None
+
+    def event(self, name):
+        source = self.sources[name]
+        self.say(f"event {name} 0 soft")
+        source.events += 1
+        self.say(f"start {name}")
+        source.starts += 1
+        self.in_progress += 1
+        self.say(f"finish {name}")
+        self.in_progress -= 1
+        self.registered += 1
+        source.last = self.time
+
+    def suspend(self):
+        """The devices that are suspended, the last in the order first, and the phase's answer."""
+        suspended = []
+        for device in reversed(self.devices):
+            if self.finds_wakeup():
+                self.say(f"skip suspend {device} pending")
+                return suspended, "EBUSY"
+            self.say(f"begin suspend {device}")
+            self.say(f"end suspend {device} 0")
+            suspended.append(device)
+        return suspended, "0"
+
+    def enter(self):
+        if self.finds_wakeup():
+            self.say("enter EBUSY")
+            return "EBUSY"
+        self.say("enter")
+        self.time += DEFAULTS["alarm_ms"]
+        self.line("time jump")
+        self.say("wake alarm")
+        return "0"
+
+    def resume(self, suspended):
+        for device in reversed(suspended):
+            self.say(f"begin resume {device}")
+            self.say(f"end resume {device} 0")
+        self.say("done resume 0")
+
+    def state(self):
+        self.attempts += 1
+        guard = "plain" if self.in_force is None else f"guarded {self.in_force}"
+        self.say(f"attempt {self.attempts} {guard}")
+        suspended, answer = self.suspend()
+        self.say(f"done suspend {answer}")
+        if answer == "0":
+            answer = self.enter()
+        self.resume(suspended)
+        self.say("clear")
+        self.in_force = None
+        self.say(f"over {self.attempts} {answer}")
+
+    def make(self, operation):
+        if operation["op"] == "read":
+            self.read()
+        elif operation["op"] == "save":
+            self.save()
+        elif operation["op"] == "event":
+            self.event(operation["source"])
+        else:
+            self.state()
+
+    def end(self):
+        self.say("exit")
+        self.lines += [source.line(name) for name, source in self.sources.items()]
+        self.lines.append("finished")
 
 
 def log_of(devices, sources, task, script):
-    time, saved, attempts, lines = 0, False, 0, []
-
-    def say(entries):
-        lines.extend(f"{time} 0/0/0 task:{task} {entry}" for entry in entries)
-
+    run = Run(devices, sources, task)
     for operation in script:
-        if operation == "read":
-            say(["read 0"])
-        elif operation == "save":
-            say(["save 0 ok"])
-            saved = True
-        else:
-            attempts += 1
-            begin = f"attempt {attempts} " + ("guarded 0" if saved else "plain")
-            before, after = attempt(devices, begin, attempts)
-            say(before)
-            time += 1000
-            lines.append(f"{time} 0/0/0 time jump")
-            say(after)
-            saved = False
-    say(["exit"])
-    lines += [f"source {source} 0 0 0 0 0 0 0" for source in [*sources, "autosleep"]]
-    return "".join(line + "\n" for line in [*lines, "finished"]).encode()
+        run.make(operation)
+    run.end()
+    return "".join(line + "\n" for line in run.lines).encode()
 
 
 def expected(text):
@@ -182,6 +279,34 @@ def expected(text):
 
 
 # ---- random files
+
+WRONG = [None, 0, 1, -1, 1.0, 1.5, True, False, "", [], {}, "x", [1], 2**64, "mem", "user"]
+OPTIONAL = {"times": 1, "if_saved": False, "ms": 0, "hard": False}
+# What scripts are put together from: each operation alone, and the ways to sleep under a saved count.
+PIECES = [piece.split() for piece in (
+    "read", "save", "state", "event", "read save", "read save state",
+    "read save event state", "read event save state", "event read save state",
+)]
+# So many events that the count comes round, or that three operations beside them fill a script, or overfill it.
+MANY = [VISIBLE - 1, VISIBLE, VISIBLE + 1, 2 * VISIBLE, 199_997, 199_998]
+# What no operation may have, or not this one, with the right values between.
+BESIDE = {
+    "op": ["event", "Event", "events", "read", "activate", "sleep", None],
+    "times": [1, 0, 2, -1, 1.0, True, None],
+    "ms": [0, 1, -1, 0.0, False, "0", None],
+    "hard": [False, True, 0, "false", None],
+    "text": ["mem", "", None],
+    "if_saved": [False, True],
+    "count": [0],
+    "name": ["lid"],
+}
+# Other spellings of a member. Some spell the same, since of equal members the last counts.
+SPELLINGS = {
+    b'"version": 1': [b'7, "version": 1', b"1.0", b"01", b"1e0", b"-1", b"1 ", b'1, "version": 7'],
+    b'"ms": 0': [b'7, "ms": 0', b"0.0", b"00", b"0e0", b"-0", b"0 ", b'0, "ms": 7'],
+    b'"hard": false': [b'true, "hard": false', b'false, "hard": true', b"False", b"fals"],
+    b'"op": "event"': [b'"read", "op": "event"', b'"event", "op": "read"', b'"\\u0065vent"'],
+}
 
 
 class Files:
@@ -207,26 +332,57 @@ class Files:
                 device[member] = default
         return device
 
-    def operation(self):
-        operation = {"op": self.random.choice(["read", "save", "state"])}
-        if operation["op"] == "state":
+    def operation(self, name, source):
+        operation = {"op": name}
+        if name == "state":
             operation["text"] = "mem"
-        if self.maybe(0.05):
-            operation["times"] = 1
+        if name == "event":
+            operation["source"] = source
+        for member in ["times", *OPERATIONS[name]]:
+            if member in OPTIONAL and self.maybe(0.05):
+                operation[member] = OPTIONAL[member]
         return operation
+
+    def script(self, source):
+        """Operations. Events are of the source; where there is none, they are rare and wrong."""
+        names = []
+        for _ in range(self.random.choice([0, 1, 3, 6, 10])):
+            names += self.random.choice(PIECES)
+        if source is None and self.maybe(0.95):
+            names = [name for name in names if name != "event"]
+        script = [self.operation(name, source or self.name()) for name in names]
+        if source is not None and self.maybe(0.005):
+            script = self.long_sleep(source) + script
+        return script
+
+    def long_sleep(self, source):
+        """A way to sleep, with many events before or after the save."""
+        script = [self.operation(name, source) for name in ("read", "save", "state")]
+        place = self.random.choice([1, 2])
+        script[place:place] = [self.operation("event", source)] * self.random.choice(MANY)
+        return script
 
     def machine(self):
         devices = []
         for _ in range(self.random.choice([0, 1, 2, 3, 6, 12])):
             devices.append(self.device([device["name"] for device in devices]))
-        script = [self.operation() for _ in range(self.random.choice([0, 1, 3, 6, 10]))]
+        source = self.name() if self.maybe(0.7) else None
+        script = self.script(source)
         tree = {"version": 1, "devices": devices, "actors": [{"name": self.name(), "kind": "user", "script": script}]}
-        if self.maybe(0.6):
-            tree["sources"] = [self.name()]
+        if source is not None or self.maybe(0.1):
+            tree["sources"] = [] if source is None else [source]
         for member, default in [*DEFAULTS.items(), *((member, []) for member in EMPTY)]:
             if self.maybe(0.05):
                 tree[member] = default
         return tree
+
+    def mixed(self, value):
+        """The same with the members of each object in some order."""
+        if isinstance(value, list):
+            return [self.mixed(item) for item in value]
+        if not isinstance(value, dict):
+            return value
+        return {member: self.mixed(value[member]) for member in self.random.sample(list(value), len(value))}
 
     def places(self, value):
         """Each place of a tree, as its holder and its key."""
@@ -243,7 +399,27 @@ class Files:
         elif self.maybe(0.5) or isinstance(holder, list):
             holder[key] = self.random.choice(WRONG)
         else:
-            holder[self.random.choice([self.name(), "count", "text", "times", "repeat", "if_saved"])] = self.random.choice(WRONG)
+            members = [self.name(), *"count text times repeat if_saved source ms hard".split()]
+            holder[self.random.choice(members)] = self.random.choice(WRONG)
+
+    def spoil_source(self, event):
+        """Takes an event's source out, or puts one beside it in its place."""
+        source = event.pop("source")
+        beside = ["autosleep", source[1:], source + "x", source.upper(), [source], 0, None, self.name()]
+        if self.maybe(0.8):
+            event["source"] = self.random.choice(beside)
+
+    def spoil_operation(self, operation):
+        """Gives an operation another member, or a value just beside the right one."""
+        if operation["op"] == "event" and self.maybe(0.5):
+            self.spoil_source(operation)
+        else:
+            member = self.random.choice(list(BESIDE))
+            operation[member] = self.random.choice(BESIDE[member])
+
+    def spoil_sources(self, tree):
+        """Leaves the events in the script, and takes their source away or names another."""
+        tree["sources"] = self.random.choice([[], [self.name()], [*tree.get("sources", []), self.name()]])
 
     def spoil_bytes(self, text):
         """Changes, takes out or puts in one byte."""
@@ -251,16 +427,28 @@ class Files:
         byte = bytes([self.random.choice(b'{}[]",:0 \n-e.') if self.maybe(0.7) else self.random.randrange(256)])
         return text[:place] + self.random.choice([b"", byte]) + text[place + self.random.choice([0, 1]):]
 
+    def spell(self, text):
+        """Spells one member in another way, wherever it stands."""
+        member = self.random.choice([member for member in SPELLINGS if member in text] or list(SPELLINGS))
+        name = member.split(b" ")[0]
+        return text.replace(member, name + b" " + self.random.choice(SPELLINGS[member]))
+
     def text(self):
         tree = self.machine()
-        if self.maybe(0.4):
+        script = tree["actors"][0]["script"]
+        if script and self.maybe(0.15):
+            self.spoil_operation(self.random.choice(script))
+        if self.maybe(0.05):
+            self.spoil_sources(tree)
+        if self.maybe(0.25):
             self.spoil(tree)
+        if self.maybe(0.3):
+            tree = self.mixed(tree)
         text = json.dumps(tree, ensure_ascii=self.maybe(0.5), indent=self.random.choice([None, 1])).encode()
         if self.maybe(0.1):
             text = self.spoil_bytes(text)
-        if self.maybe(0.05):
-            one = self.random.choice([b'7, "version": 1', b"1.0", b"01", b"1e0", b"-1", b"1 ", b'1, "version": 7'])
-            text = text.replace(b'"version": 1', b'"version": ' + one)
+        if self.maybe(0.1):
+            text = self.spell(text)
         return text
 
 

@@ -28,78 +28,13 @@ what every legal log keeps, and `text` says how it is printed.
 `tools/definitions.py` writes this page.
 """
 
-# What of the kernel a definition states, where it states something of its own.
-KERNEL = {
-    "position": "own",
-    "visible": "`pm_get_wakeup_count`, `split_counters`",
-    "word_step": "`wakeup_source_activate`, `wakeup_source_deactivate`",
-    "after_step": "the same",
-    "numbers": "`combined_event_count`",
-    "time_after": "own",
-    "time_of": "own: one virtual clock",
-    "CountPart": "`saved_count`, `events_check_enabled`",
-    "count_part": "`pm_save_wakeup_count`, `pm_wakeup_pending`",
-    "has_changed": "`pm_wakeup_pending`",
-    "count_pending": "`pm_wakeup_pending`",
-    "force_after": "`pm_save_wakeup_count`, `pm_wakeup_pending`",
-    "in_force": "`events_check_enabled`, `saved_count`",
-    "forgotten_after": "`pm_wakeup_clear`",
-    "forgotten": "`pm_abort_suspend`, `pm_wakeup_clear`",
-    "pending": "`pm_wakeup_pending`",
-    "order": "`dpm_list`, `device_pm_add`",
-    "is_parent": "`struct device`, `parent`",
-    "children_from": "`device_for_each_child`",
-    "below": "`dpm_wait_for_subordinate`",
-    "parent_of": "`struct device`, `parent`",
-    "above": "`dpm_wait_for_superior`",
-    "inside_after": "`dpm_run_callback`",
-    "inside": "`dpm_run_callback`",
-    "error_after": "`async_error`",
-    "error_of": "`async_error`",
-    "settled_after": "`dpm_suspend`",
-    "settled": "`dpm_suspended_list`",
-    "suspended_after": "`__device_suspend`, `device_resume`",
-    "suspended": "`power.is_suspended`",
-    "next_down": "`dpm_suspend`",
-    "next_up": "`dpm_resume`",
-    "attempts_after": "own",
-    "attempts": "own",
-    "maker_after": "`pm_suspend`",
-    "maker": "`system_transition_mutex`",
-    "row_after": "`enter_state`, `suspend_devices_and_enter`, `suspend_enter`",
-    "row_of": "the same",
-    "failure_after": "`suspend_enter`",
-    "failure": "`pm_suspend`",
-    "take_down": "`__device_suspend`",
-    "between_down": "`dpm_suspend`",
-    "suspend_due": "`dpm_suspend`",
-    "take_up": "`dpm_resume`",
-    "resume_due": "`dpm_resume`",
-    "wake_due": "`suspend_enter`, `pm_wakeup_pending`; the alarm is own",
-    "path_due": "`suspend_devices_and_enter`, `suspend_enter`",
-    "read_due": "`pm_get_wakeup_count`, `wakeup_count_show`",
-    "save_due": "`pm_save_wakeup_count`, `wakeup_count_store`",
-    "step_due": "`kernel/power/main.c`, `state_store`",
-    "ParentsEarlier": "`device_add`",
-    "is_state": "`state_store`",
-    "DependentsFirst": "`dpm_wait_for_subordinate`",
-    "SuppliersFirst": "`dpm_wait_for_superior`",
-    "Restored": "`dpm_resume`",
-    "Enters": "`suspend_enter`",
-    "SeesNothing": "`pm_save_wakeup_count`, `pm_wakeup_pending`",
-    "test_part": "`__device_suspend`, `suspend_enter`",
-    "stats_of": "`wakeup_stats.c`",
-    "no_calls": "`wakeup_stats.c`",
-    "number_of": "`errno-base.h`",
-    "name_of": "`errno-base.h`",
-}
-
 # A section: its crate, its title, what of the kernel it is about, and its modules.
 SECTIONS = [
     ("sleep_model", "The event word", "`drivers/base/power/wakeup.c`", ["Word", "Numbers"]),
+    ("sleep_model", "Wakeup sources", "`drivers/base/power/wakeup.c`", ["Parts", "Sources"]),
     ("sleep_model", "The saved count and pending wakeups", "`drivers/base/power/wakeup.c`", ["Guard"]),
     ("sleep_model", "The machine that a file may spell", "`drivers/base/core.c`", ["Accepted"]),
-    ("sleep_model", "Scripts", "own", ["Scripts", "Seats"]),
+    ("sleep_model", "Scripts", "own", ["Scripts", "Seats", "Calls"]),
     ("sleep_model", "The order of devices", "`drivers/base/power/main.c`", ["Order"]),
     ("sleep_model", "The walk of a phase", "`drivers/base/power/main.c`", ["Walk"]),
     ("sleep_model", "The path of an attempt", "`kernel/power/suspend.c`", ["Path"]),
@@ -109,12 +44,12 @@ SECTIONS = [
     ("sleep_model", "The text of a log", "own", ["NameBytes", "Text"]),
     ("sleep_base", "The outside", "`include/uapi/asm-generic/errno-base.h`, for errors; the rest is own", ["Errno", "Faults", "Calls", "Streams", "Whole"]),
     ("machine_file", "Accepted bytes", "own", ["Tree", "Look", "Rules", "Spelled", "Spells", "Gives"]),
-    ("sleep_core", "The core", "own", ["Places", "Histories", "HistoryFields", "Cursors", "Looks", "Room", "Cores", "CoreFields"]),
-    ("sleep_main", "A whole run", "own", ["Runs", "Endings"]),
+    ("sleep_core", "The core", "own", ["Places", "Histories", "HistoryFields", "Cursors", "Plans", "PlanFields", "Looks", "Room", "Cores", "CoreFields"]),
+    ("sleep_main", "A whole run", "own", ["Runs", "RunFields", "Meters", "Endings"]),
 ]
 
 DEFINITION = re.compile(r"(?:abbrev pub|pub record|pub data) (\w+)")
-CITED = re.compile(r" \((?:own: )?[^()]*(?:\.c|\.h|_|own)[^()]*\)")
+CITED = re.compile(r" \(((?:own: )?[^()]*(?:\.c|\.h|_|own|struct )[^()]*)\)")
 
 
 def sentence(comment):
@@ -123,6 +58,15 @@ def sentence(comment):
     if not re.match(r"(d\b|a to z\b)", text):
         text = text[0].upper() + text[1:]
     return text if text.endswith(".") else text + "."
+
+
+def kernel_of(comment):
+    """What of the kernel a comment line cites, as a column shows it."""
+    found = CITED.search(comment)
+    if not found:
+        return ""
+    cited = found.group(1)
+    return cited if "own" in cited else ", ".join(f"`{name.strip()}`" for name in cited.split(","))
 
 
 def definitions(path):
@@ -142,14 +86,13 @@ def section(crate, title, kernel, modules):
     """The lines of a section."""
     names = ", ".join(f"`{module}`" for module in modules)
     rows = [row for module in modules for row in definitions(ROOT / "crates" / crate / "specs" / f"{module}.antt")]
-    stated = KERNEL if kernel != "own" else {}
-    wide = any(name in stated for name, _ in rows)
+    wide = kernel != "own" and any(CITED.search(comment) for _, comment in rows)
     yield f"\n## {title}\n"
     yield f"`crates/{crate}/specs`: {names}. Kernel: {kernel}.\n"
     yield "| definition | what it says |" + (" Linux 6.1 |" if wide else "")
     yield "|---|---|" + ("---|" if wide else "")
     for name, comment in rows:
-        yield f"| `{name}` | {sentence(comment)} |" + (f" {stated.get(name, '')} |" if wide else "")
+        yield f"| `{name}` | {sentence(comment)} |" + (f" {kernel_of(comment)} |" if wide else "")
 
 
 def main():

@@ -1,5 +1,5 @@
 pub mod Looks
-pub mod Parents
+pub mod Places
 pub mod DeviceWalk
 pub mod Given
 pub mod Attempts

@@ -47,7 +47,7 @@ are_sources-many (v ∷ []) many = absurd (omega arith)
 are_sources-many (v ∷ w ∷ vs) many = refl
 
 -- no actor, or more than one
-pub is_one_actor-other : (vs : List Value) → (length vs ≡ 1 → ⊥) → is_one_actor (items_view vs) ≡ false
-is_one_actor-other [] other = refl
-is_one_actor-other (v ∷ []) other = absurd (other refl)
-is_one_actor-other (v ∷ w ∷ vs) other = refl
+pub is_one_actor-other : (names : List (List ℕ)) (vs : List Value) → (length vs ≡ 1 → ⊥) → is_one_actor names (items_view vs) ≡ false
+is_one_actor-other names [] other = refl
+is_one_actor-other names (v ∷ []) other = absurd (other refl)
+is_one_actor-other names (v ∷ w ∷ vs) other = refl

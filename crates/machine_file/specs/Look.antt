@@ -1,5 +1,5 @@
 -- Tests of one JSON value, and what of it stands at a name.
-use Rattle.std.specs.Prelude.{ℕ, suc, ◌==◌, ◌&&◌, List, [], Bool, true, false, not, Option, Some, None, is_some, bytes_eq, unwrap_or, option_and_then}
+use Rattle.std.specs.Prelude.{ℕ, suc, ◌==◌, ◌&&◌, List, [], ◌∷◌, Bool, true, false, not, Option, Some, None, is_some, bytes_eq, unwrap_or, option_and_then}
 use Rattle.std.specs.List.{list_any}
 use Rattle.serde_json.specs.Data.{Data, Items, no_items, item, Members, no_members, member}
 use Rattle.serde_json.specs.Find.{get, as_number, as_u64, as_str, as_bool, as_array, as_object}
@@ -22,7 +22,7 @@ is_number n d = is_some_and (λ k. k == n) (option_and_then as_u64 (as_number d)
 abbrev pub is_text : List ℕ → Data → Bool
 is_text text d = is_some_and (λ s. bytes_eq s text) (as_str d)
 
--- false
+-- the value false
 abbrev pub is_false : Data → Bool
 is_false d = is_some_and not (as_bool d)
 
@@ -51,6 +51,11 @@ has_only names d = is_some_and (are_named names) (as_object d)
 -- the text that it is; no bytes where it is none
 abbrev pub text_of : Data → List ℕ
 text_of d = unwrap_or (as_str d) []
+
+-- the text that each item is
+abbrev pub texts_of : Items → List (List ℕ)
+texts_of no_items = []
+texts_of (item d ds) = text_of d ∷ texts_of ds
 
 -- the text at this name; no bytes where there is none
 abbrev pub text_at : List ℕ → Data → List ℕ

@@ -1,9 +1,9 @@
 -- The rules of a machine file, each a test of its JSON value. A member that may be left out is absent, or as its rule says.
-use Rattle.std.specs.Prelude.{ℕ, suc, ◌+◌, ◌*◌, ◌==◌, ◌&&◌, ◌||◌, ◌++◌, List, [], ◌∷◌, length, codes, Bool, true, false, not, bytes_eq, nat_le, if◌then◌else◌}
+use Rattle.std.specs.Prelude.{ℕ, suc, ◌+◌, ◌*◌, ◌==◌, ◌&&◌, ◌||◌, ◌++◌, List, [], ◌∷◌, length, codes, Bool, true, false, not, bytes_eq, nat_le, option_and_then, if◌then◌else◌}
 use Rattle.std.specs.List.{list_any, list_all}
 use Rattle.serde_json.specs.Data.{Data, Items, no_items, item}
 use Rattle.serde_json.specs.Find.{get, as_str}
-use Rattle.machine_file.specs.Look.{is_some_and, is_none_or, is_number, is_text, is_false, is_list, is_empty_list, has_only, text_of, text_at, list_at, items_len}
+use Rattle.machine_file.specs.Look.{is_some_and, is_none_or, is_number, is_text, is_false, is_list, is_empty_list, has_only, text_of, texts_of, text_at, list_at, items_len}
 
 -- ---- names
 
@@ -91,6 +91,10 @@ are_sources (item d (item e ds)) = false
 abbrev pub has_sources : Data → Bool
 has_sources d = is_none_or is_list (get (codes "sources") d) && are_sources (list_at (codes "sources") d)
 
+-- the names of the sources
+abbrev pub source_names : Data → List (List ℕ)
+source_names d = texts_of (list_at (codes "sources") d)
+
 -- ---- the one actor
 
 -- the operation of this name
@@ -103,43 +107,57 @@ is_state_mem o =
     has_only (codes "op" ∷ codes "text" ∷ codes "if_saved" ∷ codes "times" ∷ []) o && is_some_and (is_text (codes "mem")) (get (codes "text") o)
     && is_none_or is_false (get (codes "if_saved") o)
 
+-- no unknown member, no length, and not hard
+abbrev pub is_soft_event : Data → Bool
+is_soft_event o =
+    has_only (codes "op" ∷ codes "source" ∷ codes "ms" ∷ codes "hard" ∷ codes "times" ∷ []) o && is_none_or (is_number 0) (get (codes "ms") o)
+    && is_none_or is_false (get (codes "hard") o)
+
+-- its source is there, and is one of these names
+abbrev pub has_known_source : List (List ℕ) → Data → Bool
+has_known_source names o = is_some_and (λ s. list_any (bytes_eq s) names) (option_and_then as_str (get (codes "source") o))
+
+-- a soft event without length, on a source of these names
+abbrev pub is_event : List (List ℕ) → Data → Bool
+is_event names o = is_soft_event o && has_known_source names o
+
 -- a read or a save, which take nothing more
 abbrev pub is_read_or_save : Data → Bool
 is_read_or_save o = (is_op (codes "read") o || is_op (codes "save") o) && has_only (codes "op" ∷ codes "times" ∷ []) o
 
--- a write to the state, a read or a save, and no other operation
-abbrev pub is_operation : Data → Bool
-is_operation o = if is_op (codes "state") o then is_state_mem o else is_read_or_save o
+-- a write to the state, an event on a source of these names, a read or a save, and no other operation
+abbrev pub is_operation : List (List ℕ) → Data → Bool
+is_operation names o = if is_op (codes "state") o then is_state_mem o else if is_op (codes "event") o then is_event names o else is_read_or_save o
 
 -- an operation that is made once
-abbrev pub is_step : Data → Bool
-is_step o = is_none_or (is_number 1) (get (codes "times") o) && is_operation o
+abbrev pub is_step : List (List ℕ) → Data → Bool
+is_step names o = is_none_or (is_number 1) (get (codes "times") o) && is_operation names o
 
 -- each is an operation that is made once
-abbrev pub are_steps : Items → Bool
-are_steps no_items = true
-are_steps (item o os) = is_step o && are_steps os
+abbrev pub are_steps : List (List ℕ) → Items → Bool
+are_steps names no_items = true
+are_steps names (item o os) = is_step names o && are_steps names os
 
 -- at most 200000 such operations
-abbrev pub has_script : Data → Bool
-has_script a =
-    is_none_or is_list (get (codes "script") a) && nat_le (items_len (list_at (codes "script") a)) 200000 && are_steps (list_at (codes "script") a)
+abbrev pub has_script : List (List ℕ) → Data → Bool
+has_script names a =
+    is_none_or is_list (get (codes "script") a) && nat_le (items_len (list_at (codes "script") a)) 200000 && are_steps names (list_at (codes "script") a)
 
--- a user's task that makes its script once
-abbrev pub is_actor : Data → Bool
-is_actor a =
+-- a user's task that makes its script once, beside sources of these names
+abbrev pub is_actor : List (List ℕ) → Data → Bool
+is_actor names a =
     has_only (codes "name" ∷ codes "kind" ∷ codes "repeat" ∷ codes "script" ∷ []) a && is_some_and (is_text (codes "user")) (get (codes "kind") a)
-    && is_none_or (is_number 1) (get (codes "repeat") a) && is_name (name_of a) && has_script a
+    && is_none_or (is_number 1) (get (codes "repeat") a) && is_name (name_of a) && has_script names a
 
 -- exactly one actor, so the list is there
-abbrev pub is_one_actor : Items → Bool
-is_one_actor no_items = false
-is_one_actor (item a no_items) = is_actor a
-is_one_actor (item a (item b rest)) = false
+abbrev pub is_one_actor : List (List ℕ) → Items → Bool
+is_one_actor names no_items = false
+is_one_actor names (item a no_items) = is_actor names a
+is_one_actor names (item a (item b rest)) = false
 
 -- the list has that one actor
-abbrev pub has_one_actor : Data → Bool
-has_one_actor d = is_none_or is_list (get (codes "actors") d) && is_one_actor (list_at (codes "actors") d)
+abbrev pub has_one_actor : List (List ℕ) → Data → Bool
+has_one_actor names d = is_none_or is_list (get (codes "actors") d) && is_one_actor names (list_at (codes "actors") d)
 
 -- ---- how much may happen
 
@@ -161,4 +179,4 @@ are_attempts_few d = nat_le (actors_state_count (list_at (codes "actors") d) * (
 
 -- a value that spells a machine
 abbrev pub is_accepted : Data → Bool
-is_accepted d = has_only_defaults d && has_devices d && has_sources d && has_one_actor d && are_attempts_few d
+is_accepted d = has_only_defaults d && has_devices d && has_sources d && has_one_actor (source_names d) d && are_attempts_few d

@@ -1,17 +1,17 @@
 -- The machine that a JSON value spells, where it keeps the rules.
-use Rattle.std.specs.Prelude.{ℕ, ◌++◌, List, [], ◌∷◌, codes, false, Option, None, option_and_then, position, bytes_eq, if◌then◌else◌}
+use Rattle.std.specs.Prelude.{ℕ, ◌++◌, List, [], ◌∷◌, codes, false, Option, None, option_and_then, unwrap_or, position, bytes_eq, if◌then◌else◌}
 use Rattle.sleep_model.specs.declared.flags.DeviceFlags.{DeviceFlags}
 use Rattle.sleep_model.specs.declared.machine.Machine.{Machine}
 use Rattle.sleep_model.specs.declared.machine.Device.{Device}
 use Rattle.sleep_model.specs.declared.machine.Script.{Script}
 use Rattle.sleep_model.specs.declared.machine.Step.{Step}
 use Rattle.sleep_model.specs.declared.machine.Op.{Op}
-use Rattle.sleep_model.specs.declared.machine.Op.TheVariants.{Read, Save, State}
+use Rattle.sleep_model.specs.declared.machine.Op.TheVariants.{Read, Save, State, Event}
 use Rattle.sleep_model.specs.declared.machine.TaskKind.TheVariants.{User}
 use Rattle.serde_json.specs.Data.{Data, Items, no_items, item}
 use Rattle.serde_json.specs.Find.{get, as_str}
-use Rattle.machine_file.specs.Look.{text_of, list_at}
-use Rattle.machine_file.specs.Rules.{name_of, is_op}
+use Rattle.machine_file.specs.Look.{list_at}
+use Rattle.machine_file.specs.Rules.{name_of, source_names, is_op}
 
 -- ---- devices
 
@@ -32,44 +32,41 @@ abbrev pub devices_of : List (List ℕ) → Items → List Device
 devices_of earlier no_items = []
 devices_of earlier (item d ds) = device_of earlier d ∷ devices_of (earlier ++ name_of d ∷ []) ds
 
--- ---- wakeup sources
-
--- a source is its name
-abbrev pub source_of : Data → List ℕ
-source_of d = text_of d
-
--- sources in their order
-abbrev pub sources_of : Items → List (List ℕ)
-sources_of no_items = []
-sources_of (item d ds) = source_of d ∷ sources_of ds
-
 -- ---- actors
 
 -- a write of the text mem to the state, whatever was saved
 abbrev pub state_mem : Op
 state_mem = State (codes "mem") false
 
--- a read; a save of the number that was last read; or that write
-abbrev pub op_of : Data → Op
-op_of o = if is_op (codes "state") o then state_mem else if is_op (codes "read") o then Read else Save None
+-- the place of an event's source among these names (0 where it is none of them, which the rules refuse)
+abbrev pub source_of : List (List ℕ) → Data → ℕ
+source_of names o = unwrap_or (option_and_then (λ s. position (bytes_eq s) names) (option_and_then as_str (get (codes "source") o))) 0
+
+-- a soft event without length on that source
+abbrev pub event_of : List (List ℕ) → Data → Op
+event_of names o = Event (source_of names o) 0 false
+
+-- that write; that event; a read; or a save of the number that was last read
+abbrev pub op_of : List (List ℕ) → Data → Op
+op_of names o = if is_op (codes "state") o then state_mem else if is_op (codes "event") o then event_of names o else if is_op (codes "read") o then Read else Save None
 
 -- an operation, made once
-abbrev pub step_of : Data → Step
-step_of o = record { op = op_of o; times = 1 }
+abbrev pub step_of : List (List ℕ) → Data → Step
+step_of names o = record { op = op_of names o; times = 1 }
 
 -- operations in their order
-abbrev pub steps_of : Items → List Step
-steps_of no_items = []
-steps_of (item o os) = step_of o ∷ steps_of os
+abbrev pub steps_of : List (List ℕ) → Items → List Step
+steps_of names no_items = []
+steps_of names (item o os) = step_of names o ∷ steps_of names os
 
--- a user's task, whose script is made once
-abbrev pub script_of : Data → Script
-script_of a = record { name = name_of a; kind = User; repeat = 1; steps = steps_of (list_at (codes "script") a) }
+-- a user's task, whose script is made once, beside sources of these names
+abbrev pub script_of : List (List ℕ) → Data → Script
+script_of names a = record { name = name_of a; kind = User; repeat = 1; steps = steps_of names (list_at (codes "script") a) }
 
 -- actors in their order
-abbrev pub scripts_of : Items → List Script
-scripts_of no_items = []
-scripts_of (item a rest) = script_of a ∷ scripts_of rest
+abbrev pub scripts_of : List (List ℕ) → Items → List Script
+scripts_of names no_items = []
+scripts_of names (item a rest) = script_of names a ∷ scripts_of names rest
 
 -- ---- the machine
 
@@ -91,4 +88,5 @@ machine_of_parts devices sources actors = record {
 
 -- the machine of a value's devices, sources and actors
 abbrev pub machine_of : Data → Machine
-machine_of d = machine_of_parts (devices_of [] (list_at (codes "devices") d)) (sources_of (list_at (codes "sources") d)) (scripts_of (list_at (codes "actors") d))
+machine_of d =
+    machine_of_parts (devices_of [] (list_at (codes "devices") d)) (source_names d) (scripts_of (source_names d) (list_at (codes "actors") d))

@@ -104,7 +104,7 @@ pub(crate) fn machine_in(alloc: Global, tree: &Value) -> Result<Machine, Machine
     }
     let devices = devices_in(alloc, tree)?;
     let sources = sources_in(alloc, tree)?;
-    let script = script_in(alloc, tree)?;
+    let script = script_in(alloc, tree, &sources)?;
     if !has_few_turns(&script, &devices) {
         return Err(MachineFault::Refused);
     }

@@ -10,10 +10,10 @@ fn file(alloc: Global, more: &str, devices: &str, actors: &str) -> Result<String
     format!(in alloc; "{{\"version\":1{more},\"devices\":[{devices}],\"actors\":[{actors}]}}")
 }
 
-// A file whose one actor makes these operations.
+// A file with the source `lid`, whose one actor makes these operations.
 fn script(alloc: Global, operations: &str) -> Result<String, AllocError> {
     format!(in alloc;
-        "{{\"version\":1,\"actors\":[{{\"name\":\"w\",\"kind\":\"user\",\"script\":[{operations}]}}]}}"
+        "{{\"version\":1,\"sources\":[\"lid\"],\"actors\":[{{\"name\":\"w\",\"kind\":\"user\",\"script\":[{operations}]}}]}}"
     )
 }
 
@@ -81,6 +81,37 @@ fn reads_defaults(rt: HostRuntime) {
 }
 
 #[test]
+fn reads_events(rt: HostRuntime) -> Result<(), Fail> {
+    for operation in [
+        r#"{"op":"event","source":"lid"}"#,
+        r#"{"op":"event","source":"lid","ms":0}"#,
+        r#"{"op":"event","source":"lid","hard":false}"#,
+        r#"{"op":"event","source":"lid","times":1}"#,
+    ] {
+        let text = script(rt.alloc(), operation)?;
+        let machine = read_machine(rt.alloc(), text.as_bytes())?;
+        let [actor] = machine.actors.as_slice() else {
+            return Err(Fail::from("one actor"));
+        };
+        let [event] = actor.steps.as_slice() else {
+            return Err(Fail::from("one step"));
+        };
+        assert!(rt;
+            matches!(
+                &event.op,
+                Op::Event {
+                    source: 0,
+                    ms: 0,
+                    hard: false,
+                }
+            ),
+            "{operation}"
+        );
+    }
+    Ok(())
+}
+
+#[test]
 fn refuses_the_file(rt: HostRuntime) -> Result<(), Fail> {
     for text in [
         "not JSON",
@@ -104,6 +135,10 @@ fn refuses_the_file(rt: HostRuntime) -> Result<(), Fail> {
         ("", ""),
         ("", r#"{"name":"w","kind":"irq"}"#),
         ("", r#"{"name":"w","kind":"user","repeat":2}"#),
+        (
+            "",
+            r#"{"name":"w","kind":"user","script":[{"op":"event","source":"lid"}]}"#,
+        ),
     ] {
         let text = file(rt.alloc(), more, "", actors)?;
         assert!(rt; is_refused(rt.alloc(), text.as_str()), "{more} {actors}");
@@ -136,7 +171,14 @@ fn refuses_devices(rt: HostRuntime) -> Result<(), Fail> {
 #[test]
 fn refuses_operations(rt: HostRuntime) -> Result<(), Fail> {
     for operation in [
+        r#"{"op":"event"}"#,
+        r#"{"op":"event","source":"key"}"#,
+        r#"{"op":"event","source":"autosleep"}"#,
+        r#"{"op":"event","source":0}"#,
         r#"{"op":"event","source":"lid","ms":1}"#,
+        r#"{"op":"event","source":"lid","hard":true}"#,
+        r#"{"op":"event","source":"lid","times":2}"#,
+        r#"{"op":"event","source":"lid","text":"mem"}"#,
         r#"{"op":"fly"}"#,
         r#"{"op":"save","count":1}"#,
         r#"{"op":"state","text":"freeze"}"#,

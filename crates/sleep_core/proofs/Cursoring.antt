@@ -4,7 +4,7 @@ use Rattle.std.proofs.Math.Seq.{drop-cons}
 use Rattle.std.proofs.lemmas.List.FromFn.{length-range_with_len, get_or-range_with_len}
 use Rattle.sleep_model.specs.declared.entry.Entry.{Entry}
 use Rattle.sleep_model.specs.declared.machine.Machine.{Machine}
-use Rattle.sleep_model.specs.Accepted.{IsOneWriter}
+use Rattle.sleep_model.specs.Accepted.{HasWriter}
 use Rattle.sleep_model.specs.Legal.{JournalPart}
 use Rattle.sleep_model.specs.Order.{order}
 use Rattle.sleep_model.specs.Walk.{is_among, first_where, settled, suspended, next_down, next_up}
@@ -19,22 +19,22 @@ order_at : (m : Machine) (k : ℕ) → k < length m.devices → get_or (order m)
 order_at m k h = get_or-range_with_len 0 (length m.devices) k 0 h ∙ omega arith
 
 -- as many are through as there are devices: none is next
-pub down_over : (m : Machine) → IsOneWriter (length m.devices) m.actors → (past : List Entry) → JournalPart m past → length (settled past) ≡ length m.devices → next_down m past ≡ None
+pub down_over : (m : Machine) → HasWriter m → (past : List Entry) → JournalPart m past → length (settled past) ≡ length m.devices → next_down m past ≡ None
 down_over m acc past legal e = down_none (settled past) (order m) (facts_of m acc past legal).settled_tail (omega (arith, order_len m))
 
 -- no more are through than there are
-pub settled_fits : (m : Machine) → IsOneWriter (length m.devices) m.actors → (past : List Entry) → JournalPart m past → length (settled past) ≤ length m.devices
+pub settled_fits : (m : Machine) → HasWriter m → (past : List Entry) → JournalPart m past → length (settled past) ≤ length m.devices
 settled_fits m acc past legal = omega (arith, tail_fits (settled past) (order m) (facts_of m acc past legal).settled_tail, order_len m)
 
 -- else the device before those that are through
-pub down_next : (m : Machine) → IsOneWriter (length m.devices) m.actors → (past : List Entry) → JournalPart m past → length (settled past) < length m.devices → next_down m past ≡ Some (length m.devices - length (settled past) - 1)
+pub down_next : (m : Machine) → HasWriter m → (past : List Entry) → JournalPart m past → length (settled past) < length m.devices → next_down m past ≡ Some (length m.devices - length (settled past) - 1)
 down_next m acc past legal l =
     let k : length (order m) - length (settled past) - 1 ≡ length m.devices - length (settled past) - 1 = omega (arith, order_len m) in
     down_some (settled past) (order m) (order_different m) (facts_of m acc past legal).settled_tail (omega (arith, order_len m))
     ∙ ap Some (ap (λ j. get_or (order m) j 0) k ∙ order_at m (length m.devices - length (settled past) - 1) (omega arith))
 
 -- no more are suspended than there are
-pub suspended_fits : (m : Machine) → IsOneWriter (length m.devices) m.actors → (past : List Entry) → JournalPart m past → length (suspended past) ≤ length m.devices
+pub suspended_fits : (m : Machine) → HasWriter m → (past : List Entry) → JournalPart m past → length (suspended past) ≤ length m.devices
 suspended_fits m acc past legal = omega (arith, tail_fits (suspended past) (order m) (facts_of m acc past legal).suspended_tail, order_len m)
 
 up_of : (m : Machine) (xs : List ℕ) → IsTail xs (order m) → 0 < length xs → first_where (is_among xs) (order m) ≡ Some (length m.devices - length xs)
@@ -56,5 +56,5 @@ up_over m past e = none (suspended past) e
     none (x ∷ xs) e = absurd (omega arith)
 
 -- else the first of those that are suspended
-pub up_next : (m : Machine) → IsOneWriter (length m.devices) m.actors → (past : List Entry) → JournalPart m past → 0 < length (suspended past) → next_up m past ≡ Some (length m.devices - length (suspended past))
+pub up_next : (m : Machine) → HasWriter m → (past : List Entry) → JournalPart m past → 0 < length (suspended past) → next_up m past ≡ Some (length m.devices - length (suspended past))
 up_next m acc past legal l = up_of m (suspended past) (facts_of m acc past legal).suspended_tail l

@@ -1,5 +1,6 @@
 pub mod Cursoring
 pub mod Looking
+pub mod Planned
 pub mod Resuming
 pub mod Rooms
 pub mod Small

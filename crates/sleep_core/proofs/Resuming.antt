@@ -17,7 +17,7 @@ use Rattle.sleep_model.specs.declared.place.Row.{Row}
 use Rattle.sleep_model.specs.declared.place.Row.TheVariants as row
 use Rattle.sleep_model.specs.declared.place.Seat.{Seat}
 use Rattle.sleep_model.specs.declared.word.EventNow.{EventNow}
-use Rattle.sleep_model.specs.Accepted.{IsOneWriter}
+use Rattle.sleep_model.specs.Accepted.{HasWriter}
 use Rattle.sleep_model.specs.Order.{order}
 use Rattle.sleep_model.specs.Guard.{pending}
 use Rattle.sleep_model.specs.Legal.{JournalPart}
@@ -91,7 +91,7 @@ script_resumes m past now i w (Nothing l e) = subst (Resumes (suspended past)) (
 script_resumes m past now i w (OwnStep h) = subst (Resumes (suspended past)) (sym h.3) (own_resumes (suspended past) past now (slice_get m.actors 0) (slice_index_or (seats (length m.actors) past) 0 first_seat))
 script_resumes m past now i w (OnPath h) = subst (Resumes (suspended past)) (sym h.2) (path_resumes m past now (maker past) (row_of past) w)
 
-due_resumes : (m : Machine) → IsOneWriter (length m.devices) m.actors → (past : List Entry) (now : EventNow) (a : Actor) → Facts m past → Resumes (suspended past) (due m past a now)
+due_resumes : (m : Machine) → HasWriter m → (past : List Entry) (now : EventNow) (a : Actor) → Facts m past → Resumes (suspended past) (due m past a now)
 due_resumes m acc past now (actor.Script i) w = script_resumes m past now i w (due_case m acc past now i w)
 due_resumes m acc past now actor.Auto w = tt
 due_resumes m acc past now (actor.Dev d) w = tt
@@ -99,5 +99,5 @@ due_resumes m acc past now (actor.Timer s) w = tt
 due_resumes m acc past now actor.Time w = tt
 
 -- the device that resumes is the last that suspended
-pub resumes_last : (m : Machine) → IsOneWriter (length m.devices) m.actors → (past : List Entry) → JournalPart m past → (e : Entry) → due m past e.actor e.now ≡ Makes e.kind → ResumesLast e.kind (suspended past)
+pub resumes_last : (m : Machine) → HasWriter m → (past : List Entry) → JournalPart m past → (e : Entry) → due m past e.actor e.now ≡ Makes e.kind → ResumesLast e.kind (suspended past)
 resumes_last m acc past legal e is = subst (Resumes (suspended past)) is (due_resumes m acc past e.now e.actor (facts_of m acc past legal))

@@ -19,7 +19,7 @@ use Rattle.sleep_model.specs.declared.place.Row.TheVariants as row
 use Rattle.sleep_model.specs.declared.place.Seat.{Seat}
 use Rattle.sleep_model.specs.declared.word.EventNow.{EventNow}
 use Rattle.sleep_model.specs.Word.{position}
-use Rattle.sleep_model.specs.Accepted.{IsOneWriter}
+use Rattle.sleep_model.specs.Accepted.{HasWriter}
 use Rattle.sleep_model.specs.Order.{order}
 use Rattle.sleep_model.specs.Guard.{pending}
 use Rattle.sleep_model.specs.Path.{maker, row_of, row_after}
@@ -158,7 +158,7 @@ script_leaves m past now i pos time w (OwnStep h) =
 script_leaves m past now i pos time w (OnPath h) =
     subst (LeavesAt m past pos time) (sym h.2) (leaves_path (length (order m)) (maker past) (row_of past) (inside past) (settled past) (suspended past) pos time _ (path_spends m past now pos time (maker past) (row_of past) w))
 
-due_leaves : (m : Machine) → IsOneWriter (length m.devices) m.actors → (past : List Entry) (now : EventNow) (a : Actor) (pos time : ℕ) → Facts m past → LeavesAt m past pos time (due m past a now)
+due_leaves : (m : Machine) → HasWriter m → (past : List Entry) (now : EventNow) (a : Actor) (pos time : ℕ) → Facts m past → LeavesAt m past pos time (due m past a now)
 due_leaves m acc past now (actor.Script i) pos time w = script_leaves m past now i pos time w (due_case m acc past now i w)
 due_leaves m acc past now actor.Auto pos time w = tt
 due_leaves m acc past now (actor.Dev d) pos time w = tt
@@ -166,11 +166,11 @@ due_leaves m acc past now (actor.Timer s) pos time w = tt
 due_leaves m acc past now actor.Time pos time w = tt
 
 -- an entry leaves room for what the attempt still needs
-pub room_after : (m : Machine) → IsOneWriter (length m.devices) m.actors → (past : List Entry) → JournalPart m past → (e : Entry) → due m past e.actor e.now ≡ Makes e.kind → (room : ℕ) → places_for e.kind (length (order m)) ≤ room → needed_at m past ≤ room → needed_at m (e ∷ past) ≤ room - 1
+pub room_after : (m : Machine) → HasWriter m → (past : List Entry) → JournalPart m past → (e : Entry) → due m past e.actor e.now ≡ Makes e.kind → (room : ℕ) → places_for e.kind (length (order m)) ≤ room → needed_at m past ≤ room → needed_at m (e ∷ past) ≤ room - 1
 room_after m acc past legal e is room p q =
     (subst (LeavesAt m past (position e.now) e.time) is (due_leaves m acc past e.now e.actor (position e.now) e.time (facts_of m acc past legal))).0 room p q
 
 -- inside an attempt its places suffice
-pub room_inside : (m : Machine) → IsOneWriter (length m.devices) m.actors → (past : List Entry) → JournalPart m past → (now : EventNow) (a : Actor) (k : Kind) → due m past a now ≡ Makes k → (maker past ≡ None → ⊥) → places_for k (length (order m)) ≤ needed_at m past
+pub room_inside : (m : Machine) → HasWriter m → (past : List Entry) → JournalPart m past → (now : EventNow) (a : Actor) (k : Kind) → due m past a now ≡ Makes k → (maker past ≡ None → ⊥) → places_for k (length (order m)) ≤ needed_at m past
 room_inside m acc past legal now a k is some =
     (subst (LeavesAt m past 0 0) is (due_leaves m acc past now a 0 0 (facts_of m acc past legal))).1 some

@@ -10,7 +10,7 @@ use Rattle.sleep_model.specs.declared.place.Due.TheVariants.{Makes}
 use Rattle.sleep_model.specs.declared.place.Row.{Row}
 use Rattle.sleep_model.specs.declared.place.Row.TheVariants as row
 use Rattle.sleep_model.specs.declared.word.EventNow.{EventNow}
-use Rattle.sleep_model.specs.Accepted.{IsOneWriter}
+use Rattle.sleep_model.specs.Accepted.{HasWriter}
 use Rattle.sleep_model.specs.Legal.{JournalPart, JournalStep}
 use Rattle.sleep_model.specs.Numbers.{time_of, time_after}
 use Rattle.sleep_model.specs.Path.{maker, row_of, row_after, attempts, attempts_after}
@@ -28,7 +28,7 @@ use Rattle.sleep_core.proofs.Rooms.{room_after, room_inside}
 use Rattle.sleep_core.specs.Cores.{IsAttempt}
 
 -- the journal with an entry that is due now is legal
-pub legal_more : (m : Machine) → IsOneWriter (length m.devices) m.actors → (past : List Entry) → JournalPart m past → (e : Entry) → due m past e.actor e.now ≡ Makes e.kind → e.time ≡ time_of past → JournalPart m (e ∷ past)
+pub legal_more : (m : Machine) → HasWriter m → (past : List Entry) → JournalPart m past → (e : Entry) → due m past e.actor e.now ≡ Makes e.kind → e.time ≡ time_of past → JournalPart m (e ∷ past)
 legal_more m acc past legal e is now =
     (subst (JournalStep m past e) (sym (made_of_journal m past e.now e.kind (made m acc past (facts_of m acc past legal) e.now e.actor e.kind is))) (is, now), legal)
 
@@ -40,7 +40,7 @@ attempts_outside m past now _ _ h = absurd h
 maker_outside : (o : List ℕ) (who : Option Actor) (r : Row) (i : Option ℕ) (er : _) (se su : List ℕ) → AtRow o who r i er se su → r ≡ row.Outside → who ≡ None
 maker_outside o who r i er se su h e = (subst (λ (x : Row). AtRow o who x i er se su) e h).0
 
-pub attempt_outside : (m : Machine) → IsOneWriter (length m.devices) m.actors → (past : List Entry) → JournalPart m past → (now : EventNow) (a : Actor) (k : Kind) → due m past a now ≡ Makes k → IsAttempt k → maker past ≡ None
+pub attempt_outside : (m : Machine) → HasWriter m → (past : List Entry) → JournalPart m past → (now : EventNow) (a : Actor) (k : Kind) → due m past a now ≡ Makes k → IsAttempt k → maker past ≡ None
 attempt_outside m acc past legal now a k is h =
     let w = facts_of m acc past legal in
     maker_outside _ _ _ _ _ _ _ w.at_row (attempts_outside m past now k (made m acc past w now a k is) h)

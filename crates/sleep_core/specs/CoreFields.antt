@@ -32,6 +32,6 @@ pub record IsCore (m : Machine) (h : Kept) : Type 0 where
 abbrev pub state : Inside → CoreState
 state c = record { machine = c.machine.now; past = c.history.past }
 
--- what holds of a core between calls
+-- what holds of a core between calls: it has each script's plan, and keeps its history
 abbrev pub keeps : Inside → Type 0
-keeps c = IsCore c.machine.now c.history
+keeps c = (c.plans.items ≡ c.machine.now.actors) × IsCore c.machine.now c.history

@@ -13,6 +13,7 @@ use Rattle.sleep_model.specs.declared.word.Stamp.{Stamp}
 use Rattle.sleep_model.specs.Word.{position}
 use Rattle.sleep_model.specs.Numbers.{time_of}
 use Rattle.sleep_model.specs.Path.{attempts, maker}
+use Rattle.sleep_model.specs.Calls as script
 use Rattle.sleep_model.specs.Due.{due}
 use Rattle.sleep_core.specs.Places.{entries}
 use Rattle.sleep_core.specs.Histories.{last_stamp}
@@ -33,8 +34,9 @@ IsActor m (actor.Dev d) = d < length m.devices
 IsActor m (actor.Timer s) = ⊥
 IsActor m actor.Time = ⊥
 
--- how many calls on sources an actor has to have made before its next journal entry: no operation makes one today
+-- how many calls on sources an actor has to have made before its next journal entry: only a script makes calls of its own
 abbrev pub calls_due : Machine → List Entry → Actor → ℕ
+calls_due m past (actor.Script i) = script.calls_due m past i
 calls_due m past who = 0
 
 -- the stamp of an entry that saw this word: it follows what its maker and the journal last knew

@@ -5,4 +5,6 @@ pub mod Histories
 pub mod HistoryFields
 pub mod Looks
 pub mod Places
+pub mod PlanFields
+pub mod Plans
 pub mod Room

@@ -1,5 +1,7 @@
-ghost use Rattle.std.specs.Prelude.{◌≡◌, ◌≤◌, ℕ, List, Option, Some, None};
+ghost use Rattle.std.specs.Prelude.{◌≡◌, ◌≤◌, ◌<◌, ℕ, List, Option, Some, None};
 ghost use Rattle.sleep_model.specs.declared.word.EventNow.{EventNow};
+ghost use Rattle.sleep_model.specs.declared.word.WordKind.TheVariants.{Start, Finish};
+ghost use Rattle.sleep_model.specs.Numbers.{after_step};
 ghost use Rattle.sleep_model.specs.Word.{position};
 ghost use Rattle.sleep_core.specs.Looks.{IsTold, GainsLook, IsNewest};
 
@@ -97,5 +99,30 @@ impl PlainEvents {
                 hard: 0,
             },
         }
+    }
+
+    /// An event begins (`wakeup_source_activate`). The answer is the word before that step.
+    pub fn start(&mut self) -> EventNow
+        requires { self.old.inpr < 65535 }
+        ensures before { result ≡ self.old }
+        ensures after { self.new ≡ after_step (Some Start) self.old }
+    {
+        let before = self.now;
+        self.now.inpr += 1;
+        before
+    }
+
+    /// An event in progress is registered (`wakeup_source_deactivate`). The answer is the word before
+    /// that step.
+    pub fn finish(&mut self) -> EventNow
+        requires progress { 0 < self.old.inpr }
+        requires count { self.old.count < 16777215 }
+        ensures before { result ≡ self.old }
+        ensures after { self.new ≡ after_step (Some Finish) self.old }
+    {
+        let before = self.now;
+        self.now.inpr -= 1;
+        self.now.count += 1;
+        before
     }
 }

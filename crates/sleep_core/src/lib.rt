@@ -4,6 +4,7 @@
 mod events;
 mod history;
 mod journal;
+mod plan;
 mod steps;
 #[cfg(test)]
 mod tests;

@@ -4,16 +4,18 @@ ghost use Rattle.sleep_model.specs.Word.{position};
 ghost use Rattle.sleep_core.specs.Histories.{last_stamp};
 
 use crate::{Core, CoreTurn, Events, PlainEvents};
+use sleep_base::Errno;
 use sleep_model::{
-    Actor, Device, DeviceFlags, EventNow, Kind, ListOf, Machine, Name, Op, Script, Stamp, Step,
-    TaskKind, Why,
+    Actor, Device, DeviceFlags, EventNow, Kind, ListOf, Machine, Name, Op, Phase, Script,
+    SkipCause, Stamp, Step, TaskKind, Why,
 };
 use std::alloc::Global;
 use std::sync::Wait;
 use std::test::Fail;
 
-// The device p, its child c, and a task that reads, saves and sleeps.
-fn machine(alloc: Global) -> Result<Machine, Fail>
+// The device p, its child c, a source, and a task that reads, saves, reports so many events and
+// writes mem.
+fn machine(alloc: Global, event: bool) -> Result<Machine, Fail>
     ensures { IfOk result (λ m. IsAccepted m) }
 {
     let name = Name::of_bytes(b"p").ok_or("no name")?;
@@ -42,11 +44,24 @@ fn machine(alloc: Global) -> Result<Machine, Fail>
         times: 1,
     };
     let state = Step { op, times: 1 };
+    let report = Step {
+        op: Op::Event {
+            source: 0,
+            ms: 0,
+            hard: false,
+        },
+        times: 1,
+    };
+    let steps = if event {
+        Vec::from_array(alloc, [read, save, report, state])?
+    } else {
+        Vec::from_array(alloc, [read, save, state])?
+    };
     let task = Script {
         name,
         kind: TaskKind::User,
         repeat: 1,
-        steps: ListOf::of_vec(Vec::from_array(alloc, [read, save, state])?),
+        steps: ListOf::of_vec(steps),
     };
     Ok(Machine {
         alarm_ms: 1000,
@@ -56,7 +71,7 @@ fn machine(alloc: Global) -> Result<Machine, Fail>
         links: ListOf::of_vec(Vec::new(alloc)),
         syscore: ListOf::of_vec(Vec::new(alloc)),
         notifiers: ListOf::of_vec(Vec::new(alloc)),
-        sources: ListOf::of_vec(Vec::new(alloc)),
+        sources: ListOf::of_vec(Vec::from_array(alloc, [name])?),
         marks: ListOf::of_vec(Vec::new(alloc)),
         actors: ListOf::of_vec(Vec::from_array(alloc, [task])?),
         answers: ListOf::of_vec(Vec::new(alloc)),
@@ -65,14 +80,16 @@ fn machine(alloc: Global) -> Result<Machine, Fail>
 
 const TASK: Actor = Actor::Script(0);
 
-// Turns of the task up to the first that makes no entry, which is answered with the last stamp.
+// Turns of the task, which has made so many calls, up to the first that makes no entry. It is
+// answered with the last stamp; None where a call is due first.
 fn drive<R: Wait, E: Events>(
     rt: &R,
     core: &mut Core<'_>,
     events: &mut E,
+    made: u32,
     floor: Stamp,
     most: u32,
-) -> Result<(Stamp, CoreTurn), Fail>
+) -> Result<(Stamp, Option<CoreTurn>), Fail>
     requires task { 0 < length core.old.machine.actors }
     requires last { last_stamp core.old.past ≡ floor }
     requires low { floor.pos ≤ E.floor events.old }
@@ -83,10 +100,13 @@ fn drive<R: Wait, E: Events>(
     if most == 0 {
         return Err("too many turns".into());
     }
+    if core.calls_due(TASK) != made {
+        return Ok((floor, None));
+    }
     let now = core.time();
-    match core.turn(rt, events, TASK, 0, floor, now)? {
-        CoreTurn::Did { stamp, .. } => drive(rt, core, events, stamp, most - 1),
-        turn => Ok((floor, turn)),
+    match core.turn(rt, events, TASK, made, floor, now)? {
+        CoreTurn::Did { stamp, .. } => drive(rt, core, events, made, stamp, most - 1),
+        turn => Ok((floor, Some(turn))),
     }
 }
 
@@ -95,12 +115,12 @@ fn drive<R: Wait, E: Events>(
 #[test]
 fn sleeps_till_the_alarm(rt: HostRuntime) -> Result<(), Fail> {
     let alloc = rt.alloc();
-    let machine = machine(alloc)?;
+    let machine = machine(alloc, false)?;
     let mut core = Core::new(alloc, &machine)?;
     let mut events = PlainEvents::new();
     let start = Stamp { pos: 0, tick: 0 };
-    let (asleep, turn) = drive(&rt, &mut core, &mut events, start, 10)?;
-    assert!(rt; matches!(turn, CoreTurn::NotYet(Why::Asleep)));
+    let (asleep, turn) = drive(&rt, &mut core, &mut events, 0, start, 10)?;
+    assert!(rt; matches!(turn, Some(CoreTurn::NotYet(Why::Asleep))));
     let word = events.look();
     assert!(rt; !core.enabled(TASK, core.calls_due(TASK), word, core.time()));
     let alarm = core.next_time().ok_or("no alarm")?;
@@ -109,10 +129,70 @@ fn sleeps_till_the_alarm(rt: HostRuntime) -> Result<(), Fail> {
     let awake = core.jump(word, alarm, asleep)?;
     assert!(rt; core.enabled(TASK, core.calls_due(TASK), word, core.time()));
     assert!(rt; !core.whole());
-    let (_, turn) = drive(&rt, &mut core, &mut events, awake, 10)?;
-    assert!(rt; matches!(turn, CoreTurn::Done));
+    let (_, turn) = drive(&rt, &mut core, &mut events, 0, awake, 10)?;
+    assert!(rt; matches!(turn, Some(CoreTurn::Done)));
     assert!(rt; core.whole());
     assert_eq!(rt; core.into_journal().len(), 19);
+    Ok(())
+}
+
+/// An event after the save: the child is skipped, the attempt ends with EBUSY, and nothing that was
+/// not suspended is resumed.
+#[test]
+fn an_event_ends_the_attempt(rt: HostRuntime) -> Result<(), Fail> {
+    let alloc = rt.alloc();
+    let machine = machine(alloc, true)?;
+    let mut core = Core::new(alloc, &machine)?;
+    let mut events = PlainEvents::new();
+    let start = Stamp { pos: 0, tick: 0 };
+    let (saved, turn) = drive(&rt, &mut core, &mut events, 0, start, 10)?;
+    assert!(rt; turn.is_none());
+    let word = events.look();
+    assert!(rt; core.enabled(TASK, 0, word, core.time()));
+    if word.inpr > 0 || word.count > 0 {
+        return Err("an event came".into());
+    }
+    let before = events.start();
+    let during = events.finish();
+    assert_eq!(rt; (before.inpr, during.inpr, events.look().count), (0, 1, 1));
+    let (_, turn) = drive(&rt, &mut core, &mut events, 1, saved, 10)?;
+    assert!(rt; matches!(turn, Some(CoreTurn::Done)));
+    let journal = core.into_journal();
+    let [_, _, attempt, skip, suspend, resume, clear, over, _] = journal.as_slice() else {
+        return Err("not nine entries".into());
+    };
+    assert!(rt;
+        matches!(
+            attempt.entry.kind,
+            Kind::Attempt {
+                n: 1,
+                guarded: Some(0)
+            }
+        )
+    );
+    assert!(rt;
+        matches!(
+            skip.entry.kind,
+            Kind::Skip(Phase::Suspend, 1, SkipCause::Pending)
+        )
+    );
+    assert!(rt;
+        matches!(
+            suspend.entry.kind,
+            Kind::Done(Phase::Suspend, Some(Errno::EBUSY))
+        )
+    );
+    assert!(rt; matches!(resume.entry.kind, Kind::Done(Phase::Resume, None)));
+    assert!(rt; matches!(clear.entry.kind, Kind::Clear));
+    assert!(rt;
+        matches!(
+            over.entry.kind,
+            Kind::Over {
+                n: 1,
+                r: Some(Errno::EBUSY)
+            }
+        )
+    );
     Ok(())
 }
 
@@ -151,7 +231,7 @@ impl Events for Passing {
 #[test]
 fn read_waits_for_an_event(rt: HostRuntime) -> Result<(), Fail> {
     let alloc = rt.alloc();
-    let machine = machine(alloc)?;
+    let machine = machine(alloc, false)?;
     let mut core = Core::new(alloc, &machine)?;
     let now = EventNow {
         inpr: 1,
@@ -160,13 +240,15 @@ fn read_waits_for_an_event(rt: HostRuntime) -> Result<(), Fail> {
     };
     let mut events = Passing { left: 2, now };
     let start = Stamp { pos: 0, tick: 0 };
-    let CoreTurn::Did { stamp, kind, .. } = core.turn(&rt, &mut events, TASK, 0, start, 0)? else {
+    let calls = core.calls_due(TASK);
+    let CoreTurn::Did { stamp, kind, .. } = core.turn(&rt, &mut events, TASK, calls, start, 0)?
+    else {
         return Err("no entry".into());
     };
     assert!(rt; matches!(kind, Kind::ReadWait));
-    let turn = core.turn(&rt, &mut events, TASK, 0, stamp, 0)?;
+    let turn = core.turn(&rt, &mut events, TASK, core.calls_due(TASK), stamp, 0)?;
     assert!(rt; matches!(turn, CoreTurn::NotYet(Why::InProgress)));
-    let turn = core.turn(&rt, &mut events, TASK, 0, stamp, 0)?;
+    let turn = core.turn(&rt, &mut events, TASK, core.calls_due(TASK), stamp, 0)?;
     assert!(rt;
         matches!(
             turn,

@@ -1,17 +1,17 @@
-ghost use Rattle.std.specs.Prelude.{◌≡◌, ℕ, option_copied, slice_get};
-ghost use Rattle.sleep_model.specs.Accepted.{IsWriter};
-ghost use Rattle.sleep_model.specs.Scripts.{entry_steps};
+ghost use Rattle.std.specs.Prelude.{◌≡◌, IfOk};
+ghost use Rattle.sleep_model.specs.Accepted.{HasWriter};
 ghost use Rattle.sleep_model.specs.Due.{read_due, save_due};
 
 use crate::events::{Events, look_from};
 use crate::history::History;
+use crate::plan::Plan;
 use crate::steps;
 use sleep_base::{Errno, Mem};
 use sleep_model::{
     Actor, Due, Entry, EventNow, JournalEntry, Kind, Machine, Op, Phase, Row, Script, Seat,
     SkipCause, Stamp, Why, pos,
 };
-use std::alloc::Global;
+use std::alloc::{AllocError, Global};
 use std::marker::Model;
 use std::sync::Wait;
 
@@ -43,6 +43,7 @@ pub enum CoreFault {
 #[derive(Drop)]
 pub struct Core<'m> {
     machine: &'m Machine,
+    plans: Vec<Plan<'m>>,
     history: History,
 }
 
@@ -58,17 +59,16 @@ impl<'m> Model for Core<'m> {
     ghost invariant = { keeps };
 }
 
-/// The operation that a script is at.
-fn operation(script: &Script, done: usize) -> Option<&Op>
-    requires { (n : ℕ) × IsWriter n script.now }
-    ensures { option_copied result ≡ slice_get (entry_steps script.now) done }
+/// The plan of each script.
+fn plans_of(alloc: Global, machine: &Machine) -> Result<Vec<Plan<'_>>, AllocError>
+    requires { HasWriter machine.now }
+    ensures { IfOk result (λ v. v.items ≡ machine.now.actors) }
 {
-    let steps = script.steps.as_slice();
-    if done < steps.len() {
-        Some(&steps[done].op)
-    } else {
-        None
+    let mut plans = Vec::new(alloc);
+    for script in machine.actors.as_slice() {
+        plans.push(Plan::new(alloc, script)?)?;
     }
+    Ok(plans)
 }
 
 /// A read's next entry.
@@ -96,7 +96,7 @@ fn save_due(now: EventNow, count: u32) -> Due
 }
 
 impl<'m> Core<'m> {
-    ghost use Rattle.std.specs.Prelude.{◌≡◌, ◌≤◌, ◌<◌, ◌+◌, ◌-◌, ◌^◌, [], ◌&&◌, None, is_none, reverse, IfOk, OnOk, OnErr, Option, slice_get, slice_index_or, option_copied, length};
+    ghost use Rattle.std.specs.Prelude.{◌≡◌, ◌≤◌, ◌<◌, ◌+◌, ◌-◌, ◌^◌, [], ◌&&◌, ◌||◌, nat_lt, None, is_none, reverse, IfOk, OnOk, OnErr, Option, slice_get, slice_index_or, option_copied, length};
     ghost use Rattle.sleep_model.specs.declared.place.Due.TheVariants.{Makes};
     ghost use Rattle.sleep_model.specs.declared.word.EventNow.{EventNow};
     ghost use Rattle.sleep_model.specs.Accepted.{IsAccepted};
@@ -118,8 +118,13 @@ impl<'m> Core<'m> {
         requires { IsAccepted machine.now }
         ensures { IfOk result (λ c. (c.machine ≡ machine.now) × (c.past ≡ [])) }
     {
+        let plans = plans_of(alloc, machine)?;
         let history = History::new(alloc, machine.actors.len())?;
-        Ok(Core { machine, history })
+        Ok(Core {
+            machine,
+            plans,
+            history,
+        })
     }
 
     /// The device that suspend takes next.
@@ -247,8 +252,8 @@ impl<'m> Core<'m> {
         if seat.exited {
             return Due::Gone;
         }
-        let script = &self.machine.actors.as_slice()[script as usize];
-        self.step_due(now, seat, operation(script, seat.done))
+        let operation = self.plans[script as usize].operation(seat.done);
+        self.step_due(now, seat, operation)
     }
 
     /// What is due of an actor that sees this word.
@@ -390,24 +395,31 @@ impl<'m> Core<'m> {
         Ok(stamp)
     }
 
-    /// How many source calls the actor has to have made before its next journal entry.
+    /// How many source calls the actor has to have made before its next journal entry. Only a script
+    /// makes calls of its own.
     pub fn calls_due(&self, who: Actor) -> u32
         requires { IsActor self.now.machine who }
         ensures { result ≡ calls_due self.now.machine (entries self.now.past) who }
     {
-        let _ = who;
-        0
+        match who {
+            Actor::Script(script) => {
+                let seat = self.history.seat(script);
+                self.plans[script as usize].calls_before(seat.done)
+            }
+            _ => 0,
+        }
     }
 
-    /// Whether the actor can make an entry that sees this word, or has a source call to make.
+    /// Whether the actor, which has made so many source calls, can make an entry that sees this word,
+    /// or has a source call to make.
     pub fn enabled(&self, who: Actor, calls: u32, now: EventNow, time: u64) -> bool
         requires actor { IsActor self.now.machine who }
-        requires calls { calls ≡ calls_due self.now.machine (entries self.now.past) who }
         requires time { time ≡ time_of (entries self.now.past) }
-        ensures { result ≡ is_made (due self.now.machine (entries self.now.past) who now) }
+        ensures { result ≡ (nat_lt calls (calls_due self.now.machine (entries self.now.past) who)
+            || is_made (due self.now.machine (entries self.now.past) who now)) }
     {
-        let _ = (calls, time);
-        matches!(self.due(who, now), Due::Makes(_))
+        let _ = time;
+        calls < self.calls_due(who) || matches!(self.due(who, now), Due::Makes(_))
     }
 
     /// The least pending time in ms, the sources' expiries left out. None where none is pending.
@@ -440,10 +452,7 @@ impl<'m> Core<'m> {
     pub fn into_journal(self) -> Vec<JournalEntry>
         ensures { reverse result.items ≡ self.entry.past }
     {
-        let Core {
-            history,
-            machine: _,
-        } = self;
+        let Core { history, .. } = self;
         history.into_entries()
     }
 }

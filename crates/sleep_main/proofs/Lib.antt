@@ -1,2 +1,3 @@
-pub mod Journals
-pub mod Rounds
+pub mod Meters
+pub mod Running
+pub mod Writers

@@ -2,6 +2,7 @@
 #![tactic(auto)]
 
 mod ending;
+mod meter;
 mod run;
 #[cfg(test)]
 mod tests;

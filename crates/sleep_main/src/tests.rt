@@ -34,6 +34,74 @@ source lid 0 0 0 0 0 0 0\n\
 source autosleep 0 0 0 0 0 0 0\n\
 finished\n";
 
+/// The lid reports an event after the count was saved: the child is not suspended.
+const EVENT_AFTER_SAVE: &str =
+    r#"{"version": 1, "devices": [{"name": "p"}, {"name": "c", "parent": "p"}], "sources": ["lid"], "actors": [{"name": "w", "kind": "user", "script": [{"op": "read"}, {"op": "save"}, {"op": "event", "source": "lid"}, {"op": "state", "text": "mem"}]}]}"#;
+
+/// What the program writes for it.
+const EVENT_AFTER_SAVE_LOG: &str = "\
+0 0/0/0 task:w read 0\n\
+0 0/0/0 task:w save 0 ok\n\
+0 0/0/0 task:w event lid 0 soft\n\
+0 0/0/0 task:w start lid\n\
+0 1/0/0 task:w finish lid\n\
+0 0/1/0 task:w attempt 1 guarded 0\n\
+0 0/1/0 task:w skip suspend c pending\n\
+0 0/1/0 task:w done suspend EBUSY\n\
+0 0/1/0 task:w done resume 0\n\
+0 0/1/0 task:w clear\n\
+0 0/1/0 task:w over 1 EBUSY\n\
+0 0/1/0 task:w exit\n\
+source lid 1 1 0 0 0 0 0\n\
+source autosleep 0 0 0 0 0 0 0\n\
+finished\n";
+
+/// An event between the read and the save: the save fails, and a plain attempt sleeps.
+const EVENT_BEFORE_SAVE: &str =
+    r#"{"version": 1, "sources": ["lid"], "actors": [{"name": "w", "kind": "user", "script": [{"op": "read"}, {"op": "event", "source": "lid"}, {"op": "save"}, {"op": "state", "text": "mem"}]}]}"#;
+
+/// What the program writes for it.
+const EVENT_BEFORE_SAVE_LOG: &str = "\
+0 0/0/0 task:w read 0\n\
+0 0/0/0 task:w event lid 0 soft\n\
+0 0/0/0 task:w start lid\n\
+0 1/0/0 task:w finish lid\n\
+0 0/1/0 task:w save 0 EINVAL\n\
+0 0/1/0 task:w attempt 1 plain\n\
+0 0/1/0 task:w done suspend 0\n\
+0 0/1/0 task:w enter\n\
+1000 0/1/0 time jump\n\
+1000 0/1/0 task:w wake alarm\n\
+1000 0/1/0 task:w done resume 0\n\
+1000 0/1/0 task:w clear\n\
+1000 0/1/0 task:w over 1 0\n\
+1000 0/1/0 task:w exit\n\
+source lid 1 1 0 0 0 0 0\n\
+source autosleep 0 0 0 0 0 0 0\n\
+finished\n";
+
+/// An event after the save, and no devices: the machine does not enter sleep.
+const EVENT_WITHOUT_DEVICES: &str =
+    r#"{"version": 1, "sources": ["lid"], "actors": [{"name": "w", "kind": "user", "script": [{"op": "read"}, {"op": "save"}, {"op": "event", "source": "lid"}, {"op": "state", "text": "mem"}]}]}"#;
+
+/// What the program writes for it.
+const EVENT_WITHOUT_DEVICES_LOG: &str = "\
+0 0/0/0 task:w read 0\n\
+0 0/0/0 task:w save 0 ok\n\
+0 0/0/0 task:w event lid 0 soft\n\
+0 0/0/0 task:w start lid\n\
+0 1/0/0 task:w finish lid\n\
+0 0/1/0 task:w attempt 1 guarded 0\n\
+0 0/1/0 task:w done suspend 0\n\
+0 0/1/0 task:w enter EBUSY\n\
+0 0/1/0 task:w done resume 0\n\
+0 0/1/0 task:w clear\n\
+0 0/1/0 task:w over 1 EBUSY\n\
+0 0/1/0 task:w exit\n\
+source lid 1 1 0 0 0 0 0\n\
+source autosleep 0 0 0 0 0 0 0\n\
+finished\n";
+
 /// The words of the one form.
 const RUN: [&str; 4] = ["sleep", "run", "--workers", "1"];
 
@@ -114,10 +182,19 @@ fn expect<R: Wait + Abort>(
     Ok(())
 }
 
-/// An attempt of a parent and its child: the child suspends first, the parent resumes first.
+/// An attempt of a parent and its child, in which the child suspends first and the parent resumes
+/// first; and events before, between and after the steps that lead to an attempt.
 #[test]
-fn a_small_machine_sleeps_and_wakes(rt: HostRuntime) -> Result<(), Fail> {
-    expect(&rt, rt.alloc(), SMALL, 0, SMALL_LOG, "")
+fn machines_give_their_logs(rt: HostRuntime) -> Result<(), Fail> {
+    for (file, log) in [
+        (SMALL, SMALL_LOG),
+        (EVENT_AFTER_SAVE, EVENT_AFTER_SAVE_LOG),
+        (EVENT_BEFORE_SAVE, EVENT_BEFORE_SAVE_LOG),
+        (EVENT_WITHOUT_DEVICES, EVENT_WITHOUT_DEVICES_LOG),
+    ] {
+        expect(&rt, rt.alloc(), file, 0, log, "")?;
+    }
+    Ok(())
 }
 
 /// What may not be used today, and what no machine file is.
@@ -125,6 +202,7 @@ fn a_small_machine_sleeps_and_wakes(rt: HostRuntime) -> Result<(), Fail> {
 fn other_files_are_refused(rt: HostRuntime) -> Result<(), Fail> {
     for file in [
         r#"{"version": 1, "actors": [{"name": "w", "kind": "user", "script": [{"op": "sleep", "ms": 5}]}]}"#,
+        r#"{"version": 1, "sources": ["lid"], "actors": [{"name": "w", "kind": "user", "script": [{"op": "event", "source": "door"}]}]}"#,
         r#"not json"#,
         r#"{"version":1}"#,
         r#"{"version":1,"actors":[{"name":"w","kind":"user"},{"name":"v","kind":"user"}]}"#,

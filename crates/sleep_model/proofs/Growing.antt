@@ -1,5 +1,5 @@
 -- A legal log with one more entry is legal, and where the writer is through it is finished.
-use Rattle.std.proofs.Common.{◌≡◌, ◌<◌, ◌+◌, ◌∙◌, ℕ, true, false, not, ◌==◌, ◌&&◌, List, [], ◌∷◌, length, Option, Some, None, refl, sym, ap, subst, slice_index_or, is_none, arith}
+use Rattle.std.proofs.Common.{◌≡◌, ◌<◌, ◌+◌, ◌∙◌, ℕ, true, false, not, ◌==◌, ◌&&◌, ◌||◌, List, [], ◌∷◌, length, Option, Some, None, refl, sym, ap, subst, slice_index_or, is_none, is_some, arith}
 use Rattle.std.proofs.Math.Bool.{and-false}
 use Rattle.std.proofs.lemmas.List.{length-set, length-replicate}
 use Rattle.std.proofs.lemmas.Bool.Decides.{nat_tests}
@@ -18,13 +18,18 @@ use Rattle.sleep_model.specs.declared.place.Row.{Row}
 use Rattle.sleep_model.specs.declared.place.Row.TheVariants as row
 use Rattle.sleep_model.specs.declared.place.Seat.{Seat}
 use Rattle.sleep_model.specs.declared.word.EventNow.{EventNow}
-use Rattle.sleep_model.specs.Accepted.{IsAccepted, IsOneWriter}
+use Rattle.sleep_model.specs.Accepted.{IsAccepted, IsOneWriter, HasWriter}
 use Rattle.sleep_model.specs.Numbers.{time_of, numbers, word_step, after_step}
 use Rattle.sleep_model.specs.Path.{maker, row_of}
 use Rattle.sleep_model.specs.Seats.{SeatPart, seats, seats_after, seat_part, first_seat}
 use Rattle.sleep_model.specs.Due.{due}
-use Rattle.sleep_model.specs.Legal.{OfJournal, OfTime, part_of, IsLegal, JournalPart, JournalStep, SourceStep, JointStep, is_made, none_enabled, is_idle, is_finished, all_exited, next_time, alarm_at}
+use Rattle.sleep_model.specs.Calls.{next_note}
+use Rattle.sleep_model.specs.Parts.{OfJournal, OfTime, part_of}
+use Rattle.sleep_model.specs.Sources.{is_of}
+use Rattle.sleep_model.specs.Legal.{IsLegal, JournalPart, JournalStep, OwnStep, JointStep, IsOwnTurn, is_made, none_enabled, is_idle, is_finished, all_exited, next_time, alarm_at}
 use Rattle.sleep_model.proofs.Walking.{facts_of, AtRow}
+use Rattle.sleep_model.specs.Sources.{AreQuiet}
+use Rattle.sleep_model.proofs.Calling.{quiet_kept}
 use Rattle.sleep_model.proofs.Made.{made, made_of_journal}
 use Rattle.sleep_model.proofs.Idling.{Idle, Makes', InProgress, Asleep, Exited, idle_case}
 
@@ -35,29 +40,43 @@ no_step (kind.Finish s) e = absurd (cc)
 no_step (kind.Hard s) e = absurd (cc)
 no_step _ e = refl
 
--- a legal log with what is due at its word is legal
-pub entry_legal : (m : Machine) → IsOneWriter (length m.devices) m.actors → (past : List Entry) → IsLegal m past → (e : Entry) → due m past e.actor e.now ≡ Makes e.kind → e.now ≡ numbers past → e.time ≡ time_of past → IsLegal m (e ∷ past)
-entry_legal m acc past legal e is word time =
-    let part : part_of e.kind ≡ OfJournal = made_of_journal m past e.now e.kind (made m acc past (facts_of m acc past legal.journal) e.now e.actor e.kind is) in
+-- what is due is an entry of the journal
+pub due_of_journal : (m : Machine) → HasWriter m → (past : List Entry) → JournalPart m past → (e : Entry) → due m past e.actor e.now ≡ Makes e.kind → part_of e.kind ≡ OfJournal
+due_of_journal m acc past legal e is = made_of_journal m past e.now e.kind (made m acc past (facts_of m acc past legal) e.now e.actor e.kind is)
+
+-- a legal log with what is due at its word, of an actor whose turn it is, is legal
+pub entry_legal : (m : Machine) → HasWriter m → (past : List Entry) → IsLegal m past → (e : Entry) → due m past e.actor e.now ≡ Makes e.kind → e.now ≡ numbers past → e.time ≡ time_of past → IsOwnTurn m past e.actor → IsLegal m (e ∷ past)
+entry_legal m acc past legal e is word time own =
+    let part : part_of e.kind ≡ OfJournal = due_of_journal m acc past legal.journal e is in
     record {
       journal = (subst (JournalStep m past e) (sym part) (is, time), legal.journal);
-      sources = (subst SourceStep (sym part) tt, legal.sources);
-      joint = (subst (JointStep m past e) (sym part) word, legal.joint);
+      sources = (subst (OwnStep past e) (sym part) tt, legal.sources);
+      joint = (subst (JointStep m past e) (sym part) (word, own), legal.joint);
     }
 
-pub entry_quiet : (m : Machine) → IsOneWriter (length m.devices) m.actors → (past : List Entry) → JournalPart m past → (e : Entry) → due m past e.actor e.now ≡ Makes e.kind → numbers (e ∷ past) ≡ numbers past
-entry_quiet m acc past legal e is =
-    ap (λ s. after_step s (numbers past)) (no_step e.kind (made_of_journal m past e.now e.kind (made m acc past (facts_of m acc past legal) e.now e.actor e.kind is)))
+-- the word stays
+pub entry_numbers : (e : Entry) (past : List Entry) → part_of e.kind ≡ OfJournal → numbers (e ∷ past) ≡ numbers past
+entry_numbers e past part = ap (λ s. after_step s (numbers past)) (no_step e.kind part)
 
-one_actor : (n : ℕ) (ss : List Script) → IsOneWriter n ss → length ss ≡ 1
-one_actor n [] h = absurd h
-one_actor n (s ∷ []) h = refl
-one_actor n (s ∷ t ∷ rest) h = absurd h
+-- no source gains an entry
+pub entry_quiet : (e : Entry) (past : List Entry) → part_of e.kind ≡ OfJournal → AreQuiet past → AreQuiet (e ∷ past)
+entry_quiet e past part = quiet_kept e past (λ s. ap (is_of s) part)
 
--- with one script, nobody is enabled where nothing is due of it
-idle_of : (m : Machine) → IsOneWriter (length m.devices) m.actors → (past : List Entry) → is_made (due m past (actor.Script 0) (numbers past)) ≡ false → is_idle m past ≡ true
-idle_of m acc past e =
-    ap (none_enabled m past) (one_actor (length m.devices) m.actors acc) ∙ ap (λ b. not b && true) e
+one_actor : (d n : ℕ) (ss : List Script) → IsOneWriter d n ss → length ss ≡ 1
+one_actor d n [] h = absurd h
+one_actor d n (s ∷ []) h = refl
+one_actor d n (s ∷ t ∷ rest) h = absurd h
+
+-- the machine has one script
+pub has_one : (m : Machine) → HasWriter m → length m.actors ≡ 1
+has_one m acc = one_actor (length m.devices) (length m.sources) m.actors acc
+
+-- with one script, nobody is enabled where it is inside no call, makes none next, and nothing is due of it
+idle_of : (m : Machine) → HasWriter m → (past : List Entry) → IsOwnTurn m past (actor.Script 0) → is_made (due m past (actor.Script 0) (numbers past)) ≡ false → is_idle m past ≡ true
+idle_of m acc past own e =
+    ap (none_enabled m past) (has_one m acc)
+    ∙ (ap (λ b. not (b || is_some (next_note m past 0) || is_made (due m past (actor.Script 0) (numbers past))) && true) own.0
+    ∙ (ap (λ (o : Option Kind). not (is_some o || is_made (due m past (actor.Script 0) (numbers past))) && true) own.1 ∙ ap (λ b. not b && true) e))
 
 -- why the writer is idle, at what is due of it
 asleep_only : (m : Machine) (past : List Entry) (now : EventNow) (w : Why) (d : Due) → Idle m past now d → d ≡ Waits w → now.inpr ≡ 0 → (pos : ℕ) × (since : ℕ) × (row_of past ≡ row.Asleep pos since) × (time_of past < since + m.alarm_ms)
@@ -77,12 +96,12 @@ pub record MayJump (m : Machine) (past : List Entry) (at : ℕ) : Type 0 where
   pub idle : is_idle m past ≡ true
   pub open_still : is_finished m past ≡ false
 
-pub may_jump : (m : Machine) → IsAccepted m → (past : List Entry) → JournalPart m past → (w : Why) → due m past (actor.Script 0) (numbers past) ≡ Waits w → (numbers past).inpr ≡ 0 → (at : ℕ) × MayJump m past at
-may_jump m acc past legal w e quiet =
+pub may_jump : (m : Machine) → IsAccepted m → (past : List Entry) → JournalPart m past → IsOwnTurn m past (actor.Script 0) → (w : Why) → due m past (actor.Script 0) (numbers past) ≡ Waits w → (numbers past).inpr ≡ 0 → (at : ℕ) × MayJump m past at
+may_jump m acc past legal own w e quiet =
     let f = facts_of m acc.writer past legal in
     let s = asleep_only m past (numbers past) w _ (idle_case m acc past (numbers past) f) e quiet in
     let who : maker past ≡ Some (actor.Script 0) = sleeper_open _ _ _ _ _ _ _ f.at_row s.0 s.1 s.2 in
-    let idle : is_idle m past ≡ true = idle_of m acc.writer past (ap is_made e) in (
+    let idle : is_idle m past ≡ true = idle_of m acc.writer past own (ap is_made e) in (
       s.1 + m.alarm_ms,
       record {
         next = ap (alarm_at m.alarm_ms) s.2;
@@ -98,7 +117,7 @@ jump_legal m past legal at j e who jumps time word =
     let part : part_of e.kind ≡ OfTime = ap part_of jumps in
     record {
       journal = (subst (JournalStep m past e) (sym part) (subst (λ (t : ℕ). time_of past < t) (sym time) j.later), legal.journal);
-      sources = (subst SourceStep (sym part) tt, legal.sources);
+      sources = (subst (OwnStep past e) (sym part) tt, legal.sources);
       joint = (subst (JointStep m past e) (sym part) (word, record { by_time = who; idle = j.idle; goes_on = j.open_still; least = j.next ∙ ap Some (sym time) }), legal.joint);
     }
 
@@ -125,9 +144,9 @@ exited_only m past now _ (Asleep pos since r l) e = absurd (cc)
 exited_only m past now _ (Exited a b) e = (a, b)
 
 -- where the writer is through, the log is finished
-pub finished_of : (m : Machine) → IsAccepted m → (past : List Entry) → JournalPart m past → due m past (actor.Script 0) (numbers past) ≡ Gone → is_finished m past ≡ true
-finished_of m acc past legal e =
+pub finished_of : (m : Machine) → IsAccepted m → (past : List Entry) → JournalPart m past → IsOwnTurn m past (actor.Script 0) → due m past (actor.Script 0) (numbers past) ≡ Gone → is_finished m past ≡ true
+finished_of m acc past legal own e =
     let x = exited_only m past (numbers past) _ (idle_case m acc past (numbers past) (facts_of m acc.writer past legal)) e in
-    let exits : all_exited (seats (length m.actors) past) ≡ true = one_exited (seats (length m.actors) past) (seats_len (length m.actors) past ∙ one_actor (length m.devices) m.actors acc.writer) x.1 in
-    let idle : is_idle m past ≡ true = idle_of m acc.writer past (ap is_made e) in
+    let exits : all_exited (seats (length m.actors) past) ≡ true = one_exited (seats (length m.actors) past) (seats_len (length m.actors) past ∙ has_one m acc.writer) x.1 in
+    let idle : is_idle m past ≡ true = idle_of m acc.writer past own (ap is_made e) in
     ap (λ b. b && is_none (maker past) && is_idle m past) exits ∙ ap (λ (y : Option Actor). is_none y && is_idle m past) x.0 ∙ idle

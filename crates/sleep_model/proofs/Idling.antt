@@ -1,5 +1,6 @@
 -- Where nothing is due of the writer: it has exited, it reads while events are in progress, or the machine sleeps.
 use Rattle.std.proofs.Common.{◌≡◌, ◌<◌, ◌+◌, ℕ, Bool, true, false, ◌==◌, List, [], ◌∷◌, length, nat_le, Option, Some, None, refl, sym, subst, cond, slice_get, slice_index_or, arith}
+use Rattle.std.proofs.lemmas.Bool.{true≢false}
 use Rattle.std.proofs.lemmas.Bool.Decides.{nat_tests}
 use Rattle.sleep_base.specs.declared.errno.Errno.{Errno}
 use Rattle.sleep_model.specs.declared.entry.Actor.{Actor}
@@ -26,7 +27,7 @@ use Rattle.sleep_model.specs.Seats.{seats, first_seat}
 use Rattle.sleep_model.specs.Walk.{inside}
 use Rattle.sleep_model.specs.Due.{due, seat_due, step_due, path_due, suspend_due, resume_due}
 use Rattle.sleep_base.specs.declared.errno.Errno.TheVariants.{EINVAL}
-use Rattle.sleep_model.proofs.Operations.{GivenIf, operation_given}
+use Rattle.sleep_model.proofs.Operations.{EntryIf, entry_given}
 use Rattle.sleep_model.proofs.Walking.{Facts, AtRow, ScriptCase, Nothing, OwnStep, OnPath, due_case}
 
 -- why nothing is due of the writer that sees this word
@@ -45,23 +46,24 @@ save_idle : (m : Machine) (past : List Entry) (now : EventNow) (c : ℕ) (ok : B
 save_idle m past now c true = Makes' _
 save_idle m past now c false = Makes' _
 
-step_idle : (m : Machine) (past : List Entry) (now : EventNow) (seat : Seat) (step : Option Op) → GivenIf step → Idle m past now (step_due past now seat step)
-step_idle m past now seat None h = Makes' _
-step_idle m past now seat (Some op.Read) h = read_idle m past now _ _ refl
-step_idle m past now seat (Some (op.Save None)) h = save_idle m past now _ _
-step_idle m past now seat (Some (op.Save (Some c))) h = absurd h
-step_idle m past now seat (Some (op.State text false)) h = Makes' _
-step_idle m past now seat (Some (op.State text true)) h = absurd h
-step_idle m past now seat (Some _) h = absurd h
+step_idle : (m : Machine) (past : List Entry) (now : EventNow) (n : ℕ) (seat : Seat) (step : Option Op) → EntryIf n step → Idle m past now (step_due past now seat step)
+step_idle m past now n seat None h = Makes' _
+step_idle m past now n seat (Some op.Read) h = read_idle m past now _ _ refl
+step_idle m past now n seat (Some (op.Save None)) h = save_idle m past now _ _
+step_idle m past now n seat (Some (op.Save (Some c))) h = absurd h.0
+step_idle m past now n seat (Some (op.State text false)) h = Makes' _
+step_idle m past now n seat (Some (op.State text true)) h = absurd h.0
+step_idle m past now n seat (Some (op.Event s ms hard)) h = absurd (true≢false (sym h.1))
+step_idle m past now n seat (Some _) h = absurd h.0
 
-own_idle : (m : Machine) (past : List Entry) (now : EventNow) (n : ℕ) (ss : List Script) → IsOneWriter n ss → maker past ≡ None → (seat : Seat) → seat ≡ slice_index_or (seats (length m.actors) past) 0 first_seat → Idle m past now (seat_due past now (slice_get ss 0) seat)
-own_idle m past now n [] h who seat e = absurd h
-own_idle m past now n (s ∷ []) h who seat e = exits seat.exited refl
+own_idle : (m : Machine) (past : List Entry) (now : EventNow) (d n : ℕ) (ss : List Script) → IsOneWriter d n ss → maker past ≡ None → (seat : Seat) → seat ≡ slice_index_or (seats (length m.actors) past) 0 first_seat → Idle m past now (seat_due past now (slice_get ss 0) seat)
+own_idle m past now d n [] h who seat e = absurd h
+own_idle m past now d n (s ∷ []) h who seat e = exits seat.exited refl
   where
     exits : (exited : Bool) → seat.exited ≡ exited → Idle m past now (cond exited Gone (step_due past now seat (slice_get (entry_steps s) seat.done)))
     exits true x = Exited who (subst (λ (t : Seat). t.exited ≡ true) e x)
-    exits false x = step_idle m past now seat (slice_get (entry_steps s) seat.done) (operation_given n s h seat.done)
-own_idle m past now n (s ∷ t ∷ rest) h who seat e = absurd h
+    exits false x = step_idle m past now n seat (slice_get (entry_steps s) seat.done) (entry_given d n s h seat.done)
+own_idle m past now d n (s ∷ t ∷ rest) h who seat e = absurd h
 
 suspend_idle : (m : Machine) (past : List Entry) (now : EventNow) (i : Option ℕ) (er : Option Errno) (next : Option ℕ) (busy : Bool) → Idle m past now (suspend_due i er next busy)
 suspend_idle m past now (Some d) er next busy = Makes' _
@@ -94,7 +96,7 @@ open_inside o who r i er se su h e f = let none : who ≡ None = (subst (λ (x :
 
 writer_idle : (m : Machine) → IsAccepted m → (past : List Entry) (now : EventNow) → Facts m past → ScriptCase m past now (maker past) (row_of past) 0 → Idle m past now (due m past (actor.Script 0) now)
 writer_idle m acc past now w (Nothing l e) = absurd (omega arith)
-writer_idle m acc past now w (OwnStep h) = subst (Idle m past now) (sym h.3) (own_idle m past now (length m.devices) m.actors acc.writer h.1 _ refl)
+writer_idle m acc past now w (OwnStep h) = subst (Idle m past now) (sym h.3) (own_idle m past now (length m.devices) (length m.sources) m.actors acc.writer h.1 _ refl)
 writer_idle m acc past now w (OnPath h) = subst (Idle m past now) (sym h.2) (path_idle m past now (row_of past) refl (open_inside _ _ _ _ _ _ _ w.at_row h.1))
 
 -- what is due of the writer, and if nothing, why

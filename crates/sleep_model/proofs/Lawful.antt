@@ -1,5 +1,5 @@
 -- A legal log keeps the laws.
-use Rattle.std.proofs.Common.{◌≡◌, ◌+◌, ◌∙◌, ℕ, Bool, true, false, not, ◌||◌, List, [], ◌∷◌, length, Option, Some, None, refl, sym, ap, subst, unwrap_or, option_map, arith}
+use Rattle.std.proofs.Common.{◌≡◌, ◌+◌, ◌∙◌, ℕ, Bool, true, false, not, ◌||◌, List, [], ◌∷◌, length, Option, Some, None, refl, sym, ap, subst, arith}
 use Rattle.std.proofs.lemmas.Bool.{not-false, true≢false}
 use Rattle.sleep_base.specs.declared.errno.Errno.{Errno}
 use Rattle.sleep_base.specs.declared.errno.Errno.TheVariants.{EINVAL}
@@ -13,15 +13,17 @@ use Rattle.sleep_model.specs.declared.place.Row.{Row}
 use Rattle.sleep_model.specs.declared.place.Row.TheVariants as row
 use Rattle.sleep_model.specs.declared.word.EventNow.{EventNow}
 use Rattle.sleep_model.specs.Accepted.{IsAccepted}
-use Rattle.sleep_model.specs.Guard.{pending, in_force}
+use Rattle.sleep_model.specs.Guard.{pending, in_force, count_part}
 use Rattle.sleep_model.specs.Numbers.{numbers}
 use Rattle.sleep_model.specs.Path.{row_of, row_after, failure, failure_after, attempts}
 use Rattle.sleep_model.specs.Walk.{is_among, error_of, error_after, settled, suspended}
 use Rattle.sleep_model.specs.Word.{position, visible}
 use Rattle.sleep_model.specs.declared.entry.SkipCause.TheVariants.{Pending}
-use Rattle.sleep_model.specs.Laws.{DependentsFirst, SuppliersFirst, Restored, Enters, SeesNothing, Laws, LawsAt, test_part, disturbed, disturbed_after, entered, entered_after, guard_of, unread, unsaved, counted}
-use Rattle.sleep_model.specs.Legal.{part_of, IsLegal, JournalPart, JournalStep, SourcePart, SourceStep}
+use Rattle.sleep_model.specs.Laws.{DependentsFirst, SuppliersFirst, Restored, Enters, SeesNothing, FoundPending, Laws, LawsAt, test_part, disturbed, disturbed_after, entered, entered_after, guard_of}
+use Rattle.sleep_model.specs.Parts.{part_of}
+use Rattle.sleep_model.specs.Legal.{IsLegal, JournalPart, JournalStep, SourcePart, JointPart, JointStep}
 use Rattle.sleep_model.proofs.Walking.{Facts, facts_of, AtRow, InSuspend}
+use Rattle.sleep_model.proofs.Guarded.{IsGuarded, guarded_of, sees_nothing}
 use Rattle.sleep_model.proofs.Made.{Made, made}
 use Rattle.sleep_model.proofs.Dependents.{fails_after, fails_before, children_all, parent_before}
 
@@ -107,72 +109,51 @@ enters_made : (m : Machine) (past : List Entry) → CalmAt past → (now : Event
 enters_made m past calm now _ (Made.Overs r) = λ q. let h = calm_as past _ calm r q in (h.1, h.0)
 enters_made m past calm now _ _ = tt
 
--- no step of the word was made
-pub record NoSteps (past : List Entry) : Type 0 where
-  pub word : numbers past ≡ record { inpr = 0; count = 0; hard = 0 }
-  pub since_read : unwrap_or (unread past) 0 ≡ 0
-  pub since_save : unsaved past ≡ 0
+-- a test that found a wakeup is made only where one is pending
+found_made : (m : Machine) (past : List Entry) (now : EventNow) → now ≡ numbers past → (k : Kind) → Made m past now k → FoundPending past (count_part k)
+found_made m past now word _ (Made.Skips d r a b c e) = ap (pending past) (sym word) ∙ e
+found_made m past now word _ (Made.Enters true r e) = ap (pending past) (sym word) ∙ e
+found_made m past now word _ (Made.Enters false r e) = tt
+found_made m past now word _ _ = tt
 
-unread_zero : (o : Option ℕ) → unwrap_or o 0 ≡ 0 → unwrap_or (option_map (counted None) o) 0 ≡ 0
-unread_zero None e = refl
-unread_zero (Some n) e = e
-
-no_steps_after : (e : Entry) (past : List Entry) (k : Kind) → SourceStep (part_of k) → NoSteps past → NoSteps (record e { kind = k } ∷ past)
-no_steps_after e past (kind.Awake s) h q = absurd h
-no_steps_after e past (kind.Relax s) h q = absurd h
-no_steps_after e past (kind.Event s ms hard) h q = absurd h
-no_steps_after e past (kind.Expire s) h q = absurd h
-no_steps_after e past (kind.Start s) h q = absurd h
-no_steps_after e past (kind.Finish s) h q = absurd h
-no_steps_after e past (kind.Hard s) h q = absurd h
-no_steps_after e past (kind.Read c) h q = record { word = q.word; since_read = refl; since_save = q.since_save }
-no_steps_after e past (kind.Saved c) h q = record { word = q.word; since_read = unread_zero (unread past) q.since_read; since_save = q.since_read }
-no_steps_after e past _ h q = record { word = q.word; since_read = unread_zero (unread past) q.since_read; since_save = q.since_save }
-
--- as no operation calls a source today, the word stays as it was
-pub no_steps : (past : List Entry) → SourcePart past → NoSteps past
-no_steps [] h = record { word = refl; since_read = refl; since_save = refl }
-no_steps (e ∷ past) h = no_steps_after e past e.kind h.0 (no_steps past h.1)
-
-sees_nothing : (past : List Entry) → NoSteps past → (k : Kind) (guard : Option ℕ) → SeesNothing past k guard
-sees_nothing past q (kind.Enter false) (Some c) = (q.since_save, ap (λ (now : EventNow). now.inpr) q.word)
-sees_nothing past q (kind.Enter false) None = tt
-sees_nothing past q (kind.Enter true) guard = tt
-sees_nothing past q _ guard = tt
-
--- the laws at an entry that was due, and the calm after it
-laws_made : (m : Machine) → IsAccepted m → (past : List Entry) → Facts m past → NoSteps past → CalmAt past → (now : EventNow) (k : Kind) → Made m past now k → LawsAt m past k
-laws_made m acc past w q calm now k h = record {
+-- the laws at an entry that was due
+laws_made : (m : Machine) → IsAccepted m → (past : List Entry) → Facts m past → IsGuarded past → CalmAt past → (now : EventNow) → now ≡ numbers past → (k : Kind) → Made m past now k → LawsAt m past k
+laws_made m acc past w guarded calm now word k h = record {
   dependents_first = dependents_made m acc past w now k h;
   suppliers_first = suppliers_made m acc past now k h;
   restored = restored_made m past w now k h;
   enters = enters_made m past calm now k h;
-  sees_nothing = sees_nothing past q k (guard_of past);
+  sees_nothing = sees_nothing m past guarded now word k h;
+  found = found_made m past now word k h;
 }
 
--- the laws and the calm at each place
+-- the laws, and the calm, at each place
 abbrev LawsAndCalm : Machine → List Entry → Type 0
 LawsAndCalm m past = Laws m past × CalmAt past
 
-step_laws : (m : Machine) → IsAccepted m → (past : List Entry) → JournalPart m past → SourcePart past → LawsAndCalm m past → (time : ℕ) (now : EventNow) (a : Actor) (k : Kind) → JournalStep m past (record { time = time; now = now; actor = a; kind = k }) (part_of k) → SourceStep (part_of k) → LawsAndCalm m (record { time = time; now = now; actor = a; kind = k } ∷ past)
-step_laws m acc past legal calls l time now a (kind.Awake s) h src = absurd src
-step_laws m acc past legal calls l time now a (kind.Relax s) h src = absurd src
-step_laws m acc past legal calls l time now a (kind.Event s ms hard) h src = absurd src
-step_laws m acc past legal calls l time now a (kind.Expire s) h src = absurd src
-step_laws m acc past legal calls l time now a (kind.Start s) h src = absurd src
-step_laws m acc past legal calls l time now a (kind.Finish s) h src = absurd src
-step_laws m acc past legal calls l time now a (kind.Hard s) h src = absurd src
-step_laws m acc past legal calls l time now a kind.Jump h src =
-    ((record { dependents_first = tt; suppliers_first = tt; restored = tt; enters = tt; sees_nothing = tt }, l.0), l.1)
-step_laws m acc past legal calls l time now a k h src =
+-- a source's entry, and time's, has nothing to keep
+no_law : (m : Machine) (past : List Entry) (k : Kind) → DependentsFirst m past k → SuppliersFirst m past k → Restored past k → Enters past k → SeesNothing past k (guard_of past) → FoundPending past (count_part k) → LawsAt m past k
+no_law m past k a b c d e f = record { dependents_first = a; suppliers_first = b; restored = c; enters = d; sees_nothing = e; found = f }
+
+step_laws : (m : Machine) → IsAccepted m → (past : List Entry) → JournalPart m past → IsGuarded past → LawsAndCalm m past → (time : ℕ) (now : EventNow) (a : Actor) (k : Kind) → JournalStep m past (record { time = time; now = now; actor = a; kind = k }) (part_of k) → JointStep m past (record { time = time; now = now; actor = a; kind = k }) (part_of k) → LawsAndCalm m (record { time = time; now = now; actor = a; kind = k } ∷ past)
+step_laws m acc past legal g l time now a (kind.Awake s) h joint = ((no_law m past (kind.Awake s) tt tt tt tt tt tt, l.0), l.1)
+step_laws m acc past legal g l time now a (kind.Relax s) h joint = ((no_law m past (kind.Relax s) tt tt tt tt tt tt, l.0), l.1)
+step_laws m acc past legal g l time now a (kind.Event s ms hard) h joint = ((no_law m past (kind.Event s ms hard) tt tt tt tt tt tt, l.0), l.1)
+step_laws m acc past legal g l time now a (kind.Expire s) h joint = ((no_law m past (kind.Expire s) tt tt tt tt tt tt, l.0), l.1)
+step_laws m acc past legal g l time now a (kind.Start s) h joint = ((no_law m past (kind.Start s) tt tt tt tt tt tt, l.0), l.1)
+step_laws m acc past legal g l time now a (kind.Finish s) h joint = ((no_law m past (kind.Finish s) tt tt tt tt tt tt, l.0), l.1)
+step_laws m acc past legal g l time now a (kind.Hard s) h joint = ((no_law m past (kind.Hard s) tt tt tt tt tt tt, l.0), l.1)
+step_laws m acc past legal g l time now a kind.Jump h joint = ((no_law m past kind.Jump tt tt tt tt tt tt, l.0), l.1)
+step_laws m acc past legal g l time now a k h joint =
     let w = facts_of m acc.writer past legal in
     let x = made m acc.writer past w now a k h.0 in
-    ((laws_made m acc past w (no_steps past calls) l.1 now k x, l.0), calm_made m past l.1 now (position now) time k x)
+    ((laws_made m acc past w g l.1 now joint.0 k x, l.0), calm_made m past l.1 now (position now) time k x)
 
-laws_and_calm : (m : Machine) → IsAccepted m → (past : List Entry) → JournalPart m past → SourcePart past → LawsAndCalm m past
-laws_and_calm m acc [] legal calls = (tt, λ q. tt)
-laws_and_calm m acc (e ∷ past) legal calls = step_laws m acc past legal.1 calls.1 (laws_and_calm m acc past legal.1 calls.1) e.time e.now e.actor e.kind legal.0 calls.0
+laws_and_calm : (m : Machine) → IsAccepted m → (past : List Entry) → JournalPart m past → SourcePart past → JointPart m past → LawsAndCalm m past
+laws_and_calm m acc [] journal own joint = (tt, λ q. tt)
+laws_and_calm m acc (e ∷ past) journal own joint =
+    step_laws m acc past journal.1 (guarded_of m acc.writer past journal.1 own.1 joint.1) (laws_and_calm m acc past journal.1 own.1 joint.1) e.time e.now e.actor e.kind journal.0 joint.0
 
 -- a legal log of an accepted machine keeps the laws
 pub laws_of : (m : Machine) → IsAccepted m → (past : List Entry) → IsLegal m past → Laws m past
-laws_of m acc past legal = (laws_and_calm m acc past legal.journal legal.sources).0
+laws_of m acc past legal = (laws_and_calm m acc past legal.journal legal.sources legal.joint).0

@@ -1,11 +1,16 @@
+pub mod Calling
 pub mod Counts
 pub mod Dependents
 pub mod Growing
+pub mod Guarded
 pub mod Idling
+pub mod Journaled
 pub mod Lawful
 pub mod Made
 pub mod Operations
 pub mod Padding
+pub mod Planning
+pub mod Soft
 pub mod Tails
 pub mod Walking
 pub mod Walks

@@ -21,14 +21,14 @@ use Rattle.sleep_model.specs.declared.place.Row.TheVariants as row
 use Rattle.sleep_model.specs.declared.place.Seat.{Seat}
 use Rattle.sleep_model.specs.declared.word.EventNow.{EventNow}
 use Rattle.sleep_model.specs.Word.{visible}
-use Rattle.sleep_model.specs.Accepted.{IsOneWriter}
+use Rattle.sleep_model.specs.Accepted.{HasWriter}
 use Rattle.sleep_model.specs.Guard.{in_force, pending}
 use Rattle.sleep_model.specs.Path.{attempts, maker, row_of, failure}
 use Rattle.sleep_model.specs.Scripts.{entry_steps}
 use Rattle.sleep_model.specs.Seats.{seats, first_seat}
 use Rattle.sleep_model.specs.Walk.{inside, error_of, next_down, next_up}
 use Rattle.sleep_model.specs.Due.{due, seat_due, step_due, path_due, suspend_due, resume_due}
-use Rattle.sleep_model.specs.Legal.{part_of, OfJournal}
+use Rattle.sleep_model.specs.Parts.{part_of, OfJournal}
 use Rattle.sleep_model.proofs.Walking.{Facts, ScriptCase, Nothing, OwnStep, OnPath, due_case}
 
 -- an entry of that kind was due of somebody who saw this word
@@ -113,7 +113,7 @@ script_made m past now i (Nothing l e) = subst (MadeIf m past now) (sym e) tt
 script_made m past now i (OwnStep h) = subst (MadeIf m past now) (sym h.3) (own_made m past now (slice_get m.actors 0) (slice_index_or (seats (length m.actors) past) 0 first_seat) h.2)
 script_made m past now i (OnPath h) = subst (MadeIf m past now) (sym h.2) (path_made m past now (row_of past) refl)
 
-due_made : (m : Machine) → IsOneWriter (length m.devices) m.actors → (past : List Entry) (now : EventNow) (a : Actor) → Facts m past → MadeIf m past now (due m past a now)
+due_made : (m : Machine) → HasWriter m → (past : List Entry) (now : EventNow) (a : Actor) → Facts m past → MadeIf m past now (due m past a now)
 due_made m acc past now (actor.Script i) w = script_made m past now i (due_case m acc past now i w)
 due_made m acc past now actor.Auto w = tt
 due_made m acc past now (actor.Dev d) w = tt
@@ -121,7 +121,7 @@ due_made m acc past now (actor.Timer s) w = tt
 due_made m acc past now actor.Time w = tt
 
 -- what held where an entry is made
-pub made : (m : Machine) → IsOneWriter (length m.devices) m.actors → (past : List Entry) → Facts m past → (now : EventNow) (a : Actor) (k : Kind) → due m past a now ≡ Makes k → Made m past now k
+pub made : (m : Machine) → HasWriter m → (past : List Entry) → Facts m past → (now : EventNow) (a : Actor) (k : Kind) → due m past a now ≡ Makes k → Made m past now k
 made m acc past w now a k e = subst (MadeIf m past now) e (due_made m acc past now a w)
 
 -- what is due is a journal's entry

@@ -1,53 +1,53 @@
 -- The writer's operations are those that its file lists, each once.
-use Rattle.std.proofs.Common.{◌≡◌, ◌∙◌, ◌++◌, ℕ, zero, suc, true, List, [], ◌∷◌, Option, Some, None, refl, sym, ap, subst, cond, map, filter, flat_map, replicate, length, ◌<◌, ◌≤◌, slice_get, slice_index_or, option_map}
-use Rattle.std.proofs.lemmas.Option.{slice_get-map, slice_get-get_or, slice_get_past}
+use Rattle.std.proofs.Common.{◌≡◌, ◌∙◌, ◌++◌, ℕ, zero, suc, Bool, true, false, List, [], ◌∷◌, Option, Some, None, refl, sym, ap, subst, cond, map, filter, flat_map, replicate, slice_get}
 use Rattle.sleep_model.specs.declared.machine.Script.{Script}
 use Rattle.sleep_model.specs.declared.machine.Step.{Step}
 use Rattle.sleep_model.specs.declared.machine.Op.{Op}
-use Rattle.sleep_model.specs.declared.machine.Op.TheVariants as op
 use Rattle.sleep_model.specs.Accepted.{IsWriter, IsGiven, AreGiven}
-use Rattle.sleep_model.specs.Scripts.{times_over, makes_entry, entry_steps}
+use Rattle.sleep_model.specs.Scripts.{times_over, operations, makes_entry, entry_steps}
 
-given_makes : (o : Op) → IsGiven o → makes_entry o ≡ true
-given_makes (op.Awake s) h = absurd h
-given_makes (op.Relax s) h = absurd h
-given_makes (op.Event s ms hard) h = absurd h
-given_makes _ h = refl
+-- the operation of a step
+abbrev pub op_of : Step → Op
+op_of step = step.op
 
--- each operation once, and all make entries
-given_steps : (ss : List Step) → AreGiven ss → filter makes_entry (flat_map (λ step. replicate step.times step.op) ss) ≡ map (λ step. step.op) ss
-given_steps [] h = refl
-given_steps (s ∷ ss) h =
-    ap (λ n. filter makes_entry (replicate n s.op ++ flat_map (λ (step : Step). replicate step.times step.op) ss)) h.1
-    ∙ ap (λ b. cond b (s.op ∷ filter makes_entry (flat_map (λ (step : Step). replicate step.times step.op) ss)) (filter makes_entry (flat_map (λ (step : Step). replicate step.times step.op) ss))) (given_makes s.op h.0)
-    ∙ ap (λ xs. s.op ∷ xs) (given_steps ss h.2)
+each_once : (n : ℕ) (ss : List Step) → AreGiven n ss → flat_map (λ step. replicate step.times step.op) ss ≡ map op_of ss
+each_once n [] h = refl
+each_once n (s ∷ ss) h =
+    ap (λ k. replicate k s.op ++ flat_map (λ (step : Step). replicate step.times step.op) ss) h.1 ∙ ap (λ xs. s.op ∷ xs) (each_once n ss h.2)
 
--- the operations of a writer that make journal entries
-pub writer_steps : (n : ℕ) (s : Script) → IsWriter n s → entry_steps s ≡ map (λ step. step.op) s.steps
-writer_steps n s h =
-    ap (λ k. filter makes_entry (times_over k (flat_map (λ (step : Step). replicate step.times step.op) s.steps))) h.once ∙ given_steps s.steps h.given
-
--- the operation at a step
-pub operation_here : (n : ℕ) (s : Script) (k : ℕ) (d : Step) → IsWriter n s → k < length s.steps → slice_get (entry_steps s) k ≡ Some (slice_index_or s.steps k d).op
-operation_here n s k d h l =
-    ap (λ ops. slice_get ops k) (writer_steps n s h) ∙ slice_get-map (λ (step : Step). step.op) s.steps k ∙ ap (option_map (λ (step : Step). step.op)) (slice_get-get_or s.steps k d l)
-
--- none is left after the last
-pub operation_none : (n : ℕ) (s : Script) (k : ℕ) → IsWriter n s → length s.steps ≤ k → slice_get (entry_steps s) k ≡ None
-operation_none n s k h l =
-    ap (λ ops. slice_get ops k) (writer_steps n s h) ∙ slice_get-map (λ (step : Step). step.op) s.steps k ∙ ap (option_map (λ (step : Step). step.op)) (slice_get_past s.steps k l)
+-- the operations of a writer
+pub writer_operations : (d n : ℕ) (s : Script) → IsWriter d n s → operations s ≡ map op_of s.steps
+writer_operations d n s h =
+    ap (λ k. times_over k (flat_map (λ (step : Step). replicate step.times step.op) s.steps)) h.once ∙ each_once n s.steps h.given
 
 -- an operation that may be there is one that is given
-abbrev pub GivenIf : Option Op → Type 0
-GivenIf None = Unit {0}
-GivenIf (Some o) = IsGiven o
+abbrev pub GivenIf : ℕ → Option Op → Type 0
+GivenIf n None = Unit {0}
+GivenIf n (Some o) = IsGiven n o
 
-given_at : (ss : List Step) → AreGiven ss → (k : ℕ) → GivenIf (option_map (λ step. step.op) (slice_get ss k))
-given_at [] h k = tt
-given_at (s ∷ ss) h zero = h.0
-given_at (s ∷ ss) h (suc k) = given_at ss h.2 k
+given_at : (n : ℕ) (ss : List Step) → AreGiven n ss → (k : ℕ) → GivenIf n (slice_get (map op_of ss) k)
+given_at n [] h k = tt
+given_at n (s ∷ ss) h zero = h.0
+given_at n (s ∷ ss) h (suc k) = given_at n ss h.2 k
 
--- the writer's operation at a step is one that is given
-pub operation_given : (n : ℕ) (s : Script) → IsWriter n s → (k : ℕ) → GivenIf (slice_get (entry_steps s) k)
-operation_given n s h k =
-    subst GivenIf (sym (ap (λ ops. slice_get ops k) (writer_steps n s h) ∙ slice_get-map (λ (step : Step). step.op) s.steps k)) (given_at s.steps h.given k)
+-- the writer's operation with a number is one that is given
+pub operation_given : (d n : ℕ) (s : Script) → IsWriter d n s → (k : ℕ) → GivenIf n (slice_get (operations s) k)
+operation_given d n s h k = subst (λ (ops : List Op). GivenIf n (slice_get ops k)) (sym (writer_operations d n s h)) (given_at n s.steps h.given k)
+
+-- such an operation makes an entry of the journal, too
+abbrev pub EntryIf : ℕ → Option Op → Type 0
+EntryIf n None = Unit {0}
+EntryIf n (Some o) = IsGiven n o × (makes_entry o ≡ true)
+
+entry_in : (n : ℕ) (ss : List Step) → AreGiven n ss → (k : ℕ) → EntryIf n (slice_get (filter makes_entry (map op_of ss)) k)
+entry_in n [] h k = tt
+entry_in n (s ∷ ss) h k = by_test (entry_in n ss h.2) k (makes_entry s.op) refl
+  where
+    by_test : ((j : ℕ) → EntryIf n (slice_get (filter makes_entry (map op_of ss)) j)) → (j : ℕ) (b : Bool) → makes_entry s.op ≡ b → EntryIf n (slice_get (cond b (s.op ∷ filter makes_entry (map op_of ss)) (filter makes_entry (map op_of ss))) j)
+    by_test rest zero true e = (h.0, e)
+    by_test rest (suc j) true e = rest j
+    by_test rest j false e = rest j
+
+-- the writer's step with a number that makes an entry is one that is given
+pub entry_given : (d n : ℕ) (s : Script) → IsWriter d n s → (k : ℕ) → EntryIf n (slice_get (entry_steps s) k)
+entry_given d n s h k = subst (λ (ops : List Op). EntryIf n (slice_get (filter makes_entry ops) k)) (sym (writer_operations d n s h)) (entry_in n s.steps h.given k)

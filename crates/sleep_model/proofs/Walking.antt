@@ -19,7 +19,7 @@ use Rattle.sleep_model.specs.declared.place.Row.TheVariants as row
 use Rattle.sleep_model.specs.declared.place.Seat.{Seat}
 use Rattle.sleep_model.specs.declared.word.EventNow.{EventNow}
 use Rattle.sleep_model.specs.Word.{position, visible}
-use Rattle.sleep_model.specs.Accepted.{IsOneWriter}
+use Rattle.sleep_model.specs.Accepted.{IsOneWriter, HasWriter}
 use Rattle.sleep_model.specs.Order.{order}
 use Rattle.sleep_model.specs.Guard.{pending}
 use Rattle.sleep_model.specs.Path.{maker, maker_after, row_of, row_after}
@@ -27,7 +27,8 @@ use Rattle.sleep_model.specs.Seats.{seats, first_seat}
 use Rattle.sleep_model.specs.Scripts.{entry_steps}
 use Rattle.sleep_model.specs.Walk.{is_among, first_where, last_where, inside, inside_after, error_of, error_after, settled, settled_after, suspended, suspended_after}
 use Rattle.sleep_model.specs.Due.{due, script_due, seat_due, step_due, path_due, suspend_due, resume_due}
-use Rattle.sleep_model.specs.Legal.{JournalPart, JournalStep, part_of}
+use Rattle.sleep_model.specs.Legal.{JournalPart, JournalStep}
+use Rattle.sleep_model.specs.Parts.{part_of}
 use Rattle.std.proofs.lemmas.Bool.Decides.{nat_tests}
 use Rattle.sleep_model.proofs.Walks.{AllDifferent, run_different, first_suspended_none}
 use Rattle.sleep_model.proofs.Tails.{IsTail, tail_fits, tail_nil, before_tail, down_none, down_some, tail_more, tail_less, up_some, without_first}
@@ -147,10 +148,10 @@ seat_keeps o past now (Some s) seat i er se su pos time w = exits seat.exited
     exits false = step_keeps o past now seat i er se su pos time (slice_get (entry_steps s) seat.done) w
 
 -- nothing is due of a script that the machine does not have
-none_beyond : (m : Machine) → IsOneWriter (length m.devices) m.actors → (i : ℕ) → slice_get m.actors (suc i) ≡ None
+none_beyond : (m : Machine) → HasWriter m → (i : ℕ) → slice_get m.actors (suc i) ≡ None
 none_beyond m h i = at_list m.actors h
   where
-    at_list : (ss : List Script) → IsOneWriter (length m.devices) ss → slice_get ss (suc i) ≡ None
+    at_list : (ss : List Script) → IsOneWriter (length m.devices) (length m.sources) ss → slice_get ss (suc i) ≡ None
     at_list [] h = absurd h
     at_list (s ∷ []) h = refl
     at_list (s ∷ t ∷ rest) h = absurd h
@@ -175,18 +176,18 @@ pub data ScriptCase (m : Machine) (past : List Entry) (now : EventNow) (who : Op
   OwnStep : (i ≡ 0) × (who ≡ None) × (r ≡ row.Outside) × (script_due m past now i who r ≡ seat_due past now (slice_get m.actors 0) (slice_index_or (seats (length m.actors) past) 0 first_seat)) → ScriptCase m past now who r i
   OnPath : (i ≡ 0) × (who ≡ Some (actor.Script 0)) × (script_due m past now i who r ≡ path_due m past now r) → ScriptCase m past now who r i
 
-outside_case : (m : Machine) → IsOneWriter (length m.devices) m.actors → (past : List Entry) (now : EventNow) (i : ℕ) → ScriptCase m past now None row.Outside i
+outside_case : (m : Machine) → HasWriter m → (past : List Entry) (now : EventNow) (i : ℕ) → ScriptCase m past now None row.Outside i
 outside_case m acc past now zero = OwnStep (refl, refl, refl, refl)
 outside_case m acc past now (suc i) = Nothing (omega arith) (ap (λ (s : Option Script). seat_due past now s (slice_index_or (seats (length m.actors) past) (suc i) first_seat)) (none_beyond m acc i))
 
-inside_case : (m : Machine) → IsOneWriter (length m.devices) m.actors → (past : List Entry) (now : EventNow) (i : ℕ) (r : Row) → ScriptCase m past now (Some (actor.Script 0)) r i
+inside_case : (m : Machine) → HasWriter m → (past : List Entry) (now : EventNow) (i : ℕ) (r : Row) → ScriptCase m past now (Some (actor.Script 0)) r i
 inside_case m acc past now zero r = OnPath (refl, refl, refl)
 inside_case m acc past now (suc i) r =
     let other : (0 == suc i) ≡ false = grind (arith, nat_tests) in
     Nothing (omega arith) (ap (λ (b : Bool). cond b (path_due m past now r) (seat_due past now (slice_get m.actors (suc i)) (slice_index_or (seats (length m.actors) past) (suc i) first_seat))) other
     ∙ ap (λ (s : Option Script). seat_due past now s (slice_index_or (seats (length m.actors) past) (suc i) first_seat)) (none_beyond m acc i))
 
-script_case : (m : Machine) → IsOneWriter (length m.devices) m.actors → (past : List Entry) (now : EventNow) (who : Option Actor) (r : Row) (i : ℕ) → IsOneOf who r → ScriptCase m past now who r i
+script_case : (m : Machine) → HasWriter m → (past : List Entry) (now : EventNow) (who : Option Actor) (r : Row) (i : ℕ) → IsOneOf who r → ScriptCase m past now who r i
 script_case m acc past now who row.Outside i e = subst (λ (x : Option Actor). ScriptCase m past now x row.Outside i) (sym e) (outside_case m acc past now i)
 script_case m acc past now who row.Suspend i e = subst (λ (x : Option Actor). ScriptCase m past now x row.Suspend i) (sym e) (inside_case m acc past now i row.Suspend)
 script_case m acc past now who row.Enter i e = subst (λ (x : Option Actor). ScriptCase m past now x row.Enter i) (sym e) (inside_case m acc past now i row.Enter)
@@ -196,7 +197,7 @@ script_case m acc past now who row.Clear i e = subst (λ (x : Option Actor). Scr
 script_case m acc past now who row.Over i e = subst (λ (x : Option Actor). ScriptCase m past now x row.Over i) (sym e) (inside_case m acc past now i row.Over)
 
 -- the case of what is due of script i
-pub due_case : (m : Machine) → IsOneWriter (length m.devices) m.actors → (past : List Entry) (now : EventNow) (i : ℕ) → Facts m past → ScriptCase m past now (maker past) (row_of past) i
+pub due_case : (m : Machine) → HasWriter m → (past : List Entry) (now : EventNow) (i : ℕ) → Facts m past → ScriptCase m past now (maker past) (row_of past) i
 due_case m acc past now i w = script_case m acc past now (maker past) (row_of past) i (maker_of _ _ _ _ _ _ _ w.at_row)
 
 own_keeps : (o : List ℕ) (past : List Entry) (now : EventNow) (script : Option Script) (seat : Seat) (who : Option Actor) (r : Row) (i : Option ℕ) (er : Option Errno) (se su : List ℕ) (pos time : ℕ) → who ≡ None → r ≡ row.Outside → WalkFacts o who r i er se su → Keeps o who r i er se su (actor.Script 0) pos time (seat_due past now script seat)
@@ -217,7 +218,7 @@ script_keeps m past now i pos time w (OnPath h) =
     subst (KeepsFacts m past (actor.Script i) pos time) (sym h.2) (path_keeps m past now (actor.Script i) pos time (maker past) (row_of past) w)
 
 -- what is due of anybody keeps the facts
-due_keeps : (m : Machine) → IsOneWriter (length m.devices) m.actors → (past : List Entry) (now : EventNow) (a : Actor) (pos time : ℕ) → Facts m past → KeepsFacts m past a pos time (due m past a now)
+due_keeps : (m : Machine) → HasWriter m → (past : List Entry) (now : EventNow) (a : Actor) (pos time : ℕ) → Facts m past → KeepsFacts m past a pos time (due m past a now)
 due_keeps m acc past now (actor.Script i) pos time w = script_keeps m past now i pos time w (due_case m acc past now i w)
 due_keeps m acc past now actor.Auto pos time w = tt
 due_keeps m acc past now (actor.Dev d) pos time w = tt
@@ -225,7 +226,7 @@ due_keeps m acc past now (actor.Timer s) pos time w = tt
 due_keeps m acc past now actor.Time pos time w = tt
 
 -- the facts hold after an entry of any part
-step_facts : (m : Machine) → IsOneWriter (length m.devices) m.actors → (past : List Entry) (time : ℕ) (now : EventNow) (a : Actor) (k : Kind) → Facts m past → JournalStep m past (record { time = time; now = now; actor = a; kind = k }) (part_of k) → Facts m (record { time = time; now = now; actor = a; kind = k } ∷ past)
+step_facts : (m : Machine) → HasWriter m → (past : List Entry) (time : ℕ) (now : EventNow) (a : Actor) (k : Kind) → Facts m past → JournalStep m past (record { time = time; now = now; actor = a; kind = k }) (part_of k) → Facts m (record { time = time; now = now; actor = a; kind = k } ∷ past)
 step_facts m acc past time now a (kind.Awake s) w h = record { settled_tail = w.settled_tail; suspended_tail = w.suspended_tail; at_row = w.at_row }
 step_facts m acc past time now a (kind.Relax s) w h = record { settled_tail = w.settled_tail; suspended_tail = w.suspended_tail; at_row = w.at_row }
 step_facts m acc past time now a (kind.Event s ms hard) w h = record { settled_tail = w.settled_tail; suspended_tail = w.suspended_tail; at_row = w.at_row }
@@ -237,6 +238,6 @@ step_facts m acc past time now a kind.Jump w h = record { settled_tail = w.settl
 step_facts m acc past time now a k w h = subst (Keeps (order m) (maker past) (row_of past) (inside past) (error_of past) (settled past) (suspended past) a (position now) time) h.0 (due_keeps m acc past now a (position now) time w)
 
 -- a legal journal has the facts at each place
-pub facts_of : (m : Machine) → IsOneWriter (length m.devices) m.actors → (past : List Entry) → JournalPart m past → Facts m past
+pub facts_of : (m : Machine) → HasWriter m → (past : List Entry) → JournalPart m past → Facts m past
 facts_of m acc [] h = record { settled_tail = tail_nil (order m); suspended_tail = tail_nil (order m); at_row = (refl, refl, refl) }
 facts_of m acc (e ∷ past) h = step_facts m acc past e.time e.now e.actor e.kind (facts_of m acc past h.1) h.0

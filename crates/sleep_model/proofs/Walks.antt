@@ -12,7 +12,7 @@ abbrev pub AllDifferent : List ℕ → Type 0
 AllDifferent [] = Unit {0}
 AllDifferent (x ∷ xs) = (is_among xs x ≡ false) × AllDifferent xs
 
-same_eq : (x : ℕ) → (x == x) ≡ true
+pub same_eq : (x : ℕ) → (x == x) ≡ true
 same_eq x = grind (arith, nat_tests)
 
 -- what is among the last ones is among all

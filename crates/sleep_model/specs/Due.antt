@@ -27,12 +27,12 @@ use Rattle.sleep_model.specs.Path.{attempts, maker, row_of, failure}
 use Rattle.sleep_model.specs.Walk.{inside, error_of, next_down, next_up}
 use Rattle.sleep_model.specs.Scripts.{entry_steps}
 
--- the walk of suspend at its next device: a pending wakeup skips it, else its callback begins
+-- the walk of suspend at its next device: a pending wakeup skips it, else its callback begins (__device_suspend)
 abbrev pub take_down : Option ℕ → Bool → Due
 take_down None busy = Makes (kind.Done phase.Suspend None)
 take_down (Some d) busy = if busy then Makes (kind.Skip phase.Suspend d Pending) else Makes (kind.Begin phase.Suspend d)
 
--- between callbacks of suspend: an error ends the phase, else the walk goes on
+-- between callbacks of suspend: an error ends the phase, else the walk goes on (dpm_suspend)
 abbrev pub between_down : Option Errno → Option ℕ → Bool → Due
 between_down (Some r) next busy = Makes (kind.Done phase.Suspend (Some r))
 between_down None next busy = take_down next busy
@@ -42,7 +42,7 @@ abbrev pub suspend_due : Option ℕ → Option Errno → Option ℕ → Bool →
 suspend_due (Some d) error next busy = Makes (kind.End phase.Suspend d None)
 suspend_due None error next busy = between_down error next busy
 
--- the walk of resume at its next device
+-- the walk of resume at its next device (dpm_resume)
 abbrev pub take_up : Option ℕ → Due
 take_up None = Makes (kind.Done phase.Resume None)
 take_up (Some d) = Makes (kind.Begin phase.Resume d)
@@ -52,11 +52,11 @@ abbrev pub resume_due : Option ℕ → Option ℕ → Due
 resume_due (Some d) next = Makes (kind.End phase.Resume d None)
 resume_due None next = take_up next
 
--- a sleeping machine wakes by a step of the word, else by the alarm
+-- a sleeping machine wakes by a step of the word, else by the alarm (suspend_enter, pm_wakeup_pending; the alarm is own)
 abbrev pub wake_due : ℕ → ℕ → ℕ → ℕ → Due
 wake_due pos until now time = if nat_lt pos now then Makes (kind.Wake true) else (if nat_le until time then Makes (kind.Wake false) else Waits why.Asleep)
 
--- the maker's next entry in its attempt, by the table of the attempt
+-- the maker's next entry in its attempt, by the table of the attempt (suspend_devices_and_enter, suspend_enter)
 abbrev pub path_due : Machine → List Entry → EventNow → Row → Due
 path_due m past now row.Outside = Gone
 path_due m past now row.Suspend = suspend_due (inside past) (error_of past) (next_down m past) (pending past now)
@@ -74,7 +74,7 @@ read_due now waits = if now.inpr == 0 then Makes (kind.Read (visible now)) else 
 abbrev pub save_due : EventNow → ℕ → Due
 save_due now c = if (visible now == c) && (now.inpr == 0) then Makes (kind.Saved c) else Makes (kind.SaveErr c EINVAL)
 
--- the script's next step, or its exit
+-- the script's next step, or its exit (kernel/power/main.c, state_store)
 abbrev pub step_due : List Entry → EventNow → Seat → Option Op → Due
 step_due past now seat None = Makes kind.Exit
 step_due past now seat (Some op.Read) = read_due now seat.waits

@@ -10,14 +10,14 @@ use Rattle.sleep_model.specs.declared.entry.SkipCause.TheVariants.{Pending}
 use Rattle.sleep_model.specs.declared.entry.Group.TheVariants.{User}
 use Rattle.sleep_model.specs.Word.{visible}
 
--- what an entry does to the saved count
+-- what an entry does to the saved count (saved_count, events_check_enabled)
 pub data CountPart : Type 0 where
   Stores : (c : ℕ) → CountPart
   Drops : CountPart
   Finds : CountPart
   Keeps : CountPart
 
--- a save that succeeds stores; one that fails, and clear, drop; a test that found a wakeup drops what it found changed
+-- a save that succeeds stores; one that fails, and clear, drop; a test that found a wakeup drops what it found changed (pm_save_wakeup_count, pm_wakeup_pending)
 abbrev pub count_part : Kind → CountPart
 count_part (Saved c) = Stores c
 count_part (AutoSaved c) = Stores c
@@ -31,23 +31,23 @@ count_part (SyscoreCheck (Some EBUSY)) = Finds
 count_part (Enter true) = Finds
 count_part _ = Keeps
 
--- an event was registered since c was read, or one is in progress
+-- an event was registered since c was read, or one is in progress (pm_wakeup_pending)
 abbrev pub has_changed : EventNow → ℕ → Bool
 has_changed now c = not (visible now == c) || nat_lt 0 now.inpr
 
--- a count that is in force has changed
+-- a count that is in force has changed (pm_wakeup_pending)
 abbrev pub count_pending : Option ℕ → EventNow → Bool
 count_pending None now = false
 count_pending (Some c) now = has_changed now c
 
--- the count in force after an entry that saw this word
+-- the count in force after an entry that saw this word (pm_save_wakeup_count, pm_wakeup_pending)
 abbrev pub force_after : CountPart → EventNow → Option ℕ → Option ℕ
 force_after (Stores c) now force = Some c
 force_after Drops now force = None
 force_after Finds now force = if count_pending force now then None else force
 force_after Keeps now force = force
 
--- the count in force (events_check_enabled and saved_count)
+-- the count in force (events_check_enabled, saved_count)
 abbrev pub in_force : List Entry → Option ℕ
 in_force [] = None
 in_force (e ∷ past) = force_after (count_part e.kind) e.now (in_force past)
@@ -57,7 +57,7 @@ abbrev pub forgotten_after : Kind → EventNow → ℕ → ℕ
 forgotten_after (Freeze User) now before = now.hard
 forgotten_after _ now before = before
 
--- the hard number that the last freeze of user tasks saw, else 0
+-- the hard number that the last freeze of user tasks saw, else 0 (pm_abort_suspend, pm_wakeup_clear)
 abbrev pub forgotten : List Entry → ℕ
 forgotten [] = 0
 forgotten (e ∷ past) = forgotten_after e.kind e.now (forgotten past)

@@ -1,12 +1,15 @@
 -- What a reader believes of a legal log, each law at each entry, from the entries before it.
-use Rattle.std.specs.Prelude.{◌≡◌, ◌+◌, ℕ, Bool, true, false, ◌||◌, List, [], ◌∷◌, Option, Some, None, unwrap_or, option_map}
+use Rattle.std.specs.Prelude.{◌≡◌, ◌<◌, ◌+◌, ℕ, Bool, true, false, ◌==◌, ◌||◌, List, [], ◌∷◌, if◌then◌else◌, Option, Some, None}
+use Rattle.sleep_model.specs.declared.entry.Actor.{Actor}
+use Rattle.sleep_model.specs.declared.entry.Actor.TheVariants as actor
 use Rattle.sleep_model.specs.declared.entry.Entry.{Entry}
 use Rattle.sleep_model.specs.declared.entry.Kind.{Kind}
 use Rattle.sleep_model.specs.declared.entry.Kind.TheVariants as kind
 use Rattle.sleep_model.specs.declared.phase.Phase.TheVariants as phase
 use Rattle.sleep_model.specs.declared.machine.Machine.{Machine}
 use Rattle.sleep_model.specs.declared.word.WordKind.{WordKind}
-use Rattle.sleep_model.specs.Guard.{pending}
+use Rattle.sleep_model.specs.declared.word.WordKind.TheVariants as step
+use Rattle.sleep_model.specs.Guard.{CountPart, Finds, count_part, pending}
 use Rattle.sleep_model.specs.Numbers.{numbers, word_step}
 use Rattle.sleep_model.specs.Order.{below, above}
 use Rattle.sleep_model.specs.Walk.{is_among, inside, suspended}
@@ -31,7 +34,7 @@ abbrev pub SuppliersFirst : Machine → List Entry → Kind → Type 0
 SuppliersFirst m past (kind.Begin phase.Resume d) = NoneAmong (suspended past) (above m d) × (inside past ≡ None)
 SuppliersFirst m past _ = Unit {0}
 
--- where an attempt is over no device is suspended and no callback runs
+-- where an attempt is over no device is suspended and no callback runs (dpm_resume)
 abbrev pub Restored : List Entry → Kind → Type 0
 Restored past (kind.Over n r) = (suspended past ≡ []) × (inside past ≡ None)
 Restored past _ = Unit {0}
@@ -42,7 +45,7 @@ pub data TestPart : Type 0 where
   Tests : TestPart
   Else : TestPart
 
--- a test stands before each callback of suspend and at the entering
+-- a test stands before each callback of suspend and at the entering (__device_suspend, suspend_enter)
 abbrev pub test_part : Kind → TestPart
 test_part (kind.Attempt n guarded) = Opens
 test_part (kind.Begin phase.Suspend d) = Tests
@@ -72,7 +75,7 @@ abbrev pub entered : List Entry → Bool
 entered [] = false
 entered (e ∷ past) = entered_after e.kind (entered past)
 
--- an attempt that no wakeup disturbed has entered, and answers 0
+-- an attempt that no wakeup disturbed has entered, and answers 0 (suspend_enter)
 abbrev pub Enters : List Entry → Kind → Type 0
 Enters past (kind.Over n r) = disturbed past ≡ false → (entered past ≡ true) × (r ≡ None)
 Enters past _ = Unit {0}
@@ -87,35 +90,71 @@ abbrev pub guard_of : List Entry → Option ℕ
 guard_of [] = None
 guard_of (e ∷ past) = guard_after e.kind (guard_of past)
 
--- one more for a step of the word
-abbrev pub counted : Option WordKind → ℕ → ℕ
-counted None n = n
-counted (Some step) n = n + 1
+-- the same actor
+abbrev pub is_same : Actor → Actor → Bool
+is_same (actor.Script i) (actor.Script j) = i == j
+is_same actor.Auto actor.Auto = true
+is_same (actor.Dev c) (actor.Dev d) = c == d
+is_same (actor.Timer s) (actor.Timer t) = s == t
+is_same actor.Time actor.Time = true
+is_same _ _ = false
 
--- the steps since the last answered read, after an entry
-abbrev pub unread_after : Kind → Option ℕ → Option ℕ
-unread_after (kind.Read c) before = Some 0
-unread_after k before = option_map (counted (word_step k)) before
+-- one more step, where there is one
+abbrev pub with_step : Option WordKind → List WordKind → List WordKind
+with_step None steps = steps
+with_step (Some step) steps = step ∷ steps
 
--- the steps of the word since the last answered read
-abbrev pub unread : List Entry → Option ℕ
-unread [] = None
-unread (e ∷ past) = unread_after e.kind (unread past)
+-- a read that was answered: its count, and the steps of the word since, the newest first (pm_get_wakeup_count)
+pub record Answered : Type 0 where
+  pub count : ℕ
+  pub steps : List WordKind
 
--- the steps since the read behind the last good save, after an entry
-abbrev pub unsaved_after : Kind → Option ℕ → ℕ → ℕ
-unsaved_after (kind.Saved c) unread before = unwrap_or unread 0
-unsaved_after k unread before = counted (word_step k) before
+-- an answered read, and a step further
+abbrev pub later_answer : Option WordKind → Option Answered → Option Answered
+later_answer step None = None
+later_answer step (Some a) = Some (record a { steps = with_step step a.steps })
 
--- the steps of the word since the read that the last good save rests on, or since that save where none was read
-abbrev pub unsaved : List Entry → ℕ
-unsaved [] = 0
-unsaved (e ∷ past) = unsaved_after e.kind (unread past) (unsaved past)
+-- an actor's last answered read after an entry, which is its own or not
+abbrev pub answer_after : Kind → Bool → Option Answered → Option Answered
+answer_after (kind.Read c) true before = Some (record { count = c; steps = [] })
+answer_after k own before = later_answer (word_step k) before
 
--- under a saved count the machine enters only where no step of the word stands since that count was read, and no event is in progress
+-- the last answered read of an actor (pm_get_wakeup_count)
+abbrev pub answer_of : Actor → List Entry → Option Answered
+answer_of who [] = None
+answer_of who (e ∷ past) = answer_after e.kind (is_same e.actor who) (answer_of who past)
+
+-- the steps since the read that a save of c rests on, where that read answered c; else none, as it rests on itself (pm_save_wakeup_count)
+abbrev pub rests_on : ℕ → Option Answered → List WordKind
+rests_on c None = []
+rests_on c (Some a) = if a.count == c then a.steps else []
+
+-- the steps since the read behind the last save, after an entry
+abbrev pub steps_after : Kind → Option Answered → List WordKind → List WordKind
+steps_after (kind.Saved c) answered before = rests_on c answered
+steps_after (kind.AutoSaved c) answered before = rests_on c answered
+steps_after k answered before = with_step (word_step k) before
+
+-- the steps of the word since the read that the last good save rests on, the newest first (saved_count)
+abbrev pub steps_since : List Entry → List WordKind
+steps_since [] = []
+steps_since (e ∷ past) = steps_after e.kind (answer_of e.actor past) (steps_since past)
+
+-- how many of the steps are finishes: registered events
+abbrev pub finishes : List WordKind → ℕ
+finishes [] = 0
+finishes (step.Finish ∷ steps) = finishes steps + 1
+finishes (step ∷ steps) = finishes steps
+
+-- an attempt under a saved count enters only where no step of the word stands since that count was read, and no event is in progress, if fewer events were registered meanwhile than the visible count tells apart (pm_save_wakeup_count, pm_wakeup_pending)
 abbrev pub SeesNothing : List Entry → Kind → Option ℕ → Type 0
-SeesNothing past (kind.Enter false) (Some c) = (unsaved past ≡ 0) × ((numbers past).inpr ≡ 0)
+SeesNothing past (kind.Enter false) (Some c) = finishes (steps_since past) < 65536 → (steps_since past ≡ []) × ((numbers past).inpr ≡ 0)
 SeesNothing past _ _ = Unit {0}
+
+-- a test that found a wakeup stands only where one is pending (pm_wakeup_pending)
+abbrev pub FoundPending : List Entry → CountPart → Type 0
+FoundPending past Finds = pending past (numbers past) ≡ true
+FoundPending past _ = Unit {0}
 
 -- the laws at an entry
 pub record LawsAt (m : Machine) (past : List Entry) (k : Kind) : Type 0 where
@@ -124,6 +163,7 @@ pub record LawsAt (m : Machine) (past : List Entry) (k : Kind) : Type 0 where
   pub restored : Restored past k
   pub enters : Enters past k
   pub sees_nothing : SeesNothing past k (guard_of past)
+  pub found : FoundPending past (count_part k)
 
 -- the laws at each entry of a log
 abbrev pub Laws : Machine → List Entry → Type 0

@@ -1,10 +1,10 @@
 -- Legal logs, in three parts: the journal's entries, the sources' entries, and what ties them together.
-use Rattle.std.specs.Prelude.{◌≡◌, ◌<◌, ◌+◌, ℕ, zero, suc, Bool, true, false, not, ◌&&◌, List, [], ◌∷◌, length, reverse, replicate, Option, Some, None, is_none}
-use Rattle.std.specs.List.{list_all}
+use Rattle.std.specs.Prelude.{◌≡◌, ◌<◌, ◌+◌, ℕ, zero, suc, Bool, true, false, not, ◌&&◌, ◌||◌, List, [], ◌∷◌, length, map, reverse, Option, Some, None, is_none, is_some}
+use Rattle.std.specs.List.{list_all, range_with_len}
+use Rattle.sleep_model.specs.declared.entry.Actor.{Actor}
 use Rattle.sleep_model.specs.declared.entry.Actor.TheVariants as actor
 use Rattle.sleep_model.specs.declared.entry.Entry.{Entry}
 use Rattle.sleep_model.specs.declared.entry.Kind.{Kind}
-use Rattle.sleep_model.specs.declared.entry.Kind.TheVariants.{Awake, Relax, Event, Expire, Start, Finish, Hard, Jump}
 use Rattle.sleep_model.specs.declared.log.Log.{Log}
 use Rattle.sleep_model.specs.declared.log.LogEnd.TheVariants.{Finished}
 use Rattle.sleep_model.specs.declared.log.Stats.{Stats}
@@ -14,60 +14,53 @@ use Rattle.sleep_model.specs.declared.place.Row.{Row}
 use Rattle.sleep_model.specs.declared.place.Row.TheVariants.{Asleep}
 use Rattle.sleep_model.specs.declared.place.Due.{Due}
 use Rattle.sleep_model.specs.declared.place.Due.TheVariants.{Makes}
+use Rattle.sleep_model.specs.Calls.{next_note, is_calling}
 use Rattle.sleep_model.specs.Due.{due}
 use Rattle.sleep_model.specs.Numbers.{numbers, time_of}
+use Rattle.sleep_model.specs.Parts.{Part, OfJournal, Notes, Moves, OfTime, part_of}
 use Rattle.sleep_model.specs.Path.{maker, row_of}
 use Rattle.sleep_model.specs.Seats.{seats}
-
--- whose entry it is: the journal's, a source's, or time's
-pub data Part : Type 0 where
-  OfJournal : Part
-  OfSource : Part
-  OfTime : Part
-
--- notes and word steps are a source's
-abbrev pub part_of : Kind → Part
-part_of (Awake s) = OfSource
-part_of (Relax s) = OfSource
-part_of (Event s ms hard) = OfSource
-part_of (Expire s) = OfSource
-part_of (Start s) = OfSource
-part_of (Finish s) = OfSource
-part_of (Hard s) = OfSource
-part_of Jump = OfTime
-part_of _ = OfJournal
+use Rattle.sleep_model.specs.Sources.{history, SourceStep, stats_at}
 
 -- a journal entry is what is due of its actor at the word that it carries, now; a jump raises the time
 abbrev pub JournalStep : Machine → List Entry → Entry → Part → Type 0
 JournalStep m past e OfJournal = (due m past e.actor e.now ≡ Makes e.kind) × (e.time ≡ time_of past)
-JournalStep m past e OfSource = Unit {0}
 JournalStep m past e OfTime = time_of past < e.time
+JournalStep m past e _ = Unit {0}
 
 -- each journal entry is legal where it stands
 abbrev pub JournalPart : Machine → List Entry → Type 0
 JournalPart m [] = Unit {0}
 JournalPart m (e ∷ past) = JournalStep m past e (part_of e.kind) × JournalPart m past
 
--- no operation that calls a source is given today, so no entry is a source's
-abbrev pub SourceStep : Part → Type 0
-SourceStep OfJournal = Unit {0}
-SourceStep OfSource = ⊥
-SourceStep OfTime = Unit {0}
+-- an entry of a source is legal in the history of that source
+abbrev pub OwnStep : List Entry → Entry → Part → Type 0
+OwnStep past e (Notes s made) = SourceStep (history s past) e.actor (Notes s made)
+OwnStep past e (Moves s step) = SourceStep (history s past) e.actor (Moves s step)
+OwnStep past e _ = Unit {0}
 
 -- each source's entries are legal
 abbrev pub SourcePart : List Entry → Type 0
 SourcePart [] = Unit {0}
-SourcePart (e ∷ past) = SourceStep (part_of e.kind) × SourcePart past
+SourcePart (e ∷ past) = OwnStep past e (part_of e.kind) × SourcePart past
 
 -- an entry is due
 abbrev pub is_made : Due → Bool
 is_made (Makes k) = true
 is_made _ = false
 
+-- script i is inside a call on a source
+abbrev pub is_inside_call : Machine → List Entry → ℕ → Bool
+is_inside_call m past i = is_calling (length m.sources + 1) past i
+
+-- script i is enabled: it is inside a call, a call is its next step, or an entry of the journal is due of it
+abbrev pub is_enabled : Machine → List Entry → ℕ → Bool
+is_enabled m past i = is_inside_call m past i || is_some (next_note m past i) || is_made (due m past (actor.Script i) (numbers past))
+
 -- none of the first n scripts is enabled
 abbrev pub none_enabled : Machine → List Entry → ℕ → Bool
 none_enabled m past zero = true
-none_enabled m past (suc n) = not (is_made (due m past (actor.Script n) (numbers past))) && none_enabled m past n
+none_enabled m past (suc n) = not (is_enabled m past n) && none_enabled m past n
 
 -- no actor is enabled
 abbrev pub is_idle : Machine → List Entry → Bool
@@ -97,13 +90,24 @@ pub record JumpStep (m : Machine) (past : List Entry) (e : Entry) : Type 0 where
   pub goes_on : is_finished m past ≡ false
   pub least : next_time m past ≡ Some e.time
 
--- an entry of a part carries the numbers of its place, and a jump stands where it may
+-- a script makes an entry of the journal where it is inside no call, and no call is its next step
+abbrev pub IsOwnTurn : Machine → List Entry → Actor → Type 0
+IsOwnTurn m past (actor.Script i) = (is_inside_call m past i ≡ false) × (next_note m past i ≡ None)
+IsOwnTurn m past _ = Unit {0}
+
+-- a script makes a call where it is inside no other, and that call is its next step; nobody else makes calls today
+abbrev pub IsOwnCall : Machine → List Entry → Actor → Kind → Type 0
+IsOwnCall m past (actor.Script i) k = (is_inside_call m past i ≡ false) × (next_note m past i ≡ Some k)
+IsOwnCall m past _ k = ⊥
+
+-- an entry carries the numbers and the time of its place, and is its actor's next; a jump stands where it may
 abbrev pub JointStep : Machine → List Entry → Entry → Part → Type 0
-JointStep m past e OfJournal = e.now ≡ numbers past
-JointStep m past e OfSource = e.now ≡ numbers past
+JointStep m past e OfJournal = (e.now ≡ numbers past) × IsOwnTurn m past e.actor
+JointStep m past e (Notes s made) = (e.now ≡ numbers past) × (e.time ≡ time_of past) × IsOwnCall m past e.actor e.kind
+JointStep m past e (Moves s step) = (e.now ≡ numbers past) × (e.time ≡ time_of past)
 JointStep m past e OfTime = (e.now ≡ numbers past) × JumpStep m past e
 
--- each entry carries the numbers of its place, and each jump stands where it may
+-- the entries of all parts fit together
 abbrev pub JointPart : Machine → List Entry → Type 0
 JointPart m [] = Unit {0}
 JointPart m (e ∷ past) = JointStep m past e (part_of e.kind) × JointPart m past
@@ -114,18 +118,14 @@ pub record IsLegal (m : Machine) (past : List Entry) : Type 0 where
   pub sources : SourcePart past
   pub joint : JointPart m past
 
--- a source that was never called
-abbrev pub no_calls : Stats
-no_calls = record { active_count = 0; event_count = 0; expire_count = 0; active_time = 0; total_time = 0; max_time = 0; last_time = 0 }
-
--- the statistics of each source, autosleep last
-abbrev pub stats_of : Machine → List Stats
-stats_of m = replicate (length m.sources + 1) no_calls
+-- the statistics of each source at the last time, autosleep last (wakeup_sources_stats_seq_show)
+abbrev pub stats_of : Machine → List Entry → List Stats
+stats_of m past = map (λ s. stats_at (history s past) (time_of past)) (range_with_len 0 (length m.sources + 1))
 
 -- a legal log
 pub record IsLegalLog (m : Machine) (log : Log) : Type 0 where
   pub legal : IsLegal m (reverse log.entries)
-  pub stats : log.stats ≡ stats_of m
+  pub stats : log.stats ≡ stats_of m (reverse log.entries)
 
 -- a log that is over, with nothing left to do
 pub record IsFinishedLog (m : Machine) (log : Log) : Type 0 where

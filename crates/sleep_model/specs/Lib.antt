@@ -1,4 +1,5 @@
 pub mod Accepted
+pub mod Calls
 pub mod Due
 pub mod Guard
 pub mod Laws
@@ -6,9 +7,11 @@ pub mod Legal
 pub mod NameBytes
 pub mod Numbers
 pub mod Order
+pub mod Parts
 pub mod Path
 pub mod Scripts
 pub mod Seats
+pub mod Sources
 pub mod Text
 pub mod Walk
 pub mod Word

@@ -7,14 +7,14 @@ use Rattle.sleep_model.specs.declared.entry.Entry.{Entry}
 use Rattle.sleep_model.specs.declared.entry.Kind.{Kind}
 use Rattle.sleep_model.specs.declared.entry.Kind.TheVariants.{Start, Finish, Hard, Jump}
 
--- the step that an entry makes on the word
+-- the step that an entry makes on the word (wakeup_source_activate, wakeup_source_deactivate)
 abbrev pub word_step : Kind → Option word.WordKind
 word_step (Start s) = Some step.Start
 word_step (Finish s) = Some step.Finish
 word_step (Hard s) = Some step.Hard
 word_step _ = None
 
--- the word after a step: a start begins an event, a finish registers it, a hard step counts a hard one
+-- the word after a step: a start begins an event, a finish registers it, a hard step counts a hard one (wakeup_source_activate, wakeup_source_deactivate)
 abbrev pub after_step : Option word.WordKind → EventNow → EventNow
 after_step None now = now
 after_step (Some step.Start) now = record now { inpr = now.inpr + 1 }
@@ -26,12 +26,12 @@ abbrev pub numbers : List Entry → EventNow
 numbers [] = record { inpr = 0; count = 0; hard = 0 }
 numbers (e ∷ past) = after_step (word_step e.kind) (numbers past)
 
--- the time that an entry sets
+-- the time that an entry sets (own)
 abbrev pub time_after : Kind → ℕ → ℕ → ℕ
 time_after Jump at before = at
 time_after _ at before = before
 
--- the time of the last jump, else 0, in ms
+-- the time of the last jump, else 0, in ms (own: one virtual clock)
 abbrev pub time_of : List Entry → ℕ
 time_of [] = 0
 time_of (e ∷ past) = time_after e.kind e.time (time_of past)

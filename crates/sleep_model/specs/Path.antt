@@ -11,28 +11,28 @@ use Rattle.sleep_model.specs.declared.place.Row.{Row}
 use Rattle.sleep_model.specs.declared.place.Row.TheVariants.{Outside, Suspend, Enter, Asleep, Resume, Clear, Over}
 use Rattle.sleep_model.specs.Word.{position}
 
--- the number of attempts after an entry
+-- the number of attempts after an entry (own)
 abbrev pub attempts_after : Kind → ℕ → ℕ
 attempts_after (kind.Attempt n guarded) before = before + 1
 attempts_after _ before = before
 
--- how many attempts were begun
+-- how many attempts were begun (own)
 abbrev pub attempts : List Entry → ℕ
 attempts [] = 0
 attempts (e ∷ past) = attempts_after e.kind (attempts past)
 
--- who makes the open attempt after an entry
+-- who makes the open attempt after an entry (pm_suspend)
 abbrev pub maker_after : Kind → Actor → Option Actor → Option Actor
 maker_after (kind.Attempt n guarded) who before = Some who
 maker_after (kind.Over n r) who before = None
 maker_after _ who before = before
 
--- who makes the attempt that is open, if one is
+-- who makes the attempt that is open, if one is (system_transition_mutex)
 abbrev pub maker : List Entry → Option Actor
 maker [] = None
 maker (e ∷ past) = maker_after e.kind e.actor (maker past)
 
--- the table of an attempt: the step that follows an entry made at that position and time
+-- the table of an attempt: the step that follows an entry made at that position and time (enter_state, suspend_devices_and_enter, suspend_enter)
 abbrev pub row_after : Kind → ℕ → ℕ → Row → Row
 row_after (kind.Attempt n guarded) pos time before = Suspend
 row_after (kind.Done phase.Suspend None) pos time before = Enter
@@ -45,19 +45,19 @@ row_after kind.Clear pos time before = Over
 row_after (kind.Over n r) pos time before = Outside
 row_after _ pos time before = before
 
--- the step that the open attempt is at
+-- the step that the open attempt is at (enter_state, suspend_devices_and_enter, suspend_enter)
 abbrev pub row_of : List Entry → Row
 row_of [] = Outside
 row_of (e ∷ past) = row_after e.kind (position e.now) e.time (row_of past)
 
--- the error after an entry
+-- the error after an entry (suspend_enter)
 abbrev pub failure_after : Kind → Option Errno → Option Errno
 failure_after (kind.Attempt n guarded) before = None
 failure_after (kind.Done phase.Suspend (Some r)) before = Some r
 failure_after (kind.Enter true) before = Some EBUSY
 failure_after _ before = before
 
--- the error of the open attempt's step that failed
+-- the error of the open attempt's step that failed (pm_suspend)
 abbrev pub failure : List Entry → Option Errno
 failure [] = None
 failure (e ∷ past) = failure_after e.kind (failure past)

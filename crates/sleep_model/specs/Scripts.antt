@@ -1,5 +1,7 @@
 -- What a script does, step by step.
-use Rattle.std.specs.Prelude.{ℕ, zero, suc, Bool, true, false, List, [], ◌++◌, filter, flat_map, replicate}
+use Rattle.std.specs.Prelude.{ℕ, zero, suc, Bool, List, [], ◌++◌, filter, flat_map, replicate, Option, Some, None, is_none}
+use Rattle.sleep_model.specs.declared.entry.Kind.{Kind}
+use Rattle.sleep_model.specs.declared.entry.Kind.TheVariants as kind
 use Rattle.sleep_model.specs.declared.machine.Script.{Script}
 use Rattle.sleep_model.specs.declared.machine.Op.{Op}
 use Rattle.sleep_model.specs.declared.machine.Op.TheVariants.{Awake, Relax, Event}
@@ -13,12 +15,16 @@ times_over (suc n) xs = times_over n xs ++ xs
 abbrev pub operations : Script → List Op
 operations s = times_over s.repeat (flat_map (λ step. replicate step.times step.op) s.steps)
 
+-- the note that an operation makes, where it is a call on a source
+abbrev pub note_of : Op → Option Kind
+note_of (Awake s) = Some (kind.Awake s)
+note_of (Relax s) = Some (kind.Relax s)
+note_of (Event s ms hard) = Some (kind.Event s ms hard)
+note_of _ = None
+
 -- a call on a source makes no journal entry
 abbrev pub makes_entry : Op → Bool
-makes_entry (Awake s) = false
-makes_entry (Relax s) = false
-makes_entry (Event s ms hard) = false
-makes_entry _ = true
+makes_entry op = is_none (note_of op)
 
 -- the operations that make journal entries
 abbrev pub entry_steps : Script → List Op

@@ -35,18 +35,18 @@ abbrev pub last_where : (ℕ → Bool) → List ℕ → Option ℕ
 last_where p [] = None
 last_where p (x ∷ xs) = or_else (last_where p xs) (if p x then Some x else None)
 
--- the device whose callback runs, after an entry
+-- the device whose callback runs, after an entry (dpm_run_callback)
 abbrev pub inside_after : Kind → Option ℕ → Option ℕ
 inside_after (kind.Begin p d) before = Some d
 inside_after (kind.End p d r) before = None
 inside_after _ before = before
 
--- the device whose callback runs
+-- the device whose callback runs (dpm_run_callback)
 abbrev pub inside : List Entry → Option ℕ
 inside [] = None
 inside (e ∷ past) = inside_after e.kind (inside past)
 
--- the error of the stretch after an entry: a failed callback's, or EBUSY of a wakeup that was found
+-- the error of the stretch after an entry: a failed callback's, or EBUSY of a wakeup that was found (async_error)
 abbrev pub error_after : Kind → Option Errno → Option Errno
 error_after (kind.Attempt n guarded) before = None
 error_after (kind.Done p r) before = None
@@ -59,7 +59,7 @@ abbrev pub error_of : List Entry → Option Errno
 error_of [] = None
 error_of (e ∷ past) = error_after e.kind (error_of past)
 
--- the devices that are through with the phase after an entry
+-- the devices that are through with the phase after an entry (dpm_suspend)
 abbrev pub settled_after : Kind → List ℕ → List ℕ
 settled_after (kind.Attempt n guarded) before = []
 settled_after (kind.Done p r) before = []
@@ -67,12 +67,12 @@ settled_after (kind.End phase.Suspend d r) before = d ∷ before
 settled_after (kind.Skip p d cause) before = d ∷ before
 settled_after _ before = before
 
--- the devices that have ended or were skipped in the down phase that is open, the last first
+-- the devices that have ended or were skipped in the down phase that is open, the last first (dpm_suspended_list)
 abbrev pub settled : List Entry → List ℕ
 settled [] = []
 settled (e ∷ past) = settled_after e.kind (settled past)
 
--- the suspended devices after an entry
+-- the suspended devices after an entry (__device_suspend, device_resume)
 abbrev pub suspended_after : Kind → List ℕ → List ℕ
 suspended_after (kind.End phase.Suspend d None) before = d ∷ before
 suspended_after (kind.Begin phase.Resume d) before = without d before
@@ -83,10 +83,10 @@ abbrev pub suspended : List Entry → List ℕ
 suspended [] = []
 suspended (e ∷ past) = suspended_after e.kind (suspended past)
 
--- the device that suspend takes next: it is not through, and every one after it is
+-- the device that suspend takes next: it is not through, and every one after it is (dpm_suspend)
 abbrev pub next_down : Machine → List Entry → Option ℕ
 next_down m past = last_where (λ d. not (is_among (settled past) d)) (order m)
 
--- the device that resume takes next: the first that is suspended
+-- the device that resume takes next: the first that is suspended (dpm_resume)
 abbrev pub next_up : Machine → List Entry → Option ℕ
 next_up m past = first_where (is_among (suspended past)) (order m)

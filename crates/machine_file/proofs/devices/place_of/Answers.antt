@@ -1,6 +1,6 @@
 use Rattle.std.proofs.Common.{sym, ◌∙◌}
 use Rattle.machine_file.proofs.Looks.{list_any-texts}
-use Rattle.machine_file.proofs.Parents.{position-texts}
+use Rattle.machine_file.proofs.Places.{position-texts}
 use Rattle.machine_file.proofs.devices.place_of.Goals as goal
 
 pub returns-clause-place : goal.returns-clause-place

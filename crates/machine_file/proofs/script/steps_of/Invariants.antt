@@ -6,5 +6,5 @@ use Rattle.machine_file.proofs.script.steps_of.Given as goal
 
 abbrev pub invariant-loop-value : goal.invariant-loop-value
 invariant-loop-value l =
-    (are_steps (items_view (drop l.value-index l.list)) ≡ are_steps (items_view l.list))
-    × (l.steps.items ++ steps_of (items_view (drop l.value-index l.list)) ≡ steps_of (items_view l.list))
+    (are_steps l.sources (items_view (drop l.value-index l.list)) ≡ are_steps l.sources (items_view l.list))
+    × (l.steps.items ++ steps_of l.sources (items_view (drop l.value-index l.list)) ≡ steps_of l.sources (items_view l.list))
