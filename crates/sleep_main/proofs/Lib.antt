@@ -1,3 +1,4 @@
+pub mod Completing
 pub mod Meters
 pub mod Running
 pub mod Writers

@@ -1,5 +1,5 @@
 -- How the program ends: its status, its text on standard error, and what it has read and written.
-use Rattle.std.specs.Prelude.{◌≡◌, ◌≤◌, ◌<◌, ◌⊎◌, ℕ, List, [], ◌∷◌, ◌++◌, length, codes, Option, Result, Ok, Err, Vec}
+use Rattle.std.specs.Prelude.{◌≡◌, ◌≤◌, ◌<◌, ◌-◌, ◌^◌, ◌⊎◌, ℕ, List, [], ◌∷◌, ◌++◌, length, codes, Option, Some, Result, Ok, Err, Vec}
 use Rattle.std.specs.Io.KnownBytes.{Consumes, Appends, IsAtEnd}
 use Rattle.sleep_base.specs.Faults.{Rose}
 use Rattle.sleep_base.specs.Whole.{Took}
@@ -101,3 +101,13 @@ Ended words old new ending = IsForm words × FileEnded old new ending
 -- the text was said on a stream, or a front of it where its count of faults rose
 abbrev pub Says : Option (List ℕ) → Option (List ℕ) → ℕ → ℕ → List ℕ → Type 0
 Says old new before now said = Appends old new said ⊎ ((front back : List ℕ) × (said ≡ front ++ back) × Appends old new front × Rose before now)
+
+-- no fault was counted: the count stays, and is not at the end of its type
+abbrev pub NoFault : ℕ → ℕ → Type 0
+NoFault before now = (now ≡ before) × (now < 2 ^ 64 - 1)
+
+-- completeness: words of the form, an input that spells a machine, and no fault counted give a log, or want of memory
+abbrev pub Completes : List (List ℕ) → Streams → Streams → ℕ → Type 0
+Completes words old new status =
+    IsForm words → (bytes : List ℕ) → old.left ≡ Some bytes → length bytes ≤ 16777216 → (m : Machine) → Spells bytes m → NoFault old.read_faults new.read_faults → NoFault old.out_faults new.out_faults
+    → (status ≡ status_of Ran) ⊎ (status ≡ status_of NoMemory)

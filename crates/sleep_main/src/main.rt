@@ -12,13 +12,15 @@ use ending::Ending;
 use sleep_base::{StdSink, StdSource, write_all};
 use std::alloc::{AllocError, Global};
 use std::env;
+use std::io::ErrorKind;
 use std::process::ExitCode;
 use top::run_words;
 
-/// The words of the command line. Words that are no text count as none.
+/// The words of the command line. Words that are no text count as none; an error is want of memory.
 fn words_of(rt: &HostRuntime, alloc: Global) -> Result<Vec<String>, AllocError> {
     match env::args(rt) {
         Ok(args) => args.collect(alloc),
+        Err(error) if error.kind() == ErrorKind::OutOfMemory => Err(AllocError),
         Err(_) => Ok(Vec::new(alloc)),
     }
 }

@@ -124,6 +124,7 @@ struct Streams<'a> {
     read_fails: &'a [u64],
     write_chunk: usize,
     write_fails: &'a [u64],
+    error_fails: &'a [u64],
 }
 
 const GOOD: Streams<'static> = Streams {
@@ -131,6 +132,7 @@ const GOOD: Streams<'static> = Streams {
     read_fails: &[],
     write_chunk: 4096,
     write_fails: &[],
+    error_fails: &[],
 };
 
 fn texts(alloc: Global, words: &[&str]) -> Result<Vec<String>, AllocError> {
@@ -154,7 +156,8 @@ fn given<R: Wait>(
     let write_fails = streams.write_fails.to_vec(alloc)?;
     let mut source = MemSource::new(input, streams.read_chunk.max(1), read_fails);
     let mut out = MemSink::new(alloc, 1 << 20, streams.write_chunk.max(1), write_fails)?;
-    let mut err = MemSink::new(alloc, 4096, 4096, Vec::new(alloc))?;
+    let error_fails = streams.error_fails.to_vec(alloc)?;
+    let mut err = MemSink::new(alloc, 4096, 4096, error_fails)?;
     let status = run_words(rt, alloc, &words, &mut source, &mut out, &mut err);
     Ok(Outcome {
         status,
@@ -249,55 +252,69 @@ fn too_long_an_input_is_refused(rt: HostRuntime) -> Result<(), Fail> {
     Ok(())
 }
 
-/// A read that fails: nothing is written. The machine's file takes five reads, the one at its end
-/// included.
+/// A read that fails, at each call in turn, the one at the end included: nothing is written.
 #[test]
 fn a_failing_read_is_told(rt: HostRuntime) -> Result<(), Fail> {
-    for call in 1..=5u64 {
-        let streams = Streams {
-            read_chunk: 64,
-            read_fails: &[call],
-            write_chunk: 4096,
-            write_fails: &[],
-        };
-        let given = given(
-            &rt,
-            rt.alloc(),
-            &RUN,
-            SMALL.as_bytes().to_vec(rt.alloc())?,
-            &streams,
-        )?;
-        assert_eq!(rt; given.status, 4, "call {call}");
-        assert_eq!(rt; given.out.len(), 0);
-        assert!(rt; given.err.as_slice() == b"read fault\n".as_slice());
+    for chunk in [1usize, 64] {
+        let calls = SMALL.len() / chunk + 2;
+        for call in 1..=calls as u64 {
+            let streams = Streams {
+                read_chunk: chunk,
+                read_fails: &[call],
+                ..GOOD
+            };
+            let bytes = SMALL.as_bytes().to_vec(rt.alloc())?;
+            let given = given(&rt, rt.alloc(), &RUN, bytes, &streams)?;
+            let comes = call as usize <= SMALL.len().div_ceil(chunk) + 1;
+            assert_eq!(rt;
+                given.status,
+                if comes { 4 } else { 0 },
+                "call {call} of {chunk}"
+            );
+            assert_eq!(rt; given.out.is_empty(), comes);
+            let said = if comes { "read fault\n" } else { "" };
+            assert!(rt; given.err.as_slice() == said.as_bytes());
+        }
     }
     Ok(())
 }
 
-/// A write that fails: what came before it stands.
+/// A write that fails, at each call in turn: what came before it stands.
 #[test]
 fn a_failing_write_is_told(rt: HostRuntime) -> Result<(), Fail> {
-    for (call, front) in [(1u64, 0usize), (2, 100), (7, 600)] {
+    let calls = SMALL_LOG.len().div_ceil(100);
+    for call in 1..=calls {
         let streams = Streams {
-            read_chunk: 4096,
-            read_fails: &[],
             write_chunk: 100,
-            write_fails: &[call],
+            write_fails: &[call as u64],
+            ..GOOD
         };
-        let given = given(
-            &rt,
-            rt.alloc(),
-            &RUN,
-            SMALL.as_bytes().to_vec(rt.alloc())?,
-            &streams,
-        )?;
+        let bytes = SMALL.as_bytes().to_vec(rt.alloc())?;
+        let given = given(&rt, rt.alloc(), &RUN, bytes, &streams)?;
         assert_eq!(rt; given.status, 5, "call {call}");
-        assert!(rt; front <= SMALL_LOG.len());
+        let front = (call - 1).saturating_mul(100).min(SMALL_LOG.len());
         assert!(rt;
             given.out.as_slice() == &SMALL_LOG.as_bytes()[..front],
             "call {call}"
         );
         assert!(rt; given.err.as_slice() == b"write fault\n".as_slice());
+    }
+    Ok(())
+}
+
+/// Standard error that fails changes neither the status nor the log.
+#[test]
+fn a_failing_error_stream_changes_nothing(rt: HostRuntime) -> Result<(), Fail> {
+    let streams = Streams {
+        error_fails: &[1],
+        ..GOOD
+    };
+    for (file, status, out) in [(SMALL, 0, SMALL_LOG), ("{}", 3, "")] {
+        let bytes = file.as_bytes().to_vec(rt.alloc())?;
+        let given = given(&rt, rt.alloc(), &RUN, bytes, &streams)?;
+        assert_eq!(rt; given.status, status);
+        assert!(rt; given.out.as_slice() == out.as_bytes());
+        assert_eq!(rt; given.err.len(), 0);
     }
     Ok(())
 }

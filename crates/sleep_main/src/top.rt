@@ -1,6 +1,6 @@
 ghost use Rattle.std.specs.Prelude.{◌≡◌, ◌↔◌, ℕ, IsTrue, codes, map, string_bytes};
 ghost use Rattle.sleep_main.specs.declared.ending.Ending.{Ending};
-ghost use Rattle.sleep_main.specs.Endings.{IsForm, GivesLog, FileEnded, Ended, Says, status_of, text_of};
+ghost use Rattle.sleep_main.specs.Endings.{IsForm, GivesLog, FileEnded, Ended, Completes, Says, status_of, text_of};
 
 use crate::ending::Ending;
 use crate::run::{RunFault, run_machine};
@@ -116,7 +116,8 @@ fn say<K: ByteSink>(err: &mut K, text: &str)
 /// - 4: a read failed. 5: a write failed, after a front of the log's text.
 /// - 8: there was no memory.
 ///
-/// At 2, 3, 4 and 8 nothing is written to `out`.
+/// At 2, 3, 4 and 8 nothing is written to `out`. An input that spells a machine gives 0 or 8, where
+/// no fault is counted.
 pub fn run_words<R: Wait, S: ByteSource, K: ByteSink>(
     rt: &R,
     alloc: Global,
@@ -125,12 +126,16 @@ pub fn run_words<R: Wait, S: ByteSource, K: ByteSink>(
     out: &mut K,
     err: &mut K,
 ) -> u8
-    ensures { (ending : Ending) × (result ≡ status_of ending)
+    ensures ended { (ending : Ending) × (result ≡ status_of ending)
         × Ended (map string_bytes words.now)
         (record { left = S.left input.old; read_faults = S.faults input.old; out = K.written out.old; out_faults = K.faults out.old })
         (record { left = S.left input.new; read_faults = S.faults input.new; out = K.written out.new; out_faults = K.faults out.new })
         ending
         × Says (K.written err.old) (K.written err.new) (K.faults err.old) (K.faults err.new) (text_of ending) }
+    ensures complete { Completes (map string_bytes words.now)
+        (record { left = S.left input.old; read_faults = S.faults input.old; out = K.written out.old; out_faults = K.faults out.old })
+        (record { left = S.left input.new; read_faults = S.faults input.new; out = K.written out.new; out_faults = K.faults out.new })
+        result }
 {
     let ending = do_words(rt, alloc, words, input, out);
     say(err, ending.text());

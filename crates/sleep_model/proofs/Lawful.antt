@@ -16,15 +16,17 @@ use Rattle.sleep_model.specs.Accepted.{IsAccepted}
 use Rattle.sleep_model.specs.Guard.{pending, in_force, count_part}
 use Rattle.sleep_model.specs.Numbers.{numbers}
 use Rattle.sleep_model.specs.Path.{row_of, row_after, failure, failure_after, attempts}
-use Rattle.sleep_model.specs.Walk.{is_among, error_of, error_after, settled, suspended}
+use Rattle.sleep_model.specs.Walk.{error_of, error_after, settled, suspended, first_where, last_where}
+use Rattle.sleep_model.specs.Order.{is_among}
 use Rattle.sleep_model.specs.Word.{position, visible}
 use Rattle.sleep_model.specs.declared.entry.SkipCause.TheVariants.{Pending}
-use Rattle.sleep_model.specs.Laws.{DependentsFirst, SuppliersFirst, Restored, Enters, SeesNothing, FoundPending, Laws, LawsAt, test_part, disturbed, disturbed_after, entered, entered_after, guard_of}
+use Rattle.sleep_model.specs.Laws.{AllAmong, NoneAmong, DependentsFirst, SuppliersFirst, Restored, Enters, SeesNothing, FoundPending, Laws, LawsAt, test_part, disturbed, disturbed_after, entered, entered_after, guard_of}
 use Rattle.sleep_model.specs.Parts.{part_of}
 use Rattle.sleep_model.specs.Legal.{IsLegal, JournalPart, JournalStep, SourcePart, JointPart, JointStep}
 use Rattle.sleep_model.proofs.Walking.{Facts, facts_of, AtRow, InSuspend}
 use Rattle.sleep_model.proofs.Guarded.{IsGuarded, guarded_of, sees_nothing}
 use Rattle.sleep_model.proofs.Made.{Made, made}
+use Rattle.sleep_model.proofs.Ordering.{order_plain, below_plain, above_plain}
 use Rattle.sleep_model.proofs.Dependents.{fails_after, fails_before, children_all, parent_before}
 
 -- the facts of suspend while no error stands
@@ -38,14 +40,18 @@ at_over o who r i er se su h e = let x = subst (λ (y : Row). AtRow o who y i er
 dependents_made : (m : Machine) → IsAccepted m → (past : List Entry) → Facts m past → (now : EventNow) (k : Kind) → Made m past now k → DependentsFirst m past k
 dependents_made m acc past w now _ (Made.Begins d r i er next calm) =
     let same : settled past ≡ suspended past = in_suspend _ _ _ _ _ _ _ w.at_row r er in
-    let rest = (fails_after (λ d. not (is_among (settled past) d)) 0 (length m.devices) d next).1 in
-    children_all (suspended past) d 0 m.devices acc.parents
-    (λ c l in_range. ap (λ xs. is_among xs c) (sym same) ∙ not-false (is_among (settled past) c) (rest c l (omega arith)))
+    let plain = subst (λ (o : List ℕ). last_where (λ c. not (is_among (settled past) c)) o ≡ Some d) (order_plain m acc.links) next in
+    let rest = (fails_after (λ c. not (is_among (settled past) c)) 0 (length m.devices) d plain).1 in
+    subst (AllAmong (suspended past)) (sym (below_plain m d acc.links)) (children_all (suspended past) d 0 m.devices acc.parents
+    (λ c l in_range. ap (λ xs. is_among xs c) (sym same) ∙ not-false (is_among (settled past) c) (rest c l (omega arith))))
 dependents_made m acc past w now _ _ = tt
 
 suppliers_made : (m : Machine) → IsAccepted m → (past : List Entry) (now : EventNow) (k : Kind) → Made m past now k → SuppliersFirst m past k
 suppliers_made m acc past now _ (Made.ResumeBegins d r i next) =
-    (parent_before 0 m.devices acc.parents (suspended past) d (λ c l. fails_before (is_among (suspended past)) 0 (length m.devices) d next c (omega arith) (omega arith)), i)
+    let plain = subst (λ (o : List ℕ). first_where (is_among (suspended past)) o ≡ Some d) (order_plain m acc.links) next in (
+      subst (NoneAmong (suspended past)) (sym (above_plain m d acc.links)) (parent_before 0 m.devices acc.parents (suspended past) d (λ c l. fails_before (is_among (suspended past)) 0 (length m.devices) d plain c (omega arith) (omega arith))),
+      i,
+    )
 suppliers_made m acc past now _ _ = tt
 
 restored_made : (m : Machine) (past : List Entry) → Facts m past → (now : EventNow) (k : Kind) → Made m past now k → Restored past k

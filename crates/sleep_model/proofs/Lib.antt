@@ -8,6 +8,7 @@ pub mod Journaled
 pub mod Lawful
 pub mod Made
 pub mod Operations
+pub mod Ordering
 pub mod Padding
 pub mod Planning
 pub mod Soft

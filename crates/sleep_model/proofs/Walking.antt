@@ -20,17 +20,18 @@ use Rattle.sleep_model.specs.declared.place.Seat.{Seat}
 use Rattle.sleep_model.specs.declared.word.EventNow.{EventNow}
 use Rattle.sleep_model.specs.Word.{position, visible}
 use Rattle.sleep_model.specs.Accepted.{IsOneWriter, HasWriter}
-use Rattle.sleep_model.specs.Order.{order}
+use Rattle.sleep_model.specs.Order.{is_among, order}
 use Rattle.sleep_model.specs.Guard.{pending}
 use Rattle.sleep_model.specs.Path.{maker, maker_after, row_of, row_after}
 use Rattle.sleep_model.specs.Seats.{seats, first_seat}
 use Rattle.sleep_model.specs.Scripts.{entry_steps}
-use Rattle.sleep_model.specs.Walk.{is_among, first_where, last_where, inside, inside_after, error_of, error_after, settled, settled_after, suspended, suspended_after}
+use Rattle.sleep_model.specs.Walk.{first_where, last_where, inside, inside_after, error_of, error_after, settled, settled_after, suspended, suspended_after}
 use Rattle.sleep_model.specs.Due.{due, script_due, seat_due, step_due, path_due, suspend_due, resume_due}
 use Rattle.sleep_model.specs.Legal.{JournalPart, JournalStep}
 use Rattle.sleep_model.specs.Parts.{part_of}
 use Rattle.std.proofs.lemmas.Bool.Decides.{nat_tests}
-use Rattle.sleep_model.proofs.Walks.{AllDifferent, run_different, first_suspended_none}
+use Rattle.sleep_model.proofs.Walks.{AllDifferent, first_suspended_none}
+use Rattle.sleep_model.proofs.Ordering.{order_different}
 use Rattle.sleep_model.proofs.Tails.{IsTail, tail_fits, tail_nil, before_tail, down_none, down_some, tail_more, tail_less, up_some, without_first}
 
 -- the attempt is the writer's
@@ -103,10 +104,6 @@ wake_keeps o who p s i er se su false false a pos time w = tt
 enter_keeps : (o : List ℕ) (who : Option Actor) (i : Option ℕ) (er : Option Errno) (se su : List ℕ) (busy : Bool) (a : Actor) (pos time : ℕ) → WalkFacts o who row.Enter i er se su → Keeps o who row.Enter i er se su a pos time (Makes (kind.Enter busy))
 enter_keeps o who i er se su true a pos time w = record { settled_tail = w.settled_tail; suspended_tail = w.suspended_tail; at_row = w.at_row.0 }
 enter_keeps o who i er se su false a pos time w = record { settled_tail = w.settled_tail; suspended_tail = w.suspended_tail; at_row = w.at_row }
-
--- the devices of the order are different
-pub order_different : (m : Machine) → AllDifferent (order m)
-order_different m = run_different 0 (length m.devices)
 
 -- the facts that the journal so far gives
 abbrev pub Facts : Machine → List Entry → Type 0

@@ -11,8 +11,8 @@ use Rattle.sleep_model.specs.declared.word.WordKind.{WordKind}
 use Rattle.sleep_model.specs.declared.word.WordKind.TheVariants as step
 use Rattle.sleep_model.specs.Guard.{CountPart, Finds, count_part, pending}
 use Rattle.sleep_model.specs.Numbers.{numbers, word_step}
-use Rattle.sleep_model.specs.Order.{below, above}
-use Rattle.sleep_model.specs.Walk.{is_among, inside, suspended}
+use Rattle.sleep_model.specs.Order.{is_among, below, above}
+use Rattle.sleep_model.specs.Walk.{inside, suspended}
 
 -- each of the devices is among those
 abbrev pub AllAmong : List ℕ → List ℕ → Type 0

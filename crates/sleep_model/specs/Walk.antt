@@ -1,5 +1,5 @@
 -- The walk of a phase over the devices (drivers/base/power/main.c, dpm_suspend and dpm_resume).
-use Rattle.std.specs.Prelude.{ℕ, Bool, false, not, ◌==◌, ◌||◌, List, [], ◌∷◌, if◌then◌else◌, Option, Some, None}
+use Rattle.std.specs.Prelude.{ℕ, Bool, not, ◌==◌, List, [], ◌∷◌, if◌then◌else◌, Option, Some, None}
 use Rattle.sleep_base.specs.declared.errno.Errno.{Errno}
 use Rattle.sleep_base.specs.declared.errno.Errno.TheVariants.{EBUSY}
 use Rattle.sleep_model.specs.declared.entry.Entry.{Entry}
@@ -8,12 +8,7 @@ use Rattle.sleep_model.specs.declared.entry.Kind.TheVariants as kind
 use Rattle.sleep_model.specs.declared.entry.SkipCause.TheVariants.{Pending}
 use Rattle.sleep_model.specs.declared.phase.Phase.TheVariants as phase
 use Rattle.sleep_model.specs.declared.machine.Machine.{Machine}
-use Rattle.sleep_model.specs.Order.{order}
-
--- the device is among these
-abbrev pub is_among : List ℕ → ℕ → Bool
-is_among [] d = false
-is_among (x ∷ xs) d = (x == d) || is_among xs d
+use Rattle.sleep_model.specs.Order.{is_among, order}
 
 -- the devices without the first d
 abbrev pub without : ℕ → List ℕ → List ℕ

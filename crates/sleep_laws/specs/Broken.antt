@@ -1,0 +1,45 @@
+-- Ways to break a log.
+use Rattle.std.specs.Prelude.{ℕ, ◌+◌, List, [], ◌∷◌, ◌++◌, take, drop}
+use Rattle.sleep_model.specs.declared.entry.Actor.{Actor}
+use Rattle.sleep_model.specs.declared.entry.Entry.{Entry}
+use Rattle.sleep_model.specs.declared.entry.Kind.{Kind}
+use Rattle.sleep_model.specs.declared.log.Log.{Log}
+
+-- the entry with that place, from 0, is left out
+abbrev pub left_out : ℕ → List Entry → List Entry
+left_out k entries = take k entries ++ drop (k + 1) entries
+
+-- it stands twice
+abbrev pub doubled : ℕ → List Entry → List Entry
+doubled k entries = take (k + 1) entries ++ drop k entries
+
+-- the first two are exchanged
+abbrev pub first_exchanged : List Entry → List Entry
+first_exchanged (a ∷ b ∷ entries) = b ∷ a ∷ entries
+first_exchanged entries = entries
+
+-- it and the next are exchanged
+abbrev pub exchanged : ℕ → List Entry → List Entry
+exchanged k entries = take k entries ++ first_exchanged (drop k entries)
+
+-- the first says something else
+abbrev pub first_says : Kind → List Entry → List Entry
+first_says kind [] = []
+first_says kind (e ∷ entries) = record e { kind = kind } ∷ entries
+
+-- it says something else
+abbrev pub says : ℕ → Kind → List Entry → List Entry
+says k kind entries = take k entries ++ first_says kind (drop k entries)
+
+-- the first is by another
+abbrev pub first_by : Actor → List Entry → List Entry
+first_by who [] = []
+first_by who (e ∷ entries) = record e { actor = who } ∷ entries
+
+-- it is by another
+abbrev pub by : ℕ → Actor → List Entry → List Entry
+by k who entries = take k entries ++ first_by who (drop k entries)
+
+-- the log with other entries
+abbrev pub with_entries : Log → List Entry → Log
+with_entries log entries = record log { entries = entries }

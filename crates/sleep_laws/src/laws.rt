@@ -1,0 +1,42 @@
+//! The laws of sleep.
+
+ghost use Rattle.sleep_model.specs.Guard.{count_part};
+ghost use Rattle.sleep_model.specs.Laws.{DependentsFirst, SuppliersFirst, Restored, Enters, SeesNothing, FoundPending, guard_of};
+ghost use Rattle.sleep_laws.specs.Laws.{HoldsOfAll};
+
+/// A device begins to suspend only where all below it are suspended
+/// (`drivers/base/power/main.c`, `dpm_wait_for_subordinate`).
+pub fn dependents_first()
+    ensures { HoldsOfAll DependentsFirst }
+{}
+
+/// A device begins to resume only where none above it is still suspended, and no callback runs
+/// (`drivers/base/power/main.c`, `dpm_wait_for_superior`).
+pub fn suppliers_first()
+    ensures { HoldsOfAll SuppliersFirst }
+{}
+
+/// Where an attempt is over nothing is owed: no device is suspended, and no callback runs
+/// (`drivers/base/power/main.c`, `dpm_resume`).
+pub fn restored()
+    ensures { HoldsOfAll (λ m. Restored) }
+{}
+
+/// An attempt that no wakeup disturbed has entered, and answers 0 (`kernel/power/suspend.c`,
+/// `suspend_enter`).
+pub fn undisturbed_attempts_enter()
+    ensures { HoldsOfAll (λ m. Enters) }
+{}
+
+/// An attempt under a saved count enters only where no step of the word stands since that count was
+/// read, and no event is in progress, if fewer than 65,536 events were registered meanwhile
+/// (`drivers/base/power/wakeup.c`, `pm_save_wakeup_count`, `pm_wakeup_pending`).
+pub fn guarded_sleep()
+    ensures { HoldsOfAll (λ m past k. SeesNothing past k (guard_of past)) }
+{}
+
+/// A test that found a wakeup stands only where one is pending (`drivers/base/power/wakeup.c`,
+/// `pm_wakeup_pending`).
+pub fn found_tests_are_true()
+    ensures { HoldsOfAll (λ m past k. FoundPending past (count_part k)) }
+{}

@@ -1,0 +1,37 @@
+-- Where nothing fails, an accepted machine gives its log.
+use Rattle.std.proofs.Common.{◌≡◌, ◌≤◌, ◌<◌, ◌+◌, ◌-◌, ◌^◌, ◌++◌, ◌∙◌, ◌⊎◌, inl, inr, min, ℕ, List, [], length, Option, Some, None, refl, sym, ap, subst, arith}
+use Rattle.std.proofs.lemmas.List.{length-append, append-nil}
+use Rattle.std.specs.Io.KnownBytes.{Consumes, IsAtEnd}
+use Rattle.sleep_base.specs.Faults.{Rose}
+use Rattle.sleep_base.specs.Whole.{Took}
+use Rattle.sleep_model.specs.declared.machine.Machine.{Machine}
+use Rattle.machine_file.specs.Spells.{Spells}
+use Rattle.sleep_main.specs.declared.ending.Ending.{Ending}
+use Rattle.sleep_main.specs.declared.ending.Ending.TheVariants.{Ran, NoForm, TooLong, Refused, ReadFault, WriteFault, NoMemory}
+use Rattle.sleep_main.specs.Endings.{IsForm, Streams, NoFault, Completes, Ended, FileEnded, status_of}
+
+-- a count that rose is no count that stayed
+rose_not : (before now : ℕ) → Rose before now → NoFault before now → ⊥
+rose_not before now r n = omega (arith, r, n.0, n.1)
+
+-- what was taken up to the end is all
+whole : (old new : Option (List ℕ)) (bytes bs : List ℕ) → old ≡ Some bytes → Consumes old new bs → IsAtEnd new → bs ≡ bytes
+whole None new bytes bs e taken end = absurd (cc)
+whole (Some xs) None bytes bs e taken end = absurd taken
+whole (Some xs) (Some ys) bytes bs e taken end = let all : xs ≡ bytes = cc in sym (append-nil bs) ∙ (ap (λ zs. bs ++ zs) (sym end) ∙ (sym taken ∙ all))
+
+-- no more is taken than there was
+part : (old new : Option (List ℕ)) (bytes bs : List ℕ) → old ≡ Some bytes → Consumes old new bs → length bs ≤ length bytes
+part None new bytes bs e taken = absurd (cc)
+part (Some xs) None bytes bs e taken = absurd taken
+part (Some xs) (Some ys) bytes bs e taken = let all : xs ≡ bytes = cc in omega (arith, ap length all, ap length taken, length-append bs ys)
+
+pub completes : (words : List (List ℕ)) (old new : Streams) (ending : Ending) → Ended words old new ending → Completes words old new (status_of ending)
+completes words old new Ran h = λ form bytes told fits m spells read out. inl refl
+completes words old new NoForm h = λ form bytes told fits m spells read out. absurd (h.0 form)
+completes words old new TooLong h = λ form bytes told fits m spells read out. absurd (omega (arith, h.1.0.2, part old.left new.left bytes h.1.0.0 told h.1.0.1, fits))
+completes words old new Refused h = λ form bytes told fits m spells read out.
+    absurd (h.1.0.2 m (subst (λ (bs : List ℕ). Spells bs m) (sym (whole old.left new.left bytes h.1.0.0 told h.1.0.1.taken h.1.0.1.at_end)) spells))
+completes words old new ReadFault h = λ form bytes told fits m spells read out. absurd (rose_not old.read_faults new.read_faults h.1.0 read)
+completes words old new WriteFault h = λ form bytes told fits m spells read out. absurd (rose_not old.out_faults new.out_faults h.1.0 out)
+completes words old new NoMemory h = λ form bytes told fits m spells read out. inr refl
