@@ -102,7 +102,7 @@ impl<'m> Core<'m> {
     ghost use Rattle.sleep_model.specs.Accepted.{IsAccepted};
     ghost use Rattle.sleep_model.specs.Due.{due, seat_due, step_due, path_due, suspend_due, resume_due, wake_due};
     ghost use Rattle.sleep_model.specs.Guard.{pending};
-    ghost use Rattle.sleep_model.specs.Legal.{JournalPart, next_time, is_made, all_exited};
+    ghost use Rattle.sleep_model.specs.Legal.{JournalPart, journal_time, is_made, all_exited};
     ghost use Rattle.sleep_model.specs.Numbers.{time_of};
     ghost use Rattle.sleep_model.specs.Path.{maker, row_of};
     ghost use Rattle.sleep_model.specs.Seats.{seats, first_seat};
@@ -424,7 +424,7 @@ impl<'m> Core<'m> {
 
     /// The least pending time in ms, the sources' expiries left out. None where none is pending.
     pub fn next_time(&self) -> Option<u64>
-        ensures { result ≡ next_time self.now.machine (entries self.now.past) }
+        ensures { result ≡ journal_time self.now.machine (entries self.now.past) }
     {
         match self.history.row() {
             Row::Asleep { since, .. } => Some(since + self.machine.alarm_ms),

@@ -1,14 +1,12 @@
 -- Where nothing fails, an accepted machine gives its log.
-use Rattle.std.proofs.Common.{◌≡◌, ◌≤◌, ◌<◌, ◌+◌, ◌-◌, ◌^◌, ◌++◌, ◌∙◌, ◌⊎◌, inl, inr, min, ℕ, List, [], length, Option, Some, None, refl, sym, ap, subst, arith}
+use Rattle.std.proofs.Common.{◌≡◌, ◌≤◌, ◌++◌, ◌∙◌, inl, inr, ℕ, List, length, Option, Some, None, refl, sym, ap, subst, arith}
 use Rattle.std.proofs.lemmas.List.{length-append, append-nil}
 use Rattle.std.specs.Io.KnownBytes.{Consumes, IsAtEnd}
 use Rattle.sleep_base.specs.Faults.{Rose}
-use Rattle.sleep_base.specs.Whole.{Took}
-use Rattle.sleep_model.specs.declared.machine.Machine.{Machine}
 use Rattle.machine_file.specs.Spells.{Spells}
 use Rattle.sleep_main.specs.declared.ending.Ending.{Ending}
 use Rattle.sleep_main.specs.declared.ending.Ending.TheVariants.{Ran, NoForm, TooLong, Refused, ReadFault, WriteFault, NoMemory}
-use Rattle.sleep_main.specs.Endings.{IsForm, Streams, NoFault, Completes, Ended, FileEnded, status_of}
+use Rattle.sleep_main.specs.Endings.{Streams, NoFault, Completes, Ended, status_of}
 
 -- a count that rose is no count that stayed
 rose_not : (before now : ℕ) → Rose before now → NoFault before now → ⊥

@@ -1,5 +1,5 @@
 -- A turn keeps what a run keeps.
-use Rattle.std.proofs.Common.{◌≡◌, ◌<◌, ◌≤◌, ◌+◌, ◌++◌, ◌∙◌, ℕ, zero, suc, true, false, List, [], ◌∷◌, length, reverse, slice_set, slice_get, slice_index_or, Some, None, refl, sym, ap, ap₂, subst, cond, arith}
+use Rattle.std.proofs.Common.{◌≡◌, ◌<◌, ◌≤◌, ◌+◌, ◌++◌, ◌∙◌, ℕ, zero, suc, true, false, List, [], ◌∷◌, length, reverse, slice_set, slice_get, slice_index_or, Option, Some, None, refl, sym, ap, ap₂, subst, cond, arith}
 use Rattle.std.proofs.lemmas.List.{reverse-append}
 use Rattle.sleep_model.specs.declared.entry.Actor.TheVariants as actor
 use Rattle.sleep_model.specs.declared.entry.Entry.{Entry}
@@ -22,13 +22,14 @@ use Rattle.sleep_model.specs.declared.word.WordKind.TheVariants as step
 use Rattle.sleep_model.specs.Accepted.{IsAccepted, IsOneWriter}
 use Rattle.sleep_model.specs.Calls.{calls, calls_after, calls_due, script_calls_before, next_note, OnPlan}
 use Rattle.sleep_model.specs.Due.{due}
-use Rattle.sleep_model.specs.Legal.{IsLegal, is_finished, alarm_at, next_time, stats_of}
+use Rattle.sleep_model.specs.Legal.{IsLegal, is_finished, alarm_at, next_time, stats_of, journal_time, sooner, next_expiry}
 use Rattle.sleep_model.specs.Numbers.{numbers, after_step, time_of}
 use Rattle.sleep_model.specs.Parts.{Part, OfJournal, part_of, is_kept, journal}
-use Rattle.sleep_model.specs.Sources.{is_of, history}
+use Rattle.sleep_model.specs.Sources.{is_of, history, AreQuiet}
+use Rattle.sleep_model.specs.Path.{row_of}
 use Rattle.sleep_model.specs.Seats.{seats, seats_after, seat_part, first_seat, Stays}
 use Rattle.sleep_model.specs.Word.{position}
-use Rattle.sleep_model.proofs.Calling.{with_event, each_event, each_kept, event_legal, event_quiet, quiet_first, quiet_kept}
+use Rattle.sleep_model.proofs.Calling.{with_event, each_event, each_kept, event_legal, event_quiet, quiet_first, quiet_kept, quiet_waits}
 use Rattle.sleep_model.proofs.Growing.{MayJump, may_jump, due_of_journal, entry_legal, entry_numbers, entry_quiet, jump_legal, finished_of}
 use Rattle.sleep_model.proofs.Journaled.{journal_alike, due_same, seats_stay}
 use Rattle.sleep_model.proofs.Lawful.{laws_of}
@@ -231,19 +232,25 @@ running_entry m past core new word reports made meters floor stamp time k r call
 pub jump_of : (m : Machine) (past : List Entry) (core : CoreState) (word : EventNow) (reports : List ℕ) (made : ℕ) (meters : List Meter) (floor : Stamp) → IsRunning m past core word reports made meters floor → calls 0 past ≡ calls_due m past 0
     → (why : Why) → due m past (actor.Script 0) (numbers past) ≡ Waits why → (at : ℕ) × MayJump m past at
 jump_of m past core word reports made meters floor r calls_made why e =
-    may_jump m r.accepted past r.legal.journal (own_turn m r.accepted.writer past r.quiet calls_made) why e (ap (λ (w : EventNow). w.inpr) (sym r.word_is) ∙ r.none_open)
+    may_jump m r.accepted past r.legal.journal r.quiet (own_turn m r.accepted.writer past r.quiet calls_made) why e (ap (λ (w : EventNow). w.inpr) (sym r.word_is) ∙ r.none_open)
+
+-- while nothing is to expire, the next moment is the journal's
+quiet_journal : (m : Machine) (past : List Entry) (o : Option ℕ) → AreQuiet past → o ≡ sooner o (next_expiry past (length m.sources + 1))
+quiet_journal m past None q = sym (quiet_waits past q (length m.sources + 1))
+quiet_journal m past (Some at) q = sym (ap (sooner (Some at)) (quiet_waits past q (length m.sources + 1)))
 
 -- the core's next moment is that of all entries
-next_joint : (m : Machine) (past : List Entry) (core : CoreState) (word : EventNow) (reports : List ℕ) (made : ℕ) (meters : List Meter) (floor : Stamp) → IsRunning m past core word reports made meters floor → next_time core.machine (entries core.past) ≡ next_time m past
+next_joint : (m : Machine) (past : List Entry) (core : CoreState) (word : EventNow) (reports : List ℕ) (made : ℕ) (meters : List Meter) (floor : Stamp) → IsRunning m past core word reports made meters floor → journal_time core.machine (entries core.past) ≡ next_time m past
 next_joint m past core word reports made meters floor r =
-    ap (λ (x : Machine). next_time x (entries core.past)) r.machine_is ∙ (ap (λ (xs : List Entry). next_time m xs) r.journal_is ∙ ap (alarm_at m.alarm_ms) (journal_alike past).row_is)
+    ap (λ (x : Machine). journal_time x (entries core.past)) r.machine_is
+    ∙ (ap (λ (xs : List Entry). journal_time m xs) r.journal_is ∙ (ap (alarm_at m.alarm_ms) (journal_alike past).row_is ∙ quiet_journal m past (alarm_at m.alarm_ms (row_of past)) r.quiet))
 
 -- the jump is to the pending moment
-pub jump_to : (m : Machine) (past : List Entry) (core : CoreState) (word : EventNow) (reports : List ℕ) (made : ℕ) (meters : List Meter) (floor : Stamp) → IsRunning m past core word reports made meters floor → (at to : ℕ) → MayJump m past at → Some to ≡ next_time core.machine (entries core.past) → to ≡ at
+pub jump_to : (m : Machine) (past : List Entry) (core : CoreState) (word : EventNow) (reports : List ℕ) (made : ℕ) (meters : List Meter) (floor : Stamp) → IsRunning m past core word reports made meters floor → (at to : ℕ) → MayJump m past at → Some to ≡ journal_time core.machine (entries core.past) → to ≡ at
 jump_to m past core word reports made meters floor r at to j e = let s : Some to ≡ Some at = e ∙ (next_joint m past core word reports made meters floor r ∙ j.next) in cc
 
 -- there is one
-pub jump_some : (m : Machine) (past : List Entry) (core : CoreState) (word : EventNow) (reports : List ℕ) (made : ℕ) (meters : List Meter) (floor : Stamp) → IsRunning m past core word reports made meters floor → (at : ℕ) → MayJump m past at → None ≡ next_time core.machine (entries core.past) → ⊥
+pub jump_some : (m : Machine) (past : List Entry) (core : CoreState) (word : EventNow) (reports : List ℕ) (made : ℕ) (meters : List Meter) (floor : Stamp) → IsRunning m past core word reports made meters floor → (at : ℕ) → MayJump m past at → None ≡ journal_time core.machine (entries core.past) → ⊥
 jump_some m past core word reports made meters floor r at j e = let s : None ≡ Some at = e ∙ (next_joint m past core word reports made meters floor r ∙ j.next) in cc
 
 -- after a jump the run goes on
@@ -303,7 +310,7 @@ waits_joint m past core word reports made meters floor r why e =
 pub running_over : (m : Machine) (past : List Entry) (core : CoreState) (word : EventNow) (reports : List ℕ) (made : ℕ) (meters : List Meter) (floor : Stamp) → IsRunning m past core word reports made meters floor → calls 0 past ≡ calls_due m past 0
     → due core.machine (entries core.past) (actor.Script 0) word ≡ Gone → is_finished m past ≡ true
 running_over m past core word reports made meters floor r calls_made e =
-    finished_of m r.accepted past r.legal.journal (own_turn m r.accepted.writer past r.quiet calls_made)
+    finished_of m r.accepted past r.legal.journal r.quiet (own_turn m r.accepted.writer past r.quiet calls_made)
     (subst (λ (w : EventNow). due m past (actor.Script 0) w ≡ Gone) r.word_is (due_joint m past core word reports made meters floor r word Gone e))
 
 -- the log of a run that is over

@@ -1,5 +1,5 @@
 -- The histories of sources while no call is under way, and an event that is reported as a whole.
-use Rattle.std.proofs.Common.{◌≡◌, ◌+◌, ◌++◌, ◌∙◌, ℕ, zero, suc, Bool, true, false, ◌==◌, ◌&&◌, ◌||◌, List, [], ◌∷◌, Option, Some, None, refl, sym, ap, subst, cond, length, arith}
+use Rattle.std.proofs.Common.{◌≡◌, ◌+◌, ◌++◌, ◌∙◌, ℕ, zero, suc, Bool, true, false, not, ◌==◌, ◌&&◌, ◌||◌, List, [], ◌∷◌, Option, Some, None, refl, sym, ap, subst, cond, length, arith}
 use Rattle.std.proofs.lemmas.Bool.Decides.{nat_tests}
 use Rattle.sleep_model.specs.declared.entry.Actor.{Actor}
 use Rattle.sleep_model.specs.declared.entry.Actor.TheVariants as actor
@@ -9,10 +9,10 @@ use Rattle.sleep_model.specs.declared.machine.Machine.{Machine}
 use Rattle.sleep_model.specs.declared.word.EventNow.{EventNow}
 use Rattle.sleep_model.specs.declared.word.WordKind.TheVariants as step
 use Rattle.sleep_model.specs.Calls.{next_note, is_calling, is_left, is_script}
-use Rattle.sleep_model.specs.Legal.{IsLegal}
+use Rattle.sleep_model.specs.Legal.{IsLegal, none_expires, sooner, next_expiry}
 use Rattle.sleep_model.specs.Numbers.{numbers, after_step, time_of}
 use Rattle.sleep_model.specs.Parts.{part_of}
-use Rattle.sleep_model.specs.Sources.{history, is_of, IsQuiet, AreQuiet, since, behind_first, owed, caller, IsNext, starting}
+use Rattle.sleep_model.specs.Sources.{history, is_of, has_expired, IsQuiet, AreQuiet, since, behind_first, owed, caller, IsNext, starting}
 use Rattle.sleep_model.proofs.Walks.{same_eq}
 
 -- an entry of the source joins its history
@@ -25,7 +25,7 @@ history_other s e past h = ap (λ b. cond b (e ∷ history s past) (history s pa
 
 -- at first all are quiet
 pub quiet_first : AreQuiet []
-quiet_first s = record { owes_none = refl; inactive = refl }
+quiet_first s = record { owes_none = refl; inactive = refl; lasting = refl }
 
 -- what holds of each history holds of it after an entry that is no source's
 pub each_kept : (P : List Entry → Type 0) (e : Entry) (past : List Entry) → ((s : ℕ) → is_of s (part_of e.kind) ≡ false) → ((s : ℕ) → P (history s past)) → (s : ℕ) → P (history s (e ∷ past))
@@ -39,6 +39,15 @@ quiet_kept e past h q = each_kept IsQuiet e past h q
 pub quiet_outside : (past : List Entry) → AreQuiet past → (n i : ℕ) → is_calling n past i ≡ false
 quiet_outside past q zero i = refl
 quiet_outside past q (suc n) i = ap (λ o. (is_left o && is_script i (caller (history n past))) || is_calling n past i) (q n).owes_none ∙ quiet_outside past q n i
+
+-- and nothing expires
+pub quiet_expires : (past : List Entry) → AreQuiet past → (n : ℕ) → none_expires past n ≡ true
+quiet_expires past q zero = refl
+quiet_expires past q (suc n) = ap (λ o. not (has_expired o (time_of past)) && none_expires past n) (q n).lasting ∙ quiet_expires past q n
+
+pub quiet_waits : (past : List Entry) → AreQuiet past → (n : ℕ) → next_expiry past n ≡ None
+quiet_waits past q zero = refl
+quiet_waits past q (suc n) = ap (λ o. sooner o (next_expiry past n)) (q n).lasting ∙ quiet_waits past q n
 
 -- the three entries of an event without length: its note, its start, its finish
 abbrev pub event_note : ℕ → EventNow → Actor → ℕ → Entry
@@ -102,4 +111,4 @@ each_event P time word who s past keeps q t = by_same (s == t) refl
 
 -- after the event all are quiet again
 pub event_quiet : (past : List Entry) → AreQuiet past → (time : ℕ) (word : EventNow) (who : Actor) (s : ℕ) → AreQuiet (with_event time word who s past)
-event_quiet past q time word who s = each_event IsQuiet time word who s past (λ own h. record { owes_none = ap (λ steps. behind_first (behind_first steps)) (event_makes time word who s own h.inactive); inactive = refl }) q
+event_quiet past q time word who s = each_event IsQuiet time word who s past (λ own h. record { owes_none = ap (λ steps. behind_first (behind_first steps)) (event_makes time word who s own h.inactive); inactive = refl; lasting = refl }) q

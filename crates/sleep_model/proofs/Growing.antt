@@ -26,10 +26,10 @@ use Rattle.sleep_model.specs.Due.{due}
 use Rattle.sleep_model.specs.Calls.{next_note}
 use Rattle.sleep_model.specs.Parts.{OfJournal, OfTime, part_of}
 use Rattle.sleep_model.specs.Sources.{is_of}
-use Rattle.sleep_model.specs.Legal.{IsLegal, JournalPart, JournalStep, OwnStep, JointStep, IsOwnTurn, is_made, none_enabled, is_idle, is_finished, all_exited, next_time, alarm_at}
+use Rattle.sleep_model.specs.Legal.{IsLegal, JournalPart, JournalStep, OwnStep, JointStep, IsOwnTurn, is_made, none_enabled, none_expires, sooner, next_expiry, is_idle, is_finished, all_exited, next_time, alarm_at}
 use Rattle.sleep_model.proofs.Walking.{facts_of, AtRow}
 use Rattle.sleep_model.specs.Sources.{AreQuiet}
-use Rattle.sleep_model.proofs.Calling.{quiet_kept}
+use Rattle.sleep_model.proofs.Calling.{quiet_kept, quiet_expires, quiet_waits}
 use Rattle.sleep_model.proofs.Made.{made, made_of_journal}
 use Rattle.sleep_model.proofs.Idling.{Idle, Makes', InProgress, Asleep, Exited, idle_case}
 
@@ -71,12 +71,14 @@ one_actor d n (s ∷ t ∷ rest) h = absurd h
 pub has_one : (m : Machine) → HasWriter m → length m.actors ≡ 1
 has_one m acc = one_actor (length m.devices) (length m.sources) m.actors acc
 
--- with one script, nobody is enabled where it is inside no call, makes none next, and nothing is due of it
-idle_of : (m : Machine) → HasWriter m → (past : List Entry) → IsOwnTurn m past (actor.Script 0) → is_made (due m past (actor.Script 0) (numbers past)) ≡ false → is_idle m past ≡ true
-idle_of m acc past own e =
+-- with one script, nobody is enabled where it is inside no call, makes none next, nothing is due of it, and nothing expires
+pub idle_of : (m : Machine) → HasWriter m → (past : List Entry) → AreQuiet past → IsOwnTurn m past (actor.Script 0) → is_made (due m past (actor.Script 0) (numbers past)) ≡ false → is_idle m past ≡ true
+idle_of m acc past quiet own e =
+    let none : none_enabled m past (length m.actors) ≡ true =
     ap (none_enabled m past) (has_one m acc)
     ∙ (ap (λ b. not (b || is_some (next_note m past 0) || is_made (due m past (actor.Script 0) (numbers past))) && true) own.0
-    ∙ (ap (λ (o : Option Kind). not (is_some o || is_made (due m past (actor.Script 0) (numbers past))) && true) own.1 ∙ ap (λ b. not b && true) e))
+    ∙ (ap (λ (o : Option Kind). not (is_some o || is_made (due m past (actor.Script 0) (numbers past))) && true) own.1 ∙ ap (λ b. not b && true) e)) in
+    ap (λ b. b && none_expires past (length m.sources + 1)) none ∙ quiet_expires past quiet (length m.sources + 1)
 
 -- why the writer is idle, at what is due of it
 asleep_only : (m : Machine) (past : List Entry) (now : EventNow) (w : Why) (d : Due) → Idle m past now d → d ≡ Waits w → now.inpr ≡ 0 → (pos : ℕ) × (since : ℕ) × (row_of past ≡ row.Asleep pos since) × (time_of past < since + m.alarm_ms)
@@ -96,15 +98,15 @@ pub record MayJump (m : Machine) (past : List Entry) (at : ℕ) : Type 0 where
   pub idle : is_idle m past ≡ true
   pub open_still : is_finished m past ≡ false
 
-pub may_jump : (m : Machine) → IsAccepted m → (past : List Entry) → JournalPart m past → IsOwnTurn m past (actor.Script 0) → (w : Why) → due m past (actor.Script 0) (numbers past) ≡ Waits w → (numbers past).inpr ≡ 0 → (at : ℕ) × MayJump m past at
-may_jump m acc past legal own w e quiet =
+pub may_jump : (m : Machine) → IsAccepted m → (past : List Entry) → JournalPart m past → AreQuiet past → IsOwnTurn m past (actor.Script 0) → (w : Why) → due m past (actor.Script 0) (numbers past) ≡ Waits w → (numbers past).inpr ≡ 0 → (at : ℕ) × MayJump m past at
+may_jump m acc past legal still own w e quiet =
     let f = facts_of m acc.writer past legal in
     let s = asleep_only m past (numbers past) w _ (idle_case m acc past (numbers past) f) e quiet in
     let who : maker past ≡ Some (actor.Script 0) = sleeper_open _ _ _ _ _ _ _ f.at_row s.0 s.1 s.2 in
-    let idle : is_idle m past ≡ true = idle_of m acc.writer past own (ap is_made e) in (
+    let idle : is_idle m past ≡ true = idle_of m acc.writer past still own (ap is_made e) in (
       s.1 + m.alarm_ms,
       record {
-        next = ap (alarm_at m.alarm_ms) s.2;
+        next = ap (λ o. sooner o (next_expiry past (length m.sources + 1))) (ap (alarm_at m.alarm_ms) s.2) ∙ ap (sooner (Some (s.1 + m.alarm_ms))) (quiet_waits past still (length m.sources + 1));
         later = s.3;
         idle = idle;
         open_still = ap (λ (x : Option Actor). all_exited (seats (length m.actors) past) && is_none x && is_idle m past) who ∙ ap (λ b. b && is_idle m past) (and-false (all_exited (seats (length m.actors) past)));
@@ -144,9 +146,9 @@ exited_only m past now _ (Asleep pos since r l) e = absurd (cc)
 exited_only m past now _ (Exited a b) e = (a, b)
 
 -- where the writer is through, the log is finished
-pub finished_of : (m : Machine) → IsAccepted m → (past : List Entry) → JournalPart m past → IsOwnTurn m past (actor.Script 0) → due m past (actor.Script 0) (numbers past) ≡ Gone → is_finished m past ≡ true
-finished_of m acc past legal own e =
+pub finished_of : (m : Machine) → IsAccepted m → (past : List Entry) → JournalPart m past → AreQuiet past → IsOwnTurn m past (actor.Script 0) → due m past (actor.Script 0) (numbers past) ≡ Gone → is_finished m past ≡ true
+finished_of m acc past legal still own e =
     let x = exited_only m past (numbers past) _ (idle_case m acc past (numbers past) (facts_of m acc.writer past legal)) e in
     let exits : all_exited (seats (length m.actors) past) ≡ true = one_exited (seats (length m.actors) past) (seats_len (length m.actors) past ∙ has_one m acc.writer) x.1 in
-    let idle : is_idle m past ≡ true = idle_of m acc.writer past own (ap is_made e) in
+    let idle : is_idle m past ≡ true = idle_of m acc.writer past still own (ap is_made e) in
     ap (λ b. b && is_none (maker past) && is_idle m past) exits ∙ ap (λ (y : Option Actor). is_none y && is_idle m past) x.0 ∙ idle

@@ -104,7 +104,7 @@ soft_own : (m : Machine) → HasWriter m → (past : List Entry) (a : Actor) (s 
 soft_own m acc past (actor.Script i) s ms hard h = soft_of (length m.devices) (length m.sources) m.actors acc i _ s ms hard h.1
 soft_own m acc past actor.Auto s ms hard h = absurd h
 soft_own m acc past (actor.Dev d) s ms hard h = absurd h
-soft_own m acc past (actor.Timer t) s ms hard h = absurd h
+soft_own m acc past (actor.Timer t) s ms hard h = absurd (cc)
 soft_own m acc past actor.Time s ms hard h = absurd h
 
 -- an event that is noted is soft

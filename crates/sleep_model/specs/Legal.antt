@@ -1,10 +1,11 @@
 -- Legal logs, in three parts: the journal's entries, the sources' entries, and what ties them together.
-use Rattle.std.specs.Prelude.{◌≡◌, ◌<◌, ◌+◌, ℕ, zero, suc, Bool, true, false, not, ◌&&◌, ◌||◌, List, [], ◌∷◌, length, map, reverse, Option, Some, None, is_none, is_some}
+use Rattle.std.specs.Prelude.{◌≡◌, ◌<◌, ◌+◌, ℕ, zero, suc, Bool, true, false, not, ◌&&◌, ◌||◌, List, [], ◌∷◌, length, map, min, reverse, Option, Some, None, is_none, is_some}
 use Rattle.std.specs.List.{list_all, range_with_len}
 use Rattle.sleep_model.specs.declared.entry.Actor.{Actor}
 use Rattle.sleep_model.specs.declared.entry.Actor.TheVariants as actor
 use Rattle.sleep_model.specs.declared.entry.Entry.{Entry}
 use Rattle.sleep_model.specs.declared.entry.Kind.{Kind}
+use Rattle.sleep_model.specs.declared.entry.Kind.TheVariants.{Expire}
 use Rattle.sleep_model.specs.declared.log.Log.{Log}
 use Rattle.sleep_model.specs.declared.log.LogEnd.TheVariants.{Finished}
 use Rattle.sleep_model.specs.declared.log.Stats.{Stats}
@@ -20,7 +21,7 @@ use Rattle.sleep_model.specs.Numbers.{numbers, time_of}
 use Rattle.sleep_model.specs.Parts.{Part, OfJournal, Notes, Moves, OfTime, part_of}
 use Rattle.sleep_model.specs.Path.{maker, row_of}
 use Rattle.sleep_model.specs.Seats.{seats}
-use Rattle.sleep_model.specs.Sources.{history, SourceStep, stats_at}
+use Rattle.sleep_model.specs.Sources.{history, expiry, has_expired, SourceStep, stats_at}
 
 -- a journal entry is what is due of its actor at the word that it carries, now; a jump raises the time
 abbrev pub JournalStep : Machine → List Entry → Entry → Part → Type 0
@@ -35,8 +36,8 @@ JournalPart m (e ∷ past) = JournalStep m past e (part_of e.kind) × JournalPar
 
 -- an entry of a source is legal in the history of that source
 abbrev pub OwnStep : List Entry → Entry → Part → Type 0
-OwnStep past e (Notes s made) = SourceStep (history s past) e.actor (Notes s made)
-OwnStep past e (Moves s step) = SourceStep (history s past) e.actor (Moves s step)
+OwnStep past e (Notes s made) = SourceStep (history s past) e.time e.actor (Notes s made)
+OwnStep past e (Moves s step) = SourceStep (history s past) e.time e.actor (Moves s step)
 OwnStep past e _ = Unit {0}
 
 -- each source's entries are legal
@@ -62,9 +63,14 @@ abbrev pub none_enabled : Machine → List Entry → ℕ → Bool
 none_enabled m past zero = true
 none_enabled m past (suc n) = not (is_enabled m past n) && none_enabled m past n
 
--- no actor is enabled
+-- none of the first n sources is to expire now: no timer is enabled
+abbrev pub none_expires : List Entry → ℕ → Bool
+none_expires past zero = true
+none_expires past (suc n) = not (has_expired (expiry (history n past)) (time_of past)) && none_expires past n
+
+-- no actor is enabled: no script, and no timer of a source
 abbrev pub is_idle : Machine → List Entry → Bool
-is_idle m past = none_enabled m past (length m.actors)
+is_idle m past = none_enabled m past (length m.actors) && none_expires past (length m.sources + 1)
 
 -- each of these has made its exit
 abbrev pub all_exited : List Seat → Bool
@@ -79,9 +85,24 @@ abbrev pub alarm_at : ℕ → Row → Option ℕ
 alarm_at ms (Asleep pos since) = Some (since + ms)
 alarm_at ms _ = None
 
--- the least pending time, in ms
+-- the lesser of two moments, where there are any
+abbrev pub sooner : Option ℕ → Option ℕ → Option ℕ
+sooner None other = other
+sooner (Some at) None = Some at
+sooner (Some at) (Some other) = Some (min at other)
+
+-- the least expiry of the first n sources (ws->timer_expires)
+abbrev pub next_expiry : List Entry → ℕ → Option ℕ
+next_expiry past zero = None
+next_expiry past (suc n) = sooner (expiry (history n past)) (next_expiry past n)
+
+-- the least pending time of the journal alone, in ms (own)
+abbrev pub journal_time : Machine → List Entry → Option ℕ
+journal_time m past = alarm_at m.alarm_ms (row_of past)
+
+-- the least pending time, in ms (own)
 abbrev pub next_time : Machine → List Entry → Option ℕ
-next_time m past = alarm_at m.alarm_ms (row_of past)
+next_time m past = sooner (journal_time m past) (next_expiry past (length m.sources + 1))
 
 -- time jumps where no actor is enabled and the run is not over, to the least pending time
 pub record JumpStep (m : Machine) (past : List Entry) (e : Entry) : Type 0 where
@@ -95,9 +116,10 @@ abbrev pub IsOwnTurn : Machine → List Entry → Actor → Type 0
 IsOwnTurn m past (actor.Script i) = (is_inside_call m past i ≡ false) × (next_note m past i ≡ None)
 IsOwnTurn m past _ = Unit {0}
 
--- a script makes a call where it is inside no other, and that call is its next step; nobody else makes calls today
+-- a script makes a call where it is inside no other, and that call is its next step; a timer makes the expiry of its source; nobody else makes calls today
 abbrev pub IsOwnCall : Machine → List Entry → Actor → Kind → Type 0
 IsOwnCall m past (actor.Script i) k = (is_inside_call m past i ≡ false) × (next_note m past i ≡ Some k)
+IsOwnCall m past (actor.Timer s) k = k ≡ Expire s
 IsOwnCall m past _ k = ⊥
 
 -- an entry carries the numbers and the time of its place, and is its actor's next; a jump stands where it may

@@ -1,5 +1,5 @@
 -- A wakeup source, from its own entries: what a call makes, and its statistics (drivers/base/power/wakeup.c).
-use Rattle.std.specs.Prelude.{◌≡◌, ◌+◌, ◌-◌, ◌++◌, ℕ, Bool, true, false, ◌==◌, max, List, [], ◌∷◌, filter, if◌then◌else◌, Option, Some, None}
+use Rattle.std.specs.Prelude.{◌≡◌, ◌+◌, ◌-◌, ◌++◌, ℕ, Bool, true, false, ◌==◌, nat_le, max, List, [], ◌∷◌, filter, if◌then◌else◌, Option, Some, None}
 use Rattle.sleep_model.specs.declared.entry.Actor.{Actor}
 use Rattle.sleep_model.specs.declared.entry.Entry.{Entry}
 use Rattle.sleep_model.specs.declared.log.Stats.{Stats}
@@ -20,6 +20,30 @@ is_of s _ = false
 -- the entries of one source among all (struct wakeup_source)
 abbrev pub history : ℕ → List Entry → List Entry
 history s past = filter (λ e. is_of s (part_of e.kind)) past
+
+-- ---- its expiry
+
+-- the later of a moment and one that may stand
+abbrev pub later : ℕ → Option ℕ → Option ℕ
+later time None = Some time
+later time (Some stands) = Some (max time stands)
+
+-- when the event in progress ends by itself, after an entry: an event with a length sets it, unless a later one stands; staying awake and a finish cancel it (pm_wakeup_ws_event, __pm_stay_awake, wakeup_source_deactivate)
+abbrev pub expiry_after : Part → ℕ → Option ℕ → Option ℕ
+expiry_after (Notes s call.Awake) time before = None
+expiry_after (Notes s (call.Event ms hard)) time before = if ms == 0 then before else later (time + ms) before
+expiry_after (Moves s step.Finish) time before = None
+expiry_after _ time before = before
+
+-- when the event in progress ends by itself, in ms, if it does (ws->timer_expires)
+abbrev pub expiry : List Entry → Option ℕ
+expiry [] = None
+expiry (e ∷ own) = expiry_after (part_of e.kind) e.time (expiry own)
+
+-- that moment has come (pm_wakeup_timer_fn)
+abbrev pub has_expired : Option ℕ → ℕ → Bool
+has_expired None time = false
+has_expired (Some at) time = nat_le at time
 
 -- ---- what a call makes
 
@@ -82,13 +106,13 @@ abbrev pub IsNext : WordKind → List WordKind → Type 0
 IsNext step [] = ⊥
 IsNext step (next ∷ rest) = next ≡ step
 
--- a call begins where the last one owes nothing, and its caller makes each step as it is owed; no event has a length today, so none expires (wakeup_source_report_event)
-abbrev pub SourceStep : List Entry → Actor → Part → Type 0
-SourceStep own who OfJournal = Unit {0}
-SourceStep own who (Notes s call.Expire) = ⊥
-SourceStep own who (Notes s made) = owed own ≡ []
-SourceStep own who (Moves s step) = IsNext step (owed own) × (caller own ≡ Some who)
-SourceStep own who OfTime = Unit {0}
+-- a call begins where the last one owes nothing, an expiry only where its moment has come, and its caller makes each step as it is owed (wakeup_source_report_event, pm_wakeup_timer_fn)
+abbrev pub SourceStep : List Entry → ℕ → Actor → Part → Type 0
+SourceStep own time who OfJournal = Unit {0}
+SourceStep own time who (Notes s call.Expire) = (owed own ≡ []) × (has_expired (expiry own) time ≡ true)
+SourceStep own time who (Notes s made) = owed own ≡ []
+SourceStep own time who (Moves s step) = IsNext step (owed own) × (caller own ≡ Some who)
+SourceStep own time who OfTime = Unit {0}
 
 -- ---- its statistics
 
@@ -163,10 +187,11 @@ stats_at own at = record {
 
 -- ---- between calls
 
--- no step is owed, and no event is in progress (own)
+-- no step is owed, no event is in progress, and none is to expire (own)
 pub record IsQuiet (own : List Entry) : Type 0 where
   pub owes_none : owed own ≡ []
   pub inactive : since own ≡ None
+  pub lasting : expiry own ≡ None
 
 -- all sources are so (own)
 abbrev pub AreQuiet : List Entry → Type 0

@@ -1,4 +1,3 @@
-use Rattle.std.proofs.Common.{sym}
 use Rattle.sleep_main.proofs.Completing.{completes}
 use Rattle.sleep_main.proofs.top.run_words.Goals as goal
 
