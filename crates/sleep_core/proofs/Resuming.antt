@@ -25,11 +25,12 @@ use Rattle.sleep_model.specs.Path.{maker, row_of}
 use Rattle.sleep_model.specs.Seats.{seats, first_seat}
 use Rattle.sleep_model.specs.Scripts.{entry_steps}
 use Rattle.sleep_model.specs.Walk.{first_where, inside, error_of, settled, suspended, next_down}
-use Rattle.sleep_model.specs.Due.{due, seat_due, step_due, path_due, suspend_due, resume_due}
+use Rattle.sleep_model.specs.Due.{due, path_due, suspend_due, resume_due}
 use Rattle.sleep_model.proofs.Tails.{up_some}
 use Rattle.sleep_model.proofs.Walks.{AllDifferent, first_suspended_none}
 use Rattle.sleep_model.proofs.Ordering.{order_different}
-use Rattle.sleep_model.proofs.Walking.{WalkFacts, Facts, ScriptCase, Nothing, OwnStep, OnPath, due_case, facts_of}
+use Rattle.sleep_model.proofs.Plain.{AllPlain, plain_step, plain_due}
+use Rattle.sleep_model.proofs.Walking.{WalkFacts, Facts, ScriptCase, Nothing, OwnStep, OnPath, due_case, facts_of, plain_of}
 use Rattle.sleep_core.specs.Cursors.{ResumesLast}
 
 abbrev Resumes : List ℕ → Due → Type 0
@@ -71,19 +72,18 @@ read_resumes su c true waits = tt
 read_resumes su c false true = tt
 read_resumes su c false false = tt
 
-step_resumes : (su : List ℕ) (past : List Entry) (now : EventNow) (seat : Seat) (step : Option Op) → Resumes su (step_due past now seat step)
+step_resumes : (su : List ℕ) (past : List Entry) (now : EventNow) (seat : Seat) (step : Option Op) → Resumes su (plain_step past now seat step)
 step_resumes su past now seat None = tt
 step_resumes su past now seat (Some op.Read) = read_resumes su _ _ _
 step_resumes su past now seat (Some (op.Save None)) = save_resumes su _ _
-step_resumes su past now seat (Some (op.Save (Some c))) = save_resumes su _ _
 step_resumes su past now seat (Some (op.State text if_saved)) = tt
 step_resumes su past now seat (Some _) = tt
 
-own_resumes : (su : List ℕ) (past : List Entry) (now : EventNow) (script : Option Script) (seat : Seat) → Resumes su (seat_due past now script seat)
+own_resumes : (su : List ℕ) (past : List Entry) (now : EventNow) (script : Option Script) (seat : Seat) → Resumes su (plain_due past now script seat)
 own_resumes su past now None seat = tt
 own_resumes su past now (Some s) seat = exits seat.exited
   where
-    exits : (exited : Bool) → Resumes su (cond exited Gone (step_due past now seat (slice_get (entry_steps s) seat.done)))
+    exits : (exited : Bool) → Resumes su (cond exited Gone (plain_step past now seat (slice_get (entry_steps s) seat.done)))
     exits true = tt
     exits false = step_resumes su past now seat (slice_get (entry_steps s) seat.done)
 
@@ -92,13 +92,13 @@ script_resumes m past now i w (Nothing l e) = subst (Resumes (suspended past)) (
 script_resumes m past now i w (OwnStep h) = subst (Resumes (suspended past)) (sym h.3) (own_resumes (suspended past) past now (slice_get m.actors 0) (slice_index_or (seats (length m.actors) past) 0 first_seat))
 script_resumes m past now i w (OnPath h) = subst (Resumes (suspended past)) (sym h.2) (path_resumes m past now (maker past) (row_of past) w)
 
-due_resumes : (m : Machine) → HasWriter m → (past : List Entry) (now : EventNow) (a : Actor) → Facts m past → Resumes (suspended past) (due m past a now)
-due_resumes m acc past now (actor.Script i) w = script_resumes m past now i w (due_case m acc past now i w)
-due_resumes m acc past now actor.Auto w = tt
-due_resumes m acc past now (actor.Dev d) w = tt
-due_resumes m acc past now (actor.Timer s) w = tt
-due_resumes m acc past now actor.Time w = tt
+due_resumes : (m : Machine) → HasWriter m → (past : List Entry) → AllPlain past → (now : EventNow) (a : Actor) → Facts m past → Resumes (suspended past) (due m past a now)
+due_resumes m acc past plain now (actor.Script i) w = script_resumes m past now i w (due_case m acc past plain now i w)
+due_resumes m acc past plain now actor.Auto w = tt
+due_resumes m acc past plain now (actor.Dev d) w = tt
+due_resumes m acc past plain now (actor.Timer s) w = tt
+due_resumes m acc past plain now actor.Time w = tt
 
 -- the device that resumes is the last that suspended
 pub resumes_last : (m : Machine) → HasWriter m → (past : List Entry) → JournalPart m past → (e : Entry) → due m past e.actor e.now ≡ Makes e.kind → ResumesLast e.kind (suspended past)
-resumes_last m acc past legal e is = subst (Resumes (suspended past)) is (due_resumes m acc past e.now e.actor (facts_of m acc past legal))
+resumes_last m acc past legal e is = subst (Resumes (suspended past)) is (due_resumes m acc past (plain_of m acc past legal) e.now e.actor (facts_of m acc past legal))

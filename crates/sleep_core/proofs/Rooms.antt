@@ -26,11 +26,12 @@ use Rattle.sleep_model.specs.Path.{maker, row_of, row_after}
 use Rattle.sleep_model.specs.Seats.{seats, first_seat}
 use Rattle.sleep_model.specs.Scripts.{entry_steps}
 use Rattle.sleep_model.specs.Walk.{first_where, last_where, inside, inside_after, error_of, settled, settled_after, suspended, suspended_after}
-use Rattle.sleep_model.specs.Due.{due, seat_due, step_due, path_due, suspend_due, resume_due}
+use Rattle.sleep_model.specs.Due.{due, path_due, suspend_due, resume_due}
 use Rattle.sleep_model.proofs.Tails.{tail_fits, down_none, down_some, up_some, without_first}
 use Rattle.sleep_model.proofs.Walks.{AllDifferent, first_suspended_none}
 use Rattle.sleep_model.proofs.Ordering.{order_different}
-use Rattle.sleep_model.proofs.Walking.{WalkFacts, Facts, AtRow, ScriptCase, Nothing, OwnStep, OnPath, due_case, facts_of}
+use Rattle.sleep_model.proofs.Plain.{AllPlain, plain_step, plain_due}
+use Rattle.sleep_model.proofs.Walking.{WalkFacts, Facts, AtRow, ScriptCase, Nothing, OwnStep, OnPath, due_case, facts_of, plain_of}
 use Rattle.sleep_model.specs.Legal.{JournalPart}
 use Rattle.sleep_core.specs.Room.{needed, needed_at, places_for}
 
@@ -105,19 +106,18 @@ read_room n se pos time c true waits = λ room h. omega arith
 read_room n se pos time c false true = tt
 read_room n se pos time c false false = λ room h. omega arith
 
-step_room : (n : ℕ) (se : List ℕ) (past : List Entry) (now : EventNow) (seat : Seat) (pos time : ℕ) (step : Option Op) → OwnRoom n se pos time (step_due past now seat step)
+step_room : (n : ℕ) (se : List ℕ) (past : List Entry) (now : EventNow) (seat : Seat) (pos time : ℕ) (step : Option Op) → OwnRoom n se pos time (plain_step past now seat step)
 step_room n se past now seat pos time None = λ room h. omega arith
 step_room n se past now seat pos time (Some op.Read) = read_room n se pos time _ _ _
 step_room n se past now seat pos time (Some (op.Save None)) = save_room n se pos time _ _
-step_room n se past now seat pos time (Some (op.Save (Some c))) = save_room n se pos time _ _
 step_room n se past now seat pos time (Some (op.State text if_saved)) = λ room h. omega arith
 step_room n se past now seat pos time (Some _) = tt
 
-own_room : (n : ℕ) (se : List ℕ) (past : List Entry) (now : EventNow) (script : Option Script) (seat : Seat) (pos time : ℕ) → OwnRoom n se pos time (seat_due past now script seat)
+own_room : (n : ℕ) (se : List ℕ) (past : List Entry) (now : EventNow) (script : Option Script) (seat : Seat) (pos time : ℕ) → OwnRoom n se pos time (plain_due past now script seat)
 own_room n se past now None seat pos time = tt
 own_room n se past now (Some s) seat pos time = exits seat.exited
   where
-    exits : (exited : Bool) → OwnRoom n se pos time (cond exited Gone (step_due past now seat (slice_get (entry_steps s) seat.done)))
+    exits : (exited : Bool) → OwnRoom n se pos time (cond exited Gone (plain_step past now seat (slice_get (entry_steps s) seat.done)))
     exits true = tt
     exits false = step_room n se past now seat pos time (slice_get (entry_steps s) seat.done)
 
@@ -154,24 +154,24 @@ script_leaves m past now i pos time w (Nothing l e) = subst (LeavesAt m past pos
 script_leaves m past now i pos time w (OwnStep h) =
     let f = outside_facts (order m) (maker past) (row_of past) (inside past) (error_of past) (settled past) (suspended past) w h.2 in
     subst (LeavesAt m past pos time) (sym h.3)
-    (subst (λ (x : Row). Leaves (length (order m)) (maker past) x (inside past) (settled past) (suspended past) pos time (seat_due past now (slice_get m.actors 0) (slice_index_or (seats (length m.actors) past) 0 first_seat))) (sym h.2)
+    (subst (λ (x : Row). Leaves (length (order m)) (maker past) x (inside past) (settled past) (suspended past) pos time (plain_due past now (slice_get m.actors 0) (slice_index_or (seats (length m.actors) past) 0 first_seat))) (sym h.2)
     (leaves_own (length (order m)) (maker past) (inside past) (settled past) (suspended past) pos time _ h.1 f.0 f.1 (own_room (length (order m)) (settled past) past now (slice_get m.actors 0) (slice_index_or (seats (length m.actors) past) 0 first_seat) pos time)))
 script_leaves m past now i pos time w (OnPath h) =
     subst (LeavesAt m past pos time) (sym h.2) (leaves_path (length (order m)) (maker past) (row_of past) (inside past) (settled past) (suspended past) pos time _ (path_spends m past now pos time (maker past) (row_of past) w))
 
-due_leaves : (m : Machine) → HasWriter m → (past : List Entry) (now : EventNow) (a : Actor) (pos time : ℕ) → Facts m past → LeavesAt m past pos time (due m past a now)
-due_leaves m acc past now (actor.Script i) pos time w = script_leaves m past now i pos time w (due_case m acc past now i w)
-due_leaves m acc past now actor.Auto pos time w = tt
-due_leaves m acc past now (actor.Dev d) pos time w = tt
-due_leaves m acc past now (actor.Timer s) pos time w = tt
-due_leaves m acc past now actor.Time pos time w = tt
+due_leaves : (m : Machine) → HasWriter m → (past : List Entry) → AllPlain past → (now : EventNow) (a : Actor) (pos time : ℕ) → Facts m past → LeavesAt m past pos time (due m past a now)
+due_leaves m acc past plain now (actor.Script i) pos time w = script_leaves m past now i pos time w (due_case m acc past plain now i w)
+due_leaves m acc past plain now actor.Auto pos time w = tt
+due_leaves m acc past plain now (actor.Dev d) pos time w = tt
+due_leaves m acc past plain now (actor.Timer s) pos time w = tt
+due_leaves m acc past plain now actor.Time pos time w = tt
 
 -- an entry leaves room for what the attempt still needs
 pub room_after : (m : Machine) → HasWriter m → (past : List Entry) → JournalPart m past → (e : Entry) → due m past e.actor e.now ≡ Makes e.kind → (room : ℕ) → places_for e.kind (length (order m)) ≤ room → needed_at m past ≤ room → needed_at m (e ∷ past) ≤ room - 1
 room_after m acc past legal e is room p q =
-    (subst (LeavesAt m past (position e.now) e.time) is (due_leaves m acc past e.now e.actor (position e.now) e.time (facts_of m acc past legal))).0 room p q
+    (subst (LeavesAt m past (position e.now) e.time) is (due_leaves m acc past (plain_of m acc past legal) e.now e.actor (position e.now) e.time (facts_of m acc past legal))).0 room p q
 
 -- inside an attempt its places suffice
 pub room_inside : (m : Machine) → HasWriter m → (past : List Entry) → JournalPart m past → (now : EventNow) (a : Actor) (k : Kind) → due m past a now ≡ Makes k → (maker past ≡ None → ⊥) → places_for k (length (order m)) ≤ needed_at m past
 room_inside m acc past legal now a k is some =
-    (subst (LeavesAt m past 0 0) is (due_leaves m acc past now a 0 0 (facts_of m acc past legal))).1 some
+    (subst (LeavesAt m past 0 0) is (due_leaves m acc past (plain_of m acc past legal) now a 0 0 (facts_of m acc past legal))).1 some

@@ -16,7 +16,7 @@ use Rattle.sleep_model.specs.Numbers.{time_of, time_after}
 use Rattle.sleep_model.specs.Path.{maker, row_of, row_after, attempts, attempts_after}
 use Rattle.sleep_model.specs.Due.{due}
 use Rattle.sleep_model.proofs.Made.{Made, made, made_of_journal}
-use Rattle.sleep_model.proofs.Walking.{facts_of, AtRow}
+use Rattle.sleep_model.proofs.Walking.{facts_of, AtRow, plain_of}
 use Rattle.sleep_model.specs.declared.entry.JournalEntry.{JournalEntry}
 use Rattle.sleep_model.specs.Word.{position}
 use Rattle.sleep_core.specs.CoreFields.{SleptEarly, IsCore}
@@ -30,7 +30,7 @@ use Rattle.sleep_core.specs.Cores.{IsAttempt}
 -- the journal with an entry that is due now is legal
 pub legal_more : (m : Machine) → HasWriter m → (past : List Entry) → JournalPart m past → (e : Entry) → due m past e.actor e.now ≡ Makes e.kind → e.time ≡ time_of past → JournalPart m (e ∷ past)
 legal_more m acc past legal e is now =
-    (subst (JournalStep m past e) (sym (made_of_journal m past e.now e.kind (made m acc past (facts_of m acc past legal) e.now e.actor e.kind is))) (is, now), legal)
+    (subst (JournalStep m past e) (sym (made_of_journal m past e.now e.kind (made m acc past (plain_of m acc past legal) (facts_of m acc past legal) e.now e.actor e.kind is))) (is, now), legal)
 
 -- an attempt is begun only outside one
 attempts_outside : (m : Machine) (past : List Entry) (now : EventNow) (k : Kind) → Made m past now k → IsAttempt k → row_of past ≡ row.Outside
@@ -43,7 +43,7 @@ maker_outside o who r i er se su h e = (subst (λ (x : Row). AtRow o who x i er 
 pub attempt_outside : (m : Machine) → HasWriter m → (past : List Entry) → JournalPart m past → (now : EventNow) (a : Actor) (k : Kind) → due m past a now ≡ Makes k → IsAttempt k → maker past ≡ None
 attempt_outside m acc past legal now a k is h =
     let w = facts_of m acc past legal in
-    maker_outside _ _ _ _ _ _ _ w.at_row (attempts_outside m past now k (made m acc past w now a k is) h)
+    maker_outside _ _ _ _ _ _ _ w.at_row (attempts_outside m past now k (made m acc past (plain_of m acc past legal) w now a k is) h)
 
 -- who sleeps after an entry made early sleeps since an early moment
 pub slept_after : (k : Kind) (pos time : ℕ) (r : Row) → time ≤ 2 ^ 63 → SleptEarly r → SleptEarly (row_after k pos time r)

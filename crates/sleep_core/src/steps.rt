@@ -2,6 +2,7 @@
 
 ghost use Rattle.std.specs.Bool.{OnTrue, OnFalse};
 ghost use Rattle.std.specs.Prelude.{◌≡◌, ◌≤◌, ◌*◌, max, ◌+◌, ◌<◌, ◌-◌, ◌^◌, ◌∷◌, length, List, ℕ};
+ghost use Rattle.sleep_model.specs.Calls.{is_script};
 ghost use Rattle.sleep_model.specs.Word.{visible, position};
 ghost use Rattle.sleep_model.specs.Numbers.{time_after};
 ghost use Rattle.sleep_model.specs.Guard.{has_changed, count_pending, count_part, force_after, forgotten_after};
@@ -97,6 +98,16 @@ pub(crate) fn maker_after(kind: Kind, who: Actor, before: Option<Actor>) -> Opti
     }
 }
 
+/// Whether that script is the actor.
+pub(crate) fn is_script(script: u32, who: Option<Actor>) -> bool
+    ensures { result ≡ is_script script who }
+{
+    match who {
+        Some(Actor::Script(other)) => other == script,
+        _ => false,
+    }
+}
+
 /// Where the attempt stands after an entry made at that position and time.
 pub(crate) fn row_after(kind: Kind, pos: u64, time: u64, before: Row) -> Row
     ensures { result ≡ row_after kind pos time before }
@@ -156,7 +167,12 @@ pub(crate) fn seat_after(kind: Kind, before: Seat) -> Seat
 {
     let next = before.done + 1;
     match kind {
-        Kind::ReadWait => Seat {
+        Kind::ReadWait
+        | Kind::SaveWait(_)
+        | Kind::StateWait
+        | Kind::AutoSet(_)
+        | Kind::Sleep(_)
+        | Kind::SleepD(_) => Seat {
             waits: true,
             ..before
         },
@@ -166,13 +182,23 @@ pub(crate) fn seat_after(kind: Kind, before: Seat) -> Seat
             last_read: Some(c),
             ..before
         },
-        Kind::Saved(_) | Kind::SaveErr(_, _) | Kind::Over { .. } => {
-            Seat {
-                done: next,
-                waits: false,
-                ..before
-            }
-        }
+        Kind::ReadIntr
+        | Kind::Saved(_)
+        | Kind::SaveErr(_, _)
+        | Kind::StateErr(_)
+        | Kind::StateUnsaved
+        | Kind::Over { .. }
+        | Kind::AutoBad
+        | Kind::AutoDone
+        | Kind::Slept
+        | Kind::Pass
+        | Kind::Post(_)
+        | Kind::Got(_)
+        | Kind::RuntimeAsk { .. } => Seat {
+            done: next,
+            waits: false,
+            ..before
+        },
         Kind::Exit => Seat {
             exited: true,
             ..before

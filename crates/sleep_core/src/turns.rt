@@ -1,4 +1,4 @@
-ghost use Rattle.std.specs.Prelude.{◌≡◌, IfOk};
+ghost use Rattle.std.specs.Prelude.{◌≡◌, false, IfOk};
 ghost use Rattle.sleep_model.specs.Accepted.{HasWriter};
 ghost use Rattle.sleep_model.specs.Due.{read_due, save_due};
 
@@ -71,9 +71,9 @@ fn plans_of(alloc: Global, machine: &Machine) -> Result<Vec<Plan<'_>>, AllocErro
     Ok(plans)
 }
 
-/// A read's next entry.
+/// A read's next entry, where nobody asks the task to freeze.
 fn read_due(now: EventNow, waits: bool) -> Due
-    ensures { result ≡ read_due now waits }
+    ensures { result ≡ read_due now waits false }
 {
     if now.inpr == 0 {
         Due::Makes(Kind::Read(steps::visible(now)))
@@ -96,12 +96,15 @@ fn save_due(now: EventNow, count: u32) -> Due
 }
 
 impl<'m> Core<'m> {
+    ghost use Rattle.std.specs.Bool.{OnFalse};
     ghost use Rattle.std.specs.Prelude.{◌≡◌, ◌≤◌, ◌<◌, ◌+◌, ◌-◌, ◌^◌, [], ◌&&◌, ◌||◌, nat_lt, None, is_none, reverse, IfOk, OnOk, OnErr, Option, slice_get, slice_index_or, option_copied, length};
     ghost use Rattle.sleep_model.specs.declared.place.Due.TheVariants.{Makes};
     ghost use Rattle.sleep_model.specs.declared.word.EventNow.{EventNow};
     ghost use Rattle.sleep_model.specs.Accepted.{IsAccepted};
-    ghost use Rattle.sleep_model.specs.Due.{due, seat_due, step_due, path_due, suspend_due, resume_due, wake_due};
+    ghost use Rattle.sleep_model.specs.Calls.{is_script};
+    ghost use Rattle.sleep_model.specs.Due.{due, seat_due, path_due, suspend_due, resume_due, wake_due};
     ghost use Rattle.sleep_model.specs.Guard.{pending};
+    ghost use Rattle.sleep_model.proofs.Plain.{plain_step};
     ghost use Rattle.sleep_model.specs.Legal.{JournalPart, journal_time, is_made, all_exited};
     ghost use Rattle.sleep_model.specs.Numbers.{time_of};
     ghost use Rattle.sleep_model.specs.Path.{maker, row_of};
@@ -225,15 +228,14 @@ impl<'m> Core<'m> {
         }
     }
 
-    /// The next entry of a script's own step.
+    /// The next entry of a script's own step, where nothing freezes and autosleep is off.
     fn step_due(&self, now: EventNow, seat: Seat, op: Option<&Op>) -> Due
-        ensures { result ≡ step_due (entries self.now.past) now seat (option_copied op.entry) }
+        ensures { result ≡ plain_step (entries self.now.past) now seat (option_copied op.entry) }
     {
         match op {
             None => Due::Makes(Kind::Exit),
             Some(Op::Read) => read_due(now, seat.waits),
             Some(Op::Save { count: None }) => save_due(now, seat.last_read.unwrap_or(0)),
-            Some(Op::Save { count: Some(count) }) => save_due(now, *count),
             Some(Op::State { .. }) => Due::Makes(Kind::Attempt {
                 n: self.history.attempts() + 1,
                 guarded: self.history.force(),
@@ -244,8 +246,9 @@ impl<'m> Core<'m> {
 
     /// The next entry of a script outside its own attempts.
     fn seat_due(&self, script: u32, now: EventNow) -> Due
-        requires { script < length self.now.machine.actors }
-        ensures { result ≡ seat_due (entries self.now.past) now (slice_get self.now.machine.actors script)
+        requires script { script < length self.now.machine.actors }
+        requires free { maker (entries self.now.past) ≡ None }
+        ensures { result ≡ seat_due (entries self.now.past) now script (slice_get self.now.machine.actors script)
             (slice_index_or (seats (length self.now.machine.actors) (entries self.now.past)) script first_seat) }
     {
         let seat = self.history.seat(script);
@@ -256,16 +259,28 @@ impl<'m> Core<'m> {
         self.step_due(now, seat, operation)
     }
 
+    /// Whether that script makes the open attempt. If not, none is open.
+    fn is_maker(&self, script: u32) -> bool
+        requires { script < length self.now.machine.actors }
+        ensures is { result ≡ is_script script (maker (entries self.now.past)) }
+        ensures free { OnFalse result (maker (entries self.now.past) ≡ None) }
+    {
+        steps::is_script(script, self.history.maker())
+    }
+
     /// What is due of an actor that sees this word.
     fn due(&self, who: Actor, now: EventNow) -> Due
         requires { IsActor self.now.machine who }
         ensures { result ≡ due self.now.machine (entries self.now.past) who now }
     {
         match who {
-            Actor::Script(script) => match self.history.maker() {
-                Some(Actor::Script(maker)) if maker == script => self.path_due(now),
-                _ => self.seat_due(script, now),
-            },
+            Actor::Script(script) => {
+                if self.is_maker(script) {
+                    self.path_due(now)
+                } else {
+                    self.seat_due(script, now)
+                }
+            }
             Actor::Auto => Due::Waits(Why::NoWork),
             Actor::Dev(_) => Due::Waits(Why::NotScheduled),
             Actor::Timer(_) | Actor::Time => Due::Gone,

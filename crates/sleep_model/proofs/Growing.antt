@@ -27,7 +27,7 @@ use Rattle.sleep_model.specs.Calls.{next_note}
 use Rattle.sleep_model.specs.Parts.{OfJournal, OfTime, part_of}
 use Rattle.sleep_model.specs.Sources.{is_of}
 use Rattle.sleep_model.specs.Legal.{IsLegal, JournalPart, JournalStep, OwnStep, JointStep, IsOwnTurn, is_made, none_enabled, none_expires, sooner, next_expiry, is_idle, is_finished, all_exited, next_time, alarm_at}
-use Rattle.sleep_model.proofs.Walking.{facts_of, AtRow}
+use Rattle.sleep_model.proofs.Walking.{facts_of, plain_of, AtRow}
 use Rattle.sleep_model.specs.Sources.{AreQuiet}
 use Rattle.sleep_model.proofs.Calling.{quiet_kept, quiet_expires, quiet_waits}
 use Rattle.sleep_model.proofs.Made.{made, made_of_journal}
@@ -42,7 +42,7 @@ no_step _ e = refl
 
 -- what is due is an entry of the journal
 pub due_of_journal : (m : Machine) → HasWriter m → (past : List Entry) → JournalPart m past → (e : Entry) → due m past e.actor e.now ≡ Makes e.kind → part_of e.kind ≡ OfJournal
-due_of_journal m acc past legal e is = made_of_journal m past e.now e.kind (made m acc past (facts_of m acc past legal) e.now e.actor e.kind is)
+due_of_journal m acc past legal e is = made_of_journal m past e.now e.kind (made m acc past (plain_of m acc past legal) (facts_of m acc past legal) e.now e.actor e.kind is)
 
 -- a legal log with what is due at its word, of an actor whose turn it is, is legal
 pub entry_legal : (m : Machine) → HasWriter m → (past : List Entry) → IsLegal m past → (e : Entry) → due m past e.actor e.now ≡ Makes e.kind → e.now ≡ numbers past → e.time ≡ time_of past → IsOwnTurn m past e.actor → IsLegal m (e ∷ past)
@@ -101,7 +101,7 @@ pub record MayJump (m : Machine) (past : List Entry) (at : ℕ) : Type 0 where
 pub may_jump : (m : Machine) → IsAccepted m → (past : List Entry) → JournalPart m past → AreQuiet past → IsOwnTurn m past (actor.Script 0) → (w : Why) → due m past (actor.Script 0) (numbers past) ≡ Waits w → (numbers past).inpr ≡ 0 → (at : ℕ) × MayJump m past at
 may_jump m acc past legal still own w e quiet =
     let f = facts_of m acc.writer past legal in
-    let s = asleep_only m past (numbers past) w _ (idle_case m acc past (numbers past) f) e quiet in
+    let s = asleep_only m past (numbers past) w _ (idle_case m acc past (plain_of m acc.writer past legal) (numbers past) f) e quiet in
     let who : maker past ≡ Some (actor.Script 0) = sleeper_open _ _ _ _ _ _ _ f.at_row s.0 s.1 s.2 in
     let idle : is_idle m past ≡ true = idle_of m acc.writer past still own (ap is_made e) in (
       s.1 + m.alarm_ms,
@@ -148,7 +148,7 @@ exited_only m past now _ (Exited a b) e = (a, b)
 -- where the writer is through, the log is finished
 pub finished_of : (m : Machine) → IsAccepted m → (past : List Entry) → JournalPart m past → AreQuiet past → IsOwnTurn m past (actor.Script 0) → due m past (actor.Script 0) (numbers past) ≡ Gone → is_finished m past ≡ true
 finished_of m acc past legal still own e =
-    let x = exited_only m past (numbers past) _ (idle_case m acc past (numbers past) (facts_of m acc.writer past legal)) e in
+    let x = exited_only m past (numbers past) _ (idle_case m acc past (plain_of m acc.writer past legal) (numbers past) (facts_of m acc.writer past legal)) e in
     let exits : all_exited (seats (length m.actors) past) ≡ true = one_exited (seats (length m.actors) past) (seats_len (length m.actors) past ∙ has_one m acc.writer) x.1 in
     let idle : is_idle m past ≡ true = idle_of m acc.writer past still own (ap is_made e) in
     ap (λ b. b && is_none (maker past) && is_idle m past) exits ∙ ap (λ (y : Option Actor). is_none y && is_idle m past) x.0 ∙ idle

@@ -25,7 +25,7 @@ use Rattle.sleep_model.specs.Word.{visible, position}
 use Rattle.sleep_model.proofs.Growing.{entry_numbers}
 use Rattle.sleep_model.proofs.Made.{Made, made, made_of_journal}
 use Rattle.sleep_model.proofs.Soft.{AreSoft, IsSoftPart, soft_step, soft_at, soft_event, not_hard, hards}
-use Rattle.sleep_model.proofs.Walking.{facts_of}
+use Rattle.sleep_model.proofs.Walking.{facts_of, plain_of}
 
 -- ---- from the word at a read to the word now
 
@@ -163,7 +163,7 @@ guarded_step m acc past legal h time now a (kind.Start s) journal own joint = re
 guarded_step m acc past legal h time now a (kind.Finish s) journal own joint = record { held = h.held; force = force_later (in_force past) (steps_since past) (numbers past) (Some step.Finish) h.force; answers = λ who. answer_later (answer_of who past) (numbers past) (Some step.Finish) (h.answers who); hard = h.hard; soft = soft_at time now a (kind.Finish s) past tt h.soft }
 guarded_step m acc past legal h time now a (kind.Hard s) journal own joint = absurd (not_hard (owed (history s past)) (h.soft s) own.0)
 guarded_step m acc past legal h time now a kind.Jump journal own joint = record { held = h.held; force = h.force; answers = λ who. answer_later (answer_of who past) (numbers past) None (h.answers who); hard = h.hard; soft = soft_at time now a kind.Jump past tt h.soft }
-guarded_step m acc past legal h time now a k journal own joint = journal_guarded m past h time now a k joint.0 (made m acc past (facts_of m acc past legal) now a k journal.0)
+guarded_step m acc past legal h time now a k journal own joint = journal_guarded m past h time now a k joint.0 (made m acc past (plain_of m acc past legal) (facts_of m acc past legal) now a k journal.0)
 
 -- each place of a legal log is so
 pub guarded_of : (m : Machine) → HasWriter m → (past : List Entry) → JournalPart m past → SourcePart past → JointPart m past → IsGuarded past

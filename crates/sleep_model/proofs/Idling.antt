@@ -25,9 +25,10 @@ use Rattle.sleep_model.specs.Path.{maker, row_of}
 use Rattle.sleep_model.specs.Scripts.{entry_steps}
 use Rattle.sleep_model.specs.Seats.{seats, first_seat}
 use Rattle.sleep_model.specs.Walk.{inside}
-use Rattle.sleep_model.specs.Due.{due, seat_due, step_due, path_due, suspend_due, resume_due}
+use Rattle.sleep_model.specs.Due.{due, path_due, suspend_due, resume_due}
 use Rattle.sleep_base.specs.declared.errno.Errno.TheVariants.{EINVAL}
 use Rattle.sleep_model.proofs.Operations.{EntryIf, entry_given}
+use Rattle.sleep_model.proofs.Plain.{AllPlain, plain_step, plain_due}
 use Rattle.sleep_model.proofs.Walking.{Facts, AtRow, ScriptCase, Nothing, OwnStep, OnPath, due_case}
 
 -- why nothing is due of the writer that sees this word
@@ -46,7 +47,7 @@ save_idle : (m : Machine) (past : List Entry) (now : EventNow) (c : ℕ) (ok : B
 save_idle m past now c true = Makes' _
 save_idle m past now c false = Makes' _
 
-step_idle : (m : Machine) (past : List Entry) (now : EventNow) (n : ℕ) (seat : Seat) (step : Option Op) → EntryIf n step → Idle m past now (step_due past now seat step)
+step_idle : (m : Machine) (past : List Entry) (now : EventNow) (n : ℕ) (seat : Seat) (step : Option Op) → EntryIf n step → Idle m past now (plain_step past now seat step)
 step_idle m past now n seat None h = Makes' _
 step_idle m past now n seat (Some op.Read) h = read_idle m past now _ _ refl
 step_idle m past now n seat (Some (op.Save None)) h = save_idle m past now _ _
@@ -56,11 +57,11 @@ step_idle m past now n seat (Some (op.State text true)) h = absurd h.0
 step_idle m past now n seat (Some (op.Event s ms hard)) h = absurd (true≢false (sym h.1))
 step_idle m past now n seat (Some _) h = absurd h.0
 
-own_idle : (m : Machine) (past : List Entry) (now : EventNow) (d n : ℕ) (ss : List Script) → IsOneWriter d n ss → maker past ≡ None → (seat : Seat) → seat ≡ slice_index_or (seats (length m.actors) past) 0 first_seat → Idle m past now (seat_due past now (slice_get ss 0) seat)
+own_idle : (m : Machine) (past : List Entry) (now : EventNow) (d n : ℕ) (ss : List Script) → IsOneWriter d n ss → maker past ≡ None → (seat : Seat) → seat ≡ slice_index_or (seats (length m.actors) past) 0 first_seat → Idle m past now (plain_due past now (slice_get ss 0) seat)
 own_idle m past now d n [] h who seat e = absurd h
 own_idle m past now d n (s ∷ []) h who seat e = exits seat.exited refl
   where
-    exits : (exited : Bool) → seat.exited ≡ exited → Idle m past now (cond exited Gone (step_due past now seat (slice_get (entry_steps s) seat.done)))
+    exits : (exited : Bool) → seat.exited ≡ exited → Idle m past now (cond exited Gone (plain_step past now seat (slice_get (entry_steps s) seat.done)))
     exits true x = Exited who (subst (λ (t : Seat). t.exited ≡ true) e x)
     exits false x = step_idle m past now n seat (slice_get (entry_steps s) seat.done) (entry_given d n s h seat.done)
 own_idle m past now d n (s ∷ t ∷ rest) h who seat e = absurd h
@@ -100,5 +101,5 @@ writer_idle m acc past now w (OwnStep h) = subst (Idle m past now) (sym h.3) (ow
 writer_idle m acc past now w (OnPath h) = subst (Idle m past now) (sym h.2) (path_idle m past now (row_of past) refl (open_inside _ _ _ _ _ _ _ w.at_row h.1))
 
 -- what is due of the writer, and if nothing, why
-pub idle_case : (m : Machine) → IsAccepted m → (past : List Entry) (now : EventNow) → Facts m past → Idle m past now (due m past (actor.Script 0) now)
-idle_case m acc past now w = writer_idle m acc past now w (due_case m acc.writer past now 0 w)
+pub idle_case : (m : Machine) → IsAccepted m → (past : List Entry) → AllPlain past → (now : EventNow) → Facts m past → Idle m past now (due m past (actor.Script 0) now)
+idle_case m acc past plain now w = writer_idle m acc past now w (due_case m acc.writer past plain now 0 w)

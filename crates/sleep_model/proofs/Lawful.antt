@@ -23,7 +23,7 @@ use Rattle.sleep_model.specs.declared.entry.SkipCause.TheVariants.{Pending}
 use Rattle.sleep_model.specs.Laws.{AllAmong, NoneAmong, DependentsFirst, SuppliersFirst, Restored, Enters, SeesNothing, FoundPending, Laws, LawsAt, test_part, disturbed, disturbed_after, entered, entered_after, guard_of}
 use Rattle.sleep_model.specs.Parts.{part_of}
 use Rattle.sleep_model.specs.Legal.{IsLegal, JournalPart, JournalStep, SourcePart, JointPart, JointStep}
-use Rattle.sleep_model.proofs.Walking.{Facts, facts_of, AtRow, InSuspend}
+use Rattle.sleep_model.proofs.Walking.{Facts, facts_of, plain_of, AtRow, InSuspend}
 use Rattle.sleep_model.proofs.Guarded.{IsGuarded, guarded_of, sees_nothing}
 use Rattle.sleep_model.proofs.Made.{Made, made}
 use Rattle.sleep_model.proofs.Ordering.{order_plain, below_plain, above_plain}
@@ -152,7 +152,7 @@ step_laws m acc past legal g l time now a (kind.Hard s) h joint = ((no_law m pas
 step_laws m acc past legal g l time now a kind.Jump h joint = ((no_law m past kind.Jump tt tt tt tt tt tt, l.0), l.1)
 step_laws m acc past legal g l time now a k h joint =
     let w = facts_of m acc.writer past legal in
-    let x = made m acc.writer past w now a k h.0 in
+    let x = made m acc.writer past (plain_of m acc.writer past legal) w now a k h.0 in
     ((laws_made m acc past w g l.1 now joint.0 k x, l.0), calm_made m past l.1 now (position now) time k x)
 
 laws_and_calm : (m : Machine) → IsAccepted m → (past : List Entry) → JournalPart m past → SourcePart past → JointPart m past → LawsAndCalm m past

@@ -10,6 +10,7 @@ pub mod Made
 pub mod Operations
 pub mod Ordering
 pub mod Padding
+pub mod Plain
 pub mod Planning
 pub mod Soft
 pub mod Tails

@@ -27,8 +27,9 @@ use Rattle.sleep_model.specs.Path.{attempts, maker, row_of, failure}
 use Rattle.sleep_model.specs.Scripts.{entry_steps}
 use Rattle.sleep_model.specs.Seats.{seats, first_seat}
 use Rattle.sleep_model.specs.Walk.{inside, error_of, next_down, next_up}
-use Rattle.sleep_model.specs.Due.{due, seat_due, step_due, path_due, suspend_due, resume_due}
+use Rattle.sleep_model.specs.Due.{due, path_due, suspend_due, resume_due}
 use Rattle.sleep_model.specs.Parts.{part_of, OfJournal}
+use Rattle.sleep_model.proofs.Plain.{AllPlain, plain_step, plain_due}
 use Rattle.sleep_model.proofs.Walking.{Facts, ScriptCase, Nothing, OwnStep, OnPath, due_case}
 
 -- an entry of that kind was due of somebody who saw this word
@@ -92,19 +93,18 @@ save_made : (m : Machine) (past : List Entry) (now : EventNow) (c : ℕ) (ok : B
 save_made m past now c true r e = Saves c r e
 save_made m past now c false r e = SavesNot c r e
 
-step_made : (m : Machine) (past : List Entry) (now : EventNow) (seat : Seat) (step : Option Op) → row_of past ≡ row.Outside → MadeIf m past now (step_due past now seat step)
+step_made : (m : Machine) (past : List Entry) (now : EventNow) (seat : Seat) (step : Option Op) → row_of past ≡ row.Outside → MadeIf m past now (plain_step past now seat step)
 step_made m past now seat None r = Exits r
 step_made m past now seat (Some op.Read) r = read_made m past now _ _ r refl
 step_made m past now seat (Some (op.Save None)) r = save_made m past now _ _ r refl
-step_made m past now seat (Some (op.Save (Some c))) r = save_made m past now _ _ r refl
 step_made m past now seat (Some (op.State text if_saved)) r = Attempts r
 step_made m past now seat (Some _) r = tt
 
-own_made : (m : Machine) (past : List Entry) (now : EventNow) (script : Option Script) (seat : Seat) → row_of past ≡ row.Outside → MadeIf m past now (seat_due past now script seat)
+own_made : (m : Machine) (past : List Entry) (now : EventNow) (script : Option Script) (seat : Seat) → row_of past ≡ row.Outside → MadeIf m past now (plain_due past now script seat)
 own_made m past now None seat r = tt
 own_made m past now (Some s) seat r = exits seat.exited
   where
-    exits : (exited : Bool) → MadeIf m past now (cond exited Gone (step_due past now seat (slice_get (entry_steps s) seat.done)))
+    exits : (exited : Bool) → MadeIf m past now (cond exited Gone (plain_step past now seat (slice_get (entry_steps s) seat.done)))
     exits true = tt
     exits false = step_made m past now seat (slice_get (entry_steps s) seat.done) r
 
@@ -113,16 +113,16 @@ script_made m past now i (Nothing l e) = subst (MadeIf m past now) (sym e) tt
 script_made m past now i (OwnStep h) = subst (MadeIf m past now) (sym h.3) (own_made m past now (slice_get m.actors 0) (slice_index_or (seats (length m.actors) past) 0 first_seat) h.2)
 script_made m past now i (OnPath h) = subst (MadeIf m past now) (sym h.2) (path_made m past now (row_of past) refl)
 
-due_made : (m : Machine) → HasWriter m → (past : List Entry) (now : EventNow) (a : Actor) → Facts m past → MadeIf m past now (due m past a now)
-due_made m acc past now (actor.Script i) w = script_made m past now i (due_case m acc past now i w)
-due_made m acc past now actor.Auto w = tt
-due_made m acc past now (actor.Dev d) w = tt
-due_made m acc past now (actor.Timer s) w = tt
-due_made m acc past now actor.Time w = tt
+due_made : (m : Machine) → HasWriter m → (past : List Entry) → AllPlain past → (now : EventNow) (a : Actor) → Facts m past → MadeIf m past now (due m past a now)
+due_made m acc past plain now (actor.Script i) w = script_made m past now i (due_case m acc past plain now i w)
+due_made m acc past plain now actor.Auto w = tt
+due_made m acc past plain now (actor.Dev d) w = tt
+due_made m acc past plain now (actor.Timer s) w = tt
+due_made m acc past plain now actor.Time w = tt
 
 -- what held where an entry is made
-pub made : (m : Machine) → HasWriter m → (past : List Entry) → Facts m past → (now : EventNow) (a : Actor) (k : Kind) → due m past a now ≡ Makes k → Made m past now k
-made m acc past w now a k e = subst (MadeIf m past now) e (due_made m acc past now a w)
+pub made : (m : Machine) → HasWriter m → (past : List Entry) → AllPlain past → Facts m past → (now : EventNow) (a : Actor) (k : Kind) → due m past a now ≡ Makes k → Made m past now k
+made m acc past plain w now a k e = subst (MadeIf m past now) e (due_made m acc past plain now a w)
 
 -- what is due is a journal's entry
 pub made_of_journal : (m : Machine) (past : List Entry) (now : EventNow) (k : Kind) → Made m past now k → part_of k ≡ OfJournal

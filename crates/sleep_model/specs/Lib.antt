@@ -18,6 +18,7 @@ pub mod Runtime
 pub mod Scripts
 pub mod Seats
 pub mod Sources
+pub mod Tasks
 pub mod Text
 pub mod Walk
 pub mod Word

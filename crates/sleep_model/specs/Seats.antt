@@ -4,7 +4,7 @@ use Rattle.sleep_model.specs.declared.entry.Actor.{Actor}
 use Rattle.sleep_model.specs.declared.entry.Actor.TheVariants.{Script}
 use Rattle.sleep_model.specs.declared.entry.Entry.{Entry}
 use Rattle.sleep_model.specs.declared.entry.Kind.{Kind}
-use Rattle.sleep_model.specs.declared.entry.Kind.TheVariants.{ReadWait, Read, Saved, SaveErr, Over, Exit}
+use Rattle.sleep_model.specs.declared.entry.Kind.TheVariants as kind
 use Rattle.sleep_model.specs.declared.place.Seat.{Seat}
 
 -- what an entry of a script does to its place
@@ -15,14 +15,29 @@ pub data SeatPart : Type 0 where
   Exits : SeatPart
   Stays : SeatPart
 
--- a step ends by its answer, a state's attempt by its over; an entry that says it waits ends none
+-- a step ends by its answer, a state's attempt by its over; an entry that begins a step, or says that it waits, ends none
 abbrev pub seat_part : Kind → SeatPart
-seat_part ReadWait = Waits
-seat_part (Read c) = Reads c
-seat_part (Saved c) = Steps
-seat_part (SaveErr c r) = Steps
-seat_part (Over n r) = Steps
-seat_part Exit = Exits
+seat_part kind.ReadWait = Waits
+seat_part (kind.SaveWait c) = Waits
+seat_part kind.StateWait = Waits
+seat_part (kind.AutoSet state) = Waits
+seat_part (kind.Sleep until) = Waits
+seat_part (kind.SleepD until) = Waits
+seat_part (kind.Read c) = Reads c
+seat_part kind.ReadIntr = Steps
+seat_part (kind.Saved c) = Steps
+seat_part (kind.SaveErr c r) = Steps
+seat_part (kind.StateErr r) = Steps
+seat_part kind.StateUnsaved = Steps
+seat_part (kind.Over n r) = Steps
+seat_part kind.AutoBad = Steps
+seat_part kind.AutoDone = Steps
+seat_part kind.Slept = Steps
+seat_part kind.Pass = Steps
+seat_part (kind.Post mark) = Steps
+seat_part (kind.Got mark) = Steps
+seat_part (kind.RuntimeAsk device to_suspended r) = Steps
+seat_part kind.Exit = Exits
 seat_part _ = Stays
 
 -- a script at its first step
