@@ -105,7 +105,7 @@ impl<'m> Core<'m> {
     ghost use Rattle.sleep_model.specs.Due.{due, seat_due, path_due, suspend_due, resume_due, wake_due};
     ghost use Rattle.sleep_model.specs.Guard.{pending};
     ghost use Rattle.sleep_model.proofs.Plain.{plain_step};
-    ghost use Rattle.sleep_model.specs.Legal.{JournalPart, journal_time, is_made, all_exited};
+    ghost use Rattle.sleep_model.specs.Legal.{JournalPart, alarm_at, journal_time, is_made, all_exited};
     ghost use Rattle.sleep_model.specs.Numbers.{time_of};
     ghost use Rattle.sleep_model.specs.Path.{maker, row_of};
     ghost use Rattle.sleep_model.specs.Seats.{seats, first_seat};
@@ -437,14 +437,23 @@ impl<'m> Core<'m> {
         calls < self.calls_due(who) || matches!(self.due(who, now), Due::Makes(_))
     }
 
-    /// The least pending time in ms, the sources' expiries left out. None where none is pending.
-    pub fn next_time(&self) -> Option<u64>
-        ensures { result ≡ journal_time self.now.machine (entries self.now.past) }
+    /// When the alarm of a machine that sleeps is due, in ms.
+    fn alarm(&self) -> Option<u64>
+        ensures { result ≡ alarm_at self.now.machine.alarm_ms (row_of (entries self.now.past)) }
     {
         match self.history.row() {
             Row::Asleep { since, .. } => Some(since + self.machine.alarm_ms),
             _ => None,
         }
+    }
+
+    /// The least pending time in ms, the sources' expiries left out. None where none is pending.
+    pub fn next_time(&self) -> Option<u64>
+        ensures { result ≡ journal_time self.now.machine (entries self.now.past) }
+    {
+        // A look at the field makes the invariant known here: nothing sleeps but the machine.
+        let _ = &self.history;
+        self.alarm()
     }
 
     /// The time of the last jump in ms, else 0.

@@ -31,7 +31,7 @@ use Rattle.sleep_model.specs.Seats.{seats, seats_after, seat_part, first_seat, S
 use Rattle.sleep_model.specs.Word.{position}
 use Rattle.sleep_model.proofs.Calling.{with_event, each_event, each_kept, event_legal, event_quiet, quiet_first, quiet_kept, quiet_waits}
 use Rattle.sleep_model.proofs.Growing.{MayJump, may_jump, due_of_journal, entry_legal, entry_numbers, entry_quiet, jump_legal, finished_of}
-use Rattle.sleep_model.proofs.Journaled.{journal_alike, due_same, seats_stay}
+use Rattle.sleep_model.proofs.Journaled.{journal_alike, due_same, time_same, seats_stay}
 use Rattle.sleep_model.proofs.Lawful.{laws_of}
 use Rattle.sleep_model.proofs.Planning.{plan_call, plan_first}
 use Rattle.sleep_core.specs.Cores.{CoreState, with_entry, made_entry, jump_entry, next_stamp}
@@ -243,7 +243,7 @@ quiet_journal m past (Some at) q = sym (ap (sooner (Some at)) (quiet_waits past 
 next_joint : (m : Machine) (past : List Entry) (core : CoreState) (word : EventNow) (reports : List ℕ) (made : ℕ) (meters : List Meter) (floor : Stamp) → IsRunning m past core word reports made meters floor → journal_time core.machine (entries core.past) ≡ next_time m past
 next_joint m past core word reports made meters floor r =
     ap (λ (x : Machine). journal_time x (entries core.past)) r.machine_is
-    ∙ (ap (λ (xs : List Entry). journal_time m xs) r.journal_is ∙ (ap (alarm_at m.alarm_ms) (journal_alike past).row_is ∙ quiet_journal m past (alarm_at m.alarm_ms (row_of past)) r.quiet))
+    ∙ (ap (λ (xs : List Entry). journal_time m xs) r.journal_is ∙ (time_same m (journal past) past (journal_alike past) ∙ quiet_journal m past (journal_time m past) r.quiet))
 
 -- the jump is to the pending moment
 pub jump_to : (m : Machine) (past : List Entry) (core : CoreState) (word : EventNow) (reports : List ℕ) (made : ℕ) (meters : List Meter) (floor : Stamp) → IsRunning m past core word reports made meters floor → (at to : ℕ) → MayJump m past at → Some to ≡ journal_time core.machine (entries core.past) → to ≡ at

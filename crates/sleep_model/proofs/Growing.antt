@@ -27,6 +27,7 @@ use Rattle.sleep_model.specs.Calls.{next_note}
 use Rattle.sleep_model.specs.Parts.{OfJournal, OfTime, part_of}
 use Rattle.sleep_model.specs.Sources.{is_of}
 use Rattle.sleep_model.specs.Legal.{IsLegal, JournalPart, JournalStep, OwnStep, JointStep, IsOwnTurn, is_made, none_enabled, none_expires, sooner, next_expiry, is_idle, is_finished, all_exited, next_time, alarm_at}
+use Rattle.sleep_model.proofs.Plain.{alarm_only}
 use Rattle.sleep_model.proofs.Walking.{facts_of, plain_of, AtRow}
 use Rattle.sleep_model.specs.Sources.{AreQuiet}
 use Rattle.sleep_model.proofs.Calling.{quiet_kept, quiet_expires, quiet_waits}
@@ -106,7 +107,7 @@ may_jump m acc past legal still own w e quiet =
     let idle : is_idle m past ≡ true = idle_of m acc.writer past still own (ap is_made e) in (
       s.1 + m.alarm_ms,
       record {
-        next = ap (λ o. sooner o (next_expiry past (length m.sources + 1))) (ap (alarm_at m.alarm_ms) s.2) ∙ ap (sooner (Some (s.1 + m.alarm_ms))) (quiet_waits past still (length m.sources + 1));
+        next = ap (λ o. sooner o (next_expiry past (length m.sources + 1))) (alarm_only m past (plain_of m acc.writer past legal) ∙ ap (alarm_at m.alarm_ms) s.2) ∙ ap (sooner (Some (s.1 + m.alarm_ms))) (quiet_waits past still (length m.sources + 1));
         later = s.3;
         idle = idle;
         open_still = ap (λ (x : Option Actor). all_exited (seats (length m.actors) past) && is_none x && is_idle m past) who ∙ ap (λ b. b && is_idle m past) (and-false (all_exited (seats (length m.actors) past)));

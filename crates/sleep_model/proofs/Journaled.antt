@@ -16,6 +16,7 @@ use Rattle.sleep_model.specs.declared.place.Seat.{Seat}
 use Rattle.sleep_model.specs.declared.word.EventNow.{EventNow}
 use Rattle.sleep_model.specs.Due.{due, script_due, seat_due, task_due, step_due, path_due}
 use Rattle.sleep_model.specs.Freezer.{is_asked, asked_after, is_frozen, frozen_after}
+use Rattle.sleep_model.specs.Legal.{alarm_at, sooner, pending_sleep, next_sleep, journal_time}
 use Rattle.sleep_model.specs.Lock.{holder, holder_after, is_on, on_after}
 use Rattle.sleep_model.specs.Marks.{raised, mark_after}
 use Rattle.sleep_model.specs.Runtime.{is_prepared, prepared_after, is_off_direct, off_direct_after, is_off_late, off_late_after}
@@ -249,3 +250,15 @@ due_same m one other h actor.Auto now = refl
 due_same m one other h (actor.Dev d) now = refl
 due_same m one other h (actor.Timer s) now = refl
 due_same m one other h actor.Time now = refl
+
+pending_same : (one other : List Entry) → Alike one other → (i : ℕ) (s : Option Script) → pending_sleep one i s ≡ pending_sleep other i s
+pending_same one other h i None = refl
+pending_same one other h i (Some s) = rw (h.frozen_is i s.kind, h.row_is, h.until_is i) refl
+
+sleep_same : (m : Machine) (one other : List Entry) → Alike one other → (n : ℕ) → next_sleep m one n ≡ next_sleep m other n
+sleep_same m one other h zero = refl
+sleep_same m one other h (suc n) = ap₂ sooner (pending_same one other h n (slice_get m.actors n)) (sleep_same m one other h n)
+
+-- and so is the next moment
+pub time_same : (m : Machine) (one other : List Entry) → Alike one other → journal_time m one ≡ journal_time m other
+time_same m one other h = ap₂ sooner (ap (alarm_at m.alarm_ms) h.row_is) (sleep_same m one other h (length m.actors))

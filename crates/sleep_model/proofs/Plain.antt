@@ -1,5 +1,5 @@
 -- A log in which nothing freezes, and autosleep is never written: what is due of its writer outside attempts.
-use Rattle.std.proofs.Common.{◌≡◌, ◌+◌, ◌∙◌, ℕ, Bool, true, false, List, [], ◌∷◌, Option, Some, None, unwrap_or, refl, sym, ap, cond, slice_get}
+use Rattle.std.proofs.Common.{Bool, List, None, Option, Some, [], ap, cond, false, length, not, refl, slice_get, suc, sym, true, unwrap_or, zero, ℕ, ◌&&◌, ◌+◌, ◌||◌, ◌∙◌, ◌∷◌, ◌≡◌}
 use Rattle.std.proofs.lemmas.Bool.{true≢false}
 use Rattle.sleep_model.specs.declared.entry.Actor.{Actor}
 use Rattle.sleep_model.specs.declared.entry.Entry.{Entry}
@@ -15,14 +15,17 @@ use Rattle.sleep_model.specs.declared.place.Row.TheVariants as row
 use Rattle.sleep_model.specs.declared.place.Seat.{Seat}
 use Rattle.sleep_model.specs.declared.word.EventNow.{EventNow}
 use Rattle.sleep_model.specs.Due.{read_due, save_due, step_due, task_due}
-use Rattle.sleep_model.specs.Freezer.{is_asked, asked_after, is_frozen, frozen_after}
+use Rattle.sleep_model.specs.Freezer.{is_task, is_asked, asked_after, is_frozen, frozen_after}
 use Rattle.sleep_model.specs.Guard.{in_force}
 use Rattle.sleep_model.specs.Lock.{holder, holder_after, is_on, on_after}
 use Rattle.sleep_model.specs.Path.{attempts, maker, maker_after, row_of}
+use Rattle.sleep_model.specs.Legal.{alarm_at, sooner, pending_sleep, next_sleep, journal_time}
+use Rattle.sleep_model.specs.Tasks.{is_asleep, is_line, sleeps_until, until_after}
+use Rattle.sleep_model.specs.declared.machine.Machine.{Machine}
 use Rattle.sleep_model.specs.Scripts.{entry_steps}
 use Rattle.sleep_model.proofs.Operations.{EntryIf}
 
--- no entry of the freezer, nor of autosleep
+-- no entry of the freezer, nor of autosleep, and no sleep of a script
 abbrev pub is_plain : Kind → Bool
 is_plain kind.Frozen = false
 is_plain (kind.Freeze g) = false
@@ -31,6 +34,8 @@ is_plain (kind.AutoSet state) = false
 is_plain kind.AutoDone = false
 is_plain (kind.AutoSaved c) = false
 is_plain kind.AutoOff = false
+is_plain (kind.Sleep until) = false
+is_plain (kind.SleepD until) = false
 is_plain _ = true
 
 abbrev pub AllPlain : List Entry → Type 0
@@ -75,6 +80,40 @@ on_step _ b e = refl
 not_on : (past : List Entry) → AllPlain past → is_on past ≡ false
 not_on [] h = refl
 not_on (e ∷ past) h = on_step e.kind (is_on past) h.0 ∙ not_on past h.1
+
+until_step : (i : ℕ) (who : Actor) (k : Kind) (b : Option ℕ) → is_plain k ≡ true → b ≡ None → until_after i who k b ≡ None
+until_step i who (kind.Sleep t) b e h = absurd (true≢false (sym e))
+until_step i who (kind.SleepD t) b e h = absurd (true≢false (sym e))
+until_step i who kind.Slept b e h = by_task (is_task i who)
+  where
+    by_task : (c : Bool) → cond c None b ≡ None
+    by_task true = refl
+    by_task false = h
+until_step i who _ b e h = h
+
+not_sleeping : (past : List Entry) → AllPlain past → (i : ℕ) → sleeps_until i past ≡ None
+not_sleeping [] h i = refl
+not_sleeping (e ∷ past) h i = until_step i e.actor e.kind (sleeps_until i past) h.0 (not_sleeping past h.1 i)
+
+none_pending : (past : List Entry) → AllPlain past → (i : ℕ) (s : Option Script) → pending_sleep past i s ≡ None
+none_pending past h i None = refl
+none_pending past h i (Some s) = by_test (is_frozen i s.kind past || (is_asleep (row_of past) && not (is_line s.kind)))
+  where
+    by_test : (b : Bool) → cond b None (sleeps_until i past) ≡ None
+    by_test true = refl
+    by_test false = not_sleeping past h i
+
+none_sleeps : (m : Machine) (past : List Entry) → AllPlain past → (n : ℕ) → next_sleep m past n ≡ None
+none_sleeps m past h zero = refl
+none_sleeps m past h (suc n) = ap (λ o. sooner o (next_sleep m past n)) (none_pending past h n (slice_get m.actors n)) ∙ none_sleeps m past h n
+
+alone : (o : Option ℕ) → sooner o None ≡ o
+alone None = refl
+alone (Some at) = refl
+
+-- the journal's next moment is the alarm
+pub alarm_only : (m : Machine) (past : List Entry) → AllPlain past → journal_time m past ≡ alarm_at m.alarm_ms (row_of past)
+alarm_only m past h = ap (sooner (alarm_at m.alarm_ms (row_of past))) (none_sleeps m past h (length m.actors)) ∙ alone (alarm_at m.alarm_ms (row_of past))
 
 -- what is due at an operation in such a log
 abbrev pub plain_step : List Entry → EventNow → Seat → Option Op → Due

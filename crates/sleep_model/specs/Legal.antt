@@ -1,5 +1,5 @@
 -- Legal logs, in three parts: the journal's entries, the sources' entries, and what ties them together.
-use Rattle.std.specs.Prelude.{◌≡◌, ◌<◌, ◌+◌, ℕ, zero, suc, Bool, true, false, not, ◌&&◌, ◌||◌, List, [], ◌∷◌, length, map, min, reverse, Option, Some, None, is_none, is_some}
+use Rattle.std.specs.Prelude.{◌≡◌, ◌<◌, ◌+◌, ℕ, zero, suc, Bool, true, false, not, ◌&&◌, ◌||◌, List, [], ◌∷◌, length, map, min, reverse, if◌then◌else◌, Option, Some, None, is_none, is_some, slice_get}
 use Rattle.std.specs.List.{list_all, range_with_len}
 use Rattle.sleep_model.specs.declared.entry.Actor.{Actor}
 use Rattle.sleep_model.specs.declared.entry.Actor.TheVariants as actor
@@ -10,6 +10,7 @@ use Rattle.sleep_model.specs.declared.log.Log.{Log}
 use Rattle.sleep_model.specs.declared.log.LogEnd.TheVariants.{Finished}
 use Rattle.sleep_model.specs.declared.log.Stats.{Stats}
 use Rattle.sleep_model.specs.declared.machine.Machine.{Machine}
+use Rattle.sleep_model.specs.declared.machine.Script.{Script}
 use Rattle.sleep_model.specs.declared.place.Seat.{Seat}
 use Rattle.sleep_model.specs.declared.place.Row.{Row}
 use Rattle.sleep_model.specs.declared.place.Row.TheVariants.{Asleep}
@@ -17,10 +18,12 @@ use Rattle.sleep_model.specs.declared.place.Due.{Due}
 use Rattle.sleep_model.specs.declared.place.Due.TheVariants.{Makes}
 use Rattle.sleep_model.specs.Calls.{next_note, is_calling}
 use Rattle.sleep_model.specs.Due.{due}
+use Rattle.sleep_model.specs.Freezer.{is_frozen}
 use Rattle.sleep_model.specs.Numbers.{numbers, time_of}
 use Rattle.sleep_model.specs.Parts.{Part, OfJournal, Notes, Moves, OfTime, part_of}
 use Rattle.sleep_model.specs.Path.{maker, row_of}
 use Rattle.sleep_model.specs.Seats.{seats}
+use Rattle.sleep_model.specs.Tasks.{is_asleep, is_line, sleeps_until}
 use Rattle.sleep_model.specs.Sources.{history, expiry, has_expired, SourceStep, stats_at}
 
 -- a journal entry is what is due of its actor at the word that it carries, now; a jump raises the time
@@ -96,9 +99,19 @@ abbrev pub next_expiry : List Entry → ℕ → Option ℕ
 next_expiry past zero = None
 next_expiry past (suc n) = sooner (expiry (history n past)) (next_expiry past n)
 
+-- the end of script i's sleep, where it is pending: not that of a frozen task, nor of a task while the machine sleeps (own)
+abbrev pub pending_sleep : List Entry → ℕ → Option Script → Option ℕ
+pending_sleep past i None = None
+pending_sleep past i (Some s) = if is_frozen i s.kind past || (is_asleep (row_of past) && not (is_line s.kind)) then None else sleeps_until i past
+
+-- the least such end among the first n scripts (own)
+abbrev pub next_sleep : Machine → List Entry → ℕ → Option ℕ
+next_sleep m past zero = None
+next_sleep m past (suc n) = sooner (pending_sleep past n (slice_get m.actors n)) (next_sleep m past n)
+
 -- the least pending time of the journal alone, in ms (own)
 abbrev pub journal_time : Machine → List Entry → Option ℕ
-journal_time m past = alarm_at m.alarm_ms (row_of past)
+journal_time m past = sooner (alarm_at m.alarm_ms (row_of past)) (next_sleep m past (length m.actors))
 
 -- the least pending time, in ms (own)
 abbrev pub next_time : Machine → List Entry → Option ℕ
