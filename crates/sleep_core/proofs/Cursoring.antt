@@ -5,9 +5,9 @@ use Rattle.std.proofs.lemmas.List.FromFn.{length-range_with_len, get_or-range_wi
 use Rattle.sleep_model.specs.declared.entry.Entry.{Entry}
 use Rattle.sleep_model.specs.declared.machine.Machine.{Machine}
 use Rattle.sleep_model.specs.Accepted.{HasWriter}
-use Rattle.sleep_model.specs.Legal.{JournalPart}
+use Rattle.sleep_model.proofs.ShortLegal.{JournalPart}
 use Rattle.sleep_model.specs.Order.{is_among, order}
-use Rattle.sleep_model.specs.Walk.{first_where, settled, suspended, next_down, next_up}
+use Rattle.sleep_model.proofs.ShortWalk.{first_where, settled, suspended, next_down, next_up}
 use Rattle.sleep_model.proofs.Tails.{IsTail, tail_fits, down_none, down_some, up_some}
 use Rattle.sleep_model.proofs.Walks.{first_suspended_none}
 use Rattle.sleep_model.proofs.Ordering.{order_plain, order_different}

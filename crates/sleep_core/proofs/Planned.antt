@@ -3,7 +3,7 @@ use Rattle.std.proofs.Common.{◌≡◌, ◌≤◌, ◌<◌, ◌+◌, ◌∙◌,
 use Rattle.std.proofs.lemmas.Option.{slice_get-get_or, slice_get_past}
 use Rattle.sleep_model.specs.declared.machine.Op.{Op}
 use Rattle.sleep_model.specs.declared.machine.Step.{Step}
-use Rattle.sleep_model.specs.Calls.{calls_before}
+use Rattle.sleep_model.proofs.ShortCalls.{calls_before}
 use Rattle.sleep_model.specs.Scripts.{makes_entry}
 use Rattle.sleep_model.proofs.Operations.{op_of}
 use Rattle.sleep_core.specs.declared.plan.EntryStep.{EntryStep}

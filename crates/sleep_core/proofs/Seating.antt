@@ -14,10 +14,10 @@ use Rattle.sleep_model.specs.declared.place.Row.TheVariants as row
 use Rattle.sleep_model.specs.declared.place.Seat.{Seat}
 use Rattle.sleep_model.specs.declared.word.EventNow.{EventNow}
 use Rattle.sleep_model.specs.Accepted.{IsAccepted}
-use Rattle.sleep_model.specs.Calls.{is_script}
-use Rattle.sleep_model.specs.Due.{seat_due}
-use Rattle.sleep_model.specs.Legal.{JournalPart}
-use Rattle.sleep_model.specs.Path.{maker, row_of}
+use Rattle.sleep_model.proofs.ShortCalls.{is_script}
+use Rattle.sleep_model.proofs.ShortDue.{seat_due}
+use Rattle.sleep_model.proofs.ShortLegal.{JournalPart}
+use Rattle.sleep_model.proofs.ShortPath.{maker, row_of}
 use Rattle.sleep_model.specs.Scripts.{entry_steps}
 use Rattle.sleep_model.proofs.Growing.{has_one}
 use Rattle.sleep_model.proofs.Plain.{plain_step, plain_due}

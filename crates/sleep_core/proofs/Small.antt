@@ -4,7 +4,7 @@ use Rattle.sleep_model.specs.declared.entry.Actor.{Actor}
 use Rattle.sleep_model.specs.declared.entry.Actor.TheVariants as actor
 use Rattle.sleep_model.specs.declared.entry.JournalEntry.{JournalEntry}
 use Rattle.sleep_model.specs.declared.place.Seat.{Seat}
-use Rattle.sleep_model.specs.Walk.{settled, suspended}
+use Rattle.sleep_model.proofs.ShortWalk.{settled, suspended}
 use Rattle.sleep_model.specs.Seats.{seats, first_seat}
 use Rattle.sleep_model.proofs.Counts.{settled_few, suspended_few, seat_few}
 use Rattle.sleep_core.specs.Places.{entries}

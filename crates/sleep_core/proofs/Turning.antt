@@ -11,10 +11,10 @@ use Rattle.sleep_model.specs.declared.place.Row.{Row}
 use Rattle.sleep_model.specs.declared.place.Row.TheVariants as row
 use Rattle.sleep_model.specs.declared.word.EventNow.{EventNow}
 use Rattle.sleep_model.specs.Accepted.{HasWriter}
-use Rattle.sleep_model.specs.Legal.{JournalPart, JournalStep}
+use Rattle.sleep_model.proofs.ShortLegal.{JournalPart, JournalStep}
 use Rattle.sleep_model.specs.Numbers.{time_of, time_after}
-use Rattle.sleep_model.specs.Path.{maker, row_of, row_after, attempts, attempts_after}
-use Rattle.sleep_model.specs.Due.{due}
+use Rattle.sleep_model.proofs.ShortPath.{maker, row_of, row_after, attempts, attempts_after}
+use Rattle.sleep_model.proofs.ShortDue.{due}
 use Rattle.sleep_model.proofs.Made.{Made, made, made_of_journal}
 use Rattle.sleep_model.proofs.Walking.{facts_of, AtRow, plain_of}
 use Rattle.sleep_model.specs.declared.entry.JournalEntry.{JournalEntry}

@@ -1,11 +1,11 @@
 -- What the core keeps: a legal journal, with room for what its open attempt needs.
 use Rattle.std.specs.Prelude.{◌≡◌, ◌≤◌, ◌<◌, ◌+◌, ◌^◌, length}
 use Rattle.sleep_model.specs.Accepted.{IsAccepted}
-use Rattle.sleep_model.specs.Legal.{JournalPart}
+use Rattle.sleep_model.proofs.ShortLegal.{JournalPart}
 use Rattle.sleep_model.specs.declared.place.Row.{Row}
 use Rattle.sleep_model.specs.declared.place.Row.TheVariants.{Asleep}
 use Rattle.sleep_model.specs.Numbers.{time_of}
-use Rattle.sleep_model.specs.Path.{attempts, row_of}
+use Rattle.sleep_model.proofs.ShortPath.{attempts, row_of}
 use Rattle.sleep_core.specs.Places.{entries}
 use Rattle.sleep_core.specs.Room.{needed_at}
 use Rattle.sleep_model.specs.declared.machine.Machine.{Machine}

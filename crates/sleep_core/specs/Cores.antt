@@ -12,9 +12,9 @@ use Rattle.sleep_model.specs.declared.word.EventNow.{EventNow}
 use Rattle.sleep_model.specs.declared.word.Stamp.{Stamp}
 use Rattle.sleep_model.specs.Word.{position}
 use Rattle.sleep_model.specs.Numbers.{time_of}
-use Rattle.sleep_model.specs.Path.{attempts, maker}
-use Rattle.sleep_model.specs.Calls as script
-use Rattle.sleep_model.specs.Due.{due}
+use Rattle.sleep_model.proofs.ShortPath.{attempts, maker}
+use Rattle.sleep_model.proofs.ShortCalls as script
+use Rattle.sleep_model.proofs.ShortDue.{due}
 use Rattle.sleep_core.specs.Places.{entries}
 use Rattle.sleep_core.specs.Histories.{last_stamp}
 use Rattle.sleep_core.specs.declared.turns.CoreTurn.{CoreTurn}

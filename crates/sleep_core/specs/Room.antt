@@ -3,8 +3,8 @@ use Rattle.std.specs.Prelude.{ℕ, ◌+◌, ◌*◌, ◌-◌, List, length, Opti
 use Rattle.sleep_model.specs.declared.entry.Entry.{Entry}
 use Rattle.sleep_model.specs.declared.machine.Machine.{Machine}
 use Rattle.sleep_model.specs.Order.{order}
-use Rattle.sleep_model.specs.Path.{row_of}
-use Rattle.sleep_model.specs.Walk.{settled, suspended, inside}
+use Rattle.sleep_model.proofs.ShortPath.{row_of}
+use Rattle.sleep_model.proofs.ShortWalk.{settled, suspended, inside}
 use Rattle.sleep_model.specs.declared.entry.Kind.{Kind}
 use Rattle.sleep_model.specs.declared.entry.Kind.TheVariants as kind
 use Rattle.sleep_model.specs.declared.place.Row.{Row}

@@ -44,9 +44,9 @@ impl History {
     ghost use Rattle.std.specs.Prelude.{◌≡◌, ◌≤◌, ◌<◌, ◌+◌, ◌-◌, ◌^◌, [], ◌∷◌, length, reverse, IsOk, OnOk, OnErr, IfOk, slice_index_or};
     ghost use Rattle.sleep_model.specs.Numbers.{time_of};
     ghost use Rattle.sleep_model.specs.Guard.{in_force, forgotten};
-    ghost use Rattle.sleep_model.specs.Legal.{all_exited};
-    ghost use Rattle.sleep_model.specs.Path.{attempts, maker, row_of, failure};
-    ghost use Rattle.sleep_model.specs.Walk.{inside, error_of, settled, suspended};
+    ghost use Rattle.sleep_model.proofs.ShortLegal.{all_exited};
+    ghost use Rattle.sleep_model.proofs.ShortPath.{attempts, maker, row_of, failure};
+    ghost use Rattle.sleep_model.proofs.ShortWalk.{inside, error_of, settled, suspended};
     ghost use Rattle.sleep_model.specs.Seats.{seats, first_seat};
     ghost use Rattle.sleep_core.specs.Places.{entries};
     ghost use Rattle.sleep_core.specs.Histories.{Kept, Admits, after_entry, last_stamp};

@@ -1,6 +1,6 @@
 ghost use Rattle.std.specs.Prelude.{◌≡◌, ℕ, IfOk, option_copied, slice_get};
 ghost use Rattle.sleep_model.specs.Accepted.{IsWriter};
-ghost use Rattle.sleep_model.specs.Calls.{calls_before};
+ghost use Rattle.sleep_model.proofs.ShortCalls.{calls_before};
 ghost use Rattle.sleep_model.specs.Scripts.{makes_entry, operations, entry_steps};
 ghost use Rattle.sleep_core.specs.Plans.{entry_steps_from, calls_from};
 

@@ -2,12 +2,12 @@
 
 ghost use Rattle.std.specs.Bool.{OnTrue, OnFalse};
 ghost use Rattle.std.specs.Prelude.{◌≡◌, ◌≤◌, ◌*◌, max, ◌+◌, ◌<◌, ◌-◌, ◌^◌, ◌∷◌, length, List, ℕ};
-ghost use Rattle.sleep_model.specs.Calls.{is_script};
+ghost use Rattle.sleep_model.proofs.ShortCalls.{is_script};
 ghost use Rattle.sleep_model.specs.Word.{visible, position};
 ghost use Rattle.sleep_model.specs.Numbers.{time_after};
 ghost use Rattle.sleep_model.specs.Guard.{has_changed, count_pending, count_part, force_after, forgotten_after};
-ghost use Rattle.sleep_model.specs.Path.{attempts_after, maker_after, row_after, failure_after};
-ghost use Rattle.sleep_model.specs.Walk.{inside_after, error_after, settled_after, suspended_after};
+ghost use Rattle.sleep_model.proofs.ShortPath.{attempts_after, maker_after, row_after, failure_after};
+ghost use Rattle.sleep_model.proofs.ShortWalk.{inside_after, error_after, settled_after, suspended_after};
 ghost use Rattle.sleep_model.specs.Seats.{seat_part, seat_after};
 ghost use Rattle.sleep_core.specs.Cores.{IsAttempt};
 ghost use Rattle.sleep_core.specs.Cursors.{ResumesLast};

@@ -1,6 +1,6 @@
 ghost use Rattle.std.specs.Prelude.{◌≡◌, false, IfOk};
 ghost use Rattle.sleep_model.specs.Accepted.{HasWriter};
-ghost use Rattle.sleep_model.specs.Due.{read_due, save_due};
+ghost use Rattle.sleep_model.proofs.ShortDue.{read_due, save_due};
 
 use crate::events::{Events, look_from};
 use crate::history::History;
@@ -101,15 +101,15 @@ impl<'m> Core<'m> {
     ghost use Rattle.sleep_model.specs.declared.place.Due.TheVariants.{Makes};
     ghost use Rattle.sleep_model.specs.declared.word.EventNow.{EventNow};
     ghost use Rattle.sleep_model.specs.Accepted.{IsAccepted};
-    ghost use Rattle.sleep_model.specs.Calls.{is_script};
-    ghost use Rattle.sleep_model.specs.Due.{due, seat_due, path_due, suspend_due, resume_due, wake_due};
+    ghost use Rattle.sleep_model.proofs.ShortCalls.{is_script};
+    ghost use Rattle.sleep_model.proofs.ShortDue.{due, seat_due, path_due, suspend_due, resume_due, wake_due};
     ghost use Rattle.sleep_model.specs.Guard.{pending};
     ghost use Rattle.sleep_model.proofs.Plain.{plain_step};
-    ghost use Rattle.sleep_model.specs.Legal.{JournalPart, alarm_at, journal_time, is_made, all_exited};
+    ghost use Rattle.sleep_model.proofs.ShortLegal.{JournalPart, alarm_at, journal_time, is_made, all_exited};
     ghost use Rattle.sleep_model.specs.Numbers.{time_of};
-    ghost use Rattle.sleep_model.specs.Path.{maker, row_of};
+    ghost use Rattle.sleep_model.proofs.ShortPath.{maker, row_of};
     ghost use Rattle.sleep_model.specs.Seats.{seats, first_seat};
-    ghost use Rattle.sleep_model.specs.Walk.{inside, error_of, next_down, next_up};
+    ghost use Rattle.sleep_model.proofs.ShortWalk.{inside, error_of, next_down, next_up};
     ghost use Rattle.sleep_model.specs.Word.{position};
     ghost use Rattle.sleep_core.specs.Cores.{IsActor, with_entry, calls_due, AfterTurn, next_stamp, jump_entry};
     ghost use Rattle.sleep_core.specs.Histories.{last_stamp};

@@ -4,7 +4,7 @@ use Rattle.sleep_model.specs.declared.entry.Entry.{Entry}
 use Rattle.sleep_model.specs.declared.entry.Kind.{Kind}
 use Rattle.sleep_model.specs.declared.machine.Machine.{Machine}
 use Rattle.sleep_model.specs.Accepted.{IsAccepted}
-use Rattle.sleep_model.specs.Legal.{IsLegal}
+use Rattle.sleep_model.proofs.ShortLegal.{IsLegal}
 
 -- the law holds where an entry stands, of the machine, the entries before it and what it says
 abbrev pub HoldsOfAll : (Machine → List Entry → Kind → Type 0) → Type 0

@@ -5,7 +5,7 @@ ghost use Rattle.sleep_base.specs.declared.errno.Errno.TheVariants.{EINVAL};
 ghost use Rattle.sleep_model.specs.declared.entry.Actor.TheVariants as actor;
 ghost use Rattle.sleep_model.specs.declared.entry.Kind.TheVariants as kind;
 ghost use Rattle.sleep_model.specs.declared.phase.Phase.TheVariants as phase;
-ghost use Rattle.sleep_model.specs.Legal.{IsLegalLog, is_finished};
+ghost use Rattle.sleep_model.proofs.ShortLegal.{IsLegalLog, is_finished};
 ghost use Rattle.sleep_laws.specs.Broken.{left_out, doubled, exchanged, says, by, with_entries};
 ghost use Rattle.sleep_laws.specs.Worked.{calm_machine, calm, calm_entries, after_save_machine, after_save, after_save_entries, before_save_machine, before_save, before_save_entries, bare_machine, bare, bare_entries, linked_machine, linked, linked_entries, counted, log_of};
 

@@ -1,7 +1,7 @@
 //! The laws of sleep.
 
 ghost use Rattle.sleep_model.specs.Guard.{count_part};
-ghost use Rattle.sleep_model.specs.Laws.{DependentsFirst, SuppliersFirst, Restored, Enters, SeesNothing, FoundPending, guard_of};
+ghost use Rattle.sleep_model.proofs.ShortLaws.{DependentsFirst, SuppliersFirst, Restored, Enters, SeesNothing, FoundPending, guard_of};
 ghost use Rattle.sleep_laws.specs.Laws.{HoldsOfAll};
 
 /// A device begins to suspend only where all below it are suspended

@@ -1,7 +1,7 @@
 //! Logs and orders that were worked by hand: each log is legal and finished for its machine.
 
 ghost use Rattle.std.specs.Prelude.{◌≡◌, ◌∷◌, []};
-ghost use Rattle.sleep_model.specs.Legal.{IsLegalLog, IsFinishedLog};
+ghost use Rattle.sleep_model.proofs.ShortLegal.{IsLegalLog, IsFinishedLog};
 ghost use Rattle.sleep_model.specs.Order.{order, below, above};
 ghost use Rattle.sleep_laws.specs.Worked.{calm_machine, calm, after_save_machine, after_save, before_save_machine, before_save, bare_machine, bare, linked_machine, linked, one_link_machine};
 

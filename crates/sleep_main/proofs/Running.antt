@@ -20,13 +20,13 @@ use Rattle.sleep_model.specs.declared.word.EventNow.{EventNow}
 use Rattle.sleep_model.specs.declared.word.Stamp.{Stamp}
 use Rattle.sleep_model.specs.declared.word.WordKind.TheVariants as step
 use Rattle.sleep_model.specs.Accepted.{IsAccepted, IsOneWriter}
-use Rattle.sleep_model.specs.Calls.{calls, calls_after, calls_due, script_calls_before, next_note, OnPlan}
-use Rattle.sleep_model.specs.Due.{due}
-use Rattle.sleep_model.specs.Legal.{IsLegal, is_finished, alarm_at, next_time, stats_of, journal_time, sooner, next_expiry}
+use Rattle.sleep_model.proofs.ShortCalls.{calls, calls_after, calls_due, script_calls_before, next_note, OnPlan}
+use Rattle.sleep_model.proofs.ShortDue.{due}
+use Rattle.sleep_model.proofs.ShortLegal.{IsLegal, is_finished, alarm_at, next_time, stats_of, journal_time, sooner, next_expiry}
 use Rattle.sleep_model.specs.Numbers.{numbers, after_step, time_of}
 use Rattle.sleep_model.specs.Parts.{Part, OfJournal, part_of, is_kept, journal}
 use Rattle.sleep_model.specs.Sources.{is_of, history, AreQuiet}
-use Rattle.sleep_model.specs.Path.{row_of}
+use Rattle.sleep_model.proofs.ShortPath.{row_of}
 use Rattle.sleep_model.specs.Seats.{seats, seats_after, seat_part, first_seat, Stays}
 use Rattle.sleep_model.specs.Word.{position}
 use Rattle.sleep_model.proofs.Calling.{with_event, each_event, each_kept, event_legal, event_quiet, quiet_first, quiet_kept, quiet_waits}

@@ -11,8 +11,8 @@ use Rattle.sleep_model.specs.declared.machine.Script.{Script}
 use Rattle.sleep_model.specs.declared.machine.Step.{Step}
 use Rattle.sleep_model.specs.declared.place.Seat.{Seat}
 use Rattle.sleep_model.specs.Accepted.{IsWriter, IsOneWriter, HasWriter, IsGiven, AreGiven}
-use Rattle.sleep_model.specs.Calls.{calls, calls_before, calls_due, operation_at, script_calls_before, next_note, OnPlan}
-use Rattle.sleep_model.specs.Legal.{IsOwnTurn}
+use Rattle.sleep_model.proofs.ShortCalls.{calls, calls_before, calls_due, operation_at, script_calls_before, next_note, OnPlan}
+use Rattle.sleep_model.proofs.ShortLegal.{IsOwnTurn}
 use Rattle.sleep_model.specs.Scripts.{operations, note_of, makes_entry}
 use Rattle.sleep_model.specs.Seats.{SeatPart, Waits, Reads, Steps, Exits, Stays, seat_after, first_seat}
 use Rattle.sleep_model.specs.Sources.{AreQuiet}

@@ -10,9 +10,9 @@ use Rattle.sleep_model.specs.declared.machine.Step.{Step}
 use Rattle.sleep_model.specs.declared.word.EventNow.{EventNow}
 use Rattle.sleep_model.specs.declared.word.Stamp.{Stamp}
 use Rattle.sleep_model.specs.Accepted.{IsAccepted}
-use Rattle.sleep_model.specs.Calls.{calls, OnPlan}
-use Rattle.sleep_model.specs.Laws.{Laws}
-use Rattle.sleep_model.specs.Legal.{IsLegal, IsLegalLog, IsFinishedLog, is_finished}
+use Rattle.sleep_model.proofs.ShortCalls.{calls, OnPlan}
+use Rattle.sleep_model.proofs.ShortLaws.{Laws}
+use Rattle.sleep_model.proofs.ShortLegal.{IsLegal, IsLegalLog, IsFinishedLog, is_finished}
 use Rattle.sleep_model.specs.Numbers.{numbers}
 use Rattle.sleep_model.specs.Parts.{journal}
 use Rattle.sleep_model.specs.Scripts.{operations}

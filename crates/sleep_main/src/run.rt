@@ -134,9 +134,9 @@ impl<'m> Run<'m> {
     ghost use Rattle.sleep_model.specs.declared.log.Why.{Why};
     ghost use Rattle.sleep_model.specs.declared.place.Due.TheVariants.{Waits};
     ghost use Rattle.sleep_model.specs.Accepted.{IsAccepted};
-    ghost use Rattle.sleep_model.specs.Calls.{calls, calls_due};
-    ghost use Rattle.sleep_model.specs.Due.{due};
-    ghost use Rattle.sleep_model.specs.Legal.{is_finished};
+    ghost use Rattle.sleep_model.proofs.ShortCalls.{calls, calls_due};
+    ghost use Rattle.sleep_model.proofs.ShortDue.{due};
+    ghost use Rattle.sleep_model.proofs.ShortLegal.{is_finished};
     ghost use Rattle.sleep_model.specs.Numbers.{numbers};
     ghost use Rattle.sleep_main.specs.Runs.{MadeSome, AfterRound, IsRun};
 

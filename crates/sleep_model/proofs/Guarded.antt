@@ -14,13 +14,13 @@ use Rattle.sleep_model.specs.declared.word.WordKind.{WordKind}
 use Rattle.sleep_model.specs.declared.word.WordKind.TheVariants as step
 use Rattle.sleep_model.specs.Accepted.{HasWriter}
 use Rattle.sleep_model.specs.Guard.{in_force, count_part, count_pending, force_after, forgotten, Finds}
-use Rattle.sleep_model.specs.Laws.{Answered, later_answer, answer_after, answer_of, is_same, with_step, rests_on, steps_after, steps_since, finishes, guard_of, guard_after, SeesNothing}
-use Rattle.sleep_model.specs.Legal.{JournalPart, SourcePart, JointPart, JournalStep, OwnStep, JointStep}
+use Rattle.sleep_model.proofs.ShortLaws.{Answered, later_answer, answer_after, answer_of, is_same, with_step, rests_on, steps_after, steps_since, finishes, guard_of, guard_after, SeesNothing}
+use Rattle.sleep_model.proofs.ShortLegal.{JournalPart, SourcePart, JointPart, JournalStep, OwnStep, JointStep}
 use Rattle.sleep_model.specs.Numbers.{numbers, after_step}
 use Rattle.sleep_model.specs.Parts.{OfJournal, part_of}
-use Rattle.sleep_model.specs.Path.{row_of, row_after}
+use Rattle.sleep_model.proofs.ShortPath.{row_of, row_after}
 use Rattle.sleep_model.specs.Sources.{history, owed}
-use Rattle.sleep_model.specs.Walk.{error_of, error_after}
+use Rattle.sleep_model.proofs.ShortWalk.{error_of, error_after}
 use Rattle.sleep_model.specs.Word.{visible, position}
 use Rattle.sleep_model.proofs.Growing.{entry_numbers}
 use Rattle.sleep_model.proofs.Made.{Made, made, made_of_journal}

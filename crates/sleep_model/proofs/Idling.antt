@@ -21,11 +21,11 @@ use Rattle.sleep_model.specs.declared.word.EventNow.{EventNow}
 use Rattle.sleep_model.specs.Word.{visible}
 use Rattle.sleep_model.specs.Accepted.{IsAccepted, IsOneWriter}
 use Rattle.sleep_model.specs.Numbers.{time_of}
-use Rattle.sleep_model.specs.Path.{maker, row_of}
+use Rattle.sleep_model.proofs.ShortPath.{maker, row_of}
 use Rattle.sleep_model.specs.Scripts.{entry_steps}
 use Rattle.sleep_model.specs.Seats.{seats, first_seat}
-use Rattle.sleep_model.specs.Walk.{inside}
-use Rattle.sleep_model.specs.Due.{due, path_due, suspend_due, resume_due}
+use Rattle.sleep_model.proofs.ShortWalk.{inside}
+use Rattle.sleep_model.proofs.ShortDue.{due, path_due, suspend_due, resume_due}
 use Rattle.sleep_base.specs.declared.errno.Errno.TheVariants.{EINVAL}
 use Rattle.sleep_model.proofs.Operations.{EntryIf, entry_given}
 use Rattle.sleep_model.proofs.Plain.{AllPlain, plain_step, plain_due}

@@ -12,6 +12,12 @@ pub mod Ordering
 pub mod Padding
 pub mod Plain
 pub mod Planning
+pub mod ShortCalls
+pub mod ShortDue
+pub mod ShortLaws
+pub mod ShortLegal
+pub mod ShortPath
+pub mod ShortWalk
 pub mod Soft
 pub mod Tails
 pub mod Walking

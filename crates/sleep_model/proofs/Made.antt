@@ -23,11 +23,11 @@ use Rattle.sleep_model.specs.declared.word.EventNow.{EventNow}
 use Rattle.sleep_model.specs.Word.{visible}
 use Rattle.sleep_model.specs.Accepted.{HasWriter}
 use Rattle.sleep_model.specs.Guard.{in_force, pending}
-use Rattle.sleep_model.specs.Path.{attempts, maker, row_of, failure}
+use Rattle.sleep_model.proofs.ShortPath.{attempts, maker, row_of, failure}
 use Rattle.sleep_model.specs.Scripts.{entry_steps}
 use Rattle.sleep_model.specs.Seats.{seats, first_seat}
-use Rattle.sleep_model.specs.Walk.{inside, error_of, next_down, next_up}
-use Rattle.sleep_model.specs.Due.{due, path_due, suspend_due, resume_due}
+use Rattle.sleep_model.proofs.ShortWalk.{inside, error_of, next_down, next_up}
+use Rattle.sleep_model.proofs.ShortDue.{due, path_due, suspend_due, resume_due}
 use Rattle.sleep_model.specs.Parts.{part_of, OfJournal}
 use Rattle.sleep_model.proofs.Plain.{AllPlain, plain_step, plain_due}
 use Rattle.sleep_model.proofs.Walking.{Facts, ScriptCase, Nothing, OwnStep, OnPath, due_case}

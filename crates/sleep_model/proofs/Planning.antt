@@ -4,7 +4,7 @@ use Rattle.std.proofs.lemmas.Bool.{true≢false}
 use Rattle.sleep_model.specs.declared.entry.Kind.{Kind}
 use Rattle.sleep_model.specs.declared.machine.Op.{Op}
 use Rattle.sleep_model.specs.Scripts.{note_of, makes_entry}
-use Rattle.sleep_model.specs.Calls.{calls_before, calls_then, OnPlan}
+use Rattle.sleep_model.proofs.ShortCalls.{calls_before, calls_then, OnPlan}
 
 -- a call on a source
 abbrev pub is_call : Op → Bool

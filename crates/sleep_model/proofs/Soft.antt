@@ -15,8 +15,8 @@ use Rattle.sleep_model.specs.declared.word.EventNow.{EventNow}
 use Rattle.sleep_model.specs.declared.word.WordKind.{WordKind}
 use Rattle.sleep_model.specs.declared.word.WordKind.TheVariants as step
 use Rattle.sleep_model.specs.Accepted.{HasWriter, IsOneWriter}
-use Rattle.sleep_model.specs.Calls.{operation_at}
-use Rattle.sleep_model.specs.Legal.{IsOwnCall}
+use Rattle.sleep_model.proofs.ShortCalls.{operation_at}
+use Rattle.sleep_model.proofs.ShortLegal.{IsOwnCall}
 use Rattle.sleep_model.specs.Parts.{Part, OfJournal, Notes, Moves, OfTime, part_of}
 use Rattle.sleep_model.specs.Scripts.{note_of}
 use Rattle.sleep_model.specs.Sources.{history, is_of, since, behind_first, owed, owed_after, makes, starting, IsNext}

@@ -1,10 +1,14 @@
 -- What a reader believes of a legal log, each law at each entry, from the entries before it.
-use Rattle.std.specs.Prelude.{◌≡◌, ◌<◌, ◌+◌, ℕ, Bool, true, false, ◌==◌, ◌||◌, List, [], ◌∷◌, if◌then◌else◌, Option, Some, None}
+use Rattle.std.specs.Prelude.{◌≡◌, ◌<◌, ◌+◌, ℕ, suc, ℤ, pos, negsuc, Bool, true, false, ◌==◌, ◌||◌, List, [], ◌∷◌, if◌then◌else◌, Option, Some, None}
 use Rattle.sleep_model.specs.declared.entry.Actor.{Actor}
-use Rattle.sleep_model.specs.declared.entry.Actor.TheVariants as actor
 use Rattle.sleep_model.specs.declared.entry.Entry.{Entry}
 use Rattle.sleep_model.specs.declared.entry.Kind.{Kind}
 use Rattle.sleep_model.specs.declared.entry.Kind.TheVariants as kind
+use Rattle.sleep_model.specs.declared.entry.FrozeEnd.TheVariants as froze
+use Rattle.sleep_model.specs.declared.entry.SkipCause.TheVariants as skip
+use Rattle.sleep_model.specs.declared.machine.PlatDo.TheVariants as platform
+use Rattle.sleep_model.specs.declared.machine.Script.{Script}
+use Rattle.sleep_model.specs.declared.phase.Phase.{Phase}
 use Rattle.sleep_model.specs.declared.phase.Phase.TheVariants as phase
 use Rattle.sleep_model.specs.declared.machine.Machine.{Machine}
 use Rattle.sleep_model.specs.declared.word.WordKind.{WordKind}
@@ -12,7 +16,13 @@ use Rattle.sleep_model.specs.declared.word.WordKind.TheVariants as step
 use Rattle.sleep_model.specs.Guard.{CountPart, Finds, count_part, pending}
 use Rattle.sleep_model.specs.Numbers.{numbers, word_step}
 use Rattle.sleep_model.specs.Order.{is_among, below, above}
-use Rattle.sleep_model.specs.Walk.{inside, suspended}
+use Rattle.sleep_model.specs.Attempt.{failed}
+use Rattle.sleep_model.specs.Devices.{gone_down, running, prepared_list}
+use Rattle.sleep_model.specs.Freezer.{is_asked, is_frozen}
+use Rattle.sleep_model.specs.Notifiers.{notified, asked_platform, cpus_off, irqs_off, stopped}
+use Rattle.sleep_model.specs.Path.{is_same}
+use Rattle.sleep_model.specs.Phases.{is_down, is_up, mirror, tests_wakeup}
+use Rattle.sleep_model.specs.Table.{is_good}
 
 -- each of the devices is among those
 abbrev pub AllAmong : List ℕ → List ℕ → Type 0
@@ -24,32 +34,97 @@ abbrev pub NoneAmong : List ℕ → List ℕ → Type 0
 NoneAmong those [] = Unit {0}
 NoneAmong those (d ∷ ds) = (is_among those d ≡ false) × NoneAmong those ds
 
--- a device begins to suspend only where all below it are suspended (dpm_wait_for_subordinate)
+-- ---- devices
+
+-- the devices that phases on the way down put down or left alone, after an entry (__device_suspend, direct_complete)
+abbrev pub passed_after : Kind → List ℕ → List ℕ
+passed_after (kind.Attempt n guarded) before = []
+passed_after (kind.Done p r) before = []
+passed_after (kind.End p d None) before = d ∷ before
+passed_after (kind.Skip p d skip.Direct) before = d ∷ before
+passed_after _ before = before
+
+-- the devices whose callback answered 0, or that were left alone, in the phase that is open (power.completion)
+abbrev pub passed : List Entry → List ℕ
+passed [] = []
+passed (e ∷ past) = passed_after e.kind (passed past)
+
+-- a device begins to go down only where all below it are down in that phase, or were left alone (dpm_wait_for_subordinate)
 abbrev pub DependentsFirst : Machine → List Entry → Kind → Type 0
-DependentsFirst m past (kind.Begin phase.Suspend d) = AllAmong (suspended past) (below m d)
+DependentsFirst m past (kind.Begin p d) = is_down p ≡ true → AllAmong (passed past) (below m d)
 DependentsFirst m past _ = Unit {0}
 
--- a device begins to resume only where none above it is still suspended, and no callback runs (dpm_wait_for_superior)
+-- a device begins to come up only where none above it is still down in that phase, or inside a callback (dpm_wait_for_superior)
 abbrev pub SuppliersFirst : Machine → List Entry → Kind → Type 0
-SuppliersFirst m past (kind.Begin phase.Resume d) = NoneAmong (suspended past) (above m d) × (inside past ≡ None)
+SuppliersFirst m past (kind.Begin p d) = is_up p ≡ true → NoneAmong (gone_down (mirror p) past) (above m d) × NoneAmong (running past) (above m d)
 SuppliersFirst m past _ = Unit {0}
 
--- where an attempt is over no device is suspended and no callback runs (dpm_resume)
-abbrev pub Restored : List Entry → Kind → Type 0
-Restored past (kind.Over n r) = (suspended past ≡ []) × (inside past ≡ None)
-Restored past _ = Unit {0}
+-- ---- what is owed
 
--- what an entry is to the tests for wakeup of an attempt
+-- no task, from number i on, is asked to freeze, or frozen (thaw_processes)
+abbrev pub NoneFrozen : ℕ → List Script → List Entry → Type 0
+NoneFrozen i [] past = Unit {0}
+NoneFrozen i (s ∷ ss) past = (is_asked i s.kind past ≡ false) × (is_frozen i s.kind past ≡ false) × NoneFrozen (suc i) ss past
+
+-- all that an attempt did is undone (suspend_devices_and_enter, suspend_finish)
+pub record NothingOwed (m : Machine) (past : List Entry) : Type 0 where
+  pub notifiers : notified past ≡ []
+  pub tasks : NoneFrozen 0 m.actors past
+  pub begun : asked_platform platform.Begin past ≡ false
+  pub prepared_platform : asked_platform platform.Prepare past ≡ false
+  pub prepared_late : asked_platform platform.PrepareLate past ≡ false
+  pub prepared : prepared_list past ≡ []
+  pub suspended : gone_down phase.Suspend past ≡ []
+  pub late : gone_down phase.Late past ≡ []
+  pub noirq : gone_down phase.Noirq past ≡ []
+  pub callbacks : running past ≡ []
+  pub cpus : cpus_off past ≡ []
+  pub irqs : irqs_off past ≡ false
+  pub syscore : stopped past ≡ []
+
+-- where an attempt is over nothing is owed (suspend_devices_and_enter)
+abbrev pub Restored : Machine → List Entry → Kind → Type 0
+Restored m past (kind.Over n r) = NothingOwed m past
+Restored m past _ = Unit {0}
+
+-- ---- what disturbs an attempt
+
+-- what an entry is to the question whether an attempt was disturbed
 pub data TestPart : Type 0 where
   Opens : TestPart
   Tests : TestPart
+  Fails : TestPart
   Else : TestPart
 
--- a test stands before each callback of suspend and at the entering (__device_suspend, suspend_enter)
+-- a test, where that phase has one (__device_suspend)
+abbrev pub test_of : Phase → TestPart
+test_of p = if tests_wakeup p then Tests else Else
+
+-- a callback that answers an error on the way down fails the attempt (dpm_run_callback)
+abbrev pub fail_of : Phase → TestPart
+fail_of p = if is_down p then Fails else Else
+
+-- an answer below 0 fails the attempt (device_prepare)
+abbrev pub fails_by : ℤ → TestPart
+fails_by (pos n) = Else
+fails_by (negsuc n) = Fails
+
+-- a test stands at the end of a freeze by a wakeup, before each callback of suspend and late, before each processor, at the core's check and at the entering; an error of a callback or of a freeze fails the attempt (pm_wakeup_pending)
 abbrev pub test_part : Kind → TestPart
 test_part (kind.Attempt n guarded) = Opens
-test_part (kind.Begin phase.Suspend d) = Tests
-test_part (kind.Skip p d cause) = Tests
+test_part (kind.NotifyPrepare x (Some r)) = Fails
+test_part (kind.Froze g (froze.Timeout left first)) = Fails
+test_part (kind.Froze g (froze.Wakeup left first)) = Tests
+test_part (kind.PlatformDo step (Some r)) = Fails
+test_part (kind.Prepare d r) = fails_by r
+test_part (kind.Begin p d) = test_of p
+test_part (kind.End p d (Some r)) = fail_of p
+test_part (kind.Skip p d skip.Error) = Else
+test_part (kind.Skip p d cause) = test_of p
+test_part (kind.CpuOff k) = Tests
+test_part (kind.CpuBusy k) = Tests
+test_part (kind.SyscoreCheck r) = Tests
+test_part (kind.SyscoreSuspend x (Some r)) = Fails
 test_part (kind.Enter busy) = Tests
 test_part _ = Else
 
@@ -57,9 +132,10 @@ test_part _ = Else
 abbrev pub disturbed_after : TestPart → Bool → Bool → Bool
 disturbed_after Opens busy before = false
 disturbed_after Tests busy before = busy || before
+disturbed_after Fails busy before = true
 disturbed_after Else busy before = before
 
--- a wakeup was pending where a test of the open attempt stands
+-- a wakeup was pending where a test of the open attempt stands, or a step of it failed
 abbrev pub disturbed : List Entry → Bool
 disturbed [] = false
 disturbed (e ∷ past) = disturbed_after (test_part e.kind) (pending past e.now) (disturbed past)
@@ -75,10 +151,17 @@ abbrev pub entered : List Entry → Bool
 entered [] = false
 entered (e ∷ past) = entered_after e.kind (entered past)
 
--- an attempt that no wakeup disturbed has entered, and answers 0 (suspend_enter)
+-- an attempt that nothing disturbed has entered, and answers 0 (suspend_enter)
 abbrev pub Enters : List Entry → Kind → Type 0
 Enters past (kind.Over n r) = disturbed past ≡ false → (entered past ≡ true) × (r ≡ None)
 Enters past _ = Unit {0}
+
+-- an attempt answers the error of the step that failed, and 0 exactly where it has entered (enter_state)
+abbrev pub AnswersFailure : List Entry → Kind → Type 0
+AnswersFailure past (kind.Over n r) = (r ≡ failed past) × (entered past ≡ is_good r)
+AnswersFailure past _ = Unit {0}
+
+-- ---- the saved count
 
 -- the count that guards the attempt, after an entry
 abbrev pub guard_after : Kind → Option ℕ → Option ℕ
@@ -89,15 +172,6 @@ guard_after _ before = before
 abbrev pub guard_of : List Entry → Option ℕ
 guard_of [] = None
 guard_of (e ∷ past) = guard_after e.kind (guard_of past)
-
--- the same actor
-abbrev pub is_same : Actor → Actor → Bool
-is_same (actor.Script i) (actor.Script j) = i == j
-is_same actor.Auto actor.Auto = true
-is_same (actor.Dev c) (actor.Dev d) = c == d
-is_same (actor.Timer s) (actor.Timer t) = s == t
-is_same actor.Time actor.Time = true
-is_same _ _ = false
 
 -- one more step, where there is one
 abbrev pub with_step : Option WordKind → List WordKind → List WordKind
@@ -160,8 +234,9 @@ FoundPending past _ = Unit {0}
 pub record LawsAt (m : Machine) (past : List Entry) (k : Kind) : Type 0 where
   pub dependents_first : DependentsFirst m past k
   pub suppliers_first : SuppliersFirst m past k
-  pub restored : Restored past k
+  pub restored : Restored m past k
   pub enters : Enters past k
+  pub answers_failure : AnswersFailure past k
   pub sees_nothing : SeesNothing past k (guard_of past)
   pub found : FoundPending past (count_part k)
 

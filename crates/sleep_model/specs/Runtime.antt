@@ -22,6 +22,10 @@ is_async d = has_bit 1 d.flags
 abbrev pub may_wake : Device → Bool
 may_wake d = has_bit 2 d.flags
 
+-- it is runtime suspended at first (pm_runtime_set_suspended)
+abbrev pub starts_suspended : Device → Bool
+starts_suspended d = has_bit 4 d.flags
+
 -- d is runtime suspended after an entry: a request that is answered 0 sets it (pm_runtime_set_status)
 abbrev pub status_after : ℕ → Kind → Bool → Bool
 status_after d (RuntimeAsk e to_suspended None) before = if e == d then to_suspended else before

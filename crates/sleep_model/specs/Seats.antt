@@ -1,5 +1,6 @@
 -- Where each script stands: what its own entries made of its steps.
-use Rattle.std.specs.Prelude.{ℕ, ◌+◌, true, false, List, [], ◌∷◌, slice_set, slice_index_or, replicate, Some, None}
+use Rattle.std.specs.List.{list_all}
+use Rattle.std.specs.Prelude.{ℕ, ◌+◌, Bool, true, false, List, [], ◌∷◌, slice_set, slice_index_or, replicate, Some, None}
 use Rattle.sleep_model.specs.declared.entry.Actor.{Actor}
 use Rattle.sleep_model.specs.declared.entry.Actor.TheVariants.{Script}
 use Rattle.sleep_model.specs.declared.entry.Entry.{Entry}
@@ -61,3 +62,7 @@ seats_after _ part seats = seats
 abbrev pub seats : ℕ → List Entry → List Seat
 seats n [] = replicate n first_seat
 seats n (e ∷ past) = seats_after e.actor (seat_part e.kind) (seats n past)
+
+-- each of these has made its exit (do_exit)
+abbrev pub all_exited : List Seat → Bool
+all_exited seats = list_all (λ s. s.exited) seats

@@ -8,8 +8,6 @@ use Rattle.sleep_model.specs.declared.machine.Op.{Op}
 use Rattle.sleep_model.specs.declared.machine.Op.TheVariants as op
 use Rattle.sleep_model.specs.declared.machine.TaskKind.{TaskKind}
 use Rattle.sleep_model.specs.declared.machine.TaskKind.TheVariants.{User, Irq}
-use Rattle.sleep_model.specs.declared.place.Row.{Row}
-use Rattle.sleep_model.specs.declared.place.Row.TheVariants.{Asleep}
 use Rattle.sleep_model.specs.Freezer.{is_task}
 
 -- ---- texts that are written
@@ -53,11 +51,6 @@ sleeps_until i [] = None
 sleeps_until i (e ∷ past) = until_after i e.actor e.kind (sleeps_until i past)
 
 -- ---- where a task stands
-
--- the machine sleeps (suspend_enter)
-abbrev pub is_asleep : Row → Bool
-is_asleep (Asleep pos since) = true
-is_asleep _ = false
 
 -- an interrupt line, which goes on while the machine sleeps (own)
 abbrev pub is_line : TaskKind → Bool

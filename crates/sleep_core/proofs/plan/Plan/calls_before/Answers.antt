@@ -1,6 +1,6 @@
 use Rattle.std.proofs.Common.{◌∙◌, List, sym, ap}
 use Rattle.sleep_model.specs.declared.machine.Op.{Op}
-use Rattle.sleep_model.specs.Calls.{calls_before}
+use Rattle.sleep_model.proofs.ShortCalls.{calls_before}
 use Rattle.sleep_model.proofs.Operations.{writer_operations}
 use Rattle.sleep_core.proofs.Planned.{planned_here, planned_past, calls_some, calls_none}
 use Rattle.sleep_core.proofs.plan.Plan.calls_before.Goals as goal

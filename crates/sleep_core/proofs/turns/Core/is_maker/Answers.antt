@@ -1,5 +1,5 @@
 use Rattle.std.proofs.Common.{◌<◌, ◌∙◌, length, sym, ap, subst}
-use Rattle.sleep_model.specs.Calls.{is_script}
+use Rattle.sleep_model.proofs.ShortCalls.{is_script}
 use Rattle.sleep_core.specs.Cores.{CoreState}
 use Rattle.sleep_core.specs.Places.{entries}
 use Rattle.sleep_core.proofs.Seating.{free_if_not}

@@ -1,10 +1,10 @@
 use Rattle.std.proofs.Common.{◌≡◌, ◌∙◌, ◌≤◌, List, refl, sym, subst, ap, length, arith}
-use Rattle.sleep_model.specs.Due.{due}
+use Rattle.sleep_model.proofs.ShortDue.{due}
 use Rattle.std.proofs.lemmas.Bool.{false≢true}
 use Rattle.sleep_model.specs.Numbers.{time_of}
 use Rattle.sleep_model.specs.declared.entry.JournalEntry.{JournalEntry}
 use Rattle.sleep_model.specs.declared.place.Due.TheVariants.{Makes}
-use Rattle.sleep_model.specs.Walk.{suspended}
+use Rattle.sleep_model.proofs.ShortWalk.{suspended}
 use Rattle.sleep_core.specs.Cores.{CoreState}
 use Rattle.sleep_core.specs.Cursors.{ResumesLast}
 use Rattle.sleep_core.specs.Places.{entries}

@@ -1,6 +1,6 @@
 use Rattle.std.proofs.Common.{◌≡◌, ◌<◌, length, sym, arith}
 use Rattle.std.proofs.lemmas.Bool.Decides.{nat_tests}
-use Rattle.sleep_model.specs.Walk.{settled}
+use Rattle.sleep_model.proofs.ShortWalk.{settled}
 use Rattle.sleep_core.specs.Places.{entries}
 use Rattle.sleep_core.proofs.Cursoring.{down_over, down_next, settled_fits}
 use Rattle.sleep_core.proofs.turns.Core.next_down.Goals as goal

@@ -1,6 +1,6 @@
 use Rattle.std.proofs.Common.{◌≡◌, ◌∙◌, sym, subst}
-use Rattle.sleep_model.specs.Legal.{alarm_at}
-use Rattle.sleep_model.specs.Path.{row_of}
+use Rattle.sleep_model.proofs.ShortLegal.{alarm_at}
+use Rattle.sleep_model.proofs.ShortPath.{row_of}
 use Rattle.sleep_model.proofs.Plain.{alarm_only}
 use Rattle.sleep_model.proofs.Walking.{plain_of}
 use Rattle.sleep_core.specs.Cores.{CoreState}

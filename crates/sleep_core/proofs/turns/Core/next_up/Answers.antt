@@ -1,6 +1,6 @@
 use Rattle.std.proofs.Common.{◌≡◌, ◌<◌, length, sym, arith}
 use Rattle.std.proofs.lemmas.Bool.Decides.{nat_tests}
-use Rattle.sleep_model.specs.Walk.{suspended}
+use Rattle.sleep_model.proofs.ShortWalk.{suspended}
 use Rattle.sleep_core.specs.Places.{entries}
 use Rattle.sleep_core.proofs.Cursoring.{up_over, up_next, suspended_fits}
 use Rattle.sleep_core.proofs.turns.Core.next_up.Goals as goal

@@ -2,7 +2,7 @@ use Rattle.std.proofs.Common.{◌≡◌, ◌∙◌, true, List, map, reverse, sy
 use Rattle.sleep_model.specs.declared.entry.Entry.{Entry}
 use Rattle.sleep_model.specs.declared.log.LogEnd.TheVariants.{Finished}
 use Rattle.sleep_model.specs.declared.word.EventNow.{EventNow}
-use Rattle.sleep_model.specs.Legal.{is_finished}
+use Rattle.sleep_model.proofs.ShortLegal.{is_finished}
 use Rattle.sleep_main.specs.declared.meter.Meter.{Meter}
 use Rattle.sleep_main.specs.Meters.{meters_of, stats_at}
 use Rattle.sleep_main.specs.Runs.{RunState, IsRun}

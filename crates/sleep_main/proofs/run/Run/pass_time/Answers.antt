@@ -5,8 +5,8 @@ use Rattle.sleep_model.specs.declared.entry.Kind.TheVariants as kind
 use Rattle.sleep_model.specs.declared.log.Why.{Why}
 use Rattle.sleep_model.specs.declared.word.EventNow.{EventNow}
 use Rattle.sleep_model.specs.declared.place.Due.TheVariants.{Waits}
-use Rattle.sleep_model.specs.Calls.{calls, calls_due}
-use Rattle.sleep_model.specs.Due.{due}
+use Rattle.sleep_model.proofs.ShortCalls.{calls, calls_due}
+use Rattle.sleep_model.proofs.ShortDue.{due}
 use Rattle.sleep_model.specs.Numbers.{numbers, time_of}
 use Rattle.sleep_model.proofs.Growing.{MayJump}
 use Rattle.sleep_main.specs.declared.run.Run.TheInside.{Inside}

@@ -1,6 +1,6 @@
 use Rattle.std.proofs.Common.{◌≡◌, ◌<◌, ◌+◌, ◌∙◌, ℕ, reverse, slice_index_or, Some, sym, ap, subst, arith}
 use Rattle.sleep_model.specs.declared.word.EventNow.{EventNow}
-use Rattle.sleep_model.specs.Calls.{calls, calls_due}
+use Rattle.sleep_model.proofs.ShortCalls.{calls, calls_due}
 use Rattle.sleep_main.specs.declared.meter.Meter.{Meter}
 use Rattle.sleep_main.specs.declared.run.Run.TheInside.{Inside}
 use Rattle.sleep_main.specs.RunFields.{state, keeps}

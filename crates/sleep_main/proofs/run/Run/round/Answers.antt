@@ -1,6 +1,6 @@
 use Rattle.std.proofs.Common.{◌≡◌, ◌<◌, ◌≤◌, reverse, subst, arith}
 use Rattle.std.proofs.lemmas.Bool.Decides.{nat_tests}
-use Rattle.sleep_model.specs.Calls.{calls, calls_due}
+use Rattle.sleep_model.proofs.ShortCalls.{calls, calls_due}
 use Rattle.sleep_core.specs.Places.{entries}
 use Rattle.sleep_main.specs.Runs.{RunState}
 use Rattle.sleep_main.proofs.Running.{call_due, turn_due}

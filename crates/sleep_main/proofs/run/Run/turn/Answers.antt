@@ -4,8 +4,8 @@ use Rattle.sleep_model.specs.declared.entry.Entry.{Entry}
 use Rattle.sleep_model.specs.declared.log.Why.{Why}
 use Rattle.sleep_model.specs.declared.place.Due.TheVariants.{Makes, Waits, Gone}
 use Rattle.sleep_model.specs.declared.word.EventNow.{EventNow}
-use Rattle.sleep_model.specs.Calls.{calls, calls_due}
-use Rattle.sleep_model.specs.Due.{due}
+use Rattle.sleep_model.proofs.ShortCalls.{calls, calls_due}
+use Rattle.sleep_model.proofs.ShortDue.{due}
 use Rattle.sleep_model.specs.Numbers.{numbers}
 use Rattle.sleep_core.specs.declared.turns.CoreTurn.{CoreTurn}
 use Rattle.sleep_core.specs.Cores.{AfterTurn, with_entry, made_entry, next_stamp}

@@ -1,0 +1,90 @@
+-- What a task does next at its operation (kernel/power/main.c, wakeup_count_store, state_store, autosleep_store).
+use Rattle.std.specs.Prelude.{ℕ, ◌+◌, Bool, not, ◌==◌, ◌&&◌, ◌||◌, nat_lt, nat_le, List, if◌then◌else◌, Option, Some, None, is_some, unwrap_or, slice_get}
+use Rattle.sleep_base.specs.declared.errno.Errno.TheVariants.{EINTR, EBUSY, EINVAL}
+use Rattle.sleep_model.specs.declared.word.EventNow.{EventNow}
+use Rattle.sleep_model.specs.declared.entry.Entry.{Entry}
+use Rattle.sleep_model.specs.declared.entry.Kind.{Kind}
+use Rattle.sleep_model.specs.declared.entry.Kind.TheVariants as kind
+use Rattle.sleep_model.specs.declared.entry.State.TheVariants.{Mem, Off}
+use Rattle.sleep_model.specs.declared.machine.Script.{Script}
+use Rattle.sleep_model.specs.declared.machine.TaskKind.{TaskKind}
+use Rattle.sleep_model.specs.declared.machine.Op.{Op}
+use Rattle.sleep_model.specs.declared.machine.Op.TheVariants as op
+use Rattle.sleep_model.specs.declared.log.Why.TheVariants as why
+use Rattle.sleep_model.specs.declared.place.Seat.{Seat}
+use Rattle.sleep_model.specs.declared.place.Due.{Due}
+use Rattle.sleep_model.specs.declared.place.Due.TheVariants.{Makes, Waits, Gone}
+use Rattle.sleep_model.specs.Word.{visible}
+use Rattle.sleep_model.specs.Numbers.{time_of}
+use Rattle.sleep_model.specs.Freezer.{is_asked, is_frozen}
+use Rattle.sleep_model.specs.Guard.{in_force}
+use Rattle.sleep_model.specs.Lock.{holder, is_on}
+use Rattle.sleep_model.specs.Marks.{raised}
+use Rattle.sleep_model.specs.Runtime.{runtime_due}
+use Rattle.sleep_model.specs.Tasks.{is_mem, is_off, has_saved, sleeps_until, is_line, is_user, freezes_at}
+use Rattle.sleep_model.specs.Path.{attempts}
+use Rattle.sleep_model.specs.Scripts.{entry_steps}
+
+-- a read answers the count where no event is in progress, else it says once that it waits, and gives up where it is asked to freeze (pm_get_wakeup_count)
+abbrev pub read_due : EventNow → Bool → Bool → Due
+read_due now waits asked = if now.inpr == 0 then Makes (kind.Read (visible now)) else (if waits then (if asked then Makes kind.ReadIntr else Waits why.InProgress) else Makes kind.ReadWait)
+
+-- a save is ok exactly where its number is the count and no event is in progress (pm_save_wakeup_count)
+abbrev pub save_due : EventNow → ℕ → Due
+save_due now c = if (visible now == c) && (now.inpr == 0) then Makes (kind.Saved c) else Makes (kind.SaveErr c EINVAL)
+
+-- where another holds the autosleep lock a write says once that it waits, and gives up where it is asked to freeze (pm_autosleep_lock)
+abbrev pub lock_due : Bool → Bool → Due → Due → Due
+lock_due waits asked says gives_up = if waits then (if asked then gives_up else Waits why.LockHeld) else says
+
+-- a write to wakeup_count (wakeup_count_store)
+abbrev pub count_due : Bool → Bool → Bool → Bool → EventNow → ℕ → Due
+count_due held on waits asked now c =
+    if held then lock_due waits asked (Makes (kind.SaveWait c)) (Makes (kind.SaveErr c EINTR)) else (if on then Makes (kind.SaveErr c EBUSY) else save_due now c)
+
+-- a write of that text to the state, whose attempt would be that (state_store)
+abbrev pub state_due : Bool → Bool → Bool → Bool → Bool → Kind → Due
+state_due held on waits asked mem attempt =
+    if held then lock_due waits asked (Makes kind.StateWait) (Makes (kind.StateErr EINTR)) else (if on then Makes (kind.StateErr EBUSY) else (if mem then Makes attempt else Makes (kind.StateErr EINVAL)))
+
+-- a write of that text to autosleep, which waits for the lock and is not interrupted (autosleep_store, pm_autosleep_set_state)
+abbrev pub autosleep_due : Bool → Bool → Bool → Bool → Due
+autosleep_due held begun mem off = if mem || off then (if begun then Makes kind.AutoDone else (if held then Waits why.LockHeld else Makes (kind.AutoSet (if mem then Mem else Off)))) else Makes kind.AutoBad
+
+-- a sleep up to that time ends where it has come (schedule_timeout)
+abbrev pub slept_due : Option ℕ → ℕ → Due
+slept_due None time = Gone
+slept_due (Some until) time = if nat_le until time then Makes kind.Slept else Waits (why.Until until)
+
+-- a wait for a mark of that number (own)
+abbrev pub mark_due : ℕ → ℕ → Due
+mark_due mark number = if nat_lt 0 number then Makes (kind.Got mark) else Waits (why.Mark mark)
+
+-- the next entry of script i at an operation, or its exit; a call on a source makes none (kernel/power/main.c, state_store, wakeup_count_store, autosleep_store)
+abbrev pub step_due : List Entry → EventNow → ℕ → Seat → Bool → Option Op → Due
+step_due past now i seat asked None = Makes kind.Exit
+step_due past now i seat asked (Some op.Read) = read_due now seat.waits asked
+step_due past now i seat asked (Some (op.Save None)) = count_due (is_some (holder past)) (is_on past) seat.waits asked now (unwrap_or seat.last_read 0)
+step_due past now i seat asked (Some (op.Save (Some c))) = count_due (is_some (holder past)) (is_on past) seat.waits asked now c
+step_due past now i seat asked (Some (op.State text if_saved)) =
+    if if_saved && not (has_saved i past) then Makes kind.StateUnsaved else state_due (is_some (holder past)) (is_on past) seat.waits asked (is_mem text) (kind.Attempt (attempts past + 1) (in_force past))
+step_due past now i seat asked (Some (op.Autosleep text)) = autosleep_due (is_some (holder past)) seat.waits (is_mem text) (is_off text)
+step_due past now i seat asked (Some (op.Sleep ms)) = if seat.waits then slept_due (sleeps_until i past) (time_of past) else Makes (kind.Sleep (time_of past + ms))
+step_due past now i seat asked (Some (op.SleepD ms)) = if seat.waits then slept_due (sleeps_until i past) (time_of past) else Makes (kind.SleepD (time_of past + ms))
+step_due past now i seat asked (Some op.FreezePoint) = Makes kind.Pass
+step_due past now i seat asked (Some (op.Post mark)) = Makes (kind.Post mark)
+step_due past now i seat asked (Some (op.Wait mark)) = mark_due mark (raised mark past)
+step_due past now i seat asked (Some (op.Runtime d to_suspended)) = Makes (kind.RuntimeAsk d to_suspended (runtime_due d to_suspended past))
+step_due past now i seat asked (Some _) = Gone
+
+-- a frozen task waits, and so does a task while the machine sleeps; one that is asked to freeze does so where it may (try_to_freeze)
+abbrev pub task_due : Bool → List Entry → EventNow → ℕ → TaskKind → Seat → Option Op → Due
+task_due asleep past now i kind' seat op =
+    if is_frozen i kind' past then Waits why.Frozen
+    else (if asleep && not (is_line kind') then Waits why.Asleep
+    else (if is_asked i kind' past && freezes_at (is_user kind') seat.waits op then Makes kind.Frozen else step_due past now i seat (is_asked i kind' past) op))
+
+-- a script that has exited makes nothing more
+abbrev pub seat_due : Bool → List Entry → EventNow → ℕ → Option Script → Seat → Due
+seat_due asleep past now i None seat = Gone
+seat_due asleep past now i (Some s) seat = if seat.exited then Gone else task_due asleep past now i s.kind seat (slice_get (entry_steps s) seat.done)
