@@ -14,7 +14,7 @@ use Rattle.sleep_model.specs.declared.place.Row.{Row}
 use Rattle.sleep_model.specs.declared.place.Row.TheVariants as row
 use Rattle.sleep_model.specs.declared.place.Seat.{Seat}
 use Rattle.sleep_model.specs.declared.word.EventNow.{EventNow}
-use Rattle.sleep_model.proofs.ShortDue.{due, script_due, seat_due, task_due, step_due, path_due}
+use Rattle.sleep_model.proofs.ShortDue.{due, rest_due, script_due, seat_due, task_due, step_due, path_due}
 use Rattle.sleep_model.specs.Freezer.{is_asked, asked_after, is_frozen, frozen_after}
 use Rattle.sleep_model.proofs.ShortLegal.{alarm_at, sooner, pending_sleep, next_sleep, journal_time}
 use Rattle.sleep_model.specs.Lock.{holder, holder_after, is_on, on_after}
@@ -246,7 +246,7 @@ script_same m one other h now i who r = by_maker who
 pub due_same : (m : Machine) (one other : List Entry) → Alike one other → (a : Actor) (now : EventNow) → due m one a now ≡ due m other a now
 due_same m one other h (actor.Script i) now =
     ap₂ (λ who r. script_due m one now i who r) h.maker_is h.row_is ∙ script_same m one other h now i (maker other) (row_of other)
-due_same m one other h actor.Auto now = refl
+due_same m one other h actor.Auto now = ap rest_due h.row_is
 due_same m one other h (actor.Dev d) now = refl
 due_same m one other h (actor.Timer s) now = refl
 due_same m one other h actor.Time now = refl

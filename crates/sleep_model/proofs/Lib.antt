@@ -18,6 +18,7 @@ pub mod ShortLaws
 pub mod ShortLegal
 pub mod ShortPath
 pub mod ShortWalk
+pub mod Simple
 pub mod Soft
 pub mod Tails
 pub mod Walking

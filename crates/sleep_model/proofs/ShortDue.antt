@@ -78,10 +78,14 @@ abbrev pub script_due : Machine → List Entry → EventNow → ℕ → Option A
 script_due m past now i (Some (actor.Script j)) r = if j == i then path_due m past now r else seat_due past now i (slice_get m.actors i) (slice_index_or (seats (length m.actors) past) i first_seat)
 script_due m past now i _ r = seat_due past now i (slice_get m.actors i) (slice_index_or (seats (length m.actors) past) i first_seat)
 
+-- the autosleep work, which has nothing to do
+abbrev pub rest_due : Row → Due
+rest_due r = Waits (if is_asleep r then why.Asleep else why.NoWork)
+
 -- what is due of an actor that sees this word
 abbrev pub due : Machine → List Entry → Actor → EventNow → Due
 due m past (actor.Script i) now = script_due m past now i (maker past) (row_of past)
-due m past actor.Auto now = Waits why.NoWork
+due m past actor.Auto now = rest_due (row_of past)
 due m past (actor.Dev d) now = Waits why.NotScheduled
 due m past (actor.Timer s) now = Gone
 due m past actor.Time now = Gone

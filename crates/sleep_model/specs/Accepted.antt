@@ -13,6 +13,11 @@ abbrev pub ParentsEarlier : ℕ → List Device → Type 0
 ParentsEarlier n [] = Unit {0}
 ParentsEarlier n (d ∷ ds) = IfSome d.parent (λ p. p < n) × ParentsEarlier (suc n) ds
 
+-- the devices have no flags: they are synchronous, wake nothing and start active (struct dev_pm_info)
+abbrev pub Unflagged : List Device → Type 0
+Unflagged [] = Unit {0}
+Unflagged (d ∷ ds) = (d.flags.0 ≡ 0) × Unflagged ds
+
 -- an operation that a script may have today, beside n sources: read, save without a number, state with the text mem, a soft event without length
 abbrev pub IsGiven : ℕ → Op → Type 0
 IsGiven n Read = Unit {0}
@@ -60,6 +65,7 @@ pub record IsAccepted (m : Machine) : Type 0 where
   pub cycles : m.auto_cycles ≡ 16
   pub devices : length m.devices ≤ 1000
   pub parents : ParentsEarlier 0 m.devices
+  pub unflagged : Unflagged m.devices
   pub links : m.links ≡ []
   pub syscore : m.syscore ≡ []
   pub notifiers : m.notifiers ≡ []

@@ -1,5 +1,5 @@
 -- An attempt, stage by stage: what its maker does next (kernel/power/suspend.c, enter_state, suspend_devices_and_enter, suspend_enter).
-use Rattle.std.specs.Prelude.{ℕ, ◌+◌, Bool, true, false, nat_lt, nat_le, List, [], ◌∷◌, length, if◌then◌else◌, Option, Some, None, is_some}
+use Rattle.std.specs.Prelude.{ℕ, ◌+◌, Bool, true, false, nat_lt, nat_le, List, [], ◌∷◌, length, filter, if◌then◌else◌, Option, Some, None, is_some}
 use Rattle.sleep_base.specs.declared.errno.Errno.{Errno}
 use Rattle.sleep_base.specs.declared.errno.Errno.TheVariants.{EBUSY}
 use Rattle.sleep_model.specs.declared.word.EventNow.{EventNow}
@@ -155,11 +155,11 @@ abbrev pub or_next : Due → Due → Due
 or_next Gone next = next
 or_next due next = due
 
--- what the first of these stages that stands, and has anything left, makes (own)
-abbrev pub first_due : Rows → Machine → List Entry → EventNow → List Stage → Due
-first_due rows m past now [] = Gone
-first_due rows m past now (stage ∷ rest) = if rows stage then or_next (stage_due m past now stage) (first_due rows m past now rest) else first_due rows m past now rest
+-- what the first of these stages that has anything left makes (own)
+abbrev pub first_due : Machine → List Entry → EventNow → List Stage → Due
+first_due m past now [] = Gone
+first_due m past now (stage ∷ rest) = or_next (stage_due m past now stage) (first_due m past now rest)
 
 -- what the open attempt's maker makes next, by these rows of the table (enter_state)
 abbrev pub attempt_due : Rows → Machine → List Entry → EventNow → Due
-attempt_due rows m past now = first_due rows m past now (stages_left past)
+attempt_due rows m past now = first_due m past now (filter rows (stages_left past))

@@ -1,5 +1,5 @@
 -- Which calls on sources an actor makes, and when.
-use Rattle.std.specs.Prelude.{ℕ, zero, suc, ◌+◌, Bool, true, false, not, ◌&&◌, ◌||◌, List, [], ◌∷◌, length, if◌then◌else◌, Option, Some, None, slice_get}
+use Rattle.std.specs.Prelude.{ℕ, zero, suc, ◌+◌, Bool, true, false, not, ◌&&◌, ◌||◌, List, [], ◌∷◌, length, if◌then◌else◌, Option, Some, None, slice_get, slice_index_or}
 use Rattle.sleep_model.specs.declared.entry.Actor.{Actor}
 use Rattle.sleep_model.specs.declared.entry.Actor.TheVariants as actor
 use Rattle.sleep_model.specs.declared.entry.Entry.{Entry}
@@ -18,7 +18,7 @@ use Rattle.sleep_model.specs.Devices.{Callback, callback, Turn, Running, turn}
 use Rattle.sleep_model.specs.Parts.{Part, Notes, part_of}
 use Rattle.sleep_model.specs.Path.{attempts, maker, is_same, is_actor}
 use Rattle.sleep_model.specs.Scripts.{Piece, Calls, pieces}
-use Rattle.sleep_model.specs.Seats.{SeatPart, Reads, Steps, seat_part}
+use Rattle.sleep_model.specs.Seats.{seats, first_seat}
 use Rattle.sleep_model.specs.Sources.{history, owed, caller}
 
 -- ---- inside a call
@@ -50,17 +50,19 @@ abbrev pub calls : ℕ → List Entry → ℕ
 calls i [] = 0
 calls i (e ∷ past) = one_more (is_own_call i (part_of e.kind) e.actor (maker past)) (calls i past)
 
--- an entry that ends a turn of its script: a step's end, or the setting of autosleep within one (own)
-abbrev pub ends_turn : Kind → SeatPart → Bool
-ends_turn (kind.AutoSet state) part = true
-ends_turn k (Reads c) = true
-ends_turn k Steps = true
-ends_turn k _ = false
+-- the setting of autosleep, which a step has beside its end (pm_autosleep_set_state)
+abbrev pub is_setting : Kind → Bool
+is_setting (kind.AutoSet state) = true
+is_setting _ = false
 
--- how many turns of its own steps script i has ended (own)
-abbrev pub turns : ℕ → List Entry → ℕ
-turns i [] = 0
-turns i (e ∷ past) = one_more (is_same e.actor (actor.Script i) && ends_turn e.kind (seat_part e.kind)) (turns i past)
+-- how often script i has set autosleep (pm_autosleep_set_state)
+abbrev pub settings : ℕ → List Entry → ℕ
+settings i [] = 0
+settings i (e ∷ past) = one_more (is_setting e.kind && is_same e.actor (actor.Script i)) (settings i past)
+
+-- how many turns of its own steps script i has ended: its steps, and its settings of autosleep (own)
+abbrev pub turns : Machine → List Entry → ℕ → ℕ
+turns m past i = settings i past + (slice_index_or (seats (length m.actors) past) i first_seat).done
 
 -- a script's piece with that number (own)
 abbrev pub piece_at : ℕ → Option Script → ℕ → Option Piece
@@ -74,7 +76,7 @@ call_of _ = None
 
 -- the call that script i makes next by its own steps, where its next piece is one (own)
 abbrev pub step_call : Machine → List Entry → ℕ → Option Kind
-step_call m past i = call_of (piece_at (length m.sources) (slice_get m.actors i) (turns i past + calls i past))
+step_call m past i = call_of (piece_at (length m.sources) (slice_get m.actors i) (turns m past i + calls i past))
 
 -- ---- the reports of a callback
 

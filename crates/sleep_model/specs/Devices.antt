@@ -39,15 +39,15 @@ pub record Callback : Type 0 where
   pub device : ℕ
 
 -- the callback that the attempt's maker runs, after an entry, which is a device's own or not (dpm_run_callback)
-abbrev pub callback_after : Bool → Kind → Option Callback → Option Callback
-callback_after false (kind.Begin p d) before = Some (record { phase = p; device = d })
-callback_after false (kind.End p d r) before = None
-callback_after own _ before = before
+abbrev pub callback_after : Kind → Bool → Option Callback → Option Callback
+callback_after (kind.Begin p d) false before = Some (record { phase = p; device = d })
+callback_after (kind.End p d r) false before = None
+callback_after _ own before = before
 
 -- the callback that the attempt's maker runs, if one (dpm_run_callback)
 abbrev pub callback : List Entry → Option Callback
 callback [] = None
-callback (e ∷ past) = callback_after (is_device e.actor) e.kind (callback past)
+callback (e ∷ past) = callback_after e.kind (is_device e.actor) (callback past)
 
 -- where an asynchronous device stands: not scheduled, scheduled, inside its callback (__device_suspend, async_schedule_dev)
 pub data Turn : Type 0 where
@@ -56,17 +56,17 @@ pub data Turn : Type 0 where
   Running : (p : Phase) → Turn
 
 -- where device d stands, after an entry of its own or another's (async_schedule_dev, dpm_run_callback)
-abbrev pub turn_after : ℕ → Bool → Kind → Turn → Turn
-turn_after d own (kind.Schedule p e) before = if e == d then Scheduled p else before
-turn_after d true (kind.Begin p e) before = if e == d then Running p else before
-turn_after d true (kind.End p e r) before = if e == d then Idle else before
-turn_after d true (kind.Skip p e cause) before = if e == d then Idle else before
-turn_after d own _ before = before
+abbrev pub turn_after : Kind → ℕ → Bool → Turn → Turn
+turn_after (kind.Schedule p e) d own before = if e == d then Scheduled p else before
+turn_after (kind.Begin p e) d true before = if e == d then Running p else before
+turn_after (kind.End p e r) d true before = if e == d then Idle else before
+turn_after (kind.Skip p e cause) d true before = if e == d then Idle else before
+turn_after _ d own before = before
 
 -- where asynchronous device d stands (async_schedule_dev)
 abbrev pub turn : ℕ → List Entry → Turn
 turn d [] = Idle
-turn d (e ∷ past) = turn_after d (is_device e.actor) e.kind (turn d past)
+turn d (e ∷ past) = turn_after e.kind d (is_device e.actor) (turn d past)
 
 -- what the machine answers for a device in that phase of the open attempt
 abbrev pub device_error : Machine → List Entry → Phase → ℕ → Option Errno
@@ -86,16 +86,16 @@ abbrev pub given : List Entry → List ℕ
 given [] = []
 given (e ∷ past) = given_after e.kind (given past)
 
--- the devices that are through with the phase, after an entry (complete_all of power.completion)
+-- the devices that are through with prepare or a phase on the way down, after an entry (complete_all of power.completion)
 abbrev pub through_after : Kind → List ℕ → List ℕ
 through_after (kind.Attempt n guarded) before = []
 through_after (kind.Done p r) before = []
 through_after (kind.Prepare d r) before = d ∷ before
-through_after (kind.End p d r) before = d ∷ before
+through_after (kind.End p d r) before = if is_down p then d ∷ before else before
 through_after (kind.Skip p d cause) before = d ∷ before
 through_after _ before = before
 
--- the devices that have ended, or were skipped, in the phase that is open, the last first (power.completion)
+-- the devices that were prepared, have ended or were skipped in the phase on the way down that is open, the last first (power.completion)
 abbrev pub through : List Entry → List ℕ
 through [] = []
 through (e ∷ past) = through_after e.kind (through past)
@@ -126,16 +126,16 @@ stretch_error [] = None
 stretch_error (e ∷ past) = stretch_error_after e.kind (stretch_error past)
 
 -- the error of a synchronous device's callback, after an entry, which is a device's own or not (dpm_suspend, error)
-abbrev pub own_error_after : Bool → Kind → Option Errno → Option Errno
-own_error_after own (kind.Attempt n guarded) before = None
-own_error_after own (kind.Done p r) before = None
-own_error_after false (kind.End p d (Some r)) before = if is_down p then Some r else before
-own_error_after own _ before = before
+abbrev pub own_error_after : Kind → Bool → Option Errno → Option Errno
+own_error_after (kind.Attempt n guarded) own before = None
+own_error_after (kind.Done p r) own before = None
+own_error_after (kind.End p d (Some r)) false before = if is_down p then Some r else before
+own_error_after _ own before = before
 
 -- the error of a synchronous device's callback in the phase that is open (dpm_suspend, error)
 abbrev pub own_error : List Entry → Option Errno
 own_error [] = None
-own_error (e ∷ past) = own_error_after (is_device e.actor) e.kind (own_error past)
+own_error (e ∷ past) = own_error_after e.kind (is_device e.actor) (own_error past)
 
 -- what a phase on the way down answers: a synchronous callback's error, else the last that was set (dpm_suspend)
 abbrev pub phase_error : List Entry → Option Errno
@@ -234,7 +234,7 @@ waits_given past = first_where (λ e. not (is_among (through past) e)) (given pa
 
 -- the device that the walk down takes next: the last that is neither through nor scheduled (dpm_suspend)
 abbrev pub next_down : Machine → List Entry → Option ℕ
-next_down m past = last_where (λ d. not (is_among (through past) d || is_among (given past) d)) (order m)
+next_down m past = last_where (λ d. not (is_among (given past) d || is_among (through past) d)) (order m)
 
 -- the walk down at that device: an asynchronous one is scheduled, another waits for all below it (__device_suspend, dpm_async_fn)
 abbrev pub take_down : Machine → List Entry → EventNow → Phase → ℕ → Due
@@ -259,7 +259,7 @@ unless_failed (Some r) p d next = kind.Skip p d skip.Error
 
 -- d is not yet up in the mirror of that phase: it is owed its callback, or is inside it (dpm_wait_for_superior)
 abbrev pub is_coming_up : Phase → List Entry → ℕ → Bool
-is_coming_up down past d = is_among (gone_down down past) d || is_among (running past) d
+is_coming_up down past d = is_among (running past) d || is_among (gone_down down past) d
 
 -- the first device above d that is not yet up (dpm_wait_for_superior)
 abbrev pub waits_above : Machine → List Entry → Phase → ℕ → Option ℕ

@@ -131,7 +131,7 @@ pending_nap past = if sleeps_now past then None else naps_until (work past)
 
 -- the least pending time of the journal alone, in ms (own)
 abbrev pub journal_time : Machine → List Entry → Option ℕ
-journal_time m past = sooner (sooner (alarm_at m (sleep_of past)) (deadline_at (freezing past))) (sooner (pending_nap past) (next_sleep m past (length m.actors)))
+journal_time m past = sooner (alarm_at m (sleep_of past)) (sooner (deadline_at (freezing past)) (sooner (pending_nap past) (next_sleep m past (length m.actors))))
 
 -- the least pending time, in ms (own)
 abbrev pub next_time : Machine → List Entry → Option ℕ
