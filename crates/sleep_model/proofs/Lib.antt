@@ -20,6 +20,7 @@ pub mod ShortPath
 pub mod ShortWalk
 pub mod Simple
 pub mod Soft
+pub mod Stages
 pub mod Tails
 pub mod Walking
 pub mod Walks
