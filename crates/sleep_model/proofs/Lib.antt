@@ -22,5 +22,6 @@ pub mod Simple
 pub mod Soft
 pub mod Stages
 pub mod Tails
+pub mod Today
 pub mod Walking
 pub mod Walks
