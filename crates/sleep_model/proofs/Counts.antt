@@ -38,7 +38,7 @@ suspended_few [] = omega arith
 suspended_few (e ∷ past) = omega (arith, suspended_step e.kind (suspended past), suspended_few past)
 
 -- what is read after a write: the new seat where it was written, else the old one
-set_read : (ss : List Seat) (i j : ℕ) (v : Seat) → ((i ≡ j) × (slice_index_or (slice_set ss i v) j first_seat ≡ v)) ⊎ (slice_index_or (slice_set ss i v) j first_seat ≡ slice_index_or ss j first_seat)
+pub set_read : (ss : List Seat) (i j : ℕ) (v : Seat) → ((i ≡ j) × (slice_index_or (slice_set ss i v) j first_seat ≡ v)) ⊎ (slice_index_or (slice_set ss i v) j first_seat ≡ slice_index_or ss j first_seat)
 set_read [] i j v = inr refl
 set_read (x ∷ xs) zero zero v = inl (refl, refl)
 set_read (x ∷ xs) zero (suc j) v = inr refl

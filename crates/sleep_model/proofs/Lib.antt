@@ -1,3 +1,4 @@
+pub mod Callers
 pub mod Calling
 pub mod Counts
 pub mod Dependents
