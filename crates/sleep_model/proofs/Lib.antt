@@ -7,6 +7,7 @@ pub mod Guarded
 pub mod Idling
 pub mod Journaled
 pub mod Lawful
+pub mod Legality
 pub mod Made
 pub mod Operations
 pub mod Ordering

@@ -81,7 +81,7 @@ script_first m past now i k (OwnStep h) made = ap actor.Script h.0
 script_first m past now i k (OnPath h) made = ap actor.Script h.0
 
 -- who makes an entry of the journal is the writer
-made_by : (m : Machine) → HasWriter m → (past : List Entry) → AllPlain past → Facts m past → (now : EventNow) (a : Actor) (k : Kind) → due m past a now ≡ Makes k → a ≡ actor.Script 0
+pub made_by : (m : Machine) → HasWriter m → (past : List Entry) → AllPlain past → Facts m past → (now : EventNow) (a : Actor) (k : Kind) → due m past a now ≡ Makes k → a ≡ actor.Script 0
 made_by m acc past plain w now (actor.Script i) k e = script_first m past now i k (due_case m acc past plain now i w) e
 made_by m acc past plain w now actor.Auto k e = absurd (cc)
 made_by m acc past plain w now (actor.Dev d) k e = absurd (cc)
