@@ -6,6 +6,7 @@ pub mod Growing
 pub mod Guarded
 pub mod Idling
 pub mod Journaled
+pub mod Keeping
 pub mod Lawful
 pub mod Legality
 pub mod Made

@@ -47,7 +47,7 @@ asked_step i task who (kind.Freeze g) b e = absurd (true≢false (sym e))
 asked_step i task who (kind.Thaw t) b e = absurd (true≢false (sym e))
 asked_step i task who _ b e = refl
 
-not_asked : (past : List Entry) → AllPlain past → (i : ℕ) (task : TaskKind) → is_asked i task past ≡ false
+pub not_asked : (past : List Entry) → AllPlain past → (i : ℕ) (task : TaskKind) → is_asked i task past ≡ false
 not_asked [] h i task = refl
 not_asked (e ∷ past) h i task = asked_step i task e.actor e.kind (is_asked i task past) h.0 ∙ not_asked past h.1 i task
 
@@ -57,7 +57,7 @@ frozen_step i task who (kind.Freeze g) b e = absurd (true≢false (sym e))
 frozen_step i task who (kind.Thaw t) b e = absurd (true≢false (sym e))
 frozen_step i task who _ b e = refl
 
-not_frozen : (past : List Entry) → AllPlain past → (i : ℕ) (task : TaskKind) → is_frozen i task past ≡ false
+pub not_frozen : (past : List Entry) → AllPlain past → (i : ℕ) (task : TaskKind) → is_frozen i task past ≡ false
 not_frozen [] h i task = refl
 not_frozen (e ∷ past) h i task = frozen_step i task e.actor e.kind (is_frozen i task past) h.0 ∙ not_frozen past h.1 i task
 

@@ -197,7 +197,7 @@ down_is m acc past now b None i e =
     (ap₂ (walk_down m past now phase.Suspend) b.error_is (down_next m past b) ∙ walk_is m acc past now b (error_of past) (next_down m past) refl refl)
 
 -- no callback runs where the short form says so
-none_runs : (past : List Entry) → IsAtStage past → inside past ≡ None → running past ≡ []
+pub none_runs : (past : List Entry) → IsAtStage past → inside past ≡ None → running past ≡ []
 none_runs past g e = g.running_are ∙ ap option_to_list e
 
 up_next : (m : Machine) → IsAccepted m → (past : List Entry) → IsBare past → devices.next_up m past phase.Suspend ≡ next_up m past
