@@ -1,5 +1,5 @@
 -- The calls that actors make today, by the whole definitions and by the short form.
-use Rattle.std.proofs.Common.{Bool, List, None, Option, Some, [], ap, ap₂, arith, cond, false, flat_map, get_or, inl, inr, length, option_and_then, refl, slice_get, slice_index_or, slice_set, subst, suc, sym, true, true≢false, zero, ℕ, ◌&&◌, ◌++◌, ◌+◌, ◌==◌, ◌||◌, ◌∙◌, ◌∷◌, ◌≡◌}
+use Rattle.std.proofs.Common.{is_none, Bool, List, None, Option, Some, [], ap, ap₂, arith, cond, false, flat_map, get_or, inl, inr, length, option_and_then, refl, slice_get, slice_index_or, slice_set, subst, suc, sym, true, true≢false, zero, ℕ, ◌&&◌, ◌++◌, ◌+◌, ◌==◌, ◌||◌, ◌∙◌, ◌∷◌, ◌≡◌}
 use Rattle.sleep_base.specs.declared.errno.Errno.{Errno}
 use Rattle.sleep_model.specs.declared.entry.Kind.{Kind}
 use Rattle.sleep_model.specs.declared.entry.Actor.{Actor}
@@ -17,12 +17,12 @@ use Rattle.sleep_model.specs.declared.place.Row.TheVariants as row
 use Rattle.sleep_model.specs.declared.machine.What.TheVariants as what
 use Rattle.sleep_model.specs.declared.machine.Op.TheVariants as op
 use Rattle.sleep_model.specs.declared.machine.SourceCall.TheVariants as call
-use Rattle.sleep_model.proofs.ShortCalls.{calls, calls_after, is_calling, is_left, is_script, next_note, operation_at}
+use Rattle.sleep_model.proofs.ShortCalls.{calls_before, script_calls_before, calls_due, calls, calls_after, is_calling, is_left, is_script, next_note, operation_at}
 use Rattle.sleep_model.proofs.ShortLegal.{IsOwnCall, IsOwnTurn, JointPart, JointStep, JournalPart, JournalStep}
 use Rattle.sleep_model.proofs.ShortPath.{row_of}
 use Rattle.sleep_model.specs.Accepted.{HasWriter, IsAccepted, IsGiven, IsOneWriter}
 use Rattle.sleep_model.specs.Answers.{answer_reports}
-use Rattle.sleep_model.specs.Calls.{settings, call_of, is_own_call, maker_report, next_call, note, note_if, one_more, piece_at, reported, step_call}
+use Rattle.sleep_model.specs.Calls.{pieces_if, settings, call_of, is_own_call, maker_report, next_call, note, note_if, one_more, piece_at, reported, step_call}
 use Rattle.sleep_model.specs.Devices.{Callback, callback}
 use Rattle.sleep_model.specs.Guard.{in_force}
 use Rattle.sleep_model.specs.Parts.{Moves, Notes, OfJournal, OfTime, Part, part_of}
@@ -275,6 +275,36 @@ script_pieces d n source [] h i k = absurd h
 script_pieces d n source (s ∷ []) h zero k = ops_pieces n source (operations s) (operation_given d n s h) k
 script_pieces d n source (s ∷ []) h (suc i) k = refl
 script_pieces d n source (s ∷ t ∷ rest) h i k = absurd h
+
+-- how many calls stand before a turn, by pieces and by operations
+before_first : (note : Option Kind) (rest : List Piece) (x : ℕ) → calls.calls_before rest 0 ≡ x → calls.calls_before (call_or_turn note ++ rest) 0 ≡ cond (is_none note) 0 (x + 1)
+before_first None rest x e = refl
+before_first (Some k) rest x e = ap (λ n. n + 1) e
+
+before_later : (note : Option Kind) (rest : List Piece) (k x y : ℕ) → calls.calls_before rest k ≡ x → calls.calls_before rest (suc k) ≡ y → calls.calls_before (call_or_turn note ++ rest) (suc k) ≡ cond (is_none note) x (y + 1)
+before_later None rest k x y e f = e
+before_later (Some n) rest k x y e f = ap (λ n. n + 1) f
+
+ops_before : (n source : ℕ) (ops : List Op) → ((k : ℕ) → GivenIf n (slice_get ops k)) → (k : ℕ) → calls.calls_before (flat_map (pieces_of source) ops) k ≡ calls_before ops k
+ops_before n source [] h k = refl
+ops_before n source (op ∷ ops) h zero =
+    ap (λ (ps : List Piece). calls.calls_before (ps ++ flat_map (pieces_of source) ops) 0) (given_piece n source op (h 0))
+    ∙ before_first (note_of op) (flat_map (pieces_of source) ops) (calls_before ops 0) (ops_before n source ops (λ j. h (suc j)) 0)
+ops_before n source (op ∷ ops) h (suc k) =
+    ap (λ (ps : List Piece). calls.calls_before (ps ++ flat_map (pieces_of source) ops) (suc k)) (given_piece n source op (h 0))
+    ∙ before_later (note_of op) (flat_map (pieces_of source) ops) k (calls_before ops k) (calls_before ops (suc k)) (ops_before n source ops (λ j. h (suc j)) k) (ops_before n source ops (λ j. h (suc j)) (suc k))
+
+script_before : (d n source : ℕ) (ss : List Script) → IsOneWriter d n ss → (i k : ℕ) → calls.calls_before (pieces_if source (slice_get ss i)) k ≡ script_calls_before (slice_get ss i) k
+script_before d n source [] h i k = absurd h
+script_before d n source (s ∷ []) h zero k = ops_before n source (operations s) (operation_given d n s h) k
+script_before d n source (s ∷ []) h (suc i) k = refl
+script_before d n source (s ∷ t ∷ rest) h i k = absurd h
+
+pub calls_due_is : (m : Machine) → HasWriter m → (past : List Entry) → IsBare past → (i : ℕ) → calls.calls_due m past i ≡ calls_due m past i
+calls_due_is m acc past b i =
+    let place = (slice_index_or (seats (length m.actors) past) i first_seat).done in
+    let same : settings i past + place ≡ place = omega (arith, b.no_settings i) in
+    ap (calls.calls_before (pieces_if (length m.sources) (slice_get m.actors i))) same ∙ script_before (length m.devices) (length m.sources) (length m.sources) m.actors acc i place
 
 -- ---- the next call
 

@@ -17,7 +17,7 @@ use Rattle.sleep_model.specs.Answers.{answer, answer_reports}
 use Rattle.sleep_model.specs.Devices.{Callback, callback, Turn, Running, turn}
 use Rattle.sleep_model.specs.Parts.{Part, Notes, part_of}
 use Rattle.sleep_model.specs.Path.{attempts, maker, is_same, is_actor}
-use Rattle.sleep_model.specs.Scripts.{Piece, Calls, pieces}
+use Rattle.sleep_model.specs.Scripts.{Piece, Calls, Turns, pieces}
 use Rattle.sleep_model.specs.Seats.{seats, first_seat}
 use Rattle.sleep_model.specs.Sources.{history, owed, caller}
 
@@ -77,6 +77,22 @@ call_of _ = None
 -- the call that script i makes next by its own steps, where its next piece is one (own)
 abbrev pub step_call : Machine → List Entry → ℕ → Option Kind
 step_call m past i = call_of (piece_at (length m.sources) (slice_get m.actors i) (turns m past i + calls i past))
+
+-- how many calls stand before the turn with number k, from 0, or before the end (own)
+abbrev pub calls_before : List Piece → ℕ → ℕ
+calls_before [] k = 0
+calls_before (Calls note ∷ rest) k = calls_before rest k + 1
+calls_before (Turns ∷ rest) zero = 0
+calls_before (Turns ∷ rest) (suc k) = calls_before rest k
+
+-- the pieces of a script, if there is one (own)
+abbrev pub pieces_if : ℕ → Option Script → List Piece
+pieces_if source None = []
+pieces_if source (Some s) = pieces source s
+
+-- how many calls script i has to have made by its own steps before its next turn (own)
+abbrev pub calls_due : Machine → List Entry → ℕ → ℕ
+calls_due m past i = calls_before (pieces_if (length m.sources) (slice_get m.actors i)) (turns m past i)
 
 -- ---- the reports of a callback
 
