@@ -6,3 +6,4 @@ pub mod Rooms
 pub mod Seating
 pub mod Small
 pub mod Turning
+pub mod Wholly

@@ -12,9 +12,10 @@ use Rattle.sleep_model.specs.declared.word.EventNow.{EventNow}
 use Rattle.sleep_model.specs.declared.word.Stamp.{Stamp}
 use Rattle.sleep_model.specs.Word.{position}
 use Rattle.sleep_model.specs.Numbers.{time_of}
-use Rattle.sleep_model.proofs.ShortPath.{attempts, maker}
-use Rattle.sleep_model.proofs.ShortCalls as script
-use Rattle.sleep_model.proofs.ShortDue.{due}
+use Rattle.sleep_model.specs.Path.{attempts, maker}
+use Rattle.sleep_model.specs.Calls as script
+use Rattle.sleep_model.specs.Due.{due}
+use Rattle.sleep_model.specs.Table.{built_rows}
 use Rattle.sleep_core.specs.Places.{entries}
 use Rattle.sleep_core.specs.Histories.{last_stamp}
 use Rattle.sleep_core.specs.declared.turns.CoreTurn.{CoreTurn}
@@ -54,12 +55,12 @@ with_entry core j = record core { past = j ∷ core.past }
 -- a turn of an actor that saw this word makes what is due, or says why not; want of memory comes outside attempts alone
 abbrev pub AfterTurn : CoreState → CoreState → Actor → EventNow → Stamp → Result CoreTurn CoreFault → Type 0
 AfterTurn old new who word floor (Ok (Did stamp kind attempt)) =
-    (due old.machine (entries old.past) who word ≡ Makes kind)
+    (due built_rows old.machine (entries old.past) who word ≡ Makes kind)
     × (new ≡ with_entry old (made_entry old.past who word floor kind))
     × (stamp ≡ next_stamp old.past floor word)
     × (attempt ≡ attempts (entries new.past))
-AfterTurn old new who word floor (Ok (NotYet why)) = (due old.machine (entries old.past) who word ≡ Waits why) × (new ≡ old)
-AfterTurn old new who word floor (Ok Done) = (due old.machine (entries old.past) who word ≡ Gone) × (new ≡ old)
+AfterTurn old new who word floor (Ok (NotYet why)) = (due built_rows old.machine (entries old.past) who word ≡ Waits why) × (new ≡ old)
+AfterTurn old new who word floor (Ok Done) = (due built_rows old.machine (entries old.past) who word ≡ Gone) × (new ≡ old)
 AfterTurn old new who word floor (Err fault) = (maker (entries old.past) ≡ None) × (new ≡ old)
 
 -- the entry of a jump to that time

@@ -45,7 +45,7 @@ impl History {
     ghost use Rattle.sleep_model.specs.Numbers.{time_of};
     ghost use Rattle.sleep_model.specs.Guard.{in_force, forgotten};
     ghost use Rattle.sleep_model.proofs.ShortLegal.{all_exited};
-    ghost use Rattle.sleep_model.proofs.ShortPath.{attempts, maker, row_of, failure};
+    ghost use Rattle.sleep_model.proofs.ShortPath.{attempts, maker, row_of, is_asleep, failure};
     ghost use Rattle.sleep_model.proofs.ShortWalk.{inside, error_of, settled, suspended};
     ghost use Rattle.sleep_model.specs.Seats.{seats, first_seat};
     ghost use Rattle.sleep_core.specs.Places.{entries};
@@ -168,6 +168,13 @@ impl History {
         ensures { result ≡ row_of (entries self.now.past) }
     {
         self.row
+    }
+
+    /// Whether the machine sleeps.
+    pub fn is_asleep(&self) -> bool
+        ensures { result ≡ is_asleep (row_of (entries self.now.past)) }
+    {
+        matches!(self.row, Row::Asleep { .. })
     }
 
     /// The error of the open attempt's step that failed.

@@ -101,11 +101,17 @@ impl<'m> Core<'m> {
     ghost use Rattle.sleep_model.specs.declared.place.Due.TheVariants.{Makes};
     ghost use Rattle.sleep_model.specs.declared.word.EventNow.{EventNow};
     ghost use Rattle.sleep_model.specs.Accepted.{IsAccepted};
+    ghost use Rattle.sleep_model.proofs.ShortCalls as calls;
     ghost use Rattle.sleep_model.proofs.ShortCalls.{is_script};
-    ghost use Rattle.sleep_model.proofs.ShortDue.{due, seat_due, path_due, suspend_due, resume_due, wake_due};
+    ghost use Rattle.sleep_model.specs.Due.{due};
+    ghost use Rattle.sleep_model.specs.Table.{built_rows};
+    ghost use Rattle.sleep_model.proofs.ShortDue as short;
+    ghost use Rattle.sleep_model.proofs.ShortDue.{seat_due, path_due, suspend_due, resume_due, wake_due};
     ghost use Rattle.sleep_model.specs.Guard.{pending};
     ghost use Rattle.sleep_model.proofs.Plain.{plain_step};
-    ghost use Rattle.sleep_model.proofs.ShortLegal.{JournalPart, alarm_at, journal_time, is_made, all_exited};
+    ghost use Rattle.sleep_model.specs.Legal.{JournalPart, journal_time, is_made};
+    ghost use Rattle.sleep_model.proofs.ShortLegal.{alarm_at};
+    ghost use Rattle.sleep_model.specs.Seats.{all_exited};
     ghost use Rattle.sleep_model.specs.Numbers.{time_of};
     ghost use Rattle.sleep_model.proofs.ShortPath.{maker, row_of};
     ghost use Rattle.sleep_model.specs.Seats.{seats, first_seat};
@@ -268,10 +274,20 @@ impl<'m> Core<'m> {
         steps::is_script(script, self.history.maker())
     }
 
-    /// What is due of an actor that sees this word.
+    /// What is due of an actor that sees this word, by the rows that are built.
     fn due(&self, who: Actor, now: EventNow) -> Due
         requires { IsActor self.now.machine who }
-        ensures { result ≡ due self.now.machine (entries self.now.past) who now }
+        ensures { result ≡ due built_rows self.now.machine (entries self.now.past) who now }
+    {
+        // A look at the field makes the invariant known here: the journal is today's.
+        let _ = &self.history;
+        self.today_due(who, now)
+    }
+
+    /// The same, on the short path that today's rows are.
+    fn today_due(&self, who: Actor, now: EventNow) -> Due
+        requires { IsActor self.now.machine who }
+        ensures { result ≡ short.due self.now.machine (entries self.now.past) who now }
     {
         match who {
             Actor::Script(script) => {
@@ -281,6 +297,7 @@ impl<'m> Core<'m> {
                     self.seat_due(script, now)
                 }
             }
+            Actor::Auto if self.history.is_asleep() => Due::Waits(Why::Asleep),
             Actor::Auto => Due::Waits(Why::NoWork),
             Actor::Dev(_) => Due::Waits(Why::NotScheduled),
             Actor::Timer(_) | Actor::Time => Due::Gone,
@@ -289,7 +306,7 @@ impl<'m> Core<'m> {
 
     /// Makes the entry that is due. `Mem` where there is no memory for it, outside attempts alone.
     fn make(&mut self, who: Actor, now: EventNow, kind: Kind, stamp: Stamp) -> Result<(), CoreFault>
-        requires { due self.old.machine (entries self.old.past) who now ≡ Makes kind }
+        requires { due built_rows self.old.machine (entries self.old.past) who now ≡ Makes kind }
         ensures ok { OnOk result (self.new ≡ with_entry self.old (record {
           stamp = stamp;
           entry = record { time = time_of (entries self.old.past); now = now; actor = who; kind = kind };
@@ -369,7 +386,7 @@ impl<'m> Core<'m> {
         ensures tells { E.tells events.new ≡ E.tells events.old }
         ensures root { E.root events.new ≡ E.root events.old }
         ensures floor { (last_stamp self.new.past).pos ≤ E.floor events.new }
-        ensures legal { JournalPart self.new.machine (entries self.new.past) }
+        ensures legal { JournalPart built_rows self.new.machine (entries self.new.past) }
     {
         let _ = (calls, now);
         let word = look_from(rt, events, floor.pos);
@@ -392,7 +409,7 @@ impl<'m> Core<'m> {
         ensures ok { IfOk result (λ stamp. (stamp ≡ next_stamp self.old.past floor seen)
             × (self.new ≡ with_entry self.old (jump_entry self.old.past seen to floor))) }
         ensures err { OnErr result (self.new ≡ self.old) }
-        ensures legal { JournalPart self.new.machine (entries self.new.past) }
+        ensures legal { JournalPart built_rows self.new.machine (entries self.new.past) }
     {
         let stamp = Stamp {
             pos: pos(seen),
@@ -416,13 +433,21 @@ impl<'m> Core<'m> {
         requires { IsActor self.now.machine who }
         ensures { result ≡ calls_due self.now.machine (entries self.now.past) who }
     {
+        // A look at the field makes the invariant known here: the journal is today's.
+        let _ = &self.history;
         match who {
-            Actor::Script(script) => {
-                let seat = self.history.seat(script);
-                self.plans[script as usize].calls_before(seat.done)
-            }
+            Actor::Script(script) => self.script_calls_due(script),
             _ => 0,
         }
+    }
+
+    /// How many source calls a script has to have made before its next journal entry, by its plan.
+    fn script_calls_due(&self, script: u32) -> u32
+        requires { script < length self.now.machine.actors }
+        ensures { result ≡ calls.calls_due self.now.machine (entries self.now.past) script }
+    {
+        let seat = self.history.seat(script);
+        self.plans[script as usize].calls_before(seat.done)
     }
 
     /// Whether the actor, which has made so many source calls, can make an entry that sees this word,
@@ -431,7 +456,7 @@ impl<'m> Core<'m> {
         requires actor { IsActor self.now.machine who }
         requires time { time ≡ time_of (entries self.now.past) }
         ensures { result ≡ (nat_lt calls (calls_due self.now.machine (entries self.now.past) who)
-            || is_made (due self.now.machine (entries self.now.past) who now)) }
+            || is_made (due built_rows self.now.machine (entries self.now.past) who now)) }
     {
         let _ = time;
         calls < self.calls_due(who) || matches!(self.due(who, now), Due::Makes(_))
