@@ -42,6 +42,16 @@ use Rattle.sleep_main.specs.Meters.{meter_of, meters_of}
 use Rattle.sleep_main.specs.Runs.{IsMomentary, IsRunning, IsRun, with_report, reports_of, first_steps, first_operations, first_done}
 use Rattle.sleep_main.proofs.Meters.{IsSmall, meter_small, meter_here, meters_len, after_event, meters_event, meters_kept}
 use Rattle.sleep_main.proofs.Writers.{own_turn, due_is, next_call, plan_on}
+use Rattle.sleep_model.specs.Due as whole
+use Rattle.sleep_model.specs.Calls as whole_calls
+use Rattle.sleep_model.specs.Legal as whole_legal
+use Rattle.sleep_model.specs.Table.{built_rows}
+use Rattle.sleep_model.proofs.Callers.{calls_due_is}
+use Rattle.sleep_model.proofs.Journaled.{journal_legal}
+use Rattle.sleep_model.proofs.Keeping.{laws_kept}
+use Rattle.sleep_model.proofs.Legality.{legal_of, over_is, known_of, time_is}
+use Rattle.sleep_model.proofs.Today as today
+use Rattle.sleep_model.proofs.Today.{IsToday, today_of}
 
 none_done : (n : ℕ) → (slice_index_or (seats n []) 0 first_seat).done ≡ 0
 none_done zero = refl
@@ -172,22 +182,29 @@ three_more xs a b c = reverse-append xs (a ∷ b ∷ c ∷ [])
 
 -- ---- an entry of the journal
 
+-- the core's journal is legal by the short path
+core_legal : (m : Machine) (past : List Entry) (core : CoreState) (word : EventNow) (reports : List ℕ) (made : ℕ) (meters : List Meter) (floor : Stamp) → IsRunning m past core word reports made meters floor → IsToday m (journal past)
+core_legal m past core word reports made meters floor r = today_of m r.accepted.writer (journal past) (journal_legal m past r.legal.journal)
+
 -- what is due by the core's journal is due by all entries
 due_joint : (m : Machine) (past : List Entry) (core : CoreState) (word : EventNow) (reports : List ℕ) (made : ℕ) (meters : List Meter) (floor : Stamp) → IsRunning m past core word reports made meters floor → (now : EventNow) (d : Due)
-    → due core.machine (entries core.past) (actor.Script 0) now ≡ d → due m past (actor.Script 0) now ≡ d
+    → whole.due built_rows core.machine (entries core.past) (actor.Script 0) now ≡ d → due m past (actor.Script 0) now ≡ d
 due_joint m past core word reports made meters floor r now d e =
     sym (due_same m (journal past) past (journal_alike past) (actor.Script 0) now)
-    ∙ (ap (λ (xs : List Entry). due m xs (actor.Script 0) now) (sym r.journal_is) ∙ (ap (λ (x : Machine). due x (entries core.past) (actor.Script 0) now) (sym r.machine_is) ∙ e))
+    ∙ (sym (today.due_is m r.accepted (journal past) (core_legal m past core word reports made meters floor r) (actor.Script 0) now)
+    ∙ (ap (λ (xs : List Entry). whole.due built_rows m xs (actor.Script 0) now) (sym r.journal_is) ∙ (ap (λ (x : Machine). whole.due built_rows x (entries core.past) (actor.Script 0) now) (sym r.machine_is) ∙ e)))
 
 -- the core's time is that of all entries
 pub time_joint : (m : Machine) (past : List Entry) (core : CoreState) (word : EventNow) (reports : List ℕ) (made : ℕ) (meters : List Meter) (floor : Stamp) → IsRunning m past core word reports made meters floor → time_of (entries core.past) ≡ time_of past
 time_joint m past core word reports made meters floor r = ap time_of r.journal_is ∙ (journal_alike past).time_is
 
 -- the calls that are due by the core's journal are due by all entries
-pub calls_joint : (m : Machine) (past : List Entry) (core : CoreState) (word : EventNow) (reports : List ℕ) (made : ℕ) (meters : List Meter) (floor : Stamp) → IsRunning m past core word reports made meters floor → calls_due core.machine (entries core.past) 0 ≡ calls_due m past 0
+pub calls_joint : (m : Machine) (past : List Entry) (core : CoreState) (word : EventNow) (reports : List ℕ) (made : ℕ) (meters : List Meter) (floor : Stamp) → IsRunning m past core word reports made meters floor → whole_calls.calls_due core.machine (entries core.past) 0 ≡ calls_due m past 0
 calls_joint m past core word reports made meters floor r =
-    ap (λ (x : Machine). calls_due x (entries core.past) 0) r.machine_is
-    ∙ (ap (λ (xs : List Entry). calls_due m xs 0) r.journal_is ∙ ap (λ ss. script_calls_before (slice_get m.actors 0) (slice_index_or ss 0 first_seat).done) ((journal_alike past).seats_are (length m.actors)))
+    ap (λ (x : Machine). whole_calls.calls_due x (entries core.past) 0) r.machine_is
+    ∙ (ap (λ (xs : List Entry). whole_calls.calls_due m xs 0) r.journal_is
+    ∙ (calls_due_is m r.accepted.writer (journal past) (core_legal m past core word reports made meters floor r).bare 0
+    ∙ ap (λ ss. script_calls_before (slice_get m.actors 0) (slice_index_or ss 0 first_seat).done) ((journal_alike past).seats_are (length m.actors))))
 
 -- the journal gains the entry
 journal_more : (e : Entry) (past : List Entry) → is_kept (part_of e.kind) ≡ true → journal (e ∷ past) ≡ e ∷ journal past
@@ -198,7 +215,7 @@ no_call e past h = ap (λ (p : Part). calls_after 0 p e.actor (calls 0 past)) h
 
 -- after an entry of the writer the run goes on
 pub running_entry : (m : Machine) (past : List Entry) (core new : CoreState) (word : EventNow) (reports : List ℕ) (made : ℕ) (meters : List Meter) (floor stamp : Stamp) (time : ℕ) (k : Kind)
-    → IsRunning m past core word reports made meters floor → calls 0 past ≡ calls_due m past 0 → time ≡ time_of past → due core.machine (entries core.past) (actor.Script 0) word ≡ Makes k
+    → IsRunning m past core word reports made meters floor → calls 0 past ≡ calls_due m past 0 → time ≡ time_of past → whole.due built_rows core.machine (entries core.past) (actor.Script 0) word ≡ Makes k
     → new ≡ with_entry core (made_entry core.past (actor.Script 0) word floor k) → stamp ≡ next_stamp core.past floor word
     → IsRunning m (record { time = time; now = word; actor = actor.Script 0; kind = k } ∷ past) new word reports made meters stamp
 running_entry m past core new word reports made meters floor stamp time k r calls_made at is e s =
@@ -240,17 +257,19 @@ quiet_journal m past None q = sym (quiet_waits past q (length m.sources + 1))
 quiet_journal m past (Some at) q = sym (ap (sooner (Some at)) (quiet_waits past q (length m.sources + 1)))
 
 -- the core's next moment is that of all entries
-next_joint : (m : Machine) (past : List Entry) (core : CoreState) (word : EventNow) (reports : List ℕ) (made : ℕ) (meters : List Meter) (floor : Stamp) → IsRunning m past core word reports made meters floor → journal_time core.machine (entries core.past) ≡ next_time m past
+next_joint : (m : Machine) (past : List Entry) (core : CoreState) (word : EventNow) (reports : List ℕ) (made : ℕ) (meters : List Meter) (floor : Stamp) → IsRunning m past core word reports made meters floor → whole_legal.journal_time core.machine (entries core.past) ≡ next_time m past
 next_joint m past core word reports made meters floor r =
-    ap (λ (x : Machine). journal_time x (entries core.past)) r.machine_is
-    ∙ (ap (λ (xs : List Entry). journal_time m xs) r.journal_is ∙ (time_same m (journal past) past (journal_alike past) ∙ quiet_journal m past (journal_time m past) r.quiet))
+    ap (λ (x : Machine). whole_legal.journal_time x (entries core.past)) r.machine_is
+    ∙ (ap (λ (xs : List Entry). whole_legal.journal_time m xs) r.journal_is
+    ∙ (time_is m (journal past) (core_legal m past core word reports made meters floor r)
+    ∙ (time_same m (journal past) past (journal_alike past) ∙ quiet_journal m past (journal_time m past) r.quiet)))
 
 -- the jump is to the pending moment
-pub jump_to : (m : Machine) (past : List Entry) (core : CoreState) (word : EventNow) (reports : List ℕ) (made : ℕ) (meters : List Meter) (floor : Stamp) → IsRunning m past core word reports made meters floor → (at to : ℕ) → MayJump m past at → Some to ≡ journal_time core.machine (entries core.past) → to ≡ at
+pub jump_to : (m : Machine) (past : List Entry) (core : CoreState) (word : EventNow) (reports : List ℕ) (made : ℕ) (meters : List Meter) (floor : Stamp) → IsRunning m past core word reports made meters floor → (at to : ℕ) → MayJump m past at → Some to ≡ whole_legal.journal_time core.machine (entries core.past) → to ≡ at
 jump_to m past core word reports made meters floor r at to j e = let s : Some to ≡ Some at = e ∙ (next_joint m past core word reports made meters floor r ∙ j.next) in cc
 
 -- there is one
-pub jump_some : (m : Machine) (past : List Entry) (core : CoreState) (word : EventNow) (reports : List ℕ) (made : ℕ) (meters : List Meter) (floor : Stamp) → IsRunning m past core word reports made meters floor → (at : ℕ) → MayJump m past at → None ≡ journal_time core.machine (entries core.past) → ⊥
+pub jump_some : (m : Machine) (past : List Entry) (core : CoreState) (word : EventNow) (reports : List ℕ) (made : ℕ) (meters : List Meter) (floor : Stamp) → IsRunning m past core word reports made meters floor → (at : ℕ) → MayJump m past at → None ≡ whole_legal.journal_time core.machine (entries core.past) → ⊥
 jump_some m past core word reports made meters floor r at j e = let s : None ≡ Some at = e ∙ (next_joint m past core word reports made meters floor r ∙ j.next) in cc
 
 -- after a jump the run goes on
@@ -287,19 +306,19 @@ told_same one other e = cc
 -- ---- a round
 
 -- fewer calls are made than the core's journal asks for: one is due
-pub call_due : (m : Machine) (past : List Entry) (core : CoreState) (word : EventNow) (reports : List ℕ) (made : ℕ) (meters : List Meter) (floor : Stamp) → IsRunning m past core word reports made meters floor → made < calls_due core.machine (entries core.past) 0 → calls 0 past < calls_due m past 0
+pub call_due : (m : Machine) (past : List Entry) (core : CoreState) (word : EventNow) (reports : List ℕ) (made : ℕ) (meters : List Meter) (floor : Stamp) → IsRunning m past core word reports made meters floor → made < whole_calls.calls_due core.machine (entries core.past) 0 → calls 0 past < calls_due m past 0
 call_due m past core word reports made meters floor r l = omega (arith, l, r.made_is, calls_joint m past core word reports made meters floor r)
 
 -- else all that are due are made
-pub turn_due : (m : Machine) (past : List Entry) (core : CoreState) (word : EventNow) (reports : List ℕ) (made : ℕ) (meters : List Meter) (floor : Stamp) → IsRunning m past core word reports made meters floor → calls_due core.machine (entries core.past) 0 ≤ made → calls 0 past ≡ calls_due m past 0
+pub turn_due : (m : Machine) (past : List Entry) (core : CoreState) (word : EventNow) (reports : List ℕ) (made : ℕ) (meters : List Meter) (floor : Stamp) → IsRunning m past core word reports made meters floor → whole_calls.calls_due core.machine (entries core.past) 0 ≤ made → calls 0 past ≡ calls_due m past 0
 turn_due m past core word reports made meters floor r l = omega (arith, l, r.made_is, calls_joint m past core word reports made meters floor r, r.plan.high, due_is m r.accepted.writer past)
 
 -- the calls that are made are those that the core asks for
-pub made_due : (m : Machine) (past : List Entry) (core : CoreState) (word : EventNow) (reports : List ℕ) (made : ℕ) (meters : List Meter) (floor : Stamp) → IsRunning m past core word reports made meters floor → calls 0 past ≡ calls_due m past 0 → made ≡ calls_due core.machine (entries core.past) 0
+pub made_due : (m : Machine) (past : List Entry) (core : CoreState) (word : EventNow) (reports : List ℕ) (made : ℕ) (meters : List Meter) (floor : Stamp) → IsRunning m past core word reports made meters floor → calls 0 past ≡ calls_due m past 0 → made ≡ whole_calls.calls_due core.machine (entries core.past) 0
 made_due m past core word reports made meters floor r e = r.made_is ∙ (e ∙ sym (calls_joint m past core word reports made meters floor r))
 
 -- where the writer waits by the core's journal, it waits by all entries
-pub waits_joint : (m : Machine) (past : List Entry) (core : CoreState) (word : EventNow) (reports : List ℕ) (made : ℕ) (meters : List Meter) (floor : Stamp) → IsRunning m past core word reports made meters floor → (why : Why) → due core.machine (entries core.past) (actor.Script 0) word ≡ Waits why
+pub waits_joint : (m : Machine) (past : List Entry) (core : CoreState) (word : EventNow) (reports : List ℕ) (made : ℕ) (meters : List Meter) (floor : Stamp) → IsRunning m past core word reports made meters floor → (why : Why) → whole.due built_rows core.machine (entries core.past) (actor.Script 0) word ≡ Waits why
     → due m past (actor.Script 0) (numbers past) ≡ Waits why
 waits_joint m past core word reports made meters floor r why e =
     subst (λ (w : EventNow). due m past (actor.Script 0) w ≡ Waits why) r.word_is (due_joint m past core word reports made meters floor r word (Waits why) e)
@@ -308,7 +327,7 @@ waits_joint m past core word reports made meters floor r why e =
 
 -- where the writer is through, the run is finished
 pub running_over : (m : Machine) (past : List Entry) (core : CoreState) (word : EventNow) (reports : List ℕ) (made : ℕ) (meters : List Meter) (floor : Stamp) → IsRunning m past core word reports made meters floor → calls 0 past ≡ calls_due m past 0
-    → due core.machine (entries core.past) (actor.Script 0) word ≡ Gone → is_finished m past ≡ true
+    → whole.due built_rows core.machine (entries core.past) (actor.Script 0) word ≡ Gone → is_finished m past ≡ true
 running_over m past core word reports made meters floor r calls_made e =
     finished_of m r.accepted past r.legal.journal r.quiet (own_turn m r.accepted.writer past r.quiet calls_made)
     (subst (λ (w : EventNow). due m past (actor.Script 0) w ≡ Gone) r.word_is (due_joint m past core word reports made meters floor r word Gone e))
@@ -316,7 +335,7 @@ running_over m past core word reports made meters floor r calls_made e =
 -- the log of a run that is over
 pub run_of : (m : Machine) (items : List Entry) (stats : List Stats) → IsAccepted m → IsLegal m (reverse items) → is_finished m (reverse items) ≡ true → stats ≡ stats_of m (reverse items) → IsRun m (record { entries = items; stats = stats; end = Finished })
 run_of m items stats acc legal over counted = record {
-  legal = record { legal = legal; stats = counted };
-  finished = record { says = refl; finished = over };
-  laws = laws_of m acc (reverse items) legal;
+  legal = record { legal = legal_of m acc (reverse items) legal; stats = counted };
+  finished = record { says = refl; finished = over_is m acc (reverse items) (known_of m acc (reverse items) legal.journal legal.joint) ∙ over };
+  laws = laws_kept m acc (reverse items) legal;
 }

@@ -11,8 +11,10 @@ use Rattle.sleep_model.specs.declared.word.EventNow.{EventNow}
 use Rattle.sleep_model.specs.declared.word.Stamp.{Stamp}
 use Rattle.sleep_model.specs.Accepted.{IsAccepted}
 use Rattle.sleep_model.proofs.ShortCalls.{calls, OnPlan}
-use Rattle.sleep_model.proofs.ShortLaws.{Laws}
-use Rattle.sleep_model.proofs.ShortLegal.{IsLegal, IsLegalLog, IsFinishedLog, is_finished}
+use Rattle.sleep_model.specs.Laws.{Laws}
+use Rattle.sleep_model.specs.Legal.{IsLegalLog, IsFinishedLog}
+use Rattle.sleep_model.specs.Table.{built_rows}
+use Rattle.sleep_model.proofs.ShortLegal.{IsLegal, is_finished}
 use Rattle.sleep_model.specs.Numbers.{numbers}
 use Rattle.sleep_model.specs.Parts.{journal}
 use Rattle.sleep_model.specs.Scripts.{operations}
@@ -95,6 +97,6 @@ AfterRound old new (Err fault) = Unit {0}
 
 -- the log of a whole run: legal and finished, and so the laws hold of it
 pub record IsRun (m : Machine) (log : Log) : Type 0 where
-  pub legal : IsLegalLog m log
-  pub finished : IsFinishedLog m log
+  pub legal : IsLegalLog built_rows m log
+  pub finished : IsFinishedLog built_rows m log
   pub laws : Laws m (reverse log.entries)

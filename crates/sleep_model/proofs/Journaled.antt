@@ -1,5 +1,5 @@
 -- What is due by the journal alone is due by all entries: the journal's definitions pass over the sources'.
-use Rattle.std.proofs.Common.{◌≡◌, ◌∙◌, ℕ, zero, suc, Bool, true, false, not, ◌==◌, ◌&&◌, List, [], ◌∷◌, length, Option, Some, None, refl, sym, ap, ap₂, cond, slice_get, slice_set, slice_index_or}
+use Rattle.std.proofs.Common.{◌<◌, subst, ◌≡◌, ◌∙◌, ℕ, zero, suc, Bool, true, false, not, ◌==◌, ◌&&◌, List, [], ◌∷◌, length, Option, Some, None, refl, sym, ap, ap₂, cond, slice_get, slice_set, slice_index_or}
 use Rattle.sleep_model.specs.declared.entry.Actor.{Actor}
 use Rattle.sleep_model.specs.declared.entry.Actor.TheVariants as actor
 use Rattle.sleep_model.specs.declared.entry.Entry.{Entry}
@@ -16,7 +16,7 @@ use Rattle.sleep_model.specs.declared.place.Seat.{Seat}
 use Rattle.sleep_model.specs.declared.word.EventNow.{EventNow}
 use Rattle.sleep_model.proofs.ShortDue.{due, rest_due, script_due, seat_due, task_due, step_due, path_due}
 use Rattle.sleep_model.specs.Freezer.{is_asked, asked_after, is_frozen, frozen_after}
-use Rattle.sleep_model.proofs.ShortLegal.{alarm_at, sooner, pending_sleep, next_sleep, journal_time}
+use Rattle.sleep_model.proofs.ShortLegal.{JournalPart, JournalStep, alarm_at, sooner, pending_sleep, next_sleep, journal_time}
 use Rattle.sleep_model.specs.Lock.{holder, holder_after, is_on, on_after}
 use Rattle.sleep_model.specs.Marks.{raised, mark_after}
 use Rattle.sleep_model.specs.Runtime.{is_prepared, prepared_after, is_off_direct, off_direct_after, is_off_late, off_late_after}
@@ -25,7 +25,7 @@ use Rattle.sleep_model.specs.declared.machine.TaskKind.{TaskKind}
 use Rattle.sleep_model.specs.declared.log.Why.TheVariants as why
 use Rattle.sleep_model.specs.Guard.{in_force, force_after, count_part, forgotten, forgotten_after}
 use Rattle.sleep_model.specs.Numbers.{time_of, time_after}
-use Rattle.sleep_model.specs.Parts.{part_of, is_kept, journal}
+use Rattle.sleep_model.specs.Parts.{Part, OfJournal, Notes, Moves, OfTime, part_of, is_kept, journal}
 use Rattle.sleep_model.proofs.ShortPath.{attempts, attempts_after, maker, maker_after, row_of, is_asleep, row_after, failure, failure_after}
 use Rattle.sleep_model.specs.Scripts.{entry_steps}
 use Rattle.sleep_model.specs.Seats.{Stays, seats, seats_after, seat_part, first_seat}
@@ -262,3 +262,18 @@ sleep_same m one other h (suc n) = ap₂ sooner (pending_same one other h n (sli
 -- and so is the next moment
 pub time_same : (m : Machine) (one other : List Entry) → Alike one other → journal_time m one ≡ journal_time m other
 time_same m one other h = ap₂ sooner (ap (alarm_at m.alarm_ms) h.row_is) (sleep_same m one other h (length m.actors))
+
+-- what is legal among all entries is legal in the journal alone
+journal_step_same : (m : Machine) (past : List Entry) (e : Entry) (part : Part) → JournalStep m past e part → JournalStep m (journal past) e part
+journal_step_same m past e OfJournal h = (due_same m (journal past) past (journal_alike past) e.actor e.now ∙ h.0, h.1 ∙ sym (journal_alike past).time_is)
+journal_step_same m past e (Notes s made) h = tt
+journal_step_same m past e (Moves s step) h = tt
+journal_step_same m past e OfTime h = subst (λ (t : ℕ). t < e.time) (sym (journal_alike past).time_is) h
+
+pub journal_legal : (m : Machine) (past : List Entry) → JournalPart m past → JournalPart m (journal past)
+journal_legal m [] h = tt
+journal_legal m (e ∷ past) h = by_kept (journal_legal m past h.1) (is_kept (part_of e.kind)) refl
+  where
+    by_kept : JournalPart m (journal past) → (b : Bool) → is_kept (part_of e.kind) ≡ b → JournalPart m (journal (e ∷ past))
+    by_kept rest true k = subst (JournalPart m) (sym (ap (λ b. cond b (e ∷ journal past) (journal past)) k)) (journal_step_same m past e (part_of e.kind) h.0, rest)
+    by_kept rest false k = subst (JournalPart m) (sym (ap (λ b. cond b (e ∷ journal past) (journal past)) k)) rest

@@ -5,6 +5,8 @@ use Rattle.sleep_model.specs.declared.log.Why.{Why}
 use Rattle.sleep_model.specs.declared.place.Due.TheVariants.{Makes, Waits, Gone}
 use Rattle.sleep_model.specs.declared.word.EventNow.{EventNow}
 use Rattle.sleep_model.proofs.ShortCalls.{calls, calls_due}
+use Rattle.sleep_model.specs.Due as whole
+use Rattle.sleep_model.specs.Table.{built_rows}
 use Rattle.sleep_model.proofs.ShortDue.{due}
 use Rattle.sleep_model.specs.Numbers.{numbers}
 use Rattle.sleep_core.specs.declared.turns.CoreTurn.{CoreTurn}
@@ -42,7 +44,7 @@ invariant_of-self-in-Did g c =
     (subst (λ (xs : List Entry). IsRunning m xs c.turn.new.self r.events r.reports.items r.made r.meters.items c.in-Did.stamp) (sym all)
     (running_entry m past r.core c.turn.new.self r.events r.reports.items r.made r.meters.items r.floor c.in-Did.stamp c.time-time.result k c.self.invariant (subst IsTurn (sym c.self.view_is) c.requires)
     (c.time-time.ensures.time ∙ time_joint m past r.core r.events r.reports.items r.made r.meters.items r.floor c.self.invariant)
-    (subst (λ (w : EventNow). due r.core.machine (entries r.core.past) (actor.Script 0) w ≡ Makes k) t.1 did.0)
+    (subst (λ (w : EventNow). whole.due built_rows r.core.machine (entries r.core.past) (actor.Script 0) w ≡ Makes k) t.1 did.0)
     (did.1 ∙ ap (λ (w : EventNow). with_entry r.core (made_entry r.core.past (actor.Script 0) w r.floor k)) t.1)
     (did.2 ∙ ap (next_stamp r.core.past r.floor) t.1)))
 
@@ -54,7 +56,7 @@ pass_time-requires-clause-waits g c =
     subst (λ (xs : List Entry). (why : Why) × (due r.machine.now (reverse xs) (actor.Script 0) (numbers (reverse xs)) ≡ Waits why)) (sym c.in_ok-reserve.ensures.items) (
       c.in-NotYet.field-0,
       waits_joint r.machine.now (reverse r.entries.items) r.core r.events r.reports.items r.made r.meters.items r.floor c.self.invariant c.in-NotYet.field-0
-          (subst (λ (w : EventNow). due r.core.machine (entries r.core.past) (actor.Script 0) w ≡ Waits c.in-NotYet.field-0) t.1 waits.0),
+          (subst (λ (w : EventNow). whole.due built_rows r.core.machine (entries r.core.past) (actor.Script 0) w ≡ Waits c.in-NotYet.field-0) t.1 waits.0),
     )
 
 pub returns-in-Done-clause-after : goal.returns-in-Done-clause-after
@@ -63,4 +65,4 @@ returns-in-Done-clause-after g c =
     let t = c.in_ok-stamp.ensures.turn in
     let done = subst (λ (x : CoreTurn). AfterTurn r.core c.turn.new.self (actor.Script 0) t.0 r.floor (Ok x)) c.in-Done.is t.4 in
     rw c.in_ok-reserve.ensures.items (running_over r.machine.now (reverse r.entries.items) r.core r.events r.reports.items r.made r.meters.items r.floor c.self.invariant (subst IsTurn (sym c.self.view_is) c.requires)
-    (subst (λ (w : EventNow). due r.core.machine (entries r.core.past) (actor.Script 0) w ≡ Gone) t.1 done.0))
+    (subst (λ (w : EventNow). whole.due built_rows r.core.machine (entries r.core.past) (actor.Script 0) w ≡ Gone) t.1 done.0))
