@@ -3,7 +3,7 @@ use Rattle.std.proofs.Common.{◌≡◌, ◌≤◌, ◌<◌, ◌+◌, ◌*◌, �
 use Rattle.std.proofs.lemmas.Bool.{and_parts, leb-true, ltb-true, false≢true}
 use Rattle.std.proofs.lemmas.List.{length_push}
 use Rattle.std.specs.List.{position_or_len, list_any}
-use Rattle.sleep_model.specs.Accepted.{ParentsEarlier, IsGiven, AreGiven, IsOneWriter, IsAccepted}
+use Rattle.sleep_model.specs.Accepted.{Unflagged, ParentsEarlier, IsGiven, AreGiven, IsOneWriter, IsAccepted}
 use Rattle.sleep_model.specs.declared.machine.Machine.{Machine}
 use Rattle.sleep_model.specs.declared.machine.Op.TheVariants.{Read, Save, Event}
 use Rattle.serde_json.specs.Data.{Data, Items, no_items, item}
@@ -35,6 +35,11 @@ ParentsEarlier-devices_of (item d ds) names = (
   parent_within (option_and_then as_str (get (codes "parent") d)) names,
   subst (λ n. ParentsEarlier n (devices_of (names ++ name_of d ∷ []) ds)) (length_push names (name_of d) ∙ add-one (length names)) (ParentsEarlier-devices_of ds (names ++ name_of d ∷ [])),
 )
+
+-- no device has a flag
+Unflagged-devices_of : (ds : Items) (names : List (List ℕ)) → Unflagged (devices_of names ds)
+Unflagged-devices_of no_items names = tt
+Unflagged-devices_of (item d ds) names = (refl, Unflagged-devices_of ds (names ++ name_of d ∷ []))
 
 found_within : (o : Option ℕ) (n : ℕ) → is_some o ≡ true → IfSome o (λ i. i < n) → unwrap_or o 0 < n
 found_within None n e within = absurd (false≢true e)
@@ -100,6 +105,7 @@ IsAccepted-machine_of d e =
       cycles = refl;
       devices = subst (λ n. n ≤ 1000) (sym (length-devices_of [] ds)) few;
       parents = ParentsEarlier-devices_of ds [];
+      unflagged = Unflagged-devices_of ds [];
       links = refl;
       syscore = refl;
       notifiers = refl;

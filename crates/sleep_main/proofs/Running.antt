@@ -22,17 +22,15 @@ use Rattle.sleep_model.specs.declared.word.WordKind.TheVariants as step
 use Rattle.sleep_model.specs.Accepted.{IsAccepted, IsOneWriter}
 use Rattle.sleep_model.proofs.ShortCalls.{calls, calls_after, calls_due, script_calls_before, next_note, OnPlan}
 use Rattle.sleep_model.proofs.ShortDue.{due}
-use Rattle.sleep_model.proofs.ShortLegal.{IsLegal, is_finished, alarm_at, next_time, stats_of, journal_time, sooner, next_expiry}
+use Rattle.sleep_model.proofs.ShortLegal.{IsLegal, is_finished, next_time, stats_of, journal_time, sooner, next_expiry}
 use Rattle.sleep_model.specs.Numbers.{numbers, after_step, time_of}
 use Rattle.sleep_model.specs.Parts.{Part, OfJournal, part_of, is_kept, journal}
 use Rattle.sleep_model.specs.Sources.{is_of, history, AreQuiet}
-use Rattle.sleep_model.proofs.ShortPath.{row_of}
 use Rattle.sleep_model.specs.Seats.{seats, seats_after, seat_part, first_seat, Stays}
 use Rattle.sleep_model.specs.Word.{position}
 use Rattle.sleep_model.proofs.Calling.{with_event, each_event, each_kept, event_legal, event_quiet, quiet_first, quiet_kept, quiet_waits}
 use Rattle.sleep_model.proofs.Growing.{MayJump, may_jump, due_of_journal, entry_legal, entry_numbers, entry_quiet, jump_legal, finished_of}
 use Rattle.sleep_model.proofs.Journaled.{journal_alike, due_same, time_same, seats_stay}
-use Rattle.sleep_model.proofs.Lawful.{laws_of}
 use Rattle.sleep_model.proofs.Planning.{plan_call, plan_first}
 use Rattle.sleep_core.specs.Cores.{CoreState, with_entry, made_entry, jump_entry, next_stamp}
 use Rattle.sleep_core.specs.Histories.{last_stamp}
