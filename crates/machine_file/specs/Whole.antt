@@ -108,14 +108,19 @@ whole_machine d = record {
   answers = whole_answers d;
 }
 
--- the bytes are a value that breaks no rule, and that spells this machine
-pub record SpellsWhole (bytes : List ℕ) (m : Machine) : Type 0 where
-  pub value : Data
-  pub is_read : tree bytes ≡ Some value
-  pub keeps_rules : first_broken value ≡ None
-  pub is_spelled : m ≡ whole_machine value
+-- the machine, where no rule is broken
+abbrev pub unless_broken : Option Broken → Machine → Option Machine
+unless_broken None m = Some m
+unless_broken (Some b) m = None
 
--- a machine that some file spells
-pub record IsSpelled (m : Machine) : Type 0 where
-  pub bytes : List ℕ
-  pub spells : SpellsWhole bytes m
+-- the machine that the bytes of a file spell, if they are accepted
+abbrev pub machine_in : List ℕ → Option Machine
+machine_in bytes = option_and_then (λ d. unless_broken (first_broken d) (whole_machine d)) (tree bytes)
+
+-- the bytes are accepted, and spell this machine
+abbrev pub SpellsWhole : List ℕ → Machine → Type 0
+SpellsWhole bytes m = machine_in bytes ≡ Some m
+
+-- a machine that some accepted bytes spell
+abbrev pub IsSpelled : Machine → Type 0
+IsSpelled m = (bytes : List ℕ) × SpellsWhole bytes m
