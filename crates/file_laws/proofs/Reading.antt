@@ -1,4 +1,4 @@
--- Opens what a text is read by, and what a place is written by, so that both compute for a known text.
+-- Opens what texts are read and written by, so that both compute for known ones.
 use Rattle.std.specs.Prelude.{ℕ, List, Option}
 use Rattle.std.specs.Char.{encode_utf8}
 use Rattle.std.specs.Fmt.{digits}
@@ -6,6 +6,7 @@ use Rattle.std.specs.Float.Numeral.{scan_numeral}
 use Rattle.std.specs.Str.{is_utf8, chars}
 use Rattle.json.specs.Json.{items, members, value}
 use Rattle.json.specs.Lex.{lex, punctuate}
+use Rattle.json.specs.Print.{escape_byte}
 use Rattle.json.specs.Text.{content, code_unit, short_escape}
 use Rattle.json.specs.Word.{word, after_number}
 use Rattle.serde_json.specs.Data.{Data}
@@ -13,5 +14,5 @@ use Rattle.serde_json.specs.Read.{number_of}
 use Rattle.machine_file.specs.Tree.{tree}
 
 unfoldable pub reading : List ℕ → Option Data
-unfolding digits is_utf8 chars encode_utf8 scan_numeral lex punctuate content code_unit short_escape word after_number items members value number_of
+unfolding escape_byte digits is_utf8 chars encode_utf8 scan_numeral lex punctuate content code_unit short_escape word after_number items members value number_of
 reading bytes = tree bytes

@@ -25,6 +25,7 @@ use Rattle.sleep_model.specs.Answers.{error_of_number}
 use Rattle.sleep_model.specs.Runtime.{has_bit, is_async, may_wake}
 use Rattle.sleep_model.specs.Text.{phase_name, down_word, runtime_word, newline, device, source, syscore, notifier, mark}
 use Rattle.machine_file.specs.Form.{Named, row}
+use Rattle.machine_file.specs.Whole.{SpellsWhole}
 
 -- ---- values
 
@@ -189,3 +190,7 @@ machine_value m =
 -- the bytes of a machine's file, with a newline at their end
 abbrev pub spelling : Machine → List ℕ
 spelling m = compact_text (machine_value m) ++ newline
+
+-- what is written for the machine spells it again
+abbrev pub ReadsBack : Machine → Type 0
+ReadsBack m = SpellsWhole (spelling m) m
