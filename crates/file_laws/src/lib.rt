@@ -9,6 +9,7 @@ mod order;
 mod scripts;
 mod things;
 mod words;
+mod worked;
 
 pub use accepted::{
     answers_are_accepted, defaults_are_accepted, ends_of_ranges_are_accepted, limits_are_accepted,
@@ -30,3 +31,4 @@ pub use things::{
     sources_are_distinct, sources_are_there,
 };
 pub use words::{generated_machine_is_asked, nothing_is_asked, run_is_asked};
+pub use worked::{defaults_are_spelled, everything_is_spelled, worked_machines_are_spelled};
