@@ -5,6 +5,7 @@
 mod accepted;
 mod form;
 mod generated;
+mod limits;
 mod order;
 mod scripts;
 mod things;
@@ -20,6 +21,7 @@ pub use form::{
     members_have_form, names_are_spelled, version_is_one,
 };
 pub use generated::{eight_devices_are_generated, numbers_are_drawn, one_device_is_generated};
+pub use limits::{lists_have_limits, reports_have_a_limit};
 pub use order::{first_place_is_named, last_of_equal_members_counts, least_rule_is_named};
 pub use scripts::{
     answers_are_allowed, answers_are_distinct, answers_have_things, operations_are_allowed,
