@@ -1,3 +1,3 @@
 pub mod Files
 pub mod Worked
-pub mod Long
+pub mod Values

@@ -3,6 +3,7 @@
 #![tactic(auto)]
 
 mod accepted;
+mod floats;
 mod form;
 mod generated;
 mod limits;
@@ -16,6 +17,7 @@ pub use accepted::{
     answers_are_accepted, defaults_are_accepted, ends_of_ranges_are_accepted, limits_are_accepted,
     links_are_accepted, operations_are_accepted,
 };
+pub use floats::floats_have_no_form;
 pub use form::{
     answers_have_form, bytes_are_read, items_have_form, lists_are_short, members_are_known,
     members_have_form, names_are_spelled, version_is_one,

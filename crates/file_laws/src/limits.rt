@@ -2,7 +2,7 @@
 
 ghost use Rattle.std.specs.Prelude.{◌≡◌, codes, Some, None};
 ghost use Rattle.machine_file.specs.Limits.{too_many, too_much};
-ghost use Rattle.file_laws.specs.Long.{long_list, reporting};
+ghost use Rattle.file_laws.specs.Values.{long_list, reporting};
 
 /// Each list has a limit.
 pub fn lists_have_limits()
