@@ -24,7 +24,10 @@ pub use form::{
 };
 pub use generated::{eight_devices_are_generated, numbers_are_drawn, one_device_is_generated};
 pub use limits::{lists_have_limits, reports_have_a_limit};
-pub use order::{first_place_is_named, last_of_equal_members_counts, least_rule_is_named};
+pub use order::{
+    first_place_is_named, last_of_equal_members_counts, least_rule_is_named,
+    refusal_names_rule_and_place,
+};
 pub use scripts::{
     answers_are_allowed, answers_are_distinct, answers_have_things, operations_are_allowed,
     operations_have_form, reports_are_allowed, runs_are_short,

@@ -1,5 +1,8 @@
 //! Files that break two rules, or one rule twice.
 
+ghost use Rattle.std.specs.Prelude.{◌≡◌, ◌++◌, codes};
+ghost use Rattle.sleep_model.specs.Text.{newline};
+ghost use Rattle.machine_file.specs.Whole.{broken_at, refusal_text};
 ghost use Rattle.file_laws.specs.Files.{Breaks, KeepsAll};
 
 /// Of two rules the one with the smaller number is named, wherever they are broken.
@@ -33,4 +36,10 @@ pub fn first_place_is_named()
 pub fn last_of_equal_members_counts()
     ensures kept { KeepsAll "{'version':2,'version':1}" }
     ensures broken { Breaks "{'version':1,'version':2}" 3 "version" }
+{}
+
+/// What is said of a refused file.
+#[tactic(auto, unfolding(crate::proofs::Reading::reading))]
+pub fn refusal_names_rule_and_place()
+    ensures { refusal_text (broken_at 17 (codes "actors[0].script[0]")) ≡ codes "machine: rule 17: actors[0].script[0]" ++ newline }
 {}

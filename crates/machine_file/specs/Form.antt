@@ -42,17 +42,17 @@ is_time least d = is_within least 86400000 d
 
 -- ---- the items of the file's lists
 
--- a device (struct device)
+-- a device has a name; its parent, its flags and its runtime status may be given (struct device, struct dev_pm_info)
 abbrev pub is_device_form : Data → Bool
 is_device_form d =
     has_only device_members d && must_have (codes "name") is_string d && may_have (codes "parent") is_string d && may_have (codes "async") is_truth d && may_have (codes "wakeup") is_truth d
     && may_have (codes "runtime") (is_one_of statuses) d
 
--- a link (struct device_link)
+-- a link has both ends (struct device_link)
 abbrev pub is_link_form : Data → Bool
 is_link_form d = has_only link_members d && must_have (codes "supplier") is_string d && must_have (codes "consumer") is_string d
 
--- a notifier; its priority is between -1000 and 1000 (struct notifier_block)
+-- a notifier has a name; its priority, -1000 to 1000, may be given (struct notifier_block)
 abbrev pub is_notifier_form : Data → Bool
 is_notifier_form d = has_only notifier_members d && must_have (codes "name") is_string d && may_have (codes "priority") (is_near 1000) d
 
@@ -60,7 +60,7 @@ is_notifier_form d = has_only notifier_members d && must_have (codes "name") is_
 abbrev pub kinds : List (List ℕ)
 kinds = codes "user" ∷ codes "kthread" ∷ codes "nofreeze" ∷ codes "irq" ∷ []
 
--- an actor; nothing is said of its operations (own)
+-- an actor has a name and a kind; how often it makes its script, 1 to 1000 times, and the script may be given (own)
 abbrev pub is_actor_form : Data → Bool
 is_actor_form d =
     has_only actor_members d && must_have (codes "name") is_string d && must_have (codes "kind") (is_one_of kinds) d && may_have (codes "repeat") (is_within 1 1000) d
@@ -86,15 +86,15 @@ is_plain_report d = has_only (codes "call" ∷ codes "source" ∷ []) d && must_
 abbrev pub is_event_report : Data → Bool
 is_event_report d = has_only report_members d && has_text (codes "call") (codes "event") d && may_have (codes "ms") (is_time 0) d && may_have (codes "hard") is_truth d
 
--- a report of a callback (own)
+-- a report names its call and its source (own)
 abbrev pub is_report_form : Data → Bool
 is_report_form d = must_have (codes "source") is_string d && (is_plain_report d || is_event_report d)
 
--- a list of reports
+-- a list of reports, each in form
 abbrev pub are_reports : Data → Bool
 are_reports d = is_some_and (λ ds. list_all is_report_form (items_of ds)) (as_array d)
 
--- an answer (own)
+-- an answer says what answers, and its name; phase, attempt, answer and reports may be given (own)
 abbrev pub is_answer_form : Data → Bool
 is_answer_form d =
     has_only answer_members d && must_have (codes "what") (is_one_of answerers) d && must_have (codes "name") is_string d && may_have (codes "phase") (is_one_of phases) d
@@ -102,12 +102,12 @@ is_answer_form d =
 
 -- ---- the file's members
 
--- a name with what it is said to be
+-- a row of a table: a name, and what stands beside it
 pub record Named (A : Type 0) : Type 0 where
   pub name : List ℕ
   pub is : A
 
--- a row of a table
+-- such a row
 abbrev pub row : {A : Type 0} → List ℕ → A → Named A
 row name is = record { name = name; is = is }
 

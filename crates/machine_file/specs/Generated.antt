@@ -1,5 +1,5 @@
 -- The machine that is made of a seed and a number of devices (own).
-use Rattle.std.specs.Prelude.{ℕ, zero, suc, ◌+◌, ◌-◌, ◌*◌, ◌/◌, ◌%◌, ◌==◌, ◌++◌, List, [], ◌∷◌, codes, decimal, true, false, not, ◌&&◌, map, flat_map, nat_lt, Option, Some, None, if◌then◌else◌}
+use Rattle.std.specs.Prelude.{ℕ, zero, suc, ◌+◌, ◌-◌, ◌*◌, ◌/◌, ◌%◌, ◌^◌, ◌<◌, ◌≤◌, ◌==◌, ◌++◌, List, [], ◌∷◌, codes, decimal, true, false, not, ◌&&◌, map, flat_map, nat_lt, Option, Some, None, if◌then◌else◌}
 use Rattle.std.specs.List.{list_any, range_with_len}
 use Rattle.sleep_model.specs.declared.machine.Device.{Device}
 use Rattle.sleep_model.specs.declared.machine.Link.{Link}
@@ -9,6 +9,7 @@ use Rattle.sleep_model.specs.declared.machine.Op.TheVariants.{Read, Save, State,
 use Rattle.sleep_model.specs.declared.machine.Script.{Script}
 use Rattle.sleep_model.specs.declared.machine.Step.{Step}
 use Rattle.sleep_model.specs.declared.machine.TaskKind.TheVariants.{User, Irq}
+use Rattle.machine_file.specs.Whole.{IsSpelled}
 
 -- the k-th number that the seed gives, k from 1 (own)
 abbrev pub drawn : ℕ → ℕ → ℕ
@@ -72,3 +73,7 @@ generated seed devices = record {
   actors = sleeper ∷ line seed devices ∷ [];
   answers = [];
 }
+
+-- some file spells the machine of each seed of 64 bits and of 1 to 1000 devices
+abbrev pub AllGenerated : Type 0
+AllGenerated = (seed devices : ℕ) → seed < 2 ^ 64 → 1 ≤ devices → devices ≤ 1000 → IsSpelled (generated seed devices)

@@ -11,7 +11,7 @@ abbrev pub file_members : List (List ℕ)
 file_members =
     codes "version" ∷ codes "alarm_ms" ∷ codes "cpus" ∷ codes "auto_cycles" ∷ codes "devices" ∷ codes "links" ∷ codes "syscore" ∷ codes "notifiers" ∷ codes "sources" ∷ codes "actors" ∷ codes "answers" ∷ []
 
--- the members of a device (struct dev_pm_info: async_suspend, can_wakeup, runtime_status)
+-- the members of a device (struct device, struct dev_pm_info)
 abbrev pub device_members : List (List ℕ)
 device_members = codes "name" ∷ codes "parent" ∷ codes "async" ∷ codes "wakeup" ∷ codes "runtime" ∷ []
 

@@ -19,26 +19,26 @@ use Rattle.machine_file.specs.Rules.{name_of}
 
 -- ---- the table
 
--- a row of the table: its word, the members that it has of its own, their form, and whose it is
+-- a row of the table of operations: its word, the members of its own, their form, and the kinds that may make it
 pub record Operation : Type 0 where
   pub word : List ℕ
   pub members : List (List ℕ)
   pub form : Data → Bool
   pub makers : List (List ℕ)
 
--- a row
+-- such a row
 abbrev pub operation : List ℕ → List (List ℕ) → (Data → Bool) → List (List ℕ) → Operation
 operation word members form makers = record { word = word; members = members; form = form; makers = makers }
 
--- a task that user space has
+-- user space alone
 abbrev pub users : List (List ℕ)
 users = codes "user" ∷ []
 
--- a task, which the freezer may ask or not (own)
+-- every task (own)
 abbrev pub tasks : List (List ℕ)
 tasks = codes "user" ∷ codes "kthread" ∷ codes "nofreeze" ∷ []
 
--- a task, or an interrupt line (own)
+-- every task, and interrupt lines (own)
 abbrev pub everyone : List (List ℕ)
 everyone = codes "user" ∷ codes "kthread" ∷ codes "nofreeze" ∷ codes "irq" ∷ []
 

@@ -25,7 +25,7 @@ use Rattle.sleep_model.specs.Answers.{error_of_number}
 use Rattle.sleep_model.specs.Runtime.{has_bit, is_async, may_wake}
 use Rattle.sleep_model.specs.Text.{phase_name, down_word, runtime_word, newline, device, source, syscore, notifier, mark}
 use Rattle.machine_file.specs.Form.{Named, row}
-use Rattle.machine_file.specs.Whole.{SpellsWhole}
+use Rattle.machine_file.specs.Whole.{SpellsWhole, IsSpelled}
 
 -- ---- values
 
@@ -194,3 +194,7 @@ spelling m = compact_text (machine_value m) ++ newline
 -- what is written for the machine spells it again
 abbrev pub ReadsBack : Machine → Type 0
 ReadsBack m = SpellsWhole (spelling m) m
+
+-- so it is of each machine that some file spells
+abbrev pub AllReadBack : Type 0
+AllReadBack = (m : Machine) → IsSpelled m → ReadsBack m

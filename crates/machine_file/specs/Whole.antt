@@ -1,12 +1,13 @@
 -- Which files are accepted, which machine they spell, and the first rule that a refused one breaks.
-use Rattle.std.specs.Prelude.{◌≡◌, ℕ, List, [], ◌∷◌, codes, ℤ, pos, map, Option, Some, None, option_map, option_and_then, unwrap_or}
+use Rattle.std.specs.Prelude.{◌≡◌, ℕ, List, [], ◌∷◌, ◌++◌, codes, decimal, ℤ, pos, map, Option, Some, None, option_map, option_and_then, unwrap_or}
 use Rattle.std.specs.Option.{option_or}
 use Rattle.serde_json.specs.Data.{Data}
 use Rattle.serde_json.specs.Find.{get, as_number, as_integer}
 use Rattle.sleep_model.specs.declared.machine.Machine.{Machine}
 use Rattle.sleep_model.specs.declared.machine.Notifier.{Notifier}
+use Rattle.sleep_model.specs.Text.{newline}
 use Rattle.machine_file.specs.Tree.{tree}
-use Rattle.machine_file.specs.Members.{list_in, number_at}
+use Rattle.machine_file.specs.Members.{file_members, list_in, number_at}
 use Rattle.machine_file.specs.Places.{unless}
 use Rattle.machine_file.specs.Form.{unformed_member, unformed_item}
 use Rattle.machine_file.specs.Names.{misspelled_item, repeated_device, repeated_callback, repeated_source, repeated_actor, texts_in, sources_named}
@@ -14,7 +15,8 @@ use Rattle.machine_file.specs.Devices.{orphan, loose_link, repeated_link, cyclic
 use Rattle.machine_file.specs.Operations.{unformed_operation, forbidden_operation, sourceless_operation, deviceless_operation, whole_marks, whole_scripts}
 use Rattle.machine_file.specs.Answering.{thingless_answer, forbidden_ret, forbidden_reports, sourceless_report, repeated_answer, whole_answers}
 use Rattle.machine_file.specs.Limits.{too_many, too_much}
-use Rattle.machine_file.specs.Rules.{has_known_members, is_version_one, name_of}
+use Rattle.machine_file.specs.Rules.{is_version_one, name_of}
+use Rattle.machine_file.specs.Look.{has_only}
 
 -- ---- the rules
 
@@ -23,14 +25,14 @@ pub record Rule : Type 0 where
   pub number : ℕ
   pub broken : Data → Option (List ℕ)
 
--- a rule
+-- such a rule
 abbrev pub rule : ℕ → (Data → Option (List ℕ)) → Rule
 rule number broken = record { number = number; broken = broken }
 
 -- the rules of values, in the order in which a broken one is named (own)
 abbrev pub rules : List Rule
 rules =
-    rule 2 (λ d. unless (has_known_members d) (codes "top"))
+    rule 2 (λ d. unless (has_only file_members d) (codes "top"))
     ∷ rule 3 (λ d. unless (is_version_one d) (codes "version"))
     ∷ rule 4 unformed_member
     ∷ rule 5 unformed_item
@@ -81,6 +83,10 @@ broken_by (Some d) = first_broken d
 -- the first rule that a file breaks, and its first place
 abbrev pub broken_in : List ℕ → Option Broken
 broken_in bytes = broken_by (tree bytes)
+
+-- what is said of a file that is refused
+abbrev pub refusal_text : Broken → List ℕ
+refusal_text b = codes "machine: rule " ++ decimal b.rule ++ codes ": " ++ b.place ++ newline
 
 -- ---- the machine
 
