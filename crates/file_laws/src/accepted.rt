@@ -23,6 +23,8 @@ pub fn ends_of_ranges_are_accepted()
     ensures name { KeepsAll "{'version':1,'sources':['abcxyz0189_.-abcxyz0189_.-a.b-c_']}" }
     // A text may be empty, and may have 32 bytes.
     ensures texts { KeepsAll "{'version':1,'actors':[{'name':'w','kind':'user','script':[{'op':'state','text':''},{'op':'autosleep','text':'mmmmmmmmmmmmmmmmmmmmmmmmmmmmmmmm'}]}]}" }
+    // 16 letters of two bytes.
+    ensures bytes { KeepsAll "{'version':1,'actors':[{'name':'w','kind':'user','script':[{'op':'state','text':'\\u00e4\\u00e4\\u00e4\\u00e4\\u00e4\\u00e4\\u00e4\\u00e4\\u00e4\\u00e4\\u00e4\\u00e4\\u00e4\\u00e4\\u00e4\\u00e4'}]}]}" }
     ensures numbers { KeepsAll "{'version':1,'actors':[{'name':'w','kind':'user','script':[{'op':'save','count':0},{'op':'save','count':4294967295},{'op':'sleep','ms':1},{'op':'sleep','ms':86400000},{'op':'read','times':20000}]}]}" }
     ensures events { KeepsAll "{'version':1,'sources':['s'],'actors':[{'name':'w','kind':'irq','script':[{'op':'event','source':'s','ms':0},{'op':'event','source':'s','ms':86400000}]}]}" }
 {}

@@ -1,6 +1,6 @@
 //! Files whose values have not the form that they must have.
 
-ghost use Rattle.std.specs.Prelude.{◌≡◌, [], ◌∷◌, codes, Some};
+ghost use Rattle.std.specs.Prelude.{◌≡◌, ◌++◌, [], ◌∷◌, codes, replicate, Some};
 ghost use Rattle.machine_file.specs.Whole.{broken_in, broken_at};
 ghost use Rattle.file_laws.specs.Files.{Breaks};
 
@@ -11,8 +11,18 @@ pub fn bytes_are_read()
     ensures open { Breaks "{'version':1" 1 "json" }
     ensures more { Breaks "{'version':1}}" 1 "json" }
     ensures zero { Breaks "{'version':01}" 1 "json" }
+    ensures surrogate { Breaks "{'version':1,'sources':['\\ud800']}" 1 "json" }
+    ensures control { Breaks "{'version':1,'sources':['\t']}" 1 "json" }
     // No byte of UTF-8.
     ensures byte { broken_in (255 ∷ []) ≡ Some (broken_at 1 (codes "json")) }
+    ensures order_mark { broken_in (239 ∷ 187 ∷ 191 ∷ codes "{}") ≡ Some (broken_at 1 (codes "json")) }
+{}
+
+/// Values nest at most 127 deep.
+#[tactic(auto, unfolding(crate::proofs::Reading::reading))]
+pub fn values_nest_so_deep()
+    ensures most { broken_in (replicate 127 91 ++ replicate 127 93) ≡ Some (broken_at 2 (codes "top")) }
+    ensures more { broken_in (replicate 128 91 ++ replicate 128 93) ≡ Some (broken_at 1 (codes "json")) }
 {}
 
 /// The value is an object of known members.
@@ -71,6 +81,7 @@ pub fn answers_have_form()
     ensures error { Breaks "{'version':1,'answers':[{'what':'syscore','name':'t','ret':'EPERM'}]}" 5 "answers[0]" }
     // Only an event has a length.
     ensures length { Breaks "{'version':1,'answers':[{'what':'syscore','name':'t','reports':[{'call':'awake','source':'s','ms':0}]}]}" 5 "answers[0]" }
+    ensures sourceless { Breaks "{'version':1,'answers':[{'what':'syscore','name':'t','reports':[{'call':'awake'}]}]}" 5 "answers[0]" }
     ensures call { Breaks "{'version':1,'answers':[{'what':'syscore','name':'t','reports':[{'call':'expire','source':'s'}]}]}" 5 "answers[0]" }
 {}
 

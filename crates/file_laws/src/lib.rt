@@ -20,7 +20,7 @@ pub use accepted::{
 pub use floats::floats_have_no_form;
 pub use form::{
     answers_have_form, bytes_are_read, items_have_form, lists_are_short, members_are_known,
-    members_have_form, names_are_spelled, version_is_one,
+    members_have_form, names_are_spelled, values_nest_so_deep, version_is_one,
 };
 pub use generated::{eight_devices_are_generated, numbers_are_drawn, one_device_is_generated};
 pub use limits::{lists_have_limits, reports_have_a_limit};

@@ -15,6 +15,8 @@ pub fn operations_have_form()
     ensures textless { Breaks "{'version':1,'actors':[{'name':'w','kind':'user','script':[{'op':'state'}]}]}" 16 "actors[0].script[0]" }
     // 33 bytes.
     ensures text { Breaks "{'version':1,'actors':[{'name':'w','kind':'user','script':[{'op':'autosleep','text':'mmmmmmmmmmmmmmmmmmmmmmmmmmmmmmmmm'}]}]}" 16 "actors[0].script[0]" }
+    // 17 letters of two bytes.
+    ensures bytes { Breaks "{'version':1,'actors':[{'name':'w','kind':'user','script':[{'op':'state','text':'\\u00e4\\u00e4\\u00e4\\u00e4\\u00e4\\u00e4\\u00e4\\u00e4\\u00e4\\u00e4\\u00e4\\u00e4\\u00e4\\u00e4\\u00e4\\u00e4\\u00e4'}]}]}" 16 "actors[0].script[0]" }
     // A sleep lasts.
     ensures sleep { Breaks "{'version':1,'actors':[{'name':'w','kind':'user','script':[{'op':'sleep','ms':0}]}]}" 16 "actors[0].script[0]" }
     ensures mark { Breaks "{'version':1,'actors':[{'name':'w','kind':'user','script':[{'op':'post','mark':'M'}]}]}" 16 "actors[0].script[0]" }

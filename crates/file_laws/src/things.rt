@@ -51,6 +51,8 @@ pub fn callbacks_are_distinct()
 pub fn sources_are_distinct()
     ensures twice { Breaks "{'version':1,'sources':['a','b','a']}" 14 "sources[2]" }
     ensures autosleep { Breaks "{'version':1,'sources':['autosleep']}" 14 "sources[0]" }
+    // An escaped a is the letter a.
+    ensures escaped { Breaks "{'version':1,'sources':['a','\\u0061']}" 14 "sources[1]" }
 {}
 
 /// No two actors have the same name.
@@ -68,10 +70,12 @@ pub fn sources_are_there()
     // A source spelled as no name is one that is not there.
     ensures spelled { Breaks "{'version':1,'actors':[{'name':'w','kind':'irq','script':[{'op':'event','source':'S'}]}]}" 18 "actors[0].script[0]" }
     ensures report { Breaks "{'version':1,'devices':[{'name':'d'}],'answers':[{'what':'device','name':'d','phase':'suspend','reports':[{'call':'event','source':'s'}]}]}" 18 "answers[0]" }
+    ensures spelled_report { Breaks "{'version':1,'devices':[{'name':'d'}],'answers':[{'what':'device','name':'d','phase':'suspend','reports':[{'call':'event','source':'S'}]}]}" 18 "answers[0]" }
 {}
 
 /// Each device that an operation names is there.
 #[tactic(auto, unfolding(crate::proofs::Reading::reading))]
 pub fn devices_are_there()
     ensures operation { Breaks "{'version':1,'actors':[{'name':'w','kind':'user','script':[{'op':'runtime','device':'d','to':'active'}]}]}" 19 "actors[0].script[0]" }
+    ensures spelled { Breaks "{'version':1,'actors':[{'name':'w','kind':'user','script':[{'op':'runtime','device':'D','to':'active'}]}]}" 19 "actors[0].script[0]" }
 {}
