@@ -1,6 +1,6 @@
 //! What the words of the command line ask for.
 
-ghost use Rattle.std.specs.Prelude.{◌≡◌, [], Some, None, codes, map};
+ghost use Rattle.std.specs.Prelude.{◌≡◌, [], ◌∷◌, codes, None};
 ghost use Rattle.machine_file.specs.Words.{command_of};
 ghost use Rattle.machine_file.specs.Words.Command.{Run, Gen, Soak};
 ghost use Rattle.file_laws.specs.Files.{Asks, AsksNothing};
@@ -23,6 +23,7 @@ pub fn generated_machine_is_asked()
 /// Words of no form.
 pub fn nothing_is_asked()
     ensures unnamed { command_of [] ≡ None }
+    ensures alone { command_of (codes "sleep" ∷ []) ≡ None }
     ensures nothing { AsksNothing "" }
     ensures other { AsksNothing "fly" }
     ensures help { AsksNothing "--help" }
