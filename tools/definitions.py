@@ -49,7 +49,11 @@ SECTIONS = [
     ("sleep_model", "The text of a log", "own", ["NameBytes", "Text"]),
     ("sleep_base", "The outside", "`include/uapi/asm-generic/errno-base.h`, for errors; the rest is own", ["Errno", "Faults", "Calls", "Streams", "Whole"]),
     ("sleep_laws", "Laws and worked logs", "own", ["Laws", "Worked", "Broken"]),
-    ("machine_file", "Accepted bytes", "own", ["Tree", "Look", "Rules", "Spelled", "Spells", "Gives"]),
+    ("machine_file", "Accepted bytes, as far as they are built", "own", ["Tree", "Look", "Rules", "Spelled", "Spells", "Gives"]),
+    ("machine_file", "Accepted bytes, whole: the first broken rule, and the machine that is spelled", "`include/linux/pm.h`, `drivers/base/core.c`; most is own", ["Whole", "Members", "Places", "Form", "Names", "Devices", "Operations", "Answering", "Limits"]),
+    ("machine_file", "How a machine is written, and generated machines", "own", ["Spelling", "Generated"]),
+    ("machine_file", "The words of the command line", "own", ["Words"]),
+    ("file_laws", "Files by which the definitions are tried", "own", ["Files", "Values", "Worked"]),
     ("sleep_core", "The core", "own", ["Places", "Histories", "HistoryFields", "Cursors", "Plans", "PlanFields", "Looks", "Room", "Cores", "CoreFields"]),
     ("sleep_main", "A whole run", "own", ["Runs", "RunFields", "Meters", "Endings"]),
 ]

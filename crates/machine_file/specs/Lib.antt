@@ -4,3 +4,15 @@ pub mod Rules
 pub mod Spelled
 pub mod Tree
 pub mod Spells
+pub mod Members
+pub mod Places
+pub mod Form
+pub mod Names
+pub mod Devices
+pub mod Operations
+pub mod Answering
+pub mod Limits
+pub mod Whole
+pub mod Spelling
+pub mod Generated
+pub mod Words

@@ -1,0 +1,200 @@
+-- How a machine is written: the compact text of its value, without what has its default.
+use Rattle.std.specs.Prelude.{ℕ, List, [], ◌∷◌, ◌++◌, codes, Bool, true, ◌==◌, ℤ, pos, map, Option, Some, None, option_map, if◌then◌else◌}
+use Rattle.serde_json.specs.Data.{Data, boolean, number, string, array, object, unsigned, Items, no_items, item, Members, no_members, put}
+use Rattle.serde_json.specs.Find.{of_integer}
+use Rattle.serde_json.specs.Written.{compact_text}
+use Rattle.sleep_base.specs.declared.errno.Errno.{Errno}
+use Rattle.sleep_base.specs.Errno.{name_of as error_name}
+use Rattle.sleep_model.specs.declared.machine.Answer.{Answer}
+use Rattle.sleep_model.specs.declared.machine.Device.{Device}
+use Rattle.sleep_model.specs.declared.machine.Link.{Link}
+use Rattle.sleep_model.specs.declared.machine.Machine.{Machine}
+use Rattle.sleep_model.specs.declared.machine.Notifier.{Notifier}
+use Rattle.sleep_model.specs.declared.machine.Op.{Op}
+use Rattle.sleep_model.specs.declared.machine.Op.TheVariants.{Read, Save, State, Autosleep, Sleep, SleepD, FreezePoint, Post, Wait, Runtime, Awake, Relax, Event}
+use Rattle.sleep_model.specs.declared.machine.Report.{Report}
+use Rattle.sleep_model.specs.declared.machine.Script.{Script}
+use Rattle.sleep_model.specs.declared.machine.SourceCall.{SourceCall}
+use Rattle.sleep_model.specs.declared.machine.SourceCall.TheVariants as call
+use Rattle.sleep_model.specs.declared.machine.Step.{Step}
+use Rattle.sleep_model.specs.declared.machine.TaskKind.{TaskKind}
+use Rattle.sleep_model.specs.declared.machine.TaskKind.TheVariants.{User, Kthread, NoFreeze, Irq}
+use Rattle.sleep_model.specs.declared.machine.What.{What}
+use Rattle.sleep_model.specs.declared.machine.What.TheVariants as what
+use Rattle.sleep_model.specs.Answers.{error_of_number}
+use Rattle.sleep_model.specs.Runtime.{has_bit, is_async, may_wake}
+use Rattle.sleep_model.specs.Text.{phase_name, down_word, runtime_word, newline, device, source, syscore, notifier, mark}
+use Rattle.machine_file.specs.Form.{Named, row}
+use Rattle.machine_file.specs.Whole.{SpellsWhole, IsSpelled}
+
+-- ---- values
+
+-- a whole number
+abbrev pub count : ℕ → Data
+count n = number (unsigned n)
+
+-- the items of a list
+abbrev pub as_items : List Data → Items
+as_items [] = no_items
+as_items (d ∷ ds) = item d (as_items ds)
+
+-- the member, where something stands at it
+abbrev pub put_if : List ℕ → Option Data → Members → Members
+put_if name None members = members
+put_if name (Some d) members = put name d members
+
+-- the members of these rows at which something stands
+abbrev pub as_members : List (Named (Option Data)) → Members
+as_members [] = no_members
+as_members (r ∷ rows) = put_if r.name r.is (as_members rows)
+
+-- the object of these rows
+abbrev pub object_of : List (Named (Option Data)) → Data
+object_of rows = object (as_members rows)
+
+-- what is always written
+abbrev pub always : List ℕ → Data → Named (Option Data)
+always name d = row name (Some d)
+
+-- a number, unless it has its default
+abbrev pub count_unless : List ℕ → ℕ → ℕ → Named (Option Data)
+count_unless name default n = row name (if n == default then None else Some (count n))
+
+-- the value true, where it holds
+abbrev pub true_if : List ℕ → Bool → Named (Option Data)
+true_if name holds = row name (if holds then Some (boolean true) else None)
+
+-- a list, unless it is empty
+abbrev pub list_unless_empty : List Data → Option Data
+list_unless_empty [] = None
+list_unless_empty ds = Some (array (as_items ds))
+
+-- a list at a member, unless it is empty
+abbrev pub list_if : List ℕ → List Data → Named (Option Data)
+list_if name ds = row name (list_unless_empty ds)
+
+-- a text at a member
+abbrev pub text_row : List ℕ → List ℕ → Named (Option Data)
+text_row name text = always name (string text)
+
+-- ---- the parts of a machine
+
+-- a device
+abbrev pub device_value : Machine → Device → Data
+device_value m d =
+    object_of (text_row (codes "name") d.name
+    ∷ row (codes "parent") (option_map (λ p. string (device m p)) d.parent)
+    ∷ true_if (codes "async") (is_async d)
+    ∷ true_if (codes "wakeup") (may_wake d)
+    ∷ row (codes "runtime") (if has_bit 4 d.flags then Some (string (codes "suspended")) else None)
+    ∷ [])
+
+-- a link
+abbrev pub link_value : Machine → Link → Data
+link_value m l = object_of (text_row (codes "supplier") (device m l.supplier) ∷ text_row (codes "consumer") (device m l.consumer) ∷ [])
+
+-- a whole number, unless it is 0
+abbrev pub integer_unless_zero : ℤ → Option Data
+integer_unless_zero (pos n) = if n == 0 then None else Some (count n)
+integer_unless_zero z = Some (number (of_integer z))
+
+-- a notifier
+abbrev pub notifier_value : Notifier → Data
+notifier_value x = object_of (text_row (codes "name") x.name ∷ row (codes "priority") (integer_unless_zero x.priority) ∷ [])
+
+-- the word of a kind
+abbrev pub kind_word : TaskKind → List ℕ
+kind_word User = codes "user"
+kind_word Kthread = codes "kthread"
+kind_word NoFreeze = codes "nofreeze"
+kind_word Irq = codes "irq"
+
+-- an operation's word and its own members
+abbrev pub op_rows : Machine → Op → List (Named (Option Data))
+op_rows m Read = text_row (codes "op") (codes "read") ∷ []
+op_rows m (Save c) = text_row (codes "op") (codes "save") ∷ row (codes "count") (option_map count c) ∷ []
+op_rows m (State text if_saved) = text_row (codes "op") (codes "state") ∷ text_row (codes "text") text ∷ true_if (codes "if_saved") if_saved ∷ []
+op_rows m (Autosleep text) = text_row (codes "op") (codes "autosleep") ∷ text_row (codes "text") text ∷ []
+op_rows m (Sleep ms) = text_row (codes "op") (codes "sleep") ∷ always (codes "ms") (count ms) ∷ []
+op_rows m (SleepD ms) = text_row (codes "op") (codes "sleep_d") ∷ always (codes "ms") (count ms) ∷ []
+op_rows m FreezePoint = text_row (codes "op") (codes "freeze_point") ∷ []
+op_rows m (Post x) = text_row (codes "op") (codes "post") ∷ text_row (codes "mark") (mark m x) ∷ []
+op_rows m (Wait x) = text_row (codes "op") (codes "wait") ∷ text_row (codes "mark") (mark m x) ∷ []
+op_rows m (Runtime d suspended) = text_row (codes "op") (codes "runtime") ∷ text_row (codes "device") (device m d) ∷ text_row (codes "to") (runtime_word suspended) ∷ []
+op_rows m (Awake s) = text_row (codes "op") (codes "awake") ∷ text_row (codes "source") (source m s) ∷ []
+op_rows m (Relax s) = text_row (codes "op") (codes "relax") ∷ text_row (codes "source") (source m s) ∷ []
+op_rows m (Event s ms hard) = text_row (codes "op") (codes "event") ∷ text_row (codes "source") (source m s) ∷ count_unless (codes "ms") 0 ms ∷ true_if (codes "hard") hard ∷ []
+
+-- an operation, and how often it is made
+abbrev pub step_value : Machine → Step → Data
+step_value m s = object_of (count_unless (codes "times") 1 s.times ∷ op_rows m s.op)
+
+-- an actor
+abbrev pub script_value : Machine → Script → Data
+script_value m s =
+    object_of (text_row (codes "name") s.name
+    ∷ text_row (codes "kind") (kind_word s.kind)
+    ∷ count_unless (codes "repeat") 1 s.repeat
+    ∷ list_if (codes "script") (map (step_value m) s.steps)
+    ∷ [])
+
+-- the thing that an answer is of
+abbrev pub thing_rows : Machine → What → List (Named (Option Data))
+thing_rows m (what.Device d p) = text_row (codes "what") (codes "device") ∷ text_row (codes "name") (device m d) ∷ text_row (codes "phase") (phase_name p) ∷ []
+thing_rows m (what.Syscore x) = text_row (codes "what") (codes "syscore") ∷ text_row (codes "name") (syscore m x) ∷ []
+thing_rows m (what.Notifier x) = text_row (codes "what") (codes "notifier") ∷ text_row (codes "name") (notifier m x) ∷ []
+thing_rows m (what.Platform step) = text_row (codes "what") (codes "platform") ∷ text_row (codes "name") (down_word step) ∷ []
+
+-- an error's name; and else the number, unless it is 0
+abbrev pub error_or : Option Errno → ℤ → Option Data
+error_or (Some e) z = Some (string (error_name e))
+error_or None z = integer_unless_zero z
+
+-- the call of a report
+abbrev pub call_rows : SourceCall → List (Named (Option Data))
+call_rows call.Awake = text_row (codes "call") (codes "awake") ∷ []
+call_rows call.Relax = text_row (codes "call") (codes "relax") ∷ []
+call_rows (call.Event ms hard) = text_row (codes "call") (codes "event") ∷ count_unless (codes "ms") 0 ms ∷ true_if (codes "hard") hard ∷ []
+call_rows call.Expire = []
+
+-- a report
+abbrev pub report_value : Machine → Report → Data
+report_value m r = object_of (text_row (codes "source") (source m r.source) ∷ call_rows r.call)
+
+-- an answer
+abbrev pub answer_value : Machine → Answer → Data
+answer_value m a =
+    object_of (row (codes "attempt") (option_map count a.attempt)
+    ∷ row (codes "ret") (error_or (error_of_number a.ret) a.ret)
+    ∷ list_if (codes "reports") (map (report_value m) a.reports)
+    ∷ thing_rows m a.what)
+
+-- ---- the machine
+
+-- the value of a machine
+abbrev pub machine_value : Machine → Data
+machine_value m =
+    object_of (always (codes "version") (count 1)
+    ∷ count_unless (codes "alarm_ms") 1000 m.alarm_ms
+    ∷ count_unless (codes "cpus") 1 m.cpus
+    ∷ count_unless (codes "auto_cycles") 16 m.auto_cycles
+    ∷ list_if (codes "devices") (map (device_value m) m.devices)
+    ∷ list_if (codes "links") (map (link_value m) m.links)
+    ∷ list_if (codes "syscore") (map string m.syscore)
+    ∷ list_if (codes "notifiers") (map notifier_value m.notifiers)
+    ∷ list_if (codes "sources") (map string m.sources)
+    ∷ list_if (codes "actors") (map (script_value m) m.actors)
+    ∷ list_if (codes "answers") (map (answer_value m) m.answers)
+    ∷ [])
+
+-- the bytes of a machine's file, with a newline at their end
+abbrev pub spelling : Machine → List ℕ
+spelling m = compact_text (machine_value m) ++ newline
+
+-- what is written for the machine spells it again
+abbrev pub ReadsBack : Machine → Type 0
+ReadsBack m = SpellsWhole (spelling m) m
+
+-- so it is of each machine that some file spells
+abbrev pub AllReadBack : Type 0
+AllReadBack = (m : Machine) → IsSpelled m → ReadsBack m
