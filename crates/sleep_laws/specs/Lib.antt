@@ -1,3 +1,14 @@
+pub mod Attempts
+pub mod Autosleep
 pub mod Broken
+pub mod Counts
+pub mod Devices
+pub mod Failures
+pub mod Freezing
+pub mod Laptop
+pub mod LaptopDown
+pub mod LaptopUp
 pub mod Laws
+pub mod Terms
+pub mod Timers
 pub mod Worked
