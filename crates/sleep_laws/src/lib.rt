@@ -4,6 +4,7 @@
 
 mod broken;
 mod laws;
+pub mod whole;
 mod worked;
 
 pub use broken::{
