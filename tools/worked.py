@@ -6,7 +6,8 @@ usage: tools/worked.py FOLDER
 FOLDER has a folder for each case: a machine file `in`, and texts of logs that were worked out apart from
 the program. The table LOGS names those that are taken, and how they are called here. A machine becomes
 the value that its file spells, a log the value that its text spells, an entry a line. What is written:
-specs/*.antt with the values, a module a subject, and src/whole.rt with a law a log.
+specs/*.antt with the values, a module a subject, src/whole.rt with a law a log, and the proof of the law
+of a long log.
 """
 
 import json
@@ -567,6 +568,64 @@ def write_halves(log):
         write_module(module, says, [list_text(name, comment, items)])
 
 
+# How many places of a long log are computed in one lemma: a declaration may take only so many steps.
+STRETCH = 150
+
+PLACES_HEAD = """\
+-- The parts of a long log fit together: computed a stretch of places at a time.
+use Rattle.std.proofs.Common.{{refl, reverse, ℕ, List}}
+use Rattle.sleep_model.specs.declared.entry.Entry.{{Entry}}
+use Rattle.sleep_model.specs.Legal.{{JointPart}}
+use Rattle.sleep_model.specs.Table.{{every_row}}
+use Rattle.sleep_laws.specs.{module}.{{{name}_machine, {name}_entries}}
+use Rattle.sleep_laws.proofs.Computed.{{before, joint_stretch}}
+
+-- the log without its newest n entries
+abbrev without : ℕ → List Entry
+without n = before n (reverse {name}_entries)
+"""
+
+ANSWERS = """\
+use Rattle.std.proofs.Common.{{refl, reverse}}
+use Rattle.sleep_model.specs.Table.{{every_row}}
+use Rattle.sleep_laws.specs.{module}.{{{name}_machine, {name}_entries}}
+use Rattle.sleep_laws.proofs.Computed.{{journal_part, source_part}}
+use Rattle.sleep_laws.proofs.{module}Places.{{{name}_fits}}
+use Rattle.sleep_laws.proofs.whole.{name}_is_legal.Goals as goal
+
+pub returns-clause-legal : goal.returns-clause-legal
+returns-clause-legal c = record {{
+  legal = record {{
+    journal = journal_part every_row {name}_machine (reverse {name}_entries) refl;
+    sources = source_part (reverse {name}_entries) refl;
+    joint = {name}_fits;
+  }};
+  stats = refl;
+}}
+"""
+
+
+def stretches(log):
+    """The lemmas that a log's parts fit together, the oldest stretch first."""
+    older, rest = len(log.lines), "tt"
+    for newer in range((older - 1) // STRETCH * STRETCH, -1, -STRETCH):
+        name, here = (f"fits_{newer}", f"(without {newer})") if newer else (f"{log.name}_fits", f"(reverse {log.name}_entries)")
+        given = f"every_row {log.name}_machine {older - newer} {here} (without {older}) refl refl {rest}"
+        visible = "" if newer else "pub "
+        yield f"\n{visible}{name} : JointPart every_row {log.name}_machine {here}\n{name} = joint_stretch {given}\n"
+        older, rest = newer, name
+
+
+def write_proofs(log):
+    """The proof that a long log is legal."""
+    names = {"module": log.module, "name": log.name}
+    proofs = CRATE / "proofs"
+    (proofs / f"{log.module}Places.antt").write_text(PLACES_HEAD.format(**names) + "".join(stretches(log)))
+    answers = proofs / "whole" / f"{log.name}_is_legal"
+    answers.mkdir(parents=True, exist_ok=True)
+    (answers / "Answers.antt").write_text(ANSWERS.format(**names))
+
+
 LAWS_HEAD = """\
 //! Whole logs that were worked out apart from the program: each is legal for its machine, and finished
 //! or stuck.
@@ -605,6 +664,7 @@ def main():
     for log in logs:
         if log.name in HALVES:
             write_halves(log)
+            write_proofs(log)
     write_laws(logs)
 
 

@@ -275,3 +275,9 @@ pub fn autosleep_of_two_lines_is_legal()
     ensures legal { IsLegalLog every_row autosleep_of_two_lines_machine autosleep_of_two_lines }
     ensures finished { IsFinishedLog every_row autosleep_of_two_lines_machine autosleep_of_two_lines }
 {}
+
+/// A laptop with its links, four processors and five scripts sleeps once and is woken by its lid.
+pub fn laptop_is_legal()
+    ensures legal { IsLegalLog every_row laptop_machine laptop }
+    ensures finished { IsFinishedLog every_row laptop_machine laptop }
+{}
