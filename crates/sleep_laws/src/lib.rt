@@ -3,6 +3,7 @@
 #![tactic(auto)]
 
 mod broken;
+pub mod broken_whole;
 mod laws;
 pub mod whole;
 mod worked;
