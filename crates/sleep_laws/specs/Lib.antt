@@ -9,6 +9,7 @@ pub mod Laptop
 pub mod LaptopDown
 pub mod LaptopUp
 pub mod Laws
+pub mod Merging
 pub mod Terms
 pub mod Timers
 pub mod Worked

@@ -5,6 +5,7 @@
 mod broken;
 pub mod broken_whole;
 mod laws;
+pub mod merged;
 pub mod whole;
 mod worked;
 
