@@ -6,8 +6,8 @@ usage: tools/worked.py FOLDER
 FOLDER has a folder for each case: a machine file `in`, and texts of logs that were worked out apart from
 the program. The table LOGS names those that are taken, and how they are called here. A machine becomes
 the value that its file spells, a log the value that its text spells, an entry a line. What is written:
-specs/*.antt with the values, a module a subject, src/whole.rt with a law a log, and the proof of the law
-of a long log.
+specs/*.antt with the values, a module a subject; src/whole.rt and src/rounds.rt with the laws; and the
+proof of the law of a long log.
 """
 
 import json
@@ -629,11 +629,31 @@ def write_proofs(log):
 LAWS_HEAD = """\
 //! Whole logs that were worked out apart from the program: each is legal for its machine, and finished
 //! or stuck.
+
+ghost use Rattle.sleep_model.specs.Legal.{IsLegalLog, IsFinishedLog, IsStuckLog};
+ghost use Rattle.sleep_model.specs.Table.{every_row};
+"""
+
+ROUNDS_HEAD = """\
+//! The definitions alone make each worked log: where every job in turn makes what is due of it, and
+//! time jumps where a round did nothing, one worker writes just these entries.
+
+ghost use Rattle.std.specs.Prelude.{◌≡◌};
+ghost use Rattle.sleep_model.specs.Table.{every_row};
+ghost use Rattle.sleep_laws.specs.Rounds.{one_worker};
 """
 
 
-def law(log):
-    """The law of a log."""
+def ghost_uses(logs, *endings):
+    """The use lines for values of these logs."""
+    for module in MODULES:
+        names = [log.name + ending for log in logs if log.module == module for ending in endings]
+        if names:
+            yield f"ghost use Rattle.sleep_laws.specs.{module}.{{{', '.join(names)}}};\n"
+
+
+def legal_law(log):
+    """The law that a log is legal, and how it ends."""
     end = "stuck { IsStuckLog" if log.stuck else "finished { IsFinishedLog"
     return f"""
 /// {log.says}
@@ -644,14 +664,22 @@ pub fn {log.name}_is_legal()
 """
 
 
+def made_law(log):
+    """The law that rounds make a log: each round but the last makes an entry, or is followed by a jump."""
+    return f"""
+/// {log.says}
+pub fn {log.name}_is_made()
+    ensures {{ one_worker every_row {log.name}_machine {len(log.lines) + 1} ≡ {log.name}_entries }}
+{{}}
+"""
+
+
 def write_laws(logs):
-    lines = [LAWS_HEAD]
-    lines.append("ghost use Rattle.sleep_model.specs.Legal.{IsLegalLog, IsFinishedLog, IsStuckLog};")
-    lines.append("ghost use Rattle.sleep_model.specs.Table.{every_row};")
-    for module in MODULES:
-        names = [name for log in logs if log.module == module for name in (f"{log.name}_machine", log.name)]
-        lines.append(f"ghost use Rattle.sleep_laws.specs.{module}.{{{', '.join(names)}}};")
-    (CRATE / "src" / "whole.rt").write_text("\n".join(lines) + "\n" + "".join(law(log) for log in logs))
+    laws = [LAWS_HEAD, *ghost_uses(logs, "_machine", ""), *map(legal_law, logs)]
+    (CRATE / "src" / "whole.rt").write_text("".join(laws))
+    short = [log for log in logs if log.name not in HALVES]
+    laws = [ROUNDS_HEAD, *ghost_uses(short, "_machine", "_entries"), *map(made_law, short)]
+    (CRATE / "src" / "rounds.rt").write_text("".join(laws))
 
 
 def main():

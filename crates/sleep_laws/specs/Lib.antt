@@ -10,6 +10,7 @@ pub mod LaptopDown
 pub mod LaptopUp
 pub mod Laws
 pub mod Merging
+pub mod Rounds
 pub mod Terms
 pub mod Timers
 pub mod Worked

@@ -6,6 +6,7 @@ mod broken;
 pub mod broken_whole;
 mod laws;
 pub mod merged;
+pub mod rounds;
 pub mod whole;
 mod worked;
 
