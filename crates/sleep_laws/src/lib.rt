@@ -3,7 +3,11 @@
 #![tactic(auto)]
 
 mod broken;
+pub mod broken_whole;
 mod laws;
+pub mod merged;
+pub mod rounds;
+pub mod whole;
 mod worked;
 
 pub use broken::{

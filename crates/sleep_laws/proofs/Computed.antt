@@ -1,0 +1,227 @@
+-- Long logs: what a log's places give is computed as a list, and compared with what its entries say.
+use Rattle.std.proofs.Common.{arith, ◌≡◌, sym, ap, subst, ◌+◌, ℕ, zero, suc, Bool, true, false, nat_lt, List, [], ◌∷◌, length, Option, Some, None, unwrap_or}
+use Rattle.std.proofs.lemmas.Bool.Decides.{nat_tests}
+use Rattle.sleep_model.specs.declared.entry.Actor.{Actor}
+use Rattle.sleep_model.specs.declared.entry.Actor.TheVariants as actor
+use Rattle.sleep_model.specs.declared.entry.Entry.{Entry}
+use Rattle.sleep_model.specs.declared.entry.Kind.{Kind}
+use Rattle.sleep_model.specs.declared.entry.Kind.TheVariants.{Expire}
+use Rattle.sleep_model.specs.declared.machine.Machine.{Machine}
+use Rattle.sleep_model.specs.declared.machine.SourceCall.TheVariants as call
+use Rattle.sleep_model.specs.declared.place.Due.{Due}
+use Rattle.sleep_model.specs.declared.place.Due.TheVariants.{Makes, Gone}
+use Rattle.sleep_model.specs.declared.word.EventNow.{EventNow}
+use Rattle.sleep_model.specs.declared.word.WordKind.{WordKind}
+use Rattle.sleep_model.specs.Calls.{next_call, is_calling}
+use Rattle.sleep_model.specs.Due.{due}
+use Rattle.sleep_model.specs.Legal.{JournalStep, JournalPart, OwnStep, SourcePart, IsOwnCall, JointStep, JointPart, is_idle, is_finished, next_time}
+use Rattle.sleep_model.specs.Numbers.{numbers, time_of}
+use Rattle.sleep_model.specs.Parts.{Part, OfJournal, Notes, Moves, OfTime, part_of}
+use Rattle.sleep_model.specs.Sources.{history, owed, caller, expiry, has_expired, IsNext, SourceStep}
+use Rattle.sleep_model.specs.Table.{Rows}
+
+-- ---- lists
+
+first_or : {A : Type 0} → A → List A → A
+first_or a [] = a
+first_or a (b ∷ bs) = b
+
+rest_of : {A : Type 0} → List A → List A
+rest_of [] = []
+rest_of (b ∷ bs) = bs
+
+-- of two lists that are the same, the first items are
+head_same : {A : Type 0} (x y : A) (xs ys : List A) → (x ∷ xs) ≡ (y ∷ ys) → x ≡ y
+unfolding first_or
+head_same x y xs ys same = ap (first_or x) same
+
+-- and so are the rests
+tail_same : {A : Type 0} (x y : A) (xs ys : List A) → (x ∷ xs) ≡ (y ∷ ys) → xs ≡ ys
+unfolding rest_of
+tail_same x y xs ys same = ap rest_of same
+
+-- ---- the journal
+
+-- what a place gives of the journal: the entry that is due, the time, and that the time is raised
+abbrev pub journal_given : Rows → Machine → List Entry → Entry → Part → Due × ℕ × Bool
+journal_given rows m past e OfJournal = (due rows m past e.actor e.now, time_of past, true)
+journal_given rows m past e OfTime = (Gone, 0, nat_lt (time_of past) e.time)
+journal_given rows m past e _ = (Gone, 0, true)
+
+-- what the entry says of it
+abbrev pub journal_said : Entry → Part → Due × ℕ × Bool
+journal_said e OfJournal = (Makes e.kind, e.time, true)
+journal_said e _ = (Gone, 0, true)
+
+-- what each place gives, the newest first
+abbrev pub all_journal_given : Rows → Machine → List Entry → List (Due × ℕ × Bool)
+all_journal_given rows m [] = []
+all_journal_given rows m (e ∷ past) = journal_given rows m past e (part_of e.kind) ∷ all_journal_given rows m past
+
+-- what each entry says
+abbrev pub all_journal_said : List Entry → List (Due × ℕ × Bool)
+all_journal_said [] = []
+all_journal_said (e ∷ past) = journal_said e (part_of e.kind) ∷ all_journal_said past
+
+journal_step : (rows : Rows) (m : Machine) (past : List Entry) (e : Entry) (part : Part) → journal_given rows m past e part ≡ journal_said e part → JournalStep rows m past e part
+journal_step rows m past e OfJournal same = (ap (λ x. x.0) same, sym (ap (λ x. x.1) same))
+journal_step rows m past e (Notes s made) same = tt
+journal_step rows m past e (Moves s step) same = tt
+journal_step rows m past e OfTime same = let raised : nat_lt (time_of past) e.time ≡ true = ap (λ x. x.2) same in grind (arith, nat_tests)
+
+-- where all agree, the journal is legal
+pub journal_part : (rows : Rows) (m : Machine) (past : List Entry) → all_journal_given rows m past ≡ all_journal_said past → JournalPart rows m past
+journal_part rows m [] same = tt
+journal_part rows m (e ∷ past) same =
+    let here = journal_given rows m past e (part_of e.kind) in
+    let says = journal_said e (part_of e.kind) in (
+      journal_step rows m past e (part_of e.kind) (head_same here says (all_journal_given rows m past) (all_journal_said past) same),
+      journal_part rows m past (tail_same here says (all_journal_given rows m past) (all_journal_said past) same),
+    )
+
+-- ---- the sources
+
+-- what a source's history gives: the steps that are owed up to a first, whether an expiry is due, and who calls
+abbrev pub Own : Type 0
+Own = List WordKind × Option WordKind × Bool × Option Actor
+
+-- the first of the steps that are owed
+abbrev pub next_step : List WordKind → Option WordKind
+next_step [] = None
+next_step (step ∷ rest) = Some step
+
+-- what the history gives for an entry
+abbrev pub own_given : List Entry → ℕ → Part → Own
+own_given own time (Notes s call.Expire) = (owed own, None, has_expired (expiry own) time, None)
+own_given own time (Notes s made) = (owed own, None, true, None)
+own_given own time (Moves s step) = ([], next_step (owed own), true, caller own)
+own_given own time part = ([], None, true, None)
+
+-- what the entry says
+abbrev pub own_said : Actor → Part → Own
+own_said who (Moves s step) = ([], Some step, true, Some who)
+own_said who part = ([], None, true, None)
+
+-- what a place gives for an entry of a source
+abbrev pub place_given : List Entry → Entry → Part → Own
+place_given past e (Notes s made) = own_given (history s past) e.time (Notes s made)
+place_given past e (Moves s step) = own_given (history s past) e.time (Moves s step)
+place_given past e part = ([], None, true, None)
+
+-- what each place gives, the newest first
+abbrev pub all_own_given : List Entry → List Own
+all_own_given [] = []
+all_own_given (e ∷ past) = place_given past e (part_of e.kind) ∷ all_own_given past
+
+-- what each entry says
+abbrev pub all_own_said : List Entry → List Own
+all_own_said [] = []
+all_own_said (e ∷ past) = own_said e.actor (part_of e.kind) ∷ all_own_said past
+
+next_is : (steps : List WordKind) (step : WordKind) → next_step steps ≡ Some step → IsNext step steps
+next_is [] step same = absurd (cc)
+next_is (first ∷ rest) step same = ap (λ o. unwrap_or o step) same
+
+source_step : (own : List Entry) (time : ℕ) (who : Actor) (part : Part) → own_given own time part ≡ own_said who part → SourceStep own time who part
+source_step own time who OfJournal same = tt
+source_step own time who (Notes s call.Awake) same = ap (λ x. x.0) same
+source_step own time who (Notes s call.Relax) same = ap (λ x. x.0) same
+source_step own time who (Notes s (call.Event ms hard)) same = ap (λ x. x.0) same
+source_step own time who (Notes s call.Expire) same = (ap (λ x. x.0) same, ap (λ x. x.2) same)
+source_step own time who (Moves s step) same = (next_is (owed own) step (ap (λ x. x.1) same), ap (λ x. x.3) same)
+source_step own time who OfTime same = tt
+
+own_step : (past : List Entry) (e : Entry) (part : Part) → place_given past e part ≡ own_said e.actor part → OwnStep past e part
+own_step past e OfJournal same = tt
+own_step past e (Notes s made) same = source_step (history s past) e.time e.actor (Notes s made) same
+own_step past e (Moves s step) same = source_step (history s past) e.time e.actor (Moves s step) same
+own_step past e OfTime same = tt
+
+-- where all agree, each source is legal
+pub source_part : (past : List Entry) → all_own_given past ≡ all_own_said past → SourcePart past
+source_part [] same = tt
+source_part (e ∷ past) same =
+    let here = place_given past e (part_of e.kind) in
+    let says = own_said e.actor (part_of e.kind) in (
+      own_step past e (part_of e.kind) (head_same here says (all_own_given past) (all_own_said past) same),
+      source_part past (tail_same here says (all_own_given past) (all_own_said past) same),
+    )
+
+-- ---- what ties them together
+
+-- the word, the time, whether the actor is inside a call, the call that it makes next, and of a jump its maker, whether nobody is enabled and the run is over, and the least pending time
+abbrev pub Tie : Type 0
+Tie = EventNow × ℕ × Bool × Option Kind × Actor × Bool × Bool × Option ℕ
+
+-- what a place gives for the call of an actor: whether it is inside another, and which is next
+abbrev pub call_given : Machine → List Entry → Actor → Bool × Option Kind
+call_given m past (actor.Timer s) = (false, Some (Expire s))
+call_given m past who = (is_calling (length m.sources + 1) past who, next_call m past who)
+
+-- what a place gives for an entry
+abbrev pub tie_given : Rows → Machine → List Entry → Entry → Part → Tie
+tie_given rows m past e OfJournal = (numbers past, 0, is_calling (length m.sources + 1) past e.actor, next_call m past e.actor, actor.Time, true, false, None)
+tie_given rows m past e (Notes s made) = (numbers past, time_of past, (call_given m past e.actor).0, (call_given m past e.actor).1, actor.Time, true, false, None)
+tie_given rows m past e (Moves s step) = (numbers past, time_of past, false, None, actor.Time, true, false, None)
+tie_given rows m past e OfTime = (numbers past, 0, false, None, e.actor, is_idle rows m past, is_finished rows m past, next_time m past)
+
+-- what the entry says
+abbrev pub tie_said : Entry → Part → Tie
+tie_said e OfJournal = (e.now, 0, false, None, actor.Time, true, false, None)
+tie_said e (Notes s made) = (e.now, e.time, false, Some e.kind, actor.Time, true, false, None)
+tie_said e (Moves s step) = (e.now, e.time, false, None, actor.Time, true, false, None)
+tie_said e OfTime = (e.now, 0, false, None, actor.Time, true, false, Some e.time)
+
+-- what each of the newest n places gives, the newest first
+abbrev pub ties_given : Rows → Machine → ℕ → List Entry → List Tie
+ties_given rows m zero past = []
+ties_given rows m (suc n) [] = []
+ties_given rows m (suc n) (e ∷ past) = tie_given rows m past e (part_of e.kind) ∷ ties_given rows m n past
+
+-- what each of their entries says
+abbrev pub ties_said : ℕ → List Entry → List Tie
+ties_said zero past = []
+ties_said (suc n) [] = []
+ties_said (suc n) (e ∷ past) = tie_said e (part_of e.kind) ∷ ties_said n past
+
+-- the entries before the newest n
+abbrev pub before : ℕ → List Entry → List Entry
+before zero past = past
+before (suc n) [] = []
+before (suc n) (e ∷ past) = before n past
+
+own_call : (m : Machine) (past : List Entry) (who : Actor) (k : Kind) → (call_given m past who).0 ≡ false → (call_given m past who).1 ≡ Some k → IsOwnCall m past who k
+own_call m past (actor.Timer s) k none next = ap (λ o. unwrap_or o k) (sym next)
+own_call m past (actor.Script i) k none next = (none, next)
+own_call m past actor.Auto k none next = (none, next)
+own_call m past (actor.Dev d) k none next = (none, next)
+own_call m past actor.Time k none next = (none, next)
+
+joint_step : (rows : Rows) (m : Machine) (past : List Entry) (e : Entry) (part : Part) → tie_given rows m past e part ≡ tie_said e part → JointStep rows m past e part
+joint_step rows m past e OfJournal same = (sym (ap (λ x. x.0) same), (ap (λ x. x.2) same, ap (λ x. x.3) same))
+joint_step rows m past e (Notes s made) same = (sym (ap (λ x. x.0) same), sym (ap (λ x. x.1) same), own_call m past e.actor e.kind (ap (λ x. x.2) same) (ap (λ x. x.3) same))
+joint_step rows m past e (Moves s step) same = (sym (ap (λ x. x.0) same), sym (ap (λ x. x.1) same))
+joint_step rows m past e OfTime same = (
+  sym (ap (λ x. x.0) same),
+  record {
+    by_time = ap (λ x. x.4) same;
+    idle = ap (λ x. x.5) same;
+    goes_on = ap (λ x. x.6) same;
+    least = ap (λ x. x.7) same;
+  },
+)
+
+-- where the newest n agree, the parts fit together if they did before
+joint_part : (rows : Rows) (m : Machine) (n : ℕ) (past : List Entry) → ties_given rows m n past ≡ ties_said n past → JointPart rows m (before n past) → JointPart rows m past
+joint_part rows m zero past same rest = rest
+joint_part rows m (suc n) [] same rest = tt
+joint_part rows m (suc n) (e ∷ past) same rest =
+    let here = tie_given rows m past e (part_of e.kind) in
+    let says = tie_said e (part_of e.kind) in (
+      joint_step rows m past e (part_of e.kind) (head_same here says (ties_given rows m n past) (ties_said n past) same),
+      joint_part rows m n past (tail_same here says (ties_given rows m n past) (ties_said n past) same) rest,
+    )
+
+-- the same, where what stood before is given by itself
+pub joint_stretch : (rows : Rows) (m : Machine) (n : ℕ) (past old : List Entry) → before n past ≡ old → ties_given rows m n past ≡ ties_said n past → JointPart rows m old → JointPart rows m past
+joint_stretch rows m n past old same agree rest = joint_part rows m n past agree (subst (λ xs. JointPart rows m xs) (sym same) rest)
