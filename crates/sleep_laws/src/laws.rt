@@ -1,31 +1,38 @@
 //! The laws of sleep.
 
 ghost use Rattle.sleep_model.specs.Guard.{count_part};
-ghost use Rattle.sleep_model.proofs.ShortLaws.{DependentsFirst, SuppliersFirst, Restored, Enters, SeesNothing, FoundPending, guard_of};
+ghost use Rattle.sleep_model.specs.Laws.{DependentsFirst, SuppliersFirst, Restored, Enters, AnswersFailure, SeesNothing, FoundPending, guard_of};
 ghost use Rattle.sleep_laws.specs.Laws.{HoldsOfAll};
 
-/// A device begins to suspend only where all below it are suspended
-/// (`drivers/base/power/main.c`, `dpm_wait_for_subordinate`).
+/// A device begins to go down in a phase only where all below it are down in that phase, or were left
+/// alone (`drivers/base/power/main.c`, `dpm_wait_for_subordinate`).
 pub fn dependents_first()
     ensures { HoldsOfAll DependentsFirst }
 {}
 
-/// A device begins to resume only where none above it is still suspended, and no callback runs
-/// (`drivers/base/power/main.c`, `dpm_wait_for_superior`).
+/// A device begins to come up in a phase only where none above it is still down in that phase, or
+/// inside a callback (`drivers/base/power/main.c`, `dpm_wait_for_superior`).
 pub fn suppliers_first()
     ensures { HoldsOfAll SuppliersFirst }
 {}
 
-/// Where an attempt is over nothing is owed: no device is suspended, and no callback runs
-/// (`drivers/base/power/main.c`, `dpm_resume`).
+/// Where an attempt is over nothing is owed: no notifier, task, device, processor, interrupt, part of
+/// the core nor step of the platform is left as the attempt put it (`kernel/power/suspend.c`,
+/// `suspend_devices_and_enter`, `suspend_finish`).
 pub fn restored()
-    ensures { HoldsOfAll (λ m. Restored) }
+    ensures { HoldsOfAll Restored }
 {}
 
-/// An attempt that no wakeup disturbed has entered, and answers 0 (`kernel/power/suspend.c`,
+/// An attempt that nothing disturbed has entered, and answers 0 (`kernel/power/suspend.c`,
 /// `suspend_enter`).
 pub fn undisturbed_attempts_enter()
     ensures { HoldsOfAll (λ m. Enters) }
+{}
+
+/// An attempt answers the error of the stage that failed, and 0 exactly where it has entered
+/// (`kernel/power/suspend.c`, `enter_state`).
+pub fn attempts_answer_their_failure()
+    ensures { HoldsOfAll (λ m. AnswersFailure) }
 {}
 
 /// An attempt under a saved count enters only where no step of the word stands since that count was
