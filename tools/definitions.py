@@ -25,6 +25,10 @@ the kernel has none.
 Where to begin: `IsLegalLog` says what a log is, `due` says which entry may stand next, `Laws` says
 what every legal log keeps, and `text` says how it is printed.
 
+The definitions are whole: they say what a sleep is with all its stages, asynchronous devices, the
+freezer and autosleep. What the program builds today is cut off by one small table, `built_rows`: the
+clauses of the core and of a run speak of the whole definitions by that choice of rows.
+
 `tools/definitions.py` writes this page.
 """
 
@@ -38,17 +42,22 @@ SECTIONS = [
     ("sleep_model", "Scripts", "own", ["Scripts", "Seats", "Calls", "Marks"]),
     ("sleep_model", "The freezer", "`kernel/power/process.c`, `kernel/freezer.c`", ["Freezer"]),
     ("sleep_model", "The autosleep lock", "`kernel/power/autosleep.c`", ["Lock"]),
+    ("sleep_model", "The autosleep work", "`kernel/power/autosleep.c`", ["Autosleep"]),
     ("sleep_model", "Runtime status", "`drivers/base/power/runtime.c`", ["Runtime"]),
-    ("sleep_model", "The phases of devices", "`drivers/base/power/main.c`", ["Phases"]),
     ("sleep_model", "The order of devices", "`drivers/base/power/main.c`", ["Order"]),
-    ("sleep_model", "The walk of a phase", "`drivers/base/power/main.c`", ["Walk"]),
-    ("sleep_model", "The path of an attempt", "`kernel/power/suspend.c`", ["Path"]),
-    ("sleep_model", "What is due", "`kernel/power/suspend.c`, `drivers/base/power/main.c`", ["Due"]),
+    ("sleep_model", "The phases of devices", "`drivers/base/power/main.c`", ["Phases", "Walk", "Devices"]),
+    ("sleep_model", "Notifiers, processors, interrupts, the core and the platform", "`kernel/power/suspend.c`, `drivers/base/syscore.c`, `kernel/cpu.c`", ["Notifiers"]),
+    ("sleep_model", "The table of an attempt", "`kernel/power/suspend.c`", ["Table"]),
+    ("sleep_model", "An attempt, stage by stage", "`kernel/power/suspend.c`", ["Path", "Attempt"]),
+    ("sleep_model", "What a task does next", "`kernel/power/main.c`", ["Tasks", "Steps"]),
+    ("sleep_model", "What is due", "own", ["Due"]),
     ("sleep_model", "Legal logs", "own", ["Legal"]),
     ("sleep_model", "The laws of sleep", "`drivers/base/power/main.c`, `kernel/power/suspend.c`", ["Laws"]),
+    ("sleep_model", "The one log of separate histories", "own", ["Merge"]),
+    ("sleep_model", "Which logs can be written, and how many places a source needs", "own", ["Fits", "Places"]),
     ("sleep_model", "The text of a log", "own", ["NameBytes", "Text"]),
     ("sleep_base", "The outside", "`include/uapi/asm-generic/errno-base.h`, for errors; the rest is own", ["Errno", "Faults", "Calls", "Streams", "Whole"]),
-    ("sleep_laws", "Laws and worked logs", "own", ["Laws", "Worked", "Broken"]),
+    ("sleep_laws", "Laws and worked logs", "own", ["Laws", "Terms", "Worked", "Attempts", "Autosleep", "Counts", "Devices", "Failures", "Freezing", "Timers", "Laptop", "LaptopDown", "LaptopUp", "Broken", "Merging", "Rounds"]),
     ("machine_file", "Accepted bytes, as far as they are built", "own", ["Tree", "Look", "Rules", "Spelled", "Spells", "Gives"]),
     ("machine_file", "Accepted bytes, whole: the first broken rule, and the machine that is spelled", "`include/linux/pm.h`, `drivers/base/core.c`; most is own", ["Whole", "Members", "Places", "Form", "Names", "Devices", "Operations", "Answering", "Limits"]),
     ("machine_file", "How a machine is written, and generated machines", "own", ["Spelling", "Generated"]),
