@@ -6,8 +6,8 @@ usage: tools/worked.py FOLDER
 FOLDER has a folder for each case: a machine file `in`, and texts of logs that were worked out apart from
 the program. The table LOGS names those that are taken, and how they are called here. A machine becomes
 the value that its file spells, a log the value that its text spells, an entry a line. What is written:
-specs/*.antt with the values, a module a subject; src/whole.rt and src/rounds.rt with the laws; and the
-proof of the law of a long log.
+specs/*.antt with the values, a module a subject; src/whole.rt, src/rounds.rt and src/texts.rt with the
+laws; and the proof of the law of a long log.
 """
 
 import json
@@ -108,6 +108,30 @@ finished
 """,
     ),
 }
+
+# Those whose text is taken too: they have lines of nearly every form.
+TEXTS = [
+    "event_stops_a_processor",
+    "hard_event",
+    "prepare_fails",
+    "asynchronous_callback_fails",
+    "syscore_step_fails",
+    "notifier_fails",
+    "asynchronous_child",
+    "direct_complete",
+    "runtime_requests",
+    "freeze_times_out",
+    "kernel_freeze_times_out",
+    "read_interrupted",
+    "save_interrupted",
+    "event_before_save",
+    "stuck_read",
+    "stuck_mark",
+    "state_texts",
+    "state_unsaved",
+    "event_expires",
+    "autosleep",
+]
 
 # Long logs of one attempt stand in two modules: up to the entering, and from there on.
 HALVES = {
@@ -627,11 +651,19 @@ def write_proofs(log):
 
 
 LAWS_HEAD = """\
-//! Whole logs that were worked out apart from the program: each is legal for its machine, and finished
-//! or stuck.
+//! Whole logs that were worked out apart from the program: each is legal for its machine, can be
+//! written, and is finished or stuck.
 
+ghost use Rattle.sleep_model.specs.Fits.{IsWritable};
 ghost use Rattle.sleep_model.specs.Legal.{IsLegalLog, IsFinishedLog, IsStuckLog};
 ghost use Rattle.sleep_model.specs.Table.{every_row};
+"""
+
+TEXTS_HEAD = """\
+//! What is written of a worked log is its text, to the byte.
+
+ghost use Rattle.std.specs.Prelude.{◌≡◌};
+ghost use Rattle.sleep_model.specs.Text.{text};
 """
 
 ROUNDS_HEAD = """\
@@ -659,6 +691,7 @@ def legal_law(log):
 /// {log.says}
 pub fn {log.name}_is_legal()
     ensures legal {{ IsLegalLog every_row {log.name}_machine {log.name} }}
+    ensures writable {{ IsWritable {log.name}_machine {log.name} }}
     ensures {end} every_row {log.name}_machine {log.name} }}
 {{}}
 """
@@ -674,12 +707,40 @@ pub fn {log.name}_is_made()
 """
 
 
+def text_law(log):
+    """The law that a log has its text."""
+    return f"""
+/// {log.says}
+#[tactic(auto, unfolding(crate::proofs::Numerals::digits))]
+pub fn {log.name}_is_written()
+    ensures {{ text {log.name}_machine {log.name} ≡ {log.name}_text }}
+{{}}
+"""
+
+
+def text_term(log):
+    """The text of a log, a line each."""
+    lines = " ++\n".join(f"    codes {json.dumps(line + chr(10))}" for line in log.text.split("\n")[:-1])
+    says = log.says[0].lower() + log.says[1:].rstrip(".")
+    return f"-- {says}: the text of its log\nabbrev pub {log.name}_text : List ℕ\n{log.name}_text =\n{lines}\n"
+
+
+def write_texts(logs):
+    """The texts of some logs, with the laws that they are the logs'."""
+    head = "-- Texts of worked logs, a line an entry.\nuse Rattle.std.specs.Prelude.{ℕ, ◌++◌, List, codes}\n\n"
+    (CRATE / "specs" / "Texts.antt").write_text(head + "\n".join(map(text_term, logs)))
+    uses = f"ghost use Rattle.sleep_laws.specs.Texts.{{{', '.join(f'{log.name}_text' for log in logs)}}};\n"
+    laws = [TEXTS_HEAD, *ghost_uses(logs, "_machine", ""), uses, *map(text_law, logs)]
+    (CRATE / "src" / "texts.rt").write_text("".join(laws))
+
+
 def write_laws(logs):
     laws = [LAWS_HEAD, *ghost_uses(logs, "_machine", ""), *map(legal_law, logs)]
     (CRATE / "src" / "whole.rt").write_text("".join(laws))
     short = [log for log in logs if log.name not in HALVES]
     laws = [ROUNDS_HEAD, *ghost_uses(short, "_machine", "_entries"), *map(made_law, short)]
     (CRATE / "src" / "rounds.rt").write_text("".join(laws))
+    write_texts([log for log in logs if log.name in TEXTS])
 
 
 def main():

@@ -12,5 +12,6 @@ pub mod Laws
 pub mod Merging
 pub mod Rounds
 pub mod Terms
+pub mod Texts
 pub mod Timers
 pub mod Worked

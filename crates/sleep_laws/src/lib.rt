@@ -7,6 +7,7 @@ pub mod broken_whole;
 mod laws;
 pub mod merged;
 pub mod rounds;
+pub mod texts;
 pub mod whole;
 mod worked;
 
