@@ -30,7 +30,6 @@ use Rattle.sleep_model.specs.Devices.{is_coming_up, waits_up, waits_above, Callb
 use Rattle.sleep_model.specs.Due.{is_over}
 use Rattle.sleep_model.specs.Guard.{pending}
 use Rattle.sleep_model.specs.Laws.{AllAmong, NoneAmong}
-
 use Rattle.sleep_model.specs.Numbers.{time_of}
 use Rattle.sleep_model.specs.Order.{above, below, is_among, order}
 use Rattle.sleep_model.specs.Parts.{part_of}
