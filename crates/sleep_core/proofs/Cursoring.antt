@@ -7,7 +7,8 @@ use Rattle.sleep_model.specs.declared.machine.Machine.{Machine}
 use Rattle.sleep_model.specs.Accepted.{HasWriter}
 use Rattle.sleep_model.proofs.ShortLegal.{JournalPart}
 use Rattle.sleep_model.specs.Order.{is_among, order}
-use Rattle.sleep_model.proofs.ShortWalk.{first_where, settled, suspended, next_down, next_up}
+use Rattle.sleep_model.specs.Walk.{first_where}
+use Rattle.sleep_model.proofs.ShortWalk.{settled, suspended, next_down, next_up}
 use Rattle.sleep_model.proofs.Tails.{IsTail, tail_fits, down_none, down_some, up_some}
 use Rattle.sleep_model.proofs.Walks.{first_suspended_none}
 use Rattle.sleep_model.proofs.Ordering.{order_plain, order_different}

@@ -21,10 +21,12 @@ use Rattle.sleep_model.specs.Accepted.{HasWriter}
 use Rattle.sleep_model.specs.Order.{is_among, order}
 use Rattle.sleep_model.specs.Guard.{pending}
 use Rattle.sleep_model.proofs.ShortLegal.{JournalPart}
-use Rattle.sleep_model.proofs.ShortPath.{maker, row_of}
+use Rattle.sleep_model.specs.Path.{maker}
+use Rattle.sleep_model.proofs.ShortPath.{row_of}
 use Rattle.sleep_model.specs.Seats.{seats, first_seat}
 use Rattle.sleep_model.specs.Scripts.{entry_steps}
-use Rattle.sleep_model.proofs.ShortWalk.{first_where, inside, error_of, settled, suspended, next_down}
+use Rattle.sleep_model.specs.Walk.{first_where}
+use Rattle.sleep_model.proofs.ShortWalk.{inside, error_of, settled, suspended, next_down}
 use Rattle.sleep_model.proofs.ShortDue.{due, path_due, suspend_due, resume_due}
 use Rattle.sleep_model.proofs.Tails.{up_some}
 use Rattle.sleep_model.proofs.Walks.{AllDifferent, first_suspended_none}

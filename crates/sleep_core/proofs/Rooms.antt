@@ -22,10 +22,12 @@ use Rattle.sleep_model.specs.Word.{position}
 use Rattle.sleep_model.specs.Accepted.{HasWriter}
 use Rattle.sleep_model.specs.Order.{is_among, order}
 use Rattle.sleep_model.specs.Guard.{pending}
-use Rattle.sleep_model.proofs.ShortPath.{maker, row_of, row_after}
+use Rattle.sleep_model.specs.Path.{maker}
+use Rattle.sleep_model.proofs.ShortPath.{row_of, row_after}
 use Rattle.sleep_model.specs.Seats.{seats, first_seat}
 use Rattle.sleep_model.specs.Scripts.{entry_steps}
-use Rattle.sleep_model.proofs.ShortWalk.{first_where, last_where, inside, inside_after, error_of, settled, settled_after, suspended, suspended_after}
+use Rattle.sleep_model.specs.Walk.{first_where, last_where}
+use Rattle.sleep_model.proofs.ShortWalk.{inside, inside_after, error_of, settled, settled_after, suspended, suspended_after}
 use Rattle.sleep_model.proofs.ShortDue.{due, path_due, suspend_due, resume_due}
 use Rattle.sleep_model.proofs.Tails.{tail_fits, down_none, down_some, up_some, without_first}
 use Rattle.sleep_model.proofs.Walks.{AllDifferent, first_suspended_none}

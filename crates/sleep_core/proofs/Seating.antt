@@ -17,7 +17,8 @@ use Rattle.sleep_model.specs.Accepted.{IsAccepted}
 use Rattle.sleep_model.proofs.ShortCalls.{is_script}
 use Rattle.sleep_model.proofs.ShortDue.{seat_due}
 use Rattle.sleep_model.proofs.ShortLegal.{JournalPart}
-use Rattle.sleep_model.proofs.ShortPath.{maker, row_of}
+use Rattle.sleep_model.specs.Path.{maker}
+use Rattle.sleep_model.proofs.ShortPath.{row_of}
 use Rattle.sleep_model.specs.Scripts.{entry_steps}
 use Rattle.sleep_model.proofs.Growing.{has_one}
 use Rattle.sleep_model.proofs.Plain.{plain_step, plain_due}

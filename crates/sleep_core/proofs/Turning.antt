@@ -13,7 +13,8 @@ use Rattle.sleep_model.specs.declared.word.EventNow.{EventNow}
 use Rattle.sleep_model.specs.Accepted.{HasWriter}
 use Rattle.sleep_model.proofs.ShortLegal.{JournalPart, JournalStep}
 use Rattle.sleep_model.specs.Numbers.{time_of, time_after}
-use Rattle.sleep_model.proofs.ShortPath.{maker, row_of, row_after, attempts, attempts_after}
+use Rattle.sleep_model.specs.Path.{maker, attempts, attempts_after}
+use Rattle.sleep_model.proofs.ShortPath.{row_of, row_after}
 use Rattle.sleep_model.proofs.ShortDue.{due}
 use Rattle.sleep_model.proofs.Made.{Made, made, made_of_journal}
 use Rattle.sleep_model.proofs.Walking.{facts_of, AtRow, plain_of}

@@ -5,7 +5,8 @@ use Rattle.sleep_model.proofs.ShortLegal.{JournalPart}
 use Rattle.sleep_model.specs.declared.place.Row.{Row}
 use Rattle.sleep_model.specs.declared.place.Row.TheVariants.{Asleep}
 use Rattle.sleep_model.specs.Numbers.{time_of}
-use Rattle.sleep_model.proofs.ShortPath.{attempts, row_of}
+use Rattle.sleep_model.specs.Path.{attempts}
+use Rattle.sleep_model.proofs.ShortPath.{row_of}
 use Rattle.sleep_core.specs.Places.{entries}
 use Rattle.sleep_core.specs.Room.{needed_at}
 use Rattle.sleep_model.specs.declared.machine.Machine.{Machine}

@@ -6,7 +6,7 @@ use Rattle.sleep_model.specs.declared.entry.Entry.{Entry}
 use Rattle.sleep_model.specs.declared.entry.JournalEntry.{JournalEntry}
 use Rattle.sleep_model.specs.declared.word.Stamp.{Stamp}
 use Rattle.sleep_model.specs.declared.place.Seat.{Seat}
-use Rattle.sleep_model.proofs.ShortPath.{attempts, attempts_after}
+use Rattle.sleep_model.specs.Path.{attempts, attempts_after}
 use Rattle.sleep_model.proofs.ShortWalk.{suspended}
 use Rattle.sleep_model.specs.Seats.{first_seat}
 use Rattle.sleep_core.specs.Places.{entries}

@@ -2,7 +2,8 @@
 use Rattle.std.specs.Prelude.{◌≡◌, length}
 use Rattle.sleep_model.specs.Numbers.{time_of}
 use Rattle.sleep_model.specs.Guard.{in_force, forgotten}
-use Rattle.sleep_model.proofs.ShortPath.{attempts, maker, row_of, failure}
+use Rattle.sleep_model.specs.Path.{attempts, maker}
+use Rattle.sleep_model.proofs.ShortPath.{row_of, failure}
 use Rattle.sleep_model.proofs.ShortWalk.{inside, error_of, settled, suspended}
 use Rattle.sleep_model.specs.Seats.{seats}
 use Rattle.sleep_core.specs.Places.{entries}

@@ -44,8 +44,9 @@ impl History {
     ghost use Rattle.std.specs.Prelude.{◌≡◌, ◌≤◌, ◌<◌, ◌+◌, ◌-◌, ◌^◌, [], ◌∷◌, length, reverse, IsOk, OnOk, OnErr, IfOk, slice_index_or};
     ghost use Rattle.sleep_model.specs.Numbers.{time_of};
     ghost use Rattle.sleep_model.specs.Guard.{in_force, forgotten};
-    ghost use Rattle.sleep_model.proofs.ShortLegal.{all_exited};
-    ghost use Rattle.sleep_model.proofs.ShortPath.{attempts, maker, row_of, is_asleep, failure};
+    ghost use Rattle.sleep_model.specs.Seats.{all_exited};
+    ghost use Rattle.sleep_model.specs.Path.{attempts, maker};
+    ghost use Rattle.sleep_model.proofs.ShortPath.{row_of, is_asleep, failure};
     ghost use Rattle.sleep_model.proofs.ShortWalk.{inside, error_of, settled, suspended};
     ghost use Rattle.sleep_model.specs.Seats.{seats, first_seat};
     ghost use Rattle.sleep_core.specs.Places.{entries};

@@ -1,6 +1,6 @@
 ghost use Rattle.std.specs.Prelude.{◌≡◌, false, IfOk};
 ghost use Rattle.sleep_model.specs.Accepted.{HasWriter};
-ghost use Rattle.sleep_model.proofs.ShortDue.{read_due, save_due};
+ghost use Rattle.sleep_model.specs.Steps.{read_due, save_due};
 
 use crate::events::{Events, look_from};
 use crate::history::History;
@@ -113,7 +113,8 @@ impl<'m> Core<'m> {
     ghost use Rattle.sleep_model.proofs.ShortLegal.{alarm_at};
     ghost use Rattle.sleep_model.specs.Seats.{all_exited};
     ghost use Rattle.sleep_model.specs.Numbers.{time_of};
-    ghost use Rattle.sleep_model.proofs.ShortPath.{maker, row_of};
+    ghost use Rattle.sleep_model.specs.Path.{maker};
+    ghost use Rattle.sleep_model.proofs.ShortPath.{row_of};
     ghost use Rattle.sleep_model.specs.Seats.{seats, first_seat};
     ghost use Rattle.sleep_model.proofs.ShortWalk.{inside, error_of, next_down, next_up};
     ghost use Rattle.sleep_model.specs.Word.{position};

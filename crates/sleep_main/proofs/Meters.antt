@@ -8,7 +8,7 @@ use Rattle.sleep_model.specs.declared.entry.Kind.{Kind}
 use Rattle.sleep_model.specs.declared.entry.Kind.TheVariants as kind
 use Rattle.sleep_model.specs.declared.machine.Machine.{Machine}
 use Rattle.sleep_model.specs.declared.word.EventNow.{EventNow}
-use Rattle.sleep_model.proofs.ShortLegal.{stats_of}
+use Rattle.sleep_model.specs.Legal.{stats_of}
 use Rattle.sleep_model.specs.Numbers.{numbers, time_of}
 use Rattle.sleep_model.specs.Parts.{part_of}
 use Rattle.sleep_model.specs.Sources.{history, is_of, is_start, is_event, count_where, run_time, total, AreQuiet}

@@ -22,7 +22,8 @@ use Rattle.sleep_model.specs.declared.word.WordKind.TheVariants as step
 use Rattle.sleep_model.specs.Accepted.{IsAccepted, IsOneWriter}
 use Rattle.sleep_model.proofs.ShortCalls.{calls, calls_after, calls_due, script_calls_before, next_note, OnPlan}
 use Rattle.sleep_model.proofs.ShortDue.{due}
-use Rattle.sleep_model.proofs.ShortLegal.{IsLegal, is_finished, next_time, stats_of, journal_time, sooner, next_expiry}
+use Rattle.sleep_model.specs.Legal.{stats_of, sooner, next_expiry}
+use Rattle.sleep_model.proofs.ShortLegal.{IsLegal, is_finished, next_time, journal_time}
 use Rattle.sleep_model.specs.Numbers.{numbers, after_step, time_of}
 use Rattle.sleep_model.specs.Parts.{Part, OfJournal, part_of, is_kept, journal}
 use Rattle.sleep_model.specs.Sources.{is_of, history, AreQuiet}

@@ -9,7 +9,8 @@ use Rattle.sleep_model.specs.declared.machine.Machine.{Machine}
 use Rattle.sleep_model.specs.declared.word.EventNow.{EventNow}
 use Rattle.sleep_model.specs.declared.word.WordKind.TheVariants as step
 use Rattle.sleep_model.proofs.ShortCalls.{next_note, is_calling, is_left, is_script}
-use Rattle.sleep_model.proofs.ShortLegal.{IsLegal, none_expires, sooner, next_expiry}
+use Rattle.sleep_model.specs.Legal.{none_expires, sooner, next_expiry}
+use Rattle.sleep_model.proofs.ShortLegal.{IsLegal}
 use Rattle.sleep_model.specs.Numbers.{numbers, after_step, time_of}
 use Rattle.sleep_model.specs.Parts.{part_of}
 use Rattle.sleep_model.specs.Sources.{history, is_of, has_expired, IsQuiet, AreQuiet, since, behind_first, owed, caller, IsNext, starting}

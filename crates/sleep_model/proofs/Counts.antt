@@ -8,7 +8,8 @@ use Rattle.sleep_model.specs.declared.entry.Kind.{Kind}
 use Rattle.sleep_model.specs.declared.entry.Kind.TheVariants as kind
 use Rattle.sleep_model.specs.declared.phase.Phase.TheVariants as phase
 use Rattle.sleep_model.specs.declared.place.Seat.{Seat}
-use Rattle.sleep_model.proofs.ShortWalk.{settled, settled_after, suspended, suspended_after, without}
+use Rattle.sleep_model.specs.Walk.{without}
+use Rattle.sleep_model.proofs.ShortWalk.{settled, settled_after, suspended, suspended_after}
 use Rattle.sleep_model.specs.Seats.{SeatPart, Waits, Reads, Steps, Exits, Stays, seat_after, seats_after, seat_part, seats, first_seat}
 
 settled_step : (k : Kind) (xs : List ℕ) → length (settled_after k xs) ≤ suc (length xs)

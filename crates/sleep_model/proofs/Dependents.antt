@@ -5,7 +5,7 @@ use Rattle.std.proofs.lemmas.Bool.Decides.{nat_tests}
 use Rattle.sleep_model.specs.declared.machine.Device.{Device}
 use Rattle.sleep_model.specs.Accepted.{ParentsEarlier}
 use Rattle.sleep_model.specs.Order.{is_among, is_parent, children_from, parent_of}
-use Rattle.sleep_model.proofs.ShortWalk.{first_where, last_where, or_else}
+use Rattle.sleep_model.specs.Walk.{first_where, last_where, or_else}
 use Rattle.sleep_model.proofs.ShortLaws.{AllAmong, NoneAmong}
 
 first_or_after : (a c : ℕ) → a ≤ c → ((a ≡ c) ⊎ (a < c))

@@ -20,13 +20,16 @@ use Rattle.sleep_model.specs.declared.place.Seat.{Seat}
 use Rattle.sleep_model.specs.declared.word.EventNow.{EventNow}
 use Rattle.sleep_model.specs.Accepted.{IsAccepted, IsOneWriter, HasWriter}
 use Rattle.sleep_model.specs.Numbers.{time_of, numbers, word_step, after_step}
-use Rattle.sleep_model.proofs.ShortPath.{maker, row_of}
+use Rattle.sleep_model.specs.Path.{maker}
+use Rattle.sleep_model.proofs.ShortPath.{row_of}
 use Rattle.sleep_model.specs.Seats.{SeatPart, seats, seats_after, seat_part, first_seat}
 use Rattle.sleep_model.proofs.ShortDue.{due}
 use Rattle.sleep_model.proofs.ShortCalls.{next_note}
 use Rattle.sleep_model.specs.Parts.{OfJournal, OfTime, part_of}
 use Rattle.sleep_model.specs.Sources.{is_of}
-use Rattle.sleep_model.proofs.ShortLegal.{IsLegal, JournalPart, JournalStep, OwnStep, JointStep, IsOwnTurn, is_made, none_enabled, none_expires, sooner, next_expiry, is_idle, is_finished, all_exited, next_time, alarm_at}
+use Rattle.sleep_model.specs.Legal.{OwnStep, is_made, none_expires, sooner, next_expiry}
+use Rattle.sleep_model.specs.Seats.{all_exited}
+use Rattle.sleep_model.proofs.ShortLegal.{IsLegal, JournalPart, JournalStep, JointStep, IsOwnTurn, none_enabled, is_idle, is_finished, next_time, alarm_at}
 use Rattle.sleep_model.proofs.Plain.{alarm_only}
 use Rattle.sleep_model.proofs.Walking.{facts_of, plain_of, AtRow}
 use Rattle.sleep_model.specs.Sources.{AreQuiet}

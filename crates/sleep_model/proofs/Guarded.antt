@@ -15,7 +15,8 @@ use Rattle.sleep_model.specs.declared.word.WordKind.TheVariants as step
 use Rattle.sleep_model.specs.Accepted.{HasWriter}
 use Rattle.sleep_model.specs.Guard.{in_force, count_part, count_pending, force_after, forgotten, Finds}
 use Rattle.sleep_model.proofs.ShortLaws.{Answered, later_answer, answer_after, answer_of, is_same, with_step, rests_on, steps_after, steps_since, finishes, guard_of, guard_after, SeesNothing}
-use Rattle.sleep_model.proofs.ShortLegal.{JournalPart, SourcePart, JointPart, JournalStep, OwnStep, JointStep}
+use Rattle.sleep_model.specs.Legal.{SourcePart, OwnStep}
+use Rattle.sleep_model.proofs.ShortLegal.{JournalPart, JointPart, JournalStep, JointStep}
 use Rattle.sleep_model.specs.Numbers.{numbers, after_step}
 use Rattle.sleep_model.specs.Parts.{OfJournal, part_of}
 use Rattle.sleep_model.proofs.ShortPath.{row_of, row_after}

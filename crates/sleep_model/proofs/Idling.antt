@@ -21,7 +21,8 @@ use Rattle.sleep_model.specs.declared.word.EventNow.{EventNow}
 use Rattle.sleep_model.specs.Word.{visible}
 use Rattle.sleep_model.specs.Accepted.{IsAccepted, IsOneWriter}
 use Rattle.sleep_model.specs.Numbers.{time_of}
-use Rattle.sleep_model.proofs.ShortPath.{maker, row_of}
+use Rattle.sleep_model.specs.Path.{maker}
+use Rattle.sleep_model.proofs.ShortPath.{row_of}
 use Rattle.sleep_model.specs.Scripts.{entry_steps}
 use Rattle.sleep_model.specs.Seats.{seats, first_seat}
 use Rattle.sleep_model.proofs.ShortWalk.{inside}

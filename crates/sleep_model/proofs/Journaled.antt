@@ -14,9 +14,11 @@ use Rattle.sleep_model.specs.declared.place.Row.{Row}
 use Rattle.sleep_model.specs.declared.place.Row.TheVariants as row
 use Rattle.sleep_model.specs.declared.place.Seat.{Seat}
 use Rattle.sleep_model.specs.declared.word.EventNow.{EventNow}
-use Rattle.sleep_model.proofs.ShortDue.{due, rest_due, script_due, seat_due, task_due, step_due, path_due}
+use Rattle.sleep_model.specs.Steps.{step_due}
+use Rattle.sleep_model.proofs.ShortDue.{due, rest_due, script_due, seat_due, task_due, path_due}
 use Rattle.sleep_model.specs.Freezer.{is_asked, asked_after, is_frozen, frozen_after}
-use Rattle.sleep_model.proofs.ShortLegal.{JournalPart, JournalStep, alarm_at, sooner, pending_sleep, next_sleep, journal_time}
+use Rattle.sleep_model.specs.Legal.{sooner}
+use Rattle.sleep_model.proofs.ShortLegal.{JournalPart, JournalStep, alarm_at, pending_sleep, next_sleep, journal_time}
 use Rattle.sleep_model.specs.Lock.{holder, holder_after, is_on, on_after}
 use Rattle.sleep_model.specs.Marks.{raised, mark_after}
 use Rattle.sleep_model.specs.Runtime.{is_prepared, prepared_after, is_off_direct, off_direct_after, is_off_late, off_late_after}
@@ -26,7 +28,8 @@ use Rattle.sleep_model.specs.declared.log.Why.TheVariants as why
 use Rattle.sleep_model.specs.Guard.{in_force, force_after, count_part, forgotten, forgotten_after}
 use Rattle.sleep_model.specs.Numbers.{time_of, time_after}
 use Rattle.sleep_model.specs.Parts.{Part, OfJournal, Notes, Moves, OfTime, part_of, is_kept, journal}
-use Rattle.sleep_model.proofs.ShortPath.{attempts, attempts_after, maker, maker_after, row_of, is_asleep, row_after, failure, failure_after}
+use Rattle.sleep_model.specs.Path.{attempts, attempts_after, maker, maker_after}
+use Rattle.sleep_model.proofs.ShortPath.{row_of, is_asleep, row_after, failure, failure_after}
 use Rattle.sleep_model.specs.Scripts.{entry_steps}
 use Rattle.sleep_model.specs.Seats.{Stays, seats, seats_after, seat_part, first_seat}
 use Rattle.sleep_model.proofs.ShortWalk.{inside, inside_after, error_of, error_after, settled, settled_after, suspended, suspended_after}

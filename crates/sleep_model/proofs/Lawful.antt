@@ -15,14 +15,17 @@ use Rattle.sleep_model.specs.declared.word.EventNow.{EventNow}
 use Rattle.sleep_model.specs.Accepted.{IsAccepted}
 use Rattle.sleep_model.specs.Guard.{pending, in_force, count_part}
 use Rattle.sleep_model.specs.Numbers.{numbers}
-use Rattle.sleep_model.proofs.ShortPath.{row_of, row_after, failure, failure_after, attempts}
-use Rattle.sleep_model.proofs.ShortWalk.{error_of, error_after, settled, suspended, first_where, last_where}
+use Rattle.sleep_model.specs.Path.{attempts}
+use Rattle.sleep_model.proofs.ShortPath.{row_of, row_after, failure, failure_after}
+use Rattle.sleep_model.specs.Walk.{first_where, last_where}
+use Rattle.sleep_model.proofs.ShortWalk.{error_of, error_after, settled, suspended}
 use Rattle.sleep_model.specs.Order.{is_among}
 use Rattle.sleep_model.specs.Word.{position, visible}
 use Rattle.sleep_model.specs.declared.entry.SkipCause.TheVariants.{Pending}
 use Rattle.sleep_model.proofs.ShortLaws.{AllAmong, NoneAmong, DependentsFirst, SuppliersFirst, Restored, Enters, SeesNothing, FoundPending, Laws, LawsAt, test_part, disturbed, disturbed_after, entered, entered_after, guard_of}
 use Rattle.sleep_model.specs.Parts.{part_of}
-use Rattle.sleep_model.proofs.ShortLegal.{IsLegal, JournalPart, JournalStep, SourcePart, JointPart, JointStep}
+use Rattle.sleep_model.specs.Legal.{SourcePart}
+use Rattle.sleep_model.proofs.ShortLegal.{IsLegal, JournalPart, JournalStep, JointPart, JointStep}
 use Rattle.sleep_model.proofs.Walking.{Facts, facts_of, plain_of, AtRow, InSuspend}
 use Rattle.sleep_model.proofs.Guarded.{IsGuarded, guarded_of, sees_nothing}
 use Rattle.sleep_model.proofs.Made.{Made, made}

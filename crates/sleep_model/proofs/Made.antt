@@ -23,7 +23,8 @@ use Rattle.sleep_model.specs.declared.word.EventNow.{EventNow}
 use Rattle.sleep_model.specs.Word.{visible}
 use Rattle.sleep_model.specs.Accepted.{HasWriter}
 use Rattle.sleep_model.specs.Guard.{in_force, pending}
-use Rattle.sleep_model.proofs.ShortPath.{attempts, maker, row_of, failure}
+use Rattle.sleep_model.specs.Path.{attempts, maker}
+use Rattle.sleep_model.proofs.ShortPath.{row_of, failure}
 use Rattle.sleep_model.specs.Scripts.{entry_steps}
 use Rattle.sleep_model.specs.Seats.{seats, first_seat}
 use Rattle.sleep_model.proofs.ShortWalk.{inside, error_of, next_down, next_up}

@@ -14,12 +14,15 @@ use Rattle.sleep_model.specs.declared.place.Due.TheVariants.{Makes, Gone}
 use Rattle.sleep_model.specs.declared.place.Row.TheVariants as row
 use Rattle.sleep_model.specs.declared.place.Seat.{Seat}
 use Rattle.sleep_model.specs.declared.word.EventNow.{EventNow}
-use Rattle.sleep_model.proofs.ShortDue.{read_due, save_due, step_due, task_due}
+use Rattle.sleep_model.specs.Steps.{read_due, save_due, step_due}
+use Rattle.sleep_model.proofs.ShortDue.{task_due}
 use Rattle.sleep_model.specs.Freezer.{is_task, is_asked, asked_after, is_frozen, frozen_after}
 use Rattle.sleep_model.specs.Guard.{in_force}
 use Rattle.sleep_model.specs.Lock.{holder, holder_after, is_on, on_after}
-use Rattle.sleep_model.proofs.ShortPath.{attempts, maker, maker_after, row_of, is_asleep}
-use Rattle.sleep_model.proofs.ShortLegal.{alarm_at, sooner, pending_sleep, next_sleep, journal_time}
+use Rattle.sleep_model.specs.Path.{attempts, maker, maker_after}
+use Rattle.sleep_model.proofs.ShortPath.{row_of, is_asleep}
+use Rattle.sleep_model.specs.Legal.{sooner}
+use Rattle.sleep_model.proofs.ShortLegal.{alarm_at, pending_sleep, next_sleep, journal_time}
 use Rattle.sleep_model.specs.Tasks.{is_line, sleeps_until, until_after}
 use Rattle.sleep_model.specs.declared.machine.Machine.{Machine}
 use Rattle.sleep_model.specs.Scripts.{entry_steps}

@@ -3,7 +3,7 @@ use Rattle.std.proofs.Common.{◌≡◌, ◌<◌, ◌≤◌, ◌-◌, ◌∙◌,
 use Rattle.std.proofs.Math.Seq.{drop-cons, drop-length}
 use Rattle.std.proofs.lemmas.List.{length-drop}
 use Rattle.std.proofs.lemmas.Bool.Decides.{nat_tests}
-use Rattle.sleep_model.proofs.ShortWalk.{first_where, last_where, without}
+use Rattle.sleep_model.specs.Walk.{first_where, last_where, without}
 use Rattle.sleep_model.specs.Order.{is_among}
 use Rattle.sleep_model.proofs.Walks.{AllDifferent, last_unsettled_none, last_unsettled, first_suspended}
 

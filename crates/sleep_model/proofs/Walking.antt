@@ -22,10 +22,12 @@ use Rattle.sleep_model.specs.Word.{position, visible}
 use Rattle.sleep_model.specs.Accepted.{IsOneWriter, HasWriter}
 use Rattle.sleep_model.specs.Order.{is_among, order}
 use Rattle.sleep_model.specs.Guard.{pending}
-use Rattle.sleep_model.proofs.ShortPath.{maker, maker_after, row_of, row_after}
+use Rattle.sleep_model.specs.Path.{maker, maker_after}
+use Rattle.sleep_model.proofs.ShortPath.{row_of, row_after}
 use Rattle.sleep_model.specs.Seats.{seats, first_seat}
 use Rattle.sleep_model.specs.Scripts.{entry_steps}
-use Rattle.sleep_model.proofs.ShortWalk.{first_where, last_where, inside, inside_after, error_of, error_after, settled, settled_after, suspended, suspended_after}
+use Rattle.sleep_model.specs.Walk.{first_where, last_where}
+use Rattle.sleep_model.proofs.ShortWalk.{inside, inside_after, error_of, error_after, settled, settled_after, suspended, suspended_after}
 use Rattle.sleep_model.proofs.ShortDue.{due, script_due, seat_due, path_due, suspend_due, resume_due}
 use Rattle.sleep_model.proofs.ShortLegal.{JournalPart, JournalStep}
 use Rattle.sleep_model.specs.Parts.{part_of}

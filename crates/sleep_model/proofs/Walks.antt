@@ -5,7 +5,7 @@ use Rattle.std.proofs.Math.Bool.{or-true}
 use Rattle.std.proofs.Math.Seq.{drop-nil}
 use Rattle.std.proofs.lemmas.Bool.{true≢false, false_from_ne_true}
 use Rattle.std.proofs.lemmas.Bool.Decides.{nat_tests}
-use Rattle.sleep_model.proofs.ShortWalk.{first_where, last_where}
+use Rattle.sleep_model.specs.Walk.{first_where, last_where}
 use Rattle.sleep_model.specs.Order.{is_among}
 
 -- no device stands twice

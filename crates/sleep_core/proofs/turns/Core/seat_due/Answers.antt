@@ -1,7 +1,7 @@
 use Rattle.std.proofs.Common.{◌≡◌, ◌∙◌, ◌<◌, List, None, length, sym, ap, subst, option_copied, slice_get, slice_index_or}
 use Rattle.sleep_model.specs.declared.machine.Script.{Script}
 use Rattle.sleep_model.proofs.ShortDue.{seat_due}
-use Rattle.sleep_model.proofs.ShortPath.{maker}
+use Rattle.sleep_model.specs.Path.{maker}
 use Rattle.sleep_model.specs.Seats.{seats, first_seat}
 use Rattle.sleep_model.proofs.Plain.{plain_step}
 use Rattle.sleep_core.specs.Cores.{CoreState}
