@@ -1,5 +1,6 @@
 -- Which devices are not registered.
-use Rattle.std.specs.Prelude.{◌≡◌, ℕ, Bool, false, List, map, length, position, bytes_eq, is_some, nat_le, if◌then◌else◌, Option, Some, None, Result, Ok, Err}
+use Rattle.std.specs.Prelude.{◌≡◌, ℕ, Bool, false, List, map, length, position, bytes_eq, nat_le, if◌then◌else◌, Option, Some, None, Result, Ok, Err}
+use Rattle.std.specs.List.{list_any}
 use Rattle.sleep_model.specs.declared.machine.Device.{Device}
 use Rattle.device_tree.specs.declared.fault.TreeFault.{TreeFault}
 use Rattle.device_tree.specs.declared.fault.TreeFault.TheVariants.{TooMany, NameTaken, NoParent, Mem}
@@ -7,6 +8,10 @@ use Rattle.device_tree.specs.declared.fault.TreeFault.TheVariants.{TooMany, Name
 -- the number of the device of this name
 abbrev pub place_of : List ℕ → List Device → Option ℕ
 place_of name devices = position (bytes_eq name) (map (λ d. d.name) devices)
+
+-- a device of this name stands among them
+abbrev pub is_taken : List ℕ → List Device → Bool
+is_taken name devices = list_any (bytes_eq name) (map (λ d. d.name) devices)
 
 -- the parent is not among the first n devices
 abbrev pub is_lost : ℕ → Option ℕ → Bool
@@ -17,7 +22,7 @@ is_lost n (Some p) = nat_le n p
 abbrev pub refusal : List Device → Device → Option TreeFault
 refusal devices d =
     if nat_le 1000 (length devices) then Some TooMany else
-    if is_some (place_of d.name devices) then Some NameTaken else
+    if is_taken d.name devices then Some NameTaken else
     if is_lost (length devices) d.parent then Some NoParent else None
 
 -- what is answered is the refusal, and where there is none, want of memory or success

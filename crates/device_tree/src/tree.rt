@@ -1,6 +1,12 @@
+ghost use Rattle.std.specs.Prelude.{◌≡◌, ◌<◌, IfSome, OnOk, length, slice_index, vec_len, vec_capacity};
+ghost use Rattle.indexmap.specs.IndexSet.{spare};
+ghost use Rattle.device_tree.specs.Refusal.{is_lost};
+ghost use Rattle.device_tree.specs.Kept.{hung};
+
 use crate::fault::TreeFault;
 use device_rows::Rows;
 use indexmap::IndexSet;
+use sleep_base::Mem;
 use sleep_model::{Device, Name};
 use std::alloc::Global;
 use std::marker::Model;
@@ -61,19 +67,46 @@ impl Tree {
         if let Some(fault) = self.refusal(&device) {
             return Err(fault);
         }
-        self.make_room(device.parent)?;
         let number = self.devices.len() as u32;
-        if let Some(parent) = device.parent {
-            self.children.push(parent, number);
+        make_room(
+            &mut self.devices,
+            &mut self.names,
+            &mut self.children,
+            device.parent,
+        )?;
+        self.children.add_row()?;
+        hang(&mut self.children, device.parent, number);
+        match self.names.insert(device.name) {
+            Ok(_) => (),
+            Err(_) => unreachable!(),
         }
-        Ok(number)
+        match self.devices.push(device) {
+            Ok(()) => Ok(number),
+            Err(_) => unreachable!(),
+        }
+    }
+
+    // Why the device is not registered, but for want of memory.
+    fn refusal(&self, device: &Device) -> Option<TreeFault>
+        ensures { result ≡ refusal self.now device.now }
+    {
+        if self.devices.len() >= MOST_DEVICES {
+            return Some(TreeFault::TooMany);
+        }
+        if self.names.contains(&device.name) {
+            return Some(TreeFault::NameTaken);
+        }
+        if is_lost(self.devices.len(), device.parent) {
+            return Some(TreeFault::NoParent);
+        }
+        None
     }
 
     /// The number of the device of this name. None exactly where there is none.
     pub fn find(&self, name: &Name) -> Option<u32>
         ensures { result ≡ place_of name.now self.now }
     {
-        match self.names.get_index_of(*name) {
+        match self.names.get_index_of(name) {
             Some(place) => Some(place as u32),
             None => None,
         }
@@ -112,5 +145,48 @@ impl Tree {
             children: _,
         } = self;
         devices
+    }
+}
+
+// Whether the parent is not among the first `count` devices.
+fn is_lost(count: usize, parent: Option<u32>) -> bool
+    ensures { result ≡ is_lost count parent }
+{
+    match parent {
+        Some(parent) => parent as usize >= count,
+        None => false,
+    }
+}
+
+// Room for one more device, and for one more child of its parent.
+fn make_room(
+    devices: &mut Vec<Device>,
+    names: &mut IndexSet<Name>,
+    children: &mut Rows,
+    parent: Option<u32>,
+) -> Result<(), Mem>
+    requires { IfSome parent (λ p. p < length children.old.rows) }
+    ensures devices { devices.new.items ≡ devices.old.items }
+    ensures names { names.new.keys ≡ names.old.keys }
+    ensures children { children.new.rows ≡ children.old.rows }
+    ensures device { OnOk result (vec_len devices.new < vec_capacity devices.new) }
+    ensures name { OnOk result (0 < spare names.new) }
+    ensures child { OnOk result (IfSome parent (λ p. 0 < slice_index children.new.room p)) }
+{
+    devices.reserve(1)?;
+    names.reserve(1)?;
+    if let Some(parent) = parent {
+        children.make_room(parent)?;
+    }
+    Ok(())
+}
+
+// Puts the device at the end of its parent's children.
+fn hang(children: &mut Rows, parent: Option<u32>, device: u32)
+    requires { IfSome parent (λ p. 0 < slice_index children.old.room p) }
+    ensures { children.new.rows ≡ hung children.old.rows parent device }
+{
+    if let Some(parent) = parent {
+        children.push(parent, device);
     }
 }

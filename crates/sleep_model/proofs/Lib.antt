@@ -1,4 +1,5 @@
 pub mod Calling
+pub mod Children
 pub mod Counts
 pub mod Dependents
 pub mod Growing

@@ -1,5 +1,5 @@
 -- The order of devices, and which must go first (drivers/base/power/main.c, dpm_list; drivers/base/core.c, device_link_add).
-use Rattle.std.specs.Prelude.{ℕ, zero, suc, Bool, false, not, ◌==◌, ◌||◌, List, [], ◌∷◌, ◌++◌, length, map, reverse, filter, flat_map, if◌then◌else◌, Option, Some, None, option_to_list, slice_get}
+use Rattle.std.specs.Prelude.{◌<◌, ℕ, zero, suc, Bool, false, not, ◌==◌, ◌||◌, List, [], ◌∷◌, ◌++◌, length, map, reverse, filter, flat_map, if◌then◌else◌, Option, Some, None, IfSome, option_to_list, slice_get}
 use Rattle.std.specs.List.{range_with_len}
 use Rattle.sleep_model.specs.declared.machine.Machine.{Machine}
 use Rattle.sleep_model.specs.declared.machine.Device.{Device}
@@ -20,6 +20,11 @@ is_parent d (Some p) = p == d
 -- the parent of each device, in the order of registration (struct device, parent)
 abbrev pub parents_of : List Device → List (Option ℕ)
 parents_of devices = map (λ x. x.parent) devices
+
+-- each device is registered after its parent; n devices stand before these (device_add)
+abbrev pub EachAfterParent : ℕ → List (Option ℕ) → Type 0
+EachAfterParent n [] = Unit {0}
+EachAfterParent n (p ∷ ps) = IfSome p (λ q. q < n) × EachAfterParent (suc n) ps
 
 -- the numbers, from n on, of the devices whose parent is d, where these are the parents (device_for_each_child)
 abbrev pub children_from : ℕ → ℕ → List (Option ℕ) → List ℕ
