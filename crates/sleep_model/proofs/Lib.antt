@@ -1,9 +1,11 @@
+pub mod Acyclic
 pub mod Calling
 pub mod Children
 pub mod Counts
 pub mod Dependents
 pub mod Growing
 pub mod Guarded
+pub mod Hanging
 pub mod Idling
 pub mod Journaled
 pub mod Lawful

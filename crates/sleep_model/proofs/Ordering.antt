@@ -87,7 +87,7 @@ different_append (x ∷ xs) ys h g apart = (
 pub order_by_different : (ds : List (Option ℕ)) (ls : List Link) → AllDifferent (order_by ds ls)
 order_by_different ds [] = run_different 0 (length ds)
 order_by_different ds (l ∷ ls) =
-    let ms = moved (length ds) ds (l ∷ ls) l.consumer in
+    let ms = moved (length ds) (hanging ds (l ∷ ls)) l.consumer in
     different_append (filter (λ d. not (is_among ms d)) (order_by ds ls)) (last_places ms) (different_filter (λ d. not (is_among ms d)) (order_by ds ls) (order_by_different ds ls)) (different_last ms)
     (λ d m. apart ms d (is_among ms d) refl m)
   where

@@ -6,6 +6,7 @@ pub mod Freezer
 pub mod Guard
 pub mod Laws
 pub mod Legal
+pub mod Links
 pub mod Lock
 pub mod Marks
 pub mod NameBytes

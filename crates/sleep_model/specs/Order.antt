@@ -64,10 +64,10 @@ above m d = holding (parents_of m.devices) (reverse m.links) d
 
 -- ---- the order
 
--- d, then all that hangs below it, each with its own, so many levels deep (device_reorder_to_tail)
-abbrev pub moved : ℕ → List (Option ℕ) → List Link → ℕ → List ℕ
-moved zero parents links d = d ∷ []
-moved (suc levels) parents links d = d ∷ flat_map (moved levels parents links) (hanging parents links d)
+-- d, then all that hangs below it, each with its own, so many levels deep, where `hang` gives what hangs right below a device (device_reorder_to_tail)
+abbrev pub moved : ℕ → (ℕ → List ℕ) → ℕ → List ℕ
+moved zero hang d = d ∷ []
+moved (suc levels) hang d = d ∷ flat_map (moved levels hang) (hang d)
 
 -- each device at its last place alone
 abbrev pub last_places : List ℕ → List ℕ
@@ -81,7 +81,7 @@ moved_last devices order = filter (λ d. not (is_among devices d)) order ++ last
 -- the order after these links, the newest first: each moved its consumer, and all that hangs below it by the links up to this one, to the end (device_link_add)
 abbrev pub order_by : List (Option ℕ) → List Link → List ℕ
 order_by parents [] = range_with_len 0 (length parents)
-order_by parents (l ∷ earlier) = moved_last (moved (length parents) parents (l ∷ earlier) l.consumer) (order_by parents earlier)
+order_by parents (l ∷ earlier) = moved_last (moved (length parents) (hanging parents (l ∷ earlier)) l.consumer) (order_by parents earlier)
 
 -- the devices in the order of their registration, moved by the links in turn (dpm_list)
 abbrev pub order : Machine → List ℕ
