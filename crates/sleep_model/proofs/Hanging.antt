@@ -152,7 +152,7 @@ module _ (hang : ℕ → List ℕ) where
         ∙ ap (λ b. cond b (onto (flat_map W (hang d)) out) (d ∷ onto (flat_map W (hang d)) out))
         (among_onto (flat_map W (hang d)) out d ∙ (ap (λ b. b || is_among out d) (not_below_itself d) ∙ n))
 
-    among_flat : (e : ℕ) (cs : List ℕ) (c : ℕ) → is_among cs c ≡ true → is_among (W c) e ≡ true → is_among (flat_map W cs) e ≡ true
+    pub among_flat : (e : ℕ) (cs : List ℕ) (c : ℕ) → is_among cs c ≡ true → is_among (W c) e ≡ true → is_among (flat_map W cs) e ≡ true
     among_flat e [] c m n = absurd (false≢true m)
     among_flat e (b ∷ cs) c m n = among_app (W b) (flat_map W cs) e ∙ by_test (λ p. among_flat e cs c p n) (or_cases (b == c) (is_among cs c) m)
       where
