@@ -21,7 +21,7 @@ flat_same f g [] h = refl
 flat_same f g (c ∷ cs) h = ap (λ ys. ys ++ flat_map f cs) (h c (among_first c cs)) ∙ ap (λ ys. g c ++ ys) (flat_same f g cs (λ x m. h x (among_rest c cs x m)))
 
 -- what passes is kept
-kept_among : (p : ℕ → Bool) (xs : List ℕ) (d : ℕ) → p d ≡ true → is_among xs d ≡ true → is_among (filter p xs) d ≡ true
+pub kept_among : (p : ℕ → Bool) (xs : List ℕ) (d : ℕ) → p d ≡ true → is_among xs d ≡ true → is_among (filter p xs) d ≡ true
 kept_among p [] d h m = absurd (false≢true m)
 kept_among p (x ∷ xs) d h m = by_place (kept_among p xs d h) (or_cases (x == d) (is_among xs d) m)
   where
@@ -36,7 +36,7 @@ kept_among p (x ∷ xs) d h m = by_place (kept_among p xs d h) (or_cases (x == d
     by_place rest (inr e) = later (p x) (rest e)
 
 -- what is kept was there
-among_filter : (p : ℕ → Bool) (xs : List ℕ) (d : ℕ) → is_among (filter p xs) d ≡ true → is_among xs d ≡ true
+pub among_filter : (p : ℕ → Bool) (xs : List ℕ) (d : ℕ) → is_among (filter p xs) d ≡ true → is_among xs d ≡ true
 among_filter p [] d m = m
 among_filter p (x ∷ xs) d m = by_test (among_filter p xs d) (p x) m
   where
@@ -205,7 +205,7 @@ module _ (hang hang' : ℕ → List ℕ) (s : ℕ) (others : (d : ℕ) → (s ==
 -- ---- the order of links
 
 module _ (ps : List (Option ℕ)) (after : EachAfterParent 0 ps) where
-  consumers_within : (ls : List Link) → AreLinks ps ls → (d x : ℕ) → is_among (consumers_of d ls) x ≡ true → x < length ps
+  pub consumers_within : (ls : List Link) → AreLinks ps ls → (d x : ℕ) → is_among (consumers_of d ls) x ≡ true → x < length ps
   consumers_within [] h d x m = absurd (false≢true m)
   consumers_within (l ∷ ls) h d x m = by_place (consumers_within ls h.4 d x) (or_cases (is_among (consumers_of d ls) x) (is_among (cond (l.supplier == d) (l.consumer ∷ []) []) x) (sym (among_app (consumers_of d ls) (cond (l.supplier == d) (l.consumer ∷ []) []) x) ∙ m))
     where
@@ -217,7 +217,7 @@ module _ (ps : List (Option ℕ)) (after : EachAfterParent 0 ps) where
       by_place rest (inl n) = rest n
       by_place rest (inr n) = of_link (l.supplier == d) n
 
-  hanging_within : (ls : List Link) → AreLinks ps ls → (d x : ℕ) → is_among (hanging ps ls d) x ≡ true → x < length ps
+  pub hanging_within : (ls : List Link) → AreLinks ps ls → (d x : ℕ) → is_among (hanging ps ls d) x ≡ true → x < length ps
   hanging_within ls h d x m = by_place (or_cases (is_among (children_from d 0 ps) x) (is_among (consumers_of d ls) x) (sym (among_app (children_from d 0 ps) (consumers_of d ls) x) ∙ m))
     where
       by_place : (is_among (children_from d 0 ps) x ≡ true) ⊎ (is_among (consumers_of d ls) x ≡ true) → x < length ps
@@ -251,7 +251,7 @@ module _ (ps : List (Option ℕ)) (after : EachAfterParent 0 ps) where
       by_place g (inl e) = let same : d ≡ x = eqb-true d x e in omega arith
       by_place g (inr e) = each (hang d) g e
 
-  among_last : (xs : List ℕ) (d : ℕ) → is_among (last_places xs) d ≡ is_among xs d
+  pub among_last : (xs : List ℕ) (d : ℕ) → is_among (last_places xs) d ≡ is_among xs d
   among_last xs d = ap (λ ys. is_among ys d) (last_onto xs) ∙ (among_onto xs [] d ∙ or-false (is_among xs d))
 
   -- the order has registered devices
@@ -298,7 +298,7 @@ module _ (ps : List (Option ℕ)) (after : EachAfterParent 0 ps) where
       by_place d n (inr l) = nothing_below ls h d l
 
   -- what hangs below is the same but for the supplier of a new link
-  others_same : (l : Link) (ls : List Link) (d : ℕ) → (l.supplier == d) ≡ false → hanging ps (l ∷ ls) d ≡ hanging ps ls d
+  pub others_same : (l : Link) (ls : List Link) (d : ℕ) → (l.supplier == d) ≡ false → hanging ps (l ∷ ls) d ≡ hanging ps ls d
   others_same l ls d e = ap (λ xs. children_from d 0 ps ++ xs) (ap (λ b. consumers_of d ls ++ cond b (l.consumer ∷ []) []) e ∙ append-nil (consumers_of d ls))
 
   -- a new link moves what hung below its consumer before

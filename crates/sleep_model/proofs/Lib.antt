@@ -3,6 +3,7 @@ pub mod Calling
 pub mod Children
 pub mod Counts
 pub mod Dependents
+pub mod FirstPlaces
 pub mod Growing
 pub mod Guarded
 pub mod Hanging

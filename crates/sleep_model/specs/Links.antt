@@ -1,5 +1,5 @@
 -- Links that are added in turn, paths below, and orders that keep to both (drivers/base/core.c, device_link_add).
-use Rattle.std.specs.Prelude.{◌≡◌, ◌<◌, ℕ, Bool, true, false, ◌==◌, ◌&&◌, ◌||◌, List, [], ◌∷◌, length, Option}
+use Rattle.std.specs.Prelude.{◌≡◌, ◌<◌, ℕ, Bool, true, false, not, ◌==◌, ◌&&◌, ◌||◌, List, [], ◌∷◌, length, filter, Option}
 use Rattle.sleep_model.specs.declared.machine.Link.{Link}
 use Rattle.sleep_model.specs.Laws.{AllAmong}
 use Rattle.sleep_model.specs.Order.{is_among, hanging, moved}
@@ -8,6 +8,11 @@ use Rattle.sleep_model.specs.Order.{is_among, hanging, moved}
 abbrev pub IsOrder : (ℕ → List ℕ) → List ℕ → Type 0
 IsOrder hang [] = Unit {0}
 IsOrder hang (d ∷ ds) = (is_among ds d ≡ false) × AllAmong ds (hang d) × IsOrder hang ds
+
+-- each device at its first place alone
+abbrev pub first_places : List ℕ → List ℕ
+first_places [] = []
+first_places (d ∷ ds) = d ∷ filter (λ x. not (x == d)) (first_places ds)
 
 -- from d by these further steps, each to a device that hangs right below, to e
 abbrev pub LeadsTo : (ℕ → List ℕ) → ℕ → List ℕ → ℕ → Type 0
