@@ -3,11 +3,11 @@ use Rattle.std.proofs.Common.{◌≡◌, ◌<◌, ◌≤◌, ◌+◌, ◌*◌, �
 use Rattle.std.specs.List.{flat_map}
 use Rattle.std.proofs.lemmas.Grind.{flat_map-append}
 use Rattle.std.proofs.lemmas.List.{append-nil, take_more, drop_more, take_all, drop_all, get_or-replicate, length-replicate, get_or_default, get_or-set_same, get_or-set_other}
-use Rattle.std.proofs.lemmas.Bool.{true≢false, false≢true, eqb-true, eqb-false, or_cases, or_left, or_right, or_from, ne_eqb, eq-eqb}
+use Rattle.std.proofs.lemmas.Bool.{true≢false, false≢true, eqb-true, eqb-false, or_cases, or_from, eq-eqb}
 use Rattle.std.proofs.Math.Bool.{or-false}
 use Rattle.sleep_model.specs.Order.{is_among, last_places}
 use Rattle.sleep_model.specs.Links.{LeadsTo, IsPath}
-use Rattle.sleep_model.proofs.Hanging.{among_first, among_rest, Within, onto, onto_app, among_onto, last_onto, Descends, IsClosed, visited, visits}
+use Rattle.sleep_model.proofs.Hanging.{among_first, among_rest, Within, onto, onto_app, among_onto, last_onto, Descends, IsClosed, visited, visits, leads_below}
 use Rattle.device_links.specs.declared.walk.Frame.{Frame}
 use Rattle.device_links.specs.Walks.{AreMarks, on_path}
 
@@ -224,3 +224,8 @@ module _ (hang : ℕ → List ℕ) where
         where
           same : (d : ℕ) → is_among (W from) d ≡ is_among out d
           same d = sym (or-false (is_among (W from) d)) ∙ (sym (among_onto (W from) [] d) ∙ ap (λ ys. is_among ys d) (sym w.ends))
+
+      -- where the target does not hang below, no path leads there
+      pub no_path : (from target : ℕ) → is_among (W from) target ≡ false → (path : List ℕ) → IsPath hang path from target → ⊥
+      no_path from target n [] p = p
+      no_path from target n (x ∷ xs) p = absurd (true≢false (sym (subst (λ (y : ℕ). is_among (W y) target ≡ true) p.0 (leads_below hang W fix x xs target p.1)) ∙ n))

@@ -1,1 +1,4 @@
+pub mod Adds
+pub mod Kept
+pub mod Linked
 pub mod Walks

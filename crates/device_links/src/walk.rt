@@ -1,6 +1,7 @@
 //! A walk over all that hangs below a device.
 
 ghost use Rattle.std.specs.Prelude.{◌≡◌, ◌<◌, ◌∷◌, [], IfOk, length};
+ghost use Rattle.device_rows.specs.Table.{row_at};
 ghost use Rattle.device_links.specs.Walks.{IsWalkable, Finds, on_path};
 
 use device_rows::{Rows, Stack};
@@ -40,8 +41,8 @@ fn path_to(alloc: Global, mut frames: Stack<Frame>, last: u32) -> Result<Vec<u32
 /// devices come to lie in the order of their last places.
 pub(crate) fn walk(alloc: Global, table: &Rows, from: u32, target: u32) -> Result<Found, Mem>
     requires within { from < length table.now.rows }
-    requires walkable { IsWalkable table.now }
-    ensures { IfOk result (Finds table.now from target) }
+    requires walkable { IsWalkable (length table.now.rows) (row_at table.now) }
+    ensures { IfOk result (Finds (length table.now.rows) (row_at table.now) from target) }
 {
     let mut frames = Stack::new(alloc);
     if from == target {

@@ -1,3 +1,5 @@
+ghost use Rattle.std.specs.Prelude.{◌≡◌, IfOk, option_to_list};
+
 use sleep_base::Mem;
 use std::alloc::Global;
 use std::marker::Model;
@@ -22,7 +24,7 @@ impl Model for Rows {
 }
 
 impl Rows {
-    ghost use Rattle.std.specs.Prelude.{◌≡◌, ◌<◌, ◌++◌, ◌∷◌, [], ℕ, IfOk, OnOk, OnErr, length, replicate, slice_index, slice_set};
+    ghost use Rattle.std.specs.Prelude.{◌≡◌, ◌<◌, ◌++◌, ◌∷◌, [], ℕ, IfOk, OnOk, OnErr, length, replicate, option_to_list, slice_index, slice_set};
     ghost use Rattle.device_rows.specs.Table.{row_at};
 
     /// A table without rows.
@@ -73,6 +75,18 @@ impl Rows {
         Ok(())
     }
 
+    /// Puts a row with this number at the end, or an empty one. `Mem` if there is no memory for it;
+    /// all is then as before.
+    pub fn add_row_of(&mut self, number: Option<u32>) -> Result<(), Mem>
+        ensures ok { OnOk result (self.new.rows ≡ self.old.rows ++ option_to_list number ∷ []) }
+        ensures err { OnErr result (self.new.rows ≡ self.old.rows) }
+    {
+        let alloc = *self.rows.allocator();
+        let row = row_of(alloc, number)?;
+        self.rows.push(row)?;
+        Ok(())
+    }
+
     /// Makes room for one more number in a row. `Mem` if there is no memory for it.
     pub fn make_room(&mut self, device: u32) -> Result<(), Mem>
         requires { device < length self.old.rows }
@@ -95,4 +109,14 @@ impl Rows {
             Err(_) => unreachable!(),
         }
     }
+}
+
+fn row_of(alloc: Global, number: Option<u32>) -> Result<Vec<u32>, Mem>
+    ensures { IfOk result (λ v. v.items ≡ option_to_list number) }
+{
+    let mut row = Vec::new(alloc);
+    if let Some(number) = number {
+        row.push(number)?;
+    }
+    Ok(row)
 }

@@ -11,7 +11,8 @@ use Rattle.sleep_model.proofs.Children.{children_push, children_none, after_pare
 use Rattle.device_tree.specs.declared.fault.TreeFault.{TreeFault}
 use Rattle.device_tree.specs.declared.fault.TreeFault.TheVariants.{TooMany, NameTaken, NoParent}
 use Rattle.device_tree.specs.Refusal.{refusal, is_taken, is_lost}
-use Rattle.device_tree.specs.Kept.{IsTree, HasChildren, IsKept, hung}
+use Rattle.device_rows.specs.Table.{hung}
+use Rattle.device_tree.specs.Kept.{IsTree, HasChildren, IsKept}
 
 -- each row has the children, and no row has none
 pub row_is : (ps : List (Option ℕ)) (rows : List (List ℕ)) → EachAfterParent 0 ps → HasChildren ps rows → (d : ℕ) → get_or rows d [] ≡ children_from d 0 ps

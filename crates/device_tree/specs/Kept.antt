@@ -1,5 +1,5 @@
 -- What holds of a tree.
-use Rattle.std.specs.Prelude.{◌≡◌, ◌≤◌, ◌<◌, ℕ, suc, List, [], ◌∷◌, ◌++◌, map, length, slice_index_or, slice_set, Option, Some, None, IfSome}
+use Rattle.std.specs.Prelude.{◌≡◌, ◌≤◌, ◌<◌, ℕ, suc, List, [], ◌∷◌, map, length, slice_index_or, Option, IfSome}
 use Rattle.sleep_model.specs.declared.machine.Device.{Device}
 use Rattle.sleep_model.specs.Accepted.{ParentsEarlier}
 use Rattle.sleep_model.specs.Order.{children_from, parents_of}
@@ -13,11 +13,6 @@ pub record IsTree (devices : List Device) : Type 0 where
 pub record HasChildren (parents : List (Option ℕ)) (rows : List (List ℕ)) : Type 0 where
   pub count : length rows ≡ length parents
   pub children : (d : ℕ) → d < length parents → slice_index_or rows d [] ≡ children_from d 0 parents
-
--- the rows with one more device at the end of its parent's
-abbrev pub hung : List (List ℕ) → Option ℕ → ℕ → List (List ℕ)
-hung rows None d = rows
-hung rows (Some p) d = slice_set rows p (slice_index_or rows p [] ++ d ∷ [])
 
 -- the names and the rows are those of the devices
 pub record IsKept (devices : List Device) (names : List (List ℕ)) (rows : List (List ℕ)) : Type 0 where

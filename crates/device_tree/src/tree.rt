@@ -1,7 +1,7 @@
 ghost use Rattle.std.specs.Prelude.{◌≡◌, ◌<◌, IfSome, OnOk, length, slice_index, vec_len, vec_capacity};
 ghost use Rattle.indexmap.specs.IndexSet.{spare};
 ghost use Rattle.device_tree.specs.Refusal.{is_lost};
-ghost use Rattle.device_tree.specs.Kept.{hung};
+ghost use Rattle.device_rows.specs.Table.{hung};
 
 use crate::fault::TreeFault;
 use device_rows::Rows;

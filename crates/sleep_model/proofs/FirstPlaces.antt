@@ -8,7 +8,7 @@ use Rattle.std.proofs.Math.Bool.{or-false, or-true, or_assoc}
 use Rattle.sleep_model.specs.declared.machine.Link.{Link}
 use Rattle.sleep_model.specs.Order.{is_among, is_parent, children_from, consumers_of, suppliers_of, hanging, holding, parent_of}
 use Rattle.sleep_model.specs.Links.{first_places, is_linked}
-use Rattle.sleep_model.proofs.Walks.{same_eq}
+use Rattle.sleep_model.proofs.Walks.{AllDifferent, same_eq}
 use Rattle.sleep_model.proofs.Hanging.{among_app, among_rest}
 
 -- ---- first places
@@ -124,6 +124,36 @@ children_above d n (p ∷ ps) x l = by_test (children_above d (suc n) ps x (omeg
     by_test : is_among (children_from d (suc n) ps) x ≡ false → (b : Bool) → is_among (cond b (n ∷ children_from d (suc n) ps) (children_from d (suc n) ps)) x ≡ false
     by_test rest true = ap (λ b. b || is_among (children_from d (suc n) ps) x) (ne_eqb n x (λ e. omega arith)) ∙ rest
     by_test rest false = rest
+
+-- different devices are all at their first places
+first_same : (xs : List ℕ) → AllDifferent xs → first_places xs ≡ xs
+first_same [] h = refl
+first_same (x ∷ xs) h = ap (λ ys. x ∷ filter (λ y. not (y == x)) ys) (first_same xs h.1) ∙ ap (λ ys. x ∷ ys) (all_others xs h.0)
+  where
+    all_others : (ys : List ℕ) → is_among ys x ≡ false → filter (λ y. not (y == x)) ys ≡ ys
+    all_others [] n = refl
+    all_others (y ∷ ys) n =
+        let parts = or_parts (y == x) (is_among ys x) n in
+        ap (λ b. cond (not b) (y ∷ filter (λ z. not (z == x)) ys) (filter (λ z. not (z == x)) ys)) parts.0 ∙ ap (λ zs. y ∷ zs) (all_others ys parts.1)
+
+children_different : (d n : ℕ) (ps : List (Option ℕ)) → AllDifferent (children_from d n ps)
+children_different d n [] = tt
+children_different d n (p ∷ ps) = by_test (children_different d (suc n) ps) (is_parent d p)
+  where
+    by_test : AllDifferent (children_from d (suc n) ps) → (b : Bool) → AllDifferent (cond b (n ∷ children_from d (suc n) ps) (children_from d (suc n) ps))
+    by_test rest true = (children_above d (suc n) ps n (omega arith), rest)
+    by_test rest false = rest
+
+-- children stand once
+pub first_children : (d n : ℕ) (ps : List (Option ℕ)) → first_places (children_from d n ps) ≡ children_from d n ps
+first_children d n ps = first_same (children_from d n ps) (children_different d n ps)
+
+-- a parent stands once
+pub first_parent : (ps : List (Option ℕ)) (d : ℕ) → first_places (parent_of (slice_get ps d)) ≡ parent_of (slice_get ps d)
+first_parent [] d = refl
+first_parent (None ∷ ps) zero = refl
+first_parent (Some p ∷ ps) zero = refl
+first_parent (p ∷ ps) (suc d) = first_parent ps d
 
 -- a device is among the children of its parent alone
 among_children : (d n : ℕ) (ps : List (Option ℕ)) (k : ℕ) → k < length ps → is_among (children_from d n ps) (n + k) ≡ is_parent d (get_or ps k None)

@@ -1,7 +1,7 @@
 use Rattle.std.proofs.Common.{◌≡◌, ◌++◌, ◌∷◌, [], length, cond, false, ap, sym, ◌∙◌, arith, List, ℕ}
 use Rattle.std.specs.List.{list_any}
 use Rattle.device_tree.specs.Refusal.{refusal}
-use Rattle.device_tree.specs.Kept.{hung}
+use Rattle.device_rows.specs.Table.{hung}
 use Rattle.device_tree.proofs.Kept.{free_of, kept_more, kept_as}
 use Rattle.device_tree.proofs.Names.{taken_is}
 use Rattle.sleep_model.specs.contracts.name.NamePartialEq.TheImpl.{eq-value}
