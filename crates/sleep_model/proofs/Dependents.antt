@@ -1,12 +1,13 @@
 -- Dependents suspend first, and what is above resumes first.
-use Rattle.std.proofs.Common.{◌≡◌, ◌<◌, ◌≤◌, ◌+◌, ◌∙◌, ℕ, zero, suc, Bool, true, false, ◌==◌, List, [], ◌∷◌, length, ◌⊎◌, inl, inr, Option, Some, None, IfSome, refl, sym, ap, subst, cond, slice_get, option_to_list, arith}
+use Rattle.std.proofs.Common.{◌≡◌, ◌<◌, ◌≤◌, ◌+◌, ◌∙◌, ℕ, zero, suc, Bool, true, false, List, [], ◌∷◌, length, ◌⊎◌, inl, inr, Option, Some, None, IfSome, refl, sym, ap, subst, cond, slice_get, option_to_list, arith}
 use Rattle.std.specs.List.{range_with_len}
-use Rattle.std.proofs.lemmas.Bool.Decides.{nat_tests}
+use Rattle.std.proofs.lemmas.List.{length-map}
 use Rattle.sleep_model.specs.declared.machine.Device.{Device}
 use Rattle.sleep_model.specs.Accepted.{ParentsEarlier}
-use Rattle.sleep_model.specs.Order.{is_among, is_parent, children_from, parent_of}
+use Rattle.sleep_model.specs.Order.{is_among, parents_of, children_from, parent_of}
 use Rattle.sleep_model.specs.Walk.{first_where, last_where, or_else}
-use Rattle.sleep_model.proofs.ShortLaws.{AllAmong, NoneAmong}
+use Rattle.sleep_model.specs.Laws.{AllAmong, NoneAmong}
+use Rattle.sleep_model.proofs.Children.{children_after}
 
 first_or_after : (a c : ℕ) → a ≤ c → ((a ≡ c) ⊎ (a < c))
 first_or_after a c h = grind arith
@@ -60,20 +61,11 @@ fails_before p a (suc n) d e c l r = by_first (λ f x. fails_before p (a + 1) n 
     by_first later false f = here_or_later (later (ap (λ b. cond b (Some a) (first_where p (range_with_len (a + 1) n))) (sym f) ∙ e)) (first_or_after a c l) f
 
 -- what holds of each device after d holds of its children, as they are registered after it
-pub children_all : (su : List ℕ) (d n : ℕ) (ds : List Device) → ParentsEarlier n ds → ((c : ℕ) → d < c → c < n + length ds → is_among su c ≡ true) → AllAmong su (children_from d n ds)
-children_all su d n [] h f = tt
-children_all su d n (x ∷ xs) h f = by_parent (children_all su d (suc n) xs h.1 (λ c l r. f c l (omega arith))) x.parent h.0
-  where
-    by_test : AllAmong su (children_from d (suc n) xs) → (p : ℕ) → p < n → (b : Bool) → (p == d) ≡ b → AllAmong su (cond b (n ∷ children_from d (suc n) xs) (children_from d (suc n) xs))
-    by_test rest p l true e = let same : p ≡ d = grind (arith, nat_tests) in (f n (omega arith) (omega arith), rest)
-    by_test rest p l false e = rest
-
-    by_parent : AllAmong su (children_from d (suc n) xs) → (q : Option ℕ) → IfSome q (λ p. p < n) → AllAmong su (cond (is_parent d q) (n ∷ children_from d (suc n) xs) (children_from d (suc n) xs))
-    by_parent rest None l = rest
-    by_parent rest (Some p) l = by_test rest p l (p == d) refl
+pub children_all : (su : List ℕ) (d n : ℕ) (ds : List Device) → ParentsEarlier n ds → ((c : ℕ) → d < c → c < n + length ds → is_among su c ≡ true) → AllAmong su (children_from d n (parents_of ds))
+children_all su d n ds h f = children_after su d n (parents_of ds) h (λ c l r. f c l (omega (arith, length-map ds (λ x. x.parent))))
 
 -- the parent of a device is registered before it
-pub parent_before : (n : ℕ) (ds : List Device) → ParentsEarlier n ds → (su : List ℕ) (k : ℕ) → ((c : ℕ) → c < n + k → is_among su c ≡ false) → NoneAmong su (parent_of (slice_get ds k))
+pub parent_before : (n : ℕ) (ds : List Device) → ParentsEarlier n ds → (su : List ℕ) (k : ℕ) → ((c : ℕ) → c < n + k → is_among su c ≡ false) → NoneAmong su (parent_of (slice_get (parents_of ds) k))
 parent_before n [] h su k f = tt
 parent_before n (x ∷ xs) h su zero f = by_parent x.parent h.0
   where

@@ -1,9 +1,13 @@
+pub mod Acyclic
 pub mod Callers
 pub mod Calling
+pub mod Children
 pub mod Counts
 pub mod Dependents
+pub mod FirstPlaces
 pub mod Growing
 pub mod Guarded
+pub mod Hanging
 pub mod Idling
 pub mod Journaled
 pub mod Keeping

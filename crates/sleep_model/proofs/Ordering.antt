@@ -1,30 +1,29 @@
 -- The order of devices has each device once; without links it is that of registration.
-use Rattle.std.proofs.Common.{◌≡◌, ◌∙◌, ℕ, Bool, true, false, not, ◌==◌, ◌||◌, List, [], ◌∷◌, ◌++◌, length, reverse, filter, refl, sym, ap, cond, slice_get, arith}
+use Rattle.std.proofs.Common.{◌≡◌, ◌∙◌, ℕ, Bool, true, false, not, ◌==◌, ◌||◌, List, [], ◌∷◌, ◌++◌, length, reverse, filter, refl, sym, ap, cond, Option, slice_get, arith}
 use Rattle.std.specs.List.{range_with_len}
-use Rattle.std.proofs.lemmas.List.{append-nil}
+use Rattle.std.proofs.lemmas.List.{append-nil, length-map}
 use Rattle.std.proofs.lemmas.Bool.{true≢false}
 use Rattle.std.proofs.Math.Bool.{or-true}
 use Rattle.std.proofs.lemmas.Bool.Decides.{nat_tests}
 use Rattle.sleep_model.specs.declared.machine.Machine.{Machine}
-use Rattle.sleep_model.specs.declared.machine.Device.{Device}
 use Rattle.sleep_model.specs.declared.machine.Link.{Link}
-use Rattle.sleep_model.specs.Order.{is_among, children_from, parent_of, hanging, suppliers_of, below, above, last_places, moved, order_by, order}
+use Rattle.sleep_model.specs.Order.{is_among, parents_of, children_from, parent_of, hanging, holding, below, above, last_places, moved, order_by, order}
 use Rattle.sleep_model.proofs.Walks.{AllDifferent, same_eq, run_different}
 
 -- without links the order is that of registration
 pub order_plain : (m : Machine) → m.links ≡ [] → order m ≡ range_with_len 0 (length m.devices)
-order_plain m e = ap (λ (ls : List Link). order_by m.devices (reverse ls)) e
+order_plain m e = ap (λ (ls : List Link). order_by (parents_of m.devices) (reverse ls)) e ∙ ap (range_with_len 0) (length-map m.devices (λ x. x.parent))
 
 -- without links only children hang below a device
-pub below_plain : (m : Machine) (d : ℕ) → m.links ≡ [] → below m d ≡ children_from d 0 m.devices
-below_plain m d e = ap (λ (ls : List Link). hanging m.devices (reverse ls) d) e ∙ append-nil (children_from d 0 m.devices)
+pub below_plain : (m : Machine) (d : ℕ) → m.links ≡ [] → below m d ≡ children_from d 0 (parents_of m.devices)
+below_plain m d e = ap (λ (ls : List Link). hanging (parents_of m.devices) (reverse ls) d) e ∙ append-nil (children_from d 0 (parents_of m.devices))
 
 -- and only its parent stands above it
-pub above_plain : (m : Machine) (d : ℕ) → m.links ≡ [] → above m d ≡ parent_of (slice_get m.devices d)
-above_plain m d e = ap (λ (ls : List Link). parent_of (slice_get m.devices d) ++ suppliers_of d (reverse ls)) e ∙ append-nil (parent_of (slice_get m.devices d))
+pub above_plain : (m : Machine) (d : ℕ) → m.links ≡ [] → above m d ≡ parent_of (slice_get (parents_of m.devices) d)
+above_plain m d e = ap (λ (ls : List Link). holding (parents_of m.devices) (reverse ls) d) e ∙ append-nil (parent_of (slice_get (parents_of m.devices) d))
 
 -- what is not in a list is not in a part of it
-not_in_filter : (p : ℕ → Bool) (xs : List ℕ) (d : ℕ) → is_among xs d ≡ false → is_among (filter p xs) d ≡ false
+pub not_in_filter : (p : ℕ → Bool) (xs : List ℕ) (d : ℕ) → is_among xs d ≡ false → is_among (filter p xs) d ≡ false
 not_in_filter p [] d h = refl
 not_in_filter p (x ∷ xs) d h = by_test (x == d) (is_among xs d) refl refl h (not_in_filter p xs d) (p x)
   where
@@ -33,7 +32,7 @@ not_in_filter p (x ∷ xs) d h = by_test (x == d) (is_among xs d) refl refl h (n
     by_test false b e f g rest true = ap (λ y. y || is_among (filter p xs) d) e ∙ rest (f ∙ g)
     by_test false b e f g rest false = rest (f ∙ g)
 
-different_filter : (p : ℕ → Bool) (xs : List ℕ) → AllDifferent xs → AllDifferent (filter p xs)
+pub different_filter : (p : ℕ → Bool) (xs : List ℕ) → AllDifferent xs → AllDifferent (filter p xs)
 different_filter p [] h = tt
 different_filter p (x ∷ xs) h = by_test (different_filter p xs h.1) (p x)
   where
@@ -42,7 +41,7 @@ different_filter p (x ∷ xs) h = by_test (different_filter p xs h.1) (p x)
     by_test rest false = rest
 
 -- what the filter keeps passes
-kept_passes : (p : ℕ → Bool) (xs : List ℕ) (d : ℕ) → p d ≡ false → is_among (filter p xs) d ≡ false
+pub kept_passes : (p : ℕ → Bool) (xs : List ℕ) (d : ℕ) → p d ≡ false → is_among (filter p xs) d ≡ false
 kept_passes p [] d h = refl
 kept_passes p (x ∷ xs) d h = by_test (kept_passes p xs d h) (p x) refl (x == d) refl
   where
@@ -52,7 +51,7 @@ kept_passes p (x ∷ xs) d h = by_test (kept_passes p xs d h) (p x) refl (x == d
     by_test rest false e b f = rest
 
 -- the last places have the same devices
-last_among : (xs : List ℕ) (d : ℕ) → is_among xs d ≡ false → is_among (last_places xs) d ≡ false
+pub last_among : (xs : List ℕ) (d : ℕ) → is_among xs d ≡ false → is_among (last_places xs) d ≡ false
 last_among [] d h = refl
 last_among (x ∷ xs) d h = by_test (x == d) (is_among xs d) refl refl h (last_among xs d) (is_among xs x)
   where
@@ -61,7 +60,7 @@ last_among (x ∷ xs) d h = by_test (x == d) (is_among xs d) refl refl h (last_a
     by_test false b e f g rest true = rest (f ∙ g)
     by_test false b e f g rest false = ap (λ y. y || is_among (last_places xs) d) e ∙ rest (f ∙ g)
 
-different_last : (xs : List ℕ) → AllDifferent (last_places xs)
+pub different_last : (xs : List ℕ) → AllDifferent (last_places xs)
 different_last [] = tt
 different_last (x ∷ xs) = by_test (different_last xs) (is_among xs x) refl
   where
@@ -69,7 +68,7 @@ different_last (x ∷ xs) = by_test (different_last xs) (is_among xs x) refl
     by_test rest true e = rest
     by_test rest false e = (last_among xs x e, rest)
 
-among_append : (xs ys : List ℕ) (d : ℕ) → is_among xs d ≡ false → is_among ys d ≡ false → is_among (xs ++ ys) d ≡ false
+pub among_append : (xs ys : List ℕ) (d : ℕ) → is_among xs d ≡ false → is_among ys d ≡ false → is_among (xs ++ ys) d ≡ false
 among_append [] ys d h g = g
 among_append (x ∷ xs) ys d h g = by_test (x == d) (is_among xs d) refl refl h (λ e. among_append xs ys d e g)
   where
@@ -77,7 +76,7 @@ among_append (x ∷ xs) ys d h g = by_test (x == d) (is_among xs d) refl refl h 
     by_test true b e f k rest = absurd (true≢false k)
     by_test false b e f k rest = ap (λ y. y || is_among (xs ++ ys) d) e ∙ rest (f ∙ k)
 
-different_append : (xs ys : List ℕ) → AllDifferent xs → AllDifferent ys → ((d : ℕ) → is_among xs d ≡ true → is_among ys d ≡ false) → AllDifferent (xs ++ ys)
+pub different_append : (xs ys : List ℕ) → AllDifferent xs → AllDifferent ys → ((d : ℕ) → is_among xs d ≡ true → is_among ys d ≡ false) → AllDifferent (xs ++ ys)
 different_append [] ys h g apart = g
 different_append (x ∷ xs) ys h g apart = (
   among_append xs ys x h.0 (apart x (ap (λ b. b || is_among xs x) (same_eq x))),
@@ -85,10 +84,10 @@ different_append (x ∷ xs) ys h g apart = (
 )
 
 -- each link leaves each device once
-order_by_different : (ds : List Device) (ls : List Link) → AllDifferent (order_by ds ls)
+pub order_by_different : (ds : List (Option ℕ)) (ls : List Link) → AllDifferent (order_by ds ls)
 order_by_different ds [] = run_different 0 (length ds)
 order_by_different ds (l ∷ ls) =
-    let ms = moved (length ds) ds (l ∷ ls) l.consumer in
+    let ms = moved (length ds) (hanging ds (l ∷ ls)) l.consumer in
     different_append (filter (λ d. not (is_among ms d)) (order_by ds ls)) (last_places ms) (different_filter (λ d. not (is_among ms d)) (order_by ds ls) (order_by_different ds ls)) (different_last ms)
     (λ d m. apart ms d (is_among ms d) refl m)
   where
@@ -98,4 +97,4 @@ order_by_different ds (l ∷ ls) =
 
 -- the devices of the order are different
 pub order_different : (m : Machine) → AllDifferent (order m)
-order_different m = order_by_different m.devices (reverse m.links)
+order_different m = order_by_different (parents_of m.devices) (reverse m.links)

@@ -55,7 +55,7 @@ first_suspended_none [] = refl
 first_suspended_none (x ∷ xs) = first_suspended_none xs
 
 -- a number below a run of numbers is not among them
-below_run : (a n d : ℕ) → d < a → is_among (range_with_len a n) d ≡ false
+pub below_run : (a n d : ℕ) → d < a → is_among (range_with_len a n) d ≡ false
 below_run a zero d h = refl
 below_run a (suc n) d h =
     let other : (a == d) ≡ false = grind (arith, nat_tests) in

@@ -1,17 +1,17 @@
 -- What holds of each machine that a file may spell today.
-use Rattle.std.specs.Prelude.{◌≡◌, ◌≤◌, ◌<◌, ◌+◌, ◌*◌, ℕ, suc, Bool, true, false, List, [], ◌∷◌, length, count_by, codes, None, IfSome}
+use Rattle.std.specs.Prelude.{◌≡◌, ◌≤◌, ◌<◌, ◌+◌, ◌*◌, ℕ, Bool, true, false, List, [], ◌∷◌, length, count_by, codes, None}
 use Rattle.sleep_model.specs.declared.machine.Machine.{Machine}
 use Rattle.sleep_model.specs.declared.machine.Device.{Device}
 use Rattle.sleep_model.specs.declared.machine.Script.{Script}
 use Rattle.sleep_model.specs.declared.machine.Step.{Step}
 use Rattle.sleep_model.specs.declared.machine.Op.{Op}
 use Rattle.sleep_model.specs.declared.machine.Op.TheVariants.{Read, Save, State, Event}
+use Rattle.sleep_model.specs.Order.{EachAfterParent, parents_of}
 use Rattle.sleep_model.specs.declared.machine.TaskKind.TheVariants.{User}
 
 -- each device is registered after its parent (drivers/base/core.c, device_add); n devices stand before these
 abbrev pub ParentsEarlier : ℕ → List Device → Type 0
-ParentsEarlier n [] = Unit {0}
-ParentsEarlier n (d ∷ ds) = IfSome d.parent (λ p. p < n) × ParentsEarlier (suc n) ds
+ParentsEarlier n devices = EachAfterParent n (parents_of devices)
 
 -- the devices have no flags: they are synchronous, wake nothing and start active (struct dev_pm_info)
 abbrev pub Unflagged : List Device → Type 0

@@ -10,6 +10,7 @@ pub mod Freezer
 pub mod Guard
 pub mod Laws
 pub mod Legal
+pub mod Links
 pub mod Lock
 pub mod Marks
 pub mod Merge

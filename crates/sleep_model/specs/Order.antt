@@ -1,5 +1,5 @@
 -- The order of devices, and which must go first (drivers/base/power/main.c, dpm_list; drivers/base/core.c, device_link_add).
-use Rattle.std.specs.Prelude.{ℕ, zero, suc, Bool, false, not, ◌==◌, ◌||◌, List, [], ◌∷◌, ◌++◌, length, reverse, filter, flat_map, if◌then◌else◌, Option, Some, None, option_to_list, slice_get}
+use Rattle.std.specs.Prelude.{◌<◌, ℕ, zero, suc, Bool, false, not, ◌==◌, ◌||◌, List, [], ◌∷◌, ◌++◌, length, map, reverse, filter, flat_map, if◌then◌else◌, Option, Some, None, IfSome, option_to_list, slice_get}
 use Rattle.std.specs.List.{range_with_len}
 use Rattle.sleep_model.specs.declared.machine.Machine.{Machine}
 use Rattle.sleep_model.specs.declared.machine.Device.{Device}
@@ -17,10 +17,19 @@ abbrev pub is_parent : ℕ → Option ℕ → Bool
 is_parent d None = false
 is_parent d (Some p) = p == d
 
--- the numbers, from n on, of the devices whose parent is d (device_for_each_child)
-abbrev pub children_from : ℕ → ℕ → List Device → List ℕ
+-- the parent of each device, in the order of registration (struct device, parent)
+abbrev pub parents_of : List Device → List (Option ℕ)
+parents_of devices = map (λ x. x.parent) devices
+
+-- each device is registered after its parent; n devices stand before these (device_add)
+abbrev pub EachAfterParent : ℕ → List (Option ℕ) → Type 0
+EachAfterParent n [] = Unit {0}
+EachAfterParent n (p ∷ ps) = IfSome p (λ q. q < n) × EachAfterParent (suc n) ps
+
+-- the numbers, from n on, of the devices whose parent is d, where these are the parents (device_for_each_child)
+abbrev pub children_from : ℕ → ℕ → List (Option ℕ) → List ℕ
 children_from d n [] = []
-children_from d n (x ∷ xs) = if is_parent d x.parent then n ∷ children_from d (suc n) xs else children_from d (suc n) xs
+children_from d n (p ∷ ps) = if is_parent d p then n ∷ children_from d (suc n) ps else children_from d (suc n) ps
 
 -- the consumers of d in the order of their links, of which the newest stands first (struct device_link, consumer)
 abbrev pub consumers_of : ℕ → List Link → List ℕ
@@ -33,28 +42,32 @@ suppliers_of d [] = []
 suppliers_of d (l ∷ earlier) = suppliers_of d earlier ++ (if l.consumer == d then l.supplier ∷ [] else [])
 
 -- the devices that hang below d by these links: its children, and its consumers (device_is_dependent)
-abbrev pub hanging : List Device → List Link → ℕ → List ℕ
-hanging devices links d = children_from d 0 devices ++ consumers_of d links
+abbrev pub hanging : List (Option ℕ) → List Link → ℕ → List ℕ
+hanging parents links d = children_from d 0 parents ++ consumers_of d links
 
 -- the devices that must sleep before d does (dpm_wait_for_subordinate)
 abbrev pub below : Machine → ℕ → List ℕ
-below m d = hanging m.devices (reverse m.links) d
+below m d = hanging (parents_of m.devices) (reverse m.links) d
 
--- the parent of a device, if there is one (struct device, parent)
-abbrev pub parent_of : Option Device → List ℕ
+-- the parent at a place of the list, if there is one (struct device, parent)
+abbrev pub parent_of : Option (Option ℕ) → List ℕ
 parent_of None = []
-parent_of (Some d) = option_to_list d.parent
+parent_of (Some p) = option_to_list p
+
+-- the devices that d hangs below by these links: its parent, and its suppliers (device_links_check_suppliers)
+abbrev pub holding : List (Option ℕ) → List Link → ℕ → List ℕ
+holding parents links d = parent_of (slice_get parents d) ++ suppliers_of d links
 
 -- the devices that must be awake before d is: its parent, and its suppliers (dpm_wait_for_superior)
 abbrev pub above : Machine → ℕ → List ℕ
-above m d = parent_of (slice_get m.devices d) ++ suppliers_of d (reverse m.links)
+above m d = holding (parents_of m.devices) (reverse m.links) d
 
 -- ---- the order
 
--- d, then all that hangs below it, each with its own, so many levels deep (device_reorder_to_tail)
-abbrev pub moved : ℕ → List Device → List Link → ℕ → List ℕ
-moved zero devices links d = d ∷ []
-moved (suc levels) devices links d = d ∷ flat_map (moved levels devices links) (hanging devices links d)
+-- d, then all that hangs below it, each with its own, so many levels deep, where `hang` gives what hangs right below a device (device_reorder_to_tail)
+abbrev pub moved : ℕ → (ℕ → List ℕ) → ℕ → List ℕ
+moved zero hang d = d ∷ []
+moved (suc levels) hang d = d ∷ flat_map (moved levels hang) (hang d)
 
 -- each device at its last place alone
 abbrev pub last_places : List ℕ → List ℕ
@@ -66,10 +79,10 @@ abbrev pub moved_last : List ℕ → List ℕ → List ℕ
 moved_last devices order = filter (λ d. not (is_among devices d)) order ++ last_places devices
 
 -- the order after these links, the newest first: each moved its consumer, and all that hangs below it by the links up to this one, to the end (device_link_add)
-abbrev pub order_by : List Device → List Link → List ℕ
-order_by devices [] = range_with_len 0 (length devices)
-order_by devices (l ∷ earlier) = moved_last (moved (length devices) devices (l ∷ earlier) l.consumer) (order_by devices earlier)
+abbrev pub order_by : List (Option ℕ) → List Link → List ℕ
+order_by parents [] = range_with_len 0 (length parents)
+order_by parents (l ∷ earlier) = moved_last (moved (length parents) (hanging parents (l ∷ earlier)) l.consumer) (order_by parents earlier)
 
 -- the devices in the order of their registration, moved by the links in turn (dpm_list)
 abbrev pub order : Machine → List ℕ
-order m = order_by m.devices (reverse m.links)
+order m = order_by (parents_of m.devices) (reverse m.links)

@@ -1,0 +1,231 @@
+-- The steps of a walk below a device.
+use Rattle.std.proofs.Common.{◌≡◌, ◌<◌, ◌≤◌, ◌+◌, ◌*◌, ◌∙◌, ℕ, zero, suc, Bool, true, false, ◌==◌, ◌||◌, List, [], ◌∷◌, ◌++◌, ◌⊎◌, inl, inr, length, take, drop, get_or, set, replicate, refl, sym, ap, subst, arith, length-append, length-set}
+use Rattle.std.specs.List.{flat_map}
+use Rattle.std.proofs.lemmas.Grind.{flat_map-append}
+use Rattle.std.proofs.lemmas.List.{append-nil, take_more, drop_more, take_all, drop_all, get_or-replicate, length-replicate, get_or_default, get_or-set_same, get_or-set_other}
+use Rattle.std.proofs.lemmas.Bool.{true≢false, false≢true, eqb-true, eqb-false, or_cases, or_from, eq-eqb}
+use Rattle.std.proofs.Math.Bool.{or-false}
+use Rattle.sleep_model.specs.Order.{is_among, last_places}
+use Rattle.sleep_model.specs.Links.{LeadsTo, IsPath}
+use Rattle.sleep_model.proofs.Hanging.{among_first, among_rest, Within, onto, onto_app, among_onto, last_onto, Descends, IsClosed, visited, visits, leads_below}
+use Rattle.device_links.specs.declared.walk.Frame.{Frame}
+use Rattle.device_links.specs.Walks.{AreMarks, on_path}
+
+-- what stands at a place is among them
+pub among_at : (xs : List ℕ) (k c : ℕ) → k < length xs → c ≡ get_or xs k c → is_among xs c ≡ true
+among_at [] k c l e = absurd (omega arith)
+among_at (x ∷ xs) zero c l e = ap (λ b. b || is_among xs c) (eq-eqb x c (sym e))
+among_at (x ∷ xs) (suc k) c l e = among_rest x xs c (among_at xs k c (omega arith) e)
+
+-- what is read of a row
+pub next_at : (xs ys : List ℕ) (k : ℕ) → xs ≡ ys → k < length ys → get_or xs k 0 ≡ get_or ys k (get_or xs k 0)
+next_at xs ys k e l = ap (λ zs. get_or zs k 0) e ∙ get_or_default ys k 0 (get_or xs k 0) l
+
+-- what is read of the marks
+pub mark_at : (marks : List Bool) (n : ℕ) (out : List ℕ) → AreMarks marks n out → (d : ℕ) → d < n → (r : Bool) → r ≡ get_or marks d r → is_among out d ≡ r
+mark_at marks n out h d l r e = sym (h.marked d l) ∙ (get_or_default marks d false r (omega (arith, h.count)) ∙ sym e)
+
+module _ (hang : ℕ → List ℕ) where
+  -- the next device hangs right below the top, and so on down to the first
+  abbrev pub Linked : ℕ → List Frame → ℕ → Type 0
+  Linked from [] x = x ≡ from
+  Linked from (f ∷ rest) x = (is_among (hang f.device) x ≡ true) × Linked from rest f.device
+
+  abbrev pub Chain : ℕ → List Frame → Type 0
+  Chain from [] = Unit {0}
+  Chain from (f ∷ rest) = Linked from rest f.device
+
+  pub linked_path : (from : ℕ) (fs : List Frame) (x : ℕ) (xs : List ℕ) (last : ℕ) → Linked from fs x → LeadsTo hang x xs last → IsPath hang (on_path fs (x ∷ xs)) from last
+  linked_path from [] x xs last h p = (h, p)
+  linked_path from (f ∷ rest) x xs last h p = linked_path from rest f.device (x ∷ xs) last h.1 (h.0, p)
+
+  -- all that hang right below a device of the walk are walked, but those that are left, once those above it are
+  abbrev pub Waits : List Frame → List ℕ → Type 0
+  Waits [] out = Unit {0}
+  Waits (f ∷ rest) out = Within (drop f.left (hang f.device)) out × Waits rest (f.device ∷ out)
+
+  waits_more : (fs : List Frame) (out more : List ℕ) → Within out more → Waits fs out → Waits fs more
+  waits_more [] out more i h = tt
+  waits_more (f ∷ rest) out more i h = (
+    λ d m. i d (h.0 d m),
+    waits_more rest (f.device ∷ out) (f.device ∷ more) (λ d m. by_place d (or_cases (f.device == d) (is_among out d) m)) h.1,
+  )
+    where
+      by_place : (d : ℕ) → ((f.device == d) ≡ true) ⊎ (is_among out d ≡ true) → is_among (f.device ∷ more) d ≡ true
+      by_place d (inl e) = ap (λ b. b || is_among more d) e
+      by_place d (inr e) = among_rest f.device more d (i d e)
+
+  -- no device of the walk is the target
+  abbrev pub Clear : ℕ → List Frame → Type 0
+  Clear target [] = Unit {0}
+  Clear target (f ∷ rest) = ((f.device == target) ≡ false) × Clear target rest
+
+  -- each device of the walk is registered, and has those that are left below it
+  abbrev pub Sized : ℕ → List Frame → Type 0
+  Sized n [] = Unit {0}
+  Sized n (f ∷ rest) = (f.device < n) × (f.left ≤ length (hang f.device)) × Sized n rest
+
+  module _ (W : ℕ → List ℕ) where
+    -- what the walk leaves at its end
+    abbrev pub finish : List Frame → List ℕ → List ℕ
+    finish [] out = out
+    finish (f ∷ rest) out = finish rest (f.device ∷ onto (flat_map W (take f.left (hang f.device))) out)
+
+    -- how many steps it makes at most
+    abbrev pub weight : List Frame → ℕ
+    weight [] = 0
+    weight (f ∷ rest) = 1 + 2 * length (flat_map W (take f.left (hang f.device))) + weight rest
+
+    -- where a walk stands
+    pub record Walking (n from target : ℕ) (fs : List Frame) (out : List ℕ) (marks : List Bool) : Type 0 where
+      pub closed : IsClosed hang out
+      pub waits : Waits fs out
+      pub chain : Chain from fs
+      pub clear : Clear target fs
+      pub missing : is_among out target ≡ false
+      pub sized : Sized n fs
+      pub noted : AreMarks marks n out
+      pub ends : finish fs out ≡ onto (W from) []
+
+    module _ (fix : Descends hang W) where
+      walked : (d : ℕ) → d ∷ onto (flat_map W (take (length (hang d)) (hang d))) [] ≡ onto (W d) []
+      walked d = ap (λ xs. d ∷ onto (flat_map W xs) []) (take_all (length (hang d)) (hang d) (omega arith)) ∙ sym (visits hang W fix [] d refl)
+
+      -- at the beginning
+      pub begins : (n from target : ℕ) → from < n → (from == target) ≡ false → Walking n from target (record { device = from; left = length (hang from) } ∷ []) [] (replicate n false)
+      begins n from target l e = record {
+        closed = λ d m. absurd (false≢true m);
+        waits = (λ d m. absurd (false≢true (sym (ap (λ xs. is_among xs d) (drop_all (length (hang from)) (hang from) (omega arith))) ∙ m)), tt);
+        chain = refl;
+        clear = (e, tt);
+        missing = refl;
+        sized = (l, omega arith, tt);
+        noted = record { count = length-replicate n false; marked = λ d i. get_or-replicate n d false false i };
+        ends = walked from;
+      }
+
+      -- a device with nothing left below it is put in front
+      pub closes : (n from target : ℕ) (f : Frame) (rest : List Frame) (out : List ℕ) (marks : List Bool) → Walking n from target (f ∷ rest) out marks → f.left ≡ 0 → Walking n from target rest (f.device ∷ out) (set marks f.device true)
+      closes n from target f rest out marks w z = record {
+        closed = λ d m. by_place d (or_cases (f.device == d) (is_among out d) m);
+        waits = w.waits.1;
+        chain = lower rest w.chain;
+        clear = w.clear.1;
+        missing = or_from (f.device == target) (is_among out target) w.clear.0 w.missing;
+        sized = w.sized.2;
+        noted = record {
+          count = length-set marks f.device true ∙ w.noted.count;
+          marked = λ d i. mark d i (f.device == d) refl;
+        };
+        ends = ap (λ k. finish rest (f.device ∷ onto (flat_map W (take k (hang f.device))) out)) (sym z) ∙ w.ends;
+      }
+        where
+          below_all : Within (hang f.device) out
+          below_all = subst (λ (k : ℕ). Within (drop k (hang f.device)) out) z w.waits.0
+
+          by_place : (d : ℕ) → ((f.device == d) ≡ true) ⊎ (is_among out d ≡ true) → Within (hang d) (f.device ∷ out)
+          by_place d (inl e) = subst (λ (y : ℕ). Within (hang y) (f.device ∷ out)) (eqb-true f.device d e) (λ x m. among_rest f.device out x (below_all x m))
+          by_place d (inr e) = λ x m. among_rest f.device out x (w.closed d e x m)
+
+          lower : (fs : List Frame) → Linked from fs f.device → Chain from fs
+          lower [] h = tt
+          lower (g ∷ gs) h = h.1
+
+          mark : (d : ℕ) → d < n → (b : Bool) → (f.device == d) ≡ b → get_or (set marks f.device true) d false ≡ (b || is_among out d)
+          mark d i true e = subst (λ (y : ℕ). get_or (set marks f.device true) y false ≡ true) (eqb-true f.device d e) (get_or-set_same marks f.device true false (omega (arith, w.noted.count, w.sized.0)))
+          mark d i false e = get_or-set_other marks f.device d true false (λ x. eqb-false f.device d e (sym x)) ∙ w.noted.marked d i
+
+      -- one fewer is left
+      flat_next : (xs : List ℕ) (k c : ℕ) → k < length xs → c ≡ get_or xs k c → flat_map W (take (k + 1) xs) ≡ flat_map W (take k xs) ++ W c
+      flat_next xs k c l e =
+          ap (flat_map W) (take_more xs k c l ∙ ap (λ y. take k xs ++ y ∷ []) (sym e))
+          ∙ (flat_map-append W (take k xs) (c ∷ []) ∙ ap (λ ys. flat_map W (take k xs) ++ ys) (append-nil (W c)))
+
+      module _ (n from target : ℕ) (f : Frame) (rest : List Frame) (out : List ℕ) (marks : List Bool) (w : Walking n from target (f ∷ rest) out marks) (k c : ℕ) (last : f.left ≡ k + 1) (at : c ≡ get_or (hang f.device) k c) where
+        pub in_row : k < length (hang f.device)
+        in_row = omega (arith, w.sized.1)
+
+        pub hangs : is_among (hang f.device) c ≡ true
+        hangs = among_at (hang f.device) k c in_row at
+
+        ends_next : finish rest (f.device ∷ onto (flat_map W (take k (hang f.device))) (onto (W c) out)) ≡ onto (W from) []
+        ends_next =
+            ap (λ o. finish rest (f.device ∷ o)) (sym (onto_app (flat_map W (take k (hang f.device))) (W c) out))
+            ∙ ap (λ ys. finish rest (f.device ∷ onto ys out)) (sym (flat_next (hang f.device) k c in_row at))
+            ∙ ap (λ j. finish rest (f.device ∷ onto (flat_map W (take j (hang f.device))) out)) (sym last)
+            ∙ w.ends
+
+        waits_next : (more : List ℕ) → Within out more → is_among more c ≡ true → Within (drop k (hang f.device)) more
+        waits_next more i m d h =
+            by_place (or_cases (c == d) (is_among (drop (k + 1) (hang f.device)) d) (ap (λ ys. is_among ys d) (sym (drop_more (hang f.device) k c in_row ∙ ap (λ y. y ∷ drop (k + 1) (hang f.device)) (sym at))) ∙ h))
+          where
+            by_place : ((c == d) ≡ true) ⊎ (is_among (drop (k + 1) (hang f.device)) d ≡ true) → is_among more d ≡ true
+            by_place (inl e) = subst (λ (y : ℕ). is_among more y ≡ true) (eqb-true c d e) m
+            by_place (inr e) = i d (w.waits.0 d (ap (λ j. is_among (drop j (hang f.device)) d) last ∙ e))
+
+        -- a device that was walked is passed
+        pub passes : is_among out c ≡ true → Walking n from target (record { device = f.device; left = k } ∷ rest) out marks
+        passes m = record {
+          closed = w.closed;
+          waits = (waits_next out (λ d h. h) m, w.waits.1);
+          chain = w.chain;
+          clear = w.clear;
+          missing = w.missing;
+          sized = (w.sized.0, omega (arith, w.sized.1), w.sized.2);
+          noted = w.noted;
+          ends = ap (λ o. finish rest (f.device ∷ onto (flat_map W (take k (hang f.device))) o)) (sym (visited hang W fix out w.closed c m)) ∙ ends_next;
+        }
+
+        -- another is walked first
+        pub enters : c < n → (c == target) ≡ false → is_among out c ≡ false → Walking n from target (record { device = c; left = length (hang c) } ∷ record { device = f.device; left = k } ∷ rest) out marks
+        enters l t m = record {
+          closed = w.closed;
+          waits = (
+            λ d h. absurd (false≢true (sym (ap (λ xs. is_among xs d) (drop_all (length (hang c)) (hang c) (omega arith))) ∙ h)),
+            (waits_next (c ∷ out) (λ d h. among_rest c out d h) (among_first c out), waits_more rest (f.device ∷ out) (f.device ∷ c ∷ out) (λ d h. by_place d (or_cases (f.device == d) (is_among out d) h)) w.waits.1),
+          );
+          chain = (hangs, w.chain);
+          clear = (t, w.clear);
+          missing = w.missing;
+          sized = (l, omega arith, (w.sized.0, omega (arith, w.sized.1), w.sized.2));
+          noted = w.noted;
+          ends = ap (λ o. finish rest (f.device ∷ onto (flat_map W (take k (hang f.device))) o)) (ap (λ xs. c ∷ onto (flat_map W xs) out) (take_all (length (hang c)) (hang c) (omega arith)) ∙ sym (visits hang W fix out c m)) ∙ ends_next;
+        }
+          where
+            by_place : (d : ℕ) → ((f.device == d) ≡ true) ⊎ (is_among out d ≡ true) → is_among (f.device ∷ c ∷ out) d ≡ true
+            by_place d (inl e) = ap (λ b. b || is_among (c ∷ out) d) e
+            by_place d (inr e) = among_rest f.device (c ∷ out) d (among_rest c out d e)
+
+        -- each step leaves fewer
+        pub fewer : weight (record { device = c; left = length (hang c) } ∷ record { device = f.device; left = k } ∷ rest) < weight (f ∷ rest)
+        fewer =
+            let a = ap (λ j. length (flat_map W (take j (hang f.device)))) last in
+            let b = ap length (flat_next (hang f.device) k c in_row at) in
+            let e = length-append (flat_map W (take k (hang f.device))) (W c) in
+            let g = ap length (fix c) in
+            let h = ap (λ xs. length (flat_map W xs)) (take_all (length (hang c)) (hang c) (omega arith)) in
+            omega (arith, a, b, e, g, h)
+
+        pub fewer_passed : weight (record { device = f.device; left = k } ∷ rest) < weight (f ∷ rest)
+        fewer_passed =
+            let a = ap (λ j. length (flat_map W (take j (hang f.device)))) last in
+            let b = ap length (flat_next (hang f.device) k c in_row at) in
+            let e = length-append (flat_map W (take k (hang f.device))) (W c) in
+            let g = ap length (fix c) in
+            omega (arith, a, b, e, g)
+
+      -- at the end
+      pub ended : (n from target : ℕ) (out : List ℕ) (marks : List Bool) → Walking n from target [] out marks → (out ≡ last_places (W from)) × (is_among (W from) target ≡ false) × AreMarks marks n (W from)
+      ended n from target out marks w = (
+        w.ends ∙ sym (last_onto (W from)),
+        same target ∙ w.missing,
+        record { count = w.noted.count; marked = λ d i. w.noted.marked d i ∙ sym (same d) },
+      )
+        where
+          same : (d : ℕ) → is_among (W from) d ≡ is_among out d
+          same d = sym (or-false (is_among (W from) d)) ∙ (sym (among_onto (W from) [] d) ∙ ap (λ ys. is_among ys d) (sym w.ends))
+
+      -- where the target does not hang below, no path leads there
+      pub no_path : (from target : ℕ) → is_among (W from) target ≡ false → (path : List ℕ) → IsPath hang path from target → ⊥
+      no_path from target n [] p = p
+      no_path from target n (x ∷ xs) p = absurd (true≢false (sym (subst (λ (y : ℕ). is_among (W y) target ≡ true) p.0 (leads_below hang W fix x xs target p.1)) ∙ n))

@@ -1,0 +1,22 @@
+use Rattle.std.proofs.Common.{ℕ, List, length, subst, reverse, IfOk}
+use Rattle.sleep_model.specs.Order.{hanging}
+use Rattle.device_rows.specs.Table.{row_at}
+use Rattle.device_links.specs.Linked.{Linked}
+use Rattle.device_links.specs.Walks.{Finds}
+use Rattle.device_links.proofs.Kept.{walkable, hang_is}
+use Rattle.device_links.proofs.links.Links.find.Goals as goal
+
+pub walk-requires-clause-walkable : goal.walk-requires-clause-walkable
+walk-requires-clause-walkable c =
+    let k = c.self.invariant in
+    walkable c.self.inside.parents.items (reverse c.self.inside.links.items) k.after k.linked c.self.inside.hanging k.all_hanging
+
+pub returns : goal.returns
+returns c =
+    let k = c.self.invariant in
+    let ps = c.self.inside.parents.items in
+    let ls = reverse c.self.inside.links.items in
+    let t = c.self.inside.hanging in
+    subst (λ (v : Linked). IfOk c.walk.result (Finds (length v.parents) (hanging v.parents v.links) c.args.consumer c.args.supplier)) c.self.view_is
+    (subst (λ (h : ℕ → List ℕ). IfOk c.walk.result (Finds (length ps) h c.args.consumer c.args.supplier)) (hang_is ps ls t k.all_hanging)
+    (subst (λ (n : ℕ). IfOk c.walk.result (Finds n (row_at t) c.args.consumer c.args.supplier)) k.all_hanging.count c.walk.ensures))

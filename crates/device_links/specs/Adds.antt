@@ -1,0 +1,37 @@
+-- What is answered where a link is added.
+use Rattle.std.specs.Prelude.{◌≡◌, ◌≤◌, ◌<◌, ◌⊎◌, ℕ, true, false, List, length, Option, Some, None, Result, Ok, Err}
+use Rattle.sleep_model.specs.Order.{hanging}
+use Rattle.sleep_model.specs.Links.{IsPath, is_linked}
+use Rattle.device_links.specs.declared.fault.LinkFault.{LinkFault}
+use Rattle.device_links.specs.declared.fault.LinkFault.TheVariants as fault
+use Rattle.device_links.specs.Linked.{Linked}
+
+-- both devices are registered
+abbrev pub Stand : Linked → ℕ → ℕ → Type 0
+Stand l supplier consumer = (supplier < length l.parents) × (consumer < length l.parents)
+
+-- the link is refused neither for its devices, nor for the count of links, nor because it stands (device_link_add)
+pub record IsOpen (l : Linked) (supplier consumer : ℕ) : Type 0 where
+  pub stand : Stand l supplier consumer
+  pub few : length l.links < 4000
+  pub new : is_linked l.links supplier consumer ≡ false
+
+-- a path from the consumer to the supplier, by steps to what hangs right below
+abbrev pub Closes : Linked → ℕ → ℕ → List ℕ → Type 0
+Closes l supplier consumer path = IsPath (hanging l.parents l.links) path consumer supplier
+
+-- why a link is refused before anything is walked, in the order of the tests
+abbrev pub Refuses : Linked → ℕ → ℕ → Option LinkFault → Type 0
+Refuses l supplier consumer None = IsOpen l supplier consumer
+Refuses l supplier consumer (Some fault.NoDevice) = (length l.parents ≤ supplier) ⊎ (length l.parents ≤ consumer)
+Refuses l supplier consumer (Some fault.TooMany) = Stand l supplier consumer × (4000 ≤ length l.links)
+Refuses l supplier consumer (Some fault.Twice) = Stand l supplier consumer × (length l.links < 4000) × (is_linked l.links supplier consumer ≡ true)
+Refuses l supplier consumer (Some (fault.Cycle path)) = ⊥
+Refuses l supplier consumer (Some fault.Mem) = ⊥
+
+-- the answer: a link closes no cycle, or a fault, each exactly where it comes
+abbrev pub Adds : Linked → ℕ → ℕ → Result (Unit {0}) LinkFault → Type 0
+Adds l supplier consumer (Ok done) = IsOpen l supplier consumer × ((path : List ℕ) → Closes l supplier consumer path → ⊥)
+Adds l supplier consumer (Err (fault.Cycle path)) = IsOpen l supplier consumer × Closes l supplier consumer path
+Adds l supplier consumer (Err fault.Mem) = IsOpen l supplier consumer
+Adds l supplier consumer (Err f) = Refuses l supplier consumer (Some f)

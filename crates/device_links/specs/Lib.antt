@@ -1,0 +1,4 @@
+pub mod Adds
+pub mod Kept
+pub mod Linked
+pub mod Walks

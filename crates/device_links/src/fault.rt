@@ -1,0 +1,32 @@
+ghost use Rattle.std.specs.Prelude.{◌≡◌};
+ghost use Rattle.device_links.specs.declared.fault.LinkFault.TheVariants as fault;
+
+use sleep_base::Mem;
+use sleep_model::ListOf;
+
+/// Numbers of devices.
+pub type DevList = ListOf<u32>;
+
+/// Why a link was not added.
+#[derive(Drop)]
+pub enum LinkFault {
+    /// The supplier or the consumer is not registered.
+    NoDevice,
+    /// As many links stand as a machine may have.
+    TooMany,
+    /// This link stands.
+    Twice,
+    /// The supplier is the consumer or hangs below it: the devices from the consumer to the
+    /// supplier, each but the first right below the one before.
+    Cycle(DevList),
+    /// Memory ran out.
+    Mem,
+}
+
+impl From<Mem> for LinkFault {
+    ghost from_gives = { λ _ e. e ≡ fault.Mem };
+
+    fn from(_failed: Mem) -> LinkFault {
+        LinkFault::Mem
+    }
+}

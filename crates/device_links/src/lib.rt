@@ -1,0 +1,12 @@
+//! Links between devices, the order that they leave, and what hangs below and above a device.
+#![tactic(auto)]
+
+mod fault;
+mod links;
+mod tables;
+#[cfg(test)]
+mod tests;
+mod walk;
+
+pub use fault::{DevList, LinkFault};
+pub use links::Links;

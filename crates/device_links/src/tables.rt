@@ -1,0 +1,95 @@
+//! The tables and the order of devices without links, and an order after a move.
+
+ghost use Rattle.std.specs.Prelude.{◌≡◌, ◌<◌, ◌≤◌, ◌^◌, ◌++◌, not, false, ℕ, List, IfOk, IfSome, OnOk, length, filter, map, option_to_list, slice_index_or};
+ghost use Rattle.std.specs.List.{range_with_len};
+ghost use Rattle.sleep_model.specs.Order.{EachAfterParent, children_from, is_parent};
+ghost use Rattle.device_rows.specs.Table.{hung};
+ghost use Rattle.device_links.specs.Kept.{IsTableOf};
+
+use device_rows::Rows;
+use sleep_base::Mem;
+use std::alloc::Global;
+
+/// Puts a number at the end of a row, where there is one to put it.
+pub(crate) fn hang(table: &mut Rows, row: Option<u32>, number: u32) -> Result<(), Mem>
+    requires { IfSome row (λ r. r < length table.old.rows) }
+    ensures { OnOk result (table.new.rows ≡ hung table.old.rows row number) }
+{
+    if let Some(row) = row {
+        table.make_room(row)?;
+        table.push(row, number);
+    }
+    Ok(())
+}
+
+/// The children of each device.
+pub(crate) fn children_of(alloc: Global, parents: &[Option<u32>]) -> Result<Rows, Mem>
+    requires numbered { length parents.now < 2 ^ 32 }
+    requires after { EachAfterParent 0 parents.now }
+    ensures { IfOk result (λ t. IsTableOf (length parents.now) (λ d. children_from d 0 parents.now) t.rows) }
+{
+    let mut table = Rows::with_rows(alloc, parents.len())?;
+    for (number, parent) in parents.iter().enumerate() {
+        hang(&mut table, *parent, number as u32)?;
+    }
+    Ok(table)
+}
+
+/// The parent of each device, as a row.
+pub(crate) fn parents_of(alloc: Global, parents: &[Option<u32>]) -> Result<Rows, Mem>
+    ensures { IfOk result (λ t. t.rows ≡ map option_to_list parents.now) }
+{
+    let mut table = Rows::new(alloc);
+    for parent in parents {
+        table.add_row_of(*parent)?;
+    }
+    Ok(table)
+}
+
+/// The devices in the order of their registration.
+pub(crate) fn registered(alloc: Global, count: u32) -> Result<Vec<u32>, Mem>
+    ensures { IfOk result (λ v. v.items ≡ range_with_len 0 count) }
+{
+    let mut order = Vec::with_capacity(alloc, count as usize)?;
+    for device in 0..count {
+        order.push(device)?;
+    }
+    Ok(order)
+}
+
+fn is_marked(marks: &[bool], device: u32) -> bool
+    ensures { result ≡ slice_index_or marks.now device false }
+{
+    match marks.get(device as usize) {
+        Some(mark) => *mark,
+        None => false,
+    }
+}
+
+/// The order without the marked devices, with these at its end.
+pub(crate) fn moved_last(
+    alloc: Global,
+    order: &[u32],
+    marks: &[bool],
+    below: &[u32],
+) -> Result<Vec<u32>, Mem>
+    ensures { IfOk result (λ v. v.items ≡ filter (λ d. not (slice_index_or marks.now d false)) order.now ++ below.now) }
+{
+    let mut moved: Vec<u32> = order
+        .iter()
+        .copied()
+        .filter(|device| !is_marked(marks, *device))
+        .collect(alloc)?;
+    moved.extend_from_slice(below)?;
+    Ok(moved)
+}
+
+/// Whether a device's parent is this one.
+pub(crate) fn is_parent(parent: Option<u32>, device: u32) -> bool
+    ensures { result ≡ is_parent device parent }
+{
+    match parent {
+        Some(parent) => parent == device,
+        None => false,
+    }
+}

@@ -1,0 +1,30 @@
+-- What one element's change does to what is seen of each element.
+use Rattle.std.proofs.Common.{◌≡◌, ◌<◌, ◌∙◌, ℕ, zero, suc, List, [], ◌∷◌, length, map, get_or, set, sym, ap, arith}
+use Rattle.std.proofs.lemmas.List.{map-set, set-get_or, get_or-map, get_or_read, get_or-set_same, length-map}
+
+module _ {A B : Type 0} (f : A → B) (xs : List A) (i : ℕ) (x y : A) (within : i < length xs) (at : x ≡ get_or xs i x) where
+  pub seen_at : (d : B) → get_or (map f xs) i d ≡ f x
+  seen_at d = get_or-map f xs i x d within ∙ ap f (sym at)
+
+  -- what looks the same leaves all the same
+  pub seen_kept : f y ≡ f x → map f (set xs i y) ≡ map f xs
+  seen_kept same = map-set f xs i y ∙ ap (set (map f xs) i) (same ∙ sym (seen_at (f x))) ∙ set-get_or (map f xs) i (f x)
+
+  -- what looks otherwise changes that place alone
+  pub seen_set : (d b : B) → f y ≡ b → map f (set xs i y) ≡ set (map f xs) i b
+  seen_set d b is = map-set f xs i y ∙ ap (set (map f xs) i) is
+
+  pub seen_new : (d : B) → get_or (map f (set xs i y)) i d ≡ f y
+  seen_new d = ap (λ l. get_or l i d) (map-set f xs i y) ∙ get_or-set_same (map f xs) i (f y) d (seen_within)
+    where
+      seen_within : i < length (map f xs)
+      seen_within = rw length-map within
+
+-- a place whose number is above 0 is within the list
+pub above_zero : (xs : List ℕ) (i : ℕ) → 0 < get_or xs i 0 → i < length xs
+above_zero [] i h = absurd (omega arith)
+above_zero (x ∷ xs) zero h = omega arith
+above_zero (x ∷ xs) (suc i) h = omega (arith, above_zero xs i h)
+
+pub within_seen : {A B : Type 0} (f : A → B) (xs : List A) (ys : List B) (i : ℕ) → map f xs ≡ ys → i < length ys → i < length xs
+within_seen f xs ys i e h = let n : length xs ≡ length ys = sym (length-map xs f) ∙ ap length e in omega arith

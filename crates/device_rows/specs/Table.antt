@@ -1,0 +1,16 @@
+-- What contracts see of rows of numbers.
+use Rattle.std.specs.Prelude.{ℕ, List, [], ◌∷◌, ◌++◌, slice_index_or, slice_set, Option, Some, None}
+
+-- the rows, and how many more numbers each takes without memory
+pub record Table : Type 0 where
+  pub rows : List (List ℕ)
+  pub room : List ℕ
+
+-- the row at a place, and none past the end
+abbrev pub row_at : Table → ℕ → List ℕ
+row_at t d = slice_index_or t.rows d []
+
+-- the rows with one more number at the end of one of them, or as they are
+abbrev pub hung : List (List ℕ) → Option ℕ → ℕ → List (List ℕ)
+hung rows None x = rows
+hung rows (Some d) x = slice_set rows d (slice_index_or rows d [] ++ x ∷ [])

@@ -1,0 +1,29 @@
+use super::*;
+use std::test::Fail;
+
+/// What is pushed into a row stands at its end, and other rows stay.
+#[test]
+fn rows_grow(rt: HostRuntime) -> Result<(), Fail> {
+    let mut rows = Rows::with_rows(rt.alloc(), 2)?;
+    rows.make_room(1)?;
+    rows.push(1, 7);
+    rows.add_row()?;
+    assert_eq!(rt; rows.len(), 3);
+    assert_eq!(rt; rows.row(1), [7].as_slice());
+    assert!(rt; rows.row(0).is_empty());
+    assert!(rt; rows.row(9).is_empty());
+    Ok(())
+}
+
+/// A stack gives back the last item first.
+#[test]
+fn the_last_comes_first(rt: HostRuntime) -> Result<(), Fail> {
+    let mut stack = Stack::new(rt.alloc());
+    stack.push(1u32)?;
+    stack.push(2)?;
+    stack.push(3)?;
+    assert_eq!(rt; stack.pop(), Some(3));
+    let rest = stack.into_vec();
+    assert_eq!(rt; rest.as_slice(), [2u32, 1].as_slice());
+    Ok(())
+}

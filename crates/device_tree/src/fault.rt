@@ -1,0 +1,42 @@
+ghost use Rattle.std.specs.Prelude.{◌≡◌};
+ghost use Rattle.device_tree.specs.declared.fault.TreeFault.TheVariants as fault;
+
+use sleep_base::Mem;
+use std::alloc::{AllocError, AllocFailed};
+
+/// Why a device was not registered.
+#[derive(Clone, Copy, Debug, PartialEq, Eq)]
+pub enum TreeFault {
+    /// As many devices stand as a machine may have.
+    TooMany,
+    /// A device of this name stands.
+    NameTaken,
+    /// The parent is not registered yet.
+    NoParent,
+    /// Memory ran out.
+    Mem,
+}
+
+impl From<Mem> for TreeFault {
+    ghost from_gives = { λ _ e. e ≡ fault.Mem };
+
+    fn from(_failed: Mem) -> TreeFault {
+        TreeFault::Mem
+    }
+}
+
+impl From<AllocError> for TreeFault {
+    ghost from_gives = { λ _ e. e ≡ fault.Mem };
+
+    fn from(_failed: AllocError) -> TreeFault {
+        TreeFault::Mem
+    }
+}
+
+impl<T: Drop> From<AllocFailed<T>> for TreeFault {
+    ghost from_gives = { λ _ e. e ≡ fault.Mem };
+
+    fn from(_failed: AllocFailed<T>) -> TreeFault {
+        TreeFault::Mem
+    }
+}
