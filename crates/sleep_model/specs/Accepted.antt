@@ -1,11 +1,12 @@
 -- What holds of each machine that a file may spell today.
-use Rattle.std.specs.Prelude.{◌≡◌, ◌≤◌, ◌<◌, ◌+◌, ◌*◌, ℕ, Bool, true, false, List, [], ◌∷◌, length, count_by, codes, None}
+use Rattle.std.specs.Prelude.{◌≡◌, ◌≤◌, ◌<◌, ◌+◌, ◌*◌, ℕ, Bool, true, false, List, [], ◌∷◌, length, reverse, count_by, codes, None}
 use Rattle.sleep_model.specs.declared.machine.Machine.{Machine}
 use Rattle.sleep_model.specs.declared.machine.Device.{Device}
 use Rattle.sleep_model.specs.declared.machine.Script.{Script}
 use Rattle.sleep_model.specs.declared.machine.Step.{Step}
 use Rattle.sleep_model.specs.declared.machine.Op.{Op}
 use Rattle.sleep_model.specs.declared.machine.Op.TheVariants.{Read, Save, State, Event}
+use Rattle.sleep_model.specs.Links.{AreLinks}
 use Rattle.sleep_model.specs.Order.{EachAfterParent, parents_of}
 use Rattle.sleep_model.specs.declared.machine.TaskKind.TheVariants.{User}
 
@@ -66,7 +67,8 @@ pub record IsAccepted (m : Machine) : Type 0 where
   pub devices : length m.devices ≤ 1000
   pub parents : ParentsEarlier 0 m.devices
   pub unflagged : Unflagged m.devices
-  pub links : m.links ≡ []
+  pub few_links : length m.links ≤ 4000
+  pub links : AreLinks (parents_of m.devices) (reverse m.links)
   pub syscore : m.syscore ≡ []
   pub notifiers : m.notifiers ≡ []
   pub sources : length m.sources ≤ 1
