@@ -155,7 +155,7 @@ first_parent (Some p ∷ ps) zero = refl
 first_parent (p ∷ ps) (suc d) = first_parent ps d
 
 -- a device is among the children of its parent alone
-among_children : (d n : ℕ) (ps : List (Option ℕ)) (k : ℕ) → k < length ps → is_among (children_from d n ps) (n + k) ≡ is_parent d (get_or ps k None)
+pub among_children : (d n : ℕ) (ps : List (Option ℕ)) (k : ℕ) → k < length ps → is_among (children_from d n ps) (n + k) ≡ is_parent d (get_or ps k None)
 among_children d n [] k l = absurd (omega arith)
 among_children d n (p ∷ ps) zero l = by_test (is_parent d p)
   where
@@ -185,7 +185,7 @@ hangs_already ps ls s c l n =
     here : c ≡ 0 + c
     here = omega arith
 
-among_parent : (ps : List (Option ℕ)) (c s : ℕ) → is_among (parent_of (slice_get ps c)) s ≡ is_parent s (get_or ps c None)
+pub among_parent : (ps : List (Option ℕ)) (c s : ℕ) → is_among (parent_of (slice_get ps c)) s ≡ is_parent s (get_or ps c None)
 among_parent [] c s = refl
 among_parent (None ∷ ps) zero s = refl
 among_parent (Some p ∷ ps) zero s = or-false (p == s)

@@ -1,6 +1,6 @@
 -- A legal log keeps the laws.
-use Rattle.std.proofs.Common.{◌≡◌, ◌+◌, ◌∙◌, ℕ, Bool, true, false, not, ◌||◌, List, [], ◌∷◌, length, Option, Some, None, refl, sym, ap, subst, arith}
-use Rattle.std.proofs.lemmas.Bool.{not-false, true≢false}
+use Rattle.std.proofs.Common.{◌≡◌, ◌+◌, ◌∙◌, ℕ, Bool, true, false, ◌||◌, List, [], ◌∷◌, Option, Some, None, refl, sym, ap, subst}
+use Rattle.std.proofs.lemmas.Bool.{true≢false}
 use Rattle.sleep_base.specs.declared.errno.Errno.{Errno}
 use Rattle.sleep_base.specs.declared.errno.Errno.TheVariants.{EINVAL}
 use Rattle.sleep_model.specs.declared.entry.Actor.{Actor}
@@ -17,20 +17,18 @@ use Rattle.sleep_model.specs.Guard.{pending, in_force, count_part}
 use Rattle.sleep_model.specs.Numbers.{numbers}
 use Rattle.sleep_model.specs.Path.{attempts}
 use Rattle.sleep_model.proofs.ShortPath.{row_of, row_after, failure, failure_after}
-use Rattle.sleep_model.specs.Walk.{first_where, last_where}
 use Rattle.sleep_model.proofs.ShortWalk.{error_of, error_after, settled, suspended}
-use Rattle.sleep_model.specs.Order.{is_among}
+use Rattle.sleep_model.specs.Order.{below}
 use Rattle.sleep_model.specs.Word.{position, visible}
 use Rattle.sleep_model.specs.declared.entry.SkipCause.TheVariants.{Pending}
-use Rattle.sleep_model.proofs.ShortLaws.{AllAmong, NoneAmong, DependentsFirst, SuppliersFirst, Restored, Enters, SeesNothing, FoundPending, Laws, LawsAt, test_part, disturbed, disturbed_after, entered, entered_after, guard_of}
+use Rattle.sleep_model.proofs.ShortLaws.{AllAmong, DependentsFirst, SuppliersFirst, Restored, Enters, SeesNothing, FoundPending, Laws, LawsAt, test_part, disturbed, disturbed_after, entered, entered_after, guard_of}
 use Rattle.sleep_model.specs.Parts.{part_of}
 use Rattle.sleep_model.specs.Legal.{SourcePart}
 use Rattle.sleep_model.proofs.ShortLegal.{IsLegal, JournalPart, JournalStep, JointPart, JointStep}
 use Rattle.sleep_model.proofs.Walking.{Facts, facts_of, plain_of, AtRow, InSuspend}
 use Rattle.sleep_model.proofs.Guarded.{IsGuarded, guarded_of, sees_nothing}
 use Rattle.sleep_model.proofs.Made.{Made, made}
-use Rattle.sleep_model.proofs.Ordering.{order_plain, below_plain, above_plain}
-use Rattle.sleep_model.proofs.Dependents.{fails_after, fails_before, children_all, parent_before}
+use Rattle.sleep_model.proofs.Neighbours.{below_settled, above_left}
 
 -- the facts of suspend while no error stands
 in_suspend : (o : List ℕ) (who : Option Actor) (r : Row) (i : Option ℕ) (er : Option Errno) (se su : List ℕ) → AtRow o who r i er se su → r ≡ row.Suspend → er ≡ None → se ≡ su
@@ -43,18 +41,11 @@ at_over o who r i er se su h e = let x = subst (λ (y : Row). AtRow o who y i er
 dependents_made : (m : Machine) → IsAccepted m → (past : List Entry) → Facts m past → (now : EventNow) (k : Kind) → Made m past now k → DependentsFirst m past k
 dependents_made m acc past w now _ (Made.Begins d r i er next calm) =
     let same : settled past ≡ suspended past = in_suspend _ _ _ _ _ _ _ w.at_row r er in
-    let plain = subst (λ (o : List ℕ). last_where (λ c. not (is_among (settled past) c)) o ≡ Some d) (order_plain m acc.links) next in
-    let rest = (fails_after (λ c. not (is_among (settled past) c)) 0 (length m.devices) d plain).1 in
-    subst (AllAmong (suspended past)) (sym (below_plain m d acc.links)) (children_all (suspended past) d 0 m.devices acc.parents
-    (λ c l in_range. ap (λ xs. is_among xs c) (sym same) ∙ not-false (is_among (settled past) c) (rest c l (omega arith))))
+    subst (λ (those : List ℕ). AllAmong those (below m d)) same (below_settled m acc (settled past) d next)
 dependents_made m acc past w now _ _ = tt
 
 suppliers_made : (m : Machine) → IsAccepted m → (past : List Entry) (now : EventNow) (k : Kind) → Made m past now k → SuppliersFirst m past k
-suppliers_made m acc past now _ (Made.ResumeBegins d r i next) =
-    let plain = subst (λ (o : List ℕ). first_where (is_among (suspended past)) o ≡ Some d) (order_plain m acc.links) next in (
-      subst (NoneAmong (suspended past)) (sym (above_plain m d acc.links)) (parent_before 0 m.devices acc.parents (suspended past) d (λ c l. fails_before (is_among (suspended past)) 0 (length m.devices) d plain c (omega arith) (omega arith))),
-      i,
-    )
+suppliers_made m acc past now _ (Made.ResumeBegins d r i next) = (above_left m acc (suspended past) d next, i)
 suppliers_made m acc past now _ _ = tt
 
 restored_made : (m : Machine) (past : List Entry) → Facts m past → (now : EventNow) (k : Kind) → Made m past now k → Restored past k

@@ -14,6 +14,7 @@ pub mod Keeping
 pub mod Lawful
 pub mod Legality
 pub mod Made
+pub mod Neighbours
 pub mod Operations
 pub mod Ordering
 pub mod Padding

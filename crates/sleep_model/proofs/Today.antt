@@ -1,5 +1,5 @@
 -- What is due by the whole definitions is, today, what the short form says.
-use Rattle.std.proofs.Common.{◌/◌, ◌%◌, Bool, List, None, Option, Some, [], ap, ap₂, arith, cond, false, inl, inr, is_some, length, nat_le, nat_lt, not, option_to_list, refl, slice_get, slice_index_or, subst, suc, sym, true, zero, ℕ, ◌&&◌, ◌+◌, ◌==◌, ◌||◌, ◌∙◌, ◌∷◌, ◌≡◌, ◌⊎◌}
+use Rattle.std.proofs.Common.{◌/◌, ◌%◌, Bool, List, None, Option, Some, [], ap, ap₂, cond, false, inl, inr, is_some, length, nat_le, nat_lt, not, option_to_list, refl, slice_get, slice_index_or, subst, suc, sym, true, zero, ℕ, ◌&&◌, ◌+◌, ◌==◌, ◌||◌, ◌∙◌, ◌∷◌, ◌≡◌, ◌⊎◌}
 use Rattle.sleep_base.specs.declared.errno.Errno.{Errno}
 use Rattle.sleep_model.specs.declared.entry.Kind.{Kind}
 use Rattle.sleep_model.specs.declared.entry.Actor.{Actor}
@@ -38,9 +38,7 @@ use Rattle.sleep_model.specs.Seats.{Waits, first_seat, seats}
 use Rattle.sleep_model.specs.Sources.{since}
 use Rattle.sleep_model.specs.Table.{Ups, Clears, Ends, Clears, Ends, built_rows}
 use Rattle.sleep_model.specs.Walk.{first_where, last_where, or_else}
-use Rattle.sleep_model.proofs.Dependents.{children_all, fails_after, fails_before, parent_before}
 use Rattle.sleep_model.proofs.Made.{Made, made}
-use Rattle.sleep_model.proofs.Ordering.{above_plain, below_plain, order_plain}
 use Rattle.sleep_model.proofs.Plain.{AllPlain}
 use Rattle.sleep_model.proofs.Simple.{AllSimple, IsBare, IsSimple, bare_of, callback_device, is_simple}
 use Rattle.sleep_model.proofs.Stages.{IsAtStage, row_sleep, row_stages, stage_of}
@@ -50,7 +48,7 @@ use Rattle.sleep_model.specs.Word.{position}
 use Rattle.sleep_model.specs.Devices as devices
 use Rattle.sleep_model.specs.Due as whole_due
 use Rattle.sleep_model.specs.Steps as steps
-use Rattle.std.proofs.lemmas.Bool.{not-false}
+use Rattle.sleep_model.proofs.Neighbours.{below_settled, above_left}
 
 -- ---- today's journals are simple
 
@@ -146,16 +144,11 @@ no_error m e past p d = ap answer_error (no_answer m e (what.Device d p) (attemp
 
 -- all below the device that suspend takes next are through
 pub below_through : (m : Machine) → IsAccepted m → (past : List Entry) (d : ℕ) → next_down m past ≡ Some d → AllAmong (settled past) (below m d)
-below_through m acc past d next =
-    let plain = subst (λ (o : List ℕ). last_where (λ c. not (is_among (settled past) c)) o ≡ Some d) (order_plain m acc.links) next in
-    let rest = (fails_after (λ c. not (is_among (settled past) c)) 0 (length m.devices) d plain).1 in
-    subst (AllAmong (settled past)) (sym (below_plain m d acc.links)) (children_all (settled past) d 0 m.devices acc.parents (λ c l in_range. not-false (is_among (settled past) c) (rest c l (omega arith))))
+below_through m acc past d next = below_settled m acc (settled past) d next
 
 -- none above the device that resume takes next is suspended
 pub above_up : (m : Machine) → IsAccepted m → (past : List Entry) (d : ℕ) → next_up m past ≡ Some d → NoneAmong (suspended past) (above m d)
-above_up m acc past d next =
-    let plain = subst (λ (o : List ℕ). first_where (is_among (suspended past)) o ≡ Some d) (order_plain m acc.links) next in
-    subst (NoneAmong (suspended past)) (sym (above_plain m d acc.links)) (parent_before 0 m.devices acc.parents (suspended past) d (λ c l. fails_before (is_among (suspended past)) 0 (length m.devices) d plain c (omega arith) (omega arith)))
+above_up m acc past d next = above_left m acc (suspended past) d next
 
 -- ---- what holds at each place
 
