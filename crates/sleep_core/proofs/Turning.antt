@@ -76,7 +76,7 @@ none_if_not (Some x) h = absurd (h (λ e. cc))
 -- where the room did not suffice, no attempt is open
 pub no_room_outside : (m : Machine) (h : Kept) → IsCore m h → (now : EventNow) (a : Actor) (k : Kind) → due m (entries h.past) a now ≡ Makes k → (places_for k (length m.devices) ≤ h.room → ⊥) → maker (entries h.past) ≡ None
 no_room_outside m h core now a k is small =
-    none_if_not (maker (entries h.past)) (λ some. small (omega (arith, order_len m core.accepted.links, core.enough, subst (λ n. places_for k n ≤ needed_at m (entries h.past)) (order_len m core.accepted.links) (room_inside m core.accepted.writer (entries h.past) core.legal now a k is some))))
+    none_if_not (maker (entries h.past)) (λ some. small (omega (arith, order_len m core.accepted, core.enough, subst (λ n. places_for k n ≤ needed_at m (entries h.past)) (order_len m core.accepted) (room_inside m core.accepted.writer (entries h.past) core.legal now a k is some))))
 
 -- the core after an entry that was due, in a place that was reserved
 pub core_more : (m : Machine) (h reserved new : Kept) (j : JournalEntry) → IsCore m h → due m (entries h.past) j.entry.actor j.entry.now ≡ Makes j.entry.kind → j.entry.time ≡ time_of (entries h.past) → attempts_after j.entry.kind (attempts (entries h.past)) + 1 < 2 ^ 32 → reserved.past ≡ h.past → reserved.scripts ≡ h.scripts → h.room ≤ reserved.room → places_for j.entry.kind (length m.devices) ≤ reserved.room → new ≡ after_entry reserved j → IsCore m new
@@ -85,7 +85,7 @@ core_more m h reserved new j core is at few past scripts more places e =
       accepted = core.accepted;
       all_scripts = scripts ∙ core.all_scripts;
       legal = subst (λ (xs : List JournalEntry). JournalPart m (entries (j ∷ xs))) (sym past) (legal_more m core.accepted.writer (entries h.past) core.legal j.entry is at);
-      enough = subst (λ (xs : List JournalEntry). needed_at m (entries (j ∷ xs)) ≤ reserved.room - 1) (sym past) (room_after m core.accepted.writer (entries h.past) core.legal j.entry is reserved.room (subst (λ n. places_for j.entry.kind n ≤ reserved.room) (sym (order_len m core.accepted.links)) places) (omega (arith, core.enough)));
+      enough = subst (λ (xs : List JournalEntry). needed_at m (entries (j ∷ xs)) ≤ reserved.room - 1) (sym past) (room_after m core.accepted.writer (entries h.past) core.legal j.entry is reserved.room (subst (λ n. places_for j.entry.kind n ≤ reserved.room) (sym (order_len m core.accepted)) places) (omega (arith, core.enough)));
       few = subst (λ (xs : List JournalEntry). attempts (entries (j ∷ xs)) + 1 < 2 ^ 32) (sym past) few;
       early = subst (λ (xs : List JournalEntry). time_of (entries (j ∷ xs)) ≤ 2 ^ 63) (sym past) (time_early j.entry.kind j.entry.time (time_of (entries h.past)) (subst (λ t. t ≤ 2 ^ 63) (sym at) core.early) core.early);
       slept = subst (λ (xs : List JournalEntry). SleptEarly (row_of (entries (j ∷ xs)))) (sym past) (slept_after j.entry.kind (position j.entry.now) j.entry.time (row_of (entries h.past)) (subst (λ t. t ≤ 2 ^ 63) (sym at) core.early) core.slept);

@@ -1,10 +1,11 @@
 -- What the core keeps: a legal journal, with room for what its open attempt needs.
-use Rattle.std.specs.Prelude.{◌≡◌, ◌≤◌, ◌<◌, ◌+◌, ◌^◌, length}
+use Rattle.std.specs.Prelude.{◌≡◌, ◌≤◌, ◌<◌, ◌+◌, ◌^◌, length, reverse}
 use Rattle.sleep_model.specs.Accepted.{IsAccepted}
 use Rattle.sleep_model.proofs.ShortLegal.{JournalPart}
 use Rattle.sleep_model.specs.declared.place.Row.{Row}
 use Rattle.sleep_model.specs.declared.place.Row.TheVariants.{Asleep}
 use Rattle.sleep_model.specs.Numbers.{time_of}
+use Rattle.sleep_model.specs.Order.{parents_of}
 use Rattle.sleep_model.specs.Path.{attempts}
 use Rattle.sleep_model.proofs.ShortPath.{row_of}
 use Rattle.sleep_core.specs.Places.{entries}
@@ -33,6 +34,6 @@ pub record IsCore (m : Machine) (h : Kept) : Type 0 where
 abbrev pub state : Inside → CoreState
 state c = record { machine = c.machine.now; past = c.history.past }
 
--- what holds of a core between calls: it has each script's plan, and keeps its history
+-- what holds of a core between calls: it has each script's plan and the machine's links, and keeps its history
 abbrev pub keeps : Inside → Type 0
-keeps c = (c.plans.items ≡ c.machine.now.actors) × IsCore c.machine.now c.history
+keeps c = (c.plans.items ≡ c.machine.now.actors) × IsCore c.machine.now c.history × (c.links ≡ record { parents = parents_of c.machine.now.devices; links = reverse c.machine.now.links })

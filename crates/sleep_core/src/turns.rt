@@ -1,15 +1,18 @@
-ghost use Rattle.std.specs.Prelude.{◌≡◌, false, IfOk};
-ghost use Rattle.sleep_model.specs.Accepted.{HasWriter};
+ghost use Rattle.std.specs.Prelude.{◌≡◌, ◌<◌, ◌∷◌, false, length, reverse, IfOk, OnOk};
+ghost use Rattle.sleep_model.specs.Accepted.{HasWriter, IsAccepted};
+ghost use Rattle.sleep_model.specs.Links.{AreLinks};
+ghost use Rattle.sleep_model.specs.Order.{EachAfterParent, parents_of};
 ghost use Rattle.sleep_model.specs.Steps.{read_due, save_due};
 
 use crate::events::{Events, look_from};
 use crate::history::History;
 use crate::plan::Plan;
 use crate::steps;
+use device_links::{LinkFault, Links};
 use sleep_base::{Errno, Mem};
 use sleep_model::{
-    Actor, Due, Entry, EventNow, JournalEntry, Kind, Machine, Op, Phase, Row, Script, Seat,
-    SkipCause, Stamp, Why, pos,
+    Actor, Device, Due, Entry, EventNow, JournalEntry, Kind, Link, Machine, Op, Phase, Row, Script,
+    Seat, SkipCause, Stamp, Why, pos,
 };
 use std::alloc::{AllocError, Global};
 use std::marker::Model;
@@ -44,6 +47,8 @@ pub enum CoreFault {
 pub struct Core<'m> {
     machine: &'m Machine,
     plans: Vec<Plan<'m>>,
+    // The links of the machine, with the order of its devices.
+    links: Links,
     history: History,
 }
 
@@ -69,6 +74,47 @@ fn plans_of(alloc: Global, machine: &Machine) -> Result<Vec<Plan<'_>>, AllocErro
         plans.push(Plan::new(alloc, script)?)?;
     }
     Ok(plans)
+}
+
+/// The parent of each device.
+fn parents_of(alloc: Global, devices: &[Device]) -> Result<Vec<Option<u32>>, AllocError>
+    ensures { IfOk result (λ v. v.items ≡ parents_of devices.now) }
+{
+    let mut parents = Vec::new(alloc);
+    for device in devices {
+        parents.push(device.parent)?;
+    }
+    Ok(parents)
+}
+
+/// Adds one more link of an accepted machine. It is refused for want of memory alone.
+fn add_link(links: &mut Links, link: Link) -> Result<(), Mem>
+    requires few { length links.old.links < 4000 }
+    requires after { EachAfterParent 0 links.old.parents }
+    requires fits { AreLinks links.old.parents (link ∷ links.old.links) }
+    ensures { OnOk result (links.new ≡ record { parents = links.old.parents; links = link ∷ links.old.links }) }
+{
+    match links.add(link.supplier, link.consumer) {
+        Ok(()) => Ok(()),
+        Err(LinkFault::Mem) => Err(Mem),
+        Err(LinkFault::NoDevice) => unreachable!(),
+        Err(LinkFault::TooMany) => unreachable!(),
+        Err(LinkFault::Twice) => unreachable!(),
+        Err(LinkFault::Cycle(_)) => unreachable!(),
+    }
+}
+
+/// The links of a machine, with the order that they leave.
+fn links_of(alloc: Global, machine: &Machine) -> Result<Links, Mem>
+    requires { IsAccepted machine.now }
+    ensures { IfOk result (λ l. l ≡ record { parents = parents_of machine.now.devices; links = reverse machine.now.links }) }
+{
+    let parents = parents_of(alloc, machine.devices.as_slice())?;
+    let mut links = Links::new(alloc, &parents)?;
+    for link in machine.links.as_slice() {
+        add_link(&mut links, *link)?;
+    }
+    Ok(links)
 }
 
 /// A read's next entry, where nobody asks the task to freeze.
@@ -129,10 +175,12 @@ impl<'m> Core<'m> {
         ensures { IfOk result (λ c. (c.machine ≡ machine.now) × (c.past ≡ [])) }
     {
         let plans = plans_of(alloc, machine)?;
+        let links = links_of(alloc, machine)?;
         let history = History::new(alloc, machine.actors.len())?;
         Ok(Core {
             machine,
             plans,
+            links,
             history,
         })
     }
@@ -141,11 +189,12 @@ impl<'m> Core<'m> {
     fn next_down(&self) -> Option<u32>
         ensures { result ≡ next_down self.now.machine (entries self.now.past) }
     {
-        let left = self.machine.devices.len() - self.history.settled();
+        let order = self.links.order();
+        let left = order.len() - self.history.settled();
         if left == 0 {
             None
         } else {
-            Some((left - 1) as u32)
+            Some(order[left - 1])
         }
     }
 
@@ -157,7 +206,8 @@ impl<'m> Core<'m> {
         if suspended == 0 {
             None
         } else {
-            Some((self.machine.devices.len() - suspended) as u32)
+            let order = self.links.order();
+            Some(order[order.len() - suspended])
         }
     }
 

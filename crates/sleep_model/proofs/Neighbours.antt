@@ -1,16 +1,16 @@
 -- What a walk leaves of the devices below and above the one that it takes.
-use Rattle.std.proofs.Common.{Bool, List, None, Option, Some, [], ap, ap₂, arith, cond, eqb-true, false, inl, inr, length, not, refl, reverse, slice_get, subst, subst₂, sym, true, true≢false, ℕ, ◌+◌, ◌<◌, ◌==◌, ◌||◌, ◌∙◌, ◌∷◌, ◌≡◌, ◌≤◌, ◌⊎◌}
+use Rattle.std.proofs.Common.{Bool, List, None, Option, Some, [], ap, ap₂, arith, cond, eqb-true, false, inl, inr, length, not, refl, reverse, slice_get, subst, subst₂, sym, true, true≢false, ℕ, ◌++◌, ◌+◌, ◌<◌, ◌==◌, ◌||◌, ◌∙◌, ◌∷◌, ◌≡◌, ◌≤◌, ◌⊎◌}
 use Rattle.sleep_model.specs.declared.machine.Machine.{Machine}
 use Rattle.sleep_model.specs.declared.machine.Link.{Link}
 use Rattle.sleep_model.specs.Accepted.{IsAccepted}
 use Rattle.sleep_model.specs.Laws.{AllAmong, NoneAmong}
-use Rattle.sleep_model.specs.Links.{IsOrder}
-use Rattle.sleep_model.specs.Order.{above, below, children_from, consumers_of, hanging, holding, is_among, order, parent_of, parents_of, suppliers_of}
+use Rattle.sleep_model.specs.Links.{AreLinks, IsOrder, IsPath}
+use Rattle.sleep_model.specs.Order.{EachAfterParent, above, below, children_from, consumers_of, hanging, holding, is_among, moved, order, parent_of, parents_of, suppliers_of}
+use Rattle.sleep_model.specs.Sources.{later}
 use Rattle.sleep_model.specs.Walk.{first_where, last_where, or_else}
-use Rattle.sleep_model.proofs.Acyclic.{order_covers, order_within, order_ranked, nothing_below, nothing_below, order_covers, order_ranked, order_within}
-use Rattle.sleep_model.proofs.FirstPlaces.{among_parent, among_children, consumers_linked, suppliers_linked}
-use Rattle.sleep_model.proofs.Hanging.{all_of, among_app, among_first, among_rest, within_of}
-use Rattle.std.proofs.lemmas.Bool.{true≢false, false≢true}
+use Rattle.sleep_model.proofs.Acyclic.{links_descend, nothing_below, order_covers, order_ranked, order_within}
+use Rattle.sleep_model.proofs.FirstPlaces.{among_children, among_parent, consumers_linked, suppliers_linked}
+use Rattle.sleep_model.proofs.Hanging.{Descends, all_of, among_app, among_first, among_rest, leads_below, within_of}
 use Rattle.std.proofs.lemmas.Bool.{true≢false, false≢true, eqb-true, or_cases, cases_lt}
 
 -- ---- orders
@@ -119,3 +119,18 @@ above_left m acc those d next = none_of those (above m d) (λ s held. by_place s
         outside : (s < length ps) ⊎ (length ps ≤ s) → ⊥
         outside (inl l) = true≢false (sym (order_covers ps acc.parents ls s l) ∙ e)
         outside (inr l) = true≢false (sym n ∙ ap (λ ys. is_among ys d) (nothing_below ps acc.parents ls acc.links s l))
+
+-- ---- cycles
+
+-- a link that may be added closes no path from its consumer to its supplier
+pub no_cycle : (ps : List (Option ℕ)) → EachAfterParent 0 ps → (l : Link) (ls : List Link) → AreLinks ps (l ∷ ls) → (path : List ℕ) → IsPath (hanging ps ls) path l.consumer l.supplier → ⊥
+no_cycle ps after l ls h [] p = p
+no_cycle ps after l ls h (x ∷ xs) p =
+    let levels : Descends (hanging ps ls) (moved (length ps) (hanging ps ls)) = links_descend ps after ls h.4 (order_ranked ps after ls h.4) in
+    let found : is_among (moved (length ps) (hanging ps ls) l.consumer) l.supplier ≡ true = subst (λ (d : ℕ). is_among (moved (length ps) (hanging ps ls) d) l.supplier ≡ true) p.0 (leads_below (hanging ps ls) (moved (length ps) (hanging ps ls)) levels x xs l.supplier p.1) in
+    true≢false (sym found ∙ h.3)
+
+-- a front of links that may be added may be added
+pub front_links : (ps : List (Option ℕ)) (later : List Link) (l : Link) (earlier : List Link) → AreLinks ps (later ++ l ∷ earlier) → AreLinks ps (l ∷ earlier)
+front_links ps [] l earlier h = h
+front_links ps (x ∷ later) l earlier h = front_links ps later l earlier h.4

@@ -45,4 +45,5 @@ invariant_of-self-2 c =
       core_more c.self.inside.machine.now c.self.inside.history c.reserve.new.self c.append.new.self
           (record { stamp = c.args.stamp; entry = record { time = c.time.result; now = c.args.now; actor = c.args.who; kind = c.args.kind } })
           c.self.invariant.1 is (c.time.ensures ∙ ap (λ (xs : List JournalEntry). time_of (entries xs)) c.in-Ok.ensures.past) (rw (← c.attempts.ensures) c.if-not-leaves_number.ensures.fits) c.in-Ok.ensures.past c.in-Ok.ensures.scripts c.in-Ok.ensures.room (rw (← c.len.ensures, ← c.places_for-places.ensures) c.in-Ok.ensures.ok) c.append.ensures,
+      c.self.invariant.2,
     )
