@@ -89,6 +89,9 @@ one_writer names (item a no_items) n e few =
     }
 one_writer names (item a (item b ds)) n e few = absurd (false≢true e)
 
+no_links : 0 ≤ 4000
+no_links = omega arith
+
 pub IsAccepted-machine_of : (d : Data) → is_accepted d ≡ true → IsAccepted (machine_of d)
 IsAccepted-machine_of d e =
     let ds = list_at (codes "devices") d in
@@ -106,7 +109,8 @@ IsAccepted-machine_of d e =
       devices = subst (λ n. n ≤ 1000) (sym (length-devices_of [] ds)) few;
       parents = ParentsEarlier-devices_of ds [];
       unflagged = Unflagged-devices_of ds [];
-      links = refl;
+      few_links = no_links;
+      links = tt;
       syscore = refl;
       notifiers = refl;
       sources = few_sources _ (and_parts _ _ sources).1;
