@@ -1,6 +1,7 @@
 //! Links between devices, the order that they leave, and what hangs below and above a device.
 #![tactic(auto)]
 
+mod env;
 mod fault;
 mod links;
 mod tables;
@@ -8,5 +9,6 @@ mod tables;
 mod tests;
 mod walk;
 
+pub use env::DevEnv;
 pub use fault::{DevList, LinkFault};
 pub use links::Links;

@@ -36,13 +36,14 @@ impl Model for Links {
 
     ghost view = { λ l. record { parents = l.parents.items; links = reverse l.links.items } };
 
-    ghost invariant = { λ l. IsKept l.parents.items (reverse l.links.items) l.hanging.rows l.below.rows l.suppliers.rows l.above.rows l.order.items };
+    ghost invariant = { λ l. IsKept l.parents.items (reverse l.links.items)
+        l.hanging.rows l.below.rows l.suppliers.rows l.above.rows l.order.items };
 }
 
 impl Links {
     ghost use Rattle.std.specs.Prelude.{◌≡◌, ◌∷◌, [], ◌<◌, ℕ, false, true, IfOk, OnOk, OnErr, length};
-    ghost use Rattle.sleep_model.specs.Order.{EachAfterParent, is_among, hanging, holding, moved, order_by};
-    ghost use Rattle.sleep_model.specs.Links.{AreLinks, IsOrder, first_places};
+    ghost use Rattle.sleep_model.specs.Order.{EachAfterParent, is_among, hanging, holding, order_by};
+    ghost use Rattle.sleep_model.specs.Links.{IsOrder, first_places};
     ghost use Rattle.device_links.specs.Walks.{Finds, IsWalked};
     ghost use Rattle.device_links.specs.Adds.{Adds, IsOpen, Refuses};
 
@@ -74,7 +75,10 @@ impl Links {
     /// memory ran out, which may come in place of `Cycle`. After each all is as before.
     pub fn add(&mut self, supplier: u32, consumer: u32) -> Result<(), LinkFault>
         ensures answer { Adds self.old supplier consumer result }
-        ensures ok { OnOk result (self.new ≡ record { parents = self.old.parents; links = record { supplier = supplier; consumer = consumer } ∷ self.old.links }) }
+        ensures ok { OnOk result (self.new ≡ record {
+          parents = self.old.parents;
+          links = record { supplier = supplier; consumer = consumer } ∷ self.old.links;
+        }) }
         ensures err { OnErr result (self.new ≡ self.old) }
     {
         if let Some(fault) = self.refusal(supplier, consumer) {
@@ -92,6 +96,7 @@ impl Links {
     /// The devices in the order in which they are prepared and resumed; they suspend the other way.
     pub fn order(&self) -> &[u32]
         ensures order { result.now ≡ order_by self.now.parents self.now.links }
+        ensures count { length result.now ≡ length self.now.parents }
         ensures ranked { IsOrder (hanging self.now.parents self.now.links) result.now }
         ensures covers { (d : ℕ) → d < length self.now.parents → is_among result.now d ≡ true }
         ensures within { (d : ℕ) → is_among result.now d ≡ true → d < length self.now.parents }
@@ -133,16 +138,20 @@ impl Links {
     // Walks below the consumer until it meets the supplier.
     fn find(&self, supplier: u32, consumer: u32) -> Result<Found, Mem>
         requires { consumer < length self.now.parents }
-        ensures { IfOk result (Finds (length self.now.parents) (hanging self.now.parents self.now.links) consumer supplier) }
+        ensures { IfOk result (Finds (length self.now.parents)
+            (hanging self.now.parents self.now.links) consumer supplier) }
     {
         walk(*self.order.allocator(), &self.hanging, consumer, supplier)
     }
 
-    // Puts the link behind the others, and what the walk below its consumer found at the end of the order.
+    // Puts the link behind the others, and what the walk below its consumer found at the end of
+    // the order.
     fn put(&mut self, link: Link, below: &[u32], marks: &[bool]) -> Result<(), Mem>
         requires open { IsOpen self.old link.supplier link.consumer }
-        requires walked { IsWalked (length self.old.parents) (hanging self.old.parents self.old.links) link.consumer link.supplier below.now marks.now }
-        ensures ok { OnOk result (self.new ≡ record { parents = self.old.parents; links = link ∷ self.old.links }) }
+        requires walked { IsWalked (length self.old.parents)
+            (hanging self.old.parents self.old.links) link.consumer link.supplier below.now marks.now }
+        ensures ok { OnOk result
+            (self.new ≡ record { parents = self.old.parents; links = link ∷ self.old.links }) }
         ensures err { OnErr result (self.new ≡ self.old) }
     {
         let order = moved_last(*self.order.allocator(), &self.order, marks, below)?;
@@ -167,7 +176,8 @@ impl Links {
 // Puts a number at the end of a row, if it does not stand there.
 fn push_unless(table: &mut Rows, stands: bool, row: u32, number: u32)
     requires { 0 < slice_index table.old.room row }
-    ensures { table.new.rows ≡ (if stands then table.old.rows else hung table.old.rows (Some row) number) }
+    ensures { table.new.rows ≡
+        (if stands then table.old.rows else hung table.old.rows (Some row) number) }
 {
     if !stands {
         table.push(row, number);

@@ -26,7 +26,8 @@ pub(crate) fn hang(table: &mut Rows, row: Option<u32>, number: u32) -> Result<()
 pub(crate) fn children_of(alloc: Global, parents: &[Option<u32>]) -> Result<Rows, Mem>
     requires numbered { length parents.now < 2 ^ 32 }
     requires after { EachAfterParent 0 parents.now }
-    ensures { IfOk result (λ t. IsTableOf (length parents.now) (λ d. children_from d 0 parents.now) t.rows) }
+    ensures { IfOk result
+        (λ t. IsTableOf (length parents.now) (λ d. children_from d 0 parents.now) t.rows) }
 {
     let mut table = Rows::with_rows(alloc, parents.len())?;
     for (number, parent) in parents.iter().enumerate() {
@@ -73,7 +74,8 @@ pub(crate) fn moved_last(
     marks: &[bool],
     below: &[u32],
 ) -> Result<Vec<u32>, Mem>
-    ensures { IfOk result (λ v. v.items ≡ filter (λ d. not (slice_index_or marks.now d false)) order.now ++ below.now) }
+    ensures { IfOk result (λ v. v.items
+        ≡ filter (λ d. not (slice_index_or marks.now d false)) order.now ++ below.now) }
 {
     let mut moved: Vec<u32> = order
         .iter()

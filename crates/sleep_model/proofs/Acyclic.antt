@@ -79,6 +79,30 @@ few (suc n) xs h f =
     less d l true e m = absurd (true≢false (sym m ∙ kept_passes (λ d'. not (d' == n)) xs d (ap not e)))
     less d l false e m = let other : d ≡ n → ⊥ = eqb-false d n e in omega arith
 
+-- a list that has a number keeps fewer others
+drops_one : (k : ℕ) (xs : List ℕ) → is_among xs k ≡ true → suc (length (filter (λ d. not (d == k)) xs)) ≤ length xs
+drops_one k [] m = absurd (false≢true m)
+drops_one k (x ∷ xs) m = by_test (drops_one k xs) (x == k) refl m
+  where
+    at_most : (ys : List ℕ) → length (filter (λ d. not (d == k)) ys) ≤ length ys
+    at_most [] = omega arith
+    at_most (y ∷ ys) = by_kept (at_most ys) (y == k)
+      where
+        by_kept : length (filter (λ d. not (d == k)) ys) ≤ length ys → (b : Bool) → length (cond (not b) (y ∷ filter (λ d. not (d == k)) ys) (filter (λ d. not (d == k)) ys)) ≤ suc (length ys)
+        by_kept rest true = omega arith
+        by_kept rest false = omega arith
+
+    by_test : (is_among xs k ≡ true → suc (length (filter (λ d. not (d == k)) xs)) ≤ length xs) → (b : Bool) → (x == k) ≡ b → (b || is_among xs k) ≡ true → suc (length (cond (not b) (x ∷ filter (λ d. not (d == k)) xs) (filter (λ d. not (d == k)) xs))) ≤ suc (length xs)
+    by_test rest true e n = let l = at_most xs in omega arith
+    by_test rest false e n = let l = rest n in omega arith
+
+-- a list with each number below n has at least n
+pub many : (n : ℕ) (xs : List ℕ) → ((d : ℕ) → d < n → is_among xs d ≡ true) → n ≤ length xs
+many zero xs f = omega arith
+many (suc n) xs f =
+    let rest : n ≤ length (filter (λ d. not (d == n)) xs) = many n (filter (λ d. not (d == n)) xs) (λ d l. kept_among (λ d'. not (d' == n)) xs d (ap not (ne_eqb d n (λ e. omega arith))) (f d (omega arith))) in
+    omega (arith, rest, drops_one n xs (f n (omega arith)))
+
 -- a run of numbers has each number within
 pub among_run : (a n d : ℕ) → a ≤ d → d < a + n → is_among (range_with_len a n) d ≡ true
 among_run a zero d l r = absurd (omega arith)
@@ -277,6 +301,10 @@ module _ (ps : List (Option ℕ)) (after : EachAfterParent 0 ps) where
       by_test : is_among (order_by ps ls) d ≡ true → (b : Bool) → is_among M d ≡ b → (is_among (filter (λ x. not (is_among M x)) (order_by ps ls)) d || is_among (last_places M) d) ≡ true
       by_test rest true e = or_right (is_among (filter (λ x. not (is_among M x)) (order_by ps ls)) d) (is_among (last_places M) d) (among_last M d ∙ e)
       by_test rest false e = or_left (is_among (filter (λ x. not (is_among M x)) (order_by ps ls)) d) (is_among (last_places M) d) (kept_among (λ x. not (is_among M x)) (order_by ps ls) d (ap not e) rest)
+
+  -- each of them once
+  pub order_length : (ls : List Link) → AreLinks ps ls → length (order_by ps ls) ≡ length ps
+  order_length ls h = omega (arith, few (length ps) (order_by ps ls) (order_by_different ps ls) (order_within ls h), many (length ps) (order_by ps ls) (order_covers ls))
 
   run_order : (a n : ℕ) → a + n ≡ length ps → IsOrder (hanging ps []) (range_with_len a n)
   run_order a zero e = tt

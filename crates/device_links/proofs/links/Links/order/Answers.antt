@@ -1,7 +1,7 @@
-use Rattle.std.proofs.Common.{◌≡◌, ◌<◌, ◌∙◌, ℕ, List, length, sym, subst, reverse, true}
+use Rattle.std.proofs.Common.{◌≡◌, ◌<◌, ◌∙◌, ℕ, List, length, ap, sym, subst, reverse, true}
 use Rattle.sleep_model.specs.Order.{is_among, hanging}
 use Rattle.sleep_model.specs.Links.{IsOrder}
-use Rattle.sleep_model.proofs.Acyclic.{order_ranked, order_covers, order_within}
+use Rattle.sleep_model.proofs.Acyclic.{order_ranked, order_covers, order_within, order_length}
 use Rattle.device_links.specs.Linked.{Linked}
 use Rattle.device_links.proofs.links.Links.order.Goals as goal
 
@@ -28,3 +28,10 @@ returns-clause-within c =
     let ls = reverse c.self.inside.links.items in
     subst (λ (v : Linked). (d : ℕ) → is_among c.deref.result.now d ≡ true → d < length v.parents) c.self.view_is
     (subst (λ (o : List ℕ). (d : ℕ) → is_among o d ≡ true → d < length ps) (sym (c.deref.ensures.value ∙ k.ordered)) (order_within ps k.after ls k.linked))
+
+pub returns-clause-count : goal.returns-clause-count
+returns-clause-count c =
+    let k = c.self.invariant in
+    let ps = c.self.inside.parents.items in
+    let ls = reverse c.self.inside.links.items in
+    subst (λ (v : Linked). length c.deref.result.now ≡ length v.parents) c.self.view_is (ap length (c.deref.ensures.value ∙ k.ordered) ∙ order_length ps k.after ls k.linked)
