@@ -4,7 +4,8 @@
 usage: tools/try_definitions.py SEED MACHINES FOLDER
 
 For each machine the log that tools/second.py writes has to be what the definitions alone make, with the
-same statistics and the same end: each is a law that the prover has to close. FOLDER is a clone of this
+same statistics and the same end, and each source has to have as many places: each is a law that the prover
+has to close. FOLDER is a clone of this
 repository of its own, made where it is not there; the laws take the place of its crate sleep_laws. Sixty
 machines take about a minute. Ends with status 1 where a law stays open, and names it.
 """
@@ -179,11 +180,14 @@ def logs_of(seed, machines):
 def law(log):
     """What the definitions have to make of a machine."""
     machine, end = f"{log.name}_machine", "IsStuckLog" if log.stuck else "IsFinishedLog"
+    m = log.machine
+    places = worked.listed([str(second.places(m.tree, source)) for source in m.sources])
     return f"""
 pub fn {log.name}_is_made()
     ensures made {{ one_worker every_row {machine} {len(log.lines) + 1} ≡ {log.name}_entries }}
     ensures stats {{ {log.name}.stats ≡ stats_of {machine} (reverse {log.name}_entries) }}
     ensures ends {{ {end} every_row {machine} {log.name} }}
+    ensures places {{ map (places {machine}) (range_with_len 0 {len(m.sources)}) ≡ {places} }}
 {{}}
 """
 
@@ -192,8 +196,10 @@ LAWS_HEAD = """\
 //! The definitions tried on random machines.
 #![tactic(auto)]
 
-ghost use Rattle.std.specs.Prelude.{◌≡◌, reverse};
+ghost use Rattle.std.specs.List.{range_with_len};
+ghost use Rattle.std.specs.Prelude.{[], ◌∷◌, ◌≡◌, map, reverse};
 ghost use Rattle.sleep_model.specs.Legal.{IsFinishedLog, IsStuckLog, stats_of};
+ghost use Rattle.sleep_model.specs.Places.{places};
 ghost use Rattle.sleep_model.specs.Table.{every_row};
 ghost use Rattle.sleep_laws.specs.Rounds.{one_worker};
 """
