@@ -771,14 +771,15 @@ class Run:
             pending = list(self.times())
             if over or not pending:
                 break
-            self.lines_at_jump(min(pending))
+            self.time = min(pending)
+            self.put("time", "jump")
+        return self.end()
+
+    def end(self):
+        """The text of the lines, with the statistics and the end, and whether it is stuck."""
         ends = [f"stuck {task.label} {task.waits_for}" for task in self.tasks if not task.exited]
         stats = [source.line(self.time) for source in self.sources]
         return "\n".join([*self.lines, *stats, *(ends or ["finished"])]) + "\n", bool(ends)
-
-    def lines_at_jump(self, to):
-        self.time = to
-        self.put("time", "jump")
 
 
 # ---- places of a source's history

@@ -1,11 +1,12 @@
 #!/usr/bin/env python3
 """Tries the definitions of sleep on random machines, against the second writing of a run.
 
-usage: tools/try_definitions.py SEED MACHINES FOLDER
+usage: tools/try_definitions.py SEED MACHINES FOLDER [--interleaved]
 
 For each machine the log that tools/second.py writes has to be what the definitions alone make, with the
 same statistics and the same end, and each source has to have as many places: each is a law that the prover
-has to close. FOLDER is a clone of this
+has to close. With --interleaved the log is a merged one of tools/interleaved.py: it has to be legal, to have
+its end, and to be what the journal and the histories are merged to. FOLDER is a clone of this
 repository of its own, made where it is not there; the laws take the place of its crate sleep_laws. Sixty
 machines take about a minute. Ends with status 1 where a law stays open, and names it.
 """
@@ -17,11 +18,12 @@ import re
 import subprocess
 import sys
 
+import interleaved
 import second
 import worked
 
 ROOT = pathlib.Path(__file__).resolve().parent.parent
-LEAST, MOST = 12, 160  # How many entries a log has.
+LEAST, MOST = 12, 100  # How many entries a log has.
 A_MODULE = 25  # Logs in a module of specs/.
 
 KINDS = ["user", "user", "user", "kthread", "nofreeze", "irq", "irq"]
@@ -164,17 +166,39 @@ class Maker:
         return tree
 
 
-def logs_of(seed, machines):
+def logs_of(seed, machines, kind):
     """Random machines and their logs, most of them with an attempt."""
     maker, logs = Maker(seed), []
     while len(logs) < machines:
         tree = maker.machine()
-        text, _ = second.Run(tree).run()
+        run = kind(tree, len(logs)) if kind is interleaved.Interleaved else kind(tree)
+        text, _ = run.run()
         entries = sum(line[:1].isdigit() for line in text.split("\n"))
         if LEAST <= entries <= MOST and (" attempt " in text or maker.often(0.4)):
             module = f"Tried{len(logs) // A_MODULE}"
             logs.append(worked.Worked(module, f"machine_{len(logs)}", json.dumps(tree), tree, text))
+            logs[-1].events = getattr(run, "events", [])
     return logs
+
+
+def merged_law(log):
+    """What has to hold of a merged log."""
+    machine, end = f"{log.name}_machine", "IsStuckLog" if log.stuck else "IsFinishedLog"
+    return f"""
+pub fn {log.name}_is_made()
+    ensures legal {{ IsLegalLog every_row {machine} {log.name} }}
+    ensures ends {{ {end} every_row {machine} {log.name} }}
+    ensures merged {{ Merges {machine} {log.name}_stamped {log.name}_entries }}
+{{}}
+"""
+
+
+def stamped(log):
+    """The entries of a merged log as they were made, with their ticks."""
+    items = [f"ticked {event[2]} ({worked.entry_term(log.machine, event[-1])})" for event in log.events] + ["[]"]
+    listed = "\n    ∷ ".join(items)
+    name = f"{log.name}_stamped"
+    return f"-- its entries as they were made\nabbrev pub {name} : List JournalEntry\n{name} =\n    {listed}\n"
 
 
 def law(log):
@@ -198,36 +222,46 @@ LAWS_HEAD = """\
 
 ghost use Rattle.std.specs.List.{range_with_len};
 ghost use Rattle.std.specs.Prelude.{[], ◌∷◌, ◌≡◌, map, reverse};
-ghost use Rattle.sleep_model.specs.Legal.{IsFinishedLog, IsStuckLog, stats_of};
+ghost use Rattle.sleep_model.specs.Legal.{IsLegalLog, IsFinishedLog, IsStuckLog, stats_of};
 ghost use Rattle.sleep_model.specs.Places.{places};
 ghost use Rattle.sleep_model.specs.Table.{every_row};
+ghost use Rattle.sleep_laws.specs.Merging.{Merges};
 ghost use Rattle.sleep_laws.specs.Rounds.{one_worker};
+"""
+KEPT = ["Merging", "Rounds", "Terms"]
+STAMPED = """\
+use Rattle.sleep_model.specs.declared.entry.JournalEntry.{JournalEntry}
+use Rattle.sleep_laws.specs.Merging.{ticked}
 """
 
 
-def write_crate(crate, logs):
+def write_crate(crate, logs, merged):
     """The laws in place of the crate's own."""
     for path in [*crate.rglob("*.rt"), *crate.rglob("*.antt")]:
-        if path.name not in ("Rounds.antt", "Terms.antt"):
+        if path.stem not in KEPT:
             path.unlink()
     modules = sorted({log.module for log in logs})
     for module in modules:
-        texts = [text for log in logs if log.module == module for text in worked.pieces(log)]
-        worked.write_module(module, "Random machines and their logs.", texts, crate)
-    (crate / "specs" / "Lib.antt").write_text("".join(f"pub mod {name}\n" for name in ["Rounds", "Terms", *modules]))
-    laws = [LAWS_HEAD, *worked.ghost_uses(logs, "_machine", "", "_entries"), *map(law, logs)]
+        own = [log for log in logs if log.module == module]
+        texts = [text for log in own for text in [*worked.pieces(log), *([stamped(log)] if merged else [])]]
+        worked.write_module(module, "Random machines and their logs.", texts, crate, STAMPED if merged else "")
+    (crate / "specs" / "Lib.antt").write_text("".join(f"pub mod {name}\n" for name in [*KEPT, *modules]))
+    endings = ["_machine", "", "_entries", *(["_stamped"] if merged else [])]
+    laws = [LAWS_HEAD, *worked.ghost_uses(logs, *endings), *map(merged_law if merged else law, logs)]
     (crate / "src" / "lib.rt").write_text("".join(laws))
 
 
 def main():
-    if len(sys.argv) != 4:
+    words = [word for word in sys.argv[1:] if word != "--interleaved"]
+    if len(words) != 3:
         sys.exit(__doc__)
-    seed, machines, folder = int(sys.argv[1]), int(sys.argv[2]), pathlib.Path(sys.argv[3]).resolve()
+    seed, machines, folder = int(words[0]), int(words[1]), pathlib.Path(words[2]).resolve()
+    merged = "--interleaved" in sys.argv
     if not folder.exists():
         subprocess.run(["git", "clone", "--quiet", ROOT, folder], check=True)
     crate = folder / "crates" / "sleep_laws"
-    logs = logs_of(seed, machines)
-    write_crate(crate, logs)
+    logs = logs_of(seed, machines, interleaved.Interleaved if merged else second.Run)
+    write_crate(crate, logs, merged)
     ran = subprocess.run(["rt", "check"], cwd=crate, capture_output=True, text=True)
     said = ran.stdout + ran.stderr
     open_laws = sorted(set(re.findall(r"sleep_laws::(machine_\d+)_is_made: (?!proved)", said)))

@@ -580,11 +580,11 @@ def uses_of(text):
             yield f"use Rattle.sleep_laws.specs.{module}.{{{name}}}"
 
 
-def write_module(module, says, texts, crate=CRATE):
-    """A module of specs/ with these definitions."""
+def write_module(module, says, texts, crate=CRATE, more=""):
+    """A module of specs/ with these definitions, and with these use lines beside those of their words."""
     body = "\n".join(texts)
     uses = "\n".join(uses_of(re.sub(r"^--.*$", "", body, flags=re.M)))
-    (crate / "specs" / f"{module}.antt").write_text(f"-- {says}\n{uses}\n\n{body}")
+    (crate / "specs" / f"{module}.antt").write_text(f"-- {says}\n{uses}\n{more}\n{body}")
 
 
 def write_halves(log):
