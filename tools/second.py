@@ -782,42 +782,6 @@ class Run:
         return "\n".join([*self.lines, *stats, *(ends or ["finished"])]) + "\n", bool(ends)
 
 
-# ---- places of a source's history
-
-
-def call_places(given):
-    """How many entries a call may make, its expiry included."""
-    if (given.get("call") or given["op"]) != "event":
-        return 2
-    return (4 if given.get("ms", 0) else 3) + given.get("hard", False)
-
-
-def most_attempts(tree):
-    """How many attempts may be begun."""
-    made = [(step["op"], step.get("times", 1) * a.get("repeat", 1)) for a in tree["actors"] for step in a["script"]]
-    cycles = tree.get("auto_cycles", 16) if any(op == "autosleep" for op, _ in made) else 0
-    return sum(times for op, times in made if op == "state") + cycles
-
-
-def places(tree, source):
-    """How many places a source's history may need."""
-    total = 0
-    for actor in tree["actors"]:
-        for step in actor["script"]:
-            times = step.get("times", 1) * actor.get("repeat", 1)
-            if step.get("source") == source:
-                total += times * call_places(step)
-            if step["op"] == "autosleep" and source == "autosleep":
-                total += times * 4
-    things = [(a["what"], a["name"], a.get("phase"), a.get("attempt")) for a in tree.get("answers", [])]
-    for number in range(1, most_attempts(tree) + 1):
-        for answer, thing in zip(tree.get("answers", []), things):
-            own = (*thing[:3], number)
-            if thing == own or (thing[3] is None and own not in things):
-                total += sum(call_places(r) for r in answer.get("reports", []) if r["source"] == source)
-    return total
-
-
 def main():
     text, stuck = Run(json.load(sys.stdin)).run()
     sys.stdout.write(text)

@@ -166,6 +166,39 @@ class Maker:
         return tree
 
 
+def call_places(given):
+    """How many entries a call may make, its expiry included."""
+    if (given.get("call") or given["op"]) != "event":
+        return 2
+    return (4 if given.get("ms", 0) else 3) + given.get("hard", False)
+
+
+def most_attempts(tree):
+    """How many attempts may be begun."""
+    made = [(step["op"], step.get("times", 1) * a.get("repeat", 1)) for a in tree["actors"] for step in a["script"]]
+    cycles = tree.get("auto_cycles", 16) if any(op == "autosleep" for op, _ in made) else 0
+    return sum(times for op, times in made if op == "state") + cycles
+
+
+def places_of(tree, source):
+    """How many places a source's history may need."""
+    total = 0
+    for actor in tree["actors"]:
+        for step in actor["script"]:
+            times = step.get("times", 1) * actor.get("repeat", 1)
+            if step.get("source") == source:
+                total += times * call_places(step)
+            if step["op"] == "autosleep" and source == "autosleep":
+                total += times * 4
+    things = [(a["what"], a["name"], a.get("phase"), a.get("attempt")) for a in tree.get("answers", [])]
+    for number in range(1, most_attempts(tree) + 1):
+        for answer, thing in zip(tree.get("answers", []), things):
+            own = (*thing[:3], number)
+            if thing == own or (thing[3] is None and own not in things):
+                total += sum(call_places(r) for r in answer.get("reports", []) if r["source"] == source)
+    return total
+
+
 def logs_of(seed, machines, kind):
     """Random machines and their logs, most of them with an attempt."""
     maker, logs = Maker(seed), []
@@ -205,7 +238,7 @@ def law(log):
     """What the definitions have to make of a machine."""
     machine, end = f"{log.name}_machine", "IsStuckLog" if log.stuck else "IsFinishedLog"
     m = log.machine
-    places = worked.listed([str(second.places(m.tree, source)) for source in m.sources])
+    places = worked.listed([str(places_of(m.tree, source)) for source in m.sources])
     return f"""
 pub fn {log.name}_is_made()
     ensures made {{ one_worker every_row {machine} {len(log.lines) + 1} ≡ {log.name}_entries }}
