@@ -508,20 +508,24 @@ def stats_term(line):
 class Worked:
     """A worked log: its machine, its lines, and what it is called."""
 
-    def __init__(self, folder, module, name, place, says):
+    def __init__(self, module, name, says, tree, text):
         self.module, self.name, self.says = module, name, says
+        self.machine, self.text = Machine(tree), text
+        lines = text.split("\n")[:-1]
+        self.stuck = [line for line in lines if line.startswith("stuck ")]
+        self.sources = [line for line in lines if line.startswith("source ")]
+        self.lines = [line for line in lines if line[0].isdigit()]
+
+    @classmethod
+    def read(cls, folder, module, name, place, says):
+        """The log of a row of LOGS."""
         tree = json.loads((folder / place).parent.joinpath("in").read_text())
         text = (folder / place).read_text()
         if name in ENDINGS:
             last, (actor, member, value), rest = ENDINGS[name]
             text = text[: text.index(last + "\n") + len(last) + 1] + rest
             next(a for a in tree["actors"] if a["name"] == actor)[member] = value
-        self.machine = Machine(tree)
-        self.text = text
-        lines = text.split("\n")[:-1]
-        self.stuck = [line for line in lines if line.startswith("stuck ")]
-        self.sources = [line for line in lines if line.startswith("source ")]
-        self.lines = [line for line in lines if line[0].isdigit()]
+        return cls(module, name, says, tree, text)
 
     def entries(self):
         return [entry_term(self.machine, line) for line in self.lines]
@@ -576,11 +580,11 @@ def uses_of(text):
             yield f"use Rattle.sleep_laws.specs.{module}.{{{name}}}"
 
 
-def write_module(module, says, texts):
-    """A module of specs/ with these definitions."""
+def write_module(module, says, texts, crate=CRATE, more=""):
+    """A module of specs/ with these definitions, and with these use lines beside those of their words."""
     body = "\n".join(texts)
     uses = "\n".join(uses_of(re.sub(r"^--.*$", "", body, flags=re.M)))
-    (CRATE / "specs" / f"{module}.antt").write_text(f"-- {says}\n{uses}\n\n{body}")
+    (crate / "specs" / f"{module}.antt").write_text(f"-- {says}\n{uses}\n{more}\n{body}")
 
 
 def write_halves(log):
@@ -678,7 +682,7 @@ ghost use Rattle.sleep_laws.specs.Rounds.{one_worker};
 
 def ghost_uses(logs, *endings):
     """The use lines for values of these logs."""
-    for module in MODULES:
+    for module in dict.fromkeys(log.module for log in logs):
         names = [log.name + ending for log in logs if log.module == module for ending in endings]
         if names:
             yield f"ghost use Rattle.sleep_laws.specs.{module}.{{{', '.join(names)}}};\n"
@@ -747,7 +751,7 @@ def main():
     if len(sys.argv) != 2:
         sys.exit(__doc__)
     folder = pathlib.Path(sys.argv[1])
-    logs = [Worked(folder, *row) for row in LOGS]
+    logs = [Worked.read(folder, *row) for row in LOGS]
     for module, says in MODULES.items():
         write_module(module, says, [text for log in logs if log.module == module for text in pieces(log)])
     for log in logs:
