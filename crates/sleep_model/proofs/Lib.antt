@@ -17,6 +17,7 @@ pub mod Made
 pub mod Operations
 pub mod Ordering
 pub mod Padding
+pub mod Paths
 pub mod Plain
 pub mod Planning
 pub mod ShortCalls
