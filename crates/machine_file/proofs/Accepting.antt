@@ -4,6 +4,7 @@ use Rattle.std.proofs.lemmas.Bool.{and_parts, leb-true, ltb-true, false≢true}
 use Rattle.std.proofs.lemmas.List.{length_push}
 use Rattle.std.specs.List.{position_or_len, list_any}
 use Rattle.sleep_model.specs.Accepted.{Unflagged, ParentsEarlier, IsGiven, AreGiven, IsOneWriter, IsAccepted}
+use Rattle.sleep_model.specs.Order.{parents_of}
 use Rattle.sleep_model.specs.declared.machine.Machine.{Machine}
 use Rattle.sleep_model.specs.declared.machine.Op.TheVariants.{Read, Save, Event}
 use Rattle.serde_json.specs.Data.{Data, Items, no_items, item}
@@ -11,28 +12,19 @@ use Rattle.serde_json.specs.Find.{get, as_str}
 use Rattle.machine_file.specs.declared.fault.MachineFault.{MachineFault}
 use Rattle.machine_file.specs.Gives.{Gives}
 use Rattle.machine_file.specs.Look.{is_some_and, texts_of, list_at, items_len}
-use Rattle.machine_file.specs.Rules.{name_of, is_op, is_state_mem, is_event, is_read_or_save, is_operation, is_step, are_steps, are_sources, source_names, is_one_actor, has_script, actors_state_count, has_devices, has_sources, has_one_actor, is_accepted}
-use Rattle.machine_file.specs.Spelled.{devices_of, state_mem, source_of, op_of, steps_of, script_of, scripts_of, machine_of}
-use Rattle.machine_file.proofs.Places.{is_some-position}
+use Rattle.machine_file.specs.Rules.{name_of, is_op, is_state_mem, is_event, is_read_or_save, is_operation, is_step, are_steps, are_sources, source_names, is_one_actor, has_script, actors_state_count, has_devices, has_sources, has_one_actor}
+use Rattle.machine_file.specs.Links.{may_be_added, has_links}
+use Rattle.machine_file.specs.Spells.{is_accepted}
+use Rattle.machine_file.specs.Spelled.{devices_of, devices_in, links_in, state_mem, source_of, op_of, steps_of, script_of, scripts_of, machine_of}
+use Rattle.machine_file.proofs.Places.{is_some-position, position_within, parent_within}
+use Rattle.machine_file.proofs.LinkWalk.{are_links}
 use Rattle.machine_file.proofs.Attempts.{length-devices_of, length-steps_of, attempts_of-scripts_of}
-
--- a place is below the length
-place_within : (b : Bool) (k n : ℕ) → ltb k n ≡ b → IfSome (cond b (Some k) None) (λ i. i < n)
-place_within true k n e = ltb-true k n e
-place_within false k n e = tt
-
-position_within : (test : List ℕ → Bool) (names : List (List ℕ)) → IfSome (position test names) (λ i. i < length names)
-position_within test names = place_within (ltb (position_or_len test names) (length names)) (position_or_len test names) (length names) refl
-
-parent_within : (o : Option (List ℕ)) (names : List (List ℕ)) → IfSome (option_and_then (λ s. position (bytes_eq s) names) o) (λ i. i < length names)
-parent_within None names = tt
-parent_within (Some s) names = position_within (bytes_eq s) names
 
 -- each parent is an earlier device
 ParentsEarlier-devices_of : (ds : Items) (names : List (List ℕ)) → ParentsEarlier (length names) (devices_of names ds)
 ParentsEarlier-devices_of no_items names = tt
 ParentsEarlier-devices_of (item d ds) names = (
-  parent_within (option_and_then as_str (get (codes "parent") d)) names,
+  parent_within names d,
   subst (λ n. ParentsEarlier n (devices_of (names ++ name_of d ∷ []) ds)) (length_push names (name_of d) ∙ add-one (length names)) (ParentsEarlier-devices_of ds (names ++ name_of d ∷ [])),
 )
 
@@ -89,16 +81,16 @@ one_writer names (item a no_items) n e few =
     }
 one_writer names (item a (item b ds)) n e few = absurd (false≢true e)
 
-no_links : 0 ≤ 4000
-no_links = omega arith
-
 pub IsAccepted-machine_of : (d : Data) → is_accepted d ≡ true → IsAccepted (machine_of d)
 IsAccepted-machine_of d e =
     let ds = list_at (codes "devices") d in
     let p = and_parts _ _ e in
     let q = and_parts _ _ p.0 in
     let r = and_parts _ _ q.0 in
-    let devices : has_devices d ≡ true = (and_parts _ _ r.0).1 in
+    let s = and_parts _ _ r.0 in
+    let devices : has_devices d ≡ true = (and_parts _ _ s.0).1 in
+    let linked : has_links d ≡ true = s.1 in
+    let links : may_be_added (parents_of (devices_in d)) (links_in d) ≡ true = (and_parts _ _ linked).1 in
     let sources : has_sources d ≡ true = r.1 in
     let actor : has_one_actor (source_names d) d ≡ true = q.1 in
     let few : items_len ds ≤ 1000 = leb-true _ _ (and_parts _ _ (and_parts _ _ devices).0).1 in
@@ -109,8 +101,8 @@ IsAccepted-machine_of d e =
       devices = subst (λ n. n ≤ 1000) (sym (length-devices_of [] ds)) few;
       parents = ParentsEarlier-devices_of ds [];
       unflagged = Unflagged-devices_of ds [];
-      few_links = no_links;
-      links = tt;
+      few_links = leb-true _ _ (and_parts _ _ links).0;
+      links = are_links (parents_of (devices_in d)) _ (and_parts _ _ links).1;
       syscore = refl;
       notifiers = refl;
       sources = few_sources _ (and_parts _ _ sources).1;

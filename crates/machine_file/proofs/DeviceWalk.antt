@@ -1,71 +1,94 @@
 -- A step of the walk over the devices.
-use Rattle.std.proofs.Common.{◌≡◌, ◌<◌, ◌≤◌, ◌+◌, ◌++◌, ◌&&◌, ℕ, List, [], ◌∷◌, length, map, drop, get_or, bytes_eq, not, Bool, true, false, cond, Bor, sym, ap, ◌∙◌, append_assoc, length-append, arith}
+use Rattle.std.proofs.Common.{◌≡◌, ◌<◌, ◌≤◌, ◌+◌, ◌++◌, ◌&&◌, ℕ, List, [], ◌∷◌, length, drop, get_or, position, bytes_eq, leb, not, Bool, true, false, cond, IfSome, Option, Some, None, Result, Ok, Err, refl, sym, ap, subst, ◌∙◌, append_assoc, arith}
 use Rattle.std.proofs.lemmas.List.{drop_more, map_push}
 use Rattle.std.proofs.lemmas.Bool.{false≢true}
+use Rattle.std.proofs.lemmas.Bool.Decides.{nat_tests}
+use Rattle.std.proofs.Math.Bool.{and-false}
 use Rattle.std.specs.List.{list_any}
 use Rattle.serde_json.specs.Data.{Data, item}
 use Rattle.serde_json.specs.View.{view, items_view}
 use Rattle.serde_json.specs.declared.value.Value.{Value}
 use Rattle.sleep_model.specs.declared.machine.Device.{Device}
+use Rattle.device_tree.specs.declared.fault.TreeFault.{TreeFault}
+use Rattle.device_tree.specs.declared.fault.TreeFault.TheVariants as tree
+use Rattle.device_tree.specs.Refusal.{is_taken, is_lost, refusal, Refuses}
+use Rattle.machine_file.specs.Faults.{of_tree}
+use Rattle.machine_file.specs.Gives.{Gives}
 use Rattle.machine_file.specs.Rules.{name_of, is_plain_device, is_name, has_earlier_parent, is_new, is_device, are_devices}
-use Rattle.machine_file.specs.Spelled.{device_of, devices_of}
-use Rattle.machine_file.proofs.Looks.{list_any-texts}
-
-abbrev pub texts : List (Bor (List ℕ)) → List (List ℕ)
-texts names = map (λ s. s.now) names
+use Rattle.machine_file.specs.Spelled.{names_of, device_of, devices_of}
+use Rattle.machine_file.proofs.Places.{parent_within, names_of-length}
 
 -- the next item, and those after it
 pub items_view-drop : (xs : List Value) (i : ℕ) (x : Value) → i < length xs → x ≡ get_or xs i x → items_view (drop i xs) ≡ item (view x) (items_view (drop (i + 1) xs))
 items_view-drop xs i x within is = ap items_view (drop_more xs i x within ∙ ap (λ y. y ∷ drop (i + 1) xs) (sym is))
 
-texts-push : (names : List (Bor (List ℕ))) (text : Bor (List ℕ)) (name : List ℕ) → text.now ≡ name → texts (names ++ text ∷ []) ≡ texts names ++ name ∷ []
-texts-push names text name e = map_push (λ s. s.now) names text ∙ ap (λ t. texts names ++ t ∷ []) e
-
--- what the set of names answered is whether the name is new
-is_device-added : (names : List (Bor (List ℕ))) (text : Bor (List ℕ)) (added : Bool) (d : Data) → text.now ≡ name_of d → added ≡ not (list_any (λ s. bytes_eq text.now s.now) names)
-    → (is_plain_device d && is_name (name_of d) && has_earlier_parent (texts names) d) ≡ true → is_device (texts names) d ≡ added
-is_device-added names text added d named is good =
-    ap (λ b. b && is_new (texts names) d) good ∙ ap not (sym (list_any-texts text.now names ∙ ap (λ t. list_any (bytes_eq t) (texts names)) named)) ∙ sym is
-
-are_devices-step : (xs : List Value) (i : ℕ) (x : Value) (names : List (Bor (List ℕ))) (text : Bor (List ℕ)) (added : Bool) → i < length xs → x ≡ get_or xs i x → text.now ≡ name_of (view x)
-    → added ≡ not (list_any (λ s. bytes_eq text.now s.now) names) → (is_plain_device (view x) && is_name (name_of (view x)) && has_earlier_parent (texts names) (view x)) ≡ true
-    → are_devices (texts names) (items_view (drop i xs)) ≡ (added && are_devices (texts (names ++ text ∷ [])) (items_view (drop (i + 1) xs)))
-are_devices-step xs i x names text added within at named is good =
-    ap (are_devices (texts names)) (items_view-drop xs i x within at)
-    ∙ ap (λ b. b && are_devices (texts names ++ name_of (view x) ∷ []) (items_view (drop (i + 1) xs))) (is_device-added names text added (view x) named is good)
-    ∙ ap (λ ns. added && are_devices ns (items_view (drop (i + 1) xs))) (sym (texts-push names text _ named))
-
--- a name that was there before
-pub are_devices-again : (xs : List Value) (i : ℕ) (x : Value) (names : List (Bor (List ℕ))) (text : Bor (List ℕ)) (added : Bool) → i < length xs → x ≡ get_or xs i x → text.now ≡ name_of (view x)
-    → added ≡ not (list_any (λ s. bytes_eq text.now s.now) names) → (is_plain_device (view x) && is_name (name_of (view x)) && has_earlier_parent (texts names) (view x)) ≡ true
-    → added ≡ false → are_devices (texts names) (items_view (drop i xs)) ≡ false
-are_devices-again xs i x names text added within at named is good old =
-    are_devices-step xs i x names text added within at named is good ∙ ap (λ b. b && are_devices (texts (names ++ text ∷ [])) (items_view (drop (i + 1) xs))) old
-
--- a new name
-pub are_devices-more : (xs : List Value) (i : ℕ) (x : Value) (names : List (Bor (List ℕ))) (text : Bor (List ℕ)) (added : Bool) → i < length xs → x ≡ get_or xs i x → text.now ≡ name_of (view x)
-    → added ≡ not (list_any (λ s. bytes_eq text.now s.now) names) → (is_plain_device (view x) && is_name (name_of (view x)) && has_earlier_parent (texts names) (view x)) ≡ true
-    → added ≡ true → are_devices (texts (names ++ text ∷ [])) (items_view (drop (i + 1) xs)) ≡ are_devices (texts names) (items_view (drop i xs))
-are_devices-more xs i x names text added within at named is good new =
-    sym (are_devices-step xs i x names text added within at named is good ∙ ap (λ b. b && are_devices (texts (names ++ text ∷ [])) (items_view (drop (i + 1) xs))) new)
-
-pub devices_of-more : (xs : List Value) (i : ℕ) (x : Value) (names : List (Bor (List ℕ))) (text : Bor (List ℕ)) (ys : List Device) (y : Device) → i < length xs → x ≡ get_or xs i x → text.now ≡ name_of (view x)
-    → y ≡ device_of (texts names) (view x)
-    → (ys ++ y ∷ []) ++ devices_of (texts (names ++ text ∷ [])) (items_view (drop (i + 1) xs)) ≡ ys ++ devices_of (texts names) (items_view (drop i xs))
-devices_of-more xs i x names text ys y within at named is =
-    append_assoc ys (y ∷ []) _ ∙ ap (λ zs. ys ++ zs) (
-    ap (λ ns. y ∷ devices_of ns (items_view (drop (i + 1) xs))) (texts-push names text _ named)
-    ∙ ap (λ z. z ∷ devices_of (texts names ++ name_of (view x) ∷ []) (items_view (drop (i + 1) xs))) is
-    ∙ sym (ap (devices_of (texts names)) (items_view-drop xs i x within at)))
-
--- the names with one more
-pub keys-added : (keys names : List (Bor (List ℕ))) (text : Bor (List ℕ)) (added : Bool) → keys ≡ cond (list_any (λ s. bytes_eq text.now s.now) names) names (names ++ text ∷ [])
-    → added ≡ not (list_any (λ s. bytes_eq text.now s.now) names) → added ≡ true → keys ≡ names ++ text ∷ []
-keys-added keys names text added e is new = key_at _ keys names text e (sym is ∙ new)
+-- a device that is registered has a name of its own, and there were fewer than 1000
+pub registered : (ds : List Device) (y : Device) (n : ℕ) → Refuses (Ok n) (refusal ds y) → (length ds < 1000) × (is_taken y.name ds ≡ false)
+registered ds y n h = by_tests (leb 1000 (length ds)) (is_taken y.name ds) (is_lost (length ds) y.parent) refl refl h
   where
-    key_at : (b : Bool) (keys names : List (Bor (List ℕ))) (text : Bor (List ℕ)) → keys ≡ cond b names (names ++ text ∷ []) → not b ≡ true → keys ≡ names ++ text ∷ []
-    key_at true keys names text e h = absurd (false≢true h)
-    key_at false keys names text e h = e
+    by_tests : (many taken lost : Bool) → leb 1000 (length ds) ≡ many → is_taken y.name ds ≡ taken → Refuses (Ok n) (cond many (Some tree.TooMany) (cond taken (Some tree.NameTaken) (cond lost (Some tree.NoParent) None))) → (length ds < 1000) × (is_taken y.name ds ≡ false)
+    by_tests true taken lost m t k = absurd k
+    by_tests false true lost m t k = absurd k
+    by_tests false false lost m t k = (grind (arith, nat_tests), t)
 
-pub length-added : (keys names : List (Bor (List ℕ))) (text : Bor (List ℕ)) (i : ℕ) → keys ≡ names ++ text ∷ [] → length names ≤ i → length keys ≤ i + 1
-length-added keys names text i e few = rw (e, length-append) (omega arith)
+not_lost : (p : Option ℕ) (n : ℕ) → IfSome p (λ q. q < n) → is_lost n p ≡ false
+not_lost None n within = refl
+not_lost (Some q) n within = grind (arith, nat_tests)
+
+module _ (vs : List Value) (i : ℕ) (x : Value) (ds : List Device) (y : Device) (within : i < length vs) (at : x ≡ get_or vs i x) (is : y ≡ device_of (names_of ds) (view x))
+    (good : (is_plain_device (view x) && is_name (name_of (view x)) && has_earlier_parent (names_of ds) (view x)) ≡ true) where
+  named : y.name ≡ name_of (view x)
+  named = ap (λ z. z.name) is
+
+  more_names : names_of (ds ++ y ∷ []) ≡ names_of ds ++ name_of (view x) ∷ []
+  more_names = map_push (λ d. d.name) ds y ∙ ap (λ s. names_of ds ++ s ∷ []) named
+
+  -- the rule on the next device is whether its name is new
+  is_device-new : (taken : Bool) → is_taken y.name ds ≡ taken → is_device (names_of ds) (view x) ≡ not taken
+  is_device-new taken e = ap (λ b. b && is_new (names_of ds) (view x)) good ∙ ap not (sym (ap (λ s. list_any (bytes_eq s) (names_of ds)) named) ∙ e)
+
+  are_devices-step : (taken : Bool) → is_taken y.name ds ≡ taken → are_devices (names_of ds) (items_view (drop i vs)) ≡ (not taken && are_devices (names_of (ds ++ y ∷ [])) (items_view (drop (i + 1) vs)))
+  are_devices-step taken e =
+      ap (are_devices (names_of ds)) (items_view-drop vs i x within at)
+      ∙ ap (λ b. b && are_devices (names_of ds ++ name_of (view x) ∷ []) (items_view (drop (i + 1) vs))) (is_device-new taken e)
+      ∙ ap (λ ns. not taken && are_devices ns (items_view (drop (i + 1) vs))) (sym more_names)
+
+  -- the rules on those after a new name
+  pub are_devices-more : is_taken y.name ds ≡ false → are_devices (names_of (ds ++ y ∷ [])) (items_view (drop (i + 1) vs)) ≡ are_devices (names_of ds) (items_view (drop i vs))
+  are_devices-more e = sym (are_devices-step false e)
+
+  pub devices_of-more : (ds ++ y ∷ []) ++ devices_of (names_of (ds ++ y ∷ [])) (items_view (drop (i + 1) vs)) ≡ ds ++ devices_of (names_of ds) (items_view (drop i vs))
+  devices_of-more =
+      append_assoc ds (y ∷ []) _ ∙ ap (λ zs. ds ++ zs) (
+      ap (λ ns. y ∷ devices_of ns (items_view (drop (i + 1) vs))) more_names
+      ∙ ap (λ z. z ∷ devices_of (names_of ds ++ name_of (view x) ∷ []) (items_view (drop (i + 1) vs))) is
+      ∙ sym (ap (devices_of (names_of ds)) (items_view-drop vs i x within at)))
+
+  -- the parent is an earlier device
+  known_parent : is_lost (length ds) y.parent ≡ false
+  known_parent = subst (λ (p : Option ℕ). is_lost (length ds) p ≡ false) (sym (ap (λ z. z.parent) is)) (not_lost _ (length ds) (subst (λ (n : ℕ). IfSome (device_of (names_of ds) (view x)).parent (λ q. q < n)) (names_of-length ds) (parent_within (names_of ds) (view x))))
+
+  -- what the tree refuses breaks a rule
+  pub refused : length ds ≡ i → are_devices (names_of ds) (items_view (drop i vs)) ≡ are_devices [] (items_view vs) → (f : TreeFault) → Refuses {T = ℕ} (Err f) (refusal ds y)
+      → Gives {X = List Device} {Y = List Device} (λ t. t) (Err (of_tree f)) (leb (length vs) 1000 && are_devices [] (items_view vs)) (devices_of [] (items_view vs))
+  refused count same f h = by_tests (leb 1000 (length ds)) (is_taken y.name ds) (is_lost (length ds) y.parent) refl refl refl h
+    where
+      rules : Bool
+      rules = leb (length vs) 1000 && are_devices [] (items_view vs)
+
+      broken : (g : TreeFault) → of_tree g ≡ of_tree tree.TooMany → f ≡ g → rules ≡ false → Gives {X = List Device} {Y = List Device} (λ t. t) (Err (of_tree f)) rules (devices_of [] (items_view vs))
+      broken g kind e no_rule = subst (λ (r : Result (List Device) _). Gives {X = List Device} {Y = List Device} (λ t. t) r rules (devices_of [] (items_view vs))) (ap Err (sym (ap of_tree e ∙ kind))) no_rule
+
+      too_many : leb 1000 (length ds) ≡ true → rules ≡ false
+      too_many m = let over : leb (length vs) 1000 ≡ false = grind (arith, nat_tests) in ap (λ b. b && are_devices [] (items_view vs)) over
+
+      again : is_taken y.name ds ≡ true → rules ≡ false
+      again t = ap (λ b. leb (length vs) 1000 && b) (sym same ∙ are_devices-step true t) ∙ and-false _
+
+      by_tests : (many taken lost : Bool) → leb 1000 (length ds) ≡ many → is_taken y.name ds ≡ taken → is_lost (length ds) y.parent ≡ lost
+          → Refuses {T = ℕ} (Err f) (cond many (Some tree.TooMany) (cond taken (Some tree.NameTaken) (cond lost (Some tree.NoParent) None)))
+          → Gives {X = List Device} {Y = List Device} (λ t. t) (Err (of_tree f)) rules (devices_of [] (items_view vs))
+      by_tests true taken lost m t o k = broken tree.TooMany refl k (too_many m)
+      by_tests false true lost m t o k = broken tree.NameTaken refl k (again t)
+      by_tests false false true m t o k = absurd (false≢true (sym known_parent ∙ o))
+      by_tests false false false m t o k = subst (λ (r : Result (List Device) _). Gives {X = List Device} {Y = List Device} (λ t. t) r rules (devices_of [] (items_view vs))) (ap Err (sym (ap of_tree k))) tt

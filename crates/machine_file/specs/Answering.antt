@@ -21,7 +21,7 @@ use Rattle.machine_file.specs.Members.{may_have, has_text, list_in, number_at}
 use Rattle.machine_file.specs.Places.{first_item, first_later_item}
 use Rattle.machine_file.specs.Form.{is_one_of}
 use Rattle.machine_file.specs.Names.{is_among_names, texts_in, names_in, devices_named, sources_named}
-use Rattle.machine_file.specs.Devices.{place_among}
+use Rattle.machine_file.specs.Spelled.{place_among}
 use Rattle.machine_file.specs.Operations.{names_source, ms_of, says}
 use Rattle.machine_file.specs.Rules.{name_of}
 

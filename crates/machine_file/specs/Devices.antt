@@ -1,5 +1,5 @@
 -- The rules of devices and links, and the devices and links that a file spells.
-use Rattle.std.specs.Prelude.{ℕ, ◌+◌, List, length, codes, Bool, false, not, ◌&&◌, bytes_eq, map, position, unwrap_or, Option, if◌then◌else◌}
+use Rattle.std.specs.Prelude.{ℕ, ◌+◌, List, length, codes, Bool, false, not, ◌&&◌, bytes_eq, map, unwrap_or, Option, if◌then◌else◌}
 use Rattle.std.specs.List.{list_any}
 use Rattle.serde_json.specs.Data.{Data}
 use Rattle.sleep_model.specs.declared.flags.DeviceFlags.{DeviceFlags}
@@ -11,7 +11,7 @@ use Rattle.machine_file.specs.Members.{has_text, list_in, truth_at, word_at}
 use Rattle.machine_file.specs.Places.{first_item, first_later_item}
 use Rattle.machine_file.specs.Names.{is_among_names, devices_named}
 use Rattle.machine_file.specs.Rules.{name_of}
-use Rattle.machine_file.specs.Spelled.{parent_of}
+use Rattle.machine_file.specs.Spelled.{parent_of, place_among, link_of}
 
 -- ---- the devices that are spelled
 
@@ -32,17 +32,9 @@ whole_device names d = record { name = name_of d; parent = parent_of names d; fl
 abbrev pub whole_devices : Data → List Device
 whole_devices file = map (whole_device (devices_named file)) (list_in (codes "devices") file)
 
--- the number of a name among these, and 0 where it is none of them
-abbrev pub place_among : List (List ℕ) → List ℕ → ℕ
-place_among names name = unwrap_or (position (bytes_eq name) names) 0
-
--- a link between devices of these names
-abbrev pub whole_link : List (List ℕ) → Data → Link
-whole_link names d = record { supplier = place_among names (text_at (codes "supplier") d); consumer = place_among names (text_at (codes "consumer") d) }
-
 -- the links of a file
 abbrev pub whole_links : Data → List Link
-whole_links file = map (whole_link (devices_named file)) (list_in (codes "links") file)
+whole_links file = map (link_of (devices_named file)) (list_in (codes "links") file)
 
 -- ---- the rules
 
@@ -79,7 +71,7 @@ abbrev pub closes_no_cycle : Data → List Data → Data → Bool
 closes_no_cycle file before l =
     let names = devices_named file in
     let parents = parents_of (whole_devices file) in
-    let below = moved (length parents) (hanging parents (map (whole_link names) before)) (place_among names (text_at (codes "consumer") l)) in
+    let below = moved (length parents) (hanging parents (map (link_of names) before)) (place_among names (text_at (codes "consumer") l)) in
     not (is_among below (place_among names (text_at (codes "supplier") l)))
 
 -- where a link closes a cycle

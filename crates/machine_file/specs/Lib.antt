@@ -2,6 +2,8 @@ pub mod Look
 pub mod Gives
 pub mod Rules
 pub mod Spelled
+pub mod Links
+pub mod Faults
 pub mod Tree
 pub mod Spells
 pub mod Members

@@ -14,7 +14,7 @@ use Rattle.machine_file.specs.Members.{must_have, may_have, has_text, list_in, n
 use Rattle.machine_file.specs.Places.{first_operation}
 use Rattle.machine_file.specs.Form.{is_string, is_truth, is_within, is_one_of, is_time, statuses}
 use Rattle.machine_file.specs.Names.{spells_name, is_among_names, sources_named, devices_named}
-use Rattle.machine_file.specs.Devices.{place_among}
+use Rattle.machine_file.specs.Spelled.{place_among}
 use Rattle.machine_file.specs.Rules.{name_of}
 
 -- ---- the table

@@ -19,6 +19,10 @@ is_name s = nat_le 1 (length s) && nat_le (length s) 32 && list_all is_name_byte
 abbrev pub name_of : Data → List ℕ
 name_of d = text_at (codes "name") d
 
+-- spelled as a name, and one of these
+abbrev pub is_known : List (List ℕ) → List ℕ → Bool
+is_known names s = is_name s && list_any (bytes_eq s) names
+
 -- ---- the file as a whole
 
 -- no unknown member
@@ -35,11 +39,10 @@ abbrev pub are_numbers_default : Data → Bool
 are_numbers_default d =
     is_none_or (is_number 1000) (get (codes "alarm_ms") d) && is_none_or (is_number 1) (get (codes "cpus") d) && is_none_or (is_number 16) (get (codes "auto_cycles") d)
 
--- there are no links, syscore callbacks, notifiers and answers
+-- there are no syscore callbacks, notifiers and answers
 abbrev pub are_lists_empty : Data → Bool
 are_lists_empty d =
-    is_none_or is_empty_list (get (codes "links") d) && is_none_or is_empty_list (get (codes "syscore") d) && is_none_or is_empty_list (get (codes "notifiers") d)
-    && is_none_or is_empty_list (get (codes "answers") d)
+    is_none_or is_empty_list (get (codes "syscore") d) && is_none_or is_empty_list (get (codes "notifiers") d) && is_none_or is_empty_list (get (codes "answers") d)
 
 -- the members that say nothing today are known, and say no more than their defaults
 abbrev pub has_only_defaults : Data → Bool
@@ -57,9 +60,9 @@ is_plain_device d =
 abbrev pub is_new : List (List ℕ) → Data → Bool
 is_new earlier d = not (list_any (bytes_eq (name_of d)) earlier)
 
--- its parent, where it has one, is the name of an earlier device, and so a name
+-- its parent, where it has one, is the name of an earlier device
 abbrev pub has_earlier_parent : List (List ℕ) → Data → Bool
-has_earlier_parent earlier d = is_none_or (λ p. is_some_and (λ s. list_any (bytes_eq s) earlier) (as_str p)) (get (codes "parent") d)
+has_earlier_parent earlier d = is_none_or (λ p. is_some_and (is_known earlier) (as_str p)) (get (codes "parent") d)
 
 -- a device after the devices of these names
 abbrev pub is_device : List (List ℕ) → Data → Bool
@@ -74,6 +77,18 @@ are_devices earlier (item d ds) = is_device earlier d && are_devices (earlier ++
 abbrev pub has_devices : Data → Bool
 has_devices d =
     is_none_or is_list (get (codes "devices") d) && nat_le (items_len (list_at (codes "devices") d)) 1000 && are_devices [] (list_at (codes "devices") d)
+
+-- ---- the ends of links
+
+-- it has two ends and nothing else, and both are devices of these names
+abbrev pub is_link : List (List ℕ) → Data → Bool
+is_link names l =
+    has_only (codes "supplier" ∷ codes "consumer" ∷ []) l && is_known names (text_at (codes "supplier") l) && is_known names (text_at (codes "consumer") l)
+
+-- each is such a link
+abbrev pub are_links : List (List ℕ) → Items → Bool
+are_links names no_items = true
+are_links names (item l ls) = is_link names l && are_links names ls
 
 -- ---- wakeup sources
 
@@ -174,9 +189,3 @@ actors_state_count (item a rest) = state_count (list_at (codes "script") a) + ac
 -- each write to the state passes over the devices and 50 further steps, and all of that together is bounded
 abbrev pub are_attempts_few : Data → Bool
 are_attempts_few d = nat_le (actors_state_count (list_at (codes "actors") d) * (items_len (list_at (codes "devices") d) + 50)) 100000
-
--- ---- all of the rules
-
--- a value that spells a machine
-abbrev pub is_accepted : Data → Bool
-is_accepted d = has_only_defaults d && has_devices d && has_sources d && has_one_actor (source_names d) d && are_attempts_few d

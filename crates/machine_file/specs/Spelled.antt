@@ -1,8 +1,9 @@
 -- The machine that a JSON value spells, where it keeps the rules.
-use Rattle.std.specs.Prelude.{ℕ, ◌++◌, List, [], ◌∷◌, codes, false, Option, None, option_and_then, unwrap_or, position, bytes_eq, if◌then◌else◌}
+use Rattle.std.specs.Prelude.{ℕ, ◌++◌, List, [], ◌∷◌, codes, false, map, Option, None, option_and_then, unwrap_or, position, bytes_eq, if◌then◌else◌}
 use Rattle.sleep_model.specs.declared.flags.DeviceFlags.{DeviceFlags}
 use Rattle.sleep_model.specs.declared.machine.Machine.{Machine}
 use Rattle.sleep_model.specs.declared.machine.Device.{Device}
+use Rattle.sleep_model.specs.declared.machine.Link.{Link}
 use Rattle.sleep_model.specs.declared.machine.Script.{Script}
 use Rattle.sleep_model.specs.declared.machine.Step.{Step}
 use Rattle.sleep_model.specs.declared.machine.Op.{Op}
@@ -10,7 +11,7 @@ use Rattle.sleep_model.specs.declared.machine.Op.TheVariants.{Read, Save, State,
 use Rattle.sleep_model.specs.declared.machine.TaskKind.TheVariants.{User}
 use Rattle.serde_json.specs.Data.{Data, Items, no_items, item}
 use Rattle.serde_json.specs.Find.{get, as_str}
-use Rattle.machine_file.specs.Look.{list_at}
+use Rattle.machine_file.specs.Look.{list_at, text_at}
 use Rattle.machine_file.specs.Rules.{name_of, source_names, is_op}
 
 -- ---- devices
@@ -31,6 +32,33 @@ device_of earlier d = record { name = name_of d; parent = parent_of earlier d; f
 abbrev pub devices_of : List (List ℕ) → Items → List Device
 devices_of earlier no_items = []
 devices_of earlier (item d ds) = device_of earlier d ∷ devices_of (earlier ++ name_of d ∷ []) ds
+
+-- the devices of a file
+abbrev pub devices_in : Data → List Device
+devices_in file = devices_of [] (list_at (codes "devices") file)
+
+-- the names of devices
+abbrev pub names_of : List Device → List (List ℕ)
+names_of devices = map (λ d. d.name) devices
+
+-- ---- links
+
+-- the number of a name among these, and 0 where it is none of them
+abbrev pub place_among : List (List ℕ) → List ℕ → ℕ
+place_among names name = unwrap_or (position (bytes_eq name) names) 0
+
+-- a link between devices of these names
+abbrev pub link_of : List (List ℕ) → Data → Link
+link_of names l = record { supplier = place_among names (text_at (codes "supplier") l); consumer = place_among names (text_at (codes "consumer") l) }
+
+-- links in their order
+abbrev pub links_of : List (List ℕ) → Items → List Link
+links_of names no_items = []
+links_of names (item l ls) = link_of names l ∷ links_of names ls
+
+-- the links of a file
+abbrev pub links_in : Data → List Link
+links_in file = links_of (names_of (devices_in file)) (list_at (codes "links") file)
 
 -- ---- actors
 
@@ -71,13 +99,13 @@ scripts_of names (item a rest) = script_of names a ∷ scripts_of names rest
 -- ---- the machine
 
 -- what has its default in each machine, around these parts
-abbrev pub machine_of_parts : List Device → List (List ℕ) → List Script → Machine
-machine_of_parts devices sources actors = record {
+abbrev pub machine_of_parts : List Device → List Link → List (List ℕ) → List Script → Machine
+machine_of_parts devices links sources actors = record {
   alarm_ms = 1000;
   cpus = 1;
   auto_cycles = 16;
   devices = devices;
-  links = [];
+  links = links;
   syscore = [];
   notifiers = [];
   sources = sources;
@@ -86,7 +114,6 @@ machine_of_parts devices sources actors = record {
   answers = [];
 }
 
--- the machine of a value's devices, sources and actors
+-- the machine of a value's devices, links, sources and actors
 abbrev pub machine_of : Data → Machine
-machine_of d =
-    machine_of_parts (devices_of [] (list_at (codes "devices") d)) (source_names d) (scripts_of (source_names d) (list_at (codes "actors") d))
+machine_of d = machine_of_parts (devices_in d) (links_in d) (source_names d) (scripts_of (source_names d) (list_at (codes "actors") d))

@@ -8,6 +8,7 @@ ghost use Rattle.machine_file.specs.Spells.{Spells};
 
 mod devices;
 mod fault;
+mod links;
 mod look;
 mod machine;
 mod script;

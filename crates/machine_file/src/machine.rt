@@ -4,16 +4,18 @@ ghost use Rattle.std.specs.Prelude.{◌≡◌, ◌+◌, ◌*◌, length, nat_le}
 ghost use Rattle.serde_json.specs.View.{view};
 ghost use Rattle.sleep_model.specs.Accepted.{attempts_of};
 ghost use Rattle.machine_file.specs.Gives.{Gives};
-ghost use Rattle.machine_file.specs.Rules.{are_numbers_default, are_lists_empty, has_only_defaults, is_accepted};
+ghost use Rattle.machine_file.specs.Rules.{are_numbers_default, are_lists_empty, has_only_defaults};
+ghost use Rattle.machine_file.specs.Spells.{is_accepted};
 ghost use Rattle.machine_file.specs.Spelled.{machine_of_parts, machine_of};
 
 use crate::devices::devices_in;
 use crate::fault::MachineFault;
+use crate::links::{add_links, links_in};
 use crate::look::{has_number, has_only, may_be_empty, may_have_number};
 use crate::script::{attempts_of, script_in};
 use crate::sources::sources_in;
 use serde_json::Value;
-use sleep_model::{Device, ListOf, Machine, Name, Script};
+use sleep_model::{Device, Link, ListOf, Machine, Name, Script};
 use std::alloc::Global;
 
 // The members of a machine file.
@@ -48,8 +50,7 @@ fn are_numbers_default(tree: &Value) -> bool
 fn are_lists_empty(tree: &Value) -> bool
     ensures { result ≡ are_lists_empty (view tree.now) }
 {
-    may_be_empty(tree, "links")
-        && may_be_empty(tree, "syscore")
+    may_be_empty(tree, "syscore")
         && may_be_empty(tree, "notifiers")
         && may_be_empty(tree, "answers")
 }
@@ -75,17 +76,18 @@ fn has_few_turns(script: &Script, devices: &[Device]) -> bool
 fn machine_of(
     alloc: Global,
     devices: Vec<Device>,
+    links: Vec<Link>,
     sources: Vec<Name>,
     actors: Vec<Script>,
 ) -> Machine
-    ensures { result ≡ machine_of_parts devices.items sources.items actors.items }
+    ensures { result ≡ machine_of_parts devices.items links.items sources.items actors.items }
 {
     Machine {
         alarm_ms: 1000,
         cpus: 1,
         auto_cycles: 16,
         devices: ListOf::of_vec(devices),
-        links: ListOf::of_vec(Vec::new(alloc)),
+        links: ListOf::of_vec(links),
         syscore: ListOf::of_vec(Vec::new(alloc)),
         notifiers: ListOf::of_vec(Vec::new(alloc)),
         sources: ListOf::of_vec(sources),
@@ -102,7 +104,10 @@ pub(crate) fn machine_in(alloc: Global, tree: &Value) -> Result<Machine, Machine
     if !has_only_defaults(tree) {
         return Err(MachineFault::Refused);
     }
-    let devices = devices_in(alloc, tree)?;
+    let registered = devices_in(alloc, tree)?;
+    let links = links_in(alloc, tree, &registered)?;
+    let devices = registered.into_devices();
+    add_links(alloc, &devices, &links)?;
     let sources = sources_in(alloc, tree)?;
     let script = script_in(alloc, tree, &sources)?;
     if !has_few_turns(&script, &devices) {
@@ -110,5 +115,5 @@ pub(crate) fn machine_in(alloc: Global, tree: &Value) -> Result<Machine, Machine
     }
     let mut actors = Vec::new(alloc);
     actors.push(script)?;
-    Ok(machine_of(alloc, devices, sources, actors))
+    Ok(machine_of(alloc, devices, links, sources, actors))
 }

@@ -168,6 +168,71 @@ fn refuses_devices(rt: HostRuntime) -> Result<(), Fail> {
     Ok(())
 }
 
+// A file with a bus, a device below it and one beside it, and these links.
+fn linked(alloc: Global, links: &str) -> Result<String, AllocError> {
+    format!(in alloc;
+        "{{\"version\":1,\"devices\":[{{\"name\":\"bus\"}},{{\"name\":\"usb\",\"parent\":\"bus\"}},{{\"name\":\"clk\"}}],\"links\":[{links}],\"actors\":[{{\"name\":\"w\",\"kind\":\"user\"}}]}}"
+    )
+}
+
+/// Links are read in the order of the file, with the numbers of their devices.
+#[test]
+fn reads_links(rt: HostRuntime) -> Result<(), Fail> {
+    let text = linked(
+        rt.alloc(),
+        r#"{"supplier":"clk","consumer":"usb"},{"consumer":"clk","supplier":"bus"}"#,
+    )?;
+    let machine = read_machine(rt.alloc(), text.as_str().as_bytes())?;
+    let [first, second] = machine.links.as_slice() else {
+        return Err(Fail::from("two links"));
+    };
+    assert_eq!(rt; (first.supplier, first.consumer), (2, 1));
+    assert_eq!(rt; (second.supplier, second.consumer), (0, 2));
+    assert_eq!(rt; machine.devices.as_slice().len(), 3);
+    Ok(())
+}
+
+/// A link from a parent to its child, and back from no descendant, closes no cycle.
+#[test]
+fn accepts_links(rt: HostRuntime) -> Result<(), Fail> {
+    for links in [
+        "",
+        r#"{"supplier":"bus","consumer":"usb"}"#,
+        r#"{"supplier":"clk","consumer":"bus"},{"supplier":"clk","consumer":"usb"}"#,
+        r#"{"supplier":"usb","consumer":"clk"},{"supplier":"bus","consumer":"clk"}"#,
+    ] {
+        let text = linked(rt.alloc(), links)?;
+        assert!(rt; is_read(rt.alloc(), text.as_str()), "{links}");
+    }
+    Ok(())
+}
+
+/// Each way in which a link breaks a rule: its form, its ends, a second time, a cycle.
+#[test]
+fn refuses_links(rt: HostRuntime) -> Result<(), Fail> {
+    for links in [
+        "0",
+        r#"{"supplier":"clk"}"#,
+        r#"{"consumer":"clk"}"#,
+        r#"{"supplier":"clk","consumer":"usb","flags":0}"#,
+        r#"{"supplier":2,"consumer":"usb"}"#,
+        r#"{"supplier":"gpu","consumer":"usb"}"#,
+        r#"{"supplier":"clk","consumer":"gpu"}"#,
+        r#"{"supplier":"CLK","consumer":"usb"}"#,
+        r#"{"supplier":"clk","consumer":"clk"}"#,
+        r#"{"supplier":"clk","consumer":"usb"},{"supplier":"clk","consumer":"usb"}"#,
+        r#"{"supplier":"usb","consumer":"bus"}"#,
+        r#"{"supplier":"clk","consumer":"bus"},{"supplier":"usb","consumer":"clk"}"#,
+        r#"{"supplier":"clk","consumer":"usb"},{"supplier":"usb","consumer":"clk"}"#,
+    ] {
+        let text = linked(rt.alloc(), links)?;
+        assert!(rt; is_refused(rt.alloc(), text.as_str()), "{links}");
+    }
+    let text = file(rt.alloc(), r#","links":{}"#, "", ACTOR)?;
+    assert!(rt; is_refused(rt.alloc(), text.as_str()));
+    Ok(())
+}
+
 #[test]
 fn refuses_operations(rt: HostRuntime) -> Result<(), Fail> {
     for operation in [
@@ -199,6 +264,39 @@ fn repeated(alloc: Global, item: &str, times: u32) -> Result<String, AllocError>
         text.push_str(item)?;
     }
     Ok(text)
+}
+
+// So many different links, from devices below the 63rd to devices from there on.
+fn many_links(alloc: Global, count: u32) -> Result<String, AllocError> {
+    let mut text = String::new(alloc);
+    for number in 0..count {
+        let comma = if number == 0 { "" } else { "," };
+        let supplier = number / 64;
+        let consumer = 63 + number % 64;
+        let link = format!(in alloc;
+            "{comma}{{\"supplier\":\"d{supplier}\",\"consumer\":\"d{consumer}\"}}"
+        )?;
+        text.push_str(link.as_str())?;
+    }
+    Ok(text)
+}
+
+/// As many links as a machine may have, and one more.
+#[test]
+fn keeps_the_limit_of_links(rt: HostRuntime) -> Result<(), Fail> {
+    let mut devices = String::from_str(rt.alloc(), r#"{"name":"d0"}"#)?;
+    for number in 1..127 {
+        let device = format!(in rt.alloc(); ",{{\"name\":\"d{number}\"}}")?;
+        devices.push_str(device.as_str())?;
+    }
+    for (count, accepted) in [(4000, true), (4001, false)] {
+        let links = many_links(rt.alloc(), count)?;
+        let more = format!(in rt.alloc(); ",\"links\":[{}]", links.as_str())?;
+        let text = file(rt.alloc(), more.as_str(), devices.as_str(), ACTOR)?;
+        assert_eq!(rt; is_read(rt.alloc(), text.as_str()), accepted);
+        assert_eq!(rt; is_refused(rt.alloc(), text.as_str()), !accepted);
+    }
+    Ok(())
 }
 
 #[test]

@@ -18,6 +18,7 @@ pub mod Neighbours
 pub mod Operations
 pub mod Ordering
 pub mod Padding
+pub mod Paths
 pub mod Plain
 pub mod Planning
 pub mod ShortCalls
