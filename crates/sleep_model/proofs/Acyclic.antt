@@ -2,12 +2,12 @@
 use Rattle.std.proofs.Common.{◌≡◌, ◌<◌, ◌≤◌, ◌+◌, ◌∙◌, ℕ, zero, suc, Bool, true, false, not, ◌==◌, ◌||◌, List, [], ◌∷◌, ◌++◌, ◌⊎◌, inl, inr, length, filter, Option, refl, sym, ap, subst, cond, arith, length-append}
 use Rattle.std.specs.List.{flat_map, range_with_len}
 use Rattle.std.proofs.lemmas.List.{append-nil}
-use Rattle.std.proofs.lemmas.Bool.{true≢false, false≢true, eqb-true, eqb-false, or_cases, or_parts, or_left, or_right, or_from, cases_lt, false_from_ne_true, not-true, not_from_true, not_from_false, ne_eqb, eq-eqb}
+use Rattle.std.proofs.lemmas.Bool.{true≢false, false≢true, eqb-true, eqb-false, or_cases, or_parts, or_left, or_right, or_from, cases_lt, ne_eqb}
 use Rattle.std.proofs.lemmas.Bool.Decides.{nat_tests}
-use Rattle.std.proofs.Math.Bool.{or-false, or-true}
+use Rattle.std.proofs.Math.Bool.{or-false}
 use Rattle.sleep_model.specs.declared.machine.Link.{Link}
 use Rattle.sleep_model.specs.Laws.{AllAmong}
-use Rattle.sleep_model.specs.Order.{is_among, children_from, consumers_of, hanging, EachAfterParent, last_places, moved, moved_last, order_by}
+use Rattle.sleep_model.specs.Order.{is_among, children_from, consumers_of, hanging, EachAfterParent, last_places, moved, order_by}
 use Rattle.sleep_model.specs.Links.{IsOrder, AreLinks}
 use Rattle.sleep_model.proofs.Walks.{AllDifferent, below_run}
 use Rattle.sleep_model.proofs.Ordering.{not_in_filter, kept_passes, different_filter, order_by_different}

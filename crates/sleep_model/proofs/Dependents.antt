@@ -1,11 +1,10 @@
 -- Dependents suspend first, and what is above resumes first.
-use Rattle.std.proofs.Common.{◌≡◌, ◌<◌, ◌≤◌, ◌+◌, ◌∙◌, ℕ, zero, suc, Bool, true, false, ◌==◌, List, [], ◌∷◌, length, ◌⊎◌, inl, inr, Option, Some, None, IfSome, refl, sym, ap, subst, cond, slice_get, option_to_list, arith}
+use Rattle.std.proofs.Common.{◌≡◌, ◌<◌, ◌≤◌, ◌+◌, ◌∙◌, ℕ, zero, suc, Bool, true, false, List, [], ◌∷◌, length, ◌⊎◌, inl, inr, Option, Some, None, IfSome, refl, sym, ap, subst, cond, slice_get, option_to_list, arith}
 use Rattle.std.specs.List.{range_with_len}
-use Rattle.std.proofs.lemmas.Bool.Decides.{nat_tests}
 use Rattle.std.proofs.lemmas.List.{length-map}
 use Rattle.sleep_model.specs.declared.machine.Device.{Device}
 use Rattle.sleep_model.specs.Accepted.{ParentsEarlier}
-use Rattle.sleep_model.specs.Order.{is_among, is_parent, parents_of, children_from, parent_of}
+use Rattle.sleep_model.specs.Order.{is_among, parents_of, children_from, parent_of}
 use Rattle.sleep_model.specs.Walk.{first_where, last_where, or_else}
 use Rattle.sleep_model.specs.Laws.{AllAmong, NoneAmong}
 use Rattle.sleep_model.proofs.Children.{children_after}

@@ -1,15 +1,14 @@
 -- Lists of devices that stand once, and what one more link adds to them.
-use Rattle.std.proofs.Common.{◌≡◌, ◌<◌, ◌≤◌, ◌+◌, ◌∙◌, ℕ, zero, suc, Bool, true, false, not, ◌==◌, ◌||◌, ◌&&◌, List, [], ◌∷◌, ◌++◌, ◌⊎◌, inl, inr, length, filter, get_or, slice_get, option_to_list, Option, Some, None, refl, sym, ap, subst, cond, arith}
+use Rattle.std.proofs.Common.{◌≡◌, ◌<◌, ◌+◌, ◌∙◌, ℕ, zero, suc, Bool, true, false, not, ◌==◌, ◌||◌, ◌&&◌, List, [], ◌∷◌, ◌++◌, length, filter, get_or, slice_get, Option, Some, None, refl, sym, ap, cond, arith}
 use Rattle.std.specs.List.{list_any}
 use Rattle.std.proofs.lemmas.List.{append-nil, append_assoc}
-use Rattle.std.proofs.lemmas.Bool.{true≢false, false≢true, eqb-true, eqb-false, or_cases, or_parts, or_right, ne_eqb, eq-eqb, false_from_ne_true}
-use Rattle.std.proofs.lemmas.Bool.Decides.{nat_tests}
-use Rattle.std.proofs.Math.Bool.{or-false, or-true, or_assoc}
+use Rattle.std.proofs.lemmas.Bool.{eqb-true, eqb-false, or_parts, ne_eqb, eq-eqb}
+use Rattle.std.proofs.Math.Bool.{or-false}
 use Rattle.sleep_model.specs.declared.machine.Link.{Link}
 use Rattle.sleep_model.specs.Order.{is_among, is_parent, children_from, consumers_of, suppliers_of, hanging, holding, parent_of}
 use Rattle.sleep_model.specs.Links.{first_places, is_linked}
 use Rattle.sleep_model.proofs.Walks.{AllDifferent, same_eq}
-use Rattle.sleep_model.proofs.Hanging.{among_app, among_rest}
+use Rattle.sleep_model.proofs.Hanging.{among_app}
 
 -- ---- first places
 

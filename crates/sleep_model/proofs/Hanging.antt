@@ -1,13 +1,11 @@
 -- A walk over all that hangs below a device, and the places that it leaves.
-use Rattle.std.proofs.Common.{◌≡◌, ◌<◌, ◌≤◌, ◌+◌, ◌∙◌, ℕ, zero, suc, Bool, true, false, not, ◌==◌, ◌||◌, List, [], ◌∷◌, ◌++◌, ◌⊎◌, inl, inr, length, filter, take, drop, get_or, refl, sym, ap, subst, cond, arith, length-append}
+use Rattle.std.proofs.Common.{◌≡◌, ◌≤◌, ◌+◌, ◌∙◌, ℕ, zero, suc, Bool, true, false, ◌==◌, ◌||◌, List, [], ◌∷◌, ◌++◌, ◌⊎◌, inl, inr, length, refl, sym, ap, subst, cond, arith, length-append}
 use Rattle.std.specs.List.{flat_map}
-use Rattle.std.proofs.lemmas.Grind.{flat_map-append}
-use Rattle.std.proofs.lemmas.List.{append-nil, take_more, drop_more, take_all, drop_all}
-use Rattle.std.proofs.lemmas.Bool.{true≢false, false≢true, eqb-true, eq-eqb, or_cases, or_right, cases_Bool, false_from_ne_true}
-use Rattle.std.proofs.Math.Bool.{or_assoc, or-false, or-true}
+use Rattle.std.proofs.lemmas.Bool.{false≢true, eqb-true, or_cases, or_right, false_from_ne_true}
+use Rattle.std.proofs.Math.Bool.{or_assoc, or-false}
 use Rattle.sleep_model.specs.Laws.{AllAmong}
-use Rattle.sleep_model.specs.Order.{is_among, last_places, moved}
-use Rattle.sleep_model.specs.Links.{IsOrder, LeadsTo}
+use Rattle.sleep_model.specs.Order.{is_among, last_places}
+use Rattle.sleep_model.specs.Links.{LeadsTo}
 use Rattle.sleep_model.proofs.Walks.{same_eq}
 
 -- ---- what is among a list
