@@ -1,6 +1,6 @@
 -- What one element's change does to what is seen of each element.
 use Rattle.std.proofs.Common.{◌≡◌, ◌<◌, ◌∙◌, ℕ, zero, suc, List, [], ◌∷◌, length, map, get_or, set, sym, ap, arith}
-use Rattle.std.proofs.lemmas.List.{map-set, set-get_or, get_or-map, get_or_read, get_or-set_same, length-map}
+use Rattle.std.proofs.lemmas.List.{map-set, set-get_or, get_or-map, get_or-set_same, length-map}
 
 module _ {A B : Type 0} (f : A → B) (xs : List A) (i : ℕ) (x y : A) (within : i < length xs) (at : x ≡ get_or xs i x) where
   pub seen_at : (d : B) → get_or (map f xs) i d ≡ f x

@@ -18,8 +18,8 @@ impl Model for Rows {
     ghost Value = { Table };
 
     ghost view = { λ t. record {
-        rows = map (λ v. v.items) t.rows.items;
-        room = map (λ v. vec_capacity v - vec_len v) t.rows.items;
+      rows = map (λ v. v.items) t.rows.items;
+      room = map (λ v. vec_capacity v - vec_len v) t.rows.items;
     } };
 }
 
@@ -67,7 +67,8 @@ impl Rows {
     /// Puts an empty row at the end. `Mem` if there is no memory for it; all is then as before.
     pub fn add_row(&mut self) -> Result<(), Mem>
         ensures ok { OnOk result (self.new.rows ≡ self.old.rows ++ [] ∷ []) }
-        ensures room { (d : ℕ) → d < length self.old.rows → slice_index self.new.room d ≡ slice_index self.old.room d }
+        ensures room { (d : ℕ) → d < length self.old.rows →
+            slice_index self.new.room d ≡ slice_index self.old.room d }
         ensures err { OnErr result (self.new.rows ≡ self.old.rows) }
     {
         let alloc = *self.rows.allocator();
@@ -101,7 +102,8 @@ impl Rows {
     /// Puts a number at the end of a row that has room.
     pub fn push(&mut self, device: u32, number: u32)
         requires { 0 < slice_index self.old.room device }
-        ensures { self.new.rows ≡ slice_set self.old.rows device (row_at self.old device ++ number ∷ []) }
+        ensures { self.new.rows ≡
+            slice_set self.old.rows device (row_at self.old device ++ number ∷ []) }
     {
         let row = &mut self.rows[device as usize];
         match row.push(number) {

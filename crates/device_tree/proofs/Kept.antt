@@ -1,18 +1,15 @@
 -- What is kept of a tree with one more device.
-use Rattle.std.proofs.Common.{◌≡◌, ◌<◌, ◌≤◌, ◌+◌, ◌++◌, ◌∙◌, ℕ, zero, suc, Bool, true, false, ◌==◌, ◌⊎◌, inl, inr, List, [], ◌∷◌, length, map, get_or, set, cond, Option, Some, None, IfSome, nat_le, refl, sym, ap, subst, arith, length-append, length-set}
-use Rattle.std.specs.List.{list_any}
+use Rattle.std.proofs.Common.{◌≡◌, ◌<◌, ◌≤◌, ◌+◌, ◌++◌, ◌∙◌, ℕ, zero, suc, Bool, true, false, ◌==◌, ◌⊎◌, inl, inr, List, [], ◌∷◌, length, get_or, set, cond, Option, Some, None, IfSome, nat_le, refl, sym, ap, subst, arith, length-set}
 use Rattle.std.proofs.lemmas.Bool.Decides.{nat_tests}
-use Rattle.std.proofs.lemmas.Bool.{cases_lt, true≢false, leb-false}
-use Rattle.std.proofs.lemmas.List.{map_push, length-map, length_push, get_or_past, get_or_push, get_or_append_left, get_or-set_same, get_or-set_other}
+use Rattle.std.proofs.lemmas.Bool.{cases_lt, leb-false}
+use Rattle.std.proofs.lemmas.List.{map_push, length-map, length_push, get_or_past, get_or_append_left, get_or-set_same, get_or-set_other}
 use Rattle.sleep_model.specs.declared.machine.Device.{Device}
-use Rattle.sleep_model.specs.Accepted.{ParentsEarlier}
 use Rattle.sleep_model.specs.Order.{is_parent, children_from, parents_of, EachAfterParent}
 use Rattle.sleep_model.proofs.Children.{children_push, children_none, after_parent_push}
-use Rattle.device_tree.specs.declared.fault.TreeFault.{TreeFault}
 use Rattle.device_tree.specs.declared.fault.TreeFault.TheVariants.{TooMany, NameTaken, NoParent}
 use Rattle.device_tree.specs.Refusal.{refusal, is_taken, is_lost}
 use Rattle.device_rows.specs.Table.{hung}
-use Rattle.device_tree.specs.Kept.{IsTree, HasChildren, IsKept}
+use Rattle.device_tree.specs.Kept.{HasChildren, IsKept}
 
 -- each row has the children, and no row has none
 pub row_is : (ps : List (Option ℕ)) (rows : List (List ℕ)) → EachAfterParent 0 ps → HasChildren ps rows → (d : ℕ) → get_or rows d [] ≡ children_from d 0 ps

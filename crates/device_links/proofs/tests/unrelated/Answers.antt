@@ -1,4 +1,4 @@
-use Rattle.std.proofs.Common.{None, sym, subst, List, Option, ℕ}
+use Rattle.std.proofs.Common.{None, sym, subst}
 use Rattle.sleep_model.specs.Order.{EachAfterParent}
 use Rattle.sleep_model.proofs.Children.{after_parent_push}
 use Rattle.device_links.proofs.tests.unrelated.Goals as goal

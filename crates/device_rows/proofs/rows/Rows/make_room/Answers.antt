@@ -1,4 +1,4 @@
-use Rattle.std.proofs.Common.{◌≡◌, ◌<◌, ◌-◌, ◌∙◌, length, sym, ap, arith, subst, get_or, ℕ}
+use Rattle.std.proofs.Common.{◌<◌, ◌-◌, ◌∙◌, length, sym, ap, arith, subst, ℕ}
 use Rattle.std.specs.Vec.{vec_capacity, vec_len}
 use Rattle.device_rows.proofs.Edits.{seen_kept, seen_new, within_seen}
 use Rattle.device_rows.proofs.rows.Rows.make_room.Goals as goal

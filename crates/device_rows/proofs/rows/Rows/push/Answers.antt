@@ -1,4 +1,4 @@
-use Rattle.std.proofs.Common.{◌≡◌, ◌<◌, ◌-◌, ◌++◌, ◌∷◌, ◌∙◌, [], length, get_or, sym, ap, ap₂, set, arith, subst, ℕ, List}
+use Rattle.std.proofs.Common.{◌≡◌, ◌<◌, ◌-◌, ◌++◌, ◌∷◌, ◌∙◌, [], length, get_or, sym, ap, ap₂, set, arith}
 use Rattle.std.proofs.lemmas.List.{length-map}
 use Rattle.std.specs.Vec.{vec_capacity, vec_len}
 use Rattle.device_rows.proofs.Edits.{seen_at, seen_set, above_zero}

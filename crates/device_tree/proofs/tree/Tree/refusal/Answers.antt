@@ -1,6 +1,5 @@
-use Rattle.std.proofs.Common.{◌≡◌, Bool, true, false, length, cond, nat_le, Some, None, ap, sym, ◌∙◌, arith}
+use Rattle.std.proofs.Common.{◌≡◌, true, false, length, nat_le, ap, sym, ◌∙◌, arith}
 use Rattle.std.proofs.lemmas.Bool.Decides.{nat_tests}
-use Rattle.device_tree.specs.declared.fault.TreeFault.TheVariants.{TooMany, NameTaken, NoParent}
 use Rattle.device_tree.specs.Refusal.{refusal, is_taken, is_lost}
 use Rattle.device_tree.proofs.Names.{taken_is}
 use Rattle.device_tree.proofs.tree.Tree.refusal.Goals as goal
