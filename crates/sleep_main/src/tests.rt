@@ -102,6 +102,48 @@ source lid 1 1 0 0 0 0 0\n\
 source autosleep 0 0 0 0 0 0 0\n\
 finished\n";
 
+/// A camera on a bus, whose port needs a line that needs a clock: consumers suspend before suppliers.
+const LINKED: &str =
+    r#"{"version": 1, "devices": [{"name": "bus"}, {"name": "usb", "parent": "bus"}, {"name": "cam", "parent": "usb"}, {"name": "gpio"}, {"name": "clk"}], "links": [{"supplier": "gpio", "consumer": "usb"}, {"supplier": "clk", "consumer": "gpio"}], "actors": [{"name": "w", "kind": "user", "script": [{"op": "state", "text": "mem"}]}]}"#;
+
+/// What the program writes for it.
+const LINKED_LOG: &str = "\
+0 0/0/0 task:w attempt 1 plain\n\
+0 0/0/0 task:w begin suspend cam\n\
+0 0/0/0 task:w end suspend cam 0\n\
+0 0/0/0 task:w begin suspend usb\n\
+0 0/0/0 task:w end suspend usb 0\n\
+0 0/0/0 task:w begin suspend gpio\n\
+0 0/0/0 task:w end suspend gpio 0\n\
+0 0/0/0 task:w begin suspend clk\n\
+0 0/0/0 task:w end suspend clk 0\n\
+0 0/0/0 task:w begin suspend bus\n\
+0 0/0/0 task:w end suspend bus 0\n\
+0 0/0/0 task:w done suspend 0\n\
+0 0/0/0 task:w enter\n\
+1000 0/0/0 time jump\n\
+1000 0/0/0 task:w wake alarm\n\
+1000 0/0/0 task:w begin resume bus\n\
+1000 0/0/0 task:w end resume bus 0\n\
+1000 0/0/0 task:w begin resume clk\n\
+1000 0/0/0 task:w end resume clk 0\n\
+1000 0/0/0 task:w begin resume gpio\n\
+1000 0/0/0 task:w end resume gpio 0\n\
+1000 0/0/0 task:w begin resume usb\n\
+1000 0/0/0 task:w end resume usb 0\n\
+1000 0/0/0 task:w begin resume cam\n\
+1000 0/0/0 task:w end resume cam 0\n\
+1000 0/0/0 task:w done resume 0\n\
+1000 0/0/0 task:w clear\n\
+1000 0/0/0 task:w over 1 0\n\
+1000 0/0/0 task:w exit\n\
+source autosleep 0 0 0 0 0 0 0\n\
+finished\n";
+
+/// The same with a third link, by which the clock needs the camera.
+const CYCLIC: &str =
+    r#"{"version": 1, "devices": [{"name": "bus"}, {"name": "usb", "parent": "bus"}, {"name": "cam", "parent": "usb"}, {"name": "gpio"}, {"name": "clk"}], "links": [{"supplier": "gpio", "consumer": "usb"}, {"supplier": "clk", "consumer": "gpio"}, {"supplier": "cam", "consumer": "clk"}], "actors": [{"name": "w", "kind": "user", "script": [{"op": "state", "text": "mem"}]}]}"#;
+
 /// The words of the one form.
 const RUN: [&str; 4] = ["sleep", "run", "--workers", "1"];
 
@@ -186,7 +228,7 @@ fn expect<R: Wait + Abort>(
 }
 
 /// An attempt of a parent and its child, in which the child suspends first and the parent resumes
-/// first; and events before, between and after the steps that lead to an attempt.
+/// first; events before, between and after the steps that lead to an attempt; and devices with links.
 #[test]
 fn machines_give_their_logs(rt: HostRuntime) -> Result<(), Fail> {
     for (file, log) in [
@@ -194,6 +236,7 @@ fn machines_give_their_logs(rt: HostRuntime) -> Result<(), Fail> {
         (EVENT_AFTER_SAVE, EVENT_AFTER_SAVE_LOG),
         (EVENT_BEFORE_SAVE, EVENT_BEFORE_SAVE_LOG),
         (EVENT_WITHOUT_DEVICES, EVENT_WITHOUT_DEVICES_LOG),
+        (LINKED, LINKED_LOG),
     ] {
         expect(&rt, rt.alloc(), file, 0, log, "")?;
     }
@@ -206,6 +249,7 @@ fn other_files_are_refused(rt: HostRuntime) -> Result<(), Fail> {
     for file in [
         r#"{"version": 1, "actors": [{"name": "w", "kind": "user", "script": [{"op": "sleep", "ms": 5}]}]}"#,
         r#"{"version": 1, "sources": ["lid"], "actors": [{"name": "w", "kind": "user", "script": [{"op": "event", "source": "door"}]}]}"#,
+        CYCLIC,
         r#"not json"#,
         r#"{"version":1}"#,
         r#"{"version":1,"actors":[{"name":"w","kind":"user"},{"name":"v","kind":"user"}]}"#,
@@ -215,6 +259,78 @@ fn other_files_are_refused(rt: HostRuntime) -> Result<(), Fail> {
         expect(&rt, rt.alloc(), file, 3, "", "machine: refused\n")?;
     }
     Ok(())
+}
+
+/// The devices of a hundred diamonds, one below the other, in the order of their registration.
+fn diamonds(alloc: Global) -> Result<Vec<String>, AllocError> {
+    let mut names = Vec::new(alloc);
+    for i in 0..100u32 {
+        for letter in ["a", "b", "c"] {
+            names.push(format!(in alloc; "{letter}{i}")?)?;
+        }
+    }
+    names.push(String::from_str(alloc, "a100")?)?;
+    Ok(names)
+}
+
+/// Their machine file: a supplies b and c, and these supply the next a; the last diamond comes first.
+fn diamonds_file(alloc: Global, names: &[String]) -> Result<String, AllocError> {
+    let mut file = String::from_str(alloc, r#"{"version": 1, "devices": ["#)?;
+    let mut comma = "";
+    for name in names {
+        let name = name.as_str();
+        file.push_str(format!(in alloc; "{comma}{{\"name\": \"{name}\"}}")?.as_str())?;
+        comma = ",";
+    }
+    file.push_str(r#"], "links": ["#)?;
+    comma = "";
+    for i in (0..100u32).rev() {
+        let next = i + 1;
+        for (from, to, over) in [
+            ("b", "a", next),
+            ("c", "a", next),
+            ("a", "b", i),
+            ("a", "c", i),
+        ] {
+            file.push_str(format!(in alloc;
+                "{comma}{{\"supplier\": \"{from}{i}\", \"consumer\": \"{to}{over}\"}}"
+            )?.as_str())?;
+            comma = ",";
+        }
+    }
+    file.push_str(
+        r#"], "actors": [{"name": "w", "kind": "user", "script": [{"op": "state", "text": "mem"}]}]}"#,
+    )?;
+    Ok(file)
+}
+
+/// A hundred diamonds, one below the other: what hangs below doubles with each, and the devices suspend
+/// and resume in the order of their registration all the same.
+#[test]
+fn diamonds_keep_their_order(rt: HostRuntime) -> Result<(), Fail> {
+    let alloc = rt.alloc();
+    let names = diamonds(alloc)?;
+    let file = diamonds_file(alloc, &names)?;
+    let mut log = String::from_str(alloc, "0 0/0/0 task:w attempt 1 plain\n")?;
+    for name in names.iter().rev() {
+        let name = name.as_str();
+        log.push_str(format!(in alloc;
+            "0 0/0/0 task:w begin suspend {name}\n0 0/0/0 task:w end suspend {name} 0\n"
+        )?.as_str())?;
+    }
+    log.push_str(
+        "0 0/0/0 task:w done suspend 0\n0 0/0/0 task:w enter\n1000 0/0/0 time jump\n1000 0/0/0 task:w wake alarm\n",
+    )?;
+    for name in &names {
+        let name = name.as_str();
+        log.push_str(format!(in alloc;
+            "1000 0/0/0 task:w begin resume {name}\n1000 0/0/0 task:w end resume {name} 0\n"
+        )?.as_str())?;
+    }
+    log.push_str(
+        "1000 0/0/0 task:w done resume 0\n1000 0/0/0 task:w clear\n1000 0/0/0 task:w over 1 0\n1000 0/0/0 task:w exit\nsource autosleep 0 0 0 0 0 0 0\nfinished\n",
+    )?;
+    expect(&rt, alloc, file.as_str(), 0, log.as_str(), "")
 }
 
 /// Words of no form: nothing is read.
