@@ -58,7 +58,7 @@ SECTIONS = [
     ("sleep_model", "The text of a log", "own", ["NameBytes", "Text"]),
     ("sleep_base", "The outside", "`include/uapi/asm-generic/errno-base.h`, for errors; the rest is own", ["Errno", "Faults", "Calls", "Streams", "Whole"]),
     ("sleep_laws", "Laws and worked logs", "own", ["Laws", "Terms", "Worked", "Attempts", "Autosleep", "Counts", "Devices", "Failures", "Freezing", "Timers", "Laptop", "LaptopDown", "LaptopUp", "Broken", "Merging", "Rounds"]),
-    ("machine_file", "Accepted bytes, as far as they are built", "own", ["Tree", "Look", "Rules", "Spelled", "Spells", "Gives"]),
+    ("machine_file", "Accepted bytes, as far as they are built", "own", ["Tree", "Look", "Rules", "Spelled", "Links", "Spells", "Gives", "Faults"]),
     ("machine_file", "Accepted bytes, whole: the first broken rule, and the machine that is spelled", "`include/linux/pm.h`, `drivers/base/core.c`; most is own", ["Whole", "Members", "Places", "Form", "Names", "Devices", "Operations", "Answering", "Limits"]),
     ("machine_file", "How a machine is written, and generated machines", "own", ["Spelling", "Generated"]),
     ("machine_file", "The words of the command line", "own", ["Words"]),

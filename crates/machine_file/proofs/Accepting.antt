@@ -1,8 +1,8 @@
 -- A machine that a value spells by the rules may be run today.
-use Rattle.std.proofs.Common.{◌≡◌, ◌≤◌, ◌<◌, ◌+◌, ◌*◌, ◌++◌, ℕ, List, [], ◌∷◌, length, cond, ltb, position, codes, bytes_eq, Bool, true, false, Option, Some, None, is_some, IfSome, IfOk, Result, Ok, Err, option_and_then, unwrap_or, refl, sym, ◌∙◌, subst, arith, add-one}
-use Rattle.std.proofs.lemmas.Bool.{and_parts, leb-true, ltb-true, false≢true}
+use Rattle.std.proofs.Common.{◌≡◌, ◌≤◌, ◌<◌, ◌+◌, ◌*◌, ◌++◌, ℕ, List, [], ◌∷◌, length, cond, position, codes, bytes_eq, Bool, true, false, Option, Some, None, is_some, IfSome, IfOk, Result, Ok, Err, option_and_then, unwrap_or, refl, sym, ◌∙◌, subst, arith, add-one}
+use Rattle.std.proofs.lemmas.Bool.{and_parts, leb-true, false≢true}
 use Rattle.std.proofs.lemmas.List.{length_push}
-use Rattle.std.specs.List.{position_or_len, list_any}
+use Rattle.std.specs.List.{list_any}
 use Rattle.sleep_model.specs.Accepted.{Unflagged, ParentsEarlier, IsGiven, AreGiven, IsOneWriter, IsAccepted}
 use Rattle.sleep_model.specs.Order.{parents_of}
 use Rattle.sleep_model.specs.declared.machine.Machine.{Machine}

@@ -1,4 +1,4 @@
-use Rattle.std.proofs.Common.{◌≡◌, ◌&&◌, length, leb, codes, true, false, [], sym, ap, ◌∙◌}
+use Rattle.std.proofs.Common.{◌≡◌, ◌&&◌, length, leb, codes, [], sym, ap, ◌∙◌}
 use Rattle.serde_json.specs.View.{view, items_view}
 use Rattle.machine_file.specs.Look.{list_at}
 use Rattle.machine_file.specs.Rules.{has_devices, are_devices}

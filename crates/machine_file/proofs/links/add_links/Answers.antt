@@ -1,4 +1,4 @@
-use Rattle.std.proofs.Common.{◌≡◌, ◌<◌, ◌∙◌, List, [], Option, ℕ, true, refl, Ok, Err, length, get_or, reverse, take, sym, ap, subst, arith}
+use Rattle.std.proofs.Common.{◌≡◌, ◌<◌, ◌∙◌, List, [], Option, ℕ, true, refl, Ok, Err, length, get_or, sym, ap, subst, arith}
 use Rattle.sleep_model.specs.Order.{EachAfterParent, parents_of}
 use Rattle.sleep_model.specs.declared.machine.Link.{Link}
 use Rattle.device_links.specs.Adds.{Adds}

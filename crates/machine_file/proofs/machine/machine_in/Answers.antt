@@ -1,4 +1,4 @@
-use Rattle.std.proofs.Common.{◌≡◌, ◌+◌, ◌*◌, ◌++◌, ◌&&◌, [], ◌∷◌, length, leb, ℕ, List, Bool, true, false, Result, Err, codes, refl, sym, ap, subst, ◌∙◌}
+use Rattle.std.proofs.Common.{◌≡◌, ◌+◌, ◌*◌, ◌++◌, ◌&&◌, [], ◌∷◌, length, leb, ℕ, List, Bool, true, false, Err, codes, refl, sym, ap, subst, ◌∙◌}
 use Rattle.sleep_model.specs.Accepted.{attempts_of}
 use Rattle.sleep_model.specs.Order.{parents_of}
 use Rattle.sleep_model.specs.declared.machine.Device.{Device}
@@ -11,7 +11,7 @@ use Rattle.machine_file.specs.Look.{is_none_or, is_list, list_at}
 use Rattle.machine_file.specs.Rules.{source_names, has_only_defaults, has_devices, are_links, has_sources, has_one_actor, are_attempts_few}
 use Rattle.machine_file.specs.Links.{may_be_added, has_links}
 use Rattle.machine_file.specs.Spells.{is_accepted}
-use Rattle.machine_file.specs.Spelled.{devices_in, names_of, links_of, links_in, scripts_of, machine_of_parts}
+use Rattle.machine_file.specs.Spelled.{devices_in, names_of, links_of, scripts_of, machine_of_parts}
 use Rattle.sleep_model.specs.declared.machine.Machine.{Machine}
 use Rattle.machine_file.specs.Gives.{Gives}
 use Rattle.machine_file.specs.declared.fault.MachineFault.{MachineFault}
