@@ -24,7 +24,7 @@ PROGRAM = ROOT / "crates" / "sleep_main" / "out" / "sleep_main"
 NAME = re.compile(r"[a-z0-9_.\-]{1,32}\Z")
 MEMBERS = "version alarm_ms cpus auto_cycles devices links syscore notifiers sources actors answers".split()
 DEFAULTS = {"alarm_ms": 1000, "cpus": 1, "auto_cycles": 16}
-EMPTY = "links syscore notifiers answers".split()
+EMPTY = "syscore notifiers answers".split()
 # What each operation may have beside "op" and "times".
 OPERATIONS = {"read": [], "save": [], "state": ["text", "if_saved"], "event": ["source", "ms", "hard"]}
 VISIBLE = 65_536  # The count that a task sees starts again at 0 here.
@@ -96,6 +96,37 @@ def devices_of(devices):
     return names
 
 
+def below(devices, links, name):
+    """What hangs right below a device: its children in the file's order, then its consumers in that of the links."""
+    children = [device["name"] for device in devices if device.get("parent") == name]
+    return children + [link["consumer"] for link in links if link["supplier"] == name]
+
+
+def moved(devices, links, name):
+    """A device, and all that hangs below it, each with its own behind it, as often as it is reached."""
+    return [name] + [far for near in below(devices, links, name) for far in moved(devices, links, near)]
+
+
+def last_places(names):
+    return [name for place, name in enumerate(names) if name not in names[place + 1:]]
+
+
+def order_of(devices, links):
+    """The names of the devices in the order that the links leave."""
+    order = [device["name"] for device in devices]
+    need(len(links) <= 4000)
+    for count, link in enumerate(links):
+        has_only(link, ["supplier", "consumer"])
+        supplier, consumer = link.get("supplier"), link.get("consumer")
+        for end in (supplier, consumer):
+            need(isinstance(end, str) and end in order)
+        need(link not in links[:count])
+        below_it = moved(devices, links[:count], consumer)
+        need(supplier not in below_it)
+        order = [name for name in order if name not in below_it] + last_places(below_it)
+    return order
+
+
 def need_operation(operation, sources):
     need(isinstance(operation, dict))
     name = operation.get("op")
@@ -112,7 +143,7 @@ def need_operation(operation, sources):
 
 
 def machine_of(text):
-    """The names of devices, sources and the task, and the task's operations."""
+    """The names of devices in their order, of sources and of the task, and the task's operations."""
     tree = tree_of(text)
     has_only(tree, MEMBERS)
     need(is_number(tree.get("version"), 1))
@@ -120,7 +151,8 @@ def machine_of(text):
         may_have(tree, member, lambda value, default=default: is_number(value, default))
     for member in EMPTY:
         may_have(tree, member, lambda value: isinstance(value, list) and not value)
-    devices = devices_of(list_at(tree, "devices"))
+    devices_of(list_at(tree, "devices"))
+    devices = order_of(list_at(tree, "devices"), list_at(tree, "links"))
     sources = list_at(tree, "sources")
     need(len(sources) <= 1)
     for source in sources:
@@ -371,10 +403,24 @@ class Files:
         tree = {"version": 1, "devices": devices, "actors": [{"name": self.name(), "kind": "user", "script": script}]}
         if source is not None or self.maybe(0.1):
             tree["sources"] = [] if source is None else [source]
+        if devices and self.maybe(0.6):
+            tree["links"] = self.links([device["name"] for device in devices])
         for member, default in [*DEFAULTS.items(), *((member, []) for member in EMPTY)]:
             if self.maybe(0.05):
                 tree[member] = default
         return tree
+
+    def links(self, names):
+        """Links between the devices, mostly from an earlier one to a later."""
+        links = []
+        for _ in range(self.random.choice([0, 1, 2, 4, 8])):
+            ends = self.random.choices(range(len(names)), k=2)
+            supplier, consumer = ends if self.maybe(0.05) else sorted(ends)
+            if supplier != consumer or self.maybe(0.05):
+                links.append({"supplier": names[supplier], "consumer": names[consumer]})
+        if self.maybe(0.95):
+            links = [link for place, link in enumerate(links) if link not in links[:place]]
+        return links
 
     def mixed(self, value):
         """The same with the members of each object in some order."""
