@@ -26,8 +26,8 @@ use tree::tree_of;
 /// The machine that the bytes of a machine file spell.
 ///
 /// `Refused`: the bytes spell no machine, as they are not UTF-8, are no JSON or nest deeper than
-/// 127, or as the value breaks one of the format's rules (`specs/Rules.antt`). `Mem`: memory ran
-/// out.
+/// 127, or as the value breaks one of the format's rules (`specs/Rules.antt`, `specs/Links.antt`).
+/// `Mem`: memory ran out.
 pub fn read_machine(alloc: Global, bytes: &[u8]) -> Result<Machine, MachineFault>
     // What is read is what the bytes spell.
     ensures spells { IfOk result (λ m. Spells bytes.now m) }
