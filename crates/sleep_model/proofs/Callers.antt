@@ -1,5 +1,5 @@
 -- The calls that actors make today, by the whole definitions and by the short form.
-use Rattle.std.proofs.Common.{is_none, Bool, List, None, Option, Some, [], ap, ap₂, arith, cond, false, flat_map, get_or, inl, inr, length, option_and_then, refl, slice_get, slice_index_or, slice_set, subst, suc, sym, true, true≢false, zero, ℕ, ◌&&◌, ◌++◌, ◌+◌, ◌==◌, ◌||◌, ◌∙◌, ◌∷◌, ◌≡◌}
+use Rattle.std.proofs.Common.{is_none, Bool, List, None, Option, Some, [], ap, ap₂, arith, cond, false, flat_map, inl, inr, length, option_and_then, refl, slice_get, slice_index_or, slice_set, subst, suc, sym, true, true≢false, zero, ℕ, ◌&&◌, ◌++◌, ◌+◌, ◌==◌, ◌||◌, ◌∙◌, ◌∷◌, ◌≡◌}
 use Rattle.sleep_base.specs.declared.errno.Errno.{Errno}
 use Rattle.sleep_model.specs.declared.entry.Kind.{Kind}
 use Rattle.sleep_model.specs.declared.entry.Actor.{Actor}
@@ -27,7 +27,7 @@ use Rattle.sleep_model.specs.Devices.{Callback, callback}
 use Rattle.sleep_model.specs.Guard.{in_force}
 use Rattle.sleep_model.specs.Parts.{Moves, Notes, OfJournal, OfTime, Part, part_of}
 use Rattle.sleep_model.specs.Path.{attempts, is_actor, is_same, maker, maker_after}
-use Rattle.sleep_model.specs.Scripts.{Piece, Turns, call_or_turn, note_of, operations, pieces_of}
+use Rattle.sleep_model.specs.Scripts.{Piece, call_or_turn, note_of, operations, pieces_of}
 use Rattle.sleep_model.specs.Seats.{Stays, first_seat, seat_part, seats, seats_after}
 use Rattle.sleep_model.specs.Sources.{caller, caller_after, history, is_of, owed}
 use Rattle.sleep_model.specs.Text.{source, text}
@@ -250,10 +250,6 @@ given_piece n source (op.Save c) h = refl
 given_piece n source (op.State text if_saved) h = refl
 given_piece n source (op.Event s ms hard) h = refl
 given_piece n source _ h = absurd h
-
-first_piece : (note : Option Kind) (rest : List Piece) → call_of (Some (get_or (call_or_turn note ++ rest) 0 Turns)) ≡ note
-first_piece None rest = refl
-first_piece (Some k) rest = refl
 
 one_piece : (note : Option Kind) (rest : List Piece) (k : ℕ) → call_of (slice_get (call_or_turn note ++ rest) (suc k)) ≡ call_of (slice_get rest k)
 one_piece None rest k = refl

@@ -1,17 +1,16 @@
 -- A log of today is legal by the whole definitions exactly where it is by the short form.
-use Rattle.std.proofs.Common.{Bool, List, None, Option, Some, [], ap, ap₂, cond, false, is_none, is_some, length, not, refl, reverse, slice_get, subst, suc, sym, true, true≢false, zero, ℕ, ◌&&◌, ◌+◌, ◌||◌, ◌∙◌, ◌∷◌, ◌≡◌}
+use Rattle.std.proofs.Common.{Bool, List, None, Option, Some, [], ap, ap₂, cond, false, is_none, is_some, length, not, refl, slice_get, subst, suc, sym, true, true≢false, zero, ℕ, ◌&&◌, ◌+◌, ◌||◌, ◌∙◌, ◌∷◌, ◌≡◌}
 use Rattle.sleep_model.specs.declared.entry.Kind.{Kind}
 use Rattle.sleep_model.specs.declared.entry.Actor.{Actor}
 use Rattle.sleep_model.specs.declared.entry.Entry.{Entry}
 use Rattle.sleep_model.specs.declared.place.Row.{Row}
 use Rattle.sleep_model.specs.declared.machine.Machine.{Machine}
 use Rattle.sleep_model.specs.declared.machine.Script.{Script}
-use Rattle.sleep_model.specs.declared.log.Log.{Log}
 use Rattle.sleep_model.specs.declared.entry.Actor.TheVariants as actor
 use Rattle.sleep_model.specs.declared.place.Row.TheVariants as row
 use Rattle.sleep_model.proofs.ShortCalls.{next_note}
 use Rattle.sleep_model.proofs.ShortDue.{due}
-use Rattle.sleep_model.proofs.ShortLegal.{IsFinishedLog, IsLegal, IsLegalLog, IsOwnCall, IsOwnTurn, JointPart, JointStep, JournalPart, JournalStep, JumpStep, alarm_at, is_enabled, is_finished, is_idle, is_inside_call, journal_time, next_sleep, next_time, none_enabled, pending_sleep}
+use Rattle.sleep_model.proofs.ShortLegal.{IsLegal, IsOwnCall, IsOwnTurn, JointPart, JointStep, JournalPart, JournalStep, JumpStep, alarm_at, is_enabled, is_finished, is_idle, is_inside_call, journal_time, next_sleep, next_time, none_enabled, pending_sleep}
 use Rattle.sleep_model.proofs.ShortPath.{row_of}
 use Rattle.sleep_model.specs.Accepted.{IsAccepted}
 use Rattle.sleep_model.specs.Attempt.{sleeps_now}
@@ -219,10 +218,3 @@ legal_of m acc past h = record { journal = journal_of m acc past h.journal; sour
 
 pub legal_back : (m : Machine) → IsAccepted m → (past : List Entry) → legal.IsLegal built_rows m past → IsLegal m past
 legal_back m acc past h = let journal = journal_back m acc past h.journal in record { journal = journal; sources = h.sources; joint = joint_back m acc past journal h.joint }
-
--- a finished log of the short form is finished
-pub finished_log : (m : Machine) → IsAccepted m → (log : Log) → IsLegalLog m log → IsFinishedLog m log → legal.IsFinishedLog built_rows m log
-finished_log m acc log h f = record { says = f.says; finished = over_is m acc (reverse log.entries) (known_of m acc (reverse log.entries) h.legal.journal h.legal.joint) ∙ f.finished }
-
-pub legal_log : (m : Machine) → IsAccepted m → (log : Log) → IsLegalLog m log → legal.IsLegalLog built_rows m log
-legal_log m acc log h = record { legal = legal_of m acc (reverse log.entries) h.legal; stats = h.stats }

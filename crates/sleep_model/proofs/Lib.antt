@@ -3,7 +3,6 @@ pub mod Callers
 pub mod Calling
 pub mod Children
 pub mod Counts
-pub mod Dependents
 pub mod FirstPlaces
 pub mod Growing
 pub mod Guarded

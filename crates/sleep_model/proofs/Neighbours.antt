@@ -10,8 +10,9 @@ use Rattle.sleep_model.specs.Sources.{later}
 use Rattle.sleep_model.specs.Walk.{first_where, last_where, or_else}
 use Rattle.sleep_model.proofs.Acyclic.{links_descend, nothing_below, order_covers, order_ranked, order_within}
 use Rattle.sleep_model.proofs.FirstPlaces.{among_children, among_parent, consumers_linked, suppliers_linked}
-use Rattle.sleep_model.proofs.Hanging.{Descends, all_of, among_app, among_first, among_rest, leads_below, within_of}
+use Rattle.sleep_model.proofs.Hanging.{Descends, all_of, among_app, among_first, among_rest, within_of}
 use Rattle.std.proofs.lemmas.Bool.{true≢false, false≢true, eqb-true, or_cases, cases_lt}
+use Rattle.sleep_model.proofs.Paths.{path_below}
 
 -- ---- orders
 
@@ -124,11 +125,9 @@ above_left m acc those d next = none_of those (above m d) (λ s held. by_place s
 
 -- a link that may be added closes no path from its consumer to its supplier
 pub no_cycle : (ps : List (Option ℕ)) → EachAfterParent 0 ps → (l : Link) (ls : List Link) → AreLinks ps (l ∷ ls) → (path : List ℕ) → IsPath (hanging ps ls) path l.consumer l.supplier → ⊥
-no_cycle ps after l ls h [] p = p
-no_cycle ps after l ls h (x ∷ xs) p =
+no_cycle ps after l ls h path p =
     let levels : Descends (hanging ps ls) (moved (length ps) (hanging ps ls)) = links_descend ps after ls h.4 (order_ranked ps after ls h.4) in
-    let found : is_among (moved (length ps) (hanging ps ls) l.consumer) l.supplier ≡ true = subst (λ (d : ℕ). is_among (moved (length ps) (hanging ps ls) d) l.supplier ≡ true) p.0 (leads_below (hanging ps ls) (moved (length ps) (hanging ps ls)) levels x xs l.supplier p.1) in
-    true≢false (sym found ∙ h.3)
+    true≢false (sym (path_below (hanging ps ls) (moved (length ps) (hanging ps ls)) levels path l.consumer l.supplier p) ∙ h.3)
 
 -- a front of links that may be added may be added
 pub front_links : (ps : List (Option ℕ)) (later : List Link) (l : Link) (earlier : List Link) → AreLinks ps (later ++ l ∷ earlier) → AreLinks ps (l ∷ earlier)

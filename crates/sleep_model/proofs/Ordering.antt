@@ -1,26 +1,12 @@
--- The order of devices has each device once; without links it is that of registration.
-use Rattle.std.proofs.Common.{◌≡◌, ◌∙◌, ℕ, Bool, true, false, not, ◌==◌, ◌||◌, List, [], ◌∷◌, ◌++◌, length, reverse, filter, refl, sym, ap, cond, Option, slice_get, arith}
-use Rattle.std.specs.List.{range_with_len}
-use Rattle.std.proofs.lemmas.List.{append-nil, length-map}
+-- The order of devices has each device once.
+use Rattle.std.proofs.Common.{◌≡◌, ◌∙◌, ℕ, Bool, true, false, not, ◌==◌, ◌||◌, List, [], ◌∷◌, ◌++◌, length, reverse, filter, refl, sym, ap, cond, Option, arith}
 use Rattle.std.proofs.lemmas.Bool.{true≢false}
 use Rattle.std.proofs.Math.Bool.{or-true}
 use Rattle.std.proofs.lemmas.Bool.Decides.{nat_tests}
 use Rattle.sleep_model.specs.declared.machine.Machine.{Machine}
 use Rattle.sleep_model.specs.declared.machine.Link.{Link}
-use Rattle.sleep_model.specs.Order.{is_among, parents_of, children_from, parent_of, hanging, holding, below, above, last_places, moved, order_by, order}
+use Rattle.sleep_model.specs.Order.{is_among, parents_of, hanging, last_places, moved, order_by, order}
 use Rattle.sleep_model.proofs.Walks.{AllDifferent, same_eq, run_different}
-
--- without links the order is that of registration
-pub order_plain : (m : Machine) → m.links ≡ [] → order m ≡ range_with_len 0 (length m.devices)
-order_plain m e = ap (λ (ls : List Link). order_by (parents_of m.devices) (reverse ls)) e ∙ ap (range_with_len 0) (length-map m.devices (λ x. x.parent))
-
--- without links only children hang below a device
-pub below_plain : (m : Machine) (d : ℕ) → m.links ≡ [] → below m d ≡ children_from d 0 (parents_of m.devices)
-below_plain m d e = ap (λ (ls : List Link). hanging (parents_of m.devices) (reverse ls) d) e ∙ append-nil (children_from d 0 (parents_of m.devices))
-
--- and only its parent stands above it
-pub above_plain : (m : Machine) (d : ℕ) → m.links ≡ [] → above m d ≡ parent_of (slice_get (parents_of m.devices) d)
-above_plain m d e = ap (λ (ls : List Link). holding (parents_of m.devices) (reverse ls) d) e ∙ append-nil (parent_of (slice_get (parents_of m.devices) d))
 
 -- what is not in a list is not in a part of it
 pub not_in_filter : (p : ℕ → Bool) (xs : List ℕ) (d : ℕ) → is_among xs d ≡ false → is_among (filter p xs) d ≡ false

@@ -224,9 +224,6 @@ up_is m acc past b g None i e f =
     subst (λ (x : Option ℕ). walk_up m past phase.Resume (next_given m past phase.Suspend) (devices.next_up m past phase.Suspend) ≡ resume_due x (next_up m past)) e
     (ap₂ (walk_up m past phase.Resume) (none_to_give m acc past) (up_next m acc past b) ∙ resume_walk m acc past b (none_runs past g (f ∙ sym e)) (next_up m past) refl)
 
-or_makes : (k : Kind) (d next : Due) → d ≡ Makes k → or_next d next ≡ Makes k
-or_makes k d next e = ap (λ x. or_next x next) e
-
 -- a path that has something left is what it makes
 or_some : (d e next : Due) → d ≡ e → (or_next e next ≡ e) → or_next d next ≡ e
 or_some d e next h k = ap (λ x. or_next x next) h ∙ k
