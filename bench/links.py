@@ -16,15 +16,11 @@ may grow fourfold, and not more.
 """
 
 import json
-import pathlib
-import subprocess
 import sys
-import time
 
-ROOT = pathlib.Path(__file__).resolve().parent.parent
-PROGRAM = ROOT / "crates" / "sleep_main" / "out" / "sleep_main"
+from attempts import PROGRAM, timed
+
 DEVICES = 1000
-RUNS = 5
 
 
 def machine(devices, links):
@@ -54,18 +50,6 @@ def wide(count):
     return machine(devices, sorted(set(links)))
 
 
-def best_time(program, text):
-    best = None
-    for _ in range(RUNS):
-        start = time.perf_counter()
-        done = subprocess.run([program, "run", "--workers", "1"], input=text, capture_output=True)
-        took = time.perf_counter() - start
-        if done.returncode != 0:
-            sys.exit(f"status {done.returncode}: {done.stderr.decode()}")
-        best = took if best is None else min(best, took)
-    return best
-
-
 def main():
     program = sys.argv[1] if len(sys.argv) > 1 else PROGRAM
     print(f"{'machine':>8} {'links':>6} {'ms':>8} {'ratio':>6}")
@@ -73,7 +57,7 @@ def main():
         before = None
         for count in (0, 1000, 2000, 4000):
             built = make(count)
-            seconds = best_time(program, json.dumps(built).encode())
+            seconds, _ = timed(program, json.dumps(built).encode())
             ratio = f"{seconds / before:.2f}" if before else "-"
             print(f"{name:>8} {len(built['links']):>6} {seconds * 1e3:>8.2f} {ratio:>6}")
             before = seconds
