@@ -7,7 +7,7 @@ Two machines of 1,000 devices, whose one task does nothing, so that the reading 
 there is:
 
   chain   each device hangs below the one before, and the links go in the order that moves most: each
-          link's consumer stands high in the chain, so that it takes nearly all devices to the end
+          link's consumer stands high in the chain, so that nearly all devices are moved
   wide    all devices hang below the first, and each link moves one
 
 Prints the best time of some runs and how it compares with the row before. One link costs at most a
@@ -33,13 +33,11 @@ def machine(devices, links):
 
 
 def chain(count):
-    """A chain below c0, with suppliers beside it that supply the first devices of the chain in turn."""
-    beside = DEVICES // 2
+    """A chain below c0, whose first devices supply one another: each link moves nearly the whole chain."""
     devices = [{"name": "c0"}]
-    devices += [{"name": f"c{i}", "parent": f"c{i - 1}"} for i in range(1, DEVICES - beside)]
-    devices += [{"name": f"s{i}"} for i in range(beside)]
-    links = [(f"s{i % beside}", f"c{i // beside}") for i in range(count)]
-    return machine(devices, links)
+    devices += [{"name": f"c{i}", "parent": f"c{i - 1}"} for i in range(1, DEVICES)]
+    links = [(f"c{i}", f"c{j}") for j in range(1, DEVICES) for i in range(j)]
+    return machine(devices, links[:count])
 
 
 def wide(count):
