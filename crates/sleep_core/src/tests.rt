@@ -4,6 +4,7 @@ ghost use Rattle.sleep_model.specs.Word.{position};
 ghost use Rattle.sleep_core.specs.Histories.{last_stamp};
 
 use crate::{Core, CoreTurn, Events, PlainEvents};
+use bitflags::Flags;
 use sleep_base::Errno;
 use sleep_model::{
     Actor, Device, DeviceFlags, EventNow, Kind, ListOf, Machine, Name, Op, Phase, Script,
@@ -19,7 +20,7 @@ fn machine(alloc: Global, event: bool) -> Result<Machine, Fail>
     ensures { IfOk result (λ m. IsAccepted m) }
 {
     let name = Name::of_bytes(b"p").ok_or("no name")?;
-    let flags = DeviceFlags::WAKEUP;
+    let flags = DeviceFlags::from_bits_retain(0);
     let text = ListOf::of_vec(Vec::from_slice(alloc, b"mem")?);
     let op = Op::State {
         text,
