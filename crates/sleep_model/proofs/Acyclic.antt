@@ -6,7 +6,7 @@ use Rattle.std.proofs.lemmas.Bool.{true≢false, false≢true, eqb-true, eqb-fal
 use Rattle.std.proofs.lemmas.Bool.Decides.{nat_tests}
 use Rattle.std.proofs.Math.Bool.{or-false}
 use Rattle.sleep_model.specs.declared.machine.Link.{Link}
-use Rattle.sleep_model.specs.Laws.{AllAmong}
+use Rattle.sleep_model.specs.Links.{AllAmong}
 use Rattle.sleep_model.specs.Order.{is_among, children_from, consumers_of, hanging, EachAfterParent, last_places, moved, order_by}
 use Rattle.sleep_model.specs.Links.{IsOrder, AreLinks}
 use Rattle.sleep_model.proofs.Walks.{AllDifferent, below_run}

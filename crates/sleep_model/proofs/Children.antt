@@ -2,7 +2,7 @@
 use Rattle.std.proofs.Common.{◌≡◌, ◌<◌, ◌≤◌, ◌+◌, ◌∙◌, ℕ, suc, Bool, true, false, ◌==◌, List, [], ◌∷◌, ◌++◌, ◌⊎◌, inl, inr, length, Option, Some, None, IfSome, refl, ap, cond, arith}
 use Rattle.std.proofs.lemmas.Bool.Decides.{nat_tests}
 use Rattle.std.proofs.lemmas.Bool.{false≢true, or_cases, eqb-true}
-use Rattle.sleep_model.specs.Laws.{AllAmong}
+use Rattle.sleep_model.specs.Links.{AllAmong}
 use Rattle.sleep_model.specs.Order.{is_among, is_parent, children_from, EachAfterParent}
 
 -- one more device is the last child of its parent

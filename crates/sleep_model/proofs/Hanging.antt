@@ -3,7 +3,7 @@ use Rattle.std.proofs.Common.{◌≡◌, ◌≤◌, ◌+◌, ◌∙◌, ℕ, zer
 use Rattle.std.specs.List.{flat_map}
 use Rattle.std.proofs.lemmas.Bool.{false≢true, eqb-true, or_cases, or_right, false_from_ne_true}
 use Rattle.std.proofs.Math.Bool.{or_assoc, or-false}
-use Rattle.sleep_model.specs.Laws.{AllAmong}
+use Rattle.sleep_model.specs.Links.{AllAmong}
 use Rattle.sleep_model.specs.Order.{is_among, last_places}
 use Rattle.sleep_model.specs.Links.{LeadsTo}
 use Rattle.sleep_model.proofs.Walks.{same_eq}

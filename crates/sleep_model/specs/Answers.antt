@@ -13,18 +13,18 @@ use Rattle.sleep_model.specs.declared.machine.What.TheVariants.{Device, Syscore,
 use Rattle.sleep_model.specs.Phases.{is_phase}
 
 -- the same step of the platform (struct platform_suspend_ops)
-abbrev pub is_step : PlatDo → PlatDo → Bool
-is_step down.Begin down.Begin = true
-is_step down.Prepare down.Prepare = true
-is_step down.PrepareLate down.PrepareLate = true
-is_step _ _ = false
+abbrev pub is_platform_step : PlatDo → PlatDo → Bool
+is_platform_step down.Begin down.Begin = true
+is_platform_step down.Prepare down.Prepare = true
+is_platform_step down.PrepareLate down.PrepareLate = true
+is_platform_step _ _ = false
 
 -- the same thing
 abbrev pub is_thing : What → What → Bool
 is_thing (Device d p) (Device e q) = d == e && is_phase p q
 is_thing (Syscore x) (Syscore y) = x == y
 is_thing (Notifier x) (Notifier y) = x == y
-is_thing (Platform x) (Platform y) = is_step x y
+is_thing (Platform x) (Platform y) = is_platform_step x y
 is_thing _ _ = false
 
 -- the same attempt, or both for any

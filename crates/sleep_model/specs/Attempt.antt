@@ -1,9 +1,10 @@
 -- An attempt, stage by stage: what its maker does next (kernel/power/suspend.c, enter_state, suspend_devices_and_enter, suspend_enter).
-use Rattle.std.specs.Prelude.{ℕ, ◌+◌, Bool, true, false, nat_lt, nat_le, List, [], ◌∷◌, length, filter, if◌then◌else◌, Option, Some, None, is_some}
+use Rattle.std.specs.Prelude.{ℕ, ◌+◌, Bool, true, false, nat_lt, nat_le, List, [], ◌∷◌, length, if◌then◌else◌, Option, Some, None, is_some}
 use Rattle.sleep_base.specs.declared.errno.Errno.{Errno}
 use Rattle.sleep_base.specs.declared.errno.Errno.TheVariants.{EBUSY}
 use Rattle.sleep_model.specs.declared.word.EventNow.{EventNow}
 use Rattle.sleep_model.specs.declared.entry.Entry.{Entry}
+use Rattle.sleep_model.specs.declared.entry.FrozeEnd.{FrozeEnd}
 use Rattle.sleep_model.specs.declared.entry.FrozeEnd.TheVariants as froze
 use Rattle.sleep_model.specs.declared.entry.Group.{Group}
 use Rattle.sleep_model.specs.declared.entry.Kind.{Kind}
@@ -14,14 +15,17 @@ use Rattle.sleep_model.specs.declared.machine.What.{What}
 use Rattle.sleep_model.specs.declared.machine.What.TheVariants as what
 use Rattle.sleep_model.specs.declared.place.Due.{Due}
 use Rattle.sleep_model.specs.declared.place.Due.TheVariants.{Makes, Waits, Gone}
+use Rattle.sleep_model.specs.declared.place.Stage.{Stage}
+use Rattle.sleep_model.specs.declared.place.Stage.TheVariants as stage
 use Rattle.sleep_model.specs.Answers.{answer, answer_error}
-use Rattle.sleep_model.specs.Devices.{callback, stretch_error, down_due, up_due, prepare_due, next_prepared, complete_due, next_completed}
+use Rattle.sleep_model.specs.Devices.{callback, phase_failed, down_due, up_due, prepare_due, next_prepared, complete_due, next_completed}
 use Rattle.sleep_model.specs.Freezer.{left}
 use Rattle.sleep_model.specs.Guard.{pending}
 use Rattle.sleep_model.specs.Notifiers.{next_called, next_posted, next_cpu_off, next_cpu_on, next_stopped, next_started}
 use Rattle.sleep_model.specs.Numbers.{time_of}
 use Rattle.sleep_model.specs.Path.{attempts}
-use Rattle.sleep_model.specs.Table.{Stage, Rows, stages_left, Notifies, Freezes, Asks, Prepares, Downs, StopsCpus, StopsIrqs, Checks, StopsSyscore, Enters, StartsSyscore, StartsIrqs, StartsCpus, Tells, Ups, Completes, Clears, Thaws, Posts, Ends}
+use Rattle.sleep_model.specs.Table.{stage_of, behind}
+use Rattle.sleep_model.specs.Walk.{or_else}
 use Rattle.sleep_model.specs.Word.{position}
 
 -- what the machine answers for a thing in the open attempt
@@ -31,15 +35,15 @@ answered m past x = answer_error (answer m x (attempts past))
 -- ---- the freeze of a group
 
 -- since when a freeze goes on, after an entry (try_to_freeze_tasks)
-abbrev pub freezing_after : Kind → ℕ → Option ℕ → Option ℕ
-freezing_after (kind.Freeze g) time before = Some time
-freezing_after (kind.Froze g end) time before = None
-freezing_after _ time before = before
+abbrev pub freeze_since_after : Kind → ℕ → Option ℕ → Option ℕ
+freeze_since_after (kind.Freeze g) time before = Some time
+freeze_since_after (kind.Froze g end) time before = None
+freeze_since_after _ time before = before
 
 -- since when a freeze goes on, in ms, if one does (try_to_freeze_tasks)
-abbrev pub freezing : List Entry → Option ℕ
-freezing [] = None
-freezing (e ∷ past) = freezing_after e.kind e.time (freezing past)
+abbrev pub freeze_since : List Entry → Option ℕ
+freeze_since [] = None
+freeze_since (e ∷ past) = freeze_since_after e.kind e.time (freeze_since past)
 
 -- when a freeze gives up, in ms (freeze_timeout_msecs)
 abbrev pub gives_up_at : ℕ → ℕ
@@ -65,9 +69,14 @@ pub record Sleep : Type 0 where
   pub pos : ℕ
   pub since : ℕ
 
+-- the machine sleeps from there on, unless a wakeup was found (suspend_enter)
+abbrev pub unless_busy : Bool → Option Sleep → Sleep → Option Sleep
+unless_busy true before sleep = before
+unless_busy false before sleep = Some sleep
+
 -- whether the machine sleeps, after an entry made at that position and time (suspend_enter)
 abbrev pub sleep_after : Kind → ℕ → ℕ → Option Sleep → Option Sleep
-sleep_after (kind.Enter false) pos time before = Some (record { pos = pos; since = time })
+sleep_after (kind.Enter busy) pos time before = unless_busy busy before (record { pos = pos; since = time })
 sleep_after (kind.Wake by_event) pos time before = None
 sleep_after _ pos time before = before
 
@@ -91,18 +100,27 @@ enter_due m past now (Some s) = wakes_due m past now s
 
 -- ---- the error
 
+-- EBUSY where a wakeup is pending (syscore_suspend)
+abbrev pub busy_error : Bool → Option Errno
+busy_error true = Some EBUSY
+busy_error false = None
+
+-- a freeze that leaves tasks is EBUSY (try_to_freeze_tasks)
+abbrev pub freeze_error : FrozeEnd → Option Errno
+freeze_error froze.AllFrozen = None
+freeze_error _ = Some EBUSY
+
 -- the error of the attempt, after an entry (enter_state)
 abbrev pub failed_after : Kind → Option Errno → Option Errno
 failed_after (kind.Attempt n guarded) before = None
-failed_after (kind.NotifyPrepare x (Some r)) before = Some r
-failed_after (kind.Froze g froze.AllFrozen) before = before
-failed_after (kind.Froze g end) before = Some EBUSY
-failed_after (kind.PlatformDo step (Some r)) before = Some r
-failed_after (kind.Done p (Some r)) before = Some r
+failed_after (kind.NotifyPrepare x r) before = or_else r before
+failed_after (kind.Froze g end) before = or_else (freeze_error end) before
+failed_after (kind.PlatformDo step r) before = or_else r before
+failed_after (kind.Done p r) before = or_else r before
 failed_after (kind.CpuBusy k) before = Some EBUSY
-failed_after (kind.SyscoreCheck (Some r)) before = Some r
-failed_after (kind.SyscoreSuspend x (Some r)) before = Some r
-failed_after (kind.Enter true) before = Some EBUSY
+failed_after (kind.SyscoreCheck r) before = or_else r before
+failed_after (kind.SyscoreSuspend x r) before = or_else r before
+failed_after (kind.Enter busy) before = or_else (busy_error busy) before
 failed_after _ before = before
 
 -- the error of the open attempt's stage that failed (pm_suspend)
@@ -122,44 +140,43 @@ abbrev pub cpu_kind : Bool → ℕ → Kind
 cpu_kind true k = kind.CpuBusy k
 cpu_kind false k = kind.CpuOff k
 
--- EBUSY where a wakeup is pending (syscore_suspend)
-abbrev pub busy_error : Bool → Option Errno
-busy_error true = Some EBUSY
-busy_error false = None
-
 -- what the maker makes at a stage, if that has anything left (enter_state, suspend_devices_and_enter, suspend_enter)
 abbrev pub stage_due : Machine → List Entry → EventNow → Stage → Due
-stage_due m past now Notifies = if_left (λ x. kind.NotifyPrepare x (answered m past (what.Notifier x))) (next_called m past)
-stage_due m past now (Freezes g) = freeze_due m past now g (freezing past)
-stage_due m past now (Asks step) = Makes (kind.PlatformDo step (answered m past (what.Platform step)))
-stage_due m past now Prepares = prepare_due m past (stretch_error past) (next_prepared m past)
-stage_due m past now (Downs p) = down_due m past now p (callback past)
-stage_due m past now StopsCpus = if_left (cpu_kind (pending past now)) (next_cpu_off m past)
-stage_due m past now StopsIrqs = Makes (kind.Irqs false)
-stage_due m past now Checks = Makes (kind.SyscoreCheck (busy_error (pending past now)))
-stage_due m past now StopsSyscore = if_left (λ x. kind.SyscoreSuspend x (answered m past (what.Syscore x))) (next_stopped m past)
-stage_due m past now Enters = enter_due m past now (sleep_of past)
-stage_due m past now StartsSyscore = if_left kind.SyscoreResume (next_started m past)
-stage_due m past now StartsIrqs = Makes (kind.Irqs true)
-stage_due m past now StartsCpus = if_left kind.CpuOn (next_cpu_on m past)
-stage_due m past now (Tells step) = Makes (kind.PlatformUndo step)
-stage_due m past now (Ups p) = up_due m past p (callback past)
-stage_due m past now Completes = complete_due (next_completed m past)
-stage_due m past now Clears = Makes kind.Clear
-stage_due m past now (Thaws those) = Makes (kind.Thaw those)
-stage_due m past now Posts = if_left kind.NotifyPost (next_posted m past)
-stage_due m past now Ends = Makes (kind.Over (attempts past) (failed past))
+stage_due m past now stage.Notifies = if_left (λ x. kind.NotifyPrepare x (answered m past (what.Notifier x))) (next_called m past)
+stage_due m past now (stage.Freezes g) = freeze_due m past now g (freeze_since past)
+stage_due m past now (stage.Asks step) = Makes (kind.PlatformDo step (answered m past (what.Platform step)))
+stage_due m past now stage.Prepares = prepare_due m past (phase_failed past) (next_prepared m past)
+stage_due m past now (stage.Downs p) = down_due m past now p (callback past)
+stage_due m past now stage.StopsCpus = if_left (cpu_kind (pending past now)) (next_cpu_off m past)
+stage_due m past now stage.StopsIrqs = Makes (kind.Irqs false)
+stage_due m past now stage.Checks = Makes (kind.SyscoreCheck (busy_error (pending past now)))
+stage_due m past now stage.StopsSyscore = if_left (λ x. kind.SyscoreSuspend x (answered m past (what.Syscore x))) (next_stopped m past)
+stage_due m past now stage.Enters = enter_due m past now (sleep_of past)
+stage_due m past now stage.StartsSyscore = if_left kind.SyscoreResume (next_started m past)
+stage_due m past now stage.StartsIrqs = Makes (kind.Irqs true)
+stage_due m past now stage.StartsCpus = if_left kind.CpuOn (next_cpu_on m past)
+stage_due m past now (stage.Tells step) = Makes (kind.PlatformUndo step)
+stage_due m past now (stage.Ups p) = up_due m past p (callback past)
+stage_due m past now stage.Completes = complete_due (next_completed m past)
+stage_due m past now stage.Clears = Makes kind.Clear
+stage_due m past now (stage.Thaws those) = Makes (kind.Thaw those)
+stage_due m past now stage.Posts = if_left kind.NotifyPost (next_posted m past)
+stage_due m past now stage.Ends = Makes (kind.Over (attempts past) (failed past))
 
 -- the first that has anything (own)
 abbrev pub or_next : Due → Due → Due
 or_next Gone next = next
 or_next due next = due
 
--- what the first of these stages that has anything left makes (own)
-abbrev pub first_due : Machine → List Entry → EventNow → List Stage → Due
-first_due m past now [] = Gone
-first_due m past now (stage ∷ rest) = or_next (stage_due m past now stage) (first_due m past now rest)
+-- what is made at a stage, or else at the one behind it: of two in a row one always has something (suspend_enter)
+abbrev pub stage_or_next : Machine → List Entry → EventNow → Stage → Due
+stage_or_next m past now here = or_next (stage_due m past now here) (stage_due m past now (behind here))
 
--- what the open attempt's maker makes next, by these rows of the table (enter_state)
-abbrev pub attempt_due : Rows → Machine → List Entry → EventNow → Due
-attempt_due rows m past now = first_due m past now (filter rows (stages_left past))
+-- what is made at the stage of the open attempt, if one is open (suspend_enter)
+abbrev pub due_at : Machine → List Entry → EventNow → Option Stage → Due
+due_at m past now None = Gone
+due_at m past now (Some here) = stage_or_next m past now here
+
+-- what the open attempt's maker makes next (enter_state)
+abbrev pub attempt_due : Machine → List Entry → EventNow → Due
+attempt_due m past now = due_at m past now (stage_of past)

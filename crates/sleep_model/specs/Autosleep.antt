@@ -36,6 +36,11 @@ abbrev pub naps_at : ℕ → Work → Work
 naps_at seen (Looking c) = if seen == c then Napping None else Closing
 naps_at seen before = before
 
+-- events that are in progress let the work end without a nap (try_to_suspend)
+abbrev pub after_look : Option ℕ → Work → Work
+after_look None before = Closing
+after_look (Some seen) before = naps_at seen before
+
 -- where the work stands after an entry of its own (try_to_suspend)
 abbrev pub work_step : Kind → Work → Work
 work_step kind.AutoRun before = Reading
@@ -43,8 +48,7 @@ work_step (kind.Read c) before = Saving c
 work_step (kind.AutoSaved c) before = Attempting c
 work_step (kind.AutoUnsaved c) before = Closing
 work_step (kind.Over n r) before = looks_at before
-work_step (kind.AutoAfter None) before = Closing
-work_step (kind.AutoAfter (Some c)) before = naps_at c before
+work_step (kind.AutoAfter seen) before = after_look seen before
 work_step (kind.SleepD until) before = Napping (Some until)
 work_step kind.Slept before = Closing
 work_step kind.AutoAgain before = Resting
@@ -91,13 +95,17 @@ may_run m past = is_queued past && nat_lt (runs past) m.auto_cycles
 abbrev pub auto_save : EventNow → ℕ → Kind
 auto_save now c = if (visible now == c) && (now.inpr == 0) then kind.AutoSaved c else kind.AutoUnsaved c
 
+-- the count that is seen where no event is in progress (pm_get_wakeup_count)
+abbrev pub seen_count : EventNow → Option ℕ
+seen_count now = if now.inpr == 0 then Some (visible now) else None
+
 -- the work's next entry (try_to_suspend)
 abbrev pub work_due : Machine → List Entry → EventNow → Work → Due
 work_due m past now Resting = if may_run m past then Makes kind.AutoRun else Waits why.NoWork
 work_due m past now Reading = if now.inpr == 0 then Makes (kind.Read (visible now)) else Waits why.InProgress
 work_due m past now (Saving c) = if is_none (holder past) then Makes (auto_save now c) else Waits why.LockHeld
 work_due m past now (Attempting c) = if is_on past then Makes (kind.Attempt (attempts past + 1) (in_force past)) else Makes kind.AutoOff
-work_due m past now (Looking c) = Makes (kind.AutoAfter (if now.inpr == 0 then Some (visible now) else None))
+work_due m past now (Looking c) = Makes (kind.AutoAfter (seen_count now))
 work_due m past now (Napping None) = Makes (kind.SleepD (time_of past + 500))
 work_due m past now (Napping (Some until)) = if nat_le until (time_of past) then Makes kind.Slept else Waits (why.Until until)
 work_due m past now Closing = if is_on past then Makes kind.AutoAgain else Makes kind.AutoOff

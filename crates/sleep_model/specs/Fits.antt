@@ -1,5 +1,5 @@
 -- Which logs can be written as text: their numbers name things of the machine, and are in the ranges of their fields (own).
-use Rattle.std.specs.Prelude.{◌≡◌, ℕ, ◌+◌, Bool, true, false, ◌&&◌, nat_lt, nat_le, List, [], ◌∷◌, length, ℤ, pos, negsuc, Option, Some, None}
+use Rattle.std.specs.Prelude.{◌≡◌, ℕ, ◌+◌, Bool, true, false, ◌&&◌, nat_lt, nat_le, List, [], ◌∷◌, length, ℤ, pos, negsuc, suc, Option, Some, None, is_some}
 use Rattle.std.specs.List.{list_all}
 use Rattle.sleep_model.specs.declared.word.EventNow.{EventNow}
 use Rattle.sleep_model.specs.declared.entry.Actor.{Actor}
@@ -14,7 +14,9 @@ use Rattle.sleep_model.specs.declared.log.LogEnd.{LogEnd}
 use Rattle.sleep_model.specs.declared.log.LogEnd.TheVariants.{Finished, Stuck}
 use Rattle.sleep_model.specs.declared.log.Why.{Why}
 use Rattle.sleep_model.specs.declared.log.Why.TheVariants as why
+use Rattle.sleep_model.specs.declared.log.Stats.{Stats}
 use Rattle.sleep_model.specs.declared.machine.Machine.{Machine}
+use Rattle.sleep_model.specs.Answers.{errno_with, errors}
 
 -- a number of 32 bits
 abbrev pub is_word32 : ℕ → Bool
@@ -29,10 +31,10 @@ abbrev pub is_word32_if : Option ℕ → Bool
 is_word32_if None = true
 is_word32_if (Some n) = is_word32 n
 
--- what a prepare may answer: 1 or 0, or an error's number below 0
+-- what a prepare may answer: 0, 1, or the number of an error, below 0
 abbrev pub is_answer : ℤ → Bool
 is_answer (pos n) = nat_le n 1
-is_answer (negsuc n) = nat_lt n 2147483648
+is_answer (negsuc n) = is_some (errno_with (suc n) errors)
 
 -- what a freeze of tasks ends by
 abbrev pub fits_froze : Machine → FrozeEnd → Bool
@@ -116,8 +118,15 @@ abbrev pub fits_end : Machine → LogEnd → Bool
 fits_end m Finished = true
 fits_end m (Stuck waiting) = is_filled waiting && list_all (λ w. fits_script m w.actor && fits_cause m w.why) waiting
 
+-- a source's statistics are in the ranges of their fields
+abbrev pub fits_stats : Stats → Bool
+fits_stats s =
+    is_word32 s.active_count && is_word32 s.event_count && is_word32 s.expire_count
+    && is_word64 s.active_time && is_word64 s.total_time && is_word64 s.max_time && is_word64 s.last_time
+
 -- a log that can be written: its numbers name things of the machine and are in range, and each source has its statistics
 pub record IsWritable (m : Machine) (log : Log) : Type 0 where
   pub entries : list_all (fits_entry m) log.entries ≡ true
   pub stats : length log.stats ≡ length m.sources + 1
+  pub counts : list_all fits_stats log.stats ≡ true
   pub end : fits_end m log.end ≡ true

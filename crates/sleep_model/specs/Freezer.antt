@@ -1,17 +1,21 @@
 -- The freezer of tasks (kernel/power/process.c, kernel/freezer.c).
-use Rattle.std.specs.Prelude.{ℕ, suc, Bool, true, false, not, ◌==◌, ◌&&◌, List, [], ◌∷◌, if◌then◌else◌}
+use Rattle.std.specs.Prelude.{ℕ, suc, Bool, true, false, not, ◌==◌, ◌&&◌, ◌||◌, List, [], ◌∷◌, length, map, if◌then◌else◌, slice_set, slice_index_or}
 use Rattle.sleep_model.specs.declared.entry.Actor.{Actor}
 use Rattle.sleep_model.specs.declared.entry.Actor.TheVariants as actor
 use Rattle.sleep_model.specs.declared.entry.Entry.{Entry}
 use Rattle.sleep_model.specs.declared.entry.Group.{Group}
 use Rattle.sleep_model.specs.declared.entry.Group.TheVariants as group
 use Rattle.sleep_model.specs.declared.entry.Kind.{Kind}
-use Rattle.sleep_model.specs.declared.entry.Kind.TheVariants.{Frozen, Freeze, Thaw, Exit}
+use Rattle.sleep_model.specs.declared.entry.Kind.TheVariants.{Frozen, Freeze, Thaw}
+use Rattle.sleep_model.specs.declared.entry.Thaw.{Thaw as Thawing}
 use Rattle.sleep_model.specs.declared.entry.Thaw.TheVariants as thaw
 use Rattle.sleep_model.specs.declared.machine.Machine.{Machine}
 use Rattle.sleep_model.specs.declared.machine.Script.{Script}
 use Rattle.sleep_model.specs.declared.machine.TaskKind.{TaskKind}
 use Rattle.sleep_model.specs.declared.machine.TaskKind.TheVariants.{User, Kthread}
+use Rattle.sleep_model.specs.declared.place.Freezing.{Freezing}
+use Rattle.sleep_model.specs.declared.place.Seat.{Seat}
+use Rattle.sleep_model.specs.Seats.{seats}
 
 -- a task of that kind is of the group that a freeze asks (freeze_processes, freeze_kernel_threads)
 abbrev pub is_in : Group → TaskKind → Bool
@@ -24,50 +28,66 @@ abbrev pub is_task : ℕ → Actor → Bool
 is_task i (actor.Script j) = j == i
 is_task i _ = false
 
--- task i is asked to freeze, after an entry of that actor: a freeze of its group that another makes asks it, and a thaw lets it go (freeze_task, thaw_processes, thaw_kernel_threads)
-abbrev pub asked_after : ℕ → TaskKind → Actor → Kind → Bool → Bool
-asked_after i kind who (Freeze g) before = if is_in g kind && not (is_task i who) then true else before
-asked_after i kind who (Thaw thaw.All) before = false
-asked_after i Kthread who (Thaw thaw.Kernel) before = false
-asked_after i kind who _ before = before
+-- what the freezer has come to with a task that it asks for nothing
+abbrev pub unasked : Freezing
+unasked = record { asked = false; frozen = false }
 
--- task i, of that kind, is asked to freeze (freezing)
-abbrev pub is_asked : ℕ → TaskKind → List Entry → Bool
-is_asked i kind [] = false
-is_asked i kind (e ∷ past) = asked_after i kind e.actor e.kind (is_asked i kind past)
+-- what it has come to with a task among others (freezing, frozen)
+abbrev pub freezing_at : List Freezing → ℕ → Freezing
+freezing_at those i = slice_index_or those i unasked
 
--- task i has frozen since it was asked, after an entry of that actor (__refrigerator)
-abbrev pub frozen_after : ℕ → TaskKind → Actor → Kind → Bool → Bool
-frozen_after i kind who Frozen before = if is_task i who then true else before
-frozen_after i kind who (Freeze g) before = if is_in g kind then false else before
-frozen_after i kind who (Thaw thaw.All) before = false
-frozen_after i Kthread who (Thaw thaw.Kernel) before = false
-frozen_after i kind who _ before = before
+-- a freeze of group g by that actor asks a task of the group, script i, unless it makes the freeze itself; who froze before has to freeze anew (freeze_task)
+abbrev pub asked_by : Group → Actor → ℕ → TaskKind → Freezing → Freezing
+asked_by g who i kind before =
+    if is_in g kind then record { asked = before.asked || not (is_task i who); frozen = false } else before
 
--- task i is frozen (frozen)
-abbrev pub is_frozen : ℕ → TaskKind → List Entry → Bool
-is_frozen i kind [] = false
-is_frozen i kind (e ∷ past) = frozen_after i kind e.actor e.kind (is_frozen i kind past)
+-- the tasks, from number i on, after a freeze of group g by that actor (freeze_processes, freeze_kernel_threads)
+abbrev pub all_asked : Group → Actor → ℕ → List Script → List Freezing → List Freezing
+all_asked g who i (s ∷ ss) (f ∷ fs) = asked_by g who i s.kind f ∷ all_asked g who (suc i) ss fs
+all_asked g who i _ _ = []
 
--- task i has exited, after an entry of that actor (do_exit)
-abbrev pub gone_after : ℕ → Actor → Kind → Bool → Bool
-gone_after i who Exit before = if is_task i who then true else before
-gone_after i who _ before = before
+-- a thaw of kernel threads lets those go, a thaw of all lets each go (thaw_kernel_threads, thaw_processes)
+abbrev pub let_go : Thawing → TaskKind → Freezing → Freezing
+let_go thaw.All kind before = unasked
+let_go thaw.Kernel Kthread before = unasked
+let_go thaw.Kernel kind before = before
 
--- task i has exited (do_exit)
-abbrev pub is_gone : ℕ → List Entry → Bool
-is_gone i [] = false
-is_gone i (e ∷ past) = gone_after i e.actor e.kind (is_gone i past)
+-- the tasks after a thaw (thaw_kernel_threads, thaw_processes)
+abbrev pub all_let_go : Thawing → List Script → List Freezing → List Freezing
+all_let_go those (s ∷ ss) (f ∷ fs) = let_go those s.kind f ∷ all_let_go those ss fs
+all_let_go those _ _ = []
 
--- task i keeps the freeze of a group waiting: it is asked, not frozen, and there still (try_to_freeze_tasks)
-abbrev pub keeps_waiting : Group → ℕ → TaskKind → List Entry → Bool
-keeps_waiting g i kind past = is_in g kind && is_asked i kind past && not (is_frozen i kind past) && not (is_gone i past)
+-- a task that freezes (__refrigerator)
+abbrev pub put_frozen : Actor → List Freezing → List Freezing
+put_frozen (actor.Script i) before = slice_set before i (record (freezing_at before i) { frozen = true })
+put_frozen who before = before
 
--- the tasks, from number i on, that keep the freeze waiting
-abbrev pub left_from : Group → ℕ → List Script → List Entry → List ℕ
-left_from g i [] past = []
-left_from g i (s ∷ ss) past = if keeps_waiting g i s.kind past then i ∷ left_from g (suc i) ss past else left_from g (suc i) ss past
+-- what the freezer has come to with these tasks, after an entry of that actor (freeze_task, __refrigerator, thaw_processes)
+abbrev pub freezings_after : List Script → Actor → Kind → List Freezing → List Freezing
+freezings_after scripts who (Freeze g) before = all_asked g who 0 scripts before
+freezings_after scripts who (Thaw those) before = all_let_go those scripts before
+freezings_after scripts who Frozen before = put_frozen who before
+freezings_after scripts who k before = before
+
+-- what the freezer has come to with these tasks (freezing, frozen)
+abbrev pub freezings : List Script → List Entry → List Freezing
+freezings scripts [] = map (λ s. unasked) scripts
+freezings scripts (e ∷ past) = freezings_after scripts e.actor e.kind (freezings scripts past)
+
+-- a task keeps the freeze of its group waiting: it is asked, not frozen, and there still (try_to_freeze_tasks)
+abbrev pub keeps_waiting : Group → TaskKind → Freezing → Seat → Bool
+keeps_waiting g kind f seat = is_in g kind && f.asked && not f.frozen && not seat.exited
+
+-- the tasks, from number i on, that keep the freeze of a group waiting
+abbrev pub left_from : Group → ℕ → List Script → List Freezing → List Seat → List ℕ
+left_from g i (s ∷ ss) (f ∷ fs) (seat ∷ seats) =
+    if keeps_waiting g s.kind f seat then i ∷ left_from g (suc i) ss fs seats else left_from g (suc i) ss fs seats
+left_from g i _ _ _ = []
 
 -- the tasks that a freeze of the group still waits for, in the order of the file (try_to_freeze_tasks, todo)
 abbrev pub left : Machine → Group → List Entry → List ℕ
-left m g past = left_from g 0 m.actors past
+left m g past = left_from g 0 m.actors (freezings m.actors past) (seats (length m.actors) past)
+
+-- what the freezer has come to with script i (freezing, frozen)
+abbrev pub freezing : Machine → ℕ → List Entry → Freezing
+freezing m i past = freezing_at (freezings m.actors past) i

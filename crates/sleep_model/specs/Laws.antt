@@ -1,83 +1,77 @@
 -- What a reader believes of a legal log, each law at each entry, from the entries before it.
-use Rattle.std.specs.Prelude.{◌≡◌, ◌<◌, ◌+◌, ℕ, suc, ℤ, pos, negsuc, Bool, true, false, ◌==◌, ◌||◌, List, [], ◌∷◌, if◌then◌else◌, Option, Some, None}
+use Rattle.std.specs.Prelude.{◌≡◌, ◌<◌, ◌+◌, ℕ, ℤ, pos, negsuc, Bool, true, false, not, ◌==◌, ◌&&◌, ◌||◌, List, [], ◌∷◌, length, map, replicate, if◌then◌else◌, Option, Some, None, is_none, slice_get}
+use Rattle.std.specs.List.{list_all}
+use Rattle.sleep_base.specs.declared.errno.Errno.{Errno}
+use Rattle.sleep_model.specs.declared.word.EventNow.{EventNow}
+use Rattle.sleep_model.specs.declared.word.WordKind.{WordKind}
+use Rattle.sleep_model.specs.declared.word.WordKind.TheVariants as step
 use Rattle.sleep_model.specs.declared.entry.Actor.{Actor}
+use Rattle.sleep_model.specs.declared.entry.Actor.TheVariants as actor
 use Rattle.sleep_model.specs.declared.entry.Entry.{Entry}
+use Rattle.sleep_model.specs.declared.entry.FrozeEnd.{FrozeEnd}
+use Rattle.sleep_model.specs.declared.entry.FrozeEnd.TheVariants as froze
+use Rattle.sleep_model.specs.declared.entry.Group.TheVariants as group
 use Rattle.sleep_model.specs.declared.entry.Kind.{Kind}
 use Rattle.sleep_model.specs.declared.entry.Kind.TheVariants as kind
-use Rattle.sleep_model.specs.declared.entry.FrozeEnd.TheVariants as froze
+use Rattle.sleep_model.specs.declared.entry.SkipCause.{SkipCause}
 use Rattle.sleep_model.specs.declared.entry.SkipCause.TheVariants as skip
-use Rattle.sleep_model.specs.declared.machine.PlatDo.TheVariants as platform
+use Rattle.sleep_model.specs.declared.machine.Machine.{Machine}
+use Rattle.sleep_model.specs.declared.machine.Op.{Op}
+use Rattle.sleep_model.specs.declared.machine.Op.TheVariants as op
+use Rattle.sleep_model.specs.declared.machine.PlatDo.TheVariants as down
+use Rattle.sleep_model.specs.declared.machine.PlatUndo.{PlatUndo}
+use Rattle.sleep_model.specs.declared.machine.PlatUndo.TheVariants as undo
 use Rattle.sleep_model.specs.declared.machine.Script.{Script}
 use Rattle.sleep_model.specs.declared.phase.Phase.{Phase}
 use Rattle.sleep_model.specs.declared.phase.Phase.TheVariants as phase
-use Rattle.sleep_model.specs.declared.machine.Machine.{Machine}
-use Rattle.sleep_model.specs.declared.word.WordKind.{WordKind}
-use Rattle.sleep_model.specs.declared.word.WordKind.TheVariants as step
-use Rattle.sleep_model.specs.Guard.{CountPart, Finds, count_part, pending}
-use Rattle.sleep_model.specs.Numbers.{numbers, word_step}
-use Rattle.sleep_model.specs.Order.{is_among, below, above}
+use Rattle.sleep_model.specs.declared.place.Seat.{Seat}
+use Rattle.sleep_model.specs.declared.place.Stand.{Stand}
+use Rattle.sleep_model.specs.declared.place.Stand.TheVariants as stand
 use Rattle.sleep_model.specs.Attempt.{failed}
-use Rattle.sleep_model.specs.Devices.{gone_down, running, prepared_list}
-use Rattle.sleep_model.specs.Freezer.{is_asked, is_frozen}
-use Rattle.sleep_model.specs.Notifiers.{notified, asked_platform, cpus_off, irqs_off, stopped}
-use Rattle.sleep_model.specs.Path.{is_same}
-use Rattle.sleep_model.specs.Phases.{is_down, is_up, mirror, tests_wakeup}
-use Rattle.sleep_model.specs.Table.{is_good}
-
--- each of the devices is among those
-abbrev pub AllAmong : List ℕ → List ℕ → Type 0
-AllAmong those [] = Unit {0}
-AllAmong those (d ∷ ds) = (is_among those d ≡ true) × AllAmong those ds
-
--- none of the devices is among those
-abbrev pub NoneAmong : List ℕ → List ℕ → Type 0
-NoneAmong those [] = Unit {0}
-NoneAmong those (d ∷ ds) = (is_among those d ≡ false) × NoneAmong those ds
+use Rattle.sleep_model.specs.Autosleep.{Work, Resting, Reading, Saving, Attempting, Looking, Napping, Closing, work}
+use Rattle.sleep_model.specs.Devices.{AsyncWork, Idle, Given, Inside, callback, stand_in, async_work}
+use Rattle.sleep_model.specs.Freezer.{unasked, freezings, left}
+use Rattle.sleep_model.specs.Guard.{CountPart, Finds, count_part, pending}
+use Rattle.sleep_model.specs.Notifiers.{notified, asked_platform, cpus_off, other_cpus, irqs_off, stopped, syscore_parts}
+use Rattle.sleep_model.specs.Numbers.{numbers, word_step}
+use Rattle.sleep_model.specs.Order.{is_among, order, below, above}
+use Rattle.sleep_model.specs.Path.{maker, is_same, is_actor}
+use Rattle.sleep_model.specs.Phases.{is_phase, is_down, is_up, mirror, tests_wakeup}
+use Rattle.sleep_model.specs.Scripts.{entry_steps}
+use Rattle.sleep_model.specs.Seats.{seats, seat_at}
+use Rattle.sleep_model.specs.Stands.{stands, is_prepared, is_down_in, is_left_alone, is_settled_well, is_low}
 
 -- ---- devices
 
--- the devices that phases on the way down put down or left alone, after an entry (__device_suspend, direct_complete)
-abbrev pub passed_after : Kind → List ℕ → List ℕ
-passed_after (kind.Attempt n guarded) before = []
-passed_after (kind.Done p r) before = []
-passed_after (kind.End p d None) before = d ∷ before
-passed_after (kind.Skip p d skip.Direct) before = d ∷ before
-passed_after _ before = before
-
--- the devices whose callback answered 0, or that were left alone, in the phase that is open (power.completion)
-abbrev pub passed : List Entry → List ℕ
-passed [] = []
-passed (e ∷ past) = passed_after e.kind (passed past)
-
 -- a device begins to go down only where all below it are down in that phase, or were left alone (dpm_wait_for_subordinate)
 abbrev pub DependentsFirst : Machine → List Entry → Kind → Type 0
-DependentsFirst m past (kind.Begin p d) = is_down p ≡ true → AllAmong (passed past) (below m d)
+DependentsFirst m past (kind.Begin p d) =
+    is_down p ≡ true → list_all (λ e. is_settled_well (stand_in m past p e)) (below m d) ≡ true
 DependentsFirst m past _ = Unit {0}
 
 -- a device begins to come up only where none above it is still down in that phase, or inside a callback (dpm_wait_for_superior)
 abbrev pub SuppliersFirst : Machine → List Entry → Kind → Type 0
-SuppliersFirst m past (kind.Begin p d) = is_up p ≡ true → NoneAmong (gone_down (mirror p) past) (above m d) × NoneAmong (running past) (above m d)
+SuppliersFirst m past (kind.Begin p d) =
+    is_up p ≡ true → list_all (λ e. not (is_low (stand_in m past (mirror p) e))) (above m d) ≡ true
 SuppliersFirst m past _ = Unit {0}
 
 -- ---- what is owed
 
--- no task, from number i on, is asked to freeze, or frozen (thaw_processes)
-abbrev pub NoneFrozen : ℕ → List Script → List Entry → Type 0
-NoneFrozen i [] past = Unit {0}
-NoneFrozen i (s ∷ ss) past = (is_asked i s.kind past ≡ false) × (is_frozen i s.kind past ≡ false) × NoneFrozen (suc i) ss past
+-- the devices stand in no phase: none is prepared (dpm_complete)
+abbrev pub NoneStands : Machine → Phase → List Entry → Type 0
+NoneStands m p past = stands (length m.devices) p past ≡ replicate (length m.devices) stand.Unprepared
 
 -- all that an attempt did is undone (suspend_devices_and_enter, suspend_finish)
 pub record NothingOwed (m : Machine) (past : List Entry) : Type 0 where
   pub notifiers : notified past ≡ []
-  pub tasks : NoneFrozen 0 m.actors past
-  pub begun : asked_platform platform.Begin past ≡ false
-  pub prepared_platform : asked_platform platform.Prepare past ≡ false
-  pub prepared_late : asked_platform platform.PrepareLate past ≡ false
-  pub prepared : prepared_list past ≡ []
-  pub suspended : gone_down phase.Suspend past ≡ []
-  pub late : gone_down phase.Late past ≡ []
-  pub noirq : gone_down phase.Noirq past ≡ []
-  pub callbacks : running past ≡ []
+  pub tasks : freezings m.actors past ≡ map (λ s. unasked) m.actors
+  pub begun : asked_platform down.Begin past ≡ false
+  pub prepared : asked_platform down.Prepare past ≡ false
+  pub prepared_late : asked_platform down.PrepareLate past ≡ false
+  pub suspend : NoneStands m phase.Suspend past
+  pub late : NoneStands m phase.Late past
+  pub noirq : NoneStands m phase.Noirq past
+  pub callbacks : callback past ≡ None
   pub cpus : cpus_off past ≡ []
   pub irqs : irqs_off past ≡ false
   pub syscore : stopped past ≡ []
@@ -86,6 +80,55 @@ pub record NothingOwed (m : Machine) (past : List Entry) : Type 0 where
 abbrev pub Restored : Machine → List Entry → Kind → Type 0
 Restored m past (kind.Over n r) = NothingOwed m past
 Restored m past _ = Unit {0}
+
+-- a device that may come up: it is down, or down and given out (power.is_suspended)
+abbrev pub may_come_up : Stand → Bool
+may_come_up stand.Suspended = true
+may_come_up stand.Rescheduled = true
+may_come_up _ = false
+
+-- a step of the platform on the way up is owed: the end, the finish and the wake for the step that they undo (platform_resume_end, platform_resume_finish, platform_resume_noirq)
+abbrev pub is_owed_by : List Entry → PlatUndo → Bool
+is_owed_by past undo.Recover = true
+is_owed_by past undo.End = asked_platform down.Begin past
+is_owed_by past undo.Finish = asked_platform down.Prepare past
+is_owed_by past undo.Wake = asked_platform down.PrepareLate past
+
+-- an undo stands only for what is owed, so each stands once (device_resume, device_complete, suspend_finish)
+abbrev pub Owed : Machine → List Entry → Kind → Type 0
+Owed m past (kind.Begin p d) = is_up p ≡ true → may_come_up (stand_in m past (mirror p) d) ≡ true
+Owed m past (kind.Complete d) = is_prepared (stand_in m past phase.Suspend d) ≡ true
+Owed m past (kind.NotifyPost x) = is_among (notified past) x ≡ true
+Owed m past (kind.SyscoreResume x) = is_among (stopped past) x ≡ true
+Owed m past (kind.CpuOn k) = is_among (cpus_off past) k ≡ true
+Owed m past (kind.Irqs on) = on ≡ true → irqs_off past ≡ true
+Owed m past (kind.PlatformUndo step) = is_owed_by past step ≡ true
+Owed m past _ = Unit {0}
+
+-- ---- what is so where the machine enters sleep
+
+-- d is down through noirq, or was left alone (power.is_noirq_suspended, direct_complete)
+abbrev pub is_asleep : Machine → List Entry → ℕ → Bool
+is_asleep m past d = is_down_in (stand_in m past phase.Noirq d) || is_left_alone (stand_in m past phase.Suspend d)
+
+-- all is down that sleep wants down (suspend_enter)
+pub record AllDown (m : Machine) (past : List Entry) : Type 0 where
+  pub devices : list_all (is_asleep m past) (order m) ≡ true
+  pub user_tasks : left m group.User past ≡ []
+  pub kernel_tasks : left m group.Kernel past ≡ []
+  pub cpus : list_all (is_among (cpus_off past)) (other_cpus m) ≡ true
+  pub irqs : irqs_off past ≡ true
+  pub syscore : list_all (is_among (stopped past)) (syscore_parts m) ≡ true
+
+-- where that is not busy
+abbrev pub UnlessBusy : Bool → Type 0 → Type 0
+UnlessBusy true what = Unit {0}
+UnlessBusy false what = what
+
+-- the machine enters only where all is down (suspend_enter)
+abbrev pub EntersDown : Machine → List Entry → Kind → Type 0
+EntersDown m past (kind.Enter busy) = UnlessBusy busy (AllDown m past)
+EntersDown m past _ = Unit {0}
 
 -- ---- what disturbs an attempt
 
@@ -101,8 +144,25 @@ abbrev pub test_of : Phase → TestPart
 test_of p = if tests_wakeup p then Tests else Else
 
 -- a callback that answers an error on the way down fails the attempt (dpm_run_callback)
-abbrev pub fail_of : Phase → TestPart
-fail_of p = if is_down p then Fails else Else
+abbrev pub fail_of : Phase → Option Errno → TestPart
+fail_of p None = Else
+fail_of p (Some r) = if is_down p then Fails else Else
+
+-- an error fails the attempt (enter_state)
+abbrev pub fails_with : Option Errno → TestPart
+fails_with None = Else
+fails_with (Some r) = Fails
+
+-- a freeze that left tasks fails the attempt by its time, else its test found a wakeup (try_to_freeze_tasks)
+abbrev pub test_by : FrozeEnd → TestPart
+test_by froze.AllFrozen = Else
+test_by (froze.Timeout left first) = Fails
+test_by (froze.Wakeup left first) = Tests
+
+-- a device that is skipped by an error makes no test, another does where its phase has one (__device_suspend)
+abbrev pub test_unless : SkipCause → Phase → TestPart
+test_unless skip.Error p = Else
+test_unless cause p = test_of p
 
 -- an answer below 0 fails the attempt (device_prepare)
 abbrev pub fails_by : ℤ → TestPart
@@ -112,19 +172,17 @@ fails_by (negsuc n) = Fails
 -- a test stands at the end of a freeze by a wakeup, before each callback of suspend and late, before each processor, at the core's check and at the entering; an error of a callback or of a freeze fails the attempt (pm_wakeup_pending)
 abbrev pub test_part : Kind → TestPart
 test_part (kind.Attempt n guarded) = Opens
-test_part (kind.NotifyPrepare x (Some r)) = Fails
-test_part (kind.Froze g (froze.Timeout left first)) = Fails
-test_part (kind.Froze g (froze.Wakeup left first)) = Tests
-test_part (kind.PlatformDo step (Some r)) = Fails
+test_part (kind.NotifyPrepare x r) = fails_with r
+test_part (kind.Froze g end) = test_by end
+test_part (kind.PlatformDo step r) = fails_with r
 test_part (kind.Prepare d r) = fails_by r
 test_part (kind.Begin p d) = test_of p
-test_part (kind.End p d (Some r)) = fail_of p
-test_part (kind.Skip p d skip.Error) = Else
-test_part (kind.Skip p d cause) = test_of p
+test_part (kind.End p d r) = fail_of p r
+test_part (kind.Skip p d cause) = test_unless cause p
 test_part (kind.CpuOff k) = Tests
 test_part (kind.CpuBusy k) = Tests
 test_part (kind.SyscoreCheck r) = Tests
-test_part (kind.SyscoreSuspend x (Some r)) = Fails
+test_part (kind.SyscoreSuspend x r) = fails_with r
 test_part (kind.Enter busy) = Tests
 test_part _ = Else
 
@@ -143,7 +201,7 @@ disturbed (e ∷ past) = disturbed_after (test_part e.kind) (pending past e.now)
 -- whether the open attempt has entered, after an entry
 abbrev pub entered_after : Kind → Bool → Bool
 entered_after (kind.Attempt n guarded) before = false
-entered_after (kind.Enter false) before = true
+entered_after (kind.Enter busy) before = not busy || before
 entered_after _ before = before
 
 -- the open attempt has entered sleep
@@ -152,16 +210,182 @@ entered [] = false
 entered (e ∷ past) = entered_after e.kind (entered past)
 
 -- an attempt that nothing disturbed has entered, and answers 0 (suspend_enter)
-abbrev pub Enters : List Entry → Kind → Type 0
-Enters past (kind.Over n r) = disturbed past ≡ false → (entered past ≡ true) × (r ≡ None)
-Enters past _ = Unit {0}
+abbrev pub UndisturbedEnters : List Entry → Kind → Type 0
+UndisturbedEnters past (kind.Over n r) = disturbed past ≡ false → (entered past ≡ true) × (r ≡ None)
+UndisturbedEnters past _ = Unit {0}
 
 -- an attempt answers the error of the step that failed, and 0 exactly where it has entered (enter_state)
 abbrev pub AnswersFailure : List Entry → Kind → Type 0
-AnswersFailure past (kind.Over n r) = (r ≡ failed past) × (entered past ≡ is_good r)
+AnswersFailure past (kind.Over n r) = (r ≡ failed past) × (entered past ≡ is_none r)
 AnswersFailure past _ = Unit {0}
 
--- ---- the saved count
+-- a test that found a wakeup stands only where one is pending at the word that it saw (pm_wakeup_pending)
+abbrev pub FoundPending : List Entry → EventNow → CountPart → Type 0
+FoundPending past now Finds = pending past now ≡ true
+FoundPending past now _ = Unit {0}
+
+-- ---- each actor's steps, once and in order
+
+-- an entry of a read
+abbrev pub is_of_read : Kind → Bool
+is_of_read kind.ReadWait = true
+is_of_read (kind.Read c) = true
+is_of_read kind.ReadIntr = true
+is_of_read _ = false
+
+-- an entry of a save
+abbrev pub is_of_save : Kind → Bool
+is_of_save (kind.SaveWait c) = true
+is_of_save (kind.Saved c) = true
+is_of_save (kind.SaveErr c r) = true
+is_of_save _ = false
+
+-- an entry of a write to the state, whose attempt begins and ends inside it
+abbrev pub is_of_state : Kind → Bool
+is_of_state kind.StateWait = true
+is_of_state (kind.StateErr r) = true
+is_of_state kind.StateUnsaved = true
+is_of_state (kind.Attempt n guarded) = true
+is_of_state (kind.Over n r) = true
+is_of_state _ = false
+
+-- an entry of a write to autosleep
+abbrev pub is_of_autosleep : Kind → Bool
+is_of_autosleep kind.AutoBad = true
+is_of_autosleep (kind.AutoSet state) = true
+is_of_autosleep kind.AutoDone = true
+is_of_autosleep _ = false
+
+-- an entry of a sleep that can be frozen
+abbrev pub is_of_sleep : Kind → Bool
+is_of_sleep (kind.Sleep until) = true
+is_of_sleep kind.Slept = true
+is_of_sleep _ = false
+
+-- an entry of an uninterruptible sleep
+abbrev pub is_of_sleep_d : Kind → Bool
+is_of_sleep_d (kind.SleepD until) = true
+is_of_sleep_d kind.Slept = true
+is_of_sleep_d _ = false
+
+-- the end of a freeze point
+abbrev pub is_pass : Kind → Bool
+is_pass kind.Pass = true
+is_pass _ = false
+
+-- a post to that mark
+abbrev pub is_post_of : ℕ → Kind → Bool
+is_post_of mark (kind.Post other) = other == mark
+is_post_of mark _ = false
+
+-- the end of a wait for that mark
+abbrev pub is_got_of : ℕ → Kind → Bool
+is_got_of mark (kind.Got other) = other == mark
+is_got_of mark _ = false
+
+-- a request for a runtime status of that device
+abbrev pub is_runtime_of : ℕ → Kind → Bool
+is_runtime_of d (kind.RuntimeAsk e to_suspended r) = e == d
+is_runtime_of d _ = false
+
+-- an exit
+abbrev pub is_exit : Kind → Bool
+is_exit kind.Exit = true
+is_exit _ = false
+
+-- an entry of that operation, or of the exit behind the last
+abbrev pub is_of_op : Option Op → Kind → Bool
+is_of_op None k = is_exit k
+is_of_op (Some op.Read) k = is_of_read k
+is_of_op (Some (op.Save count)) k = is_of_save k
+is_of_op (Some (op.State text if_saved)) k = is_of_state k
+is_of_op (Some (op.Autosleep text)) k = is_of_autosleep k
+is_of_op (Some (op.Sleep ms)) k = is_of_sleep k
+is_of_op (Some (op.SleepD ms)) k = is_of_sleep_d k
+is_of_op (Some op.FreezePoint) k = is_pass k
+is_of_op (Some (op.Post mark)) k = is_post_of mark k
+is_of_op (Some (op.Wait mark)) k = is_got_of mark k
+is_of_op (Some (op.Runtime d to_suspended)) k = is_runtime_of d k
+is_of_op (Some _) k = false
+
+-- that a task freezes, which it may do between entries of its operations
+abbrev pub is_frozen_entry : Kind → Bool
+is_frozen_entry kind.Frozen = true
+is_frozen_entry _ = false
+
+-- the operations of script i that make entries (own)
+abbrev pub steps_of : Option Script → List Op
+steps_of None = []
+steps_of (Some s) = entry_steps s
+
+-- an entry of a script outside its attempts, whose place this is: it has not exited, and the entry is of the operation under way, or says that it freezes (own)
+abbrev pub is_step_entry : List Op → Seat → Kind → Bool
+is_step_entry ops seat k = not seat.exited && (is_of_op (slice_get ops seat.done) k || is_frozen_entry k)
+
+-- an entry of the autosleep work, where it stands so (try_to_suspend)
+abbrev pub is_work_entry : Work → Kind → Bool
+is_work_entry Resting kind.AutoRun = true
+is_work_entry Reading (kind.Read c) = true
+is_work_entry (Saving c) (kind.AutoSaved b) = b == c
+is_work_entry (Saving c) (kind.AutoUnsaved b) = b == c
+is_work_entry (Attempting c) (kind.Attempt n guarded) = true
+is_work_entry (Attempting c) kind.AutoOff = true
+is_work_entry (Looking c) (kind.AutoAfter seen) = true
+is_work_entry (Napping None) (kind.SleepD until) = true
+is_work_entry (Napping (Some until)) kind.Slept = true
+is_work_entry Closing kind.AutoAgain = true
+is_work_entry Closing kind.AutoOff = true
+is_work_entry _ _ = false
+
+-- an entry of device d that is given out: it begins or is skipped, in its phase (async_suspend, async_resume)
+abbrev pub is_of_given : ℕ → Phase → Kind → Bool
+is_of_given d p (kind.Begin q e) = e == d && is_phase q p
+is_of_given d p (kind.Skip q e cause) = e == d && is_phase q p
+is_of_given d p _ = false
+
+-- an entry of device d that is inside its callback: it ends (async_suspend, async_resume)
+abbrev pub is_of_inside : ℕ → Phase → Kind → Bool
+is_of_inside d p (kind.End q e r) = e == d && is_phase q p
+is_of_inside d p _ = false
+
+-- an entry of asynchronous device d, where its work stands so (async_schedule_dev)
+abbrev pub is_device_entry : ℕ → AsyncWork → Kind → Bool
+is_device_entry d Idle k = false
+is_device_entry d (Given p) k = is_of_given d p k
+is_device_entry d (Inside p) k = is_of_inside d p k
+
+-- an entry of an actor outside attempts of its own is of its own steps, once and in order (own)
+abbrev pub is_in_order : Machine → List Entry → Actor → Kind → Bool
+is_in_order m past (actor.Script i) k = is_step_entry (steps_of (slice_get m.actors i)) (seat_at (seats (length m.actors) past) i) k
+is_in_order m past actor.Auto k = is_work_entry (work past) k
+is_in_order m past (actor.Dev d) k = is_device_entry d (async_work m past d) k
+is_in_order m past _ k = false
+
+-- each actor's entries outside attempts of its own are its steps, once and in order; time makes the jumps (own)
+abbrev pub InOrder : Machine → List Entry → Actor → Kind → Type 0
+InOrder m past who kind.Jump = who ≡ actor.Time
+InOrder m past who k = is_actor who (maker past) ≡ false → is_in_order m past who k ≡ true
+
+-- ---- the laws of a journal
+
+-- the laws at an entry of the journal
+pub record LawsAt (m : Machine) (past : List Entry) (e : Entry) : Type 0 where
+  pub dependents_first : DependentsFirst m past e.kind
+  pub suppliers_first : SuppliersFirst m past e.kind
+  pub restored : Restored m past e.kind
+  pub owed : Owed m past e.kind
+  pub enters_down : EntersDown m past e.kind
+  pub undisturbed_enters : UndisturbedEnters past e.kind
+  pub answers_failure : AnswersFailure past e.kind
+  pub found_pending : FoundPending past e.now (count_part e.kind)
+  pub in_order : InOrder m past e.actor e.kind
+
+-- the laws at each of the journal's entries, the newest first
+abbrev pub Laws : Machine → List Entry → Type 0
+Laws m [] = Unit {0}
+Laws m (e ∷ past) = LawsAt m past e × Laws m past
+
+-- ---- the saved count, over all entries
 
 -- the count that guards the attempt, after an entry
 abbrev pub guard_after : Kind → Option ℕ → Option ℕ
@@ -190,7 +414,7 @@ later_answer step (Some a) = Some (record a { steps = with_step step a.steps })
 
 -- an actor's last answered read after an entry, which is its own or not
 abbrev pub answer_after : Kind → Bool → Option Answered → Option Answered
-answer_after (kind.Read c) true before = Some (record { count = c; steps = [] })
+answer_after (kind.Read c) own before = if own then Some (record { count = c; steps = [] }) else before
 answer_after k own before = later_answer (word_step k) before
 
 -- the last answered read of an actor (pm_get_wakeup_count)
@@ -220,27 +444,17 @@ finishes [] = 0
 finishes (step.Finish ∷ steps) = finishes steps + 1
 finishes (step ∷ steps) = finishes steps
 
--- an attempt under a saved count enters only where no step of the word stands since that count was read, and no event is in progress, if fewer events were registered meanwhile than the visible count tells apart (pm_save_wakeup_count, pm_wakeup_pending)
-abbrev pub SeesNothing : List Entry → Kind → Option ℕ → Type 0
-SeesNothing past (kind.Enter false) (Some c) = finishes (steps_since past) < 65536 → (steps_since past ≡ []) × ((numbers past).inpr ≡ 0)
-SeesNothing past _ _ = Unit {0}
+-- under that count no step of the word stands since it was read, and no event is in progress, if fewer events were registered meanwhile than the visible count tells apart (pm_wakeup_pending)
+abbrev pub SawNothing : List Entry → Option ℕ → Type 0
+SawNothing past None = Unit {0}
+SawNothing past (Some c) = finishes (steps_since past) < 65536 → (steps_since past ≡ []) × ((numbers past).inpr ≡ 0)
 
--- a test that found a wakeup stands only where one is pending (pm_wakeup_pending)
-abbrev pub FoundPending : List Entry → CountPart → Type 0
-FoundPending past Finds = pending past (numbers past) ≡ true
-FoundPending past _ = Unit {0}
+-- an attempt under a saved count enters only where nothing came since (pm_save_wakeup_count, pm_wakeup_pending)
+abbrev pub EntersUnseen : List Entry → Kind → Type 0
+EntersUnseen past (kind.Enter busy) = UnlessBusy busy (SawNothing past (guard_of past))
+EntersUnseen past _ = Unit {0}
 
--- the laws at an entry
-pub record LawsAt (m : Machine) (past : List Entry) (k : Kind) : Type 0 where
-  pub dependents_first : DependentsFirst m past k
-  pub suppliers_first : SuppliersFirst m past k
-  pub restored : Restored m past k
-  pub enters : Enters past k
-  pub answers_failure : AnswersFailure past k
-  pub sees_nothing : SeesNothing past k (guard_of past)
-  pub found : FoundPending past (count_part k)
-
--- the laws at each entry of a log
-abbrev pub Laws : Machine → List Entry → Type 0
-Laws m [] = Unit {0}
-Laws m (e ∷ past) = LawsAt m past e.kind × Laws m past
+-- so at each entry, the newest first
+abbrev pub GuardedSleep : List Entry → Type 0
+GuardedSleep [] = Unit {0}
+GuardedSleep (e ∷ past) = EntersUnseen past e.kind × GuardedSleep past

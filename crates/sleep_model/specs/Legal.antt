@@ -1,6 +1,7 @@
 -- Legal logs, in three parts: the journal's entries, the sources' entries, and what ties them together.
-use Rattle.std.specs.Prelude.{◌≡◌, ◌<◌, ◌+◌, ℕ, zero, suc, Bool, true, false, not, ◌&&◌, ◌||◌, List, [], ◌∷◌, length, map, min, reverse, if◌then◌else◌, Option, Some, None, is_none, is_some, slice_get}
+use Rattle.std.specs.Prelude.{◌≡◌, ◌<◌, ◌+◌, ℕ, zero, suc, Bool, true, false, not, ◌&&◌, ◌||◌, nat_lt, List, [], ◌∷◌, length, map, min, reverse, if◌then◌else◌, Option, Some, None, is_none, slice_get}
 use Rattle.std.specs.List.{range_with_len}
+use Rattle.sleep_model.specs.declared.word.EventNow.{EventNow}
 use Rattle.sleep_model.specs.declared.entry.Actor.{Actor}
 use Rattle.sleep_model.specs.declared.entry.Actor.TheVariants as actor
 use Rattle.sleep_model.specs.declared.entry.Entry.{Entry}
@@ -12,85 +13,74 @@ use Rattle.sleep_model.specs.declared.log.Stats.{Stats}
 use Rattle.sleep_model.specs.declared.log.Waiting.{Waiting}
 use Rattle.sleep_model.specs.declared.machine.Machine.{Machine}
 use Rattle.sleep_model.specs.declared.machine.Script.{Script}
+use Rattle.sleep_model.specs.declared.place.Freezing.{Freezing}
 use Rattle.sleep_model.specs.declared.place.Seat.{Seat}
 use Rattle.sleep_model.specs.declared.place.Due.{Due}
 use Rattle.sleep_model.specs.declared.place.Due.TheVariants.{Makes, Waits}
-use Rattle.sleep_model.specs.Attempt.{Sleep, sleep_of, sleeps_now, freezing, gives_up_at}
+use Rattle.sleep_model.specs.Attempt.{Sleep, sleep_of, sleeps_now, freeze_since, gives_up_at}
 use Rattle.sleep_model.specs.Autosleep.{naps_until, work}
-use Rattle.sleep_model.specs.Calls.{next_call, is_calling}
-use Rattle.sleep_model.specs.Due.{due}
-use Rattle.sleep_model.specs.Freezer.{is_frozen}
+use Rattle.sleep_model.specs.Calls.{calls_of, calls_due, made, is_calling}
+use Rattle.sleep_model.specs.Due.{due, all_gone}
+use Rattle.sleep_model.specs.Freezer.{freezing}
 use Rattle.sleep_model.specs.Numbers.{numbers, time_of}
-use Rattle.sleep_model.specs.Parts.{Part, OfJournal, Notes, Moves, OfTime, part_of}
-use Rattle.sleep_model.specs.Path.{maker}
-use Rattle.sleep_model.specs.Seats.{seats, all_exited}
-use Rattle.sleep_model.specs.Table.{Rows}
-use Rattle.sleep_model.specs.Tasks.{is_line, sleeps_until}
-use Rattle.sleep_model.specs.Sources.{history, expiry, has_expired, SourceStep, stats_at}
+use Rattle.sleep_model.specs.Parts.{Part, OfJournal, Notes, Moves, OfTime, part_of, journal}
+use Rattle.sleep_model.specs.Path.{maker, is_same}
+use Rattle.sleep_model.specs.Seats.{seats, seat_at}
+use Rattle.sleep_model.specs.Sources.{is_of, history, expiry, has_expired, SourceStep, stats_at}
+use Rattle.sleep_model.specs.Tasks.{is_line}
 
 -- ---- the journal part
 
--- a journal entry is what is due of its actor at the word that it carries, now; a jump raises the time
-abbrev pub JournalStep : Rows → Machine → List Entry → Entry → Part → Type 0
-JournalStep rows m past e OfJournal = (due rows m past e.actor e.now ≡ Makes e.kind) × (e.time ≡ time_of past)
-JournalStep rows m past e OfTime = time_of past < e.time
-JournalStep rows m past e _ = Unit {0}
+-- an entry of the journal is what is due of its actor at the word that it carries, now; a jump is made by time, and raises it
+abbrev pub JournalStep : Machine → List Entry → Entry → Part → Type 0
+JournalStep m past e OfJournal = (due m past e.actor e.now ≡ Makes e.kind) × (e.time ≡ time_of past)
+JournalStep m past e OfTime = (e.actor ≡ actor.Time) × (time_of past < e.time)
+JournalStep m past e _ = ⊥
 
--- each journal entry is legal where it stands
-abbrev pub JournalPart : Rows → Machine → List Entry → Type 0
-JournalPart rows m [] = Unit {0}
-JournalPart rows m (e ∷ past) = JournalStep rows m past e (part_of e.kind) × JournalPart rows m past
+-- each of the journal's entries, the newest first, is legal where it stands
+abbrev pub JournalPart : Machine → List Entry → Type 0
+JournalPart m [] = Unit {0}
+JournalPart m (e ∷ past) = JournalStep m past e (part_of e.kind) × JournalPart m past
 
 -- ---- the source part
 
--- an entry of a source is legal in the history of that source
-abbrev pub OwnStep : List Entry → Entry → Part → Type 0
-OwnStep past e (Notes s made) = SourceStep (history s past) e.time e.actor (Notes s made)
-OwnStep past e (Moves s step) = SourceStep (history s past) e.time e.actor (Moves s step)
-OwnStep past e _ = Unit {0}
+-- each of a source's entries, the newest first, is legal where it stands
+abbrev pub IsSource : List Entry → Type 0
+IsSource [] = Unit {0}
+IsSource (e ∷ own) = SourceStep own e.time e.actor (part_of e.kind) × IsSource own
 
--- each source's entries are legal
-abbrev pub SourcePart : List Entry → Type 0
-SourcePart [] = Unit {0}
-SourcePart (e ∷ past) = OwnStep past e (part_of e.kind) × SourcePart past
-
--- ---- who is enabled
+-- ---- who is enabled, by the journal, the sources' histories and the word
 
 -- an entry is due
 abbrev pub is_made : Due → Bool
 is_made (Makes k) = true
 is_made _ = false
 
--- an actor is enabled: it is inside a call, a call is its next step, or an entry of the journal is due of it
-abbrev pub is_enabled : Rows → Machine → List Entry → Actor → Bool
-is_enabled rows m past who = is_calling (length m.sources + 1) past who || is_some (next_call m past who) || is_made (due rows m past who (numbers past))
+-- an actor is enabled: it is inside a call, has a call to make, or an entry of the journal is due of it
+abbrev pub is_enabled : Machine → List Entry → (ℕ → List Entry) → EventNow → Actor → Bool
+is_enabled m past of now who =
+    is_calling (length m.sources + 1) of who || nat_lt (made (length m.sources + 1) of who) (calls_due m who past)
+    || is_made (due m past who now)
 
--- none of the first n scripts is enabled
-abbrev pub no_script_enabled : Rows → Machine → List Entry → ℕ → Bool
-no_script_enabled rows m past zero = true
-no_script_enabled rows m past (suc n) = not (is_enabled rows m past (actor.Script n)) && no_script_enabled rows m past n
-
--- none of the first n devices is enabled
-abbrev pub no_device_enabled : Rows → Machine → List Entry → ℕ → Bool
-no_device_enabled rows m past zero = true
-no_device_enabled rows m past (suc n) = not (is_enabled rows m past (actor.Dev n)) && no_device_enabled rows m past n
+-- none of the first n actors of a kind is enabled
+abbrev pub none_enabled : Machine → List Entry → (ℕ → List Entry) → EventNow → (ℕ → Actor) → ℕ → Bool
+none_enabled m past of now who zero = true
+none_enabled m past of now who (suc n) = not (is_enabled m past of now (who n)) && none_enabled m past of now who n
 
 -- none of the first n sources is to expire now: no timer is enabled
-abbrev pub none_expires : List Entry → ℕ → Bool
-none_expires past zero = true
-none_expires past (suc n) = not (has_expired (expiry (history n past)) (time_of past)) && none_expires past n
+abbrev pub none_expires : ℕ → (ℕ → List Entry) → ℕ → Bool
+none_expires zero of time = true
+none_expires (suc n) of time = not (has_expired (expiry (of n)) time) && none_expires n of time
 
 -- no actor is enabled: no script, not the autosleep work, no device, and no timer of a source
-abbrev pub is_idle : Rows → Machine → List Entry → Bool
-is_idle rows m past = no_script_enabled rows m past (length m.actors) && not (is_enabled rows m past actor.Auto) && no_device_enabled rows m past (length m.devices) && none_expires past (length m.sources + 1)
-
--- every script has made its exit
-abbrev pub all_gone : Machine → List Entry → Bool
-all_gone m past = all_exited (seats (length m.actors) past)
+abbrev pub is_idle : Machine → List Entry → (ℕ → List Entry) → EventNow → Bool
+is_idle m past of now =
+    none_enabled m past of now actor.Script (length m.actors) && not (is_enabled m past of now actor.Auto)
+    && none_enabled m past of now actor.Dev (length m.devices) && none_expires (length m.sources + 1) of (time_of past)
 
 -- every script has made its exit, no attempt is open, and no actor is enabled
-abbrev pub is_finished : Rows → Machine → List Entry → Bool
-is_finished rows m past = all_gone m past && is_none (maker past) && is_idle rows m past
+abbrev pub is_finished : Machine → List Entry → (ℕ → List Entry) → EventNow → Bool
+is_finished m past of now = all_gone m past && is_none (maker past) && is_idle m past of now
 
 -- ---- pending times
 
@@ -101,9 +91,9 @@ sooner (Some at) None = Some at
 sooner (Some at) (Some other) = Some (min at other)
 
 -- the least expiry of the first n sources (ws->timer_expires)
-abbrev pub next_expiry : List Entry → ℕ → Option ℕ
-next_expiry past zero = None
-next_expiry past (suc n) = sooner (expiry (history n past)) (next_expiry past n)
+abbrev pub next_expiry : ℕ → (ℕ → List Entry) → Option ℕ
+next_expiry zero of = None
+next_expiry (suc n) of = sooner (expiry (of n)) (next_expiry n of)
 
 -- the alarm of a machine that sleeps, in ms (rtcwake; own)
 abbrev pub alarm_at : Machine → Option Sleep → Option ℕ
@@ -115,15 +105,17 @@ abbrev pub deadline_at : Option ℕ → Option ℕ
 deadline_at None = None
 deadline_at (Some since) = Some (gives_up_at since)
 
--- the end of script i's sleep, where it is pending: not that of a frozen task, nor of a task while the machine sleeps (own)
-abbrev pub pending_sleep : List Entry → ℕ → Option Script → Option ℕ
-pending_sleep past i None = None
-pending_sleep past i (Some s) = if is_frozen i s.kind past || (sleeps_now past && not (is_line s.kind)) then None else sleeps_until i past
+-- the end of a script's sleep, where it is pending: not that of a frozen task, nor of a task while the machine sleeps (own)
+abbrev pub pending_sleep : Bool → Freezing → Option Script → Seat → Option ℕ
+pending_sleep asleep f None seat = None
+pending_sleep asleep f (Some s) seat = if f.frozen || (asleep && not (is_line s.kind)) then None else seat.until
 
 -- the least such end among the first n scripts (own)
 abbrev pub next_sleep : Machine → List Entry → ℕ → Option ℕ
 next_sleep m past zero = None
-next_sleep m past (suc n) = sooner (pending_sleep past n (slice_get m.actors n)) (next_sleep m past n)
+next_sleep m past (suc n) =
+    sooner (pending_sleep (sleeps_now past) (freezing m n past) (slice_get m.actors n) (seat_at (seats (length m.actors) past) n))
+        (next_sleep m past n)
 
 -- the end of the autosleep work's nap, where it is pending (own)
 abbrev pub pending_nap : List Entry → Option ℕ
@@ -131,47 +123,64 @@ pending_nap past = if sleeps_now past then None else naps_until (work past)
 
 -- the least pending time of the journal alone, in ms (own)
 abbrev pub journal_time : Machine → List Entry → Option ℕ
-journal_time m past = sooner (alarm_at m (sleep_of past)) (sooner (deadline_at (freezing past)) (sooner (pending_nap past) (next_sleep m past (length m.actors))))
+journal_time m past =
+    sooner (alarm_at m (sleep_of past))
+        (sooner (deadline_at (freeze_since past)) (sooner (pending_nap past) (next_sleep m past (length m.actors))))
 
 -- the least pending time, in ms (own)
-abbrev pub next_time : Machine → List Entry → Option ℕ
-next_time m past = sooner (journal_time m past) (next_expiry past (length m.sources + 1))
+abbrev pub next_time : Machine → List Entry → (ℕ → List Entry) → Option ℕ
+next_time m past of = sooner (journal_time m past) (next_expiry (length m.sources + 1) of)
 
 -- ---- the joint part
 
--- time jumps where no actor is enabled and the run is not over, to the least pending time
-pub record JumpStep (rows : Rows) (m : Machine) (past : List Entry) (e : Entry) : Type 0 where
-  pub by_time : e.actor ≡ actor.Time
-  pub idle : is_idle rows m past ≡ true
-  pub goes_on : is_finished rows m past ≡ false
-  pub least : next_time m past ≡ Some e.time
+-- time jumps to that moment where no actor is enabled and the run is not over: it is the least pending time
+pub record JumpStep (m : Machine) (past : List Entry) (of : ℕ → List Entry) (now : EventNow) (time : ℕ) : Type 0 where
+  pub idle : is_idle m past of now ≡ true
+  pub goes_on : is_finished m past of now ≡ false
+  pub least : next_time m past of ≡ Some time
 
--- an actor makes an entry of the journal where it is inside no call, and no call is its next step
-abbrev pub IsOwnTurn : Machine → List Entry → Actor → Type 0
-IsOwnTurn m past who = (is_calling (length m.sources + 1) past who ≡ false) × (next_call m past who ≡ None)
+-- an actor makes an entry of the journal where it has made the calls that come before it, and no more
+abbrev pub IsOwnTurn : Machine → List Entry → (ℕ → List Entry) → Actor → Type 0
+IsOwnTurn m past of who = made (length m.sources + 1) of who ≡ calls_due m who past
 
--- an actor makes a call where it is inside no other, and that call is its next step; a timer makes the expiry of its source
-abbrev pub IsOwnCall : Machine → List Entry → Actor → Kind → Type 0
-IsOwnCall m past (actor.Timer s) k = k ≡ Expire s
-IsOwnCall m past who k = (is_calling (length m.sources + 1) past who ≡ false) × (next_call m past who ≡ Some k)
+-- an actor's note is the next of its calls; a timer's is the expiry of its source
+abbrev pub IsOwnCall : Machine → List Entry → (ℕ → List Entry) → Actor → Kind → Type 0
+IsOwnCall m past of (actor.Timer s) k = k ≡ Expire s
+IsOwnCall m past of who k = slice_get (calls_of m who past) (made (length m.sources + 1) of who) ≡ Some k
 
--- an entry carries the numbers and the time of its place, and is its actor's next; a jump stands where it may
-abbrev pub JointStep : Rows → Machine → List Entry → Entry → Part → Type 0
-JointStep rows m past e OfJournal = (e.now ≡ numbers past) × IsOwnTurn m past e.actor
-JointStep rows m past e (Notes s made) = (e.now ≡ numbers past) × (e.time ≡ time_of past) × IsOwnCall m past e.actor e.kind
-JointStep rows m past e (Moves s step) = (e.now ≡ numbers past) × (e.time ≡ time_of past)
-JointStep rows m past e OfTime = (e.now ≡ numbers past) × JumpStep rows m past e
+-- the actor's last entry is of that source (own)
+abbrev pub is_behind : ℕ → Actor → List Entry → Bool
+is_behind s who [] = false
+is_behind s who (e ∷ past) = if is_same e.actor who then is_of s (part_of e.kind) else is_behind s who past
+
+-- an entry is the next of its actor: a step of the word stands right behind an entry of its source, and a jump stands where it may
+abbrev pub JointStep : Machine → List Entry → Entry → Part → Type 0
+JointStep m past e OfJournal = IsOwnTurn m (journal past) (λ s. history s past) e.actor
+JointStep m past e (Notes s call) = IsOwnCall m (journal past) (λ t. history t past) e.actor e.kind
+JointStep m past e (Moves s step) = is_behind s e.actor past ≡ true
+JointStep m past e OfTime = JumpStep m (journal past) (λ s. history s past) (numbers past) e.time
 
 -- the entries of all parts fit together
-abbrev pub JointPart : Rows → Machine → List Entry → Type 0
-JointPart rows m [] = Unit {0}
-JointPart rows m (e ∷ past) = JointStep rows m past e (part_of e.kind) × JointPart rows m past
+abbrev pub JointPart : Machine → List Entry → Type 0
+JointPart m [] = Unit {0}
+JointPart m (e ∷ past) = JointStep m past e (part_of e.kind) × JointPart m past
 
--- the entries so far, the newest first, are legal by these rows of the attempt's table
-pub record IsLegal (rows : Rows) (m : Machine) (past : List Entry) : Type 0 where
-  pub journal : JournalPart rows m past
-  pub sources : SourcePart past
-  pub joint : JointPart rows m past
+-- an entry carries the time of its place, unless it is a jump
+abbrev pub IsOnTime : List Entry → ℕ → Part → Type 0
+IsOnTime past time OfTime = Unit {0}
+IsOnTime past time _ = time ≡ time_of past
+
+-- each entry carries the numbers and the time of its place
+abbrev pub Placed : List Entry → Type 0
+Placed [] = Unit {0}
+Placed (e ∷ past) = (e.now ≡ numbers past) × IsOnTime past e.time (part_of e.kind) × Placed past
+
+-- the entries so far, the newest first, are legal
+pub record IsLegal (m : Machine) (past : List Entry) : Type 0 where
+  pub journal : JournalPart m (journal past)
+  pub sources : (s : ℕ) → IsSource (history s past)
+  pub placed : Placed past
+  pub joint : JointPart m past
 
 -- ---- whole logs
 
@@ -180,28 +189,41 @@ abbrev pub stats_of : Machine → List Entry → List Stats
 stats_of m past = map (λ s. stats_at (history s past) (time_of past)) (range_with_len 0 (length m.sources + 1))
 
 -- a legal log
-pub record IsLegalLog (rows : Rows) (m : Machine) (log : Log) : Type 0 where
-  pub legal : IsLegal rows m (reverse log.entries)
+pub record IsLegalLog (m : Machine) (log : Log) : Type 0 where
+  pub legal : IsLegal m (reverse log.entries)
   pub stats : log.stats ≡ stats_of m (reverse log.entries)
 
+-- after these entries the run is over, with nothing left to do
+abbrev pub is_finished_after : Machine → List Entry → Bool
+is_finished_after m past = is_finished m (journal past) (λ s. history s past) (numbers past)
+
 -- a log that is over, with nothing left to do
-pub record IsFinishedLog (rows : Rows) (m : Machine) (log : Log) : Type 0 where
+pub record IsFinishedLog (m : Machine) (log : Log) : Type 0 where
   pub says : log.end ≡ Finished
-  pub finished : is_finished rows m (reverse log.entries) ≡ true
+  pub finished : is_finished_after m (reverse log.entries) ≡ true
 
 -- a script that has not exited, with its cause of waiting, put before others
 abbrev pub put_waiting : Bool → ℕ → Due → List Waiting → List Waiting
 put_waiting false i (Waits why) others = record { actor = actor.Script i; why = why } ∷ others
-put_waiting exited i due others = others
+put_waiting exited i next others = others
 
 -- the scripts from number i on that have not exited, and why each waits
-abbrev pub waiting_from : Rows → Machine → List Entry → ℕ → List Seat → List Waiting
-waiting_from rows m past i [] = []
-waiting_from rows m past i (seat ∷ rest) = put_waiting seat.exited i (due rows m past (actor.Script i) (numbers past)) (waiting_from rows m past (suc i) rest)
+abbrev pub waiting_from : Machine → List Entry → EventNow → ℕ → List Seat → List Waiting
+waiting_from m past now i [] = []
+waiting_from m past now i (seat ∷ rest) =
+    put_waiting seat.exited i (due m past (actor.Script i) now) (waiting_from m past now (suc i) rest)
 
--- a log that goes no further: a script has not exited, nobody is enabled, and no time is pending
-pub record IsStuckLog (rows : Rows) (m : Machine) (log : Log) : Type 0 where
-  pub says : log.end ≡ Stuck (waiting_from rows m (reverse log.entries) 0 (seats (length m.actors) (reverse log.entries)))
-  pub left : all_gone m (reverse log.entries) ≡ false
-  pub idle : is_idle rows m (reverse log.entries) ≡ true
-  pub timeless : next_time m (reverse log.entries) ≡ None
+-- the scripts that have not exited, and why each waits
+abbrev pub waiting : Machine → List Entry → EventNow → List Waiting
+waiting m past now = waiting_from m past now 0 (seats (length m.actors) past)
+
+-- after these entries nobody goes on: a script has not exited, nobody is enabled, and no time is pending
+pub record IsStuckAfter (m : Machine) (past : List Entry) : Type 0 where
+  pub left : all_gone m (journal past) ≡ false
+  pub idle : is_idle m (journal past) (λ s. history s past) (numbers past) ≡ true
+  pub timeless : next_time m (journal past) (λ s. history s past) ≡ None
+
+-- a log that goes no further, and says for whom and why
+pub record IsStuckLog (m : Machine) (log : Log) : Type 0 where
+  pub says : log.end ≡ Stuck (waiting m (journal (reverse log.entries)) (numbers (reverse log.entries)))
+  pub stuck : IsStuckAfter m (reverse log.entries)

@@ -26,6 +26,7 @@ pub mod Runtime
 pub mod Scripts
 pub mod Seats
 pub mod Sources
+pub mod Stands
 pub mod Steps
 pub mod Table
 pub mod Tasks

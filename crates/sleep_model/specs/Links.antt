@@ -1,8 +1,12 @@
 -- Links that are added in turn, paths below, and orders that keep to both (drivers/base/core.c, device_link_add).
 use Rattle.std.specs.Prelude.{◌≡◌, ◌<◌, ℕ, Bool, true, false, not, ◌==◌, ◌&&◌, ◌||◌, List, [], ◌∷◌, length, filter, Option}
 use Rattle.sleep_model.specs.declared.machine.Link.{Link}
-use Rattle.sleep_model.specs.Laws.{AllAmong}
 use Rattle.sleep_model.specs.Order.{is_among, hanging, moved}
+
+-- each of the devices is among those
+abbrev pub AllAmong : List ℕ → List ℕ → Type 0
+AllAmong those [] = Unit {0}
+AllAmong those (d ∷ ds) = (is_among those d ≡ true) × AllAmong those ds
 
 -- each device stands once, and before all that hang right below it (dpm_list)
 abbrev pub IsOrder : (ℕ → List ℕ) → List ℕ → Type 0

@@ -15,21 +15,29 @@ use Rattle.sleep_model.specs.Word.{position}
 
 -- ---- the order
 
--- an actor's number: scripts, the autosleep work, devices, timers, time (own)
-abbrev pub actor_number : Machine → Actor → ℕ
-actor_number m (actor.Script i) = i
-actor_number m actor.Auto = length m.actors
-actor_number m (actor.Dev d) = length m.actors + 1 + d
-actor_number m (actor.Timer s) = length m.actors + 1 + length m.devices + s
-actor_number m actor.Time = length m.actors + 1 + length m.devices + length m.sources + 1
+-- an actor's place among the kinds of actors: scripts, the autosleep work, devices, timers, time (own)
+abbrev pub actor_rank : Actor → ℕ
+actor_rank (actor.Script i) = 0
+actor_rank actor.Auto = 1
+actor_rank (actor.Dev d) = 2
+actor_rank (actor.Timer s) = 3
+actor_rank actor.Time = 4
+
+-- an actor's number among its kind (own)
+abbrev pub actor_number : Actor → ℕ
+actor_number (actor.Script i) = i
+actor_number actor.Auto = 0
+actor_number (actor.Dev d) = d
+actor_number (actor.Timer s) = s
+actor_number actor.Time = 0
 
 -- an entry of a source, with its stamp, as one of the log
 abbrev pub of_source : SourceEntry → JournalEntry
 of_source e = record { stamp = e.stamp; entry = e.entry }
 
 -- a step on the word
-abbrev pub is_step : JournalEntry → Bool
-is_step e = is_some (word_step e.entry.kind)
+abbrev pub is_word_step : JournalEntry → Bool
+is_word_step e = is_some (word_step e.entry.kind)
 
 -- one number, then another where the first are equal
 abbrev pub before_or : ℕ → ℕ → Bool → Bool
@@ -37,33 +45,39 @@ before_or a b rest = nat_lt a b || ((a == b) && rest)
 
 -- 1 for a step on the word, else 0
 abbrev pub step_number : JournalEntry → ℕ
-step_number e = if is_step e then 1 else 0
+step_number e = if is_word_step e then 1 else 0
+
+-- one actor before another (own)
+abbrev pub is_actor_before : Actor → Actor → Bool
+is_actor_before a b = before_or (actor_rank a) (actor_rank b) (nat_lt (actor_number a) (actor_number b))
 
 -- x stands before y: by position, steps on the word after the others, then by tick, then by actor (own)
-abbrev pub stands_before : Machine → JournalEntry → JournalEntry → Bool
-stands_before m x y = before_or x.stamp.pos y.stamp.pos (before_or (step_number x) (step_number y) (before_or x.stamp.tick y.stamp.tick (nat_lt (actor_number m x.entry.actor) (actor_number m y.entry.actor))))
+abbrev pub stands_before : JournalEntry → JournalEntry → Bool
+stands_before x y =
+    before_or x.stamp.pos y.stamp.pos (before_or (step_number x) (step_number y)
+        (before_or x.stamp.tick y.stamp.tick (is_actor_before x.entry.actor y.entry.actor)))
 
 -- an entry put before the first that does not stand before it
-abbrev pub put_in_order : Machine → JournalEntry → List JournalEntry → List JournalEntry
-put_in_order m x [] = x ∷ []
-put_in_order m x (y ∷ ys) = if stands_before m y x then y ∷ put_in_order m x ys else x ∷ y ∷ ys
+abbrev pub put_in_order : JournalEntry → List JournalEntry → List JournalEntry
+put_in_order x [] = x ∷ []
+put_in_order x (y ∷ ys) = if stands_before y x then y ∷ put_in_order x ys else x ∷ y ∷ ys
 
 -- the entries in order
-abbrev pub in_order : Machine → List JournalEntry → List JournalEntry
-in_order m [] = []
-in_order m (x ∷ xs) = put_in_order m x (in_order m xs)
+abbrev pub in_order : List JournalEntry → List JournalEntry
+in_order [] = []
+in_order (x ∷ xs) = put_in_order x (in_order xs)
 
 -- all entries, the journal's first
 abbrev pub all_entries : List JournalEntry → List (List SourceEntry) → List JournalEntry
 all_entries journal histories = journal ++ flat_map (λ history. map of_source history) histories
 
 -- the one log, with its stamps
-abbrev pub stamped : Machine → List JournalEntry → List (List SourceEntry) → List JournalEntry
-stamped m journal histories = in_order m (all_entries journal histories)
+abbrev pub stamped : List JournalEntry → List (List SourceEntry) → List JournalEntry
+stamped journal histories = in_order (all_entries journal histories)
 
 -- the one log of a journal and the sources' histories
-abbrev pub merge : Machine → List JournalEntry → List (List SourceEntry) → List Entry
-merge m journal histories = map (λ e. e.entry) (stamped m journal histories)
+abbrev pub merge : List JournalEntry → List (List SourceEntry) → List Entry
+merge journal histories = map (λ e. e.entry) (stamped journal histories)
 
 -- ---- what fits
 
@@ -125,6 +139,6 @@ actors_of m = numbered actor.Script (length m.actors) ++ (actor.Auto ∷ []) ++ 
 pub record IsFit (m : Machine) (journal : List JournalEntry) (histories : List (List SourceEntry)) : Type 0 where
   pub journal_rises : rises journal ≡ true
   pub histories_rise : list_all (λ history. rises (map of_source history)) histories ≡ true
-  pub actors_rise : each_rises (actors_of m) (stamped m journal histories) ≡ true
-  pub chained : is_chained (record { inpr = 0; count = 0; hard = 0 }) (stamped m journal histories) ≡ true
-  pub timed : is_timed 0 0 0 (stamped m journal histories) ≡ true
+  pub actors_rise : each_rises (actors_of m) (stamped journal histories) ≡ true
+  pub chained : is_chained (record { inpr = 0; count = 0; hard = 0 }) (stamped journal histories) ≡ true
+  pub timed : is_timed 0 0 0 (stamped journal histories) ≡ true

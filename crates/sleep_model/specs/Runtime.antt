@@ -1,14 +1,20 @@
 -- The runtime status of devices, as far as sleep asks for it (drivers/base/power/runtime.c).
-use Rattle.std.specs.Prelude.{ℕ, Bool, true, false, ◌==◌, ◌||◌, ◌/◌, ◌%◌, List, [], ◌∷◌, pos, if◌then◌else◌, Option, Some, None}
+use Rattle.std.specs.Prelude.{ℕ, Bool, true, false, ◌==◌, ◌&&◌, ◌||◌, ◌/◌, ◌%◌, List, [], ◌∷◌, length, map, if◌then◌else◌, Option, Some, None, slice_set, slice_index_or}
 use Rattle.sleep_base.specs.declared.errno.Errno.{Errno}
 use Rattle.sleep_base.specs.declared.errno.Errno.TheVariants.{EACCES, EAGAIN}
 use Rattle.sleep_model.specs.declared.entry.Entry.{Entry}
 use Rattle.sleep_model.specs.declared.entry.Kind.{Kind}
-use Rattle.sleep_model.specs.declared.entry.Kind.TheVariants.{RuntimeAsk, Prepare, Complete, Begin, Skip, Done}
+use Rattle.sleep_model.specs.declared.entry.Kind.TheVariants.{RuntimeAsk, Begin, Skip, Done}
+use Rattle.sleep_model.specs.declared.entry.SkipCause.{SkipCause}
 use Rattle.sleep_model.specs.declared.entry.SkipCause.TheVariants.{Direct}
 use Rattle.sleep_model.specs.declared.flags.DeviceFlags.{DeviceFlags}
 use Rattle.sleep_model.specs.declared.machine.Device.{Device}
+use Rattle.sleep_model.specs.declared.machine.Machine.{Machine}
+use Rattle.sleep_model.specs.declared.phase.Phase.{Phase}
 use Rattle.sleep_model.specs.declared.phase.Phase.TheVariants as phase
+use Rattle.sleep_model.specs.Stands.{stands, stand_at, is_prepared, is_left_alone, is_taken}
+
+-- ---- what the file says of a device
 
 -- the file's flags: asynchronous, may wake the machine, runtime suspended at first (struct dev_pm_info)
 abbrev pub has_bit : ℕ → DeviceFlags → Bool
@@ -26,54 +32,88 @@ may_wake d = has_bit 2 d.flags
 abbrev pub starts_suspended : Device → Bool
 starts_suspended d = has_bit 4 d.flags
 
--- d is runtime suspended after an entry: a request that is answered 0 sets it (pm_runtime_set_status)
-abbrev pub status_after : ℕ → Kind → Bool → Bool
-status_after d (RuntimeAsk e to_suspended None) before = if e == d then to_suspended else before
-status_after d _ before = before
+-- ---- the status
 
--- d, which is so at first, is runtime suspended (pm_runtime_status_suspended)
-abbrev pub is_runtime_suspended : ℕ → Bool → List Entry → Bool
-is_runtime_suspended d at_first [] = at_first
-is_runtime_suspended d at_first (e ∷ past) = status_after d e.kind (is_runtime_suspended d at_first past)
+-- which devices are runtime suspended, after a request of that status that is answered so: 0 sets it (__pm_runtime_set_status)
+abbrev pub set_status : Option Errno → ℕ → Bool → List Bool → List Bool
+set_status None d to_suspended before = slice_set before d to_suspended
+set_status (Some r) d to_suspended before = before
 
--- d is prepared, after an entry: from a prepare that answers 0 or 1 to its complete (device_prepare, device_complete)
-abbrev pub prepared_after : ℕ → Kind → Bool → Bool
-prepared_after d (Prepare e (pos r)) before = if e == d then true else before
-prepared_after d (Complete e) before = if e == d then false else before
-prepared_after d _ before = before
+-- which devices are runtime suspended, after an entry (__pm_runtime_set_status)
+abbrev pub statuses_after : Kind → List Bool → List Bool
+statuses_after (RuntimeAsk d to_suspended r) before = set_status r d to_suspended before
+statuses_after _ before = before
+
+-- which of these devices are runtime suspended (power.runtime_status)
+abbrev pub statuses : List Device → List Entry → List Bool
+statuses devices [] = map starts_suspended devices
+statuses devices (e ∷ past) = statuses_after e.kind (statuses devices past)
+
+-- ---- the spans in which runtime PM is disabled
+
+-- a device is left alone by suspend, after a skip in that phase (__device_suspend, direct_complete)
+abbrev pub alone_by : Phase → SkipCause → Bool → Bool
+alone_by phase.Suspend Direct before = true
+alone_by p cause before = before
+
+-- the end of resume is the end of it (device_resume, pm_runtime_enable)
+abbrev pub alone_until : Phase → Bool → Bool
+alone_until phase.Resume before = false
+alone_until p before = before
+
+-- suspend has left a device alone, and resume is not done since, after an entry (__device_suspend, device_resume)
+abbrev pub leaves_alone_after : Kind → Bool → Bool
+leaves_alone_after (Skip p d cause) before = alone_by p cause before
+leaves_alone_after (Done p r) before = alone_until p before
+leaves_alone_after _ before = before
+
+-- suspend has left a device alone, and resume is not done since (__device_suspend, device_resume)
+abbrev pub leaves_alone : List Entry → Bool
+leaves_alone [] = false
+leaves_alone (e ∷ past) = leaves_alone_after e.kind (leaves_alone past)
+
+-- late has taken a device, after its begin or its skip in that phase (__device_suspend_late)
+abbrev pub late_by : Phase → Bool → Bool
+late_by phase.Late before = true
+late_by p before = before
+
+-- the end of early is the end of it (device_resume_early, pm_runtime_enable)
+abbrev pub late_until : Phase → Bool → Bool
+late_until phase.Early before = false
+late_until p before = before
+
+-- late has taken a device, and early is not done since, after an entry (__device_suspend_late, device_resume_early)
+abbrev pub takes_late_after : Kind → Bool → Bool
+takes_late_after (Begin p d) before = late_by p before
+takes_late_after (Skip p d cause) before = late_by p before
+takes_late_after (Done p r) before = late_until p before
+takes_late_after _ before = before
+
+-- late has taken a device, and early is not done since (__device_suspend_late, device_resume_early)
+abbrev pub takes_late : List Entry → Bool
+takes_late [] = false
+takes_late (e ∷ past) = takes_late_after e.kind (takes_late past)
+
+-- d was left alone in suspend, and resume is not done since: runtime PM of it is disabled (__device_suspend, pm_runtime_disable)
+abbrev pub is_off_direct : Machine → ℕ → List Entry → Bool
+is_off_direct m d past = leaves_alone past && is_left_alone (stand_at (stands (length m.devices) phase.Suspend past) d)
+
+-- d was taken by late, and early is not done since: runtime PM of it is disabled (__device_suspend_late, __pm_runtime_disable)
+abbrev pub is_off_late : Machine → ℕ → List Entry → Bool
+is_off_late m d past = takes_late past && is_taken (stand_at (stands (length m.devices) phase.Late past) d)
 
 -- d is prepared (power.is_prepared)
-abbrev pub is_prepared : ℕ → List Entry → Bool
-is_prepared d [] = false
-is_prepared d (e ∷ past) = prepared_after d e.kind (is_prepared d past)
+abbrev pub is_prepared_device : Machine → ℕ → List Entry → Bool
+is_prepared_device m d past = is_prepared (stand_at (stands (length m.devices) phase.Suspend past) d)
 
--- runtime PM of d is disabled as it was left alone in suspend, after an entry (__device_suspend, pm_runtime_disable)
-abbrev pub off_direct_after : ℕ → Kind → Bool → Bool
-off_direct_after d (Skip phase.Suspend e Direct) before = if e == d then true else before
-off_direct_after d (Done phase.Resume r) before = false
-off_direct_after d _ before = before
+-- ---- requests
 
--- runtime PM of d is disabled as it was left alone in suspend, up to the end of resume (device_resume, pm_runtime_enable)
-abbrev pub is_off_direct : ℕ → List Entry → Bool
-is_off_direct d [] = false
-is_off_direct d (e ∷ past) = off_direct_after d e.kind (is_off_direct d past)
-
--- runtime PM of d is disabled as late took it, after an entry (__device_suspend_late, __pm_runtime_disable)
-abbrev pub off_late_after : ℕ → Kind → Bool → Bool
-off_late_after d (Begin phase.Late e) before = if e == d then true else before
-off_late_after d (Skip phase.Late e cause) before = if e == d then true else before
-off_late_after d (Done phase.Early r) before = false
-off_late_after d _ before = before
-
--- runtime PM of d is disabled as late took it, up to the end of early (device_resume_early, pm_runtime_enable)
-abbrev pub is_off_late : ℕ → List Entry → Bool
-is_off_late d [] = false
-is_off_late d (e ∷ past) = off_late_after d e.kind (is_off_late d past)
-
--- what a request for a runtime status is answered: EACCES where it is disabled, EAGAIN where a prepared device is to be suspended (rpm_check_suspend_allowed)
+-- what a request for a runtime status is answered: EACCES where it is disabled, EAGAIN where a prepared device is to be suspended (__pm_runtime_set_status, rpm_check_suspend_allowed)
 abbrev pub runtime_answer : Bool → Bool → Bool → Option Errno
-runtime_answer disabled prepared to_suspended = if disabled then Some EACCES else if prepared then (if to_suspended then Some EAGAIN else None) else None
+runtime_answer disabled prepared to_suspended =
+    if disabled then Some EACCES else if prepared && to_suspended then Some EAGAIN else None
 
 -- what is answered for d at a place
-abbrev pub runtime_due : ℕ → Bool → List Entry → Option Errno
-runtime_due d to_suspended past = runtime_answer (is_off_direct d past || is_off_late d past) (is_prepared d past) to_suspended
+abbrev pub runtime_due : Machine → ℕ → Bool → List Entry → Option Errno
+runtime_due m d to_suspended past =
+    runtime_answer (is_off_direct m d past || is_off_late m d past) (is_prepared_device m d past) to_suspended

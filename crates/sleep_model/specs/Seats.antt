@@ -11,7 +11,9 @@ use Rattle.sleep_model.specs.declared.place.Seat.{Seat}
 -- what an entry of a script does to its place
 pub data SeatPart : Type 0 where
   Waits : SeatPart
+  Sleeps : (until : ℕ) → SeatPart
   Reads : (c : ℕ) → SeatPart
+  Saves : (ok : Bool) → SeatPart
   Steps : SeatPart
   Exits : SeatPart
   Stays : SeatPart
@@ -22,12 +24,12 @@ seat_part kind.ReadWait = Waits
 seat_part (kind.SaveWait c) = Waits
 seat_part kind.StateWait = Waits
 seat_part (kind.AutoSet state) = Waits
-seat_part (kind.Sleep until) = Waits
-seat_part (kind.SleepD until) = Waits
+seat_part (kind.Sleep until) = Sleeps until
+seat_part (kind.SleepD until) = Sleeps until
 seat_part (kind.Read c) = Reads c
 seat_part kind.ReadIntr = Steps
-seat_part (kind.Saved c) = Steps
-seat_part (kind.SaveErr c r) = Steps
+seat_part (kind.Saved c) = Saves true
+seat_part (kind.SaveErr c r) = Saves false
 seat_part (kind.StateErr r) = Steps
 seat_part kind.StateUnsaved = Steps
 seat_part (kind.Over n r) = Steps
@@ -43,19 +45,29 @@ seat_part _ = Stays
 
 -- a script at its first step
 abbrev pub first_seat : Seat
-first_seat = record { done = 0; waits = false; last_read = None; exited = false }
+first_seat = record { done = 0; waits = false; last_read = None; saved = false; until = None; exited = false }
+
+-- the step under way has ended: the next one has not begun
+abbrev pub next_step : Seat → Seat
+next_step s = record s { done = s.done + 1; waits = false; until = None }
 
 -- the place after that
 abbrev pub seat_after : SeatPart → Seat → Seat
 seat_after Waits s = record s { waits = true }
-seat_after (Reads c) s = record s { done = s.done + 1; waits = false; last_read = Some c }
-seat_after Steps s = record s { done = s.done + 1; waits = false }
+seat_after (Sleeps until) s = record s { waits = true; until = Some until }
+seat_after (Reads c) s = record (next_step s) { last_read = Some c }
+seat_after (Saves ok) s = record (next_step s) { saved = ok }
+seat_after Steps s = next_step s
 seat_after Exits s = record s { exited = true }
 seat_after Stays s = s
 
+-- a script's place among others
+abbrev pub seat_at : List Seat → ℕ → Seat
+seat_at seats i = slice_index_or seats i first_seat
+
 -- only a script's own entries move it
 abbrev pub seats_after : Actor → SeatPart → List Seat → List Seat
-seats_after (Script i) part seats = slice_set seats i (seat_after part (slice_index_or seats i first_seat))
+seats_after (Script i) part seats = slice_set seats i (seat_after part (seat_at seats i))
 seats_after _ part seats = seats
 
 -- the places of n scripts

@@ -1,5 +1,5 @@
 -- What a task does next at its operation (kernel/power/main.c, wakeup_count_store, state_store, autosleep_store).
-use Rattle.std.specs.Prelude.{ℕ, ◌+◌, Bool, not, ◌==◌, ◌&&◌, ◌||◌, nat_lt, nat_le, List, if◌then◌else◌, Option, Some, None, is_some, unwrap_or, slice_get}
+use Rattle.std.specs.Prelude.{ℕ, ◌+◌, Bool, not, ◌==◌, ◌&&◌, ◌||◌, nat_lt, nat_le, List, length, if◌then◌else◌, Option, Some, None, is_some, unwrap_or, slice_get}
 use Rattle.sleep_base.specs.declared.errno.Errno.TheVariants.{EINTR, EBUSY, EINVAL}
 use Rattle.sleep_model.specs.declared.word.EventNow.{EventNow}
 use Rattle.sleep_model.specs.declared.entry.Entry.{Entry}
@@ -11,17 +11,19 @@ use Rattle.sleep_model.specs.declared.machine.TaskKind.{TaskKind}
 use Rattle.sleep_model.specs.declared.machine.Op.{Op}
 use Rattle.sleep_model.specs.declared.machine.Op.TheVariants as op
 use Rattle.sleep_model.specs.declared.log.Why.TheVariants as why
+use Rattle.sleep_model.specs.declared.machine.Machine.{Machine}
+use Rattle.sleep_model.specs.declared.place.Freezing.{Freezing}
 use Rattle.sleep_model.specs.declared.place.Seat.{Seat}
+use Rattle.sleep_model.specs.Attempt.{sleeps_now}
 use Rattle.sleep_model.specs.declared.place.Due.{Due}
 use Rattle.sleep_model.specs.declared.place.Due.TheVariants.{Makes, Waits, Gone}
 use Rattle.sleep_model.specs.Word.{visible}
 use Rattle.sleep_model.specs.Numbers.{time_of}
-use Rattle.sleep_model.specs.Freezer.{is_asked, is_frozen}
 use Rattle.sleep_model.specs.Guard.{in_force}
 use Rattle.sleep_model.specs.Lock.{holder, is_on}
-use Rattle.sleep_model.specs.Marks.{raised}
+use Rattle.sleep_model.specs.Marks.{mark_at, raised}
 use Rattle.sleep_model.specs.Runtime.{runtime_due}
-use Rattle.sleep_model.specs.Tasks.{is_mem, is_off, has_saved, sleeps_until, is_line, is_user, freezes_at}
+use Rattle.sleep_model.specs.Tasks.{is_mem, is_off, is_line, is_user, freezes_at}
 use Rattle.sleep_model.specs.Path.{attempts}
 use Rattle.sleep_model.specs.Scripts.{entry_steps}
 
@@ -60,31 +62,49 @@ slept_due (Some until) time = if nat_le until time then Makes kind.Slept else Wa
 abbrev pub mark_due : ℕ → ℕ → Due
 mark_due mark number = if nat_lt 0 number then Makes (kind.Got mark) else Waits (why.Mark mark)
 
--- the next entry of script i at an operation, or its exit; a call on a source makes none (kernel/power/main.c, state_store, wakeup_count_store, autosleep_store)
-abbrev pub step_due : List Entry → EventNow → ℕ → Seat → Bool → Option Op → Due
-step_due past now i seat asked None = Makes kind.Exit
-step_due past now i seat asked (Some op.Read) = read_due now seat.waits asked
-step_due past now i seat asked (Some (op.Save None)) = count_due (is_some (holder past)) (is_on past) seat.waits asked now (unwrap_or seat.last_read 0)
-step_due past now i seat asked (Some (op.Save (Some c))) = count_due (is_some (holder past)) (is_on past) seat.waits asked now c
-step_due past now i seat asked (Some (op.State text if_saved)) =
-    if if_saved && not (has_saved i past) then Makes kind.StateUnsaved else state_due (is_some (holder past)) (is_on past) seat.waits asked (is_mem text) (kind.Attempt (attempts past + 1) (in_force past))
-step_due past now i seat asked (Some (op.Autosleep text)) = autosleep_due (is_some (holder past)) seat.waits (is_mem text) (is_off text)
-step_due past now i seat asked (Some (op.Sleep ms)) = if seat.waits then slept_due (sleeps_until i past) (time_of past) else Makes (kind.Sleep (time_of past + ms))
-step_due past now i seat asked (Some (op.SleepD ms)) = if seat.waits then slept_due (sleeps_until i past) (time_of past) else Makes (kind.SleepD (time_of past + ms))
-step_due past now i seat asked (Some op.FreezePoint) = Makes kind.Pass
-step_due past now i seat asked (Some (op.Post mark)) = Makes (kind.Post mark)
-step_due past now i seat asked (Some (op.Wait mark)) = mark_due mark (raised mark past)
-step_due past now i seat asked (Some (op.Runtime d to_suspended)) = Makes (kind.RuntimeAsk d to_suspended (runtime_due d to_suspended past))
-step_due past now i seat asked (Some _) = Gone
+-- a save of a number, or of the last read's, or of 0 (wakeup_count_store)
+abbrev pub saved_number : Option ℕ → Option ℕ → ℕ
+saved_number None last_read = unwrap_or last_read 0
+saved_number (Some c) last_read = c
+
+-- a write to the state whose step is cut short where the last save was not ok (own)
+abbrev pub unless_unsaved : Bool → Bool → Due → Due
+unless_unsaved if_saved saved due = if if_saved && not saved then Makes kind.StateUnsaved else due
+
+-- a sleep of so long that has begun or not (schedule_timeout)
+abbrev pub sleep_due : (ℕ → Kind) → ℕ → Seat → ℕ → Due
+sleep_due begins ms seat time = if seat.waits then slept_due seat.until time else Makes (begins (time + ms))
+
+-- the next entry of a script at an operation, or its exit; a call on a source makes none (kernel/power/main.c, state_store, wakeup_count_store, autosleep_store)
+abbrev pub step_due : Machine → List Entry → EventNow → Seat → Bool → Option Op → Due
+step_due m past now seat asked None = Makes kind.Exit
+step_due m past now seat asked (Some op.Read) = read_due now seat.waits asked
+step_due m past now seat asked (Some (op.Save count)) =
+    count_due (is_some (holder past)) (is_on past) seat.waits asked now (saved_number count seat.last_read)
+step_due m past now seat asked (Some (op.State text if_saved)) =
+    unless_unsaved if_saved seat.saved
+        (state_due (is_some (holder past)) (is_on past) seat.waits asked (is_mem text) (kind.Attempt (attempts past + 1) (in_force past)))
+step_due m past now seat asked (Some (op.Autosleep text)) =
+    autosleep_due (is_some (holder past)) seat.waits (is_mem text) (is_off text)
+step_due m past now seat asked (Some (op.Sleep ms)) = sleep_due kind.Sleep ms seat (time_of past)
+step_due m past now seat asked (Some (op.SleepD ms)) = sleep_due kind.SleepD ms seat (time_of past)
+step_due m past now seat asked (Some op.FreezePoint) = Makes kind.Pass
+step_due m past now seat asked (Some (op.Post mark)) = Makes (kind.Post mark)
+step_due m past now seat asked (Some (op.Wait mark)) = mark_due mark (mark_at (raised (length m.marks) past) mark)
+step_due m past now seat asked (Some (op.Runtime d to_suspended)) =
+    Makes (kind.RuntimeAsk d to_suspended (runtime_due m d to_suspended past))
+step_due m past now seat asked (Some _) = Gone
 
 -- a frozen task waits, and so does a task while the machine sleeps; one that is asked to freeze does so where it may (try_to_freeze)
-abbrev pub task_due : Bool → List Entry → EventNow → ℕ → TaskKind → Seat → Option Op → Due
-task_due asleep past now i kind' seat op =
-    if is_frozen i kind' past then Waits why.Frozen
-    else (if asleep && not (is_line kind') then Waits why.Asleep
-    else (if is_asked i kind' past && freezes_at (is_user kind') seat.waits op then Makes kind.Frozen else step_due past now i seat (is_asked i kind' past) op))
+abbrev pub task_due : Machine → List Entry → EventNow → Freezing → TaskKind → Seat → Option Op → Due
+task_due m past now f kind' seat op =
+    if f.frozen then Waits why.Frozen
+    else (if sleeps_now past && not (is_line kind') then Waits why.Asleep
+    else (if f.asked && freezes_at (is_user kind') seat.waits op then Makes kind.Frozen
+    else step_due m past now seat f.asked op))
 
 -- a script that has exited makes nothing more
-abbrev pub seat_due : Bool → List Entry → EventNow → ℕ → Option Script → Seat → Due
-seat_due asleep past now i None seat = Gone
-seat_due asleep past now i (Some s) seat = if seat.exited then Gone else task_due asleep past now i s.kind seat (slice_get (entry_steps s) seat.done)
+abbrev pub seat_due : Machine → List Entry → EventNow → Freezing → Option Script → Seat → Due
+seat_due m past now f None seat = Gone
+seat_due m past now f (Some s) seat =
+    if seat.exited then Gone else task_due m past now f s.kind seat (slice_get (entry_steps s) seat.done)

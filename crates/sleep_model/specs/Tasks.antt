@@ -1,14 +1,9 @@
 -- What a task at its operation may do, as far as the freezer, the lock and the clock have a say.
 use Rattle.std.specs.Prelude.{ℕ, Bool, true, false, not, ◌==◌, ◌&&◌, ◌||◌, List, [], ◌∷◌, codes, bytes_eq, if◌then◌else◌, Option, Some, None}
-use Rattle.sleep_model.specs.declared.entry.Actor.{Actor}
-use Rattle.sleep_model.specs.declared.entry.Entry.{Entry}
-use Rattle.sleep_model.specs.declared.entry.Kind.{Kind}
-use Rattle.sleep_model.specs.declared.entry.Kind.TheVariants.{Saved, SaveErr, Sleep, SleepD, Slept}
 use Rattle.sleep_model.specs.declared.machine.Op.{Op}
 use Rattle.sleep_model.specs.declared.machine.Op.TheVariants as op
 use Rattle.sleep_model.specs.declared.machine.TaskKind.{TaskKind}
 use Rattle.sleep_model.specs.declared.machine.TaskKind.TheVariants.{User, Irq}
-use Rattle.sleep_model.specs.Freezer.{is_task}
 
 -- ---- texts that are written
 
@@ -25,31 +20,6 @@ is_mem text = bytes_eq (first_line text) (codes "mem")
 abbrev pub is_off : List ℕ → Bool
 is_off text = bytes_eq text (codes "off") || bytes_eq text (codes "off\n")
 
--- ---- what a task's own entries left
-
--- whether script i's last save was ok, after an entry of that actor
-abbrev pub save_after : ℕ → Actor → Kind → Bool → Bool
-save_after i who (Saved c) before = if is_task i who then true else before
-save_after i who (SaveErr c r) before = if is_task i who then false else before
-save_after i who _ before = before
-
--- script i has saved, and its last save was ok (own)
-abbrev pub has_saved : ℕ → List Entry → Bool
-has_saved i [] = false
-has_saved i (e ∷ past) = save_after i e.actor e.kind (has_saved i past)
-
--- until when script i sleeps, after an entry of that actor
-abbrev pub until_after : ℕ → Actor → Kind → Option ℕ → Option ℕ
-until_after i who (Sleep t) before = if is_task i who then Some t else before
-until_after i who (SleepD t) before = if is_task i who then Some t else before
-until_after i who Slept before = if is_task i who then None else before
-until_after i who _ before = before
-
--- until when script i sleeps, in ms, if it does (schedule_timeout)
-abbrev pub sleeps_until : ℕ → List Entry → Option ℕ
-sleeps_until i [] = None
-sleeps_until i (e ∷ past) = until_after i e.actor e.kind (sleeps_until i past)
-
 -- ---- where a task stands
 
 -- an interrupt line, which goes on while the machine sleeps (own)
@@ -62,7 +32,7 @@ abbrev pub is_user : TaskKind → Bool
 is_user User = true
 is_user _ = false
 
--- where a task that is asked freezes: in a sleep that was begun, where it waits for a mark, and at a freeze point; a user's task at the beginning of each operation but an exit and a good write to autosleep (try_to_freeze, freezer_do_not_count)
+-- where a task that is asked freezes: in a sleep that was begun, where it waits for a mark, and at a freeze point; a user's task at the beginning of each operation but an exit and a good write to autosleep (try_to_freeze, get_signal)
 abbrev pub freezes_at : Bool → Bool → Option Op → Bool
 freezes_at user begun None = false
 freezes_at user begun (Some (op.Wait mark)) = true

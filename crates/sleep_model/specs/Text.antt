@@ -94,18 +94,6 @@ abbrev pub script_text : Option Script → List ℕ
 script_text None = []
 script_text (Some s) = script_word s.kind ++ s.name
 
--- who makes an entry
-abbrev pub actor_text : Machine → Actor → List ℕ
-actor_text m (actor.Script i) = script_text (slice_get m.actors i)
-actor_text m actor.Auto = codes "auto"
-actor_text m (actor.Dev d) = codes "dev:" ++ device_name (slice_get m.devices d)
-actor_text m (actor.Timer s) = codes "timer:" ++ name_in (slice_get m.sources s)
-actor_text m actor.Time = codes "time"
-
--- the name of the device with that number
-abbrev pub device : Machine → ℕ → List ℕ
-device m d = device_name (slice_get m.devices d)
-
 -- the names of the file's sources, autosleep last
 abbrev pub source_names : Machine → List (List ℕ)
 source_names m = m.sources ++ codes "autosleep" ∷ []
@@ -113,6 +101,18 @@ source_names m = m.sources ++ codes "autosleep" ∷ []
 -- the name of the source with that number
 abbrev pub source : Machine → ℕ → List ℕ
 source m s = name_in (slice_get (source_names m) s)
+
+-- who makes an entry
+abbrev pub actor_text : Machine → Actor → List ℕ
+actor_text m (actor.Script i) = script_text (slice_get m.actors i)
+actor_text m actor.Auto = codes "auto"
+actor_text m (actor.Dev d) = codes "dev:" ++ device_name (slice_get m.devices d)
+actor_text m (actor.Timer s) = codes "timer:" ++ source m s
+actor_text m actor.Time = codes "time"
+
+-- the name of the device with that number
+abbrev pub device : Machine → ℕ → List ℕ
+device m d = device_name (slice_get m.devices d)
 
 -- the notifier's name
 abbrev pub notifier_name : Option Notifier → List ℕ

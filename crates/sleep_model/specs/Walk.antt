@@ -1,10 +1,9 @@
 -- Searches among devices, in the order in which they stand (drivers/base/power/main.c, dpm_list).
-use Rattle.std.specs.Prelude.{ℕ, Bool, ◌==◌, List, [], ◌∷◌, if◌then◌else◌, Option, Some, None}
+use Rattle.std.specs.Prelude.{ℕ, Bool, not, ◌==◌, List, [], ◌∷◌, filter, if◌then◌else◌, Option, Some, None}
 
--- the devices without the first d (list_del)
+-- the numbers without d (list_del)
 abbrev pub without : ℕ → List ℕ → List ℕ
-without d [] = []
-without d (x ∷ xs) = if x == d then xs else x ∷ without d xs
+without d xs = filter (λ x. not (x == d)) xs
 
 -- the first that passes (list_first_entry)
 abbrev pub first_where : (ℕ → Bool) → List ℕ → Option ℕ

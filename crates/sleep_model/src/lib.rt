@@ -26,5 +26,5 @@ pub use machine::{
 };
 pub use name::{NAME_BYTES, Name};
 pub use phase::Phase;
-pub use place::{Due, Row, Seat};
+pub use place::{Due, Freezing, Seat, Stage, Stand};
 pub use word::{EventNow, Stamp, WordKind, WordStep, pos};

@@ -1,30 +1,101 @@
-use crate::entry::Kind;
+use crate::entry::{Group, Kind, Thaw};
 use crate::log::Why;
+use crate::machine::{PlatDo, PlatUndo};
+use crate::phase::Phase;
 
 /// Where a script stands: how many of its steps that make entries are made, and what it knows.
 #[derive(Clone, Copy)]
 pub struct Seat {
     pub done: usize,
-    /// The step under way has said that it waits.
+    /// The step under way has said that it waits, or has begun.
     pub waits: bool,
     /// The count that the task's last answered read gave.
     pub last_read: Option<u32>,
+    /// The task's last save was ok.
+    pub saved: bool,
+    /// Until when the script sleeps, in ms, if it does.
+    pub until: Option<u64>,
     pub exited: bool,
 }
 
-/// Where the path of the open attempt stands: the step that its maker is at
-/// (`kernel/power/suspend.c`, `enter_state` and `suspend_devices_and_enter`).
-#[derive(Clone, Copy)]
-pub enum Row {
-    /// No attempt is open.
-    Outside,
-    Suspend,
-    Enter,
-    /// The machine sleeps: the word's position and the time, in ms, at its entering.
-    Asleep { pos: u64, since: u64 },
-    Resume,
-    Clear,
-    Over,
+/// What the freezer has come to with a task (`kernel/freezer.c`, `freezing` and `frozen`).
+#[derive(Clone, Copy, PartialEq, Eq)]
+pub struct Freezing {
+    pub asked: bool,
+    pub frozen: bool,
+}
+
+/// Where a device stands in a pair of phases, the one on the way down and its mirror on the way up
+/// (`include/linux/pm.h`, `struct dev_pm_info`).
+#[derive(Clone, Copy, PartialEq, Eq)]
+pub enum Stand {
+    /// Not prepared (`power.is_prepared` is false).
+    Unprepared,
+    /// Prepared, and not yet taken by the phase (`power.is_prepared`).
+    Prepared,
+    /// Given out by the walk down, and not yet begun (`async_schedule_dev`, `async_suspend`).
+    Scheduled,
+    /// Inside its callback on the way down (`dpm_run_callback`).
+    Suspending,
+    /// Its callback failed, or it was skipped by an error or a wakeup (`power.completion` alone is done).
+    Failed,
+    /// Left alone (`power.direct_complete`).
+    Direct,
+    /// Its callback on the way down answered 0 (`power.is_suspended`, `is_late_suspended`,
+    /// `is_noirq_suspended`).
+    Suspended,
+    /// Given out by the walk up, and not yet begun (`async_schedule_dev`, `async_resume`).
+    Rescheduled,
+    /// Inside its callback on the way up (`dpm_run_callback`).
+    Resuming,
+    /// Its callback on the way up has ended.
+    Resumed,
+}
+
+/// A stage of an attempt: one row of its table (`kernel/power/suspend.c`, `enter_state`,
+/// `suspend_devices_and_enter` and `suspend_enter`).
+#[derive(Clone, Copy, PartialEq, Eq)]
+pub enum Stage {
+    /// Notifiers are told that the machine is to sleep (`PM_SUSPEND_PREPARE`).
+    Notifies,
+    /// A group of tasks is frozen (`freeze_processes`, `freeze_kernel_threads`).
+    Freezes(Group),
+    /// A step of the platform on the way down (`platform_suspend_begin` and its like).
+    Asks(PlatDo),
+    /// Devices are prepared (`dpm_prepare`).
+    Prepares,
+    /// A phase on the devices' way down (`dpm_suspend`, `dpm_suspend_late`, `dpm_suspend_noirq`).
+    Downs(Phase),
+    /// The other processors are stopped (`pm_sleep_disable_secondary_cpus`).
+    StopsCpus,
+    /// Interrupts are turned off (`arch_suspend_disable_irqs`).
+    StopsIrqs,
+    /// The core tests for a wakeup (`syscore_suspend`).
+    Checks,
+    /// The core's parts are suspended (`syscore_suspend`).
+    StopsSyscore,
+    /// The machine enters sleep, and wakes (`suspend_ops`, `enter`).
+    Enters,
+    /// The core's parts are resumed (`syscore_resume`).
+    StartsSyscore,
+    /// Interrupts are turned on (`arch_suspend_enable_irqs`).
+    StartsIrqs,
+    /// The other processors are started (`pm_sleep_enable_secondary_cpus`).
+    StartsCpus,
+    /// A step of the platform on the way up (`platform_resume_noirq` and its like).
+    Tells(PlatUndo),
+    /// A phase on the devices' way up (`dpm_resume_noirq`, `dpm_resume_early`, `dpm_resume`).
+    Ups(Phase),
+    /// Devices are completed (`dpm_complete`).
+    Completes,
+    /// The saved count is dropped (`enter_state`, `events_check_enabled`).
+    Clears,
+    /// Tasks are let go (`thaw_kernel_threads`, `thaw_processes`).
+    Thaws(Thaw),
+    /// Notifiers are told that it is over (`PM_POST_SUSPEND`).
+    Posts,
+    /// The attempt is over.
+    Ends,
 }
 
 /// What is due of an actor: the one entry that it can make, what it waits for, or nothing more.
