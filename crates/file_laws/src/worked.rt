@@ -1,6 +1,6 @@
 //! Files that are accepted, and the machines that they spell.
 
-ghost use Rattle.sleep_laws.specs.Worked as worked;
+ghost use Rattle.worked_logs.specs.Worked as worked;
 ghost use Rattle.machine_file.specs.Spelling.{ReadsBack};
 ghost use Rattle.file_laws.specs.Files.{Spells};
 ghost use Rattle.file_laws.specs.Worked.{bare, full};

@@ -12,8 +12,8 @@ use Rattle.sleep_model.specs.declared.machine.SourceCall.{SourceCall}
 use Rattle.sleep_model.specs.declared.machine.SourceCall.TheVariants as call
 use Rattle.sleep_model.specs.declared.machine.What.{What}
 use Rattle.sleep_model.specs.declared.machine.What.TheVariants.{Device, Syscore, Notifier, Platform}
-use Rattle.sleep_model.specs.declared.phase.Phase.{Phase}
-use Rattle.sleep_model.specs.declared.phase.Phase.TheVariants as phase
+use Rattle.phase_table.specs.declared.phase.Phase.{Phase}
+use Rattle.phase_table.specs.declared.phase.Phase.TheVariants as phase
 use Rattle.sleep_model.specs.Answers.{errors, is_for}
 use Rattle.sleep_model.specs.Text.{phase_name, down_word}
 use Rattle.machine_file.specs.Look.{is_number, is_text, text_at}

@@ -2,7 +2,7 @@
 use Rattle.std.specs.Prelude.{◌≡◌, ℕ, List, [], ◌∷◌}
 use Rattle.sleep_model.specs.declared.entry.Kind.{Kind}
 use Rattle.sleep_model.specs.declared.entry.Kind.TheVariants as kind
-use Rattle.sleep_model.specs.declared.phase.Phase.TheVariants as phase
+use Rattle.phase_table.specs.declared.phase.Phase.TheVariants as phase
 
 -- d comes first
 abbrev pub IsFirst : ℕ → List ℕ → Type 0

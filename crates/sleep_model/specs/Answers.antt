@@ -10,7 +10,7 @@ use Rattle.sleep_model.specs.declared.machine.PlatDo.TheVariants as down
 use Rattle.sleep_model.specs.declared.machine.Report.{Report}
 use Rattle.sleep_model.specs.declared.machine.What.{What}
 use Rattle.sleep_model.specs.declared.machine.What.TheVariants.{Device, Syscore, Notifier, Platform}
-use Rattle.sleep_model.specs.Phases.{is_phase}
+use Rattle.phase_table.specs.Phases.{is_phase}
 
 -- the same step of the platform (struct platform_suspend_ops)
 abbrev pub is_platform_step : PlatDo → PlatDo → Bool

@@ -1,5 +1,5 @@
 -- The phases of devices, with asynchronous ones, errors and devices that are left alone (drivers/base/power/main.c).
-use Rattle.std.specs.Prelude.{ℕ, Bool, true, false, not, ◌==◌, ◌&&◌, ◌||◌, List, [], ◌∷◌, ℤ, pos, negsuc, length, if◌then◌else◌, Option, Some, None, replicate, slice_get, slice_set, slice_index_or}
+use Rattle.std.specs.Prelude.{ℕ, Bool, true, false, not, ◌==◌, ◌&&◌, ◌||◌, List, [], ◌∷◌, ℤ, pos, negsuc, length, if◌then◌else◌, Option, Some, None, replicate, slice_get, slice_set}
 use Rattle.std.specs.List.{list_all}
 use Rattle.sleep_base.specs.declared.errno.Errno.{Errno}
 use Rattle.sleep_base.specs.declared.errno.Errno.TheVariants.{EBUSY}
@@ -15,8 +15,8 @@ use Rattle.sleep_model.specs.declared.log.Why.TheVariants as why
 use Rattle.sleep_model.specs.declared.machine.Device.{Device}
 use Rattle.sleep_model.specs.declared.machine.Machine.{Machine}
 use Rattle.sleep_model.specs.declared.machine.What.TheVariants as what
-use Rattle.sleep_model.specs.declared.phase.Phase.{Phase}
-use Rattle.sleep_model.specs.declared.phase.Phase.TheVariants as phase
+use Rattle.phase_table.specs.declared.phase.Phase.{Phase}
+use Rattle.phase_table.specs.declared.phase.Phase.TheVariants as phase
 use Rattle.sleep_model.specs.declared.place.Due.{Due}
 use Rattle.sleep_model.specs.declared.place.Due.TheVariants.{Makes, Waits}
 use Rattle.sleep_model.specs.declared.place.Stand.{Stand}
@@ -25,10 +25,10 @@ use Rattle.sleep_model.specs.Answers.{answer, answer_error, answer_number, error
 use Rattle.sleep_model.specs.Guard.{pending}
 use Rattle.sleep_model.specs.Order.{order, below, above}
 use Rattle.sleep_model.specs.Path.{attempts}
-use Rattle.sleep_model.specs.Phases.{is_down, mirror, tests_wakeup}
+use Rattle.phase_table.specs.Phases.{is_down, mirror, tests_wakeup}
 use Rattle.sleep_model.specs.Runtime.{is_async, may_wake, statuses}
 use Rattle.sleep_model.specs.Stands.{stands, stand_at, is_unprepared, is_prepared, is_ready, is_unsettled, is_going_down, is_down_in, is_left_alone, is_low}
-use Rattle.sleep_model.specs.Walk.{first_where, last_where, or_else}
+use Rattle.sleep_model.specs.Walk.{is_so, first_where, last_where, or_else}
 
 -- ---- callbacks
 
@@ -120,10 +120,6 @@ willing_after _ before = before
 abbrev pub willing : ℕ → List Entry → List Bool
 willing n [] = replicate n false
 willing n (e ∷ past) = willing_after e.kind (willing n past)
-
--- a list of answers to yes or no, at d
-abbrev pub is_so : List Bool → ℕ → Bool
-is_so those d = slice_index_or those d false
 
 -- what holds of a device, where there is one
 abbrev pub holds_of : (Device → Bool) → Option Device → Bool

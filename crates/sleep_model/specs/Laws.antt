@@ -22,8 +22,8 @@ use Rattle.sleep_model.specs.declared.machine.PlatDo.TheVariants as down
 use Rattle.sleep_model.specs.declared.machine.PlatUndo.{PlatUndo}
 use Rattle.sleep_model.specs.declared.machine.PlatUndo.TheVariants as undo
 use Rattle.sleep_model.specs.declared.machine.Script.{Script}
-use Rattle.sleep_model.specs.declared.phase.Phase.{Phase}
-use Rattle.sleep_model.specs.declared.phase.Phase.TheVariants as phase
+use Rattle.phase_table.specs.declared.phase.Phase.{Phase}
+use Rattle.phase_table.specs.declared.phase.Phase.TheVariants as phase
 use Rattle.sleep_model.specs.declared.place.Seat.{Seat}
 use Rattle.sleep_model.specs.declared.place.Stand.{Stand}
 use Rattle.sleep_model.specs.declared.place.Stand.TheVariants as stand
@@ -32,13 +32,14 @@ use Rattle.sleep_model.specs.Autosleep.{Work, Resting, Reading, Saving, Attempti
 use Rattle.sleep_model.specs.Devices.{AsyncWork, Idle, Given, Inside, callback, stand_in, async_work}
 use Rattle.sleep_model.specs.Freezer.{unasked, freezings, left}
 use Rattle.sleep_model.specs.Guard.{CountPart, Finds, count_part, pending}
-use Rattle.sleep_model.specs.Notifiers.{notified, asked_platform, cpus_off, other_cpus, irqs_off, stopped, syscore_parts}
+use Rattle.sleep_model.specs.Notifiers.{told, asked_platform, cpus_off, other_cpus, irqs_off, stopped, syscore_parts}
 use Rattle.sleep_model.specs.Numbers.{numbers, word_step}
-use Rattle.sleep_model.specs.Order.{is_among, order, below, above}
+use Rattle.sleep_model.specs.Order.{order, below, above}
 use Rattle.sleep_model.specs.Path.{maker, is_same, is_actor}
-use Rattle.sleep_model.specs.Phases.{is_phase, is_down, is_up, mirror, tests_wakeup}
+use Rattle.phase_table.specs.Phases.{is_phase, is_down, is_up, mirror, tests_wakeup}
 use Rattle.sleep_model.specs.Scripts.{entry_steps}
 use Rattle.sleep_model.specs.Seats.{seats, seat_at}
+use Rattle.sleep_model.specs.Walk.{is_so}
 use Rattle.sleep_model.specs.Stands.{stands, is_prepared, is_down_in, is_left_alone, is_settled_well, is_low}
 
 -- ---- devices
@@ -63,7 +64,7 @@ NoneStands m p past = stands (length m.devices) p past ≡ replicate (length m.d
 
 -- all that an attempt did is undone (suspend_devices_and_enter, suspend_finish)
 pub record NothingOwed (m : Machine) (past : List Entry) : Type 0 where
-  pub notifiers : notified past ≡ []
+  pub notifiers : told m past ≡ replicate (length m.notifiers) false
   pub tasks : freezings m.actors past ≡ map (λ s. unasked) m.actors
   pub begun : asked_platform down.Begin past ≡ false
   pub prepared : asked_platform down.Prepare past ≡ false
@@ -72,9 +73,9 @@ pub record NothingOwed (m : Machine) (past : List Entry) : Type 0 where
   pub late : NoneStands m phase.Late past
   pub noirq : NoneStands m phase.Noirq past
   pub callbacks : callback past ≡ None
-  pub cpus : cpus_off past ≡ []
+  pub cpus : cpus_off m.cpus past ≡ replicate m.cpus false
   pub irqs : irqs_off past ≡ false
-  pub syscore : stopped past ≡ []
+  pub syscore : stopped (length m.syscore) past ≡ replicate (length m.syscore) false
 
 -- where an attempt is over nothing is owed (suspend_devices_and_enter)
 abbrev pub Restored : Machine → List Entry → Kind → Type 0
@@ -98,9 +99,9 @@ is_owed_by past undo.Wake = asked_platform down.PrepareLate past
 abbrev pub Owed : Machine → List Entry → Kind → Type 0
 Owed m past (kind.Begin p d) = is_up p ≡ true → may_come_up (stand_in m past (mirror p) d) ≡ true
 Owed m past (kind.Complete d) = is_prepared (stand_in m past phase.Suspend d) ≡ true
-Owed m past (kind.NotifyPost x) = is_among (notified past) x ≡ true
-Owed m past (kind.SyscoreResume x) = is_among (stopped past) x ≡ true
-Owed m past (kind.CpuOn k) = is_among (cpus_off past) k ≡ true
+Owed m past (kind.NotifyPost x) = is_so (told m past) x ≡ true
+Owed m past (kind.SyscoreResume x) = is_so (stopped (length m.syscore) past) x ≡ true
+Owed m past (kind.CpuOn k) = is_so (cpus_off m.cpus past) k ≡ true
 Owed m past (kind.Irqs on) = on ≡ true → irqs_off past ≡ true
 Owed m past (kind.PlatformUndo step) = is_owed_by past step ≡ true
 Owed m past _ = Unit {0}
@@ -116,9 +117,9 @@ pub record AllDown (m : Machine) (past : List Entry) : Type 0 where
   pub devices : list_all (is_asleep m past) (order m) ≡ true
   pub user_tasks : left m group.User past ≡ []
   pub kernel_tasks : left m group.Kernel past ≡ []
-  pub cpus : list_all (is_among (cpus_off past)) (other_cpus m) ≡ true
+  pub cpus : list_all (is_so (cpus_off m.cpus past)) (other_cpus m) ≡ true
   pub irqs : irqs_off past ≡ true
-  pub syscore : list_all (is_among (stopped past)) (syscore_parts m) ≡ true
+  pub syscore : list_all (is_so (stopped (length m.syscore) past)) (syscore_parts m) ≡ true
 
 -- where that is not busy
 abbrev pub UnlessBusy : Bool → Type 0 → Type 0

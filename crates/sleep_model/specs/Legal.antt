@@ -44,10 +44,16 @@ JournalPart m (e ∷ past) = JournalStep m past e (part_of e.kind) × JournalPar
 
 -- ---- the source part
 
--- each of a source's entries, the newest first, is legal where it stands
-abbrev pub IsSource : List Entry → Type 0
-IsSource [] = Unit {0}
-IsSource (e ∷ own) = SourceStep own e.time e.actor (part_of e.kind) × IsSource own
+-- an entry of a source is legal in the history of that source
+abbrev pub OwnStep : List Entry → Entry → Part → Type 0
+OwnStep past e (Notes s call) = SourceStep (history s past) e.time e.actor (Notes s call)
+OwnStep past e (Moves s step) = SourceStep (history s past) e.time e.actor (Moves s step)
+OwnStep past e _ = Unit {0}
+
+-- each source's entries, the newest first, are legal where they stand
+abbrev pub SourcePart : List Entry → Type 0
+SourcePart [] = Unit {0}
+SourcePart (e ∷ past) = OwnStep past e (part_of e.kind) × SourcePart past
 
 -- ---- who is enabled, by the journal, the sources' histories and the word
 
@@ -115,7 +121,7 @@ abbrev pub next_sleep : Machine → List Entry → ℕ → Option ℕ
 next_sleep m past zero = None
 next_sleep m past (suc n) =
     sooner (pending_sleep (sleeps_now past) (freezing m n past) (slice_get m.actors n) (seat_at (seats (length m.actors) past) n))
-        (next_sleep m past n)
+    (next_sleep m past n)
 
 -- the end of the autosleep work's nap, where it is pending (own)
 abbrev pub pending_nap : List Entry → Option ℕ
@@ -125,7 +131,7 @@ pending_nap past = if sleeps_now past then None else naps_until (work past)
 abbrev pub journal_time : Machine → List Entry → Option ℕ
 journal_time m past =
     sooner (alarm_at m (sleep_of past))
-        (sooner (deadline_at (freeze_since past)) (sooner (pending_nap past) (next_sleep m past (length m.actors))))
+    (sooner (deadline_at (freeze_since past)) (sooner (pending_nap past) (next_sleep m past (length m.actors))))
 
 -- the least pending time, in ms (own)
 abbrev pub next_time : Machine → List Entry → (ℕ → List Entry) → Option ℕ
@@ -178,7 +184,7 @@ Placed (e ∷ past) = (e.now ≡ numbers past) × IsOnTime past e.time (part_of 
 -- the entries so far, the newest first, are legal
 pub record IsLegal (m : Machine) (past : List Entry) : Type 0 where
   pub journal : JournalPart m (journal past)
-  pub sources : (s : ℕ) → IsSource (history s past)
+  pub sources : SourcePart past
   pub placed : Placed past
   pub joint : JointPart m past
 

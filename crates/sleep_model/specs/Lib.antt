@@ -20,7 +20,6 @@ pub mod Numbers
 pub mod Order
 pub mod Parts
 pub mod Path
-pub mod Phases
 pub mod Places
 pub mod Runtime
 pub mod Scripts

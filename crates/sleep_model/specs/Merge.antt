@@ -55,7 +55,7 @@ is_actor_before a b = before_or (actor_rank a) (actor_rank b) (nat_lt (actor_num
 abbrev pub stands_before : JournalEntry → JournalEntry → Bool
 stands_before x y =
     before_or x.stamp.pos y.stamp.pos (before_or (step_number x) (step_number y)
-        (before_or x.stamp.tick y.stamp.tick (is_actor_before x.entry.actor y.entry.actor)))
+    (before_or x.stamp.tick y.stamp.tick (is_actor_before x.entry.actor y.entry.actor)))
 
 -- an entry put before the first that does not stand before it
 abbrev pub put_in_order : JournalEntry → List JournalEntry → List JournalEntry

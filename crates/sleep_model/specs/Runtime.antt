@@ -10,8 +10,8 @@ use Rattle.sleep_model.specs.declared.entry.SkipCause.TheVariants.{Direct}
 use Rattle.sleep_model.specs.declared.flags.DeviceFlags.{DeviceFlags}
 use Rattle.sleep_model.specs.declared.machine.Device.{Device}
 use Rattle.sleep_model.specs.declared.machine.Machine.{Machine}
-use Rattle.sleep_model.specs.declared.phase.Phase.{Phase}
-use Rattle.sleep_model.specs.declared.phase.Phase.TheVariants as phase
+use Rattle.phase_table.specs.declared.phase.Phase.{Phase}
+use Rattle.phase_table.specs.declared.phase.Phase.TheVariants as phase
 use Rattle.sleep_model.specs.Stands.{stands, stand_at, is_prepared, is_left_alone, is_taken}
 
 -- ---- what the file says of a device

@@ -83,7 +83,7 @@ step_due m past now seat asked (Some (op.Save count)) =
     count_due (is_some (holder past)) (is_on past) seat.waits asked now (saved_number count seat.last_read)
 step_due m past now seat asked (Some (op.State text if_saved)) =
     unless_unsaved if_saved seat.saved
-        (state_due (is_some (holder past)) (is_on past) seat.waits asked (is_mem text) (kind.Attempt (attempts past + 1) (in_force past)))
+    (state_due (is_some (holder past)) (is_on past) seat.waits asked (is_mem text) (kind.Attempt (attempts past + 1) (in_force past)))
 step_due m past now seat asked (Some (op.Autosleep text)) =
     autosleep_due (is_some (holder past)) seat.waits (is_mem text) (is_off text)
 step_due m past now seat asked (Some (op.Sleep ms)) = sleep_due kind.Sleep ms seat (time_of past)

@@ -14,8 +14,8 @@ use Rattle.sleep_model.specs.declared.machine.PlatDo.{PlatDo}
 use Rattle.sleep_model.specs.declared.machine.PlatDo.TheVariants as down
 use Rattle.sleep_model.specs.declared.machine.PlatUndo.{PlatUndo}
 use Rattle.sleep_model.specs.declared.machine.PlatUndo.TheVariants as undo
-use Rattle.sleep_model.specs.declared.phase.Phase.{Phase}
-use Rattle.sleep_model.specs.declared.phase.Phase.TheVariants as phase
+use Rattle.phase_table.specs.declared.phase.Phase.{Phase}
+use Rattle.phase_table.specs.declared.phase.Phase.TheVariants as phase
 use Rattle.sleep_model.specs.declared.place.Stage.{Stage}
 use Rattle.sleep_model.specs.declared.place.Stage.TheVariants as stage
 

@@ -10,8 +10,6 @@ use Rattle.sleep_model.specs.declared.entry.Kind.{Kind}
 use Rattle.sleep_model.specs.declared.entry.Kind.TheVariants as kind
 use Rattle.sleep_model.specs.declared.entry.SkipCause.{SkipCause}
 use Rattle.sleep_model.specs.declared.entry.SkipCause.TheVariants as cause
-use Rattle.sleep_model.specs.declared.phase.Phase.{Phase}
-use Rattle.sleep_model.specs.declared.phase.Phase.TheVariants as phase
 use Rattle.sleep_model.specs.declared.entry.FrozeEnd.{FrozeEnd}
 use Rattle.sleep_model.specs.declared.entry.FrozeEnd.TheVariants.{AllFrozen, Timeout, Wakeup}
 use Rattle.sleep_model.specs.declared.entry.Group.{Group}
@@ -36,6 +34,7 @@ use Rattle.sleep_model.specs.declared.log.Stats.{Stats}
 use Rattle.sleep_model.specs.declared.log.Waiting.{Waiting}
 use Rattle.sleep_model.specs.declared.log.Why.{Why}
 use Rattle.sleep_model.specs.declared.log.Why.TheVariants.{InProgress, Mark}
+use Rattle.phase_table.specs.Phases.{phase_name}
 
 -- a space
 abbrev pub space : List ℕ
@@ -59,19 +58,6 @@ device_name (Some d) = d.name
 abbrev pub answer_text : Option Errno → List ℕ
 answer_text None = codes "0"
 answer_text (Some r) = name_of r
-
--- the phase's name
-abbrev pub phase_name : Phase → List ℕ
-phase_name phase.Prepare = codes "prepare"
-phase_name phase.Suspend = codes "suspend"
-phase_name phase.Late = codes "late"
-phase_name phase.Noirq = codes "noirq"
-phase_name phase.Syscore = codes "syscore"
-phase_name phase.SyscoreResume = codes "syscore_resume"
-phase_name phase.ResumeNoirq = codes "resume_noirq"
-phase_name phase.Early = codes "early"
-phase_name phase.Resume = codes "resume"
-phase_name phase.Complete = codes "complete"
 
 -- why a device was skipped
 abbrev pub cause_text : SkipCause → List ℕ

@@ -1,9 +1,9 @@
--- Searches among devices, in the order in which they stand (drivers/base/power/main.c, dpm_list).
-use Rattle.std.specs.Prelude.{ℕ, Bool, not, ◌==◌, List, [], ◌∷◌, filter, if◌then◌else◌, Option, Some, None}
+-- Flags by number, and searches among devices in the order in which they stand (drivers/base/power/main.c, dpm_list).
+use Rattle.std.specs.Prelude.{ℕ, Bool, false, List, [], ◌∷◌, if◌then◌else◌, Option, Some, None, slice_index_or}
 
--- the numbers without d (list_del)
-abbrev pub without : ℕ → List ℕ → List ℕ
-without d xs = filter (λ x. not (x == d)) xs
+-- the flag at that number
+abbrev pub is_so : List Bool → ℕ → Bool
+is_so flags x = slice_index_or flags x false
 
 -- the first that passes (list_first_entry)
 abbrev pub first_where : (ℕ → Bool) → List ℕ → Option ℕ

@@ -1,7 +1,7 @@
 use crate::list::ListOf;
 use crate::machine::{PlatDo, PlatUndo};
-use crate::phase::Phase;
 use crate::word::{EventNow, Stamp};
+use phase_table::Phase;
 use sleep_base::Errno;
 
 /// Who makes an entry. Its number is its place in the order scripts, autosleep work, devices,

@@ -7,7 +7,6 @@ mod list;
 mod log;
 mod machine;
 mod name;
-mod phase;
 mod place;
 #[cfg(test)]
 mod tests;
@@ -25,6 +24,6 @@ pub use machine::{
     SourceCall, Step, TaskKind, Text, What,
 };
 pub use name::{NAME_BYTES, Name};
-pub use phase::Phase;
+pub use phase_table::Phase;
 pub use place::{Due, Freezing, Seat, Stage, Stand};
 pub use word::{EventNow, Stamp, WordKind, WordStep, pos};

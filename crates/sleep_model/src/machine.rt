@@ -1,7 +1,7 @@
 use crate::flags::DeviceFlags;
 use crate::list::ListOf;
 use crate::name::Name;
-use crate::phase::Phase;
+use phase_table::Phase;
 
 /// A text that a task writes, at most 32 bytes.
 pub type Text = ListOf<u8>;

@@ -1,7 +1,7 @@
 use crate::entry::{Group, Kind, Thaw};
 use crate::log::Why;
 use crate::machine::{PlatDo, PlatUndo};
-use crate::phase::Phase;
+use phase_table::Phase;
 
 /// Where a script stands: how many of its steps that make entries are made, and what it knows.
 #[derive(Clone, Copy)]
