@@ -1,5 +1,5 @@
 -- Long logs: what a log's places give is computed as a list, and compared with what its entries say.
-use Rattle.std.proofs.Common.{arith, ◌≡◌, sym, ap, subst, ◌+◌, ℕ, zero, suc, Bool, true, false, nat_lt, List, [], ◌∷◌, length, Option, Some, None, unwrap_or}
+use Rattle.std.proofs.Common.{arith, ◌≡◌, sym, ap, subst, ◌+◌, ℕ, zero, suc, Bool, true, false, nat_lt, List, [], ◌∷◌, length, Option, Some, None, unwrap_or, slice_get}
 use Rattle.std.proofs.lemmas.Bool.Decides.{nat_tests}
 use Rattle.sleep_model.specs.declared.entry.Actor.{Actor}
 use Rattle.sleep_model.specs.declared.entry.Actor.TheVariants as actor
@@ -12,13 +12,12 @@ use Rattle.sleep_model.specs.declared.place.Due.{Due}
 use Rattle.sleep_model.specs.declared.place.Due.TheVariants.{Makes, Gone}
 use Rattle.sleep_model.specs.declared.word.EventNow.{EventNow}
 use Rattle.sleep_model.specs.declared.word.WordKind.{WordKind}
-use Rattle.sleep_model.specs.Calls.{next_call, is_calling}
+use Rattle.sleep_model.specs.Calls.{calls_of, calls_due, made}
 use Rattle.sleep_model.specs.Due.{due}
-use Rattle.sleep_model.specs.Legal.{JournalStep, JournalPart, OwnStep, SourcePart, IsOwnCall, JointStep, JointPart, is_idle, is_finished, next_time}
+use Rattle.sleep_model.specs.Legal.{JournalStep, JournalPart, OwnStep, SourcePart, IsOwnCall, is_behind, JointStep, JointPart, IsOnTime, Placed, is_idle, is_finished, next_time}
 use Rattle.sleep_model.specs.Numbers.{numbers, time_of}
-use Rattle.sleep_model.specs.Parts.{Part, OfJournal, Notes, Moves, OfTime, part_of}
+use Rattle.sleep_model.specs.Parts.{Part, OfJournal, Notes, Moves, OfTime, part_of, journal}
 use Rattle.sleep_model.specs.Sources.{history, owed, caller, expiry, has_expired, IsNext, SourceStep}
-use Rattle.sleep_model.specs.Table.{Rows}
 
 -- ---- lists
 
@@ -42,41 +41,41 @@ tail_same x y xs ys same = ap rest_of same
 
 -- ---- the journal
 
--- what a place gives of the journal: the entry that is due, the time, and that the time is raised
-abbrev pub journal_given : Rows → Machine → List Entry → Entry → Part → Due × ℕ × Bool
-journal_given rows m past e OfJournal = (due rows m past e.actor e.now, time_of past, true)
-journal_given rows m past e OfTime = (Gone, 0, nat_lt (time_of past) e.time)
-journal_given rows m past e _ = (Gone, 0, true)
+-- what a place gives of the journal: the entry that is due, its maker, the time, and that the time is raised
+abbrev pub journal_given : Machine → List Entry → Entry → Part → Due × Actor × ℕ × Bool
+journal_given m past e OfJournal = (due m past e.actor e.now, actor.Time, time_of past, true)
+journal_given m past e OfTime = (Gone, e.actor, 0, nat_lt (time_of past) e.time)
+journal_given m past e _ = (Gone, actor.Time, 0, false)
 
 -- what the entry says of it
-abbrev pub journal_said : Entry → Part → Due × ℕ × Bool
-journal_said e OfJournal = (Makes e.kind, e.time, true)
-journal_said e _ = (Gone, 0, true)
+abbrev pub journal_said : Entry → Part → Due × Actor × ℕ × Bool
+journal_said e OfJournal = (Makes e.kind, actor.Time, e.time, true)
+journal_said e _ = (Gone, actor.Time, 0, true)
 
 -- what each place gives, the newest first
-abbrev pub all_journal_given : Rows → Machine → List Entry → List (Due × ℕ × Bool)
-all_journal_given rows m [] = []
-all_journal_given rows m (e ∷ past) = journal_given rows m past e (part_of e.kind) ∷ all_journal_given rows m past
+abbrev pub all_journal_given : Machine → List Entry → List (Due × Actor × ℕ × Bool)
+all_journal_given m [] = []
+all_journal_given m (e ∷ past) = journal_given m past e (part_of e.kind) ∷ all_journal_given m past
 
 -- what each entry says
-abbrev pub all_journal_said : List Entry → List (Due × ℕ × Bool)
+abbrev pub all_journal_said : List Entry → List (Due × Actor × ℕ × Bool)
 all_journal_said [] = []
 all_journal_said (e ∷ past) = journal_said e (part_of e.kind) ∷ all_journal_said past
 
-journal_step : (rows : Rows) (m : Machine) (past : List Entry) (e : Entry) (part : Part) → journal_given rows m past e part ≡ journal_said e part → JournalStep rows m past e part
-journal_step rows m past e OfJournal same = (ap (λ x. x.0) same, sym (ap (λ x. x.1) same))
-journal_step rows m past e (Notes s made) same = tt
-journal_step rows m past e (Moves s step) same = tt
-journal_step rows m past e OfTime same = let raised : nat_lt (time_of past) e.time ≡ true = ap (λ x. x.2) same in grind (arith, nat_tests)
+journal_step : (m : Machine) (past : List Entry) (e : Entry) (part : Part) → journal_given m past e part ≡ journal_said e part → JournalStep m past e part
+journal_step m past e OfJournal same = (ap (λ x. x.0) same, sym (ap (λ x. x.2) same))
+journal_step m past e (Notes s call) same = let no : false ≡ true = ap (λ x. x.3) same in absurd (cc)
+journal_step m past e (Moves s step) same = let no : false ≡ true = ap (λ x. x.3) same in absurd (cc)
+journal_step m past e OfTime same = (ap (λ x. x.1) same, (let raised : nat_lt (time_of past) e.time ≡ true = ap (λ x. x.3) same in grind (arith, nat_tests)))
 
 -- where all agree, the journal is legal
-pub journal_part : (rows : Rows) (m : Machine) (past : List Entry) → all_journal_given rows m past ≡ all_journal_said past → JournalPart rows m past
-journal_part rows m [] same = tt
-journal_part rows m (e ∷ past) same =
-    let here = journal_given rows m past e (part_of e.kind) in
+pub journal_part : (m : Machine) (past : List Entry) → all_journal_given m past ≡ all_journal_said past → JournalPart m past
+journal_part m [] same = tt
+journal_part m (e ∷ past) same =
+    let here = journal_given m past e (part_of e.kind) in
     let says = journal_said e (part_of e.kind) in (
-      journal_step rows m past e (part_of e.kind) (head_same here says (all_journal_given rows m past) (all_journal_said past) same),
-      journal_part rows m past (tail_same here says (all_journal_given rows m past) (all_journal_said past) same),
+      journal_step m past e (part_of e.kind) (head_same here says (all_journal_given m past) (all_journal_said past) same),
+      journal_part m past (tail_same here says (all_journal_given m past) (all_journal_said past) same),
     )
 
 -- ---- the sources
@@ -147,42 +146,83 @@ source_part (e ∷ past) same =
       source_part past (tail_same here says (all_own_given past) (all_own_said past) same),
     )
 
--- ---- what ties them together
+-- ---- the places
 
--- the word, the time, whether the actor is inside a call, the call that it makes next, and of a jump its maker, whether nobody is enabled and the run is over, and the least pending time
-abbrev pub Tie : Type 0
-Tie = EventNow × ℕ × Bool × Option Kind × Actor × Bool × Bool × Option ℕ
-
--- what a place gives for the call of an actor: whether it is inside another, and which is next
-abbrev pub call_given : Machine → List Entry → Actor → Bool × Option Kind
-call_given m past (actor.Timer s) = (false, Some (Expire s))
-call_given m past who = (is_calling (length m.sources + 1) past who, next_call m past who)
-
--- what a place gives for an entry
-abbrev pub tie_given : Rows → Machine → List Entry → Entry → Part → Tie
-tie_given rows m past e OfJournal = (numbers past, 0, is_calling (length m.sources + 1) past e.actor, next_call m past e.actor, actor.Time, true, false, None)
-tie_given rows m past e (Notes s made) = (numbers past, time_of past, (call_given m past e.actor).0, (call_given m past e.actor).1, actor.Time, true, false, None)
-tie_given rows m past e (Moves s step) = (numbers past, time_of past, false, None, actor.Time, true, false, None)
-tie_given rows m past e OfTime = (numbers past, 0, false, None, e.actor, is_idle rows m past, is_finished rows m past, next_time m past)
+-- what a place gives: the word, and the time of an entry that is no jump
+abbrev pub place_says : List Entry → Part → EventNow × ℕ
+place_says past OfTime = (numbers past, 0)
+place_says past _ = (numbers past, time_of past)
 
 -- what the entry says
-abbrev pub tie_said : Entry → Part → Tie
-tie_said e OfJournal = (e.now, 0, false, None, actor.Time, true, false, None)
-tie_said e (Notes s made) = (e.now, e.time, false, Some e.kind, actor.Time, true, false, None)
-tie_said e (Moves s step) = (e.now, e.time, false, None, actor.Time, true, false, None)
-tie_said e OfTime = (e.now, 0, false, None, actor.Time, true, false, Some e.time)
+abbrev pub entry_says : Entry → Part → EventNow × ℕ
+entry_says e OfTime = (e.now, 0)
+entry_says e _ = (e.now, e.time)
+
+-- what each place gives, the newest first
+abbrev pub all_places : List Entry → List (EventNow × ℕ)
+all_places [] = []
+all_places (e ∷ past) = place_says past (part_of e.kind) ∷ all_places past
+
+-- what each entry says
+abbrev pub all_entries : List Entry → List (EventNow × ℕ)
+all_entries [] = []
+all_entries (e ∷ past) = entry_says e (part_of e.kind) ∷ all_entries past
+
+on_time : (past : List Entry) (e : Entry) (part : Part) → place_says past part ≡ entry_says e part → (e.now ≡ numbers past) × IsOnTime past e.time part
+on_time past e OfJournal same = (sym (ap (λ x. x.0) same), sym (ap (λ x. x.1) same))
+on_time past e (Notes s call) same = (sym (ap (λ x. x.0) same), sym (ap (λ x. x.1) same))
+on_time past e (Moves s step) same = (sym (ap (λ x. x.0) same), sym (ap (λ x. x.1) same))
+on_time past e OfTime same = (sym (ap (λ x. x.0) same), tt)
+
+-- where all agree, each entry carries the numbers and the time of its place
+pub placed : (past : List Entry) → all_places past ≡ all_entries past → Placed past
+placed [] same = tt
+placed (e ∷ past) same =
+    let here = place_says past (part_of e.kind) in
+    let says = entry_says e (part_of e.kind) in
+    let this : (e.now ≡ numbers past) × IsOnTime past e.time (part_of e.kind) = on_time past e (part_of e.kind) (head_same here says (all_places past) (all_entries past) same) in
+    (this.0, this.1, placed past (tail_same here says (all_places past) (all_entries past) same))
+
+-- ---- what ties them together
+
+-- how many calls were made and are due, the call that comes next, whether a step is behind its call, and of a jump whether nobody is enabled, whether the run is over, and the least pending time
+abbrev pub Tie : Type 0
+Tie = ℕ × Option Kind × Bool × Bool × Bool × Option ℕ
+
+-- how many calls an actor has made
+abbrev pub made_by : Machine → List Entry → Actor → ℕ
+made_by m past who = made (length m.sources + 1) (λ s. history s past) who
+
+-- the call that an actor makes next
+abbrev pub call_given : Machine → List Entry → Actor → Option Kind
+call_given m past (actor.Timer s) = Some (Expire s)
+call_given m past who = slice_get (calls_of m who (journal past)) (made_by m past who)
+
+-- what a place gives for an entry
+abbrev pub tie_given : Machine → List Entry → Entry → Part → Tie
+tie_given m past e OfJournal = (made_by m past e.actor, None, true, true, false, None)
+tie_given m past e (Notes s call) = (0, call_given m past e.actor, true, true, false, None)
+tie_given m past e (Moves s step) = (0, None, is_behind s e.actor past, true, false, None)
+tie_given m past e OfTime = (0, None, true, is_idle m (journal past) (λ s. history s past) (numbers past), is_finished m (journal past) (λ s. history s past) (numbers past), next_time m (journal past) (λ s. history s past))
+
+-- what the entry says
+abbrev pub tie_said : Machine → List Entry → Entry → Part → Tie
+tie_said m past e OfJournal = (calls_due m e.actor (journal past), None, true, true, false, None)
+tie_said m past e (Notes s call) = (0, Some e.kind, true, true, false, None)
+tie_said m past e (Moves s step) = (0, None, true, true, false, None)
+tie_said m past e OfTime = (0, None, true, true, false, Some e.time)
 
 -- what each of the newest n places gives, the newest first
-abbrev pub ties_given : Rows → Machine → ℕ → List Entry → List Tie
-ties_given rows m zero past = []
-ties_given rows m (suc n) [] = []
-ties_given rows m (suc n) (e ∷ past) = tie_given rows m past e (part_of e.kind) ∷ ties_given rows m n past
+abbrev pub ties_given : Machine → ℕ → List Entry → List Tie
+ties_given m zero past = []
+ties_given m (suc n) [] = []
+ties_given m (suc n) (e ∷ past) = tie_given m past e (part_of e.kind) ∷ ties_given m n past
 
 -- what each of their entries says
-abbrev pub ties_said : ℕ → List Entry → List Tie
-ties_said zero past = []
-ties_said (suc n) [] = []
-ties_said (suc n) (e ∷ past) = tie_said e (part_of e.kind) ∷ ties_said n past
+abbrev pub ties_said : Machine → ℕ → List Entry → List Tie
+ties_said m zero past = []
+ties_said m (suc n) [] = []
+ties_said m (suc n) (e ∷ past) = tie_said m past e (part_of e.kind) ∷ ties_said m n past
 
 -- the entries before the newest n
 abbrev pub before : ℕ → List Entry → List Entry
@@ -190,38 +230,34 @@ before zero past = past
 before (suc n) [] = []
 before (suc n) (e ∷ past) = before n past
 
-own_call : (m : Machine) (past : List Entry) (who : Actor) (k : Kind) → (call_given m past who).0 ≡ false → (call_given m past who).1 ≡ Some k → IsOwnCall m past who k
-own_call m past (actor.Timer s) k none next = ap (λ o. unwrap_or o k) (sym next)
-own_call m past (actor.Script i) k none next = (none, next)
-own_call m past actor.Auto k none next = (none, next)
-own_call m past (actor.Dev d) k none next = (none, next)
-own_call m past actor.Time k none next = (none, next)
+own_call : (m : Machine) (past : List Entry) (who : Actor) (k : Kind) → call_given m past who ≡ Some k → IsOwnCall m (journal past) (λ s. history s past) who k
+own_call m past (actor.Timer s) k next = ap (λ o. unwrap_or o k) (sym next)
+own_call m past (actor.Script i) k next = next
+own_call m past actor.Auto k next = next
+own_call m past (actor.Dev d) k next = next
+own_call m past actor.Time k next = next
 
-joint_step : (rows : Rows) (m : Machine) (past : List Entry) (e : Entry) (part : Part) → tie_given rows m past e part ≡ tie_said e part → JointStep rows m past e part
-joint_step rows m past e OfJournal same = (sym (ap (λ x. x.0) same), (ap (λ x. x.2) same, ap (λ x. x.3) same))
-joint_step rows m past e (Notes s made) same = (sym (ap (λ x. x.0) same), sym (ap (λ x. x.1) same), own_call m past e.actor e.kind (ap (λ x. x.2) same) (ap (λ x. x.3) same))
-joint_step rows m past e (Moves s step) same = (sym (ap (λ x. x.0) same), sym (ap (λ x. x.1) same))
-joint_step rows m past e OfTime same = (
-  sym (ap (λ x. x.0) same),
-  record {
-    by_time = ap (λ x. x.4) same;
-    idle = ap (λ x. x.5) same;
-    goes_on = ap (λ x. x.6) same;
-    least = ap (λ x. x.7) same;
-  },
-)
+joint_step : (m : Machine) (past : List Entry) (e : Entry) (part : Part) → tie_given m past e part ≡ tie_said m past e part → JointStep m past e part
+joint_step m past e OfJournal same = ap (λ x. x.0) same
+joint_step m past e (Notes s call) same = own_call m past e.actor e.kind (ap (λ x. x.1) same)
+joint_step m past e (Moves s step) same = ap (λ x. x.2) same
+joint_step m past e OfTime same = record {
+  idle = ap (λ x. x.3) same;
+  goes_on = ap (λ x. x.4) same;
+  least = ap (λ x. x.5) same;
+}
 
 -- where the newest n agree, the parts fit together if they did before
-joint_part : (rows : Rows) (m : Machine) (n : ℕ) (past : List Entry) → ties_given rows m n past ≡ ties_said n past → JointPart rows m (before n past) → JointPart rows m past
-joint_part rows m zero past same rest = rest
-joint_part rows m (suc n) [] same rest = tt
-joint_part rows m (suc n) (e ∷ past) same rest =
-    let here = tie_given rows m past e (part_of e.kind) in
-    let says = tie_said e (part_of e.kind) in (
-      joint_step rows m past e (part_of e.kind) (head_same here says (ties_given rows m n past) (ties_said n past) same),
-      joint_part rows m n past (tail_same here says (ties_given rows m n past) (ties_said n past) same) rest,
+joint_part : (m : Machine) (n : ℕ) (past : List Entry) → ties_given m n past ≡ ties_said m n past → JointPart m (before n past) → JointPart m past
+joint_part m zero past same rest = rest
+joint_part m (suc n) [] same rest = tt
+joint_part m (suc n) (e ∷ past) same rest =
+    let here = tie_given m past e (part_of e.kind) in
+    let says = tie_said m past e (part_of e.kind) in (
+      joint_step m past e (part_of e.kind) (head_same here says (ties_given m n past) (ties_said m n past) same),
+      joint_part m n past (tail_same here says (ties_given m n past) (ties_said m n past) same) rest,
     )
 
 -- the same, where what stood before is given by itself
-pub joint_stretch : (rows : Rows) (m : Machine) (n : ℕ) (past old : List Entry) → before n past ≡ old → ties_given rows m n past ≡ ties_said n past → JointPart rows m old → JointPart rows m past
-joint_stretch rows m n past old same agree rest = joint_part rows m n past agree (subst (λ xs. JointPart rows m xs) (sym same) rest)
+pub joint_stretch : (m : Machine) (n : ℕ) (past old : List Entry) → before n past ≡ old → ties_given m n past ≡ ties_said m n past → JointPart m old → JointPart m past
+joint_stretch m n past old same agree rest = joint_part m n past agree (subst (λ xs. JointPart m xs) (sym same) rest)

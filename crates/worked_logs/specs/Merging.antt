@@ -38,7 +38,7 @@ histories_among m entries = map (λ s. history_among s entries) (range_with_len 
 -- a journal and histories fit together, and are merged to these entries
 pub record Merges (m : Machine) (entries : List JournalEntry) (log : List Entry) : Type 0 where
   pub fit : IsFit m (journal_among entries) (histories_among m entries)
-  pub merged : merge m (journal_among entries) (histories_among m entries) ≡ log
+  pub merged : merge (journal_among entries) (histories_among m entries) ≡ log
 
 -- the entries of a log, taken apart as one worker makes them, are merged to the log
 abbrev pub MergesAgain : Machine → List Entry → Type 0

@@ -1,5 +1,5 @@
 -- The log of a machine with one worker, by the definitions alone: each job in turn makes what is due of it.
-use Rattle.std.specs.Prelude.{ℕ, zero, suc, ◌+◌, Bool, true, false, ◌==◌, List, [], ◌∷◌, ◌++◌, filter, length, reverse, Option, Some, None}
+use Rattle.std.specs.Prelude.{ℕ, zero, suc, ◌+◌, Bool, true, false, ◌==◌, List, [], ◌∷◌, ◌++◌, filter, length, reverse, slice_get, Option, Some, None}
 use Rattle.std.specs.List.{range_with_len}
 use Rattle.sleep_model.specs.declared.entry.Actor.{Actor}
 use Rattle.sleep_model.specs.declared.entry.Actor.TheVariants as actor
@@ -11,14 +11,13 @@ use Rattle.sleep_model.specs.declared.place.Due.{Due}
 use Rattle.sleep_model.specs.declared.place.Due.TheVariants.{Makes}
 use Rattle.sleep_model.specs.declared.word.WordKind.{WordKind}
 use Rattle.sleep_model.specs.declared.word.WordKind.TheVariants as step
-use Rattle.sleep_model.specs.Calls.{next_call}
+use Rattle.sleep_model.specs.Calls.{calls_of, made}
 use Rattle.sleep_model.specs.Devices.{is_async_device}
 use Rattle.sleep_model.specs.Due.{due}
-use Rattle.sleep_model.specs.Legal.{is_finished, next_time}
+use Rattle.sleep_model.specs.Legal.{is_finished_after, next_time}
 use Rattle.sleep_model.specs.Numbers.{numbers, time_of}
-use Rattle.sleep_model.specs.Parts.{Part, Notes, part_of}
+use Rattle.sleep_model.specs.Parts.{Part, Notes, part_of, journal}
 use Rattle.sleep_model.specs.Sources.{history, owed, expiry, has_expired}
-use Rattle.sleep_model.specs.Table.{Rows}
 
 -- an entry of that actor, with the time and the word of its place, before the others
 abbrev pub put : List Entry → Actor → Kind → List Entry
@@ -52,19 +51,23 @@ put_due past who (Makes k) = put past who k
 put_due past who due = past
 
 -- the call that comes next, else the entry that is due
-abbrev pub put_next : Rows → Machine → List Entry → Actor → Option Kind → List Entry
-put_next rows m past who (Some k) = put_call past who k
-put_next rows m past who None = put_due past who (due rows m past who (numbers past))
+abbrev pub put_next : Machine → List Entry → Actor → Option Kind → List Entry
+put_next m past who (Some k) = put_call past who k
+put_next m past who None = put_due past who (due m (journal past) who (numbers past))
 
 -- the expiry of a source, where it is due
 abbrev pub put_expiry : List Entry → ℕ → Bool → List Entry
 put_expiry past s true = put_call past (actor.Timer s) (kind.Expire s)
 put_expiry past s false = past
 
+-- the call that an actor makes next, where it has not made all that come before its next turn
+abbrev pub next_call : Machine → List Entry → Actor → Option Kind
+next_call m past who = slice_get (calls_of m who (journal past)) (made (length m.sources + 1) (λ s. history s past) who)
+
 -- one turn of a job
-abbrev pub turn : Rows → Machine → List Entry → Actor → List Entry
-turn rows m past (actor.Timer s) = put_expiry past s (has_expired (expiry (history s past)) (time_of past))
-turn rows m past who = put_next rows m past who (next_call m past who)
+abbrev pub turn : Machine → List Entry → Actor → List Entry
+turn m past (actor.Timer s) = put_expiry past s (has_expired (expiry (history s past)) (time_of past))
+turn m past who = put_next m past who (next_call m past who)
 
 -- ---- rounds
 
@@ -82,9 +85,9 @@ jobs m =
     ++ jobs_of actor.Timer (range_with_len 0 (length m.sources + 1))
 
 -- one turn of each of these jobs
-abbrev pub round : Rows → Machine → List Actor → List Entry → List Entry
-round rows m [] past = past
-round rows m (who ∷ rest) past = round rows m rest (turn rows m past who)
+abbrev pub round : Machine → List Actor → List Entry → List Entry
+round m [] past = past
+round m (who ∷ rest) past = round m rest (turn m past who)
 
 -- a run under way, or at its end, with its entries, the newest first
 pub data Run : Type 0 where
@@ -97,24 +100,24 @@ jump past None = Ended past
 jump past (Some at) = Goes (record { time = at; now = numbers past; actor = actor.Time; kind = kind.Jump } ∷ past)
 
 -- where a round did nothing the run is over, or time jumps
-abbrev pub rest : Rows → Machine → List Entry → Bool → Run
-rest rows m past true = Ended past
-rest rows m past false = jump past (next_time m past)
+abbrev pub rest : Machine → List Entry → Bool → Run
+rest m past true = Ended past
+rest m past false = jump past (next_time m (journal past) (λ s. history s past))
 
 -- after a round: whether it did nothing, and its entries
-abbrev pub after_round : Rows → Machine → Bool → List Entry → Run
-after_round rows m true past = rest rows m past (is_finished rows m past)
-after_round rows m false past = Goes past
+abbrev pub after_round : Machine → Bool → List Entry → Run
+after_round m true past = rest m past (is_finished_after m past)
+after_round m false past = Goes past
 
 -- one round, and what follows it
-abbrev pub advance : Rows → Machine → List Actor → Run → Run
-advance rows m jobs (Ended past) = Ended past
-advance rows m jobs (Goes past) = let next = round rows m jobs past in after_round rows m (length next == length past) next
+abbrev pub advance : Machine → List Actor → Run → Run
+advance m jobs (Ended past) = Ended past
+advance m jobs (Goes past) = let next = round m jobs past in after_round m (length next == length past) next
 
 -- so many rounds
-abbrev pub rounds : Rows → Machine → List Actor → ℕ → Run → Run
-rounds rows m jobs zero run = run
-rounds rows m jobs (suc n) run = rounds rows m jobs n (advance rows m jobs run)
+abbrev pub rounds : Machine → List Actor → ℕ → Run → Run
+rounds m jobs zero run = run
+rounds m jobs (suc n) run = rounds m jobs n (advance m jobs run)
 
 -- the entries of a run that has ended, the first first
 abbrev pub ended : Run → List Entry
@@ -122,5 +125,5 @@ ended (Ended past) = reverse past
 ended (Goes past) = []
 
 -- the entries that one worker makes in at most so many rounds
-abbrev pub one_worker : Rows → Machine → ℕ → List Entry
-one_worker rows m most = ended (rounds rows m (jobs m) most (Goes []))
+abbrev pub one_worker : Machine → ℕ → List Entry
+one_worker m most = ended (rounds m (jobs m) most (Goes []))

@@ -1,0 +1,15 @@
+pub mod Attempts
+pub mod Autosleep
+pub mod Broken
+pub mod Counts
+pub mod Devices
+pub mod Failures
+pub mod Freezing
+pub mod Laptop
+pub mod LaptopDown
+pub mod LaptopUp
+pub mod Merging
+pub mod Rounds
+pub mod Terms
+pub mod Texts
+pub mod Timers
