@@ -2,6 +2,7 @@ pub mod Accepted
 pub mod Answers
 pub mod Attempt
 pub mod Autosleep
+pub mod Built
 pub mod Calls
 pub mod Devices
 pub mod Due

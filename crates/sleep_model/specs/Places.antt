@@ -3,11 +3,10 @@ use Rattle.std.specs.Prelude.{ℕ, zero, suc, ◌+◌, ◌*◌, Bool, true, fals
 use Rattle.sleep_model.specs.declared.machine.Answer.{Answer}
 use Rattle.sleep_model.specs.declared.machine.Machine.{Machine}
 use Rattle.sleep_model.specs.declared.machine.Op.{Op}
-use Rattle.sleep_model.specs.declared.machine.Op.TheVariants.{Autosleep, Awake, Relax, Event}
+use Rattle.sleep_model.specs.declared.machine.Op.TheVariants.{State, Autosleep, Awake, Relax, Event}
 use Rattle.sleep_model.specs.declared.machine.Script.{Script}
 use Rattle.sleep_model.specs.declared.machine.SourceCall.{SourceCall}
 use Rattle.sleep_model.specs.declared.machine.SourceCall.TheVariants as call
-use Rattle.sleep_model.specs.Accepted.{is_state}
 use Rattle.sleep_model.specs.Answers.{answer_for}
 use Rattle.sleep_model.specs.Scripts.{operations}
 
@@ -38,6 +37,11 @@ op_places n s _ = 0
 -- all operations of all scripts, as often as they are made (own)
 abbrev pub all_operations : List Script → List Op
 all_operations scripts = flat_map operations scripts
+
+-- a write to the state (state_store)
+abbrev pub is_state : Op → Bool
+is_state (State text if_saved) = true
+is_state _ = false
 
 -- a write to autosleep (autosleep_store)
 abbrev pub is_autosleep : Op → Bool
