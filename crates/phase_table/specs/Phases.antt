@@ -1,6 +1,7 @@
 -- The phases of devices, as a table (drivers/base/power/main.c).
-use Rattle.std.specs.Prelude.{ℕ, Bool, true, false, ◌==◌, List, codes}
+use Rattle.std.specs.Prelude.{ℕ, Bool, true, false, ◌==◌, List, [], ◌∷◌, map, codes, find, Option}
 use Rattle.phase_table.specs.declared.phase.Phase.{Phase}
+use Rattle.phase_table.specs.declared.table.PhaseRow.{PhaseRow}
 use Rattle.phase_table.specs.declared.phase.Phase.TheVariants.{Prepare, Suspend, Late, Noirq, Syscore, SyscoreResume, ResumeNoirq, Early, Resume, Complete}
 
 -- the place of a phase in an undisturbed attempt (dpm_prepare, dpm_suspend, dpm_suspend_late, dpm_suspend_noirq, syscore_suspend and their ways back)
@@ -74,3 +75,19 @@ phase_name ResumeNoirq = codes "resume_noirq"
 phase_name Early = codes "early"
 phase_name Resume = codes "resume"
 phase_name Complete = codes "complete"
+
+-- what the table says of a phase
+abbrev pub table_row : Phase → PhaseRow
+table_row p = record { phase = p; mirror = mirror p; forward = is_forward p; down = is_down p; checks = tests_wakeup p }
+
+-- the phases in the order of an undisturbed attempt
+abbrev pub all_phases : List Phase
+all_phases = Prepare ∷ Suspend ∷ Late ∷ Noirq ∷ Syscore ∷ SyscoreResume ∷ ResumeNoirq ∷ Early ∷ Resume ∷ Complete ∷ []
+
+-- the table: a row for each phase
+abbrev pub table_rows : List PhaseRow
+table_rows = map table_row all_phases
+
+-- the first row of that phase
+abbrev pub row_with : Phase → List PhaseRow → Option PhaseRow
+row_with p rows = find (λ row. is_phase row.phase p) rows
