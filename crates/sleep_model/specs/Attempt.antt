@@ -15,6 +15,7 @@ use Rattle.sleep_model.specs.declared.machine.What.{What}
 use Rattle.sleep_model.specs.declared.machine.What.TheVariants as what
 use Rattle.sleep_model.specs.declared.place.Due.{Due}
 use Rattle.sleep_model.specs.declared.place.Due.TheVariants.{Makes, Waits, Gone}
+pub use Rattle.sleep_model.specs.declared.place.Sleep.{Sleep}
 use Rattle.sleep_model.specs.declared.place.Stage.{Stage}
 use Rattle.sleep_model.specs.declared.place.Stage.TheVariants as stage
 use Rattle.sleep_model.specs.Answers.{answer, answer_error}
@@ -63,11 +64,6 @@ freeze_due m past now g None = Makes (kind.Freeze g)
 freeze_due m past now g (Some since) = froze_due past now g since (left m g past)
 
 -- ---- sleep
-
--- a machine that sleeps: the word's position and the time, in ms, at its entering (suspend_enter)
-pub record Sleep : Type 0 where
-  pub pos : ℕ
-  pub since : ℕ
 
 -- the machine sleeps from there on, unless a wakeup was found (suspend_enter)
 abbrev pub unless_busy : Bool → Option Sleep → Sleep → Option Sleep

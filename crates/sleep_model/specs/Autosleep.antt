@@ -9,22 +9,14 @@ use Rattle.sleep_model.specs.declared.entry.Kind.TheVariants as kind
 use Rattle.sleep_model.specs.declared.log.Why.TheVariants as why
 use Rattle.sleep_model.specs.declared.machine.Machine.{Machine}
 use Rattle.sleep_model.specs.declared.place.Due.{Due}
+pub use Rattle.sleep_model.specs.declared.place.Work.{Work}
+pub use Rattle.sleep_model.specs.declared.place.Work.TheVariants.{Resting, Reading, Saving, Attempting, Looking, Napping, Closing}
 use Rattle.sleep_model.specs.declared.place.Due.TheVariants.{Makes, Waits}
 use Rattle.sleep_model.specs.Guard.{in_force}
 use Rattle.sleep_model.specs.Lock.{holder, is_on}
 use Rattle.sleep_model.specs.Numbers.{time_of}
 use Rattle.sleep_model.specs.Path.{attempts}
 use Rattle.sleep_model.specs.Word.{visible}
-
--- where the work stands (try_to_suspend)
-pub data Work : Type 0 where
-  Resting : Work
-  Reading : Work
-  Saving : (c : ℕ) → Work
-  Attempting : (c : ℕ) → Work
-  Looking : (c : ℕ) → Work
-  Napping : (until : Option ℕ) → Work
-  Closing : Work
 
 -- after an attempt the work looks at the count that it saved (try_to_suspend)
 abbrev pub looks_at : Work → Work

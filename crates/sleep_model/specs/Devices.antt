@@ -17,6 +17,9 @@ use Rattle.sleep_model.specs.declared.machine.Machine.{Machine}
 use Rattle.sleep_model.specs.declared.machine.What.TheVariants as what
 use Rattle.phase_table.specs.declared.phase.Phase.{Phase}
 use Rattle.phase_table.specs.declared.phase.Phase.TheVariants as phase
+pub use Rattle.sleep_model.specs.declared.place.AsyncWork.{AsyncWork}
+pub use Rattle.sleep_model.specs.declared.place.AsyncWork.TheVariants.{Idle, Given, Inside}
+pub use Rattle.sleep_model.specs.declared.place.Callback.{Callback}
 use Rattle.sleep_model.specs.declared.place.Due.{Due}
 use Rattle.sleep_model.specs.declared.place.Due.TheVariants.{Makes, Waits}
 use Rattle.sleep_model.specs.declared.place.Stand.{Stand}
@@ -36,11 +39,6 @@ use Rattle.sleep_model.specs.Walk.{is_so, first_where, last_where, or_else}
 abbrev pub is_device : Actor → Bool
 is_device (actor.Dev d) = true
 is_device _ = false
-
--- a callback that runs: its phase and its device (dpm_run_callback)
-pub record Callback : Type 0 where
-  pub phase : Phase
-  pub device : ℕ
 
 -- the first where the entry is an asynchronous device's own, else the second (own)
 abbrev pub unless_own : {A : Type 0} → Bool → A → A → A
@@ -250,12 +248,6 @@ complete_due None = Makes (kind.Done phase.Complete None)
 complete_due (Some d) = Makes (kind.Complete d)
 
 -- ---- an asynchronous device
-
--- where an asynchronous device's own work stands: it has none, it is given out, or it is inside its callback (async_schedule_dev)
-pub data AsyncWork : Type 0 where
-  Idle : AsyncWork
-  Given : (p : Phase) → AsyncWork
-  Inside : (p : Phase) → AsyncWork
 
 -- the work in phase p or its mirror of a device that stands so there, else the other (async_schedule_dev, dpm_run_callback)
 abbrev pub work_in : Phase → Stand → AsyncWork → AsyncWork

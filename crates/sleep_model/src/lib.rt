@@ -25,5 +25,5 @@ pub use machine::{
 };
 pub use name::{NAME_BYTES, Name};
 pub use phase_table::Phase;
-pub use place::{Due, Freezing, Seat, Stage, Stand};
+pub use place::{AsyncWork, Callback, Due, Freezing, Seat, Sleep, Stage, Stand, Work};
 pub use word::{EventNow, Stamp, WordKind, WordStep, pos};

@@ -98,6 +98,50 @@ pub enum Stage {
     Ends,
 }
 
+/// A machine that sleeps: the word's position and the time, in ms, at its entering
+/// (`kernel/power/suspend.c`, `suspend_enter`).
+#[derive(Clone, Copy)]
+pub struct Sleep {
+    pub pos: u64,
+    pub since: u64,
+}
+
+/// A callback that the attempt's maker runs: its phase and its device (`drivers/base/power/main.c`,
+/// `dpm_run_callback`).
+#[derive(Clone, Copy)]
+pub struct Callback {
+    pub phase: Phase,
+    pub device: u32,
+}
+
+/// Where an asynchronous device's own work stands (`drivers/base/power/main.c`,
+/// `async_schedule_dev`): it has none, it is given out, or it is inside its callback.
+#[derive(Clone, Copy)]
+pub enum AsyncWork {
+    Idle,
+    Given(Phase),
+    Inside(Phase),
+}
+
+/// Where the autosleep work stands (`kernel/power/autosleep.c`, `try_to_suspend`).
+#[derive(Clone, Copy)]
+pub enum Work {
+    /// It is not at work.
+    Resting,
+    /// It is to read the count.
+    Reading,
+    /// It is to save this count.
+    Saving(u32),
+    /// It has saved this count, and is to make an attempt or makes it.
+    Attempting(u32),
+    /// Its attempt under this count is over, and it is to look at the count again.
+    Looking(u32),
+    /// It naps, up to that moment in ms once the nap has begun.
+    Napping(Option<u64>),
+    /// It is to end.
+    Closing,
+}
+
 /// What is due of an actor: the one entry that it can make, what it waits for, or nothing more.
 #[derive(Clone, Copy)]
 pub enum Due {
