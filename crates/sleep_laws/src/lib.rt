@@ -1,3 +1,2 @@
 //! The laws of sleep: what holds of every legal log, whoever wrote it.
 #![tactic(auto)]
-

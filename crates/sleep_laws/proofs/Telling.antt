@@ -1,0 +1,10 @@
+-- Small facts on options, tests and searches.
+use Rattle.std.proofs.Common.{◌≡◌, Option, Some, None, subst}
+
+-- there is something
+abbrev IsThere : {A : Type 0} → Option A → Type 0
+IsThere None = ⊥
+IsThere (Some x) = Unit {0}
+
+pub some≢none : {A : Type 0} (x : A) → Some x ≡ None → ⊥
+some≢none x e = subst IsThere e tt
