@@ -22,13 +22,17 @@ use Rattle.sleep_model.specs.declared.place.Seat.{Seat}
 use Rattle.sleep_model.specs.declared.place.Stage.{Stage}
 use Rattle.sleep_model.specs.declared.place.Stage.TheVariants as stage
 use Rattle.sleep_model.specs.declared.place.Stand.TheVariants as stand
+use Rattle.sleep_model.specs.declared.place.Sleep.{Sleep}
+use Rattle.sleep_model.specs.declared.place.Work.{Work}
+use Rattle.sleep_model.specs.declared.place.Work.TheVariants.{Resting, Reading, Saving, Attempting, Looking, Napping, Closing}
+use Rattle.sleep_model.specs.declared.place.AsyncWork.TheVariants.{Given, Inside}
 use Rattle.sleep_model.specs.declared.word.EventNow.{EventNow}
 use Rattle.phase_table.specs.declared.phase.Phase.{Phase}
 use Rattle.phase_table.specs.declared.phase.Phase.TheVariants as phase
 use Rattle.phase_table.specs.Phases.{mirror, tests_wakeup}
-use Rattle.sleep_model.specs.Attempt.{Sleep, failed, freeze_since, sleep_of, sleeps_now}
-use Rattle.sleep_model.specs.Autosleep.{Work, Resting, Reading, Saving, Attempting, Looking, Napping, Closing, work, seen_count}
-use Rattle.sleep_model.specs.Devices.{Given, Inside, callback, phase_failed, phase_error, is_direct, is_async_device, stand_in, waits_below, waits_above, waits_down, waits_up, next_down, next_given, next_up, next_prepared, next_completed, async_work}
+use Rattle.sleep_model.specs.Attempt.{failed, freeze_since, sleep_of, sleeps_now}
+use Rattle.sleep_model.specs.Autosleep.{work, seen_count}
+use Rattle.sleep_model.specs.Devices.{callback, phase_failed, phase_error, is_direct, is_async_device, stand_in, waits_below, waits_above, waits_down, waits_up, next_down, next_given, next_up, next_prepared, next_completed, async_work}
 use Rattle.sleep_model.specs.Due.{is_over}
 use Rattle.sleep_model.specs.Freezer.{freezing, left}
 use Rattle.sleep_model.specs.Guard.{in_force, pending}

@@ -23,13 +23,15 @@ use Rattle.sleep_model.specs.declared.place.Due.{Due}
 use Rattle.sleep_model.specs.declared.place.Due.TheVariants.{Makes, Waits, Gone}
 use Rattle.sleep_model.specs.declared.place.Stage.{Stage}
 use Rattle.sleep_model.specs.declared.place.Stage.TheVariants as stage
+use Rattle.sleep_model.specs.declared.place.Sleep.{Sleep}
+use Rattle.sleep_model.specs.declared.place.Callback.{Callback}
 use Rattle.sleep_model.specs.declared.word.EventNow.{EventNow}
 use Rattle.phase_table.specs.declared.phase.Phase.{Phase}
 use Rattle.phase_table.specs.declared.phase.Phase.TheVariants as phase
 use Rattle.phase_table.specs.Phases.{is_down, mirror, tests_wakeup}
 use Rattle.sleep_model.specs.Answers.{answer, answer_number, error_of_number}
-use Rattle.sleep_model.specs.Attempt.{Sleep, answered, failed, freeze_since, gives_up_at, sleep_of, if_left, stage_due, froze_due, freeze_due, cpu_kind, enter_due, busy_error, or_next, stage_or_next, due_at}
-use Rattle.sleep_model.specs.Devices.{Callback, callback, phase_failed, phase_error, own_error, own_error_after, phase_failed_after, error_in, unless_own, is_device, is_direct, is_async_device, waits_below, waits_above, waits_down, waits_up, next_down, next_given, next_up, next_prepared, next_completed, down_due, walk_down, take_down, after_device, up_due, walk_up, prepare_due, complete_due, device_error}
+use Rattle.sleep_model.specs.Attempt.{answered, failed, freeze_since, gives_up_at, sleep_of, if_left, stage_due, froze_due, freeze_due, cpu_kind, enter_due, busy_error, or_next, stage_or_next, due_at}
+use Rattle.sleep_model.specs.Devices.{callback, phase_failed, phase_error, own_error, own_error_after, phase_failed_after, error_in, unless_own, is_device, is_direct, is_async_device, waits_below, waits_above, waits_down, waits_up, next_down, next_given, next_up, next_prepared, next_completed, down_due, walk_down, take_down, after_device, up_due, walk_up, prepare_due, complete_due, device_error}
 use Rattle.sleep_model.specs.Freezer.{left}
 use Rattle.sleep_model.specs.Guard.{pending}
 use Rattle.sleep_model.specs.Notifiers.{next_called, next_posted, next_cpu_off, next_cpu_on, next_stopped, next_started}

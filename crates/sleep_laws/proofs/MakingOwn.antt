@@ -11,6 +11,10 @@ use Rattle.sleep_model.specs.declared.entry.Kind.TheVariants as kind
 use Rattle.sleep_model.specs.declared.entry.SkipCause.TheVariants as skip
 use Rattle.sleep_model.specs.declared.entry.State.TheVariants.{Mem, Off}
 use Rattle.sleep_model.specs.declared.log.Why.TheVariants as why
+use Rattle.sleep_model.specs.declared.machine.PlatUndo.TheVariants as undo
+use Rattle.sleep_model.specs.declared.entry.Group.TheVariants as group
+use Rattle.sleep_model.specs.declared.place.Stage.{Stage}
+use Rattle.sleep_model.specs.declared.place.Stage.TheVariants as stage
 use Rattle.sleep_model.specs.declared.machine.Machine.{Machine}
 use Rattle.sleep_model.specs.declared.machine.Op.{Op}
 use Rattle.sleep_model.specs.declared.machine.Op.TheVariants as op
@@ -21,13 +25,17 @@ use Rattle.sleep_model.specs.declared.place.Freezing.{Freezing}
 use Rattle.sleep_model.specs.declared.place.Seat.{Seat}
 use Rattle.sleep_model.specs.declared.place.Stand.{Stand}
 use Rattle.sleep_model.specs.declared.place.Stand.TheVariants as stand
+use Rattle.sleep_model.specs.declared.place.Work.{Work}
+use Rattle.sleep_model.specs.declared.place.AsyncWork.{AsyncWork}
+use Rattle.sleep_model.specs.declared.place.Work.TheVariants.{Resting, Reading, Saving, Attempting, Looking, Napping, Closing}
+use Rattle.sleep_model.specs.declared.place.AsyncWork.TheVariants.{Idle, Given, Inside}
 use Rattle.sleep_model.specs.declared.word.EventNow.{EventNow}
 use Rattle.phase_table.specs.declared.phase.Phase.{Phase}
 use Rattle.phase_table.specs.declared.phase.Phase.TheVariants as phase
 use Rattle.phase_table.specs.Phases.{is_down, mirror, tests_wakeup}
 use Rattle.sleep_model.specs.Attempt.{sleeps_now, attempt_due}
-use Rattle.sleep_model.specs.Autosleep.{Work, Resting, Reading, Saving, Attempting, Looking, Napping, Closing, work, work_due, auto_due, may_run, auto_save}
-use Rattle.sleep_model.specs.Devices.{AsyncWork, Idle, Given, Inside, phase_failed, is_direct, is_async_device, stand_in, waits_below, waits_above, async_work, work_by, work_in, after_device, taken, device_due, unless_failed, device_error}
+use Rattle.sleep_model.specs.Autosleep.{work, work_due, auto_due, may_run, auto_save}
+use Rattle.sleep_model.specs.Devices.{phase_failed, is_direct, is_async_device, stand_in, waits_below, waits_above, async_work, work_by, work_in, after_device, taken, device_due, unless_failed, device_error}
 use Rattle.sleep_model.specs.Due.{is_over, due, own_due, script_due}
 use Rattle.sleep_model.specs.Freezer.{freezing}
 use Rattle.sleep_model.specs.Guard.{in_force, pending}
@@ -39,10 +47,10 @@ use Rattle.sleep_model.specs.Parts.{part_of}
 use Rattle.sleep_model.specs.Path.{attempts, maker, is_actor}
 use Rattle.sleep_model.specs.Scripts.{entry_steps}
 use Rattle.sleep_model.specs.Steps.{seat_due, step_due, read_due, count_due, state_due, autosleep_due, slept_due}
-use Rattle.sleep_model.specs.Table.{stage_of}
+use Rattle.sleep_model.specs.Table.{stage_of, stage_after}
 use Rattle.sleep_model.specs.Tasks.{is_line, is_user, freezes_at, is_mem, is_off}
 use Rattle.sleep_model.specs.Word.{visible}
-use Rattle.sleep_laws.proofs.Made.{Down, InSuspend, InLate, InNoirq, Up, InResume, InEarly, InResumeNoirq, StepMade, seat_of, MayGo, TaskMade, WorkMade, GivenAt, DeviceMade, EntryMade, ByTask, ByWork, ByDevice, ByTime}
+use Rattle.sleep_laws.proofs.Made.{Made, Comes, AtOnce, PastNotifiers, PastCpus, PastParts, PastPartsUp, PastCpusUp, PastPosts, Down, InSuspend, InLate, InNoirq, Up, InResume, InEarly, InResumeNoirq, StepMade, seat_of, MayGo, TaskMade, WorkMade, GivenAt, DeviceMade, EntryMade, ByTask, ByWork, ByDevice, ByTime}
 use Rattle.sleep_laws.proofs.Making.{OnlyMade, maker_made, stage_proper}
 
 only_if : (P : Kind → Type 0) (b : Bool) (x y : Due) → (b ≡ true → OnlyMade P x) → (b ≡ false → OnlyMade P y) → OnlyMade P (cond b x y)
@@ -295,3 +303,45 @@ step_of m past time now who k h = made m past now who k h.0
 -- an entry of the journal is made by one of the families
 pub entry_made : (m : Machine) (past : List Entry) (e : Entry) → JournalPart m (e ∷ past) → EntryMade m past e.now e.actor e.kind
 entry_made m past e h = step_of m past e.time e.now e.actor e.kind h.0
+
+-- ---- a step of the maker's
+
+-- the stage after what the maker makes is the same from where it stood and from where it has come to
+pub stage_comes : (m : Machine) (past : List Entry) (now : EventNow) (here there : Stage) (k : Kind) → Comes m past here there → Made m past now there k → stage_after k (Some here) ≡ stage_after k (Some there)
+stage_comes m past now _ _ k (AtOnce here) h = refl
+stage_comes m past now _ _ k (PastNotifiers e) h = past_freeze m past now k h
+  where
+    past_freeze : (m : Machine) (past : List Entry) (now : EventNow) (k : Kind) → Made m past now (stage.Freezes group.User) k → stage_after k (Some stage.Notifies) ≡ stage_after k (Some (stage.Freezes group.User))
+    past_freeze m past now _ (Made.FreezesUser e) = refl
+    past_freeze m past now _ (Made.FrozeUser s e f) = refl
+    past_freeze m past now _ (Made.UserTimesOut s n x e) = refl
+    past_freeze m past now _ (Made.UserWakes s n x e f) = refl
+stage_comes m past now _ _ k (PastCpus e) h = past_cpus m past now k h
+  where
+    past_cpus : (m : Machine) (past : List Entry) (now : EventNow) (k : Kind) → Made m past now stage.StopsIrqs k → stage_after k (Some stage.StopsCpus) ≡ stage_after k (Some stage.StopsIrqs)
+    past_cpus m past now _ Made.StopsIrqs = refl
+stage_comes m past now _ _ k (PastParts e) h = past_parts m past now k h
+  where
+    past_parts : (m : Machine) (past : List Entry) (now : EventNow) (k : Kind) → Made m past now stage.Enters k → stage_after k (Some stage.StopsSyscore) ≡ stage_after k (Some stage.Enters)
+    past_parts m past now _ (Made.Enters e f) = refl
+    past_parts m past now _ (Made.EntersNot e f) = refl
+    past_parts m past now _ (Made.Wakes s b e) = refl
+stage_comes m past now _ _ k (PastPartsUp e) h = past_up m past now k h
+  where
+    past_up : (m : Machine) (past : List Entry) (now : EventNow) (k : Kind) → Made m past now stage.StartsIrqs k → stage_after k (Some stage.StartsSyscore) ≡ stage_after k (Some stage.StartsIrqs)
+    past_up m past now _ Made.StartsIrqs = refl
+stage_comes m past now _ _ k (PastCpusUp e) h = past_cpus_up m past now k h
+  where
+    past_cpus_up : (m : Machine) (past : List Entry) (now : EventNow) (k : Kind) → Made m past now (stage.Tells undo.Wake) k → stage_after k (Some stage.StartsCpus) ≡ stage_after k (Some (stage.Tells undo.Wake))
+    past_cpus_up m past now _ Made.TellsWake = refl
+stage_comes m past now _ _ k (PastPosts e) h = past_posts m past now k h
+  where
+    past_posts : (m : Machine) (past : List Entry) (now : EventNow) (k : Kind) → Made m past now stage.Ends k → stage_after k (Some stage.Posts) ≡ stage_after k (Some stage.Ends)
+    past_posts m past now _ Made.Ends = refl
+
+-- what holds at the stage under way, kept by coming to the stage where the entry is made, and by the entry, holds after it
+pub by_maker : (m : Machine) (past : List Entry) (now : EventNow) (k : Kind) (here there : Stage) (Before After : Option Stage → Type 0) → stage_of past ≡ Some here → Comes m past here there → Made m past now there k → (Before (Some here) → Before (Some there)) → (Before (Some there) → After (stage_after k (Some there))) → Before (stage_of past) → After (stage_after k (stage_of past))
+by_maker m past now k here there Before After e c h comes makes b =
+    let at : Before (Some here) = subst Before e b in
+    let done : After (stage_after k (Some there)) = makes (comes at) in
+    subst (λ (o : Option Stage). After (stage_after k o)) (sym e) (subst After (sym (stage_comes m past now here there k c h)) done)
