@@ -11,7 +11,7 @@ pub struct Journal {
 
 impl Model for Journal {
     ghost use Rattle.std.specs.Prelude.{◌≤◌, ◌+◌, reverse, vec_len, vec_capacity};
-    ghost use Rattle.sleep_core.specs.Places.{Places};
+    ghost use Rattle.sleep_state.specs.Places.{Places};
 
     ghost Value = { Places };
 

@@ -1,0 +1,5 @@
+pub mod Autosleeps
+pub mod Fronts
+pub mod Paths
+pub mod Places
+pub mod TaskStates

@@ -1,0 +1,40 @@
+-- The tasks as one value, and what an entry does to them.
+use Rattle.std.specs.Prelude.{ℕ, ◌<◌, ◌+◌, ◌^◌, List, replicate}
+use Rattle.sleep_model.specs.declared.entry.Actor.{Actor}
+use Rattle.sleep_model.specs.declared.entry.Actor.TheVariants as actor
+use Rattle.sleep_model.specs.declared.entry.Kind.{Kind}
+use Rattle.sleep_model.specs.declared.entry.Kind.TheVariants as kind
+use Rattle.sleep_model.specs.declared.machine.Script.{Script}
+use Rattle.sleep_model.specs.declared.place.Freezing.{Freezing}
+use Rattle.sleep_model.specs.declared.place.Seat.{Seat}
+use Rattle.sleep_model.specs.Freezer.{unasked, freezings_after}
+use Rattle.sleep_model.specs.Marks.{mark_at, marks_after}
+use Rattle.sleep_model.specs.Seats.{first_seat, seat_at, seat_part, seats_after}
+
+-- where each script stands, what the freezer has come to with it, and each mark's number
+pub record TaskState : Type 0 where
+  pub seats : List Seat
+  pub freezings : List Freezing
+  pub marks : List ℕ
+
+-- so many scripts at their first steps, asked for nothing, and so many marks that are not raised
+abbrev pub at_first : ℕ → ℕ → TaskState
+at_first scripts marks = record { seats = replicate scripts first_seat; freezings = replicate scripts unasked; marks = replicate marks 0 }
+
+-- the script whose entry it is has made few steps
+abbrev pub SeatIsSmall : Actor → List Seat → Type 0
+SeatIsSmall (actor.Script i) seats = (seat_at seats i).done < 2 ^ 63
+SeatIsSmall _ seats = Unit {0}
+
+-- a mark that is raised stays in the range of its number
+abbrev pub MarksAreSmall : Kind → List ℕ → Type 0
+MarksAreSmall (kind.Post mark) marks = mark_at marks mark + 1 < 2 ^ 32
+MarksAreSmall _ marks = Unit {0}
+
+-- what an entry of that actor does to the tasks of these scripts (freeze_task, thaw_processes)
+abbrev pub tasks_after : List Script → Actor → Kind → TaskState → TaskState
+tasks_after scripts who kind before = record {
+  seats = seats_after who (seat_part kind) before.seats;
+  freezings = freezings_after scripts who kind before.freezings;
+  marks = marks_after kind before.marks;
+}

@@ -1,0 +1,12 @@
+//! What the definitions read from the journal, kept up to date entry by entry.
+#![tactic(auto)]
+
+mod autosleep;
+mod journal;
+mod path;
+mod tasks;
+
+pub use autosleep::{Autosleep, is_actor, is_same};
+pub use journal::Journal;
+pub use path::Path;
+pub use tasks::Tasks;
