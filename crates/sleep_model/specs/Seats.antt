@@ -11,6 +11,7 @@ use Rattle.sleep_model.specs.declared.place.Seat.{Seat}
 -- what an entry of a script does to its place
 pub data SeatPart : Type 0 where
   Waits : SeatPart
+  Sets : SeatPart
   Sleeps : (until : ℕ) → SeatPart
   Reads : (c : ℕ) → SeatPart
   Saves : (ok : Bool) → SeatPart
@@ -23,7 +24,7 @@ abbrev pub seat_part : Kind → SeatPart
 seat_part kind.ReadWait = Waits
 seat_part (kind.SaveWait c) = Waits
 seat_part kind.StateWait = Waits
-seat_part (kind.AutoSet state) = Waits
+seat_part (kind.AutoSet state) = Sets
 seat_part (kind.Sleep until) = Sleeps until
 seat_part (kind.SleepD until) = Sleeps until
 seat_part (kind.Read c) = Reads c
@@ -45,15 +46,16 @@ seat_part _ = Stays
 
 -- a script at its first step
 abbrev pub first_seat : Seat
-first_seat = record { done = 0; waits = false; last_read = None; saved = false; until = None; exited = false }
+first_seat = record { done = 0; turns = 0; waits = false; last_read = None; saved = false; until = None; exited = false }
 
 -- the step under way has ended: the next one has not begun
 abbrev pub next_step : Seat → Seat
-next_step s = record s { done = s.done + 1; waits = false; until = None }
+next_step s = record s { done = s.done + 1; turns = s.turns + 1; waits = false; until = None }
 
 -- the place after that
 abbrev pub seat_after : SeatPart → Seat → Seat
 seat_after Waits s = record s { waits = true }
+seat_after Sets s = record s { turns = s.turns + 1; waits = true }
 seat_after (Sleeps until) s = record s { waits = true; until = Some until }
 seat_after (Reads c) s = record (next_step s) { last_read = Some c }
 seat_after (Saves ok) s = record (next_step s) { saved = ok }

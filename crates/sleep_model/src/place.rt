@@ -7,6 +7,8 @@ use phase_table::Phase;
 #[derive(Clone, Copy)]
 pub struct Seat {
     pub done: usize,
+    /// How many turns of its steps are made: a step has one, and the setting of autosleep one more.
+    pub turns: usize,
     /// The step under way has said that it waits, or has begun.
     pub waits: bool,
     /// The count that the task's last answered read gave.

@@ -21,9 +21,14 @@ pub record TaskState : Type 0 where
 abbrev pub at_first : ℕ → ℕ → TaskState
 at_first scripts marks = record { seats = replicate scripts first_seat; freezings = replicate scripts unasked; marks = replicate marks 0 }
 
--- the script whose entry it is has made few steps
+-- a script has made few steps and turns
+pub record IsSmallSeat (s : Seat) : Type 0 where
+  pub done : s.done < 2 ^ 63
+  pub turns : s.turns < 2 ^ 63
+
+-- the script whose entry it is has made few
 abbrev pub SeatIsSmall : Actor → List Seat → Type 0
-SeatIsSmall (actor.Script i) seats = (seat_at seats i).done < 2 ^ 63
+SeatIsSmall (actor.Script i) seats = IsSmallSeat (seat_at seats i)
 SeatIsSmall _ seats = Unit {0}
 
 -- a mark that is raised stays in the range of its number

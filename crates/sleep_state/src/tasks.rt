@@ -32,6 +32,7 @@ fn first_seat() -> Seat
 {
     Seat {
         done: 0,
+        turns: 0,
         waits: false,
         last_read: None,
         saved: false,
@@ -52,11 +53,13 @@ fn unasked() -> Freezing
 
 /// The step under way has ended, and the next one has not begun.
 fn next_step(seat: Seat) -> Seat
-    requires { seat.done < 2 ^ 63 }
+    requires done { seat.done < 2 ^ 63 }
+    requires turns { seat.turns < 2 ^ 63 }
     ensures { result ≡ next_step seat }
 {
     Seat {
         done: seat.done + 1,
+        turns: seat.turns + 1,
         waits: false,
         until: None,
         ..seat
@@ -65,11 +68,17 @@ fn next_step(seat: Seat) -> Seat
 
 /// A script's place after an entry of its own.
 fn seat_after(kind: Kind, seat: Seat) -> Seat
-    requires { seat.done < 2 ^ 63 }
+    requires done { seat.done < 2 ^ 63 }
+    requires turns { seat.turns < 2 ^ 63 }
     ensures { result ≡ seat_after (seat_part kind) seat }
 {
     match kind {
-        Kind::ReadWait | Kind::SaveWait(_) | Kind::StateWait | Kind::AutoSet(_) => Seat {
+        Kind::ReadWait | Kind::SaveWait(_) | Kind::StateWait => Seat {
+            waits: true,
+            ..seat
+        },
+        Kind::AutoSet(_) => Seat {
+            turns: seat.turns + 1,
             waits: true,
             ..seat
         },
