@@ -1,3 +1,4 @@
+pub mod Holding
 pub mod Made
 pub mod Making
 pub mod MakingOwn
