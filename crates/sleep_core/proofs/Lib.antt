@@ -1,9 +1,1 @@
-pub mod Cursoring
-pub mod Looking
-pub mod Planned
-pub mod Resuming
-pub mod Rooms
-pub mod Seating
-pub mod Small
-pub mod Turning
-pub mod Wholly
+mod Looking

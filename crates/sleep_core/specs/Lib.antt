@@ -1,10 +1,1 @@
-pub mod CoreFields
-pub mod Cores
-pub mod Cursors
-pub mod Histories
-pub mod HistoryFields
 pub mod Looks
-pub mod Places
-pub mod PlanFields
-pub mod Plans
-pub mod Room

@@ -1,14 +1,8 @@
 //! The core of system sleep: what each actor may do next, and the journal of what it did.
 #![tactic(auto)]
 
+mod auto;
 mod events;
-mod history;
-mod journal;
-mod plan;
 mod steps;
-#[cfg(test)]
-mod tests;
-mod turns;
 
 pub use events::{Events, PlainEvents};
-pub use turns::{Core, CoreFault, CoreTurn};

@@ -1,268 +1,215 @@
-//! What an entry does to each number that the core keeps, as the definitions say it.
+//! What a task does next at its operation, as far as the operation, its place and the word tell
+//! (`kernel/power/main.c`).
 
-ghost use Rattle.std.specs.Bool.{OnTrue, OnFalse};
-ghost use Rattle.std.specs.Prelude.{◌≡◌, ◌≤◌, ◌*◌, max, ◌+◌, ◌<◌, ◌-◌, ◌^◌, ◌∷◌, length, List, ℕ};
-ghost use Rattle.sleep_model.proofs.ShortCalls.{is_script};
-ghost use Rattle.sleep_model.specs.Word.{visible, position};
-ghost use Rattle.sleep_model.specs.Numbers.{time_after};
-ghost use Rattle.sleep_model.specs.Guard.{has_changed, count_pending, count_part, force_after, forgotten_after};
-ghost use Rattle.sleep_model.specs.Path.{attempts_after, maker_after};
-ghost use Rattle.sleep_model.proofs.ShortPath.{row_after, failure_after};
-ghost use Rattle.sleep_model.proofs.ShortWalk.{inside_after, error_after, settled_after, suspended_after};
-ghost use Rattle.sleep_model.specs.Seats.{seat_part, seat_after};
-ghost use Rattle.sleep_core.specs.Cores.{IsAttempt};
-ghost use Rattle.sleep_core.specs.Cursors.{ResumesLast};
-ghost use Rattle.sleep_core.specs.Room.{places_for};
+ghost use Rattle.std.specs.Prelude.{◌≡◌, ◌≤◌, ◌<◌, ◌+◌, ◌^◌, ◌||◌, option_copied};
+ghost use Rattle.sleep_model.specs.Steps.{read_due, save_due, lock_due, count_due, state_due, autosleep_due, slept_due, mark_due, saved_number, unless_unsaved, sleep_due};
+ghost use Rattle.sleep_model.specs.Tasks.{first_line, is_mem, is_off, is_line, is_user, freezes_at};
+ghost use Rattle.sleep_model.specs.Word.{visible};
+ghost use Rattle.sleep_model.specs.declared.entry.Kind.TheVariants.{Sleep, SleepD};
 
 use sleep_base::Errno;
-use sleep_model::{Actor, EventNow, FrozeEnd, Group, Kind, Phase, Row, Seat, SkipCause};
-use std::sync::Wait;
+use sleep_model::{Due, EventNow, Kind, Op, Seat, State, TaskKind, Why};
 
-/// The visible count: the registered events modulo 65,536.
+/// The count that user space sees: the registered events modulo 65,536 (`pm_get_wakeup_count`).
 pub(crate) fn visible(now: EventNow) -> u32
     ensures { result ≡ visible now }
 {
     now.count % 65536
 }
 
-/// The time after an entry, in ms: a jump sets it.
-pub(crate) fn time_after(kind: Kind, at: u64, before: u64) -> u64
-    ensures { result ≡ time_after kind at before }
+/// The text up to its first newline.
+fn first_line(text: &[u8]) -> &[u8]
+    ensures { result.now ≡ first_line text.now }
 {
-    match kind {
-        Kind::Jump => at,
-        _ => before,
-    }
-}
-
-/// Whether a count in force has changed, or an event is in progress.
-pub(crate) fn count_pending(force: Option<u32>, now: EventNow) -> bool
-    ensures { result ≡ count_pending force now }
-{
-    match force {
-        None => false,
-        Some(c) => visible(now) != c || now.inpr > 0,
-    }
-}
-
-/// The count in force after an entry that saw this word.
-pub(crate) fn force_after(kind: Kind, now: EventNow, before: Option<u32>) -> Option<u32>
-    ensures { result ≡ force_after (count_part kind) now before }
-{
-    match kind {
-        Kind::Saved(c) | Kind::AutoSaved(c) => Some(c),
-        Kind::SaveErr(_, Errno::EINVAL) | Kind::AutoUnsaved(_) | Kind::Clear => None,
-        Kind::Froze(_, FrozeEnd::Wakeup { .. })
-        | Kind::Skip(_, _, SkipCause::Pending)
-        | Kind::CpuBusy(_)
-        | Kind::SyscoreCheck(Some(Errno::EBUSY))
-        | Kind::Enter { busy: true } => {
-            if count_pending(before, now) {
-                None
-            } else {
-                before
-            }
+    for (at, byte) in text.iter().enumerate() {
+        if *byte == b'\n' {
+            return &text[..at];
         }
-        _ => before,
+    }
+    text
+}
+
+/// Whether the state `mem` is written (`decode_state`).
+pub(crate) fn is_mem(text: &[u8]) -> bool
+    ensures { result ≡ is_mem text.now }
+{
+    first_line(text) == b"mem".as_slice()
+}
+
+/// Whether autosleep is written off, with or without a newline (`autosleep_store`).
+pub(crate) fn is_off(text: &[u8]) -> bool
+    ensures { result ≡ is_off text.now }
+{
+    text == b"off".as_slice() || text == b"off\n".as_slice()
+}
+
+/// A read of the count of events (`pm_get_wakeup_count`).
+pub(crate) fn read_due(now: EventNow, waits: bool, asked: bool) -> Due
+    ensures { result ≡ read_due now waits asked }
+{
+    if now.inpr == 0 {
+        Due::Makes(Kind::Read(visible(now)))
+    } else if !waits {
+        Due::Makes(Kind::ReadWait)
+    } else if asked {
+        Due::Makes(Kind::ReadIntr)
+    } else {
+        Due::Waits(Why::InProgress)
     }
 }
 
-/// The hard events that are forgotten after an entry that saw this word.
-pub(crate) fn forgotten_after(kind: Kind, now: EventNow, before: u32) -> u32
-    ensures { result ≡ forgotten_after kind now before }
+/// A save of that number, with the lock free and autosleep off (`pm_save_wakeup_count`).
+fn save_due(now: EventNow, count: u32) -> Due
+    ensures { result ≡ save_due now count }
 {
-    match kind {
-        Kind::Freeze(Group::User) => now.hard,
-        _ => before,
+    if visible(now) == count && now.inpr == 0 {
+        Due::Makes(Kind::Saved(count))
+    } else {
+        Due::Makes(Kind::SaveErr(count, Errno::EINVAL))
     }
 }
 
-/// The number of attempts after an entry.
-pub(crate) fn attempts_after(kind: Kind, before: u32) -> u32
-    requires { attempts_after kind before < 2 ^ 32 }
-    ensures { result ≡ attempts_after kind before }
+/// Where another holds the autosleep lock: a write says once that it waits, and gives up where it is
+/// asked to freeze (`pm_autosleep_lock`).
+fn lock_due(waits: bool, asked: bool, says: Due, gives_up: Due) -> Due
+    ensures { result ≡ lock_due waits asked says gives_up }
 {
-    match kind {
-        Kind::Attempt { .. } => before + 1,
-        _ => before,
+    if !waits {
+        says
+    } else if asked {
+        gives_up
+    } else {
+        Due::Waits(Why::LockHeld)
     }
 }
 
-/// Who makes the open attempt after an entry.
-pub(crate) fn maker_after(kind: Kind, who: Actor, before: Option<Actor>) -> Option<Actor>
-    ensures { result ≡ maker_after kind who before }
+/// A write of that number to the count of events (`wakeup_count_store`).
+pub(crate) fn count_due(held: bool, on: bool, waits: bool, asked: bool, now: EventNow, count: u32) -> Due
+    ensures { result ≡ count_due held on waits asked now count }
 {
-    match kind {
-        Kind::Attempt { .. } => Some(who),
-        Kind::Over { .. } => None,
-        _ => before,
+    if held {
+        let says = Due::Makes(Kind::SaveWait(count));
+        lock_due(waits, asked, says, Due::Makes(Kind::SaveErr(count, Errno::EINTR)))
+    } else if on {
+        Due::Makes(Kind::SaveErr(count, Errno::EBUSY))
+    } else {
+        save_due(now, count)
     }
 }
 
-/// Whether that script is the actor.
-pub(crate) fn is_script(script: u32, who: Option<Actor>) -> bool
-    ensures { result ≡ is_script script who }
+/// A write to the state, whose text is `mem` or not, and whose attempt would be that (`state_store`).
+pub(crate) fn state_due(held: bool, on: bool, waits: bool, asked: bool, mem: bool, attempt: Kind) -> Due
+    ensures { result ≡ state_due held on waits asked mem attempt }
 {
-    match who {
-        Some(Actor::Script(other)) => other == script,
-        _ => false,
+    if held {
+        let says = Due::Makes(Kind::StateWait);
+        lock_due(waits, asked, says, Due::Makes(Kind::StateErr(Errno::EINTR)))
+    } else if on {
+        Due::Makes(Kind::StateErr(Errno::EBUSY))
+    } else if mem {
+        Due::Makes(attempt)
+    } else {
+        Due::Makes(Kind::StateErr(Errno::EINVAL))
     }
 }
 
-/// Where the attempt stands after an entry made at that position and time.
-pub(crate) fn row_after(kind: Kind, pos: u64, time: u64, before: Row) -> Row
-    ensures { result ≡ row_after kind pos time before }
+/// A write to autosleep, whose text is `mem`, or is `off` (`autosleep_store`).
+pub(crate) fn autosleep_due(held: bool, begun: bool, mem: bool, off: bool) -> Due
+    ensures { result ≡ autosleep_due held begun mem off }
 {
-    match kind {
-        Kind::Attempt { .. } => Row::Suspend,
-        Kind::Done(Phase::Suspend, None) => Row::Enter,
-        Kind::Done(Phase::Suspend, Some(_)) => Row::Resume,
-        Kind::Enter { busy: false } => Row::Asleep { pos, since: time },
-        Kind::Enter { busy: true } | Kind::Wake { .. } => Row::Resume,
-        Kind::Done(Phase::Resume, _) => Row::Clear,
-        Kind::Clear => Row::Over,
-        Kind::Over { .. } => Row::Outside,
-        _ => before,
+    if !(mem || off) {
+        Due::Makes(Kind::AutoBad)
+    } else if begun {
+        Due::Makes(Kind::AutoDone)
+    } else if held {
+        Due::Waits(Why::LockHeld)
+    } else if mem {
+        Due::Makes(Kind::AutoSet(State::Mem))
+    } else {
+        Due::Makes(Kind::AutoSet(State::Off))
     }
 }
 
-/// The error of the attempt's failed step after an entry.
-pub(crate) fn failure_after(kind: Kind, before: Option<Errno>) -> Option<Errno>
-    ensures { result ≡ failure_after kind before }
+/// A sleep up to that time in ms, now.
+fn slept_due(until: Option<u64>, time: u64) -> Due
+    ensures { result ≡ slept_due until time }
 {
-    match kind {
-        Kind::Attempt { .. } => None,
-        Kind::Done(Phase::Suspend, Some(r)) => Some(r),
-        Kind::Enter { busy: true } => Some(Errno::EBUSY),
-        _ => before,
+    match until {
+        None => Due::Gone,
+        Some(until) if until <= time => Due::Makes(Kind::Slept),
+        Some(until) => Due::Waits(Why::Until(until)),
     }
 }
 
-/// The device whose callback runs after an entry.
-pub(crate) fn inside_after(kind: Kind, before: Option<u32>) -> Option<u32>
-    ensures { result ≡ inside_after kind before }
+/// A sleep that can be frozen, of so many ms, now (`schedule_timeout`).
+pub(crate) fn sleep_due(ms: u32, seat: Seat, time: u64) -> Due
+    requires { time ≤ 2 ^ 63 }
+    ensures { result ≡ sleep_due Sleep ms seat time }
 {
-    match kind {
-        Kind::Begin(_, d) => Some(d),
-        Kind::End(_, _, _) => None,
-        _ => before,
+    if seat.waits {
+        slept_due(seat.until, time)
+    } else {
+        Due::Makes(Kind::Sleep(time + ms as u64))
     }
 }
 
-/// The error that stands in the open phase after an entry.
-pub(crate) fn error_after(kind: Kind, before: Option<Errno>) -> Option<Errno>
-    ensures { result ≡ error_after kind before }
+/// An uninterruptible sleep of so many ms, now (`schedule_timeout_uninterruptible`).
+pub(crate) fn sleep_d_due(ms: u32, seat: Seat, time: u64) -> Due
+    requires { time ≤ 2 ^ 63 }
+    ensures { result ≡ sleep_due SleepD ms seat time }
 {
-    match kind {
-        Kind::Attempt { .. } | Kind::Done(_, _) => None,
-        Kind::End(Phase::Suspend, _, Some(r)) => Some(r),
-        Kind::Skip(_, _, SkipCause::Pending) => Some(Errno::EBUSY),
-        _ => before,
+    if seat.waits {
+        slept_due(seat.until, time)
+    } else {
+        Due::Makes(Kind::SleepD(time + ms as u64))
     }
 }
 
-/// The place of the script whose entry it is, after it.
-pub(crate) fn seat_after(kind: Kind, before: Seat) -> Seat
-    requires { before.done < 2 ^ 63 }
-    ensures { result ≡ seat_after (seat_part kind) before }
+/// A wait for a mark, which was raised so often.
+pub(crate) fn mark_due(mark: u32, raised: u32) -> Due
+    ensures { result ≡ mark_due mark raised }
 {
-    let next = before.done + 1;
-    match kind {
-        Kind::ReadWait
-        | Kind::SaveWait(_)
-        | Kind::StateWait
-        | Kind::AutoSet(_)
-        | Kind::Sleep(_)
-        | Kind::SleepD(_) => Seat {
-            waits: true,
-            ..before
-        },
-        Kind::Read(c) => Seat {
-            done: next,
-            waits: false,
-            last_read: Some(c),
-            ..before
-        },
-        Kind::ReadIntr
-        | Kind::Saved(_)
-        | Kind::SaveErr(_, _)
-        | Kind::StateErr(_)
-        | Kind::StateUnsaved
-        | Kind::Over { .. }
-        | Kind::AutoBad
-        | Kind::AutoDone
-        | Kind::Slept
-        | Kind::Pass
-        | Kind::Post(_)
-        | Kind::Got(_)
-        | Kind::RuntimeAsk { .. } => Seat {
-            done: next,
-            waits: false,
-            ..before
-        },
-        Kind::Exit => Seat {
-            exited: true,
-            ..before
-        },
-        _ => before,
+    if raised > 0 {
+        Due::Makes(Kind::Got(mark))
+    } else {
+        Due::Waits(Why::Mark(mark))
     }
 }
 
-/// How many devices are through with the open phase after an entry.
-pub(crate) fn settled_after(kind: Kind, before: usize) -> usize
-    requires { before < 2 ^ 63 }
-    ensures { (xs : List ℕ) → length xs ≡ before → length (settled_after kind xs) ≡ result }
+/// The number that a save writes: the given one, else the one that was last read, else 0.
+pub(crate) fn saved_number(count: Option<u32>, last_read: Option<u32>) -> u32
+    ensures { result ≡ saved_number count last_read }
 {
-    match kind {
-        Kind::Attempt { .. } | Kind::Done(_, _) => 0,
-        Kind::End(Phase::Suspend, _, _) | Kind::Skip(_, _, _) => before + 1,
-        _ => before,
+    match count {
+        Some(count) => count,
+        None => last_read.unwrap_or(0),
     }
 }
 
-/// How many devices are suspended after an entry. One that resumes was the last to suspend.
-pub(crate) fn suspended_after(kind: Kind, before: usize) -> usize
-    requires { before < 2 ^ 63 }
-    ensures { (xs : List ℕ) → length xs ≡ before → ResumesLast kind xs → length (suspended_after kind xs) ≡ result }
+/// Whether it is an interrupt line, which goes on while the machine sleeps.
+pub(crate) fn is_line(kind: TaskKind) -> bool
+    ensures { result ≡ is_line kind }
 {
-    match kind {
-        Kind::End(Phase::Suspend, _, None) => before + 1,
-        Kind::Begin(Phase::Resume, _) => before.saturating_sub(1),
-        _ => before,
-    }
+    matches!(kind, TaskKind::Irq)
 }
 
-/// Whether a further attempt still has a number after an entry.
-pub(crate) fn leaves_number(kind: Kind, attempts: u32) -> bool
-    requires { attempts + 1 < 2 ^ 32 }
-    ensures fits { OnTrue result (attempts_after kind attempts + 1 < 2 ^ 32) }
-    ensures full { OnFalse result (IsAttempt kind) }
+/// Whether an operation has a text that autosleep takes.
+fn is_autosleep_text(text: &[u8]) -> bool
+    ensures { result ≡ (is_mem text.now || is_off text.now) }
 {
-    match kind {
-        Kind::Attempt { .. } => attempts < u32::MAX - 1,
-        _ => true,
-    }
+    is_mem(text) || is_off(text)
 }
 
-/// How many places an entry wants reserved before it is made.
-pub(crate) fn places_for(kind: Kind, devices: usize) -> usize
-    requires { devices ≤ 1000 }
-    ensures { result ≡ places_for kind devices }
+/// Where a task of user space, or another, that is asked freezes: at its operation, which has begun or
+/// not (`try_to_freeze`).
+pub(crate) fn freezes_at(user: bool, begun: bool, op: Option<&Op>) -> bool
+    ensures { result ≡ freezes_at user begun (option_copied op.entry) }
 {
-    match kind {
-        Kind::Attempt { .. } => 40 + 20 * devices,
-        _ => 1,
+    match op {
+        None => false,
+        Some(Op::Wait { .. }) | Some(Op::FreezePoint) => true,
+        Some(Op::Sleep { .. }) => begun || user,
+        Some(Op::Autosleep { text }) => user && !begun && !is_autosleep_text(text.as_slice()),
+        Some(_) => user && !begun,
     }
-}
-
-/// The tick after two. Where none is left it waits for ever.
-pub(crate) fn next_tick<R: Wait>(rt: &R, one: u64, other: u64) -> u64
-    ensures { result ≡ max one other + 1 }
-{
-    let last = one.max(other);
-    if last < u64::MAX {
-        return last + 1;
-    }
-    for _ in rt.forever() {}
-    unreachable!()
 }
