@@ -1,0 +1,10 @@
+//! The saved count and the test for a wakeup (`drivers/base/power/wakeup.c`), over a visible count
+//! of so many bits.
+#![tactic(auto)]
+
+mod guard;
+pub mod laws;
+#[cfg(test)]
+mod tests;
+
+pub use guard::Guard;
