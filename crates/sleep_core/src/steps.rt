@@ -3,44 +3,19 @@
 
 ghost use Rattle.std.specs.Prelude.{◌≡◌, ◌≤◌, ◌<◌, ◌+◌, ◌^◌, ◌||◌, option_copied};
 ghost use Rattle.sleep_model.specs.Steps.{read_due, save_due, lock_due, count_due, state_due, autosleep_due, slept_due, mark_due, saved_number, unless_unsaved, sleep_due};
-ghost use Rattle.sleep_model.specs.Tasks.{first_line, is_mem, is_off, is_line, is_user, freezes_at};
+ghost use Rattle.sleep_model.specs.Tasks.{is_line, is_user, freezes_at};
 ghost use Rattle.sleep_model.specs.Word.{visible};
 ghost use Rattle.sleep_model.specs.declared.entry.Kind.TheVariants.{Sleep, SleepD};
 
 use sleep_base::Errno;
 use sleep_model::{Due, EventNow, Kind, Op, Seat, State, TaskKind, Why};
+use sleep_state::is_autosleep_text;
 
 /// The count that user space sees: the registered events modulo 65,536 (`pm_get_wakeup_count`).
 pub(crate) fn visible(now: EventNow) -> u32
     ensures { result ≡ visible now }
 {
     now.count % 65536
-}
-
-/// The text up to its first newline.
-fn first_line(text: &[u8]) -> &[u8]
-    ensures { result.now ≡ first_line text.now }
-{
-    for (at, byte) in text.iter().enumerate() {
-        if *byte == b'\n' {
-            return &text[..at];
-        }
-    }
-    text
-}
-
-/// Whether the state `mem` is written (`decode_state`).
-pub(crate) fn is_mem(text: &[u8]) -> bool
-    ensures { result ≡ is_mem text.now }
-{
-    first_line(text) == b"mem".as_slice()
-}
-
-/// Whether autosleep is written off, with or without a newline (`autosleep_store`).
-pub(crate) fn is_off(text: &[u8]) -> bool
-    ensures { result ≡ is_off text.now }
-{
-    text == b"off".as_slice() || text == b"off\n".as_slice()
 }
 
 /// A read of the count of events (`pm_get_wakeup_count`).
@@ -191,13 +166,6 @@ pub(crate) fn is_line(kind: TaskKind) -> bool
     ensures { result ≡ is_line kind }
 {
     matches!(kind, TaskKind::Irq)
-}
-
-/// Whether an operation has a text that autosleep takes.
-fn is_autosleep_text(text: &[u8]) -> bool
-    ensures { result ≡ (is_mem text.now || is_off text.now) }
-{
-    is_mem(text) || is_off(text)
 }
 
 /// Where a task of user space, or another, that is asked freezes: at its operation, which has begun or

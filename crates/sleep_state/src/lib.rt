@@ -5,8 +5,10 @@ mod autosleep;
 mod journal;
 mod path;
 mod tasks;
+mod texts;
 
 pub use autosleep::{Autosleep, is_actor, is_same};
 pub use journal::Journal;
 pub use path::Path;
 pub use tasks::Tasks;
+pub use texts::{is_autosleep_text, is_mem, is_off};

@@ -1,4 +1,4 @@
-use Rattle.std.proofs.Common.{◌≡◌, length}
+use Rattle.std.proofs.Common.{◌≡◌}
 use Rattle.sleep_state.specs.Fronts.{asked_front}
 use Rattle.sleep_state.proofs.tasks.ask_all.Given as goal
 

@@ -1,4 +1,4 @@
-use Rattle.std.proofs.Common.{◌≡◌, length}
+use Rattle.std.proofs.Common.{◌≡◌}
 use Rattle.sleep_state.specs.Fronts.{front_let_go}
 use Rattle.sleep_state.proofs.tasks.let_all_go.Given as goal
 

@@ -1,0 +1,150 @@
+ghost use Rattle.std.specs.Prelude.{◌≡◌, ◌≤◌, ◌<◌, ◌+◌, ◌^◌, ◌++◌, ◌||◌, length, map, OnOk, IfOk, option_copied, slice_get, All, List, ℕ};
+ghost use Rattle.sleep_model.specs.Scripts.{makes_entry};
+ghost use Rattle.script_plan.specs.Plans.{expanded, op_of, op_at, entry_places, calls_in, turns_in, turns_from, calls_after, ops_of};
+
+use crate::expand::expand;
+use sleep_base::Mem;
+use sleep_model::{Op, Script, Step};
+use sleep_state::is_autosleep_text;
+use std::alloc::Global;
+use std::marker::Model;
+
+/// Whether an operation makes an entry of the journal, and is no call on a source.
+fn makes_entry(op: &Op) -> bool
+    ensures { result ≡ makes_entry op.now }
+{
+    !matches!(op, Op::Awake { .. } | Op::Relax { .. } | Op::Event { .. })
+}
+
+/// The operation at that place.
+fn op_at(steps: &[Step], at: usize) -> &Op
+    requires { at < length steps.now }
+    ensures { result.now ≡ op_at steps.now at }
+{
+    &steps[at].op
+}
+
+/// The places whose operations make entries.
+fn entry_places(alloc: Global, steps: &[Step], places: &[usize]) -> Result<Vec<usize>, Mem>
+    requires { All (λ at. at < length steps.now) places.now }
+    ensures { IfOk result (λ v. v.items ≡ entry_places steps.now places.now) }
+{
+    let mut kept = Vec::new(alloc);
+    for at in places {
+        if makes_entry(op_at(steps, *at)) {
+            kept.push(*at)?;
+        }
+    }
+    Ok(kept)
+}
+
+/// How many calls on sources an operation makes.
+fn calls_in(op: &Op) -> u32
+    ensures is { result ≡ calls_in op.now }
+    ensures few { result ≤ 2 }
+{
+    match op {
+        Op::Awake { .. } | Op::Relax { .. } | Op::Event { .. } => 1,
+        Op::Autosleep { text } if is_autosleep_text(text.as_slice()) => 2,
+        _ => 0,
+    }
+}
+
+/// The calls before each of an operation's turns, where so many were made before it.
+fn push_turns(turns: &mut Vec<u32>, before: u32, op: &Op) -> Result<(), Mem>
+    requires { before < 2 ^ 31 }
+    ensures { OnOk result (turns.new.items ≡ turns.old.items ++ turns_in before op.now) }
+{
+    match op {
+        Op::Awake { .. } | Op::Relax { .. } | Op::Event { .. } => {}
+        Op::Autosleep { text } if is_autosleep_text(text.as_slice()) => {
+            turns.push(before + 1)?;
+            turns.push(before + 2)?;
+        }
+        _ => turns.push(before)?,
+    }
+    Ok(())
+}
+
+/// How many calls stand before each turn of a script, and how many it makes in all.
+#[derive(Drop)]
+struct Calls {
+    before_turns: Vec<u32>,
+    all: u32,
+}
+
+/// The calls before each turn of the operations at these places.
+fn count_calls(alloc: Global, steps: &[Step], places: &[usize]) -> Result<Calls, Mem>
+    requires few { length places.now < 2 ^ 30 }
+    requires within { All (λ at. at < length steps.now) places.now }
+    ensures turns { IfOk result (λ c. c.before_turns.items ≡ turns_from 0 (ops_of steps.now places.now)) }
+    ensures all { IfOk result (λ c. c.all ≡ calls_after 0 (ops_of steps.now places.now)) }
+{
+    let mut before_turns = Vec::new(alloc);
+    let mut all = 0;
+    for at in places {
+        let op = op_at(steps, *at);
+        push_turns(&mut before_turns, all, op)?;
+        all += calls_in(op);
+    }
+    Ok(Calls { before_turns, all })
+}
+
+/// A script whose steps are counted once, so that each turn finds its own at once.
+#[derive(Drop)]
+pub struct Plan<'m> {
+    script: &'m Script,
+    entry_places: Vec<usize>,
+    calls: Calls,
+}
+
+impl<'m> Model for Plan<'m> {
+    ghost use Rattle.sleep_model.specs.declared.machine.Script.{Script};
+
+    ghost Value = { Script };
+
+    ghost use Rattle.script_plan.specs.PlanFields.{planned, keeps};
+
+    ghost view = { planned };
+
+    ghost invariant = { keeps };
+}
+
+impl<'m> Plan<'m> {
+    ghost use Rattle.std.specs.Prelude.{◌≡◌, ◌≤◌, ℕ, length, IfOk, option_copied, slice_get};
+    ghost use Rattle.sleep_model.specs.Scripts.{operations, entry_steps, pieces};
+    ghost use Rattle.script_plan.specs.Plans.{calls_before};
+
+    /// The plan of a script, which makes at most 200,000 steps. `Mem` where there is no memory.
+    pub fn new(alloc: Global, script: &'m Script) -> Result<Self, Mem>
+        requires { length (operations script.now) ≤ 200000 }
+        ensures { IfOk result (λ p. p ≡ script.now) }
+    {
+        let places = expand(alloc, script)?;
+        let steps = script.steps.as_slice();
+        Ok(Plan {
+            script,
+            entry_places: entry_places(alloc, steps, &places)?,
+            calls: count_calls(alloc, steps, &places)?,
+        })
+    }
+
+    /// The operation that makes the script's entries with that number, from 0. None where it has none left.
+    pub fn operation(&self, number: usize) -> Option<&'m Op>
+        ensures { option_copied result ≡ slice_get (entry_steps self.now) number }
+    {
+        let at = *self.entry_places.get(number)?;
+        let steps: &'m [Step] = self.script.steps.as_slice();
+        Some(op_at(steps, at))
+    }
+
+    /// How many calls on sources stand before the script's turn with that number, from 0, or before its exit.
+    pub fn calls_before(&self, turn: usize) -> u32
+        ensures { (source : ℕ) → result ≡ calls_before (pieces source self.now) turn }
+    {
+        match self.calls.before_turns.get(turn) {
+            Some(calls) => *calls,
+            None => self.calls.all,
+        }
+    }
+}
