@@ -1,4 +1,6 @@
+pub mod Flags
 pub mod Holding
+pub mod Levels
 pub mod Made
 pub mod Making
 pub mod MakingOwn
