@@ -1,3 +1,4 @@
+pub mod Restoring
 pub mod Flags
 pub mod Holding
 pub mod Levels
