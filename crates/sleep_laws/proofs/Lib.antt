@@ -1,3 +1,4 @@
+pub mod Answering
 pub mod Restoring
 pub mod Flags
 pub mod Holding
