@@ -7,3 +7,5 @@ pub mod Made
 pub mod Making
 pub mod MakingOwn
 pub mod Telling
+pub mod Owing
+pub mod Stepping
