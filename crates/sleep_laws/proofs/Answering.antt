@@ -1,8 +1,7 @@
 -- Whether an attempt enters, fails, or is disturbed, by the side of the table that it is on.
-use Rattle.std.proofs.Common.{◌≡◌, ◌∙◌, ℕ, ℤ, pos, negsuc, Bool, true, false, not, ◌||◌, List, [], ◌∷◌, Option, Some, None, is_some, is_none, refl, sym, ap, subst}
+use Rattle.std.proofs.Common.{◌≡◌, ◌∙◌, ℕ, pos, negsuc, Bool, true, false, ◌||◌, List, [], ◌∷◌, Option, Some, None, is_some, is_none, refl, sym, ap}
 use Rattle.std.proofs.lemmas.Bool.{true≢false}
 use Rattle.sleep_base.specs.declared.errno.Errno.{Errno}
-use Rattle.sleep_base.specs.declared.errno.Errno.TheVariants.{EBUSY}
 use Rattle.sleep_model.specs.declared.entry.Actor.{Actor}
 use Rattle.sleep_model.specs.declared.entry.Actor.TheVariants as actor
 use Rattle.sleep_model.specs.declared.entry.Entry.{Entry}
@@ -13,17 +12,15 @@ use Rattle.sleep_model.specs.declared.place.Sleep.{Sleep}
 use Rattle.sleep_model.specs.declared.place.Stage.{Stage}
 use Rattle.sleep_model.specs.declared.place.Stage.TheVariants as stage
 use Rattle.sleep_model.specs.declared.word.EventNow.{EventNow}
-use Rattle.sleep_model.specs.Attempt.{failed, failed_after, sleep_of, sleep_after}
+use Rattle.sleep_model.specs.Attempt.{failed, failed_after, sleep_of}
 use Rattle.sleep_model.specs.Devices.{is_device, phase_failed, phase_failed_after}
 use Rattle.sleep_model.specs.Guard.{pending}
 use Rattle.sleep_model.specs.Laws.{test_part, disturbed, disturbed_after, entered, UndisturbedEnters, AnswersFailure}
 use Rattle.sleep_model.specs.Legal.{JournalPart}
-use Rattle.sleep_model.specs.Path.{attempts}
-use Rattle.sleep_model.specs.Table.{stage_of, stage_after}
-use Rattle.sleep_model.specs.Word.{position}
-use Rattle.sleep_laws.proofs.Holding.{Aside, Moved, Opens, Makes, Beside, Owns, Kept, at_stage, at_made, entry_of, moved}
-use Rattle.sleep_laws.proofs.Made.{Down, InSuspend, InLate, InNoirq, Up, InResume, InEarly, InResumeNoirq, Made, Comes, DeviceMade, EntryMade, AtOnce, PastNotifiers, PastCpus, PastParts, PastPartsUp, PastCpusUp, PastPosts}
-use Rattle.sleep_laws.proofs.Telling.{some≢none, none≢some}
+use Rattle.sleep_model.specs.Table.{stage_after}
+use Rattle.sleep_laws.proofs.Holding.{Aside, Moved, Opens, Makes, Beside, Owns, Kept, at_made, entry_of, moved}
+use Rattle.sleep_laws.proofs.Made.{InSuspend, InLate, InNoirq, InResume, InEarly, InResumeNoirq, Made, Comes, DeviceMade, EntryMade, AtOnce, PastNotifiers, PastCpus, PastParts, PastPartsUp, PastCpusUp, PastPosts}
+use Rattle.sleep_laws.proofs.Telling.{none≢some}
 
 -- ---- by the side of the table
 

@@ -9,3 +9,4 @@ pub mod MakingOwn
 pub mod Telling
 pub mod Owing
 pub mod Stepping
+pub mod Reaching

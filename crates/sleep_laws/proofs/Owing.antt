@@ -1,7 +1,6 @@
 -- An undo stands only for what is owed, and a test that found a wakeup only where one is pending.
-use Rattle.std.proofs.Common.{◌≡◌, ℕ, Bool, true, false, List, [], ◌∷◌, Option, Some, None, length, refl, sym}
+use Rattle.std.proofs.Common.{◌≡◌, ℕ, true, List, ◌∷◌, Some, length, refl, sym}
 use Rattle.std.proofs.lemmas.Bool.{true≢false}
-use Rattle.sleep_base.specs.declared.errno.Errno.{Errno}
 use Rattle.sleep_base.specs.declared.errno.Errno.TheVariants.{EINVAL}
 use Rattle.sleep_model.specs.declared.entry.Actor.{Actor}
 use Rattle.sleep_model.specs.declared.entry.Entry.{Entry}
@@ -13,7 +12,7 @@ use Rattle.sleep_model.specs.declared.word.EventNow.{EventNow}
 use Rattle.phase_table.specs.declared.phase.Phase.TheVariants as phase
 use Rattle.phase_table.specs.Phases.{is_up, mirror}
 use Rattle.sleep_model.specs.Devices.{stand_in}
-use Rattle.sleep_model.specs.Guard.{pending, count_part}
+use Rattle.sleep_model.specs.Guard.{count_part}
 use Rattle.sleep_model.specs.Laws.{Owed, FoundPending, may_come_up}
 use Rattle.sleep_model.specs.Legal.{JournalPart}
 use Rattle.sleep_model.specs.Notifiers.{told, stopped, cpus_off, call_order, syscore_parts, other_cpus}

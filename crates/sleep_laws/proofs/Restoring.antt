@@ -1,17 +1,15 @@
 -- What an attempt stopped is started again, by stages.
-use Rattle.std.proofs.Common.{◌≡◌, ◌≤◌, ◌∙◌, ℕ, zero, suc, Bool, true, false, List, [], ◌∷◌, length, length-set, map, replicate, Option, Some, None, refl, sym, ap, subst, arith, slice_set}
+use Rattle.std.proofs.Common.{◌≡◌, ◌∙◌, ℕ, zero, suc, Bool, true, false, List, [], ◌∷◌, length, length-set, map, replicate, Option, Some, None, refl, sym, ap, arith, slice_set}
 use Rattle.std.proofs.lemmas.Bool.{true≢false}
 use Rattle.sleep_model.specs.declared.entry.Actor.{Actor}
 use Rattle.sleep_model.specs.declared.entry.Actor.TheVariants as actor
 use Rattle.sleep_model.specs.declared.entry.Entry.{Entry}
 use Rattle.sleep_model.specs.declared.entry.Group.{Group}
-use Rattle.sleep_model.specs.declared.entry.Group.TheVariants as group
 use Rattle.sleep_model.specs.declared.entry.Kind.{Kind}
 use Rattle.sleep_model.specs.declared.entry.Kind.TheVariants as kind
 use Rattle.sleep_model.specs.declared.entry.Thaw.{Thaw as Thawing}
 use Rattle.sleep_model.specs.declared.entry.Thaw.TheVariants as thaw
 use Rattle.sleep_model.specs.declared.machine.Machine.{Machine}
-use Rattle.sleep_model.specs.declared.machine.PlatDo.TheVariants as down
 use Rattle.sleep_model.specs.declared.machine.Script.{Script}
 use Rattle.sleep_model.specs.declared.place.Callback.{Callback}
 use Rattle.sleep_model.specs.declared.place.Freezing.{Freezing}
@@ -23,17 +21,17 @@ use Rattle.sleep_model.specs.declared.place.Stage.TheVariants as stage
 use Rattle.sleep_model.specs.declared.word.EventNow.{EventNow}
 use Rattle.phase_table.specs.declared.phase.Phase.TheVariants as phase
 use Rattle.sleep_model.specs.Devices.{callback, is_device}
-use Rattle.sleep_model.specs.Freezer.{unasked, freezings, freezings_after, freezing_at, all_asked, all_let_go, let_go, put_frozen}
+use Rattle.sleep_model.specs.Freezer.{unasked, freezings, freezings_after, freezing_at, all_asked, all_let_go, put_frozen}
 use Rattle.sleep_model.specs.Laws.{NothingOwed, NoneStands}
 use Rattle.sleep_model.specs.Legal.{JournalPart}
-use Rattle.sleep_model.specs.Notifiers.{told, cpus_off, irqs_off, stopped, asked_platform, other_cpus, next_cpu_off, next_cpu_on}
+use Rattle.sleep_model.specs.Notifiers.{told, cpus_off, stopped, other_cpus}
 use Rattle.sleep_model.specs.Order.{is_among}
 use Rattle.sleep_model.specs.Table.{stage_of, stage_after}
 use Rattle.sleep_model.specs.Walk.{is_so}
 use Rattle.sleep_laws.proofs.Flags.{first_among, run_least, set_other, none_told, none_stopped, none_off}
-use Rattle.sleep_laws.proofs.Holding.{Aside, Kept, at_stage, at_made, entry_of}
+use Rattle.sleep_laws.proofs.Holding.{Aside, Kept, at_made, entry_of}
 use Rattle.sleep_laws.proofs.Levels.{Exact, exact_kept}
-use Rattle.sleep_laws.proofs.Made.{Made, Comes, DeviceMade, TaskMade, StepMade, WorkMade, EntryMade, ByTask, ByMaker, ByWork, ByDevice, ByTime, AtOnce, PastNotifiers, PastCpus, PastParts, PastPartsUp, PastCpusUp, PastPosts}
+use Rattle.sleep_laws.proofs.Made.{Made, Comes, DeviceMade, TaskMade, StepMade, WorkMade, EntryMade, ByTask, ByMaker, ByWork, ByDevice, AtOnce, PastNotifiers, PastCpus, PastParts, PastPartsUp, PastCpusUp, PastPosts}
 
 -- ---- what is undone at a stage
 
