@@ -1,5 +1,12 @@
+pub mod Answering
+pub mod Restoring
+pub mod Flags
 pub mod Holding
+pub mod Levels
 pub mod Made
 pub mod Making
 pub mod MakingOwn
 pub mod Telling
+pub mod Owing
+pub mod Stepping
+pub mod Reaching
