@@ -1,0 +1,81 @@
+-- Searches in rows that have each device once, and rows in which none is found.
+use Rattle.std.proofs.Common.{◌≡◌, ◌<◌, ◌∙◌, ℕ, zero, suc, Bool, true, false, not, ◌==◌, ◌&&◌, ◌⊎◌, inl, inr, List, [], ◌∷◌, length, filter, get_or, cond, Option, Some, None, refl, sym, ap, subst, arith}
+use Rattle.std.specs.List.{find, list_all}
+use Rattle.std.proofs.lemmas.Bool.{false≢true, true≢false, eqb-true, cases_lt}
+use Rattle.sleep_model.specs.declared.machine.Link.{Link}
+use Rattle.sleep_model.specs.declared.place.Stand.{Stand}
+use Rattle.sleep_model.specs.Links.{first_places}
+use Rattle.sleep_model.specs.Order.{hanging, holding}
+use Rattle.sleep_model.specs.Stands.{stand_at, is_unsettled, is_low}
+use Rattle.sleep_model.specs.Walk.{first_where}
+use Rattle.async_board.specs.Counts.{IsCount}
+use Rattle.async_board.specs.Walks.{IsBelow, IsAbove}
+
+pub first_is_find : (p : ℕ → Bool) (xs : List ℕ) → first_where p xs ≡ find p xs
+first_is_find p [] = refl
+first_is_find p (x ∷ xs) = ap (λ o. cond (p x) (Some x) o) (first_is_find p xs)
+
+-- a device that does not pass may be left out
+first_others : (p : ℕ → Bool) (x : ℕ) (ys : List ℕ) → p x ≡ false → first_where p (filter (λ y. not (y == x)) ys) ≡ first_where p ys
+first_others p x [] e = refl
+first_others p x (y ∷ ys) e = by_test (first_others p x ys e) (y == x) refl
+  where
+    by_test : first_where p (filter (λ z. not (z == x)) ys) ≡ first_where p ys → (b : Bool) → (y == x) ≡ b → first_where p (cond (not b) (y ∷ filter (λ z. not (z == x)) ys) (filter (λ z. not (z == x)) ys)) ≡ cond (p y) (Some y) (first_where p ys)
+    by_test rest true f = rest ∙ ap (λ b. cond b (Some y) (first_where p ys)) (sym (ap p (eqb-true y x f) ∙ e))
+    by_test rest false f = ap (λ o. cond (p y) (Some y) o) rest
+
+pub first_once : (p : ℕ → Bool) (xs : List ℕ) → first_where p (first_places xs) ≡ first_where p xs
+first_once p [] = refl
+first_once p (x ∷ xs) = by_test (p x) refl
+  where
+    by_test : (b : Bool) → p x ≡ b → cond b (Some x) (first_where p (filter (λ y. not (y == x)) (first_places xs))) ≡ cond b (Some x) (first_where p xs)
+    by_test true e = refl
+    by_test false e = first_others p x (first_places xs) e ∙ first_once p xs
+
+-- a device that passes may be left out
+all_others : (p : ℕ → Bool) (x : ℕ) (ys : List ℕ) → p x ≡ true → list_all p (filter (λ y. not (y == x)) ys) ≡ list_all p ys
+all_others p x [] e = refl
+all_others p x (y ∷ ys) e = by_test (all_others p x ys e) (y == x) refl
+  where
+    by_test : list_all p (filter (λ z. not (z == x)) ys) ≡ list_all p ys → (b : Bool) → (y == x) ≡ b → list_all p (cond (not b) (y ∷ filter (λ z. not (z == x)) ys) (filter (λ z. not (z == x)) ys)) ≡ (p y && list_all p ys)
+    by_test rest true f = rest ∙ ap (λ b. b && list_all p ys) (sym (ap p (eqb-true y x f) ∙ e))
+    by_test rest false f = ap (λ b. p y && b) rest
+
+pub all_once : (p : ℕ → Bool) (xs : List ℕ) → list_all p (first_places xs) ≡ list_all p xs
+all_once p [] = refl
+all_once p (x ∷ xs) = by_test (p x) refl
+  where
+    by_test : (b : Bool) → p x ≡ b → (b && list_all p (filter (λ y. not (y == x)) (first_places xs))) ≡ (b && list_all p xs)
+    by_test true e = all_others p x (first_places xs) e ∙ all_once p xs
+    by_test false e = refl
+
+-- where none passes, none is found
+none_found : (p : ℕ → Bool) (xs : List ℕ) → length (filter p xs) ≡ 0 → first_where p xs ≡ None
+none_found p [] e = refl
+none_found p (x ∷ xs) e = by_test (p x) refl e
+  where
+    by_test : (b : Bool) → p x ≡ b → length (cond b (x ∷ filter p xs) (filter p xs)) ≡ 0 → cond b (Some x) (first_where p xs) ≡ None
+    by_test true f g = absurd (omega arith)
+    by_test false f g = none_found p xs g
+
+none_counted : (n : ℕ) (p : ℕ → Bool) (row : ℕ → List ℕ) (counts : List ℕ) (d : ℕ) → IsCount n p (λ x. first_places (row x)) counts → (get_or counts d 1 == 0) ≡ true → first_where p (row d) ≡ None
+none_counted n p row counts d h z = sym (first_once p (row d)) ∙ none_found p (first_places (row d)) (sym (h.each d (omega (arith, within, h.size))) ∙ zero_at)
+  where
+    read : (xs : List ℕ) (i : ℕ) → get_or xs i 1 ≡ 0 → (i < length xs) × (get_or xs i 0 ≡ 0)
+    read [] i e = absurd (omega arith)
+    read (x ∷ xs) zero e = (omega arith, e)
+    read (x ∷ xs) (suc i) e = let r = read xs i e in (omega (arith, r.0), r.1)
+
+    within : d < length counts
+    within = (read counts d (eqb-true (get_or counts d 1) 0 z)).0
+
+    zero_at : get_or counts d 0 ≡ 0
+    zero_at = (read counts d (eqb-true (get_or counts d 1) 0 z)).1
+
+pub below_none : (ps : List (Option ℕ)) (ls : List Link) (stands : List Stand) (counts : List ℕ) (d : ℕ) → IsBelow ps ls stands counts → (get_or counts d 1 == 0) ≡ true
+    → first_where (λ e. is_unsettled (stand_at stands e)) (hanging ps ls d) ≡ None
+below_none ps ls stands counts d h z = none_counted (length ps) (λ e. is_unsettled (stand_at stands e)) (hanging ps ls) counts d h z
+
+pub above_none : (ps : List (Option ℕ)) (ls : List Link) (stands : List Stand) (counts : List ℕ) (d : ℕ) → IsAbove ps ls stands counts → (get_or counts d 1 == 0) ≡ true
+    → first_where (λ e. is_low (stand_at stands e)) (holding ps ls d) ≡ None
+above_none ps ls stands counts d h z = none_counted (length ps) (λ e. is_low (stand_at stands e)) (holding ps ls) counts d h z

@@ -1,0 +1,132 @@
+-- What is seen of the others after one device has moved.
+use Rattle.std.proofs.Common.{◌≡◌, ◌≢◌, ◌<◌, ◌≤◌, ◌∙◌, ℕ, zero, suc, Option, Bool, true, false, List, [], ◌∷◌, length, filter, replicate, get_or, set, cond, refl, sym, ap, subst, arith, get_or-set_same, get_or-set_other}
+use Rattle.std.proofs.lemmas.Bool.{false≢true}
+use Rattle.sleep_model.specs.declared.place.Stand.{Stand}
+use Rattle.sleep_model.specs.declared.place.Stand.TheVariants as stand
+use Rattle.std.proofs.lemmas.List.{length-replicate}
+use Rattle.sleep_model.specs.declared.machine.Link.{Link}
+use Rattle.sleep_model.specs.Order.{hanging, holding}
+use Rattle.sleep_model.specs.Links.{first_places}
+use Rattle.sleep_model.specs.Stands.{stand_at, is_low, is_unsettled}
+use Rattle.async_board.specs.declared.walk.Layout.{Layout}
+use Rattle.async_board.specs.declared.walk.Walk.{Walk}
+use Rattle.async_board.specs.Counts.{IsLengths}
+use Rattle.async_board.specs.declared.pick.Pick.{Pick}
+use Rattle.async_board.specs.declared.pick.Pick.TheVariants as pick
+use Rattle.async_board.specs.declared.cursors.Cursors.{Cursors}
+use Rattle.sleep_model.specs.Walk.{is_so}
+use Rattle.async_board.specs.Picks.{picks, is_picked, IsPassed, IsAhead}
+use Rattle.async_board.specs.Cursors.{IsPassedBut, IsAheadBut, AreCursors, AreCursorsBut}
+use Rattle.async_board.specs.Walks.{IsPlaced, IsBelow, IsAbove, IsWalk, order_of}
+
+pub others_stand : (stands : List Stand) (d x : ℕ) (s : Stand) → (x ≡ d → ⊥) → stand_at (set stands d s) x ≡ stand_at stands x
+others_stand stands d x s ne = get_or-set_other stands d x s stand.Unprepared ne
+
+pub stands_anew : (stands : List Stand) (d : ℕ) (s : Stand) → d < length stands → stand_at (set stands d s) d ≡ s
+stands_anew stands d s l = get_or-set_same stands d s stand.Unprepared l
+
+-- who is low is a device
+pub low_within : (stands : List Stand) (x : ℕ) → is_low (stand_at stands x) ≡ true → x < length stands
+low_within [] x h = absurd (false≢true h)
+low_within (s ∷ stands) zero h = omega arith
+low_within (s ∷ stands) (suc x) h = omega (arith, low_within stands x h)
+
+module _ (beside : List Bool) (stands : List Stand) (order places : List ℕ) (d : ℕ) (s : Stand) (placed : IsPlaced order places) where
+  other : (i : ℕ) → i < length order → i ≢ get_or places d 0 → get_or order i 0 ≡ d → ⊥
+  other i l ne e = ne (sym (placed.once i l) ∙ ap (λ x. get_or places x 0) e)
+
+  picked_same : (what : Pick) (x : ℕ) → (x ≡ d → ⊥) → is_picked what beside (set stands d s) x ≡ is_picked what beside stands x
+  unfolding is_picked
+  picked_same what x ne = ap (λ t. picks what t (is_so beside x)) (others_stand stands d x s ne)
+
+  passed_but : (what : Pick) (at : ℕ) → IsPassed (is_picked what beside stands) order at → IsPassedBut (get_or places d 0) (is_picked what beside (set stands d s)) order at
+  passed_but what at h = record {
+    fits = h.fits;
+    before = λ i l ne. picked_same what (get_or order i 0) (other i (let f : at ≤ length order = h.fits in omega arith) ne) ∙ h.before i l;
+  }
+
+  ahead_but : (what : Pick) (at : ℕ) → IsAhead (is_picked what beside stands) order at → IsAheadBut (get_or places d 0) (is_picked what beside (set stands d s)) order at
+  ahead_but what at h = record {
+    fits = h.fits;
+    behind = λ i l m ne. picked_same what (get_or order i 0) (other i m ne) ∙ h.behind i l m;
+  }
+
+  -- the cursors, where the device that moved may pass or not
+  pub cursors_but : (c : Cursors) → AreCursors beside stands order c → AreCursorsBut (get_or places d 0) beside (set stands d s) order c
+  cursors_but c h = record {
+    unprepared = passed_but pick.Unprepared c.unprepared h.unprepared;
+    going = passed_but pick.Going c.going h.going;
+    given = passed_but pick.Given c.given h.given;
+    up = passed_but pick.Up c.up h.up;
+    low = passed_but pick.Low c.low h.low;
+    ready = ahead_but pick.Ready c.ready h.ready;
+    prepared = ahead_but pick.Prepared c.prepared h.prepared;
+  }
+
+-- ---- the first stands
+
+fresh_stands : (n d : ℕ) → stand_at (replicate n stand.Unprepared) d ≡ stand.Unprepared
+fresh_stands zero d = refl
+fresh_stands (suc n) zero = refl
+fresh_stands (suc n) (suc d) = fresh_stands n d
+
+all_pass : (p : ℕ → Bool) (xs : List ℕ) → ((x : ℕ) → p x ≡ true) → filter p xs ≡ xs
+all_pass p [] h = refl
+all_pass p (x ∷ xs) h = ap (λ b. cond b (x ∷ filter p xs) (filter p xs)) (h x) ∙ ap (λ ys. x ∷ ys) (all_pass p xs h)
+
+none_pass : (p : ℕ → Bool) (xs : List ℕ) → ((x : ℕ) → p x ≡ false) → filter p xs ≡ []
+none_pass p [] h = refl
+none_pass p (x ∷ xs) h = ap (λ b. cond b (x ∷ filter p xs) (filter p xs)) (h x) ∙ none_pass p xs h
+
+zeros : (n d : ℕ) → get_or {A = ℕ} (replicate n 0) d 0 ≡ 0
+zeros zero d = refl
+zeros (suc n) zero = refl
+zeros (suc n) (suc d) = zeros n d
+
+-- all are below and not through, and none is up
+pub fresh_below : (ps : List (Option ℕ)) (ls : List Link) (counts : List ℕ) → IsLengths (length ps) (λ d. first_places (hanging ps ls d)) counts → IsBelow ps ls (replicate (length ps) stand.Unprepared) counts
+fresh_below ps ls counts h = record {
+  size = h.size;
+  each = λ d l. h.each d l ∙ ap length (sym (all_pass (λ x. is_unsettled (stand_at (replicate (length ps) stand.Unprepared) x)) (first_places (hanging ps ls d)) (λ x. ap is_unsettled (fresh_stands (length ps) x))));
+}
+
+pub fresh_above : (ps : List (Option ℕ)) (ls : List Link) → IsAbove ps ls (replicate (length ps) stand.Unprepared) (replicate (length ps) 0)
+fresh_above ps ls = record {
+  size = length-replicate (length ps) 0;
+  each = λ d l. zeros (length ps) d ∙ ap length (sym (none_pass (λ x. is_low (stand_at (replicate (length ps) stand.Unprepared) x)) (first_places (holding ps ls d)) (λ x. ap is_low (fresh_stands (length ps) x))));
+}
+
+fresh_passed : (p : ℕ → Bool) (xs : List ℕ) → IsPassed p xs 0
+fresh_passed p xs = record { fits = omega arith; before = λ i l. absurd (omega arith) }
+
+fresh_ahead : (p : ℕ → Bool) (xs : List ℕ) → IsAhead p xs (length xs)
+fresh_ahead p xs = record { fits = omega arith; behind = λ i l m. absurd (omega arith) }
+
+pub fresh_cursors : (beside : List Bool) (stands : List Stand) (order : List ℕ) (n : ℕ) → n ≡ length order
+    → AreCursors beside stands order (record { unprepared = 0; going = 0; given = 0; up = 0; low = 0; ready = n; prepared = n })
+fresh_cursors beside stands order n e = record {
+  unprepared = fresh_passed (is_picked pick.Unprepared beside stands) order;
+  going = fresh_passed (is_picked pick.Going beside stands) order;
+  given = fresh_passed (is_picked pick.Given beside stands) order;
+  up = fresh_passed (is_picked pick.Up beside stands) order;
+  low = fresh_passed (is_picked pick.Low beside stands) order;
+  ready = subst (λ (k : ℕ). IsAhead (is_picked pick.Ready beside stands) order k) (sym e) (fresh_ahead (is_picked pick.Ready beside stands) order);
+  prepared = subst (λ (k : ℕ). IsAhead (is_picked pick.Prepared beside stands) order k) (sym e) (fresh_ahead (is_picked pick.Prepared beside stands) order);
+}
+
+-- a walk in which no device is prepared
+pub fresh_walk : (l : Layout) (w : Walk) (n : ℕ) → n ≡ length (order_of l) → n ≡ length l.links.parents → w.stands.items ≡ replicate n stand.Unprepared
+    → w.cursors ≡ record { unprepared = 0; going = 0; given = 0; up = 0; low = 0; ready = n; prepared = n }
+    → IsLengths (length l.links.parents) (λ d. first_places (hanging l.links.parents l.links.links d)) w.open_below.items → w.open_above.items ≡ replicate n 0 → IsWalk l w
+fresh_walk l w n e f stands cursors below above = record {
+  size = ap length stands ∙ (length-replicate n stand.Unprepared ∙ f);
+  cursors = subst (λ (c : Cursors). AreCursors l.beside.items w.stands.items (order_of l) c) (sym cursors) (fresh_cursors l.beside.items w.stands.items (order_of l) n e);
+  below = subst (λ (ss : List Stand). IsBelow l.links.parents l.links.links ss w.open_below.items) (sym fresh) (fresh_below l.links.parents l.links.links w.open_below.items below);
+  above =
+      subst (λ (ss : List Stand). IsAbove l.links.parents l.links.links ss w.open_above.items) (sym fresh)
+      (subst (λ (cs : List ℕ). IsAbove l.links.parents l.links.links (replicate (length l.links.parents) stand.Unprepared) cs) (sym (above ∙ ap (λ k. replicate k 0) f))
+      (fresh_above l.links.parents l.links.links));
+}
+  where
+    fresh : w.stands.items ≡ replicate (length l.links.parents) stand.Unprepared
+    fresh = stands ∙ ap (λ k. replicate k stand.Unprepared) f

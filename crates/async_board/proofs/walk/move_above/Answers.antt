@@ -1,0 +1,20 @@
+-- The rows and the stands are those of the links.
+use Rattle.std.proofs.Common.{◌≡◌, ◌∙◌, Bool, sym, ap}
+use Rattle.sleep_model.specs.Order.{is_among, hanging}
+use Rattle.sleep_model.specs.Stands.{is_low, stand_at}
+use Rattle.async_board.proofs.Waiting.{first_different}
+use Rattle.async_board.proofs.Layouts.{above_some, above_few, above_moved}
+use Rattle.async_board.proofs.walk.move_above.Goals as goal
+
+pub shift-requires-clause-apart : goal.shift-requires-clause-apart
+shift-requires-clause-apart c = rw c.below-below.ensures (first_different (hanging c.args.links.now.parents c.args.links.now.links c.args.device))
+
+pub shift-requires-clause-few : goal.shift-requires-clause-few
+shift-requires-clause-few c w i x l m =
+    above_few c.args.links.now.parents c.args.links.now.links c.args.stands.now c.args.device c.args.after c.args.counts.now.items c.requires.size c.requires.within c.requires.known
+    (ap is_low (sym c.stand_at.ensures) ∙ (sym c.is_low-was.ensures ∙ w)) (sym c.is_low.ensures ∙ i) x l (ap (λ xs. is_among xs x) (sym c.below-below.ensures) ∙ m)
+
+pub returns : goal.returns
+returns c =
+    above_moved c.args.links.now.parents c.args.links.now.links c.args.stands.now c.args.device c.args.after c.args.counts.now.items c.requires.size c.requires.within c.requires.known
+    c.below-below.result.now c.is_low-was.result c.is_low.result c.shift.new.counts.items c.below-below.ensures (c.is_low-was.ensures ∙ ap is_low c.stand_at.ensures) c.is_low.ensures c.shift.ensures

@@ -1,0 +1,25 @@
+-- The rows and the stands are those of the links.
+use Rattle.std.proofs.Common.{◌≡◌, ◌∙◌, Bool, List, ℕ, sym, ap, subst}
+use Rattle.sleep_model.specs.Links.{IsOrder}
+use Rattle.sleep_model.specs.Order.{is_among, hanging, holding, order_by}
+use Rattle.sleep_model.specs.Stands.{is_unsettled, stand_at}
+use Rattle.async_board.proofs.Waiting.{first_different}
+use Rattle.async_board.proofs.Layouts.{below_few, below_moved}
+use Rattle.async_board.proofs.walk.move_below.Goals as goal
+
+pub shift-requires-clause-apart : goal.shift-requires-clause-apart
+shift-requires-clause-apart c = rw c.above-above.ensures (first_different (holding c.args.links.now.parents c.args.links.now.links c.args.device))
+
+pub shift-requires-clause-few : goal.shift-requires-clause-few
+shift-requires-clause-few c w i x l m =
+    below_few c.args.links.now.parents c.args.links.now.links c.args.stands.now c.args.device c.args.after c.args.counts.now.items c.requires.size c.requires.within
+    (subst (λ (xs : List ℕ). IsOrder (hanging c.args.links.now.parents c.args.links.now.links) xs) c.order-order.ensures.order c.order-order.ensures.ranked)
+    (λ y k. ap (λ xs. is_among xs y) (sym c.order-order.ensures.order) ∙ c.order-order.ensures.covers y k)
+    (λ y k. c.order-order.ensures.within y (ap (λ xs. is_among xs y) c.order-order.ensures.order ∙ k))
+    c.requires.known
+    (ap is_unsettled (sym c.stand_at.ensures) ∙ (sym c.is_unsettled-was.ensures ∙ w)) (sym c.is_unsettled.ensures ∙ i) x l (ap (λ xs. is_among xs x) (sym c.above-above.ensures) ∙ m)
+
+pub returns : goal.returns
+returns c =
+    below_moved c.args.links.now.parents c.args.links.now.links c.args.stands.now c.args.device c.args.after c.args.counts.now.items c.requires.size c.requires.within c.requires.known
+    c.above-above.result.now c.is_unsettled-was.result c.is_unsettled.result c.shift.new.counts.items c.above-above.ensures (c.is_unsettled-was.ensures ∙ ap is_unsettled c.stand_at.ensures) c.is_unsettled.ensures c.shift.ensures

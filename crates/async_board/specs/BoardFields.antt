@@ -1,0 +1,23 @@
+-- What a board's fields are.
+use Rattle.std.specs.Prelude.{List}
+use Rattle.async_board.specs.Boards.{BoardState}
+use Rattle.async_board.specs.Walks.{IsLayout, IsWalk}
+use Rattle.async_board.specs.declared.board.Board.TheInside.{Inside}
+
+-- a board is seen as its links and the stands of its walks
+abbrev pub board_of : Inside → BoardState
+board_of b = record {
+  parents = b.layout.links.parents;
+  links = b.layout.links.links;
+  beside = b.layout.beside.items;
+  suspend = b.suspend.stands.items;
+  late = b.late.stands.items;
+  noirq = b.noirq.stands.items;
+}
+
+-- each of the three walks is one over the layout
+pub record AreKept (b : Inside) : Type 0 where
+  pub laid : IsLayout b.layout
+  pub suspend : IsWalk b.layout b.suspend
+  pub late : IsWalk b.layout b.late
+  pub noirq : IsWalk b.layout b.noirq

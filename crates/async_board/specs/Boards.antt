@@ -1,0 +1,99 @@
+-- A board as contracts see it, and what is asked of it.
+use Rattle.std.specs.Prelude.{ℕ, Bool, not, ◌&&◌, List, length, filter, replicate, Option}
+use Rattle.std.specs.List.{list_all}
+use Rattle.phase_table.specs.declared.phase.Phase.{Phase}
+use Rattle.phase_table.specs.declared.phase.Phase.TheVariants as phase
+use Rattle.sleep_model.specs.declared.entry.Kind.{Kind}
+use Rattle.sleep_model.specs.declared.machine.Link.{Link}
+use Rattle.sleep_model.specs.declared.place.Stand.{Stand}
+use Rattle.sleep_model.specs.declared.place.Stand.TheVariants as stand
+use Rattle.sleep_model.specs.Links.{first_places}
+use Rattle.sleep_model.specs.Order.{hanging, holding, order_by}
+use Rattle.sleep_model.specs.Stands.{stands_after, device_of, stand_at, is_unprepared, is_prepared, is_ready, is_unsettled, is_going_down, is_down_in, is_left_alone, is_low}
+use Rattle.sleep_model.specs.Walk.{is_so, first_where, last_where}
+
+-- the parent of each device, the links, the newest first, which devices are asynchronous, and where each stands in the three pairs of phases
+pub record BoardState : Type 0 where
+  pub parents : List (Option ℕ)
+  pub links : List Link
+  pub beside : List Bool
+  pub suspend : List Stand
+  pub late : List Stand
+  pub noirq : List Stand
+
+-- a board on which no device is prepared
+abbrev pub first_board : List (Option ℕ) → List Link → List Bool → BoardState
+first_board parents links beside = record {
+  parents = parents;
+  links = links;
+  beside = beside;
+  suspend = replicate (length parents) stand.Unprepared;
+  late = replicate (length parents) stand.Unprepared;
+  noirq = replicate (length parents) stand.Unprepared;
+}
+
+-- a board after an entry (dpm_run_callback)
+abbrev pub board_after : Kind → BoardState → BoardState
+board_after k board = record board {
+  suspend = stands_after phase.Suspend k (device_of k) board.suspend;
+  late = stands_after phase.Late k (device_of k) board.late;
+  noirq = stands_after phase.Noirq k (device_of k) board.noirq;
+}
+
+-- where each device stands in phase p, one on the way down, and its mirror
+abbrev pub stands_on : BoardState → Phase → List Stand
+stands_on board phase.Late = board.late
+stands_on board phase.Noirq = board.noirq
+stands_on board p = board.suspend
+
+-- the devices in order (dpm_list)
+abbrev pub order_on : BoardState → List ℕ
+order_on board = order_by board.parents board.links
+
+-- the device that is prepared next (dpm_prepare)
+abbrev pub next_prepared_on : BoardState → Option ℕ
+next_prepared_on board = first_where (λ d. is_unprepared (stand_at board.suspend d)) (order_on board)
+
+-- the device that is completed next (dpm_complete)
+abbrev pub next_completed_on : BoardState → Option ℕ
+next_completed_on board = last_where (λ d. is_prepared (stand_at board.suspend d)) (order_on board)
+
+-- the device that the walk down takes next (dpm_suspend)
+abbrev pub next_down_on : BoardState → Phase → Option ℕ
+next_down_on board p = last_where (λ d. is_ready (stand_at (stands_on board p) d)) (order_on board)
+
+-- the first device that is given out on the way down and not through (async_synchronize_full)
+abbrev pub waits_down_on : BoardState → Phase → Option ℕ
+waits_down_on board p = first_where (λ d. is_going_down (stand_at (stands_on board p) d)) (order_on board)
+
+-- the first asynchronous device that is down (dpm_async_fn)
+abbrev pub next_given_on : BoardState → Phase → Option ℕ
+next_given_on board p = first_where (λ d. is_down_in (stand_at (stands_on board p) d) && is_so board.beside d) (order_on board)
+
+-- the first synchronous device that is down (dpm_resume)
+abbrev pub next_up_on : BoardState → Phase → Option ℕ
+next_up_on board p = first_where (λ d. is_down_in (stand_at (stands_on board p) d) && not (is_so board.beside d)) (order_on board)
+
+-- the first device that is not yet up (async_synchronize_full)
+abbrev pub waits_up_on : BoardState → Phase → Option ℕ
+waits_up_on board p = first_where (λ d. is_low (stand_at (stands_on board p) d)) (order_on board)
+
+-- the first device below d that is not through (dpm_wait_for_subordinate)
+abbrev pub waits_below_on : BoardState → Phase → ℕ → Option ℕ
+waits_below_on board p d = first_where (λ e. is_unsettled (stand_at (stands_on board p) e)) (hanging board.parents board.links d)
+
+-- the first device above d that is not yet up (dpm_wait_for_superior)
+abbrev pub waits_above_on : BoardState → Phase → ℕ → Option ℕ
+waits_above_on board p d = first_where (λ e. is_low (stand_at (stands_on board p) e)) (holding board.parents board.links d)
+
+-- how many devices below d are not through (dpm_wait_for_subordinate)
+abbrev pub open_below_on : BoardState → Phase → ℕ → ℕ
+open_below_on board p d = length (filter (λ e. is_unsettled (stand_at (stands_on board p) e)) (first_places (hanging board.parents board.links d)))
+
+-- how many devices above d are not yet up (dpm_wait_for_superior)
+abbrev pub open_above_on : BoardState → Phase → ℕ → ℕ
+open_above_on board p d = length (filter (λ e. is_low (stand_at (stands_on board p) e)) (first_places (holding board.parents board.links d)))
+
+-- all devices below d are left alone (direct_complete)
+abbrev pub all_left_alone_on : BoardState → ℕ → Bool
+all_left_alone_on board d = list_all (λ e. is_left_alone (stand_at board.suspend e)) (hanging board.parents board.links d)

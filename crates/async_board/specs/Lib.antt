@@ -1,0 +1,6 @@
+pub mod BoardFields
+pub mod Boards
+pub mod Counts
+pub mod Cursors
+pub mod Picks
+pub mod Walks

@@ -1,0 +1,48 @@
+-- What is kept of a pair of phases.
+use Rattle.std.specs.Prelude.{◌≡◌, ◌<◌, ℕ, Bool, true, false, List, length, Option, slice_index_or}
+use Rattle.sleep_model.specs.declared.machine.Link.{Link}
+use Rattle.sleep_model.specs.declared.place.Stand.{Stand}
+use Rattle.sleep_model.specs.declared.place.Stand.TheVariants as stand
+use Rattle.sleep_model.specs.Links.{first_places}
+use Rattle.sleep_model.specs.Order.{hanging, holding, order_by}
+use Rattle.sleep_model.specs.Stands.{stand_at, is_unsettled, is_low}
+use Rattle.async_board.specs.Counts.{IsCount}
+use Rattle.async_board.specs.Cursors.{AreCursors}
+use Rattle.async_board.specs.declared.walk.Layout.{Layout}
+use Rattle.async_board.specs.declared.walk.Walk.{Walk}
+
+-- these are the places of the order's devices, which it has once each
+pub record IsPlaced (order places : List ℕ) : Type 0 where
+  pub size : length places ≡ length order
+  pub once : (i : ℕ) → i < length order → slice_index_or places (slice_index_or order i 0) 0 ≡ i
+  pub within : (d : ℕ) → d < length order → slice_index_or places d 0 < length order
+  pub here : (d : ℕ) → d < length order → slice_index_or order (slice_index_or places d 0) 0 ≡ d
+
+-- whether a device has failed since it was prepared, after one has moved to there
+abbrev pub failed_after : Stand → Bool → Bool
+failed_after stand.Failed before = true
+failed_after stand.Prepared before = false
+failed_after _ before = before
+
+-- how many devices right below each are not through with the phase on the way down
+abbrev pub IsBelow : List (Option ℕ) → List Link → List Stand → List ℕ → Type 0
+IsBelow parents links stands counts = IsCount (length parents) (λ d. is_unsettled (stand_at stands d)) (λ d. first_places (hanging parents links d)) counts
+
+-- how many devices right above each are not yet up
+abbrev pub IsAbove : List (Option ℕ) → List Link → List Stand → List ℕ → Type 0
+IsAbove parents links stands counts = IsCount (length parents) (λ d. is_low (stand_at stands d)) (λ d. first_places (holding parents links d)) counts
+
+-- the order that the links of a layout leave
+abbrev pub order_of : Layout → List ℕ
+order_of l = order_by l.links.parents l.links.links
+
+-- the places of a layout are those of its order
+abbrev pub IsLayout : Layout → Type 0
+IsLayout l = IsPlaced (order_of l) l.places.items
+
+-- a pair of phases over a layout: a stand for each device, the cursors, and how many devices each waits for
+pub record IsWalk (l : Layout) (w : Walk) : Type 0 where
+  pub size : length w.stands.items ≡ length l.links.parents
+  pub cursors : AreCursors l.beside.items w.stands.items (order_of l) w.cursors
+  pub below : IsBelow l.links.parents l.links.links w.stands.items w.open_below.items
+  pub above : IsAbove l.links.parents l.links.links w.stands.items w.open_above.items

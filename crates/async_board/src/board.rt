@@ -1,0 +1,262 @@
+ghost use Rattle.std.specs.Prelude.{◌≡◌, Some};
+ghost use Rattle.sleep_model.specs.Stands.{stand_at, stands_after, device_of};
+ghost use Rattle.sleep_model.specs.Walk.{is_so};
+ghost use Rattle.async_board.specs.Cursors.{AreCursors};
+ghost use Rattle.async_board.specs.Walks.{IsLayout, IsWalk, IsBelow, IsAbove};
+
+use crate::pick::{Look, Pick, first_picked, is_so, last_picked, stand_at};
+use crate::rows::{all_left_alone, count_at, first_low, first_unsettled, is_none};
+use crate::stand::{device_of, stand_after};
+use crate::walk::{Layout, Walk, places_of, put};
+use device_links::Links;
+use sleep_base::Mem;
+use sleep_model::{Kind, Phase, Stand};
+use std::alloc::Global;
+use std::marker::Model;
+
+/// Where each device of a machine stands in the three pairs of phases (`drivers/base/power/main.c`,
+/// `include/linux/pm.h`, `struct dev_pm_info`). Contracts see the parents and the links, which
+/// devices are asynchronous, and a list of stands for each pair.
+///
+/// A phase that is asked about is the one on the way down: `Suspend`, `Late` or `Noirq`; its mirror
+/// shares its stands.
+#[derive(Drop)]
+pub struct Board {
+    layout: Layout,
+    suspend: Walk,
+    late: Walk,
+    noirq: Walk,
+}
+
+impl Model for Board {
+    ghost use Rattle.async_board.specs.Boards.{BoardState};
+
+    ghost Value = { BoardState };
+
+    ghost use Rattle.async_board.specs.BoardFields.{board_of, AreKept};
+
+    ghost view = { board_of };
+
+    ghost invariant = { AreKept };
+}
+
+// Moves the device of an entry in a pair of phases.
+fn move_in(walk: &mut Walk, layout: &Layout, p: Phase, kind: Kind, device: u32)
+    requires laid { IsLayout layout.now }
+    requires kept { IsWalk layout.now walk.old }
+    ensures stands { walk.new.stands.items
+        ≡ stands_after p kind (Some device) walk.old.stands.items }
+    ensures kept { IsWalk layout.now walk.new }
+{
+    let before = stand_at(&walk.stands, device);
+    put(walk, layout, device, stand_after(p, kind, before));
+}
+
+impl Board {
+    ghost use Rattle.std.specs.Prelude.{◌≡◌, ◌<◌, IfOk, length};
+    ghost use Rattle.async_board.specs.Boards.{first_board, board_after, stands_on, order_on, next_prepared_on, next_completed_on, next_down_on, waits_down_on, next_given_on, next_up_on, waits_up_on, waits_below_on, waits_above_on, open_below_on, open_above_on, all_left_alone_on};
+
+    /// A board over these links, on which no device is prepared; `beside` says for each device
+    /// whether it is asynchronous. `Mem` if there is no memory for it.
+    pub fn wired(alloc: Global, links: Links, beside: Vec<bool>) -> Result<Board, Mem>
+        ensures { IfOk result (λ b. b ≡ first_board links.parents links.links beside.items) }
+    {
+        let places = places_of(alloc, links.order())?;
+        let layout = Layout {
+            links,
+            places,
+            beside,
+        };
+        let suspend = Walk::new(alloc, &layout)?;
+        let late = Walk::new(alloc, &layout)?;
+        let noirq = Walk::new(alloc, &layout)?;
+        Ok(Board {
+            layout,
+            suspend,
+            late,
+            noirq,
+        })
+    }
+
+    /// Takes down what an entry does to its device.
+    pub fn note(&mut self, kind: Kind)
+        ensures { self.new ≡ board_after kind self.old }
+    {
+        if let Some(device) = device_of(kind) {
+            let layout = &self.layout;
+            move_in(&mut self.suspend, layout, Phase::Suspend, kind, device);
+            move_in(&mut self.late, layout, Phase::Late, kind, device);
+            move_in(&mut self.noirq, layout, Phase::Noirq, kind, device);
+        }
+    }
+
+    /// The links.
+    pub fn links(&self) -> &Links
+        ensures { result.now ≡ record { parents = self.now.parents; links = self.now.links } }
+    {
+        &self.layout.links
+    }
+
+    // The walk of a phase on the way down and its mirror.
+    fn walk(&self, p: Phase) -> &Walk
+        ensures stands { result.now.stands.items ≡ stands_on self.now p }
+        ensures size { length result.now.stands.items ≡ length self.now.parents }
+        ensures cursors { AreCursors self.now.beside result.now.stands.items
+            (order_on self.now) result.now.cursors }
+        ensures below { IsBelow self.now.parents self.now.links
+            result.now.stands.items result.now.open_below.items }
+        ensures above { IsAbove self.now.parents self.now.links
+            result.now.stands.items result.now.open_above.items }
+    {
+        match p {
+            Phase::Late => &self.late,
+            Phase::Noirq => &self.noirq,
+            _ => &self.suspend,
+        }
+    }
+
+    // The devices in order, as they stand in that walk.
+    fn look<'a>(&'a self, walk: &'a Walk) -> Look<'a>
+        ensures order { result.order.now ≡ order_on self.now }
+        ensures stands { result.stands.now ≡ walk.now.stands.items }
+        ensures beside { result.beside.now ≡ self.now.beside }
+    {
+        Look {
+            order: self.layout.links.order(),
+            stands: walk.stands.as_slice(),
+            beside: self.layout.beside.as_slice(),
+        }
+    }
+
+    /// Where a device stands in a phase and its mirror; unprepared where there is no such device.
+    pub fn stand(&self, p: Phase, device: u32) -> Stand
+        ensures { result ≡ stand_at (stands_on self.now p) device }
+    {
+        stand_at(&self.walk(p).stands, device)
+    }
+
+    /// The device that is prepared next, the first that is not (`dpm_prepare`).
+    #[tactic(auto, unfolding(crate::specs::Picks::picks, crate::specs::Picks::is_picked))]
+    pub fn next_prepared(&self) -> Option<u32>
+        ensures { result ≡ next_prepared_on self.now }
+    {
+        let walk = self.walk(Phase::Suspend);
+        first_picked(&self.look(walk), Pick::Unprepared, walk.cursors.unprepared)
+    }
+
+    /// The device that is completed next, the last that is prepared (`dpm_complete`).
+    #[tactic(auto, unfolding(crate::specs::Picks::picks, crate::specs::Picks::is_picked))]
+    pub fn next_completed(&self) -> Option<u32>
+        ensures { result ≡ next_completed_on self.now }
+    {
+        let walk = self.walk(Phase::Suspend);
+        last_picked(&self.look(walk), Pick::Prepared, walk.cursors.prepared)
+    }
+
+    /// The device that a phase's walk down takes next, the last that it has not taken
+    /// (`dpm_suspend`).
+    #[tactic(auto, unfolding(crate::specs::Picks::picks, crate::specs::Picks::is_picked))]
+    pub fn next_down(&self, p: Phase) -> Option<u32>
+        ensures { result ≡ next_down_on self.now p }
+    {
+        let walk = self.walk(p);
+        last_picked(&self.look(walk), Pick::Ready, walk.cursors.ready)
+    }
+
+    /// The first device that a phase has given out on the way down and that is not through with it
+    /// (`async_synchronize_full`). It is at hand once the walk gives out no more; before, it takes
+    /// a search.
+    #[tactic(auto, unfolding(crate::specs::Picks::picks, crate::specs::Picks::is_picked))]
+    pub fn waits_down(&self, p: Phase) -> Option<u32>
+        ensures { result ≡ waits_down_on self.now p }
+    {
+        let walk = self.walk(p);
+        first_picked(&self.look(walk), Pick::Going, walk.cursors.going)
+    }
+
+    /// The first asynchronous device that is down and that the way up has not given out
+    /// (`dpm_async_fn`).
+    #[tactic(auto, unfolding(crate::specs::Picks::picks, crate::specs::Picks::is_picked))]
+    pub fn next_given(&self, p: Phase) -> Option<u32>
+        ensures { result ≡ next_given_on self.now p }
+    {
+        let walk = self.walk(p);
+        first_picked(&self.look(walk), Pick::Given, walk.cursors.given)
+    }
+
+    /// The first synchronous device that is down (`dpm_resume`).
+    #[tactic(auto, unfolding(crate::specs::Picks::picks, crate::specs::Picks::is_picked))]
+    pub fn next_up(&self, p: Phase) -> Option<u32>
+        ensures { result ≡ next_up_on self.now p }
+    {
+        let walk = self.walk(p);
+        first_picked(&self.look(walk), Pick::Up, walk.cursors.up)
+    }
+
+    /// The first device that went down in a phase and is not yet up (`async_synchronize_full`).
+    #[tactic(auto, unfolding(crate::specs::Picks::picks, crate::specs::Picks::is_picked))]
+    pub fn waits_up(&self, p: Phase) -> Option<u32>
+        ensures { result ≡ waits_up_on self.now p }
+    {
+        let walk = self.walk(p);
+        first_picked(&self.look(walk), Pick::Low, walk.cursors.low)
+    }
+
+    /// The first device right below one that is not through with a phase on the way down
+    /// (`dpm_wait_for_subordinate`).
+    #[tactic(auto, using(crate::proofs::Searched::below_none))]
+    pub fn waits_below(&self, p: Phase, device: u32) -> Option<u32>
+        ensures { result ≡ waits_below_on self.now p device }
+    {
+        let walk = self.walk(p);
+        if is_none(&walk.open_below, device) {
+            None
+        } else {
+            first_unsettled(&walk.stands, &self.layout.links, device)
+        }
+    }
+
+    /// The first device right above one that went down in a phase and is not yet up
+    /// (`dpm_wait_for_superior`).
+    #[tactic(auto, using(crate::proofs::Searched::above_none))]
+    pub fn waits_above(&self, p: Phase, device: u32) -> Option<u32>
+        ensures { result ≡ waits_above_on self.now p device }
+    {
+        let walk = self.walk(p);
+        if is_none(&walk.open_above, device) {
+            None
+        } else {
+            first_low(&walk.stands, &self.layout.links, device)
+        }
+    }
+
+    /// How many devices right below one are not through with a phase on the way down.
+    pub fn open_below(&self, p: Phase, device: u32) -> usize
+        requires { device < length self.now.parents }
+        ensures { result ≡ open_below_on self.now p device }
+    {
+        count_at(&self.walk(p).open_below, device)
+    }
+
+    /// How many devices right above one went down in a phase and are not yet up.
+    pub fn open_above(&self, p: Phase, device: u32) -> usize
+        requires { device < length self.now.parents }
+        ensures { result ≡ open_above_on self.now p device }
+    {
+        count_at(&self.walk(p).open_above, device)
+    }
+
+    /// Whether the suspend phase has left alone all devices right below one (`direct_complete`).
+    pub fn all_left_alone(&self, device: u32) -> bool
+        ensures { result ≡ all_left_alone_on self.now device }
+    {
+        all_left_alone(&self.suspend.stands, &self.layout.links, device)
+    }
+
+    /// Whether a device is asynchronous (`power.async_suspend`); not where there is no such device.
+    pub fn is_beside(&self, device: u32) -> bool
+        ensures { result ≡ is_so self.now.beside device }
+    {
+        is_so(&self.layout.beside, device)
+    }
+}

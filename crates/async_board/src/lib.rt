@@ -1,0 +1,17 @@
+//! Where each device stands in the three pairs of phases, with cursors in the devices' order and
+//! counts of what each device waits for.
+#![tactic(auto)]
+
+mod board;
+mod counts;
+mod cursors;
+mod pick;
+mod rows;
+mod stand;
+mod walk;
+
+pub use board::Board;
+pub use stand::{
+    device_of, is_down_in, is_left_alone, is_low, is_prepared, is_ready, is_taken, is_unsettled,
+    stand_after,
+};

@@ -1,0 +1,146 @@
+//! What is looked for among the devices, and the search for it in their order.
+
+ghost use Rattle.std.specs.Prelude.{◌≡◌, ◌<◌, length, slice_get};
+ghost use Rattle.sleep_model.specs.Stands.{stand_at};
+ghost use Rattle.sleep_model.specs.Walk.{is_so, first_where, last_where};
+ghost use Rattle.async_board.specs.Picks.{picks, is_picked, IsPassed, IsFirst, IsAhead, IsLast};
+
+use crate::stand;
+use sleep_model::Stand;
+
+/// What is looked for.
+#[derive(Clone, Copy)]
+pub(crate) enum Pick {
+    /// Not prepared.
+    Unprepared,
+    /// Prepared.
+    Prepared,
+    /// Prepared and not yet taken on the way down.
+    Ready,
+    /// Given out on the way down and not through.
+    Going,
+    /// Asynchronous, and down.
+    Given,
+    /// Synchronous, and down.
+    Up,
+    /// Not yet up.
+    Low,
+}
+
+/// The devices in order, where each stands, and which are asynchronous.
+#[derive(Clone, Copy)]
+pub(crate) struct Look<'a> {
+    pub(crate) order: &'a [u32],
+    pub(crate) stands: &'a [Stand],
+    pub(crate) beside: &'a [bool],
+}
+
+/// Whether a device that stands there, asynchronous or not, is looked for.
+#[tactic(auto, unfolding(crate::specs::Picks::picks))]
+pub(crate) fn picks(pick: Pick, stand: Stand, beside: bool) -> bool
+    ensures { result ≡ picks pick stand beside }
+{
+    match pick {
+        Pick::Unprepared => stand::is_unprepared(stand),
+        Pick::Prepared => stand::is_prepared(stand),
+        Pick::Ready => stand::is_ready(stand),
+        Pick::Going => stand::is_going_down(stand),
+        Pick::Given => stand::is_down_in(stand) && beside,
+        Pick::Up => stand::is_down_in(stand) && !beside,
+        Pick::Low => stand::is_low(stand),
+    }
+}
+
+/// Where a device stands among others.
+pub(crate) fn stand_at(stands: &[Stand], device: u32) -> Stand
+    ensures { result ≡ stand_at stands.now device }
+{
+    match stands.get(device as usize) {
+        Some(stand) => *stand,
+        None => Stand::Unprepared,
+    }
+}
+
+/// The flag at that number.
+pub(crate) fn is_so(flags: &[bool], device: u32) -> bool
+    ensures { result ≡ is_so flags.now device }
+{
+    match flags.get(device as usize) {
+        Some(flag) => *flag,
+        None => false,
+    }
+}
+
+/// Whether the device is looked for.
+#[tactic(auto, unfolding(crate::specs::Picks::is_picked))]
+pub(crate) fn is_picked(look: &Look<'_>, pick: Pick, device: u32) -> bool
+    ensures { result ≡ is_picked pick look.now.beside.now look.now.stands.now device }
+{
+    let stand = stand_at(look.stands, device);
+    picks(pick, stand, is_so(look.beside, device))
+}
+
+/// The first place from this one on whose device is looked for, else the number of places.
+pub(crate) fn first_from(look: &Look<'_>, pick: Pick, from: usize) -> usize
+    requires { IsPassed (is_picked pick look.now.beside.now look.now.stands.now)
+        look.now.order.now from }
+    ensures { IsFirst (is_picked pick look.now.beside.now look.now.stands.now)
+        look.now.order.now result }
+{
+    for at in from..look.order.len() {
+        if is_picked(look, pick, look.order[at]) {
+            return at;
+        }
+    }
+    look.order.len()
+}
+
+/// One more than the last place before this one whose device is looked for, else 0.
+pub(crate) fn last_before(look: &Look<'_>, pick: Pick, from: usize) -> usize
+    requires { IsAhead (is_picked pick look.now.beside.now look.now.stands.now)
+        look.now.order.now from }
+    ensures { IsLast (is_picked pick look.now.beside.now look.now.stands.now)
+        look.now.order.now result }
+{
+    let mut at = from;
+    while at > 0 {
+        if is_picked(look, pick, look.order[at - 1]) {
+            return at;
+        }
+        at -= 1;
+    }
+    0
+}
+
+// The device at a place of the order, if there is one.
+fn device_at(order: &[u32], at: usize) -> Option<u32>
+    ensures { result ≡ slice_get order.now at }
+{
+    order.get(at).copied()
+}
+
+/// The first device that is looked for, where none before this place is.
+#[tactic(auto, using(crate::proofs::Picked::first_is))]
+pub(crate) fn first_picked(look: &Look<'_>, pick: Pick, from: usize) -> Option<u32>
+    requires { IsPassed (is_picked pick look.now.beside.now look.now.stands.now)
+        look.now.order.now from }
+    ensures { result ≡ first_where (is_picked pick look.now.beside.now look.now.stands.now)
+        look.now.order.now }
+{
+    let at = first_from(look, pick, from);
+    device_at(look.order, at)
+}
+
+/// The last device that is looked for, where none from this place on is.
+#[tactic(auto, using(crate::proofs::Picked::last_is, crate::proofs::Picked::last_none))]
+pub(crate) fn last_picked(look: &Look<'_>, pick: Pick, from: usize) -> Option<u32>
+    requires { IsAhead (is_picked pick look.now.beside.now look.now.stands.now)
+        look.now.order.now from }
+    ensures { result ≡ last_where (is_picked pick look.now.beside.now look.now.stands.now)
+        look.now.order.now }
+{
+    match last_before(look, pick, from) {
+        0 => None,
+        at => device_at(look.order, at - 1),
+    }
+}

@@ -1,0 +1,167 @@
+//! What an entry does to the stand of its device, and tests of a stand.
+
+ghost use Rattle.std.specs.Prelude.{◌≡◌};
+ghost use Rattle.phase_table.specs.Phases.{is_phase, mirror};
+ghost use Rattle.sleep_model.specs.Stands as stands;
+
+use sleep_base::Errno;
+use sleep_model::{Kind, Phase, SkipCause, Stand};
+
+// The phase that undoes a phase, and the other way round.
+fn mirror(p: Phase) -> Phase
+    ensures { result ≡ mirror p }
+{
+    match p {
+        Phase::Prepare => Phase::Complete,
+        Phase::Suspend => Phase::Resume,
+        Phase::Late => Phase::Early,
+        Phase::Noirq => Phase::ResumeNoirq,
+        Phase::Syscore => Phase::SyscoreResume,
+        Phase::SyscoreResume => Phase::Syscore,
+        Phase::ResumeNoirq => Phase::Noirq,
+        Phase::Early => Phase::Late,
+        Phase::Resume => Phase::Suspend,
+        Phase::Complete => Phase::Prepare,
+    }
+}
+
+fn prepared_by(r: i32, before: Stand) -> Stand
+    ensures { result ≡ stands.prepared_by r before }
+{
+    if r >= 0 { Stand::Prepared } else { before }
+}
+
+fn ended_by(r: Option<Errno>) -> Stand
+    ensures { result ≡ stands.ended_by r }
+{
+    match r {
+        None => Stand::Suspended,
+        Some(_) => Stand::Failed,
+    }
+}
+
+fn skipped_for(cause: SkipCause) -> Stand
+    ensures { result ≡ stands.skipped_for cause }
+{
+    match cause {
+        SkipCause::Direct => Stand::Direct,
+        _ => Stand::Failed,
+    }
+}
+
+fn by_phase(p: Phase, q: Phase, down: Stand, up: Stand, other: Stand) -> Stand
+    ensures { result ≡ stands.by_phase p q down up other }
+{
+    if q == p {
+        down
+    } else if q == mirror(p) {
+        up
+    } else {
+        other
+    }
+}
+
+/// Where the device of an entry stands after it, for a phase on the way down and its mirror
+/// (`drivers/base/power/main.c`, `dpm_run_callback`).
+pub fn stand_after(p: Phase, kind: Kind, before: Stand) -> Stand
+    ensures { result ≡ stands.stand_after p kind before }
+{
+    match kind {
+        Kind::Prepare { r, .. } => prepared_by(r, before),
+        Kind::Complete(_) => Stand::Unprepared,
+        Kind::Schedule(q, _) => by_phase(p, q, Stand::Scheduled, Stand::Rescheduled, before),
+        Kind::Begin(q, _) => by_phase(p, q, Stand::Suspending, Stand::Resuming, before),
+        Kind::End(q, _, r) => by_phase(p, q, ended_by(r), Stand::Resumed, before),
+        Kind::Skip(q, _, cause) => by_phase(p, q, skipped_for(cause), before, before),
+        _ => before,
+    }
+}
+
+/// The device that an entry is of. None where it is of no device.
+pub fn device_of(kind: Kind) -> Option<u32>
+    ensures { result ≡ stands.device_of kind }
+{
+    match kind {
+        Kind::Prepare { device, .. } => Some(device),
+        Kind::Complete(device)
+        | Kind::Schedule(_, device)
+        | Kind::Begin(_, device)
+        | Kind::End(_, device, _)
+        | Kind::Skip(_, device, _) => Some(device),
+        _ => None,
+    }
+}
+
+/// Whether the device is not prepared (`power.is_prepared`).
+pub(crate) fn is_unprepared(stand: Stand) -> bool
+    ensures { result ≡ stands.is_unprepared stand }
+{
+    matches!(stand, Stand::Unprepared)
+}
+
+/// Whether the device is prepared (`power.is_prepared`).
+pub fn is_prepared(stand: Stand) -> bool
+    ensures { result ≡ stands.is_prepared stand }
+{
+    !matches!(stand, Stand::Unprepared)
+}
+
+/// Whether the device is prepared and not yet taken by the phase on the way down
+/// (`dpm_prepared_list`).
+pub fn is_ready(stand: Stand) -> bool
+    ensures { result ≡ stands.is_ready stand }
+{
+    matches!(stand, Stand::Prepared)
+}
+
+/// Whether the device is not through with the phase on the way down (`power.completion`).
+pub fn is_unsettled(stand: Stand) -> bool
+    ensures { result ≡ stands.is_unsettled stand }
+{
+    matches!(
+        stand,
+        Stand::Unprepared | Stand::Prepared | Stand::Scheduled | Stand::Suspending
+    )
+}
+
+/// Whether the device is given out on the way down and not through (`async_schedule_dev`).
+pub(crate) fn is_going_down(stand: Stand) -> bool
+    ensures { result ≡ stands.is_going_down stand }
+{
+    matches!(stand, Stand::Scheduled | Stand::Suspending)
+}
+
+/// Whether the device's callback on the way down answered 0, and it is still down
+/// (`power.is_suspended`).
+pub fn is_down_in(stand: Stand) -> bool
+    ensures { result ≡ stands.is_down_in stand }
+{
+    matches!(stand, Stand::Suspended)
+}
+
+/// Whether the device is left alone (`power.direct_complete`).
+pub fn is_left_alone(stand: Stand) -> bool
+    ensures { result ≡ stands.is_left_alone stand }
+{
+    matches!(stand, Stand::Direct)
+}
+
+/// Whether the device went down and is not yet up (`power.completion`).
+pub fn is_low(stand: Stand) -> bool
+    ensures { result ≡ stands.is_low stand }
+{
+    matches!(
+        stand,
+        Stand::Suspended | Stand::Rescheduled | Stand::Resuming
+    )
+}
+
+/// Whether the late phase has taken the device (`__device_suspend_late`).
+pub fn is_taken(stand: Stand) -> bool
+    ensures { result ≡ stands.is_taken stand }
+{
+    !matches!(
+        stand,
+        Stand::Unprepared | Stand::Prepared | Stand::Scheduled
+    )
+}

@@ -1,0 +1,192 @@
+//! Where the devices stand in a pair of phases.
+
+ghost use Rattle.std.specs.Prelude.{◌≡◌, ◌<◌, ◌∷◌, ℕ, true, IfOk, length, replicate, slice_index, slice_set};
+ghost use Rattle.sleep_model.specs.Order.{is_among, hanging, holding, order_by};
+ghost use Rattle.sleep_model.proofs.Walks.{AllDifferent};
+ghost use Rattle.sleep_model.specs.Links.{first_places};
+ghost use Rattle.sleep_model.specs.declared.place.Stand.TheVariants as stand;
+ghost use Rattle.async_board.specs.Walks.{IsPlaced, IsBelow, IsAbove, IsLayout, IsWalk, order_of, failed_after};
+ghost use Rattle.async_board.specs.Counts.{IsLengths};
+ghost use Rattle.async_board.specs.Cursors.{AreCursors, AreCursorsBut};
+
+use crate::counts::shift;
+use crate::cursors::{Cursors, cursors_after};
+use crate::pick::{Look, stand_at};
+use crate::stand::{is_low, is_unsettled};
+use device_links::Links;
+use sleep_base::Mem;
+use sleep_model::Stand;
+use std::alloc::Global;
+
+/// What never changes: the links, the place of each device in their order, and which devices are
+/// asynchronous.
+#[derive(Drop)]
+pub(crate) struct Layout {
+    pub(crate) links: Links,
+    pub(crate) places: Vec<usize>,
+    pub(crate) beside: Vec<bool>,
+}
+
+/// Where the devices stand in a pair of phases, where searches among them begin, and how many
+/// devices each waits for: on the way down those below it that are not through, on the way up those
+/// above it that are not up.
+#[derive(Drop)]
+pub(crate) struct Walk {
+    pub(crate) stands: Vec<Stand>,
+    pub(crate) cursors: Cursors,
+    pub(crate) failed: bool,
+    pub(crate) open_below: Vec<usize>,
+    pub(crate) open_above: Vec<usize>,
+}
+
+/// The place of each device in an order that has each once.
+pub(crate) fn places_of(alloc: Global, order: &[u32]) -> Result<Vec<usize>, Mem>
+    requires different { AllDifferent order.now }
+    requires covers { (d : ℕ) → d < length order.now → is_among order.now d ≡ true }
+    requires within { (d : ℕ) → is_among order.now d ≡ true → d < length order.now }
+    ensures { IfOk result (λ v. IsPlaced order.now v.items) }
+{
+    let mut places = vec![in alloc; 0; order.len()]?;
+    for (place, device) in order.iter().enumerate() {
+        places[*device as usize] = place;
+    }
+    Ok(places)
+}
+
+// How many devices hang right below each.
+fn counts_below(alloc: Global, links: &Links) -> Result<Vec<usize>, Mem>
+    ensures { IfOk result (λ v. IsLengths (length links.now.parents)
+        (λ d. first_places (hanging links.now.parents links.now.links d)) v.items) }
+{
+    let count = links.order().len();
+    if count > u32::MAX as usize {
+        return Err(Mem);
+    }
+    let mut counts = Vec::new(alloc);
+    for device in 0..count as u32 {
+        counts.push(links.below(device).len())?;
+    }
+    Ok(counts)
+}
+
+impl Walk {
+    /// No device is prepared. `Mem` if there is no memory for it.
+    #[tactic(auto, using(crate::proofs::Stood::fresh_walk))]
+    pub(crate) fn new(alloc: Global, layout: &Layout) -> Result<Walk, Mem>
+        requires { IsLayout layout.now }
+        ensures stands { IfOk result (λ w. w.stands.items
+            ≡ replicate (length layout.now.links.parents) stand.Unprepared) }
+        ensures kept { IfOk result (λ w. IsWalk layout.now w) }
+    {
+        let count = layout.links.order().len();
+        Ok(Walk {
+            stands: vec![in alloc; Stand::Unprepared; count]?,
+            cursors: Cursors {
+                unprepared: 0,
+                going: 0,
+                given: 0,
+                up: 0,
+                low: 0,
+                ready: count,
+                prepared: count,
+            },
+            failed: false,
+            open_below: counts_below(alloc, &layout.links)?,
+            open_above: vec![in alloc; 0; count]?,
+        })
+    }
+}
+
+// Whether the walk on the way down gives out no more: a device has failed since it was prepared.
+fn failed_after(after: Stand, before: bool) -> bool
+    ensures { result ≡ failed_after after before }
+{
+    match after {
+        Stand::Failed => true,
+        Stand::Prepared => false,
+        _ => before,
+    }
+}
+
+// How many devices below each are not through, before this device moves.
+#[tactic(auto, using(crate::proofs::Layouts::below_some))]
+fn move_below(
+    counts: &mut Vec<usize>,
+    links: &Links,
+    stands: &[Stand],
+    device: u32,
+    after: Stand,
+)
+    requires size { length stands.now ≡ length links.now.parents }
+    requires within { device < length links.now.parents }
+    requires known { IsBelow links.now.parents links.now.links stands.now counts.old.items }
+    ensures { IsBelow links.now.parents links.now.links
+        (slice_set stands.now device after) counts.new.items }
+{
+    let _order = links.order();
+    let above = links.above(device);
+    let was = is_unsettled(stand_at(stands, device));
+    shift(counts, above, was, is_unsettled(after));
+}
+
+// How many devices above each are not up, before this device moves.
+#[tactic(auto, using(crate::proofs::Layouts::above_some))]
+fn move_above(
+    counts: &mut Vec<usize>,
+    links: &Links,
+    stands: &[Stand],
+    device: u32,
+    after: Stand,
+)
+    requires size { length stands.now ≡ length links.now.parents }
+    requires within { device < length links.now.parents }
+    requires known { IsAbove links.now.parents links.now.links stands.now counts.old.items }
+    ensures { IsAbove links.now.parents links.now.links
+        (slice_set stands.now device after) counts.new.items }
+{
+    let below = links.below(device);
+    let was = is_low(stand_at(stands, device));
+    shift(counts, below, was, is_low(after));
+}
+
+// The cursors after this device, which stood elsewhere before, has moved.
+fn move_cursors(
+    layout: &Layout,
+    stands: &[Stand],
+    device: u32,
+    before: Cursors,
+    failed: bool,
+) -> Cursors
+    requires laid { IsLayout layout.now }
+    requires within { device < length (order_of layout.now) }
+    requires but { AreCursorsBut (slice_index layout.now.places.items device)
+        layout.now.beside.items stands.now (order_of layout.now) before }
+    ensures { AreCursors layout.now.beside.items stands.now (order_of layout.now) result }
+{
+    let look = Look {
+        order: layout.links.order(),
+        stands,
+        beside: layout.beside.as_slice(),
+    };
+    cursors_after(&look, layout.places[device as usize], before, failed)
+}
+
+/// Moves a device to where it stands from now on; nothing where there is no such device.
+#[tactic(auto, using(crate::proofs::Stood::cursors_but))]
+pub(crate) fn put(walk: &mut Walk, layout: &Layout, device: u32, after: Stand)
+    requires laid { IsLayout layout.now }
+    requires kept { IsWalk layout.now walk.old }
+    ensures stands { walk.new.stands.items ≡ slice_set walk.old.stands.items device after }
+    ensures kept { IsWalk layout.now walk.new }
+{
+    let number = device as usize;
+    if number < walk.stands.len() {
+        let links = &layout.links;
+        let _order = links.order();
+        move_below(&mut walk.open_below, links, &walk.stands, device, after);
+        move_above(&mut walk.open_above, links, &walk.stands, device, after);
+        walk.failed = failed_after(after, walk.failed);
+        walk.stands[number] = after;
+        walk.cursors = move_cursors(layout, &walk.stands, device, walk.cursors, walk.failed);
+    }
+}
