@@ -1,10 +1,12 @@
-//! Rows of device numbers that grow one by one, and a stack.
+//! Rows of device numbers that grow one by one, flags by number, and a stack.
 #![tactic(auto)]
 
+mod flags;
 mod rows;
 mod stack;
 #[cfg(test)]
 mod tests;
 
+pub use flags::Flags;
 pub use rows::Rows;
 pub use stack::Stack;

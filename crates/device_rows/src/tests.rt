@@ -27,3 +27,18 @@ fn the_last_comes_first(rt: HostRuntime) -> Result<(), Fail> {
     assert_eq!(rt; rest.as_slice(), [2u32, 1].as_slice());
     Ok(())
 }
+
+/// A flag that is set stands alone; one that is not there is never set.
+#[test]
+fn flags_stand_alone(rt: HostRuntime) -> Result<(), Fail> {
+    let mut flags = Flags::new(rt.alloc(), 3)?;
+    flags.set(1, true);
+    flags.set(9, true);
+    assert_eq!(rt; flags.len(), 3);
+    for (number, is_set) in [(0, false), (1, true), (2, false), (9, false)] {
+        assert_eq!(rt; flags.is_set(number), is_set, "flag {number}");
+    }
+    flags.set(1, false);
+    assert!(rt; !flags.is_set(1));
+    Ok(())
+}

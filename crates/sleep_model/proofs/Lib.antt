@@ -5,4 +5,5 @@ pub mod Hanging
 pub mod Ordering
 pub mod Padding
 pub mod Paths
+pub mod Searches
 pub mod Walks

@@ -1,0 +1,52 @@
+-- The notifiers, the platform and the other processors of an attempt (kernel/power/suspend.c, kernel/power/main.c, kernel/cpu.c).
+use Rattle.std.specs.Prelude.{ℕ, Bool, true, false, not, ◌-◌, List, [], ◌∷◌, Option, length, replicate}
+use Rattle.std.specs.List.{range_with_len}
+use Rattle.sleep_base.specs.declared.errno.Errno.{Errno}
+use Rattle.sleep_model.specs.declared.entry.Kind.{Kind}
+use Rattle.sleep_model.specs.declared.entry.Kind.TheVariants as kind
+use Rattle.sleep_model.specs.declared.machine.Machine.{Machine}
+use Rattle.sleep_model.specs.declared.machine.PlatPart.{PlatPart}
+use Rattle.sleep_model.specs.declared.machine.PlatPart.TheVariants as part
+use Rattle.sleep_model.specs.Attempt.{cpu_kind}
+use Rattle.sleep_model.specs.Notifiers.{call_order, notified_after, cpus_off_after}
+use Rattle.sleep_model.specs.Walk.{is_so, first_where}
+
+-- the order in which notifiers are called, which of them are owed their post, how many processors there are, and which are off
+pub record Steps : Type 0 where
+  pub order : List ℕ
+  pub told : List Bool
+  pub cpus : ℕ
+  pub off : List Bool
+
+-- nobody is told, and no processor is off
+abbrev pub first_steps : Machine → Steps
+first_steps m = record { order = call_order m; told = replicate (length m.notifiers) false; cpus = m.cpus; off = replicate m.cpus false }
+
+-- what an entry leaves (pm_notifier_call_chain, freeze_secondary_cpus, thaw_secondary_cpus)
+abbrev pub steps_after : Kind → Steps → Steps
+steps_after kind s = record s { told = notified_after kind s.told; off = cpus_off_after kind s.off }
+
+-- the notifier that is to be told of the attempt (PM_SUSPEND_PREPARE)
+abbrev pub called_next : Steps → Option ℕ
+called_next s = first_where (λ x. not (is_so s.told x)) s.order
+
+-- the notifier that is to be told of its end (PM_POST_SUSPEND)
+abbrev pub posted_next : Steps → Option ℕ
+posted_next s = first_where (is_so s.told) s.order
+
+-- the processor that is stopped next (freeze_secondary_cpus)
+abbrev pub stopped_next : Steps → Option ℕ
+stopped_next s = first_where (λ k. not (is_so s.off k)) (range_with_len 1 (s.cpus - 1))
+
+-- the processor that is started next (thaw_secondary_cpus)
+abbrev pub started_next : Steps → Option ℕ
+started_next s = first_where (is_so s.off) (range_with_len 1 (s.cpus - 1))
+
+-- the entry of a step that answers so; a processor is stopped only where no wakeup is pending (freeze_secondary_cpus)
+abbrev pub part_entry : PlatPart → Option Errno → Bool → Kind
+part_entry (part.NotifyPrepare x) r pending = kind.NotifyPrepare x r
+part_entry (part.NotifyPost x) r pending = kind.NotifyPost x
+part_entry (part.Do step) r pending = kind.PlatformDo step r
+part_entry (part.Undo step) r pending = kind.PlatformUndo step
+part_entry (part.CpuOff k) r pending = cpu_kind pending k
+part_entry (part.CpuOn k) r pending = kind.CpuOn k

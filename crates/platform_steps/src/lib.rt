@@ -1,0 +1,10 @@
+//! What an attempt asks of notifiers, of the platform and of the other processors
+//! (`kernel/power/suspend.c`, `kernel/power/main.c`, `kernel/cpu.c`).
+#![tactic(auto)]
+
+mod order;
+mod platform;
+#[cfg(test)]
+mod tests;
+
+pub use platform::Platform;
