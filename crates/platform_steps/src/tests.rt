@@ -34,6 +34,7 @@ fn machine(alloc: Global, priorities: &[i32], cpus: u32) -> Result<Machine, Fail
 #[test]
 fn notifiers_by_falling_priority(rt: HostRuntime) -> Result<(), Fail> {
     let machine = machine(rt.alloc(), &[0, 5, -3, 5, 0], 1)?;
+    assert!(rt; machine.notifiers.len() < 9);
     let mut platform = Platform::new(rt.alloc(), &machine)?;
     for x in [1, 3, 0] {
         assert_eq!(rt; platform.next_called(), Some(x));
@@ -54,6 +55,7 @@ fn notifiers_by_falling_priority(rt: HostRuntime) -> Result<(), Fail> {
 #[test]
 fn processors_rise(rt: HostRuntime) -> Result<(), Fail> {
     let machine = machine(rt.alloc(), &[], 4)?;
+    assert!(rt; machine.notifiers.len() < 9);
     let mut platform = Platform::new(rt.alloc(), &machine)?;
     assert_eq!(rt; platform.next_called(), None);
     assert_eq!(rt; platform.next_cpu_on(), None);
@@ -78,6 +80,7 @@ fn processors_rise(rt: HostRuntime) -> Result<(), Fail> {
 #[test]
 fn the_platform_answers(rt: HostRuntime) -> Result<(), Fail> {
     let machine = machine(rt.alloc(), &[], 1)?;
+    assert!(rt; machine.notifiers.len() < 9);
     let mut platform = Platform::new(rt.alloc(), &machine)?;
     assert_eq!(rt; platform.next_cpu_off(), None);
     let asked = platform.turn(PlatPart::Do(PlatDo::Prepare), Some(Errno::EIO), true);
