@@ -1,5 +1,5 @@
 -- The phases of devices, with asynchronous ones, errors and devices that are left alone (drivers/base/power/main.c).
-use Rattle.std.specs.Prelude.{ℕ, Bool, true, false, not, ◌==◌, ◌&&◌, ◌||◌, List, [], ◌∷◌, ℤ, pos, negsuc, length, if◌then◌else◌, Option, Some, None, replicate, slice_get, slice_set}
+use Rattle.std.specs.Prelude.{ℕ, Bool, true, false, not, ◌==◌, ◌&&◌, ◌||◌, List, [], ◌∷◌, ℤ, pos, negsuc, length, map, if◌then◌else◌, Option, Some, None, replicate, slice_set}
 use Rattle.std.specs.List.{list_all}
 use Rattle.sleep_base.specs.declared.errno.Errno.{Errno}
 use Rattle.sleep_base.specs.declared.errno.Errno.TheVariants.{EBUSY}
@@ -12,7 +12,6 @@ use Rattle.sleep_model.specs.declared.entry.Kind.TheVariants as kind
 use Rattle.sleep_model.specs.declared.entry.SkipCause.{SkipCause}
 use Rattle.sleep_model.specs.declared.entry.SkipCause.TheVariants as skip
 use Rattle.sleep_model.specs.declared.log.Why.TheVariants as why
-use Rattle.sleep_model.specs.declared.machine.Device.{Device}
 use Rattle.sleep_model.specs.declared.machine.Machine.{Machine}
 use Rattle.sleep_model.specs.declared.machine.What.TheVariants as what
 use Rattle.phase_table.specs.declared.phase.Phase.{Phase}
@@ -119,18 +118,13 @@ abbrev pub willing : ℕ → List Entry → List Bool
 willing n [] = replicate n false
 willing n (e ∷ past) = willing_after e.kind (willing n past)
 
--- what holds of a device, where there is one
-abbrev pub holds_of : (Device → Bool) → Option Device → Bool
-holds_of test None = false
-holds_of test (Some d) = test d
-
 -- device d of the machine is asynchronous (power.async_suspend)
 abbrev pub is_async_device : Machine → ℕ → Bool
-is_async_device m d = holds_of is_async (slice_get m.devices d)
+is_async_device m d = is_so (map is_async m.devices) d
 
 -- device d of the machine may wake it (device_may_wakeup)
 abbrev pub may_wake_device : Machine → ℕ → Bool
-may_wake_device m d = holds_of may_wake (slice_get m.devices d)
+may_wake_device m d = is_so (map may_wake m.devices) d
 
 -- where device d stands in phase p and its mirror (struct dev_pm_info)
 abbrev pub stand_in : Machine → List Entry → Phase → ℕ → Stand
