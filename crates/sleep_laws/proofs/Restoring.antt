@@ -22,14 +22,14 @@ use Rattle.sleep_model.specs.declared.word.EventNow.{EventNow}
 use Rattle.phase_table.specs.declared.phase.Phase.TheVariants as phase
 use Rattle.sleep_model.specs.Devices.{callback, is_device}
 use Rattle.sleep_model.specs.Freezer.{unasked, freezings, freezings_after, freezing_at, all_asked, all_let_go, put_frozen}
-use Rattle.sleep_model.specs.Laws.{NothingOwed, NoneStands}
+use Rattle.sleep_model.specs.Laws.{NothingOwed, NoneStands, Restored}
 use Rattle.sleep_model.specs.Legal.{JournalPart}
 use Rattle.sleep_model.specs.Notifiers.{told, cpus_off, stopped, other_cpus}
 use Rattle.sleep_model.specs.Order.{is_among}
 use Rattle.sleep_model.specs.Table.{stage_of, stage_after}
 use Rattle.sleep_model.specs.Walk.{is_so}
 use Rattle.sleep_laws.proofs.Flags.{first_among, run_least, set_other, none_told, none_stopped, none_off}
-use Rattle.sleep_laws.proofs.Holding.{Aside, Kept, at_made, entry_of}
+use Rattle.sleep_laws.proofs.Holding.{Aside, Moved, Opens, Makes, Beside, Owns, moved, Kept, at_made, entry_of}
 use Rattle.sleep_laws.proofs.Levels.{Exact, exact_kept}
 use Rattle.sleep_laws.proofs.Made.{Made, Comes, DeviceMade, TaskMade, StepMade, WorkMade, EntryMade, ByTask, ByMaker, ByWork, ByDevice, AtOnce, PastNotifiers, PastCpus, PastParts, PastPartsUp, PastCpusUp, PastPosts}
 
@@ -214,3 +214,32 @@ nothing_owed m past h here e c suspend late noirq =
     let u : IsUndone m (Some stage.Ends) past = at_made m (IsUndone m) (undone_kept m) past h here stage.Ends e c in
     let x : Exact (Some stage.Ends) past = at_made m Exact (exact_kept m) past h here stage.Ends e c in
     record { notifiers = u.0; tasks = u.3; begun = x.1; prepared = x.2; prepared_late = x.3; suspend = suspend; late = late; noirq = noirq; callbacks = u.4; cpus = u.1; irqs = x.0; syscore = u.2 }
+
+-- ---- the law
+
+-- the part of the law that is on devices: where an attempt is over none stands in a phase
+abbrev pub StandsRestored : Machine → List Entry → Kind → Type 0
+StandsRestored m past (kind.Over n r) = NoneStands m phase.Suspend past × NoneStands m phase.Late past × NoneStands m phase.Noirq past
+StandsRestored m past _ = Unit {0}
+
+restored_made : (m : Machine) (past : List Entry) (now : EventNow) (here there : Stage) (k : Kind) → JournalPart m past → stage_of past ≡ Some here → Comes m past here there → Made m past now there k → StandsRestored m past k → Restored m past k
+restored_made m past now here _ _ h e c Made.Ends d = nothing_owed m past h here e c d.0 d.1 d.2
+restored_made m past now here _ _ h e c _ d = tt
+
+restored_aside : (m : Machine) (past : List Entry) (k : Kind) → Aside k → Restored m past k
+restored_aside m past _ Aside.Frozen = tt
+restored_aside m past _ _ = tt
+
+restored_own : (m : Machine) (past : List Entry) (now : EventNow) (d : ℕ) (k : Kind) → DeviceMade m past now d k → Restored m past k
+restored_own m past now d _ (DeviceMade.OwnFails p r w g f) = tt
+restored_own m past now d _ _ = tt
+
+restored_moved : (m : Machine) (past : List Entry) (now : EventNow) (who : Actor) (k : Kind) → JournalPart m past → Moved m past now who k → StandsRestored m past k → Restored m past k
+restored_moved m past now who _ h (Opens _ n guarded f e) d = tt
+restored_moved m past now who k h (Makes _ here there _ a e c x) d = restored_made m past now here there k h e c x d
+restored_moved m past now who k h (Beside _ _ a x) d = restored_aside m past k x
+restored_moved m past now _ k h (Owns y _ x) d = restored_own m past now y k x
+
+-- where an attempt is over nothing is owed, where no device stands in a phase
+pub restored : (m : Machine) (past : List Entry) (e : Entry) → JournalPart m (e ∷ past) → StandsRestored m past e.kind → Restored m past e.kind
+restored m past e h d = restored_moved m past e.now e.actor e.kind h.1 (moved m past e h) d
