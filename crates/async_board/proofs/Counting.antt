@@ -1,7 +1,7 @@
 -- Counts of devices that are lowered and raised along a row.
-use Rattle.std.proofs.Common.{◌≡◌, ◌≢◌, ◌<◌, ◌≤◌, ◌+◌, ◌-◌, ◌∙◌, ℕ, zero, suc, Bool, true, false, ◌==◌, ◌||◌, ◌&&◌, ◌⊎◌, inl, inr, List, [], ◌∷◌, ◌++◌, length, get_or, set, take, cond, refl, sym, ap, subst, arith, length-set, get_or-set_same, get_or-set_other}
+use Rattle.std.proofs.Common.{◌≡◌, ◌<◌, ◌+◌, ◌∙◌, ℕ, zero, suc, true, false, ◌==◌, ◌||◌, ◌⊎◌, inl, inr, List, [], ◌∷◌, length, get_or, take, refl, sym, ap, subst, arith}
 use Rattle.std.proofs.lemmas.List.{take_more, take_all}
-use Rattle.std.proofs.lemmas.Bool.{cases_eq, false≢true, true≢false, eqb-true, eqb-false, eq-eqb, ne_eqb, or_parts, or_from, or_right}
+use Rattle.std.proofs.lemmas.Bool.{cases_eq, true≢false, ne_eqb, or_from, or_right}
 use Rattle.std.proofs.Math.Bool.{or-false}
 use Rattle.sleep_model.specs.Order.{is_among}
 use Rattle.sleep_model.proofs.Walks.{AllDifferent, same_eq}

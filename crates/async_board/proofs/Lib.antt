@@ -5,4 +5,5 @@ pub mod Picked
 pub mod Places
 pub mod Searched
 pub mod Stood
+pub mod Told
 pub mod Waiting

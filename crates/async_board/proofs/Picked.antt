@@ -1,8 +1,7 @@
 -- What a search from a cursor finds.
-use Rattle.std.proofs.Common.{◌≡◌, ◌<◌, ◌≤◌, ◌+◌, ◌-◌, ◌∙◌, ℕ, zero, suc, Bool, true, false, List, [], ◌∷◌, length, get_or, slice_get, cond, Option, Some, None, refl, sym, ap, arith, lit<}
-use Rattle.std.proofs.lemmas.Bool.{false≢true, true≢false}
+use Rattle.std.proofs.Common.{◌≡◌, ◌<◌, ◌≤◌, ◌-◌, ◌∙◌, ℕ, zero, suc, Bool, true, false, List, [], ◌∷◌, length, get_or, slice_get, cond, Option, Some, None, refl, sym, ap, arith}
 use Rattle.sleep_model.specs.Walk.{first_where, last_where, or_else}
-use Rattle.async_board.specs.Picks.{IsPassed, IsFirst, IsAhead, IsLast}
+use Rattle.async_board.specs.Picks.{IsFirst, IsLast}
 
 -- the first place that passes has the first device that does
 first_at : (p : ℕ → Bool) (xs : List ℕ) (at : ℕ) → at ≤ length xs → ((i : ℕ) → i < at → p (get_or xs i 0) ≡ false)

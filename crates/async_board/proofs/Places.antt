@@ -1,5 +1,5 @@
 -- The place of each device in an order of different devices.
-use Rattle.std.proofs.Common.{◌≡◌, ◌<◌, ◌≤◌, ◌+◌, ◌∙◌, ℕ, zero, suc, Bool, true, false, ◌==◌, ◌||◌, ◌⊎◌, inl, inr, List, [], ◌∷◌, length, get_or, set, sym, ap, subst, arith, length-set, get_or-set_same, get_or-set_other, below_more}
+use Rattle.std.proofs.Common.{◌≡◌, ◌<◌, ◌+◌, ◌∙◌, ℕ, zero, suc, true, ◌==◌, ◌⊎◌, inl, inr, List, [], ◌∷◌, length, get_or, set, sym, ap, subst, arith, get_or-set_same, get_or-set_other, below_more}
 use Rattle.std.proofs.lemmas.Bool.{false≢true, eqb-true, or_cases}
 use Rattle.sleep_model.specs.Order.{is_among}
 use Rattle.sleep_model.proofs.Walks.{AllDifferent}

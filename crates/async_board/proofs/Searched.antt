@@ -1,7 +1,7 @@
 -- Searches in rows that have each device once, and rows in which none is found.
-use Rattle.std.proofs.Common.{◌≡◌, ◌<◌, ◌∙◌, ℕ, zero, suc, Bool, true, false, not, ◌==◌, ◌&&◌, ◌⊎◌, inl, inr, List, [], ◌∷◌, length, filter, get_or, cond, Option, Some, None, refl, sym, ap, subst, arith}
+use Rattle.std.proofs.Common.{◌≡◌, ◌<◌, ◌∙◌, ℕ, zero, suc, Bool, true, false, not, ◌==◌, ◌&&◌, List, [], ◌∷◌, length, filter, get_or, cond, Option, Some, None, refl, sym, ap, arith}
 use Rattle.std.specs.List.{find, list_all}
-use Rattle.std.proofs.lemmas.Bool.{false≢true, true≢false, eqb-true, cases_lt}
+use Rattle.std.proofs.lemmas.Bool.{eqb-true}
 use Rattle.sleep_model.specs.declared.machine.Link.{Link}
 use Rattle.sleep_model.specs.declared.place.Stand.{Stand}
 use Rattle.sleep_model.specs.Links.{first_places}
@@ -26,11 +26,15 @@ first_others p x (y ∷ ys) e = by_test (first_others p x ys e) (y == x) refl
 
 pub first_once : (p : ℕ → Bool) (xs : List ℕ) → first_where p (first_places xs) ≡ first_where p xs
 first_once p [] = refl
-first_once p (x ∷ xs) = by_test (p x) refl
+first_once p (x ∷ xs) = by_test (first_once p xs) (p x) refl
   where
-    by_test : (b : Bool) → p x ≡ b → cond b (Some x) (first_where p (filter (λ y. not (y == x)) (first_places xs))) ≡ cond b (Some x) (first_where p xs)
-    by_test true e = refl
-    by_test false e = first_others p x (first_places xs) e ∙ first_once p xs
+    by_test : first_where p (first_places xs) ≡ first_where p xs → (b : Bool) → p x ≡ b → cond b (Some x) (first_where p (filter (λ y. not (y == x)) (first_places xs))) ≡ cond b (Some x) (first_where p xs)
+    by_test rest true e = refl
+    by_test rest false e = first_others p x (first_places xs) e ∙ rest
+
+-- a search in the row that has each once
+pub found_once : (p : ℕ → Bool) (xs row : List ℕ) → row ≡ first_places xs → find p row ≡ first_where p xs
+found_once p xs row e = ap (find p) e ∙ (sym (first_is_find p (first_places xs)) ∙ first_once p xs)
 
 -- a device that passes may be left out
 all_others : (p : ℕ → Bool) (x : ℕ) (ys : List ℕ) → p x ≡ true → list_all p (filter (λ y. not (y == x)) ys) ≡ list_all p ys
@@ -43,20 +47,20 @@ all_others p x (y ∷ ys) e = by_test (all_others p x ys e) (y == x) refl
 
 pub all_once : (p : ℕ → Bool) (xs : List ℕ) → list_all p (first_places xs) ≡ list_all p xs
 all_once p [] = refl
-all_once p (x ∷ xs) = by_test (p x) refl
+all_once p (x ∷ xs) = by_test (all_once p xs) (p x) refl
   where
-    by_test : (b : Bool) → p x ≡ b → (b && list_all p (filter (λ y. not (y == x)) (first_places xs))) ≡ (b && list_all p xs)
-    by_test true e = all_others p x (first_places xs) e ∙ all_once p xs
-    by_test false e = refl
+    by_test : list_all p (first_places xs) ≡ list_all p xs → (b : Bool) → p x ≡ b → (b && list_all p (filter (λ y. not (y == x)) (first_places xs))) ≡ (b && list_all p xs)
+    by_test rest true e = all_others p x (first_places xs) e ∙ rest
+    by_test rest false e = refl
 
 -- where none passes, none is found
 none_found : (p : ℕ → Bool) (xs : List ℕ) → length (filter p xs) ≡ 0 → first_where p xs ≡ None
 none_found p [] e = refl
-none_found p (x ∷ xs) e = by_test (p x) refl e
+none_found p (x ∷ xs) e = by_test (none_found p xs) (p x) refl e
   where
-    by_test : (b : Bool) → p x ≡ b → length (cond b (x ∷ filter p xs) (filter p xs)) ≡ 0 → cond b (Some x) (first_where p xs) ≡ None
-    by_test true f g = absurd (omega arith)
-    by_test false f g = none_found p xs g
+    by_test : (length (filter p xs) ≡ 0 → first_where p xs ≡ None) → (b : Bool) → p x ≡ b → length (cond b (x ∷ filter p xs) (filter p xs)) ≡ 0 → cond b (Some x) (first_where p xs) ≡ None
+    by_test rest true f g = absurd (omega arith)
+    by_test rest false f g = rest g
 
 none_counted : (n : ℕ) (p : ℕ → Bool) (row : ℕ → List ℕ) (counts : List ℕ) (d : ℕ) → IsCount n p (λ x. first_places (row x)) counts → (get_or counts d 1 == 0) ≡ true → first_where p (row d) ≡ None
 none_counted n p row counts d h z = sym (first_once p (row d)) ∙ none_found p (first_places (row d)) (sym (h.each d (omega (arith, within, h.size))) ∙ zero_at)

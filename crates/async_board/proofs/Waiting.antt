@@ -1,9 +1,9 @@
 -- How many of each row pass, after one device has moved.
-use Rattle.std.proofs.Common.{◌≡◌, ◌<◌, ◌≤◌, ◌+◌, ◌∙◌, ℕ, zero, suc, Bool, true, false, not, ◌==◌, ◌||◌, ◌&&◌, ◌⊎◌, inl, inr, List, [], ◌∷◌, ◌++◌, length, filter, get_or, slice_get, cond, Option, Some, None, refl, sym, ap, subst, arith}
-use Rattle.std.proofs.lemmas.Bool.{false≢true, true≢false, eqb-true, eqb-false, eq-eqb, or_cases, or_right, or_from, false_from_ne_true}
+use Rattle.std.proofs.Common.{◌≡◌, ◌<◌, ◌≤◌, ◌+◌, ◌∙◌, ℕ, Bool, true, false, not, ◌==◌, ◌||◌, ◌&&◌, ◌⊎◌, inl, inr, List, [], ◌∷◌, length, filter, get_or, slice_get, cond, Option, None, refl, sym, ap, subst, arith}
+use Rattle.std.proofs.lemmas.Bool.{false≢true, true≢false, eqb-true, eqb-false, or_cases}
 use Rattle.sleep_model.specs.declared.machine.Link.{Link}
 use Rattle.sleep_model.specs.Order.{is_among, children_from, consumers_of, suppliers_of, parent_of, hanging, holding, is_parent}
-use Rattle.sleep_model.specs.Links.{first_places, is_linked, AllAmong, IsOrder}
+use Rattle.sleep_model.specs.Links.{first_places, IsOrder}
 use Rattle.sleep_model.proofs.Walks.{AllDifferent, same_eq}
 use Rattle.sleep_model.proofs.Hanging.{among_app, among_first, among_rest, within_of}
 use Rattle.sleep_model.proofs.Ordering.{different_filter, kept_passes}

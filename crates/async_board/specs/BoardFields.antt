@@ -1,5 +1,4 @@
 -- What a board's fields are.
-use Rattle.std.specs.Prelude.{List}
 use Rattle.async_board.specs.Boards.{BoardState}
 use Rattle.async_board.specs.Walks.{IsLayout, IsWalk}
 use Rattle.async_board.specs.declared.board.Board.TheInside.{Inside}

@@ -1,7 +1,6 @@
 -- Cursors in the devices' order.
-use Rattle.std.specs.Prelude.{◌≡◌, ◌≢◌, ◌<◌, ◌≤◌, ℕ, Bool, true, false, List, length, slice_index_or}
+use Rattle.std.specs.Prelude.{◌≡◌, ◌≢◌, ◌<◌, ◌≤◌, ℕ, Bool, false, List, length, slice_index_or}
 use Rattle.sleep_model.specs.declared.place.Stand.{Stand}
-use Rattle.async_board.specs.declared.pick.Pick.{Pick}
 use Rattle.async_board.specs.declared.pick.Pick.TheVariants as pick
 use Rattle.async_board.specs.declared.cursors.Cursors.{Cursors}
 use Rattle.async_board.specs.Picks.{is_picked, IsPassed, IsAhead}

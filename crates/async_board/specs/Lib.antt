@@ -1,3 +1,4 @@
+pub mod AtPlaces
 pub mod BoardFields
 pub mod Boards
 pub mod Counts

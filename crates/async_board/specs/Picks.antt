@@ -1,5 +1,5 @@
 -- What is looked for among devices, and places in their order.
-use Rattle.std.specs.Prelude.{◌≡◌, ◌≢◌, ◌<◌, ◌≤◌, ◌-◌, ℕ, Bool, true, false, not, ◌&&◌, List, length, slice_index_or}
+use Rattle.std.specs.Prelude.{◌≡◌, ◌<◌, ◌≤◌, ◌-◌, ℕ, Bool, true, false, not, ◌&&◌, List, length, slice_index_or}
 use Rattle.sleep_model.specs.declared.place.Stand.{Stand}
 use Rattle.sleep_model.specs.Stands.{stand_at, is_unprepared, is_prepared, is_ready, is_going_down, is_down_in, is_low}
 use Rattle.sleep_model.specs.Walk.{is_so}

@@ -204,7 +204,6 @@ impl Board {
 
     /// The first device right below one that is not through with a phase on the way down
     /// (`dpm_wait_for_subordinate`).
-    #[tactic(auto, using(crate::proofs::Searched::below_none))]
     pub fn waits_below(&self, p: Phase, device: u32) -> Option<u32>
         ensures { result ≡ waits_below_on self.now p device }
     {
@@ -218,7 +217,6 @@ impl Board {
 
     /// The first device right above one that went down in a phase and is not yet up
     /// (`dpm_wait_for_superior`).
-    #[tactic(auto, using(crate::proofs::Searched::above_none))]
     pub fn waits_above(&self, p: Phase, device: u32) -> Option<u32>
         ensures { result ≡ waits_above_on self.now p device }
     {

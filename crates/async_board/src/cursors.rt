@@ -71,12 +71,7 @@ fn last_after(look: &Look<'_>, what: Pick, place: usize, at: usize) -> usize
 
 /// The cursors after the device at this place has moved. `failed`: a device has failed on the way
 /// down, so that the walk gives out no more.
-pub(crate) fn cursors_after(
-    look: &Look<'_>,
-    place: usize,
-    before: Cursors,
-    failed: bool,
-) -> Cursors
+pub(crate) fn cursors_after(look: &Look<'_>, place: usize, before: Cursors, failed: bool) -> Cursors
     requires within { place < length look.now.order.now }
     requires but { AreCursorsBut place look.now.beside.now look.now.stands.now
         look.now.order.now before }

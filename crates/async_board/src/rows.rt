@@ -1,7 +1,7 @@
 //! What is asked of the devices right below or above one.
 
 ghost use Rattle.std.specs.Prelude.{◌≡◌, ◌<◌, ◌==◌, length, slice_index, slice_index_or};
-ghost use Rattle.std.specs.List.{list_all};
+ghost use Rattle.std.specs.List.{find, list_all};
 ghost use Rattle.sleep_model.specs.Order.{hanging, holding};
 ghost use Rattle.sleep_model.specs.Stands.{stand_at, is_unsettled, is_low, is_left_alone};
 ghost use Rattle.sleep_model.specs.Walk.{first_where};
@@ -29,40 +29,52 @@ pub(crate) fn count_at(counts: &[usize], device: u32) -> usize
     counts[device as usize]
 }
 
+fn find_unsettled(stands: &[Stand], row: &[u32]) -> Option<u32>
+    ensures { result ≡ find (λ e. is_unsettled (stand_at stands.now e)) row.now }
+{
+    row.iter()
+        .copied()
+        .find(|device| is_unsettled(stand_at(stands, *device)))
+}
+
+fn find_low(stands: &[Stand], row: &[u32]) -> Option<u32>
+    ensures { result ≡ find (λ e. is_low (stand_at stands.now e)) row.now }
+{
+    row.iter()
+        .copied()
+        .find(|device| is_low(stand_at(stands, *device)))
+}
+
+fn are_left_alone(stands: &[Stand], row: &[u32]) -> bool
+    ensures { result ≡ list_all (λ e. is_left_alone (stand_at stands.now e)) row.now }
+{
+    row.iter()
+        .all(|device| is_left_alone(stand_at(stands, *device)))
+}
+
 /// The first device right below one that is not through on the way down.
-#[tactic(auto, using(crate::proofs::Searched::first_is_find, crate::proofs::Searched::first_once))]
 pub(crate) fn first_unsettled(stands: &[Stand], links: &Links, device: u32) -> Option<u32>
     ensures { result ≡ first_where (λ e. is_unsettled (stand_at stands.now e))
         (hanging links.now.parents links.now.links device) }
 {
-    links
-        .below(device)
-        .iter()
-        .copied()
-        .find(|other| is_unsettled(stand_at(stands, *other)))
+    let row = links.below(device);
+    find_unsettled(stands, row)
 }
 
 /// The first device right above one that is not yet up.
-#[tactic(auto, using(crate::proofs::Searched::first_is_find, crate::proofs::Searched::first_once))]
 pub(crate) fn first_low(stands: &[Stand], links: &Links, device: u32) -> Option<u32>
     ensures { result ≡ first_where (λ e. is_low (stand_at stands.now e))
         (holding links.now.parents links.now.links device) }
 {
-    links
-        .above(device)
-        .iter()
-        .copied()
-        .find(|other| is_low(stand_at(stands, *other)))
+    let row = links.above(device);
+    find_low(stands, row)
 }
 
 /// Whether all devices right below one are left alone.
-#[tactic(auto, using(crate::proofs::Searched::all_once))]
 pub(crate) fn all_left_alone(stands: &[Stand], links: &Links, device: u32) -> bool
     ensures { result ≡ list_all (λ e. is_left_alone (stand_at stands.now e))
         (hanging links.now.parents links.now.links device) }
 {
-    links
-        .below(device)
-        .iter()
-        .all(|other| is_left_alone(stand_at(stands, *other)))
+    let row = links.below(device);
+    are_left_alone(stands, row)
 }

@@ -110,13 +110,7 @@ fn failed_after(after: Stand, before: bool) -> bool
 
 // How many devices below each are not through, before this device moves.
 #[tactic(auto, using(crate::proofs::Layouts::below_some))]
-fn move_below(
-    counts: &mut Vec<usize>,
-    links: &Links,
-    stands: &[Stand],
-    device: u32,
-    after: Stand,
-)
+fn move_below(counts: &mut Vec<usize>, links: &Links, stands: &[Stand], device: u32, after: Stand)
     requires size { length stands.now ≡ length links.now.parents }
     requires within { device < length links.now.parents }
     requires known { IsBelow links.now.parents links.now.links stands.now counts.old.items }
@@ -131,13 +125,7 @@ fn move_below(
 
 // How many devices above each are not up, before this device moves.
 #[tactic(auto, using(crate::proofs::Layouts::above_some))]
-fn move_above(
-    counts: &mut Vec<usize>,
-    links: &Links,
-    stands: &[Stand],
-    device: u32,
-    after: Stand,
-)
+fn move_above(counts: &mut Vec<usize>, links: &Links, stands: &[Stand], device: u32, after: Stand)
     requires size { length stands.now ≡ length links.now.parents }
     requires within { device < length links.now.parents }
     requires known { IsAbove links.now.parents links.now.links stands.now counts.old.items }

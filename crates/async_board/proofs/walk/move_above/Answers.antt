@@ -1,9 +1,9 @@
 -- The rows and the stands are those of the links.
-use Rattle.std.proofs.Common.{◌≡◌, ◌∙◌, Bool, sym, ap}
+use Rattle.std.proofs.Common.{◌∙◌, sym, ap}
 use Rattle.sleep_model.specs.Order.{is_among, hanging}
-use Rattle.sleep_model.specs.Stands.{is_low, stand_at}
+use Rattle.sleep_model.specs.Stands.{is_low}
 use Rattle.async_board.proofs.Waiting.{first_different}
-use Rattle.async_board.proofs.Layouts.{above_some, above_few, above_moved}
+use Rattle.async_board.proofs.Layouts.{above_few, above_moved}
 use Rattle.async_board.proofs.walk.move_above.Goals as goal
 
 pub shift-requires-clause-apart : goal.shift-requires-clause-apart

@@ -1,8 +1,8 @@
 -- The rows and the stands are those of the links.
-use Rattle.std.proofs.Common.{◌≡◌, ◌∙◌, Bool, List, ℕ, sym, ap, subst}
+use Rattle.std.proofs.Common.{◌∙◌, List, ℕ, sym, ap, subst}
 use Rattle.sleep_model.specs.Links.{IsOrder}
-use Rattle.sleep_model.specs.Order.{is_among, hanging, holding, order_by}
-use Rattle.sleep_model.specs.Stands.{is_unsettled, stand_at}
+use Rattle.sleep_model.specs.Order.{is_among, hanging, holding}
+use Rattle.sleep_model.specs.Stands.{is_unsettled}
 use Rattle.async_board.proofs.Waiting.{first_different}
 use Rattle.async_board.proofs.Layouts.{below_few, below_moved}
 use Rattle.async_board.proofs.walk.move_below.Goals as goal

@@ -1,5 +1,5 @@
 -- Each device of the order stands at one place.
-use Rattle.std.proofs.Common.{◌≡◌, ◌<◌, ◌∙◌, length, get_or, arith, length-set}
+use Rattle.std.proofs.Common.{◌<◌, ◌∙◌, length, get_or, arith, length-set}
 use Rattle.async_board.proofs.Counting.{among_at}
 use Rattle.async_board.proofs.Places.{places_more, placed_all}
 use Rattle.async_board.proofs.walk.places_of.Goals as goal
@@ -13,8 +13,7 @@ pub loop-place-preserved : goal.loop-place-preserved
 loop-place-preserved c =
     let order = c.args.order.now in
     let places = c.loop-place.places.items in
-    let within : get_or order c.loop-place.place 0 < length order = c.requires.within _ (among_at order c.loop-place.place c.loop-place-test.true) in
-    (
+    let within : get_or order c.loop-place.place 0 < length order = c.requires.within _ (among_at order c.loop-place.place c.loop-place-test.true) in (
       length-set places (get_or order c.loop-place.place 0) c.loop-place.place ∙ c.loop-place.invariant.0,
       places_more order places c.loop-place.place c.requires.different c.loop-place-test.true (omega (arith, within, c.loop-place.invariant.0)) c.loop-place.invariant.1,
     )

@@ -1,0 +1,11 @@
+-- The row has each device once.
+use Rattle.std.proofs.Common.{◌∙◌}
+use Rattle.sleep_model.specs.Order.{holding}
+use Rattle.sleep_model.specs.Stands.{is_low, stand_at}
+use Rattle.async_board.proofs.Searched.{found_once}
+use Rattle.async_board.proofs.rows.first_low.Goals as goal
+
+pub returns : goal.returns
+returns c =
+    c.find_low.ensures
+    ∙ found_once (λ e. is_low (stand_at c.args.stands.now e)) (holding c.args.links.now.parents c.args.links.now.links c.args.device) c.above-row.result.now c.above-row.ensures
