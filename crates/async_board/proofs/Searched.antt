@@ -8,12 +8,9 @@ use Rattle.sleep_model.specs.Links.{first_places}
 use Rattle.sleep_model.specs.Order.{hanging, holding}
 use Rattle.sleep_model.specs.Stands.{stand_at, is_unsettled, is_low}
 use Rattle.sleep_model.specs.Walk.{first_where}
+use Rattle.sleep_model.proofs.Searches.{find_is_first}
 use Rattle.async_board.specs.Counts.{IsCount}
 use Rattle.async_board.specs.Walks.{IsBelow, IsAbove}
-
-pub first_is_find : (p : ℕ → Bool) (xs : List ℕ) → first_where p xs ≡ find p xs
-first_is_find p [] = refl
-first_is_find p (x ∷ xs) = ap (λ o. cond (p x) (Some x) o) (first_is_find p xs)
 
 -- a device that does not pass may be left out
 first_others : (p : ℕ → Bool) (x : ℕ) (ys : List ℕ) → p x ≡ false → first_where p (filter (λ y. not (y == x)) ys) ≡ first_where p ys
@@ -34,7 +31,7 @@ first_once p (x ∷ xs) = by_test (first_once p xs) (p x) refl
 
 -- a search in the row that has each once
 pub found_once : (p : ℕ → Bool) (xs row : List ℕ) → row ≡ first_places xs → find p row ≡ first_where p xs
-found_once p xs row e = ap (find p) e ∙ (sym (first_is_find p (first_places xs)) ∙ first_once p xs)
+found_once p xs row e = ap (find p) e ∙ (find_is_first p (first_places xs) ∙ first_once p xs)
 
 -- a device that passes may be left out
 all_others : (p : ℕ → Bool) (x : ℕ) (ys : List ℕ) → p x ≡ true → list_all p (filter (λ y. not (y == x)) ys) ≡ list_all p ys

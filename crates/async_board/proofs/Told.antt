@@ -1,5 +1,5 @@
 -- What a board tells at a place of a machine's log.
-use Rattle.std.proofs.Common.{◌≡◌, ◌∙◌, ℕ, zero, suc, Bool, true, not, ◌&&◌, List, [], ◌∷◌, length, map, reverse, replicate, slice_get, refl, ap}
+use Rattle.std.proofs.Common.{◌≡◌, ℕ, true, not, ◌&&◌, List, [], length, map, reverse, replicate, refl, ap}
 use Rattle.std.proofs.lemmas.List.{length-map}
 use Rattle.std.proofs.lemmas.Bool.{false≢true}
 use Rattle.phase_table.specs.declared.phase.Phase.{Phase}
@@ -10,19 +10,13 @@ use Rattle.sleep_model.specs.declared.machine.Device.{Device}
 use Rattle.sleep_model.specs.declared.machine.Machine.{Machine}
 use Rattle.sleep_model.specs.declared.place.Stand.{Stand}
 use Rattle.sleep_model.specs.declared.place.Stand.TheVariants as stand
-use Rattle.sleep_model.specs.Devices.{holds_of, is_async_device}
+use Rattle.sleep_model.specs.Devices.{is_async_device}
 use Rattle.sleep_model.specs.Order.{order, below, above, parents_of}
 use Rattle.sleep_model.specs.Runtime.{is_async}
 use Rattle.sleep_model.specs.Stands.{stands, stand_at, is_ready, is_unsettled, is_going_down, is_down_in, is_low}
-use Rattle.sleep_model.specs.Walk.{is_so, first_where, last_where}
+use Rattle.sleep_model.specs.Walk.{first_where, last_where}
 use Rattle.async_board.specs.Boards.{stands_on, first_board}
 use Rattle.async_board.specs.AtPlaces.{board_at, Tells}
-
--- the flags of a machine's devices, by number
-pub async_is : (ds : List Device) (d : ℕ) → is_so (map is_async ds) d ≡ holds_of is_async (slice_get ds d)
-async_is [] d = refl
-async_is (x ∷ ds) zero = refl
-async_is (x ∷ ds) (suc d) = async_is ds d
 
 -- the stands of a phase on the way down
 pub stands_down : (m : Machine) (past : List Entry) (p : Phase) → is_down p ≡ true → stands_on (board_at m past) p ≡ stands (length m.devices) p past
@@ -41,23 +35,16 @@ module _ (m : Machine) (past : List Entry) where
   -- what is asked of the board is what the definitions tell
   pub tells : Tells m past (board_at m past)
   tells = record {
-    asynchronous = async_is m.devices;
+    asynchronous = λ d. refl;
     stood = λ p d e. ap (λ ss. stand_at ss d) (stands_down m past p e);
     prepares = refl;
     completes = refl;
     takes = λ p e. ap (λ (ss : List Stand). last_where (λ d. is_ready (stand_at ss d)) (order m)) (stands_down m past p e);
     closes = λ p e. ap (λ (ss : List Stand). first_where (λ d. is_going_down (stand_at ss d)) (order m)) (stands_down m past p e);
-    gives = λ p e.
-        ap (λ (ss : List Stand). first_where (λ d. is_down_in (stand_at ss d) && is_so (map is_async m.devices) d) (order m)) (stands_down m past p e)
-        ∙ ap (λ (f : ℕ → Bool). first_where (λ d. is_down_in (stand_at (stands (length m.devices) p past) d) && f d) (order m)) flags;
-    raises = λ p e.
-        ap (λ (ss : List Stand). first_where (λ d. is_down_in (stand_at ss d) && not (is_so (map is_async m.devices) d)) (order m)) (stands_down m past p e)
-        ∙ ap (λ (f : ℕ → Bool). first_where (λ d. is_down_in (stand_at (stands (length m.devices) p past) d) && not (f d)) (order m)) flags;
+    gives = λ p e. ap (λ (ss : List Stand). first_where (λ d. is_down_in (stand_at ss d) && is_async_device m d) (order m)) (stands_down m past p e);
+    raises = λ p e. ap (λ (ss : List Stand). first_where (λ d. is_down_in (stand_at ss d) && not (is_async_device m d)) (order m)) (stands_down m past p e);
     opens = λ p e. ap (λ (ss : List Stand). first_where (λ d. is_low (stand_at ss d)) (order m)) (stands_down m past p e);
     waits_for_below = λ p d e. ap (λ (ss : List Stand). first_where (λ x. is_unsettled (stand_at ss x)) (below m d)) (stands_down m past p e);
     waits_for_above = λ p d e. ap (λ (ss : List Stand). first_where (λ x. is_low (stand_at ss x)) (above m d)) (stands_down m past p e);
     left_alone = λ d. refl;
   }
-    where
-      flags : is_so (map is_async m.devices) ≡ is_async_device m
-      flags = λ i d. async_is m.devices d i

@@ -1,29 +1,10 @@
 //! What an entry does to the stand of its device, and tests of a stand.
 
 ghost use Rattle.std.specs.Prelude.{◌≡◌};
-ghost use Rattle.phase_table.specs.Phases.{is_phase, mirror};
 ghost use Rattle.sleep_model.specs.Stands as stands;
 
 use sleep_base::Errno;
 use sleep_model::{Kind, Phase, SkipCause, Stand};
-
-// The phase that undoes a phase, and the other way round.
-fn mirror(p: Phase) -> Phase
-    ensures { result ≡ mirror p }
-{
-    match p {
-        Phase::Prepare => Phase::Complete,
-        Phase::Suspend => Phase::Resume,
-        Phase::Late => Phase::Early,
-        Phase::Noirq => Phase::ResumeNoirq,
-        Phase::Syscore => Phase::SyscoreResume,
-        Phase::SyscoreResume => Phase::Syscore,
-        Phase::ResumeNoirq => Phase::Noirq,
-        Phase::Early => Phase::Late,
-        Phase::Resume => Phase::Suspend,
-        Phase::Complete => Phase::Prepare,
-    }
-}
 
 fn prepared_by(r: i32, before: Stand) -> Stand
     ensures { result ≡ stands.prepared_by r before }
@@ -54,7 +35,7 @@ fn by_phase(p: Phase, q: Phase, down: Stand, up: Stand, other: Stand) -> Stand
 {
     if q == p {
         down
-    } else if q == mirror(p) {
+    } else if q == p.mirror() {
         up
     } else {
         other
