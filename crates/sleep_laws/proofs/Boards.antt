@@ -1,0 +1,191 @@
+-- Where a device stands in the three pairs of phases, and how an entry moves it.
+use Rattle.std.proofs.Common.{◌≡◌, ◌≢◌, ◌≤◌, ◌<◌, ◌∙◌, ℕ, Bool, true, false, ◌==◌, nat_lt, List, [], ◌∷◌, ◌⊎◌, inl, inr, length, replicate, slice_index_or, slice_set, Option, Some, None, refl, sym, ap, subst, cond, arith}
+use Rattle.std.proofs.lemmas.Bool.{eqb-true, true≢false, or_cases}
+use Rattle.std.proofs.lemmas.Bool.Decides.{nat_tests}
+use Rattle.std.proofs.lemmas.List.{length-set, length-replicate, get_or-set_same, get_or-set_other, get_or_past, set_past}
+use Rattle.sleep_model.specs.declared.entry.Entry.{Entry}
+use Rattle.sleep_model.specs.declared.entry.Kind.{Kind}
+use Rattle.sleep_model.specs.declared.machine.Machine.{Machine}
+use Rattle.sleep_model.specs.declared.place.Stand.{Stand}
+use Rattle.sleep_model.specs.declared.place.Stand.TheVariants as stand
+use Rattle.phase_table.specs.declared.phase.Phase.{Phase}
+use Rattle.phase_table.specs.declared.phase.Phase.TheVariants as phase
+use Rattle.phase_table.specs.Phases.{mirror}
+use Rattle.sleep_model.specs.Devices.{stand_in}
+use Rattle.sleep_model.specs.Order.{is_among}
+use Rattle.sleep_model.specs.Stands.{stands, stands_after, stand_after, stand_at, device_of, by_phase, is_prepared}
+use Rattle.sleep_model.specs.Walk.{first_where, last_where, or_else}
+use Rattle.sleep_laws.proofs.Made.{Down, InSuspend, InLate, InNoirq, Up, InResume, InEarly, InResumeNoirq}
+use Rattle.sleep_model.proofs.Hanging.{among_first, among_rest}
+use Rattle.sleep_laws.proofs.Telling.{some≢none}
+use Rattle.sleep_laws.proofs.Activity.{same_number, different}
+
+-- ---- a device's three stands
+
+-- where a device stands in suspend, late and noirq, and their mirrors
+pub record Three : Type 0 where
+  pub suspend : Stand
+  pub late : Stand
+  pub noirq : Stand
+
+-- where it stands in that phase
+abbrev pub at : Three → Phase → Stand
+at t phase.Suspend = t.suspend
+at t phase.Late = t.late
+at t phase.Noirq = t.noirq
+at t _ = stand.Unprepared
+
+-- where device d stands
+abbrev pub three : Machine → List Entry → ℕ → Three
+three m past d = record { suspend = stand_in m past phase.Suspend d; late = stand_in m past phase.Late d; noirq = stand_in m past phase.Noirq d }
+
+-- where a device stands after an entry of its own
+abbrev pub three_after : Kind → Three → Three
+three_after k t = record { suspend = stand_after phase.Suspend k t.suspend; late = stand_after phase.Late k t.late; noirq = stand_after phase.Noirq k t.noirq }
+
+pub at_is : (m : Machine) (past : List Entry) (p : Phase) (d : ℕ) → Down p → at (three m past d) p ≡ stand_in m past p d
+at_is m past _ d InSuspend = refl
+at_is m past _ d InLate = refl
+at_is m past _ d InNoirq = refl
+
+stands_length : (n : ℕ) (p : Phase) (past : List Entry) → length (stands n p past) ≡ n
+stands_length n p [] = length-replicate n stand.Unprepared
+stands_length n p (e ∷ past) = by_device (device_of e.kind) (stands_length n p past)
+  where
+    by_device : (o : Option ℕ) → length (stands n p past) ≡ n → length (stands_after p e.kind o (stands n p past)) ≡ n
+    by_device None l = l
+    by_device (Some d) l = length-set (stands n p past) d (stand_after p e.kind (stand_at (stands n p past) d)) ∙ l
+
+-- an entry of no device leaves each where it stands
+pub unmoved : (m : Machine) (past : List Entry) (e : Entry) → device_of e.kind ≡ None → (x : ℕ) → three m (e ∷ past) x ≡ three m past x
+unmoved m past e is x = ap (λ (o : Option ℕ). record { suspend = stand_at (stands_after phase.Suspend e.kind o (stands (length m.devices) phase.Suspend past)) x; late = stand_at (stands_after phase.Late e.kind o (stands (length m.devices) phase.Late past)) x; noirq = stand_at (stands_after phase.Noirq e.kind o (stands (length m.devices) phase.Noirq past)) x }) is
+
+stand_other : (xs : List Stand) (d x : ℕ) (s : Stand) → x ≢ d → stand_at (slice_set xs d s) x ≡ stand_at xs x
+stand_other xs d x s other = get_or-set_other xs d x s stand.Unprepared other
+
+stand_same : (xs : List Stand) (d : ℕ) (s : Stand) → d < length xs → stand_at (slice_set xs d s) d ≡ s
+stand_same xs d s l = get_or-set_same xs d s stand.Unprepared l
+
+-- a device that is prepared is one of the list
+in_range : (xs : List Stand) (d : ℕ) → is_prepared (stand_at xs d) ≡ true → d < length xs
+in_range xs d h = by_test (nat_lt d (length xs)) refl
+  where
+    by_test : (b : Bool) → nat_lt d (length xs) ≡ b → d < length xs
+    by_test true e = grind (arith, nat_tests)
+    by_test false e = let l : length xs ≤ d = grind (arith, nat_tests) in absurd (true≢false (sym h ∙ ap is_prepared (get_or_past xs d stand.Unprepared l)))
+
+-- three lists of stands of one length, where the one at d is set
+set_three : (P : Three → Type 0) (a b c : List Stand) (d x : ℕ) (u v w : Stand) → length b ≡ length a → length c ≡ length a → P (record { suspend = stand_at a x; late = stand_at b x; noirq = stand_at c x }) → (x ≡ d → P (record { suspend = u; late = v; noirq = w })) → P (record { suspend = stand_at (slice_set a d u) x; late = stand_at (slice_set b d v) x; noirq = stand_at (slice_set c d w) x })
+set_three P a b c d x u v w lb lc old new = by_test (x == d) refl (nat_lt d (length a)) refl
+  where
+    by_test : (t : Bool) → (x == d) ≡ t → (r : Bool) → nat_lt d (length a) ≡ r → P (record { suspend = stand_at (slice_set a d u) x; late = stand_at (slice_set b d v) x; noirq = stand_at (slice_set c d w) x })
+    by_test false e r f =
+        let other : x ≢ d = different x d e in
+        subst (λ (s : Stand). P (record { suspend = s; late = stand_at (slice_set b d v) x; noirq = stand_at (slice_set c d w) x })) (sym (stand_other a d x u other))
+        (subst (λ (s : Stand). P (record { suspend = stand_at a x; late = s; noirq = stand_at (slice_set c d w) x })) (sym (stand_other b d x v other))
+        (subst (λ (s : Stand). P (record { suspend = stand_at a x; late = stand_at b x; noirq = s })) (sym (stand_other c d x w other)) old))
+    by_test true e true f =
+        let same : x ≡ d = eqb-true x d e in
+        let inside : d < length a = grind (arith, nat_tests) in
+        subst (λ (y : ℕ). P (record { suspend = stand_at (slice_set a d u) y; late = stand_at (slice_set b d v) y; noirq = stand_at (slice_set c d w) y })) (sym same)
+        (subst (λ (s : Stand). P (record { suspend = s; late = stand_at (slice_set b d v) d; noirq = stand_at (slice_set c d w) d })) (sym (stand_same a d u inside))
+        (subst (λ (s : Stand). P (record { suspend = u; late = s; noirq = stand_at (slice_set c d w) d })) (sym (stand_same b d v (omega (arith, lb))))
+        (subst (λ (s : Stand). P (record { suspend = u; late = v; noirq = s })) (sym (stand_same c d w (omega (arith, lc)))) (new same))))
+    by_test true e false f =
+        let outside : length a ≤ d = grind (arith, nat_tests) in
+        subst (λ (ys : List Stand). P (record { suspend = stand_at ys x; late = stand_at (slice_set b d v) x; noirq = stand_at (slice_set c d w) x })) (sym (set_past a d u outside))
+        (subst (λ (ys : List Stand). P (record { suspend = stand_at a x; late = stand_at ys x; noirq = stand_at (slice_set c d w) x })) (sym (set_past b d v (omega (arith, lb))))
+        (subst (λ (ys : List Stand). P (record { suspend = stand_at a x; late = stand_at b x; noirq = stand_at ys x })) (sym (set_past c d w (omega (arith, lc)))) old))
+
+-- what holds of a device holds after an entry, if it holds of the device that the entry moves
+pub moved : (m : Machine) (past : List Entry) (e : Entry) (d : ℕ) → device_of e.kind ≡ Some d → (P : Three → Type 0) (x : ℕ) → P (three m past x) → (x ≡ d → P (three_after e.kind (three m past d))) → P (three m (e ∷ past) x)
+moved m past e d is P x old new =
+    let n : ℕ = length m.devices in
+    subst (λ (o : Option ℕ). P (record { suspend = stand_at (stands_after phase.Suspend e.kind o (stands n phase.Suspend past)) x; late = stand_at (stands_after phase.Late e.kind o (stands n phase.Late past)) x; noirq = stand_at (stands_after phase.Noirq e.kind o (stands n phase.Noirq past)) x })) (sym is)
+    (set_three P (stands n phase.Suspend past) (stands n phase.Late past) (stands n phase.Noirq past) d x _ _ _ (stands_length n phase.Late past ∙ sym (stands_length n phase.Suspend past)) (stands_length n phase.Noirq past ∙ sym (stands_length n phase.Suspend past)) old new)
+
+-- ---- one pair of phases alone
+
+-- in phase p the device stands so, in another as before
+pub data Change (p : Phase) (s : Stand) (before after : Three) (q : Phase) : Type 0 where
+  Here : q ≡ p → at after q ≡ s → Change p s before after q
+  Away : at after q ≡ at before q → Change p s before after q
+
+-- an entry of a phase moves the device in that phase, or in its mirror
+abbrev pub turned : Phase → Stand → Three → Three → Three
+turned p down up t = record { suspend = by_phase phase.Suspend p down up.suspend t.suspend; late = by_phase phase.Late p down up.late t.late; noirq = by_phase phase.Noirq p down up.noirq t.noirq }
+
+pub turned_down : (p q : Phase) (s : Stand) (up t : Three) → Down p → Down q → Change p s t (turned p s up t) q
+turned_down _ _ s up t InSuspend InSuspend = Here refl refl
+turned_down _ _ s up t InSuspend InLate = Away refl
+turned_down _ _ s up t InSuspend InNoirq = Away refl
+turned_down _ _ s up t InLate InSuspend = Away refl
+turned_down _ _ s up t InLate InLate = Here refl refl
+turned_down _ _ s up t InLate InNoirq = Away refl
+turned_down _ _ s up t InNoirq InSuspend = Away refl
+turned_down _ _ s up t InNoirq InLate = Away refl
+turned_down _ _ s up t InNoirq InNoirq = Here refl refl
+
+-- each of the three stands so
+abbrev pub all_three : Stand → Three
+all_three s = record { suspend = s; late = s; noirq = s }
+
+pub turned_up : (p q : Phase) (s other : Stand) (t : Three) → Up p → Down q → Change (mirror p) s t (turned p other (all_three s) t) q
+turned_up _ _ s other t InResume InSuspend = Here refl refl
+turned_up _ _ s other t InResume InLate = Away refl
+turned_up _ _ s other t InResume InNoirq = Away refl
+turned_up _ _ s other t InEarly InSuspend = Away refl
+turned_up _ _ s other t InEarly InLate = Here refl refl
+turned_up _ _ s other t InEarly InNoirq = Away refl
+turned_up _ _ s other t InResumeNoirq InSuspend = Away refl
+turned_up _ _ s other t InResumeNoirq InLate = Away refl
+turned_up _ _ s other t InResumeNoirq InNoirq = Here refl refl
+
+pub mirror_down : (p : Phase) → Up p → Down (mirror p)
+mirror_down _ InResume = InSuspend
+mirror_down _ InEarly = InLate
+mirror_down _ InResumeNoirq = InNoirq
+
+-- ---- searches among the devices
+
+-- what is found passes, and is of the list
+pub record Found (test : ℕ → Bool) (xs : List ℕ) (d : ℕ) : Type 0 where
+  pub passes : test d ≡ true
+  pub among : is_among xs d ≡ true
+
+pub first_found : (test : ℕ → Bool) (xs : List ℕ) (d : ℕ) → first_where test xs ≡ Some d → Found test xs d
+first_found test [] d e = absurd (cc)
+first_found test (x ∷ xs) d e = by_test (first_found test xs d) (test x) refl e
+  where
+    by_test : (first_where test xs ≡ Some d → Found test xs d) → (b : Bool) → test x ≡ b → cond b (Some x) (first_where test xs) ≡ Some d → Found test (x ∷ xs) d
+    by_test rest true t f = let same : x ≡ d = cc in record { passes = subst (λ (y : ℕ). test y ≡ true) same t; among = subst (λ (y : ℕ). is_among (x ∷ xs) y ≡ true) same (among_first x xs) }
+    by_test rest false t f = let r = rest f in record { passes = r.passes; among = among_rest x xs d r.among }
+
+pub last_found : (test : ℕ → Bool) (xs : List ℕ) (d : ℕ) → last_where test xs ≡ Some d → Found test xs d
+last_found test [] d e = absurd (cc)
+last_found test (x ∷ xs) d e = by_rest (last_where test xs) refl (last_found test xs d) (test x) refl e
+  where
+    by_rest : (o : Option ℕ) → last_where test xs ≡ o → (last_where test xs ≡ Some d → Found test xs d) → (b : Bool) → test x ≡ b → or_else o (cond b (Some x) None) ≡ Some d → Found test (x ∷ xs) d
+    by_rest (Some y) l rest b t f = let r = rest (l ∙ f) in record { passes = r.passes; among = among_rest x xs d r.among }
+    by_rest None l rest true t f = let same : x ≡ d = cc in record { passes = subst (λ (y : ℕ). test y ≡ true) same t; among = subst (λ (y : ℕ). is_among (x ∷ xs) y ≡ true) same (among_first x xs) }
+    by_rest None l rest false t f = absurd (cc)
+
+-- where none is found none passes
+pub first_none : (test : ℕ → Bool) (xs : List ℕ) → first_where test xs ≡ None → (d : ℕ) → is_among xs d ≡ true → test d ≡ false
+first_none test [] e d m = absurd (true≢false (sym m))
+first_none test (x ∷ xs) e d m = by_test (λ f. first_none test xs f d) (test x) refl e (or_cases (x == d) (is_among xs d) m)
+  where
+    by_test : (first_where test xs ≡ None → is_among xs d ≡ true → test d ≡ false) → (b : Bool) → test x ≡ b → cond b (Some x) (first_where test xs) ≡ None → ((x == d) ≡ true) ⊎ (is_among xs d ≡ true) → test d ≡ false
+    by_test rest true t f c = absurd (some≢none x f)
+    by_test rest false t f (inl s) = subst (λ (y : ℕ). test y ≡ false) (eqb-true x d s) t
+    by_test rest false t f (inr k) = rest f k
+
+pub last_none : (test : ℕ → Bool) (xs : List ℕ) → last_where test xs ≡ None → (d : ℕ) → is_among xs d ≡ true → test d ≡ false
+last_none test [] e d m = absurd (true≢false (sym m))
+last_none test (x ∷ xs) e d m = by_rest (last_where test xs) refl (λ f. last_none test xs f d) (test x) refl e (or_cases (x == d) (is_among xs d) m)
+  where
+    by_rest : (o : Option ℕ) → last_where test xs ≡ o → (last_where test xs ≡ None → is_among xs d ≡ true → test d ≡ false) → (b : Bool) → test x ≡ b → or_else o (cond b (Some x) None) ≡ None → ((x == d) ≡ true) ⊎ (is_among xs d ≡ true) → test d ≡ false
+    by_rest (Some y) l rest b t f c = absurd (some≢none y f)
+    by_rest None l rest true t f c = absurd (some≢none x f)
+    by_rest None l rest false t f (inl s) = subst (λ (y : ℕ). test y ≡ false) (eqb-true x d s) t
+    by_rest None l rest false t f (inr k) = rest l k
