@@ -20,7 +20,9 @@ use Rattle.sleep_model.specs.declared.place.Stage.{Stage}
 use Rattle.sleep_model.specs.declared.place.Stage.TheVariants as stage
 use Rattle.sleep_model.specs.declared.place.Stand.TheVariants as stand
 use Rattle.sleep_model.specs.declared.word.EventNow.{EventNow}
-use Rattle.sleep_model.specs.Autosleep.{Work, Resting, Reading, Saving, Attempting, Looking, Napping, Closing, work, work_after, after_look, seen_count}
+use Rattle.sleep_model.specs.declared.place.Work.{Work}
+use Rattle.sleep_model.specs.declared.place.Work.TheVariants.{Resting, Reading, Saving, Attempting, Looking, Napping, Closing}
+use Rattle.sleep_model.specs.Autosleep.{work, work_after, after_look, seen_count}
 use Rattle.sleep_model.specs.Devices.{phase_failed, phase_failed_after, error_in, stand_in}
 use Rattle.sleep_model.specs.Guard.{Finds, in_force, count_part, count_pending, force_after, forgotten, pending}
 use Rattle.sleep_model.specs.Laws.{guard_of, guard_after}
@@ -31,7 +33,7 @@ use Rattle.sleep_model.specs.Word.{visible}
 use Rattle.sleep_laws.proofs.Guarded.{Shows, StillGuards, Says}
 use Rattle.sleep_laws.proofs.Made.{Down, Made, Comes, AtOnce, PastNotifiers, PastCpus, PastParts, PastPartsUp, PastCpusUp, PastPosts, StepMade, TaskMade, WorkMade, DeviceMade, EntryMade, ByMaker, ByTask, ByWork, ByDevice, ByTime, Breaks, Settles}
 use Rattle.sleep_laws.proofs.Telling.{some≢none}
-use Rattle.sleep_laws.proofs.Staying.{after_made}
+use Rattle.sleep_laws.proofs.MakingOwn.{by_maker}
 
 -- until the attempt enters or fails its guard is in force; in a phase on the way down, while no error stands in the phase
 abbrev pub HeldAt : Stage → Option Errno → Option ℕ → Option ℕ → Type 0
@@ -320,9 +322,10 @@ device_guards m past now d _ going h _ = h
 
 maker_guards : (m : Machine) (past : List Entry) (now : EventNow) (here there : Stage) (k : Kind) → HeldIf (stage_of past) (phase_failed past) (guard_of past) (in_force past) → stage_of past ≡ Some here → Comes m past here there → Made m past now there k → GuardedAfter past now k
 maker_guards m past now here there k h at come x =
-    let before : HeldAt here (phase_failed past) (guard_of past) (in_force past) = subst (λ (s : Option Stage). HeldIf s (phase_failed past) (guard_of past) (in_force past)) at h in
-    let after : HeldAfter past now k (Some there) = held_made m past now there k (held_comes m past here there (phase_failed past) (guard_of past) (in_force past) come before) x in
-    subst (λ (s : Option Stage). HeldIf s (phase_failed_after k (phase_failed past)) (guard_after k (guard_of past)) (force_after (count_part k) now (in_force past))) (sym (after_made m past now here there k at come x)) after
+    by_maker m past now k here there
+    (λ (s : Option Stage). HeldIf s (phase_failed past) (guard_of past) (in_force past))
+    (λ (s : Option Stage). HeldIf s (phase_failed_after k (phase_failed past)) (guard_after k (guard_of past)) (force_after (count_part k) now (in_force past)))
+    at come x (held_comes m past here there (phase_failed past) (guard_of past) (in_force past) come) (λ b. held_made m past now there k b x) h
 
 -- ---- so at each place
 

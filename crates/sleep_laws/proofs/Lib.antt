@@ -14,6 +14,5 @@ pub mod Owing
 pub mod Reaching
 pub mod Resting
 pub mod Restoring
-pub mod Staying
 pub mod Stepping
 pub mod Telling
