@@ -104,6 +104,27 @@ moved m past e d is P x old new =
     subst (λ (o : Option ℕ). P (record { suspend = stand_at (stands_after phase.Suspend e.kind o (stands n phase.Suspend past)) x; late = stand_at (stands_after phase.Late e.kind o (stands n phase.Late past)) x; noirq = stand_at (stands_after phase.Noirq e.kind o (stands n phase.Noirq past)) x })) (sym is)
     (set_three P (stands n phase.Suspend past) (stands n phase.Late past) (stands n phase.Noirq past) d x _ _ _ (stands_length n phase.Late past ∙ sym (stands_length n phase.Suspend past)) (stands_length n phase.Noirq past ∙ sym (stands_length n phase.Suspend past)) old new)
 
+-- the same for all devices
+pub moved_all : (m : Machine) (past : List Entry) (e : Entry) (d : ℕ) → device_of e.kind ≡ Some d → (P : ℕ → Three → Type 0) → ((x : ℕ) → P x (three m past x)) → P d (three_after e.kind (three m past d)) → (x : ℕ) → P x (three m (e ∷ past) x)
+moved_all m past e d is P old new x = moved m past e d is (P x) x (old x) (λ same. subst (λ (y : ℕ). P y (three_after e.kind (three m past d))) (sym same) new)
+
+-- an entry leaves another device where it stands
+pub moved_other : (m : Machine) (past : List Entry) (e : Entry) (d : ℕ) → device_of e.kind ≡ Some d → (x : ℕ) → x ≢ d → three m (e ∷ past) x ≡ three m past x
+moved_other m past e d is x other = moved m past e d is (λ t. t ≡ three m past x) x refl (λ same. absurd (other same))
+
+-- an entry moves its device, where that is prepared
+pub moved_own : (m : Machine) (past : List Entry) (e : Entry) (d : ℕ) → device_of e.kind ≡ Some d → is_prepared (stand_in m past phase.Suspend d) ≡ true → three m (e ∷ past) d ≡ three_after e.kind (three m past d)
+moved_own m past e d is p =
+    let n : ℕ = length m.devices in
+    let inside : d < length (stands n phase.Suspend past) = in_range (stands n phase.Suspend past) d p in
+    subst (λ (o : Option ℕ). ◌≡◌ {A = Three} (record { suspend = stand_at (stands_after phase.Suspend e.kind o (stands n phase.Suspend past)) d; late = stand_at (stands_after phase.Late e.kind o (stands n phase.Late past)) d; noirq = stand_at (stands_after phase.Noirq e.kind o (stands n phase.Noirq past)) d }) (three_after e.kind (three m past d))) (sym is)
+    (same_three (stand_same (stands n phase.Suspend past) d _ inside)
+    (stand_same (stands n phase.Late past) d _ (omega (arith, stands_length n phase.Late past, stands_length n phase.Suspend past)))
+    (stand_same (stands n phase.Noirq past) d _ (omega (arith, stands_length n phase.Noirq past, stands_length n phase.Suspend past))))
+  where
+    same_three : {a b c x y z : Stand} → a ≡ x → b ≡ y → c ≡ z → ◌≡◌ {A = Three} (record { suspend = a; late = b; noirq = c }) (record { suspend = x; late = y; noirq = z })
+    same_three f g h = cc
+
 -- ---- one pair of phases alone
 
 -- in phase p the device stands so, in another as before

@@ -14,5 +14,7 @@ pub mod Owing
 pub mod Reaching
 pub mod Resting
 pub mod Restoring
+pub mod Standing
 pub mod Stepping
 pub mod Telling
+pub mod Turning

@@ -1,0 +1,271 @@
+-- Where the devices stand at each stage of an attempt.
+use Rattle.std.proofs.Common.{◌≡◌, ◌≢◌, ◌∙◌, ℕ, ℤ, pos, negsuc, Bool, true, false, not, ◌==◌, ◌&&◌, ◌||◌, List, [], ◌∷◌, length, is_some, Option, Some, None, refl, sym, ap, subst, cond}
+use Rattle.std.proofs.lemmas.Bool.{true≢false}
+use Rattle.sleep_base.specs.declared.errno.Errno.{Errno}
+use Rattle.sleep_model.specs.declared.entry.Actor.{Actor}
+use Rattle.sleep_model.specs.declared.entry.Actor.TheVariants as actor
+use Rattle.sleep_model.specs.declared.entry.Entry.{Entry}
+use Rattle.sleep_model.specs.declared.entry.Kind.{Kind}
+use Rattle.sleep_model.specs.declared.entry.Kind.TheVariants as kind
+use Rattle.sleep_model.specs.declared.entry.SkipCause.{SkipCause}
+use Rattle.sleep_model.specs.declared.entry.SkipCause.TheVariants as skip
+use Rattle.sleep_model.specs.declared.machine.Machine.{Machine}
+use Rattle.sleep_model.specs.declared.machine.PlatDo.TheVariants as down
+use Rattle.sleep_model.specs.declared.machine.PlatUndo.TheVariants as undo
+use Rattle.sleep_model.specs.declared.place.Callback.{Callback}
+use Rattle.sleep_model.specs.declared.place.Stage.{Stage}
+use Rattle.sleep_model.specs.declared.place.Stage.TheVariants as stage
+use Rattle.sleep_model.specs.declared.place.Stand.{Stand}
+use Rattle.sleep_model.specs.declared.place.Stand.TheVariants as stand
+use Rattle.sleep_model.specs.declared.word.EventNow.{EventNow}
+use Rattle.phase_table.specs.declared.phase.Phase.{Phase}
+use Rattle.phase_table.specs.declared.phase.Phase.TheVariants as phase
+use Rattle.phase_table.specs.Phases.{mirror, is_down}
+use Rattle.sleep_model.specs.Devices.{callback, callback_after, phase_failed, phase_failed_after, error_in, is_device, is_async_device, is_direct, stand_in, waits_down, waits_up, next_down, next_up, next_given, next_prepared, next_completed}
+use Rattle.sleep_model.specs.Order.{order, is_among}
+use Rattle.sleep_model.specs.Stands.{is_unprepared, is_prepared, is_ready, is_going_down, is_down_in, is_left_alone, is_low, ended_by, skipped_for, device_of}
+use Rattle.sleep_model.specs.Table.{stage_of, stage_after}
+use Rattle.sleep_laws.proofs.Boards.{Three, at, at_is, three, three_after, moved, moved_all, moved_other, moved_own, unmoved, Change, Here, Away, turned, turned_down, turned_up, all_three, mirror_down, Found, first_found, last_found, first_none, last_none}
+use Rattle.sleep_laws.proofs.Made.{Down, InSuspend, InLate, InNoirq, Up, InResume, InEarly, InResumeNoirq, Made, AtTurn, Breaks, Settles, Rises, GivenAt, DeviceMade}
+use Rattle.sleep_laws.proofs.Moods.{Mood, Empty, Fresh, Going, Settled, Halted, Coming, Risen, mood, mood_if, in_down, in_up, in_suspend, allows, when_going, when_coming, empty_fresh, fresh_going, fresh_halted, fresh_risen, settled_coming, halted_coming, going_halted, going_settled, coming_risen, unprepared_is, allows_more}
+use Rattle.sleep_laws.proofs.Telling.{some≢none}
+
+-- ---- one device
+
+-- given out and not yet begun, on the way down or up (async_schedule_dev)
+abbrev pub is_given : Stand → Bool
+is_given stand.Scheduled = true
+is_given stand.Rescheduled = true
+is_given _ = false
+
+-- all devices of the order are prepared at these stages: from the way down on until a failure or the entering
+abbrev pub is_full : Stage → Bool
+is_full (stage.Downs p) = true
+is_full (stage.Asks down.Prepare) = true
+is_full (stage.Asks down.PrepareLate) = true
+is_full stage.StopsCpus = true
+is_full stage.StopsIrqs = true
+is_full stage.Checks = true
+is_full stage.StopsSyscore = true
+is_full stage.Enters = true
+is_full _ = false
+
+abbrev pub is_full_if : Option Stage → Bool
+is_full_if None = false
+is_full_if (Some s) = is_full s
+
+abbrev pub When : Bool → Type 0 → Type 0
+When true what = what
+When false what = Unit {0}
+
+pub when_any : (b : Bool) (what : Type 0) → what → When b what
+when_any true what h = h
+when_any false what h = tt
+
+-- what holds of device d of that order, which is asynchronous or not, by what the devices have come to, whether all are prepared, and whether an error stands
+pub record IsFine (o : List ℕ) (async : Bool) (moods : Phase → Mood) (full error : Bool) (d : ℕ) (t : Three) : Type 0 where
+  pub allowed : (q : Phase) → Down q → allows (moods q) error (at t q) ≡ true
+  pub alike : (q : Phase) → Down q → is_prepared (at t q) ≡ is_prepared t.suspend
+  pub of_order : is_prepared t.suspend ≡ true → is_among o d ≡ true
+  pub alone : (q : Phase) → Down q → is_left_alone (at t q) ≡ true → is_left_alone t.suspend ≡ true
+  pub prepared : When full (is_among o d ≡ true → is_prepared t.suspend ≡ true)
+  pub given : (q : Phase) → Down q → is_given (at t q) ≡ true → async ≡ true
+
+module _ (o : List ℕ) (async : Bool) (moods : Phase → Mood) (full error : Bool) (d : ℕ) (t : Three) (h : IsFine o async moods full error d t) where
+  -- an error more forbids nothing
+  pub fine_more : (after : Bool) → (error ≡ true → after ≡ true) → IsFine o async moods full after d t
+  fine_more after more = record {
+    allowed = λ q i. allows_more (moods q) error after (at t q) more (h.allowed q i);
+    alike = h.alike;
+    of_order = h.of_order;
+    alone = h.alone;
+    prepared = h.prepared;
+    given = h.given;
+  }
+
+  -- the devices come to something else, where this one stands rightly
+  pub fine_else : (then : Phase → Mood) (all after : Bool) → ((q : Phase) → Down q → allows (then q) after (at t q) ≡ true) → When all (is_among o d ≡ true → is_prepared t.suspend ≡ true) → IsFine o async then all after d t
+  fine_else then all after right every = record { allowed = right; alike = h.alike; of_order = h.of_order; alone = h.alone; prepared = every; given = h.given }
+
+  -- the device stands unprepared where it is not of the order
+  pub outside : is_among o d ≡ false → (q : Phase) → Down q → at t q ≡ stand.Unprepared
+  outside out q i = unprepared_is (at t q) (h.alike q i ∙ by_test (is_prepared t.suspend) refl)
+    where
+      by_test : (b : Bool) → is_prepared t.suspend ≡ b → is_prepared t.suspend ≡ false
+      by_test true e = absurd (true≢false (sym (h.of_order e) ∙ out))
+      by_test false e = e
+
+  -- what is so of no device of the order, and of none that is unprepared, is not so of this one
+  pub none_so : (test : Stand → Bool) → test stand.Unprepared ≡ false → (q : Phase) → Down q → (is_among o d ≡ true → test (at t q) ≡ false) → test (at t q) ≡ false
+  none_so test un q i within = by_place (is_among o d) refl
+    where
+      by_place : (b : Bool) → is_among o d ≡ b → test (at t q) ≡ false
+      by_place true e = within e
+      by_place false e = ap test (outside e q i) ∙ un
+
+  -- the device moves in phase p alone
+  module _ (p : Phase) (i : Down p) (s : Stand) (u : Three) (changes : (q : Phase) → Down q → Change p s t u q) (after : Bool) where
+    fine_turn : is_prepared s ≡ true → is_prepared (at t p) ≡ true → is_left_alone (at t p) ≡ false → allows (moods p) after s ≡ true → (error ≡ true → after ≡ true) → (is_left_alone s ≡ true → is_left_alone u.suspend ≡ true) → (is_given s ≡ true → async ≡ true) → IsFine o async moods full after d u
+    fine_turn ready was apart right more lone gives = record {
+      allowed = λ q j. by_allowed q j (changes q j);
+      alike = λ q j. by_prepared q j (changes q j) ∙ sym (by_prepared phase.Suspend InSuspend (changes phase.Suspend InSuspend));
+      of_order = λ e. h.of_order before;
+      alone = λ q j e. by_alone q j e (changes q j);
+      prepared = when_any full _ (λ e. by_prepared phase.Suspend InSuspend (changes phase.Suspend InSuspend));
+      given = λ q j e. by_given q j e (changes q j);
+    }
+      where
+        before : is_prepared t.suspend ≡ true
+        before = sym (h.alike p i) ∙ was
+
+        by_allowed : (q : Phase) → Down q → Change p s t u q → allows (moods q) after (at u q) ≡ true
+        by_allowed q j (Here e f) = subst (λ (x : Stand). allows (moods q) after x ≡ true) (sym f) (subst (λ (r : Phase). allows (moods r) after s ≡ true) (sym e) right)
+        by_allowed q j (Away f) = subst (λ (x : Stand). allows (moods q) after x ≡ true) (sym f) (allows_more (moods q) error after (at t q) more (h.allowed q j))
+
+        by_prepared : (q : Phase) → Down q → Change p s t u q → is_prepared (at u q) ≡ true
+        by_prepared q j (Here e f) = ap is_prepared f ∙ ready
+        by_prepared q j (Away f) = ap is_prepared f ∙ (h.alike q j ∙ before)
+
+        stays : Change p s t u phase.Suspend → is_left_alone t.suspend ≡ true → is_left_alone u.suspend ≡ true
+        stays (Here e f) k = absurd (true≢false (sym k ∙ (ap (λ (r : Phase). is_left_alone (at t r)) e ∙ apart)))
+        stays (Away f) k = ap is_left_alone f ∙ k
+
+        by_alone : (q : Phase) → Down q → is_left_alone (at u q) ≡ true → Change p s t u q → is_left_alone u.suspend ≡ true
+        by_alone q j k (Here e f) = lone (ap is_left_alone (sym f) ∙ k)
+        by_alone q j k (Away f) = stays (changes phase.Suspend InSuspend) (h.alone q j (ap is_left_alone (sym f) ∙ k))
+
+        by_given : (q : Phase) → Down q → is_given (at u q) ≡ true → Change p s t u q → async ≡ true
+        by_given q j k (Here e f) = gives (ap is_given (sym f) ∙ k)
+        by_given q j k (Away f) = h.given q j (ap is_given (sym f) ∙ k)
+
+-- ---- all devices
+
+-- whether an error stands in the phase that is open
+abbrev pub errs : List Entry → Bool
+errs past = is_some (phase_failed past)
+
+-- each device stands rightly
+abbrev pub Fines : Machine → List Entry → (Phase → Mood) → Bool → Type 0
+Fines m past moods full = (d : ℕ) → IsFine (order m) (is_async_device m d) moods full (errs past) d (three m past d)
+
+-- the maker is inside the callback of a synchronous device, which stands so in phase p
+pub record Inside (m : Machine) (c : Callback) (s : Stand) (p : Phase) (stands : ℕ → Three) : Type 0 where
+  pub beside : is_async_device m c.device ≡ false
+  pub inside : at (stands c.device) p ≡ s
+
+abbrev pub InsideIf : Machine → Option Callback → Stand → Phase → (ℕ → Three) → Type 0
+InsideIf m None s p stands = Unit {0}
+InsideIf m (Some c) s p stands = Inside m c s p stands
+
+-- the callback that the maker runs, by the stage: none but in a phase with devices
+abbrev pub CallAt : Machine → Stage → Option Callback → (ℕ → Three) → Type 0
+CallAt m (stage.Downs p) o stands = InsideIf m o stand.Suspending p stands
+CallAt m (stage.Ups p) o stands = InsideIf m o stand.Resuming (mirror p) stands
+CallAt m _ o stands = o ≡ None
+
+abbrev pub CallIf : Machine → Option Stage → Option Callback → (ℕ → Three) → Type 0
+CallIf m None o stands = o ≡ None
+CallIf m (Some s) o stands = CallAt m s o stands
+
+-- where the devices stand at a stage
+abbrev pub Standing : Machine → List Entry → Option Stage → Type 0
+Standing m past st = Fines m past (λ q. mood_if st q) (is_full_if st) × CallIf m st (callback past) (three m past)
+
+-- a device moves in one phase alone
+module _ (m : Machine) (past : List Entry) (e : Entry) (d : ℕ) (is : device_of e.kind ≡ Some d) (moods : Phase → Mood) (full : Bool) (h : Fines m past moods full) where
+  pub turn : (p : Phase) → Down p → (b s : Stand) → stand_in m past p d ≡ b → is_prepared b ≡ true → is_left_alone b ≡ false → is_prepared s ≡ true → allows (moods p) (errs (e ∷ past)) s ≡ true → (errs past ≡ true → errs (e ∷ past) ≡ true) → (is_left_alone s ≡ true → is_left_alone (three_after e.kind (three m past d)).suspend ≡ true) → (is_given s ≡ true → is_async_device m d ≡ true) → ((q : Phase) → Down q → Change p s (three m past d) (three_after e.kind (three m past d)) q) → Fines m (e ∷ past) moods full
+  turn p i b s stands was apart ready right more lone gives changes =
+      let here : at (three m past d) p ≡ b = at_is m past p d i ∙ stands in
+      moved_all m past e d is (λ (x : ℕ) (t : Three). IsFine (order m) (is_async_device m x) moods full (errs (e ∷ past)) x t)
+      (λ x. fine_more (order m) (is_async_device m x) moods full (errs past) x (three m past x) (h x) (errs (e ∷ past)) more)
+      (fine_turn (order m) (is_async_device m d) moods full (errs past) d (three m past d) (h d) p i s (three_after e.kind (three m past d)) changes (errs (e ∷ past)) ready (ap is_prepared here ∙ was) (ap is_left_alone here ∙ apart) right more lone gives)
+
+-- ---- what the moods tell
+
+pub going_allows : (p : Phase) → Down p → (e : Bool) (s : Stand) → when_going e s ≡ true → allows (in_down p p) e s ≡ true
+going_allows _ InSuspend e s h = h
+going_allows _ InLate e s h = h
+going_allows _ InNoirq e s h = h
+
+pub going_tells : (p : Phase) → Down p → (e : Bool) (s : Stand) → allows (in_down p p) e s ≡ true → when_going e s ≡ true
+going_tells _ InSuspend e s h = h
+going_tells _ InLate e s h = h
+going_tells _ InNoirq e s h = h
+
+pub coming_allows : (p : Phase) → Up p → (e : Bool) (s : Stand) → when_coming s ≡ true → allows (in_up p (mirror p)) e s ≡ true
+coming_allows _ InResume e s h = h
+coming_allows _ InEarly e s h = h
+coming_allows _ InResumeNoirq e s h = h
+
+-- a device that is given out, or inside its callback, on the way down stands so only while they go down
+pub scheduled_goes : (a : Mood) (e f : Bool) (s : Stand) → allows a e stand.Scheduled ≡ true → when_going f s ≡ true → allows a f s ≡ true
+scheduled_goes Going e f s k h = h
+scheduled_goes Empty e f s k h = absurd (true≢false (sym k))
+scheduled_goes Fresh e f s k h = absurd (true≢false (sym k))
+scheduled_goes Settled e f s k h = absurd (true≢false (sym k))
+scheduled_goes Halted e f s k h = absurd (true≢false (sym k))
+scheduled_goes Coming e f s k h = absurd (true≢false (sym k))
+scheduled_goes Risen e f s k h = absurd (true≢false (sym k))
+
+pub suspending_goes : (a : Mood) (e f : Bool) (s : Stand) → allows a e stand.Suspending ≡ true → when_going f s ≡ true → allows a f s ≡ true
+suspending_goes Going e f s k h = h
+suspending_goes Empty e f s k h = absurd (true≢false (sym k))
+suspending_goes Fresh e f s k h = absurd (true≢false (sym k))
+suspending_goes Settled e f s k h = absurd (true≢false (sym k))
+suspending_goes Halted e f s k h = absurd (true≢false (sym k))
+suspending_goes Coming e f s k h = absurd (true≢false (sym k))
+suspending_goes Risen e f s k h = absurd (true≢false (sym k))
+
+pub rescheduled_comes : (a : Mood) (e f : Bool) (s : Stand) → allows a e stand.Rescheduled ≡ true → when_coming s ≡ true → allows a f s ≡ true
+rescheduled_comes Coming e f s k h = h
+rescheduled_comes Empty e f s k h = absurd (true≢false (sym k))
+rescheduled_comes Fresh e f s k h = absurd (true≢false (sym k))
+rescheduled_comes Settled e f s k h = absurd (true≢false (sym k))
+rescheduled_comes Halted e f s k h = absurd (true≢false (sym k))
+rescheduled_comes Going e f s k h = absurd (true≢false (sym k))
+rescheduled_comes Risen e f s k h = absurd (true≢false (sym k))
+
+pub resuming_comes : (a : Mood) (e f : Bool) (s : Stand) → allows a e stand.Resuming ≡ true → when_coming s ≡ true → allows a f s ≡ true
+resuming_comes Coming e f s k h = h
+resuming_comes Empty e f s k h = absurd (true≢false (sym k))
+resuming_comes Fresh e f s k h = absurd (true≢false (sym k))
+resuming_comes Settled e f s k h = absurd (true≢false (sym k))
+resuming_comes Halted e f s k h = absurd (true≢false (sym k))
+resuming_comes Going e f s k h = absurd (true≢false (sym k))
+resuming_comes Risen e f s k h = absurd (true≢false (sym k))
+
+pub ready_is : (s : Stand) → is_ready s ≡ true → s ≡ stand.Prepared
+ready_is stand.Prepared h = refl
+ready_is _ h = absurd (true≢false (sym h))
+
+pub down_is : (s : Stand) → is_down_in s ≡ true → s ≡ stand.Suspended
+down_is stand.Suspended h = refl
+down_is _ h = absurd (true≢false (sym h))
+
+-- a callback on the way down that answers an error leaves one
+pub fails_error : (p : Phase) → Down p → (r : Option Errno) (before : Option Errno) → when_going (is_some (error_in p r before)) (ended_by r) ≡ true
+fails_error _ i None before = refl
+fails_error _ InSuspend (Some x) before = refl
+fails_error _ InLate (Some x) before = refl
+fails_error _ InNoirq (Some x) before = refl
+
+-- an error stands on
+pub error_stays : (p : Phase) (r before : Option Errno) → is_some before ≡ true → is_some (error_in p r before) ≡ true
+error_stays p None before h = h
+error_stays p (Some x) before h = by_test (is_down p)
+  where
+    by_test : (b : Bool) → is_some (cond b (Some x) before) ≡ true
+    by_test true = refl
+    by_test false = h
+
+pub ended_prepared : (r : Option Errno) → is_prepared (ended_by r) ≡ true
+ended_prepared None = refl
+ended_prepared (Some x) = refl
+
+pub ended_apart : (r : Option Errno) → is_left_alone (ended_by r) ≡ false
+ended_apart None = refl
+ended_apart (Some x) = refl
+
+pub ended_given : (r : Option Errno) → is_given (ended_by r) ≡ false
+ended_given None = refl
+ended_given (Some x) = refl
