@@ -25,7 +25,7 @@ use Rattle.sleep_model.specs.Stands.{is_unprepared, is_prepared, is_ready, is_go
 use Rattle.sleep_model.specs.Table.{stage_of, stage_after}
 use Rattle.sleep_laws.proofs.Boards.{Three, at, at_is, three, three_after, moved_all, moved_other, moved_own, turned, turned_down, turned_up, all_three, mirror_down, Found, first_found, last_found}
 use Rattle.sleep_laws.proofs.Made.{Down, InSuspend, InLate, InNoirq, Up, InResume, InEarly, InResumeNoirq, Made, AtTurn, GivenAt, DeviceMade}
-use Rattle.sleep_laws.proofs.Moods.{Mood, Empty, Fresh, Going, Settled, Halted, Coming, Risen, mood, mood_if, in_down, in_up, in_suspend, allows, when_going, when_coming}
+use Rattle.sleep_laws.proofs.Moods.{Mood, Empty, Fresh, Going, Settled, Halted, Coming, Risen, mood, mood_if, in_down, in_up, in_suspend, allows, when_fresh, when_risen, when_going, when_coming}
 use Rattle.sleep_laws.proofs.Standing.{is_given, When, IsFine, fine_else, errs, Fines, Inside, InsideIf, CallAt, CallIf, Standing, turn, going_allows, going_tells, coming_allows, scheduled_goes, suspending_goes, rescheduled_comes, resuming_comes, ready_is, down_is, fails_error, error_stays, ended_prepared, ended_apart, ended_given, is_full_if}
 use Rattle.sleep_laws.proofs.Telling.{some≢none}
 
@@ -175,3 +175,187 @@ module _ (m : Machine) (past : List Entry) (time : ℕ) (now : EventNow) (who : 
     (λ k j. turned_up p k stand.Resumed (ended_by r) (three m past d) u j),
     ends_call stand.Resuming (mirror p) (three m (by (kind.End p d r) ∷ past)),
   )
+
+  -- ---- prepare and complete
+
+  prepared_three : ℤ → Three → Three
+  prepared_three r t = three_after (kind.Prepare 0 r) t
+
+  prepares_fine : (d : ℕ) (r : ℤ) (error : Bool) → is_among (order m) d ≡ true → IsFine (order m) (is_async_device m d) (λ q. Fresh) false error d (three m past d) → IsFine (order m) (is_async_device m d) (λ q. Fresh) false error d (three_after (kind.Prepare d r) (three m past d))
+  prepares_fine d (pos r) error o h = record {
+    allowed = λ q i. by_phase q i;
+    alike = λ q i. alike q i;
+    of_order = λ e. o;
+    alone = λ q i e. never (sym (apart q i) ∙ e);
+    prepared = tt;
+    given = λ q i e. never (sym (unasked q i) ∙ e);
+  }
+    where
+      by_phase : (q : Phase) → Down q → when_fresh (at (three_after (kind.Prepare d (pos r)) (three m past d)) q) ≡ true
+      by_phase _ InSuspend = refl
+      by_phase _ InLate = refl
+      by_phase _ InNoirq = refl
+
+      alike : (q : Phase) → Down q → is_prepared (at (three_after (kind.Prepare d (pos r)) (three m past d)) q) ≡ true
+      alike _ InSuspend = refl
+      alike _ InLate = refl
+      alike _ InNoirq = refl
+
+      apart : (q : Phase) → Down q → is_left_alone (at (three_after (kind.Prepare d (pos r)) (three m past d)) q) ≡ false
+      apart _ InSuspend = refl
+      apart _ InLate = refl
+      apart _ InNoirq = refl
+
+      unasked : (q : Phase) → Down q → is_given (at (three_after (kind.Prepare d (pos r)) (three m past d)) q) ≡ false
+      unasked _ InSuspend = refl
+      unasked _ InLate = refl
+      unasked _ InNoirq = refl
+  prepares_fine d (negsuc r) error o h = h
+
+  pub prepares : (d : ℕ) (r : ℤ) → next_prepared m past ≡ Some d → Standing m past (Some stage.Prepares) → Standing m (by (kind.Prepare d r) ∷ past) (Some stage.Prepares)
+  prepares d r n h =
+      let error : Bool = errs (by (kind.Prepare d r) ∷ past) in
+      let fresh : (x : ℕ) → IsFine (order m) (is_async_device m x) (λ q. Fresh) false error x (three m past x) =
+        λ x. fine_else (order m) (is_async_device m x) (λ q. Fresh) false (errs past) x (three m past x) (h.0 x) (λ q. Fresh) false error (h.0 x).allowed tt in (
+    moved_all m past (by (kind.Prepare d r)) d refl (λ (x : ℕ) (t : Three). IsFine (order m) (is_async_device m x) (λ q. Fresh) false error x t) fresh
+    (prepares_fine d r error (first_found (λ x. is_unprepared (stand_in m past phase.Suspend x)) (order m) d n).among (fresh d)),
+    h.1,
+  )
+
+  completes_fine : (d : ℕ) (error : Bool) → IsFine (order m) (is_async_device m d) (λ q. Risen) false error d (all_three stand.Unprepared)
+  completes_fine d error = record {
+    allowed = λ q i. by_phase q i;
+    alike = λ q i. alike q i;
+    of_order = λ e. never e;
+    alone = λ q i e. never (sym (apart q i) ∙ e);
+    prepared = tt;
+    given = λ q i e. never (sym (unasked q i) ∙ e);
+  }
+    where
+      by_phase : (q : Phase) → Down q → when_risen (at (all_three stand.Unprepared) q) ≡ true
+      by_phase _ InSuspend = refl
+      by_phase _ InLate = refl
+      by_phase _ InNoirq = refl
+
+      alike : (q : Phase) → Down q → is_prepared (at (all_three stand.Unprepared) q) ≡ false
+      alike _ InSuspend = refl
+      alike _ InLate = refl
+      alike _ InNoirq = refl
+
+      apart : (q : Phase) → Down q → is_left_alone (at (all_three stand.Unprepared) q) ≡ false
+      apart _ InSuspend = refl
+      apart _ InLate = refl
+      apart _ InNoirq = refl
+
+      unasked : (q : Phase) → Down q → is_given (at (all_three stand.Unprepared) q) ≡ false
+      unasked _ InSuspend = refl
+      unasked _ InLate = refl
+      unasked _ InNoirq = refl
+
+  pub completes : (d : ℕ) → Standing m past (Some stage.Completes) → Standing m (by (kind.Complete d) ∷ past) (Some stage.Completes)
+  completes d h = (
+    moved_all m past (by (kind.Complete d)) d refl (λ (x : ℕ) (t : Three). IsFine (order m) (is_async_device m x) (λ q. Risen) false (errs past) x t) h.0 (completes_fine d (errs past)),
+    h.1,
+  )
+
+-- ---- a device's own entries
+
+-- the maker's callback is of another device
+call_kept : (m : Machine) (o : Option Callback) (s : Stand) (p : Phase) (before after : ℕ → Three) → ((x : ℕ) → is_async_device m x ≡ false → after x ≡ before x) → InsideIf m o s p before → InsideIf m o s p after
+call_kept m None s p before after same h = tt
+call_kept m (Some c) s p before after same h = record { beside = h.beside; inside = ap (λ (t : Three). at t p) (same c.device h.beside) ∙ h.inside }
+
+calls_kept : (m : Machine) (st : Option Stage) (o : Option Callback) (before after : ℕ → Three) → ((x : ℕ) → is_async_device m x ≡ false → after x ≡ before x) → CallIf m st o before → CallIf m st o after
+calls_kept m (Some (stage.Downs p)) o before after same h = call_kept m o stand.Suspending p before after same h
+calls_kept m (Some (stage.Ups p)) o before after same h = call_kept m o stand.Resuming (mirror p) before after same h
+calls_kept m None o before after same h = h
+calls_kept m (Some stage.Notifies) o before after same h = h
+calls_kept m (Some _) o before after same h = h
+
+module _ (m : Machine) (past : List Entry) (time : ℕ) (now : EventNow) (d : ℕ) (st : Option Stage) (h : Standing m past st) (async : is_async_device m d ≡ true) where
+  abbrev own : Kind → Entry
+  own k = record { time = time; now = now; actor = actor.Dev d; kind = k }
+
+  abbrev moods : Phase → Mood
+  moods q = mood_if st q
+
+  others : (k : Kind) → device_of k ≡ Some d → (x : ℕ) → is_async_device m x ≡ false → three m (own k ∷ past) x ≡ three m past x
+  others k is x sync = moved_other m past (own k) d is x (λ same. absurd (true≢false (sym async ∙ (ap (is_async_device m) (sym same) ∙ sync))))
+
+  calls : (k : Kind) → device_of k ≡ Some d → CallIf m st (callback past) (three m (own k ∷ past))
+  calls k is = calls_kept m st (callback past) (three m past) (three m (own k ∷ past)) (others k is) h.1
+
+  allowed_as : (p : Phase) (s : Stand) → Down p → stand_in m past p d ≡ s → allows (moods p) (errs past) s ≡ true
+  allowed_as p s i e = subst (λ (x : Stand). allows (moods p) (errs past) x ≡ true) (at_is m past p d i ∙ e) ((h.0 d).allowed p i)
+
+  own_fails : (p : Phase) (r : Errno) → Down p → stand_in m past p d ≡ stand.Scheduled → phase_failed past ≡ Some r → Standing m (own (kind.Skip p d skip.Error) ∷ past) st
+  own_fails p r i e f = (
+    turn m past (own (kind.Skip p d skip.Error)) d refl moods (is_full_if st) h.0 p i stand.Scheduled stand.Failed e refl refl refl
+    (scheduled_goes (moods p) (errs past) (errs past) stand.Failed (allowed_as p stand.Scheduled i e) (ap is_some f)) (λ x. x) (λ x. never x) (λ x. never x)
+    (λ q j. turned_down p q stand.Failed (three m past d) (three m past d) i j),
+    calls (kind.Skip p d skip.Error) refl,
+  )
+
+  own_finds : (p : Phase) → Down p → stand_in m past p d ≡ stand.Scheduled → Standing m (own (kind.Skip p d skip.Pending) ∷ past) st
+  own_finds p i e = (
+    turn m past (own (kind.Skip p d skip.Pending)) d refl moods (is_full_if st) h.0 p i stand.Scheduled stand.Failed e refl refl refl
+    (scheduled_goes (moods p) (errs past) true stand.Failed (allowed_as p stand.Scheduled i e) refl) (λ x. refl) (λ x. never x) (λ x. never x)
+    (λ q j. turned_down p q stand.Failed (three m past d) (three m past d) i j),
+    calls (kind.Skip p d skip.Pending) refl,
+  )
+
+  own_leaves : (p : Phase) → Down p → stand_in m past p d ≡ stand.Scheduled → is_direct m past p d ≡ true → Standing m (own (kind.Skip p d skip.Direct) ∷ past) st
+  own_leaves p i e a = (
+    turn m past (own (kind.Skip p d skip.Direct)) d refl moods (is_full_if st) h.0 p i stand.Scheduled stand.Direct e refl refl refl
+    (scheduled_goes (moods p) (errs past) (errs past) stand.Direct (allowed_as p stand.Scheduled i e) refl) (λ x. x) (λ x. lone p i a) (λ x. never x)
+    (λ q j. turned_down p q stand.Direct (three m past d) (three m past d) i j),
+    calls (kind.Skip p d skip.Direct) refl,
+  )
+    where
+      lone : (p : Phase) → Down p → is_direct m past p d ≡ true → is_left_alone (three_after (kind.Skip p d skip.Direct) (three m past d)).suspend ≡ true
+      lone _ InSuspend x = refl
+      lone _ InLate x = x
+      lone _ InNoirq x = x
+
+  own_begins : (p : Phase) → Down p → stand_in m past p d ≡ stand.Scheduled → Standing m (own (kind.Begin p d) ∷ past) st
+  own_begins p i e = (
+    turn m past (own (kind.Begin p d)) d refl moods (is_full_if st) h.0 p i stand.Scheduled stand.Suspending e refl refl refl
+    (scheduled_goes (moods p) (errs past) (errs past) stand.Suspending (allowed_as p stand.Scheduled i e) refl) (λ x. x) (λ x. never x) (λ x. never x)
+    (λ q j. turned_down p q stand.Suspending (all_three stand.Resuming) (three m past d) i j),
+    calls (kind.Begin p d) refl,
+  )
+
+  own_ends : (p : Phase) (r : Option Errno) → Down p → stand_in m past p d ≡ stand.Suspending → Standing m (own (kind.End p d r) ∷ past) st
+  own_ends p r i e = (
+    turn m past (own (kind.End p d r)) d refl moods (is_full_if st) h.0 p i stand.Suspending (ended_by r) e refl refl (ended_prepared r)
+    (suspending_goes (moods p) (errs past) (is_some (error_in p r (phase_failed past))) (ended_by r) (allowed_as p stand.Suspending i e) (fails_error p i r (phase_failed past))) (error_stays p r (phase_failed past))
+    (λ y. absurd (true≢false (sym y ∙ ended_apart r))) (λ y. absurd (true≢false (sym y ∙ ended_given r)))
+    (λ k j. turned_down p k (ended_by r) (all_three stand.Resumed) (three m past d) i j),
+    calls (kind.End p d r) refl,
+  )
+
+  own_rises : (p : Phase) → Up p → stand_in m past (mirror p) d ≡ stand.Rescheduled → Standing m (own (kind.Begin p d) ∷ past) st
+  own_rises p u e = (
+    turn m past (own (kind.Begin p d)) d refl moods (is_full_if st) h.0 (mirror p) (mirror_down p u) stand.Rescheduled stand.Resuming e refl refl refl
+    (rescheduled_comes (moods (mirror p)) (errs past) (errs past) stand.Resuming (allowed_as (mirror p) stand.Rescheduled (mirror_down p u) e) refl) (λ x. x) (λ x. never x) (λ x. never x)
+    (λ q j. turned_up p q stand.Resuming stand.Suspending (three m past d) u j),
+    calls (kind.Begin p d) refl,
+  )
+
+  own_rose : (p : Phase) (r : Option Errno) → Up p → stand_in m past (mirror p) d ≡ stand.Resuming → Standing m (own (kind.End p d r) ∷ past) st
+  own_rose p r u e = (
+    turn m past (own (kind.End p d r)) d refl moods (is_full_if st) h.0 (mirror p) (mirror_down p u) stand.Resuming stand.Resumed e refl refl refl
+    (resuming_comes (moods (mirror p)) (errs past) (is_some (error_in p r (phase_failed past))) stand.Resumed (allowed_as (mirror p) stand.Resuming (mirror_down p u) e) refl) (error_stays p r (phase_failed past)) (λ x. never x) (λ x. never x)
+    (λ q j. turned_up p q stand.Resumed (ended_by r) (three m past d) u j),
+    calls (kind.End p d r) refl,
+  )
+
+-- a device's own entry leaves the devices where they may stand
+pub device_stands : (m : Machine) (past : List Entry) (time : ℕ) (now : EventNow) (d : ℕ) (st : Option Stage) (k : Kind) → Standing m past st → DeviceMade m past now d k → Standing m (record { time = time; now = now; actor = actor.Dev d; kind = k } ∷ past) (stage_after k st)
+device_stands m past time now d st _ h (DeviceMade.OwnFails p r i g f) = own_fails m past time now d st h g.beside p r i g.stands f
+device_stands m past time now d st _ h (DeviceMade.OwnFinds p i g f t w) = own_finds m past time now d st h g.beside p i g.stands
+device_stands m past time now d st _ h (DeviceMade.OwnLeaves p i g f t a) = own_leaves m past time now d st h g.beside p i g.stands a
+device_stands m past time now d st _ h (DeviceMade.OwnBegins p i g f t a) = own_begins m past time now d st h g.beside p i g.stands
+device_stands m past time now d st _ h (DeviceMade.OwnRises p u a w s n) = own_rises m past time now d st h a p u s
+device_stands m past time now d st _ h (DeviceMade.OwnEnds p r i a w s) = own_ends m past time now d st h a p r i s
+device_stands m past time now d st _ h (DeviceMade.OwnRose p r u a w s) = own_rose m past time now d st h a p r u s
