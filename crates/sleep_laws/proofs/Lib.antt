@@ -11,6 +11,7 @@ pub mod Making
 pub mod MakingOwn
 pub mod Moods
 pub mod Owing
+pub mod Passing
 pub mod Reaching
 pub mod Resting
 pub mod Restoring

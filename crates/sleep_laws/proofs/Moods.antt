@@ -217,3 +217,13 @@ allows_more Going e f stand.Direct l h = h
 allows_more Going e f stand.Suspended l h = h
 allows_more Going e f _ l h = h
 allows_more _ e f s l h = h
+
+-- an unprepared device may stand anywhere
+pub allows_unprepared : (a : Mood) (e : Bool) → allows a e stand.Unprepared ≡ true
+allows_unprepared Empty e = refl
+allows_unprepared Fresh e = refl
+allows_unprepared Going e = refl
+allows_unprepared Settled e = refl
+allows_unprepared Halted e = refl
+allows_unprepared Coming e = refl
+allows_unprepared Risen e = refl

@@ -27,7 +27,7 @@ use Rattle.sleep_model.specs.Stands.{is_unprepared, is_prepared, is_ready, is_go
 use Rattle.sleep_model.specs.Table.{stage_of, stage_after}
 use Rattle.sleep_laws.proofs.Boards.{Three, at, at_is, three, three_after, moved, moved_all, moved_other, moved_own, unmoved, Change, Here, Away, turned, turned_down, turned_up, all_three, mirror_down, Found, first_found, last_found, first_none, last_none}
 use Rattle.sleep_laws.proofs.Made.{Down, InSuspend, InLate, InNoirq, Up, InResume, InEarly, InResumeNoirq, Made, AtTurn, Breaks, Settles, Rises, GivenAt, DeviceMade}
-use Rattle.sleep_laws.proofs.Moods.{Mood, Empty, Fresh, Going, Settled, Halted, Coming, Risen, mood, mood_if, in_down, in_up, in_suspend, allows, when_going, when_coming, empty_fresh, fresh_going, fresh_halted, fresh_risen, settled_coming, halted_coming, going_halted, going_settled, coming_risen, unprepared_is, allows_more}
+use Rattle.sleep_laws.proofs.Moods.{Mood, Empty, Fresh, Going, Settled, Halted, Coming, Risen, mood, mood_if, in_down, in_up, in_suspend, allows, allows_unprepared, when_fresh, when_going, when_coming, empty_fresh, fresh_going, fresh_halted, fresh_risen, settled_coming, halted_coming, going_halted, going_settled, coming_risen, unprepared_is, allows_more}
 use Rattle.sleep_laws.proofs.Telling.{some≢none}
 
 -- ---- one device
@@ -70,6 +70,33 @@ pub record IsFine (o : List ℕ) (async : Bool) (moods : Phase → Mood) (full e
   pub alone : (q : Phase) → Down q → is_left_alone (at t q) ≡ true → is_left_alone t.suspend ≡ true
   pub prepared : When full (is_among o d ≡ true → is_prepared t.suspend ≡ true)
   pub given : (q : Phase) → Down q → is_given (at t q) ≡ true → async ≡ true
+
+at_all : (q : Phase) (s : Stand) → Down q → at (all_three s) q ≡ s
+at_all _ s InSuspend = refl
+at_all _ s InLate = refl
+at_all _ s InNoirq = refl
+
+-- an unprepared device stands rightly, whatever the devices have come to
+pub unprepared_fine : (o : List ℕ) (async : Bool) (moods : Phase → Mood) (error : Bool) (d : ℕ) → IsFine o async moods false error d (all_three stand.Unprepared)
+unprepared_fine o async moods error d = record {
+  allowed = λ q i. subst (λ (s : Stand). allows (moods q) error s ≡ true) (sym (at_all q stand.Unprepared i)) (allows_unprepared (moods q) error);
+  alike = λ q i. ap is_prepared (at_all q stand.Unprepared i);
+  of_order = λ e. absurd (true≢false (sym e));
+  alone = λ q i e. absurd (true≢false (sym e ∙ ap is_left_alone (at_all q stand.Unprepared i)));
+  prepared = tt;
+  given = λ q i e. absurd (true≢false (sym e ∙ ap is_given (at_all q stand.Unprepared i)));
+}
+
+-- a prepared one stands rightly where none is taken
+pub prepared_fine : (o : List ℕ) (async error : Bool) (d : ℕ) → is_among o d ≡ true → IsFine o async (λ q. Fresh) false error d (all_three stand.Prepared)
+prepared_fine o async error d among = record {
+  allowed = λ q i. ap when_fresh (at_all q stand.Prepared i);
+  alike = λ q i. ap is_prepared (at_all q stand.Prepared i);
+  of_order = λ e. among;
+  alone = λ q i e. absurd (true≢false (sym e ∙ ap is_left_alone (at_all q stand.Prepared i)));
+  prepared = tt;
+  given = λ q i e. absurd (true≢false (sym e ∙ ap is_given (at_all q stand.Prepared i)));
+}
 
 module _ (o : List ℕ) (async : Bool) (moods : Phase → Mood) (full error : Bool) (d : ℕ) (t : Three) (h : IsFine o async moods full error d t) where
   -- an error more forbids nothing

@@ -22,14 +22,13 @@ use Rattle.phase_table.specs.Phases.{mirror, is_down}
 use Rattle.sleep_model.specs.Devices.{callback, callback_after, unless_own, phase_failed, phase_failed_after, error_in, is_device, is_async_device, is_direct, stand_in, next_down, next_up, next_given, next_prepared, next_completed}
 use Rattle.sleep_model.specs.Order.{order, is_among}
 use Rattle.sleep_model.specs.Stands.{is_unprepared, is_prepared, is_ready, is_going_down, is_down_in, is_left_alone, is_low, ended_by, skipped_for, device_of}
-use Rattle.sleep_model.specs.Table.{stage_of, stage_after}
 use Rattle.sleep_laws.proofs.Boards.{Three, at, at_is, three, three_after, moved_all, moved_other, moved_own, turned, turned_down, turned_up, all_three, mirror_down, Found, first_found, last_found}
 use Rattle.sleep_laws.proofs.Made.{Down, InSuspend, InLate, InNoirq, Up, InResume, InEarly, InResumeNoirq, Made, AtTurn, GivenAt, DeviceMade}
-use Rattle.sleep_laws.proofs.Moods.{Mood, Empty, Fresh, Going, Settled, Halted, Coming, Risen, mood, mood_if, in_down, in_up, in_suspend, allows, when_fresh, when_risen, when_going, when_coming}
-use Rattle.sleep_laws.proofs.Standing.{is_given, When, IsFine, fine_else, errs, Fines, Inside, InsideIf, CallAt, CallIf, Standing, turn, going_allows, going_tells, coming_allows, scheduled_goes, suspending_goes, rescheduled_comes, resuming_comes, ready_is, down_is, fails_error, error_stays, ended_prepared, ended_apart, ended_given, is_full_if}
+use Rattle.sleep_laws.proofs.Moods.{Mood, Empty, Fresh, Going, Settled, Halted, Coming, Risen, mood, mood_if, in_down, in_up, in_suspend, allows}
+use Rattle.sleep_laws.proofs.Standing.{IsFine, unprepared_fine, prepared_fine, fine_else, errs, Fines, Inside, InsideIf, CallAt, CallIf, Standing, turn, going_allows, going_tells, coming_allows, scheduled_goes, suspending_goes, rescheduled_comes, resuming_comes, ready_is, down_is, fails_error, error_stays, ended_prepared, ended_apart, ended_given, is_full_if}
 use Rattle.sleep_laws.proofs.Telling.{some≢none}
 
-never : {A : Type 0} → false ≡ true → A
+pub never : {A : Type 0} → false ≡ true → A
 never e = absurd (true≢false (sym e))
 
 and_both : (a b : Bool) → (a && b) ≡ true → (a ≡ true) × (b ≡ true)
@@ -38,7 +37,7 @@ and_both true false e = never e
 and_both false b e = never e
 
 -- where no callback runs
-free_call : (m : Machine) (o : Option Callback) (s : Stand) (p : Phase) (stands : ℕ → Three) → o ≡ None → InsideIf m o s p stands
+pub free_call : (m : Machine) (o : Option Callback) (s : Stand) (p : Phase) (stands : ℕ → Three) → o ≡ None → InsideIf m o s p stands
 free_call m o s p stands e = subst (λ (x : Option Callback). InsideIf m x s p stands) (sym e) tt
 
 turned_at : (p : Phase) (s : Stand) (up t : Three) → Down p → at (turned p s up t) p ≡ s
@@ -178,38 +177,8 @@ module _ (m : Machine) (past : List Entry) (time : ℕ) (now : EventNow) (who : 
 
   -- ---- prepare and complete
 
-  prepared_three : ℤ → Three → Three
-  prepared_three r t = three_after (kind.Prepare 0 r) t
-
   prepares_fine : (d : ℕ) (r : ℤ) (error : Bool) → is_among (order m) d ≡ true → IsFine (order m) (is_async_device m d) (λ q. Fresh) false error d (three m past d) → IsFine (order m) (is_async_device m d) (λ q. Fresh) false error d (three_after (kind.Prepare d r) (three m past d))
-  prepares_fine d (pos r) error o h = record {
-    allowed = λ q i. by_phase q i;
-    alike = λ q i. alike q i;
-    of_order = λ e. o;
-    alone = λ q i e. never (sym (apart q i) ∙ e);
-    prepared = tt;
-    given = λ q i e. never (sym (unasked q i) ∙ e);
-  }
-    where
-      by_phase : (q : Phase) → Down q → when_fresh (at (three_after (kind.Prepare d (pos r)) (three m past d)) q) ≡ true
-      by_phase _ InSuspend = refl
-      by_phase _ InLate = refl
-      by_phase _ InNoirq = refl
-
-      alike : (q : Phase) → Down q → is_prepared (at (three_after (kind.Prepare d (pos r)) (three m past d)) q) ≡ true
-      alike _ InSuspend = refl
-      alike _ InLate = refl
-      alike _ InNoirq = refl
-
-      apart : (q : Phase) → Down q → is_left_alone (at (three_after (kind.Prepare d (pos r)) (three m past d)) q) ≡ false
-      apart _ InSuspend = refl
-      apart _ InLate = refl
-      apart _ InNoirq = refl
-
-      unasked : (q : Phase) → Down q → is_given (at (three_after (kind.Prepare d (pos r)) (three m past d)) q) ≡ false
-      unasked _ InSuspend = refl
-      unasked _ InLate = refl
-      unasked _ InNoirq = refl
+  prepares_fine d (pos r) error o h = prepared_fine (order m) (is_async_device m d) error d o
   prepares_fine d (negsuc r) error o h = h
 
   pub prepares : (d : ℕ) (r : ℤ) → next_prepared m past ≡ Some d → Standing m past (Some stage.Prepares) → Standing m (by (kind.Prepare d r) ∷ past) (Some stage.Prepares)
@@ -222,39 +191,9 @@ module _ (m : Machine) (past : List Entry) (time : ℕ) (now : EventNow) (who : 
     h.1,
   )
 
-  completes_fine : (d : ℕ) (error : Bool) → IsFine (order m) (is_async_device m d) (λ q. Risen) false error d (all_three stand.Unprepared)
-  completes_fine d error = record {
-    allowed = λ q i. by_phase q i;
-    alike = λ q i. alike q i;
-    of_order = λ e. never e;
-    alone = λ q i e. never (sym (apart q i) ∙ e);
-    prepared = tt;
-    given = λ q i e. never (sym (unasked q i) ∙ e);
-  }
-    where
-      by_phase : (q : Phase) → Down q → when_risen (at (all_three stand.Unprepared) q) ≡ true
-      by_phase _ InSuspend = refl
-      by_phase _ InLate = refl
-      by_phase _ InNoirq = refl
-
-      alike : (q : Phase) → Down q → is_prepared (at (all_three stand.Unprepared) q) ≡ false
-      alike _ InSuspend = refl
-      alike _ InLate = refl
-      alike _ InNoirq = refl
-
-      apart : (q : Phase) → Down q → is_left_alone (at (all_three stand.Unprepared) q) ≡ false
-      apart _ InSuspend = refl
-      apart _ InLate = refl
-      apart _ InNoirq = refl
-
-      unasked : (q : Phase) → Down q → is_given (at (all_three stand.Unprepared) q) ≡ false
-      unasked _ InSuspend = refl
-      unasked _ InLate = refl
-      unasked _ InNoirq = refl
-
   pub completes : (d : ℕ) → Standing m past (Some stage.Completes) → Standing m (by (kind.Complete d) ∷ past) (Some stage.Completes)
   completes d h = (
-    moved_all m past (by (kind.Complete d)) d refl (λ (x : ℕ) (t : Three). IsFine (order m) (is_async_device m x) (λ q. Risen) false (errs past) x t) h.0 (completes_fine d (errs past)),
+    moved_all m past (by (kind.Complete d)) d refl (λ (x : ℕ) (t : Three). IsFine (order m) (is_async_device m x) (λ q. Risen) false (errs past) x t) h.0 (unprepared_fine (order m) (is_async_device m d) (λ q. Risen) (errs past) d),
     h.1,
   )
 
@@ -351,7 +290,7 @@ module _ (m : Machine) (past : List Entry) (time : ℕ) (now : EventNow) (d : �
   )
 
 -- a device's own entry leaves the devices where they may stand
-pub device_stands : (m : Machine) (past : List Entry) (time : ℕ) (now : EventNow) (d : ℕ) (st : Option Stage) (k : Kind) → Standing m past st → DeviceMade m past now d k → Standing m (record { time = time; now = now; actor = actor.Dev d; kind = k } ∷ past) (stage_after k st)
+pub device_stands : (m : Machine) (past : List Entry) (time : ℕ) (now : EventNow) (d : ℕ) (st : Option Stage) (k : Kind) → Standing m past st → DeviceMade m past now d k → Standing m (record { time = time; now = now; actor = actor.Dev d; kind = k } ∷ past) st
 device_stands m past time now d st _ h (DeviceMade.OwnFails p r i g f) = own_fails m past time now d st h g.beside p r i g.stands f
 device_stands m past time now d st _ h (DeviceMade.OwnFinds p i g f t w) = own_finds m past time now d st h g.beside p i g.stands
 device_stands m past time now d st _ h (DeviceMade.OwnLeaves p i g f t a) = own_leaves m past time now d st h g.beside p i g.stands a
