@@ -48,7 +48,7 @@ at_is m past _ d InSuspend = refl
 at_is m past _ d InLate = refl
 at_is m past _ d InNoirq = refl
 
-stands_length : (n : ℕ) (p : Phase) (past : List Entry) → length (stands n p past) ≡ n
+pub stands_length : (n : ℕ) (p : Phase) (past : List Entry) → length (stands n p past) ≡ n
 stands_length n p [] = length-replicate n stand.Unprepared
 stands_length n p (e ∷ past) = by_device (device_of e.kind) (stands_length n p past)
   where

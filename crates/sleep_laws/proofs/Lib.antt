@@ -1,6 +1,7 @@
 pub mod Activity
 pub mod Answering
 pub mod Boards
+pub mod DevicesStand
 pub mod Flags
 pub mod Guarded
 pub mod Held

@@ -1,0 +1,325 @@
+-- The laws of devices: dependents go down first, suppliers come up first, none is left, and each stage undoes what is owed.
+use Rattle.std.proofs.Common.{◌≡◌, ◌∙◌, ℕ, zero, suc, Bool, true, false, not, ◌&&◌, ◌||◌, ◌==◌, List, [], ◌∷◌, length, replicate, is_some, Option, Some, None, refl, sym, ap, subst, cond, ◌⊎◌, inl, inr, arith}
+use Rattle.std.specs.List.{list_all}
+use Rattle.std.proofs.lemmas.Bool.{true≢false}
+use Rattle.sleep_base.specs.declared.errno.Errno.{Errno}
+use Rattle.sleep_model.specs.declared.entry.Actor.{Actor}
+use Rattle.sleep_model.specs.declared.entry.Actor.TheVariants as actor
+use Rattle.sleep_model.specs.declared.entry.Entry.{Entry}
+use Rattle.sleep_model.specs.declared.entry.Kind.{Kind}
+use Rattle.sleep_model.specs.declared.entry.Kind.TheVariants as kind
+use Rattle.sleep_model.specs.declared.machine.Machine.{Machine}
+use Rattle.sleep_model.specs.declared.machine.PlatDo.{PlatDo}
+use Rattle.sleep_model.specs.declared.machine.PlatDo.TheVariants as down
+use Rattle.sleep_model.specs.declared.machine.PlatUndo.{PlatUndo}
+use Rattle.sleep_model.specs.declared.machine.PlatUndo.TheVariants as undo
+use Rattle.sleep_model.specs.declared.place.Stage.{Stage}
+use Rattle.sleep_model.specs.declared.place.Stage.TheVariants as stage
+use Rattle.sleep_model.specs.declared.place.Stand.{Stand}
+use Rattle.sleep_model.specs.declared.place.Stand.TheVariants as stand
+use Rattle.sleep_model.specs.declared.word.EventNow.{EventNow}
+use Rattle.phase_table.specs.declared.phase.Phase.{Phase}
+use Rattle.phase_table.specs.declared.phase.Phase.TheVariants as phase
+use Rattle.phase_table.specs.Phases.{mirror, is_down, is_up}
+use Rattle.sleep_model.specs.Devices.{callback, phase_failed, is_async_device, stand_in, waits_below, waits_above, next_up, next_completed}
+use Rattle.sleep_model.specs.Laws.{DependentsFirst, SuppliersFirst, NoneStands, UnlessBusy, may_come_up, is_asleep}
+use Rattle.sleep_model.specs.Legal.{JournalPart}
+use Rattle.sleep_model.specs.Order.{order, below, above, is_among}
+use Rattle.sleep_model.specs.Stands.{stands, stand_at, is_prepared, is_unsettled, is_settled_well, is_down_in, is_left_alone, is_low}
+use Rattle.sleep_model.specs.Table.{stage_of}
+use Rattle.sleep_laws.proofs.Boards.{Three, at, at_is, three, stands_length, first_none, last_found, first_found}
+use Rattle.sleep_laws.proofs.Holding.{Moved, Opens, Makes, Beside, Owns, Aside, moved}
+use Rattle.sleep_laws.proofs.Made.{Down, InSuspend, InLate, InNoirq, Up, InResume, InEarly, InResumeNoirq, Made, AtTurn, GivenAt, DeviceMade}
+use Rattle.sleep_laws.proofs.Moods.{Mood, Empty, Fresh, Going, Settled, Halted, Coming, Risen, mood, mood_if, in_down, in_up, in_suspend, allows, when_empty, when_going, when_settled}
+use Rattle.sleep_laws.proofs.Passing.{standing, standing_made}
+use Rattle.sleep_laws.proofs.Standing.{IsFine, errs, Fines, Standing, going_tells, ready_is, down_is}
+use Rattle.sleep_laws.proofs.Turning.{never}
+use Rattle.sleep_model.proofs.Hanging.{among_first, among_rest}
+
+-- ---- small facts
+
+-- each of a list passes where each that is among it does
+all_pass : (test : ℕ → Bool) (xs : List ℕ) → ((x : ℕ) → is_among xs x ≡ true → test x ≡ true) → list_all test xs ≡ true
+all_pass test [] h = refl
+all_pass test (x ∷ xs) h = rw (h x (among_first x xs)) (all_pass test xs (λ y m. h y (among_rest x xs y m)))
+
+not_up : (p : Phase) → Down p → is_up p ≡ false
+not_up _ InSuspend = refl
+not_up _ InLate = refl
+not_up _ InNoirq = refl
+
+not_down : (p : Phase) → Up p → is_down p ≡ false
+not_down _ InResume = refl
+not_down _ InEarly = refl
+not_down _ InResumeNoirq = refl
+
+-- ---- dependents go down first
+
+-- a device that goes down without an error, and is through, is down or left alone
+through_well : (s : Stand) → when_going false s ≡ true → is_unsettled s ≡ false → is_settled_well s ≡ true
+through_well stand.Direct h u = refl
+through_well stand.Suspended h u = refl
+through_well stand.Unprepared h u = absurd (true≢false u)
+through_well stand.Prepared h u = absurd (true≢false u)
+through_well stand.Scheduled h u = absurd (true≢false u)
+through_well stand.Suspending h u = absurd (true≢false u)
+through_well _ h u = never h
+
+below_well : (m : Machine) (past : List Entry) (moods : Phase → Mood) (full : Bool) (p : Phase) (d : ℕ) → Fines m past moods full → Down p → moods p ≡ Going → phase_failed past ≡ None → waits_below m past p d ≡ None → list_all (λ e. is_settled_well (stand_in m past p e)) (below m d) ≡ true
+below_well m past moods full p d h i g f w =
+    all_pass (λ e. is_settled_well (stand_in m past p e)) (below m d) (λ x b.
+    let goes : when_going (errs past) (at (three m past x) p) ≡ true = subst (λ (a : Mood). allows a (errs past) (at (three m past x) p) ≡ true) g ((h x).allowed p i) in
+    let well : when_going false (stand_in m past p x) ≡ true = subst (λ (s : Stand). when_going false s ≡ true) (at_is m past p x i) (subst (λ (r : Option Errno). when_going (is_some r) (at (three m past x) p) ≡ true) f goes) in
+    through_well (stand_in m past p x) well (first_none (λ e. is_unsettled (stand_in m past p e)) (below m d) w x b))
+
+down_goes : (p : Phase) → Down p → in_down p p ≡ Going
+down_goes _ InSuspend = refl
+down_goes _ InLate = refl
+down_goes _ InNoirq = refl
+
+-- only where devices go down may one be given out on the way down
+scheduled_going : (a : Mood) (e : Bool) → allows a e stand.Scheduled ≡ true → a ≡ Going
+scheduled_going Going e h = refl
+scheduled_going Empty e h = never h
+scheduled_going Fresh e h = never h
+scheduled_going Settled e h = never h
+scheduled_going Halted e h = never h
+scheduled_going Coming e h = never h
+scheduled_going Risen e h = never h
+
+going_at : (m : Machine) (past : List Entry) → Standing m past (stage_of past) → (p : Phase) (d : ℕ) → Down p → stand_in m past p d ≡ stand.Scheduled → mood_if (stage_of past) p ≡ Going
+going_at m past h p d i e = scheduled_going (mood_if (stage_of past) p) (errs past) (subst (λ (s : Stand). allows (mood_if (stage_of past) p) (errs past) s ≡ true) (at_is m past p d i ∙ e) ((h.0 d).allowed p i))
+
+maker_dependents : (m : Machine) (past : List Entry) (now : EventNow) (there : Stage) (k : Kind) → Made m past now there k → Standing m past (Some there) → DependentsFirst m past k
+maker_dependents m past now _ _ (Made.BeginsDown p d i t e a) h = λ q. below_well m past (in_down p) true p d h.0 i (down_goes p i) t.well t.waits
+maker_dependents m past now _ _ (Made.BeginsUp p d u c g n w) h = λ q. never (sym (not_down p u) ∙ q)
+maker_dependents m past now _ _ _ h = tt
+
+own_dependents : (m : Machine) (past : List Entry) (now : EventNow) (d : ℕ) (k : Kind) → DeviceMade m past now d k → Standing m past (stage_of past) → DependentsFirst m past k
+own_dependents m past now d _ (DeviceMade.OwnBegins p i g f t a) h = λ q. below_well m past (λ r. mood_if (stage_of past) r) _ p d h.0 i (going_at m past h p d i g.stands) f g.waits
+own_dependents m past now d _ (DeviceMade.OwnRises p u a w s n) h = λ q. never (sym (not_down p u) ∙ q)
+own_dependents m past now d _ _ h = tt
+
+aside_dependents : (m : Machine) (past : List Entry) (k : Kind) → Aside k → DependentsFirst m past k
+aside_dependents m past _ Aside.Frozen = tt
+aside_dependents m past _ _ = tt
+
+dependents_moved : (m : Machine) (past : List Entry) (now : EventNow) (who : Actor) (k : Kind) → JournalPart m past → Moved m past now who k → DependentsFirst m past k
+dependents_moved m past now _ _ h (Opens who n guarded f e) = tt
+dependents_moved m past now _ _ h (Makes who here there k a e c x) = maker_dependents m past now there k x (standing_made m past h here there e c)
+dependents_moved m past now _ _ h (Beside who k a x) = aside_dependents m past k x
+dependents_moved m past now _ _ h (Owns d k x) = own_dependents m past now d k x (standing m past h)
+
+-- a device begins to go down only where all below it are down, or were left alone
+pub dependents_first : (m : Machine) (past : List Entry) (e : Entry) → JournalPart m (e ∷ past) → DependentsFirst m past e.kind
+dependents_first m past e h = dependents_moved m past e.now e.actor e.kind h.1 (moved m past e h)
+
+-- ---- suppliers come up first
+
+above_up : (m : Machine) (past : List Entry) (p : Phase) (d : ℕ) → waits_above m past p d ≡ None → list_all (λ e. not (is_low (stand_in m past p e))) (above m d) ≡ true
+above_up m past p d w = all_pass (λ e. not (is_low (stand_in m past p e))) (above m d) (λ x a. ap not (first_none (λ e. is_low (stand_in m past p e)) (above m d) w x a))
+
+maker_suppliers : (m : Machine) (past : List Entry) (now : EventNow) (there : Stage) (k : Kind) → Made m past now there k → SuppliersFirst m past k
+maker_suppliers m past now _ _ (Made.BeginsUp p d u c g n w) = λ q. above_up m past (mirror p) d w
+maker_suppliers m past now _ _ (Made.BeginsDown p d i t e a) = λ q. never (sym (not_up p i) ∙ q)
+maker_suppliers m past now _ _ _ = tt
+
+own_suppliers : (m : Machine) (past : List Entry) (now : EventNow) (d : ℕ) (k : Kind) → DeviceMade m past now d k → SuppliersFirst m past k
+own_suppliers m past now d _ (DeviceMade.OwnRises p u a w s n) = λ q. above_up m past (mirror p) d n
+own_suppliers m past now d _ (DeviceMade.OwnBegins p i g f t a) = λ q. never (sym (not_up p i) ∙ q)
+own_suppliers m past now d _ _ = tt
+
+aside_suppliers : (m : Machine) (past : List Entry) (k : Kind) → Aside k → SuppliersFirst m past k
+aside_suppliers m past _ Aside.Frozen = tt
+aside_suppliers m past _ _ = tt
+
+suppliers_moved : (m : Machine) (past : List Entry) (now : EventNow) (who : Actor) (k : Kind) → Moved m past now who k → SuppliersFirst m past k
+suppliers_moved m past now _ _ (Opens who n guarded f e) = tt
+suppliers_moved m past now _ _ (Makes who here there k a e c x) = maker_suppliers m past now there k x
+suppliers_moved m past now _ _ (Beside who k a x) = aside_suppliers m past k x
+suppliers_moved m past now _ _ (Owns d k x) = own_suppliers m past now d k x
+
+-- a device begins to come up only where none above it is still down
+pub suppliers_first : (m : Machine) (past : List Entry) (e : Entry) → JournalPart m (e ∷ past) → SuppliersFirst m past e.kind
+suppliers_first m past e h = suppliers_moved m past e.now e.actor e.kind (moved m past e h)
+
+-- ---- what is owed of devices
+
+-- a device comes up, or is completed, only where that is owed (device_resume, device_complete)
+abbrev pub OwedDevice : Machine → List Entry → Kind → Type 0
+OwedDevice m past (kind.Begin p d) = is_up p ≡ true → may_come_up (stand_in m past (mirror p) d) ≡ true
+OwedDevice m past (kind.Complete d) = is_prepared (stand_in m past phase.Suspend d) ≡ true
+OwedDevice m past _ = Unit {0}
+
+maker_owed : (m : Machine) (past : List Entry) (now : EventNow) (time : ℕ) (who : Actor) (there : Stage) (k : Kind) → Made m past now there k → OwedDevice m past k
+maker_owed m past now time who _ _ (Made.BeginsUp p d u c g n w) =
+    λ q. ap may_come_up (down_is (stand_in m past (mirror p) d) (and_left (is_down_in (stand_in m past (mirror p) d)) (not (is_async_device m d)) (first_found (λ y. is_down_in (stand_in m past (mirror p) y) && not (is_async_device m y)) (order m) d n).passes))
+  where
+    and_left : (a b : Bool) → (a && b) ≡ true → a ≡ true
+    and_left true b e = refl
+    and_left false b e = never e
+maker_owed m past now time who _ _ (Made.BeginsDown p d i t e a) = λ q. never (sym (not_up p i) ∙ q)
+maker_owed m past now time who _ _ (Made.Completes d n) = (last_found (λ y. is_prepared (stand_in m past phase.Suspend y)) (order m) d n).passes
+maker_owed m past now time who _ _ _ = tt
+
+own_owed : (m : Machine) (past : List Entry) (now : EventNow) (d : ℕ) (k : Kind) → DeviceMade m past now d k → OwedDevice m past k
+own_owed m past now d _ (DeviceMade.OwnRises p u a w s n) = λ q. ap may_come_up s
+own_owed m past now d _ (DeviceMade.OwnBegins p i g f t a) = λ q. never (sym (not_up p i) ∙ q)
+own_owed m past now d _ _ = tt
+
+aside_owed : (m : Machine) (past : List Entry) (k : Kind) → Aside k → OwedDevice m past k
+aside_owed m past _ Aside.Frozen = tt
+aside_owed m past _ _ = tt
+
+owed_moved : (m : Machine) (past : List Entry) (now : EventNow) (who : Actor) (k : Kind) → Moved m past now who k → OwedDevice m past k
+owed_moved m past now _ _ (Opens who n guarded f e) = tt
+owed_moved m past now _ _ (Makes who here there k a e c x) = maker_owed m past now 0 who there k x
+owed_moved m past now _ _ (Beside who k a x) = aside_owed m past k x
+owed_moved m past now _ _ (Owns d k x) = own_owed m past now d k x
+
+pub owed_device : (m : Machine) (past : List Entry) (e : Entry) → JournalPart m (e ∷ past) → OwedDevice m past e.kind
+owed_device m past e h = owed_moved m past e.now e.actor e.kind (moved m past e h)
+
+-- ---- none is left where an attempt is over
+
+-- the devices stand in no phase, and no callback runs (dpm_complete)
+pub record DevicesRestored (m : Machine) (past : List Entry) : Type 0 where
+  pub suspend : NoneStands m phase.Suspend past
+  pub late : NoneStands m phase.Late past
+  pub noirq : NoneStands m phase.Noirq past
+  pub callbacks : callback past ≡ None
+
+abbrev pub StandsRestored : Machine → List Entry → Kind → Type 0
+StandsRestored m past (kind.Over n r) = DevicesRestored m past
+StandsRestored m past _ = Unit {0}
+
+empty_is : (s : Stand) → when_empty s ≡ true → s ≡ stand.Unprepared
+empty_is stand.Unprepared h = refl
+empty_is _ h = never h
+
+all_unprepared : (n : ℕ) (xs : List Stand) → length xs ≡ n → ((d : ℕ) → stand_at xs d ≡ stand.Unprepared) → xs ≡ replicate n stand.Unprepared
+all_unprepared zero [] l h = refl
+all_unprepared zero (x ∷ xs) l h = absurd (omega arith)
+all_unprepared (suc n) [] l h = absurd (omega arith)
+all_unprepared (suc n) (x ∷ xs) l h =
+    let first : x ≡ stand.Unprepared = h 0 in
+    let rest : xs ≡ replicate n stand.Unprepared = all_unprepared n xs (omega arith) (λ d. h (suc d)) in
+    cc
+
+none_stands : (m : Machine) (past : List Entry) → Fines m past (λ q. Empty) false → (p : Phase) → Down p → NoneStands m p past
+none_stands m past h p i = all_unprepared (length m.devices) (stands (length m.devices) p past) (stands_length (length m.devices) p past) (λ d. sym (at_is m past p d i) ∙ empty_is (at (three m past d) p) ((h d).allowed p i))
+
+maker_restored : (m : Machine) (past : List Entry) (now : EventNow) (there : Stage) (k : Kind) → Made m past now there k → Standing m past (Some there) → StandsRestored m past k
+maker_restored m past now _ _ Made.Ends h = record {
+  suspend = none_stands m past h.0 phase.Suspend InSuspend;
+  late = none_stands m past h.0 phase.Late InLate;
+  noirq = none_stands m past h.0 phase.Noirq InNoirq;
+  callbacks = h.1;
+}
+maker_restored m past now _ _ _ h = tt
+
+own_restored : (m : Machine) (past : List Entry) (now : EventNow) (d : ℕ) (k : Kind) → DeviceMade m past now d k → StandsRestored m past k
+own_restored m past now d _ (DeviceMade.OwnRises p u a w s n) = tt
+own_restored m past now d _ _ = tt
+
+aside_restored : (m : Machine) (past : List Entry) (k : Kind) → Aside k → StandsRestored m past k
+aside_restored m past _ Aside.Frozen = tt
+aside_restored m past _ _ = tt
+
+restored_moved : (m : Machine) (past : List Entry) (now : EventNow) (who : Actor) (k : Kind) → JournalPart m past → Moved m past now who k → StandsRestored m past k
+restored_moved m past now _ _ h (Opens who n guarded f e) = tt
+restored_moved m past now _ _ h (Makes who here there k a e c x) = maker_restored m past now there k x (standing_made m past h here there e c)
+restored_moved m past now _ _ h (Beside who k a x) = aside_restored m past k x
+restored_moved m past now _ _ h (Owns d k x) = own_restored m past now d k x
+
+pub stands_restored : (m : Machine) (past : List Entry) (e : Entry) → JournalPart m (e ∷ past) → StandsRestored m past e.kind
+stands_restored m past e h = restored_moved m past e.now e.actor e.kind h.1 (moved m past e h)
+
+-- ---- all are down where the machine enters
+
+-- each device of the order is down, or was left alone, where the machine enters (suspend_enter)
+abbrev pub DevicesDown : Machine → List Entry → Kind → Type 0
+DevicesDown m past (kind.Enter busy) = UnlessBusy busy (list_all (is_asleep m past) (order m) ≡ true)
+DevicesDown m past _ = Unit {0}
+
+settled_down : (s t : Stand) → when_settled s ≡ true → is_prepared s ≡ true → (is_left_alone s ≡ true → is_left_alone t ≡ true) → (is_down_in s || is_left_alone t) ≡ true
+settled_down stand.Suspended t h p a = refl
+settled_down stand.Direct t h p a = a refl
+settled_down stand.Unprepared t h p a = never p
+settled_down _ t h p a = never h
+
+all_asleep : (m : Machine) (past : List Entry) → Fines m past (λ q. Settled) true → list_all (is_asleep m past) (order m) ≡ true
+all_asleep m past h = all_pass (is_asleep m past) (order m) (λ x o.
+    settled_down (stand_in m past phase.Noirq x) (stand_in m past phase.Suspend x) ((h x).allowed phase.Noirq InNoirq)
+    ((h x).alike phase.Noirq InNoirq ∙ (h x).prepared o) ((h x).alone phase.Noirq InNoirq))
+
+maker_enters : (m : Machine) (past : List Entry) (now : EventNow) (there : Stage) (k : Kind) → Made m past now there k → Standing m past (Some there) → DevicesDown m past k
+maker_enters m past now _ _ (Made.Enters s w) h = all_asleep m past h.0
+maker_enters m past now _ _ (Made.EntersNot s w) h = tt
+maker_enters m past now _ _ _ h = tt
+
+own_enters : (m : Machine) (past : List Entry) (now : EventNow) (d : ℕ) (k : Kind) → DeviceMade m past now d k → DevicesDown m past k
+own_enters m past now d _ (DeviceMade.OwnRises p u a w s n) = tt
+own_enters m past now d _ _ = tt
+
+aside_enters : (m : Machine) (past : List Entry) (k : Kind) → Aside k → DevicesDown m past k
+aside_enters m past _ Aside.Frozen = tt
+aside_enters m past _ _ = tt
+
+enters_moved : (m : Machine) (past : List Entry) (now : EventNow) (who : Actor) (k : Kind) → JournalPart m past → Moved m past now who k → DevicesDown m past k
+enters_moved m past now _ _ h (Opens who n guarded f e) = tt
+enters_moved m past now _ _ h (Makes who here there k a e c x) = maker_enters m past now there k x (standing_made m past h here there e c)
+enters_moved m past now _ _ h (Beside who k a x) = aside_enters m past k x
+enters_moved m past now _ _ h (Owns d k x) = own_enters m past now d k x
+
+pub devices_down : (m : Machine) (past : List Entry) (e : Entry) → JournalPart m (e ∷ past) → DevicesDown m past e.kind
+devices_down m past e h = enters_moved m past e.now e.actor e.kind h.1 (moved m past e h)
+
+-- ---- the stage of a device that is given out
+
+in_downs : (p q : Phase) (e : Bool) → Down q → allows (in_down p q) e stand.Scheduled ≡ true → stage.Downs p ≡ stage.Downs q
+in_downs phase.Suspend _ e InSuspend h = refl
+in_downs phase.Late _ e InLate h = refl
+in_downs phase.Noirq _ e InNoirq h = refl
+in_downs _ _ e InSuspend h = never h
+in_downs _ _ e InLate h = never h
+in_downs _ _ e InNoirq h = never h
+
+in_ups : (p q : Phase) (e : Bool) → Down q → allows (in_up p q) e stand.Scheduled ≡ true → ⊥
+in_ups phase.Resume _ e InSuspend h = never h
+in_ups phase.Resume _ e InLate h = never h
+in_ups phase.Resume _ e InNoirq h = never h
+in_ups _ _ e InSuspend h = never h
+in_ups _ _ e InLate h = never h
+in_ups _ _ e InNoirq h = never h
+
+in_asks : (a : PlatDo) (q : Phase) (e : Bool) → Down q → allows (mood (stage.Asks a) q) e stand.Scheduled ≡ true → ⊥
+in_asks down.Begin _ e i h = never h
+in_asks down.Prepare _ e InSuspend h = never h
+in_asks down.Prepare _ e InLate h = never h
+in_asks down.Prepare _ e InNoirq h = never h
+in_asks down.PrepareLate _ e i h = never h
+
+in_tells : (a : PlatUndo) (q : Phase) (e : Bool) → Down q → allows (mood (stage.Tells a) q) e stand.Scheduled ≡ true → ⊥
+in_tells undo.Recover _ e InSuspend h = never h
+in_tells undo.Recover _ e InLate h = never h
+in_tells undo.Recover _ e InNoirq h = never h
+in_tells undo.Finish _ e InSuspend h = never h
+in_tells undo.Finish _ e InLate h = never h
+in_tells undo.Finish _ e InNoirq h = never h
+in_tells undo.Wake _ e i h = never h
+in_tells undo.End _ e i h = never h
+
+scheduled_at : (st : Option Stage) (q : Phase) (e : Bool) → Down q → allows (mood_if st q) e stand.Scheduled ≡ true → st ≡ Some (stage.Downs q)
+scheduled_at (Some (stage.Downs p)) q e i h = ap Some (in_downs p q e i h)
+scheduled_at (Some (stage.Ups p)) q e i h = absurd (in_ups p q e i h)
+scheduled_at (Some (stage.Asks a)) q e i h = absurd (in_asks a q e i h)
+scheduled_at (Some (stage.Tells a)) q e i h = absurd (in_tells a q e i h)
+scheduled_at None q e i h = never h
+scheduled_at (Some _) q e i h = never h
+
+-- a device that was given out on the way down stands in its phase
+pub given_stage : (m : Machine) (past : List Entry) → JournalPart m past → (p : Phase) (d : ℕ) → Down p → stand_in m past p d ≡ stand.Scheduled → stage_of past ≡ Some (stage.Downs p)
+given_stage m past h p d i e =
+    let s : Standing m past (stage_of past) = standing m past h in
+    scheduled_at (stage_of past) p (errs past) i (subst (λ (x : Stand). allows (mood_if (stage_of past) p) (errs past) x ≡ true) (at_is m past p d i ∙ e) ((s.0 d).allowed p i))
