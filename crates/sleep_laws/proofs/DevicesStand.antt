@@ -27,6 +27,7 @@ use Rattle.sleep_model.specs.Legal.{JournalPart}
 use Rattle.sleep_model.specs.Order.{order, below, above, is_among}
 use Rattle.sleep_model.specs.Stands.{stands, stand_at, is_prepared, is_unsettled, is_settled_well, is_down_in, is_left_alone, is_low}
 use Rattle.sleep_model.specs.Table.{stage_of}
+use Rattle.sleep_laws.specs.DeviceLaws.{OwedDevice, DevicesRestored, StandsRestored, DevicesDown}
 use Rattle.sleep_laws.proofs.Boards.{Three, at, at_is, three, stands_length, first_none, last_found, first_found}
 use Rattle.sleep_laws.proofs.Holding.{Moved, Opens, Makes, Beside, Owns, Aside, moved}
 use Rattle.sleep_laws.proofs.Made.{Down, InSuspend, InLate, InNoirq, Up, InResume, InEarly, InResumeNoirq, Made, AtTurn, GivenAt, DeviceMade}
@@ -145,12 +146,6 @@ suppliers_first m past e h = suppliers_moved m past e.now e.actor e.kind (moved 
 
 -- ---- what is owed of devices
 
--- a device comes up, or is completed, only where that is owed (device_resume, device_complete)
-abbrev pub OwedDevice : Machine → List Entry → Kind → Type 0
-OwedDevice m past (kind.Begin p d) = is_up p ≡ true → may_come_up (stand_in m past (mirror p) d) ≡ true
-OwedDevice m past (kind.Complete d) = is_prepared (stand_in m past phase.Suspend d) ≡ true
-OwedDevice m past _ = Unit {0}
-
 maker_owed : (m : Machine) (past : List Entry) (now : EventNow) (time : ℕ) (who : Actor) (there : Stage) (k : Kind) → Made m past now there k → OwedDevice m past k
 maker_owed m past now time who _ _ (Made.BeginsUp p d u c g n w) =
     λ q. ap may_come_up (down_is (stand_in m past (mirror p) d) (and_left (is_down_in (stand_in m past (mirror p) d)) (not (is_async_device m d)) (first_found (λ y. is_down_in (stand_in m past (mirror p) y) && not (is_async_device m y)) (order m) d n).passes))
@@ -181,17 +176,6 @@ pub owed_device : (m : Machine) (past : List Entry) (e : Entry) → JournalPart 
 owed_device m past e h = owed_moved m past e.now e.actor e.kind (moved m past e h)
 
 -- ---- none is left where an attempt is over
-
--- the devices stand in no phase, and no callback runs (dpm_complete)
-pub record DevicesRestored (m : Machine) (past : List Entry) : Type 0 where
-  pub suspend : NoneStands m phase.Suspend past
-  pub late : NoneStands m phase.Late past
-  pub noirq : NoneStands m phase.Noirq past
-  pub callbacks : callback past ≡ None
-
-abbrev pub StandsRestored : Machine → List Entry → Kind → Type 0
-StandsRestored m past (kind.Over n r) = DevicesRestored m past
-StandsRestored m past _ = Unit {0}
 
 empty_is : (s : Stand) → when_empty s ≡ true → s ≡ stand.Unprepared
 empty_is stand.Unprepared h = refl
@@ -236,11 +220,6 @@ pub stands_restored : (m : Machine) (past : List Entry) (e : Entry) → JournalP
 stands_restored m past e h = restored_moved m past e.now e.actor e.kind h.1 (moved m past e h)
 
 -- ---- all are down where the machine enters
-
--- each device of the order is down, or was left alone, where the machine enters (suspend_enter)
-abbrev pub DevicesDown : Machine → List Entry → Kind → Type 0
-DevicesDown m past (kind.Enter busy) = UnlessBusy busy (list_all (is_asleep m past) (order m) ≡ true)
-DevicesDown m past _ = Unit {0}
 
 settled_down : (s t : Stand) → when_settled s ≡ true → is_prepared s ≡ true → (is_left_alone s ≡ true → is_left_alone t ≡ true) → (is_down_in s || is_left_alone t) ≡ true
 settled_down stand.Suspended t h p a = refl

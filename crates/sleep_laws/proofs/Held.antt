@@ -33,7 +33,7 @@ use Rattle.sleep_model.specs.Path.{maker, maker_after, is_actor, is_same}
 use Rattle.sleep_model.specs.Table.{stage_of, stage_after}
 use Rattle.sleep_model.specs.Word.{visible}
 use Rattle.sleep_laws.proofs.DevicesStand.{given_stage}
-use Rattle.sleep_laws.proofs.Guarded.{Shows, StillGuards, Says, AllSay, guarded_of}
+use Rattle.sleep_laws.proofs.Guarding.{Shows, StillGuards, Says, AllSay, guarded_of}
 use Rattle.sleep_laws.proofs.Holding.{HolderOf, StageMaker, held as lock}
 use Rattle.sleep_laws.proofs.Made.{Down, Made, Comes, AtOnce, PastNotifiers, PastCpus, PastParts, PastPartsUp, PastCpusUp, PastPosts, StepMade, TaskMade, WorkMade, DeviceMade, EntryMade, ByMaker, ByTask, ByWork, ByDevice, ByTime, Breaks, Settles}
 use Rattle.sleep_laws.proofs.Telling.{some≢none}

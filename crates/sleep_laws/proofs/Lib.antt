@@ -3,7 +3,7 @@ pub mod Answering
 pub mod Boards
 pub mod DevicesStand
 pub mod Flags
-pub mod Guarded
+pub mod Guarding
 pub mod Held
 pub mod Holding
 pub mod Levels
