@@ -1,5 +1,5 @@
 -- Where a device stands in the three pairs of phases, and how an entry moves it.
-use Rattle.std.proofs.Common.{◌≡◌, ◌≢◌, ◌≤◌, ◌<◌, ◌∙◌, ℕ, Bool, true, false, ◌==◌, nat_lt, List, [], ◌∷◌, ◌⊎◌, inl, inr, length, replicate, slice_index_or, slice_set, Option, Some, None, refl, sym, ap, subst, cond, arith}
+use Rattle.std.proofs.Common.{◌≡◌, ◌≢◌, ◌≤◌, ◌<◌, ◌∙◌, ℕ, Bool, true, false, ◌==◌, nat_lt, List, [], ◌∷◌, ◌⊎◌, inl, inr, length, slice_set, Option, Some, None, refl, sym, ap, subst, cond, arith}
 use Rattle.std.proofs.lemmas.Bool.{eqb-true, true≢false, or_cases}
 use Rattle.std.proofs.lemmas.Bool.Decides.{nat_tests}
 use Rattle.std.proofs.lemmas.List.{length-set, length-replicate, get_or-set_same, get_or-set_other, get_or_past, set_past}
@@ -18,7 +18,7 @@ use Rattle.sleep_model.specs.Walk.{first_where, last_where, or_else}
 use Rattle.sleep_laws.proofs.Made.{Down, InSuspend, InLate, InNoirq, Up, InResume, InEarly, InResumeNoirq}
 use Rattle.sleep_model.proofs.Hanging.{among_first, among_rest}
 use Rattle.sleep_laws.proofs.Telling.{some≢none}
-use Rattle.sleep_laws.proofs.Activity.{same_number, different}
+use Rattle.sleep_laws.proofs.Activity.{different}
 
 -- ---- a device's three stands
 

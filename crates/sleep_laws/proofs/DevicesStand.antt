@@ -1,13 +1,11 @@
 -- The laws of devices: dependents go down first, suppliers come up first, none is left, and each stage undoes what is owed.
-use Rattle.std.proofs.Common.{◌≡◌, ◌∙◌, ℕ, zero, suc, Bool, true, false, not, ◌&&◌, ◌||◌, ◌==◌, List, [], ◌∷◌, length, replicate, is_some, Option, Some, None, refl, sym, ap, subst, cond, ◌⊎◌, inl, inr, arith}
+use Rattle.std.proofs.Common.{◌≡◌, ◌∙◌, ℕ, zero, suc, Bool, true, false, not, ◌&&◌, ◌||◌, List, [], ◌∷◌, length, replicate, is_some, Option, Some, None, refl, sym, ap, subst, arith}
 use Rattle.std.specs.List.{list_all}
 use Rattle.std.proofs.lemmas.Bool.{true≢false}
 use Rattle.sleep_base.specs.declared.errno.Errno.{Errno}
 use Rattle.sleep_model.specs.declared.entry.Actor.{Actor}
-use Rattle.sleep_model.specs.declared.entry.Actor.TheVariants as actor
 use Rattle.sleep_model.specs.declared.entry.Entry.{Entry}
 use Rattle.sleep_model.specs.declared.entry.Kind.{Kind}
-use Rattle.sleep_model.specs.declared.entry.Kind.TheVariants as kind
 use Rattle.sleep_model.specs.declared.machine.Machine.{Machine}
 use Rattle.sleep_model.specs.declared.machine.PlatDo.{PlatDo}
 use Rattle.sleep_model.specs.declared.machine.PlatDo.TheVariants as down
@@ -21,19 +19,19 @@ use Rattle.sleep_model.specs.declared.word.EventNow.{EventNow}
 use Rattle.phase_table.specs.declared.phase.Phase.{Phase}
 use Rattle.phase_table.specs.declared.phase.Phase.TheVariants as phase
 use Rattle.phase_table.specs.Phases.{mirror, is_down, is_up}
-use Rattle.sleep_model.specs.Devices.{callback, phase_failed, is_async_device, stand_in, waits_below, waits_above, next_up, next_completed}
-use Rattle.sleep_model.specs.Laws.{DependentsFirst, SuppliersFirst, NoneStands, UnlessBusy, may_come_up, is_asleep}
+use Rattle.sleep_model.specs.Devices.{phase_failed, is_async_device, stand_in, waits_below, waits_above}
+use Rattle.sleep_model.specs.Laws.{DependentsFirst, SuppliersFirst, NoneStands, may_come_up, is_asleep}
 use Rattle.sleep_model.specs.Legal.{JournalPart}
 use Rattle.sleep_model.specs.Order.{order, below, above, is_among}
 use Rattle.sleep_model.specs.Stands.{stands, stand_at, is_prepared, is_unsettled, is_settled_well, is_down_in, is_left_alone, is_low}
 use Rattle.sleep_model.specs.Table.{stage_of}
-use Rattle.sleep_laws.specs.DeviceLaws.{OwedDevice, DevicesRestored, StandsRestored, DevicesDown}
-use Rattle.sleep_laws.proofs.Boards.{Three, at, at_is, three, stands_length, first_none, last_found, first_found}
+use Rattle.sleep_laws.specs.DeviceLaws.{OwedDevice, StandsRestored, DevicesDown}
+use Rattle.sleep_laws.proofs.Boards.{at, at_is, three, stands_length, first_none, last_found, first_found}
 use Rattle.sleep_laws.proofs.Holding.{Moved, Opens, Makes, Beside, Owns, Aside, moved}
-use Rattle.sleep_laws.proofs.Made.{Down, InSuspend, InLate, InNoirq, Up, InResume, InEarly, InResumeNoirq, Made, AtTurn, GivenAt, DeviceMade}
-use Rattle.sleep_laws.proofs.Moods.{Mood, Empty, Fresh, Going, Settled, Halted, Coming, Risen, mood, mood_if, in_down, in_up, in_suspend, allows, when_empty, when_going, when_settled}
+use Rattle.sleep_laws.proofs.Made.{Down, InSuspend, InLate, InNoirq, Up, InResume, InEarly, InResumeNoirq, Made, DeviceMade}
+use Rattle.sleep_laws.proofs.Moods.{Mood, Empty, Fresh, Going, Settled, Halted, Coming, Risen, mood, mood_if, in_down, in_up, allows, when_empty, when_going, when_settled}
 use Rattle.sleep_laws.proofs.Passing.{standing, standing_made}
-use Rattle.sleep_laws.proofs.Standing.{IsFine, errs, Fines, Standing, going_tells, ready_is, down_is}
+use Rattle.sleep_laws.proofs.Standing.{errs, Fines, Standing, down_is}
 use Rattle.sleep_laws.proofs.Turning.{never}
 use Rattle.sleep_model.proofs.Hanging.{among_first, among_rest}
 

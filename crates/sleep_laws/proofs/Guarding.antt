@@ -1,6 +1,5 @@
 -- An attempt under a saved count enters only where nothing came since, from what the journal's entries say of the word.
-use Rattle.std.proofs.Common.{◌≡◌, ◌≢◌, ◌≤◌, ◌<◌, ◌+◌, ◌∙◌, ℕ, zero, suc, Bool, true, false, ◌==◌, List, [], ◌∷◌, Option, Some, None, refl, sym, ap, subst, cond, is_some, arith}
-use Rattle.std.proofs.lemmas.Bool.{true≢false}
+use Rattle.std.proofs.Common.{◌≡◌, ◌≢◌, ◌≤◌, ◌<◌, ◌∙◌, ℕ, zero, suc, Bool, true, false, ◌==◌, List, [], ◌∷◌, Option, Some, None, refl, sym, ap, subst, cond, is_some, arith}
 use Rattle.std.proofs.lemmas.Bool.Decides.{nat_tests}
 use Rattle.sleep_base.specs.declared.errno.Errno.TheVariants.{EINVAL, EBUSY}
 use Rattle.sleep_model.specs.declared.entry.Actor.{Actor}
@@ -9,22 +8,19 @@ use Rattle.sleep_model.specs.declared.entry.FrozeEnd.TheVariants as froze
 use Rattle.sleep_model.specs.declared.entry.Kind.{Kind}
 use Rattle.sleep_model.specs.declared.entry.Kind.TheVariants as kind
 use Rattle.sleep_model.specs.declared.entry.SkipCause.TheVariants as skip
-use Rattle.sleep_model.specs.declared.machine.Machine.{Machine}
-use Rattle.sleep_model.specs.declared.machine.SourceCall.{SourceCall}
-use Rattle.sleep_model.specs.declared.machine.SourceCall.TheVariants as call
 use Rattle.sleep_model.specs.declared.word.EventNow.{EventNow}
 use Rattle.sleep_model.specs.declared.word.WordKind.{WordKind}
 use Rattle.sleep_model.specs.declared.word.WordKind.TheVariants as step
 use Rattle.sleep_model.specs.Guard.{in_force, count_part, count_pending, force_after}
-use Rattle.sleep_model.specs.Laws.{UnlessBusy, SawNothing, EntersUnseen, GuardedSleep, answer_of, answer_after, later_answer, with_step, steps_since, steps_after, guard_of, guard_after}
-use Rattle.sleep_model.specs.Legal.{SourcePart, OwnStep, Placed, IsOnTime}
+use Rattle.sleep_model.specs.Laws.{UnlessBusy, SawNothing, EntersUnseen, GuardedSleep, answer_of, answer_after, later_answer, with_step, steps_since, steps_after, guard_of}
+use Rattle.sleep_model.specs.Legal.{SourcePart, OwnStep, Placed}
 use Rattle.sleep_model.specs.Numbers.{numbers, word_step, after_step}
 use Rattle.sleep_model.specs.Parts.{Part, OfJournal, Notes, Moves, OfTime, part_of, journal}
 use Rattle.sleep_model.specs.Path.{is_same}
 use Rattle.sleep_model.specs.Sources.{history, is_of, since, since_after, owed, IsNext}
 use Rattle.sleep_model.specs.Word.{visible}
-use Rattle.sleep_laws.proofs.Activity.{Runs, AllRun, NextIf, runs_step, next_own, active, active_same, active_more, active_some, active_less, same_number, different}
-use Rattle.sleep_laws.proofs.Resting.{SoundIf, IsSound, ForceRests, AnswerRests, answer_later, force_later, force_found, save_rests, unseen, Unseen}
+use Rattle.sleep_laws.proofs.Activity.{Runs, AllRun, runs_step, active, active_same, active_more, active_some, active_less, same_number}
+use Rattle.sleep_laws.proofs.Resting.{SoundIf, ForceRests, AnswerRests, answer_later, force_later, force_found, save_rests, unseen, Unseen}
 
 -- ---- what an entry of the journal says of the word
 

@@ -1,18 +1,13 @@
 -- The count that guards an attempt stays in force until the attempt enters or fails, since the maker holds the lock meanwhile.
-use Rattle.std.proofs.Common.{◌≡◌, ◌+◌, ◌∙◌, ℕ, Bool, true, false, ◌==◌, ◌&&◌, ◌||◌, nat_lt, List, [], ◌∷◌, Option, Some, None, refl, sym, ap, subst, cond, arith}
-use Rattle.std.proofs.lemmas.Bool.{eqb-true, true≢false}
-use Rattle.std.proofs.lemmas.Bool.Decides.{nat_tests}
+use Rattle.std.proofs.Common.{◌≡◌, ◌∙◌, ℕ, Bool, true, false, ◌==◌, ◌||◌, nat_lt, List, [], ◌∷◌, Option, Some, None, refl, sym, subst, cond}
+use Rattle.std.proofs.lemmas.Bool.{eqb-true}
 use Rattle.sleep_base.specs.declared.errno.Errno.{Errno}
 use Rattle.sleep_base.specs.declared.errno.Errno.TheVariants.{EBUSY}
 use Rattle.phase_table.specs.declared.phase.Phase.{Phase}
 use Rattle.phase_table.specs.Phases.{is_down}
 use Rattle.sleep_model.specs.declared.entry.Actor.{Actor}
-use Rattle.sleep_model.specs.declared.entry.Actor.TheVariants as actor
 use Rattle.sleep_model.specs.declared.entry.Entry.{Entry}
-use Rattle.sleep_model.specs.declared.entry.FrozeEnd.TheVariants as froze
 use Rattle.sleep_model.specs.declared.entry.Kind.{Kind}
-use Rattle.sleep_model.specs.declared.entry.Kind.TheVariants as kind
-use Rattle.sleep_model.specs.declared.entry.SkipCause.TheVariants as skip
 use Rattle.sleep_model.specs.declared.machine.Machine.{Machine}
 use Rattle.sleep_model.specs.declared.machine.Op.{Op}
 use Rattle.sleep_model.specs.declared.place.Seat.{Seat}
@@ -21,21 +16,19 @@ use Rattle.sleep_model.specs.declared.place.Stage.TheVariants as stage
 use Rattle.sleep_model.specs.declared.place.Stand.TheVariants as stand
 use Rattle.sleep_model.specs.declared.word.EventNow.{EventNow}
 use Rattle.sleep_model.specs.declared.place.Work.{Work}
-use Rattle.sleep_model.specs.declared.place.Work.TheVariants.{Resting, Reading, Saving, Attempting, Looking, Napping, Closing}
-use Rattle.sleep_model.specs.Autosleep.{work, work_after, after_look, seen_count}
 use Rattle.sleep_model.specs.Devices.{phase_failed, phase_failed_after, error_in, stand_in}
-use Rattle.sleep_model.specs.Guard.{Finds, in_force, count_part, count_pending, force_after, forgotten, pending}
+use Rattle.sleep_model.specs.Guard.{Finds, in_force, count_part, count_pending, force_after, forgotten}
 use Rattle.sleep_model.specs.Laws.{GuardedSleep, guard_of, guard_after}
 use Rattle.sleep_model.specs.Legal.{IsLegal, JournalPart}
 use Rattle.sleep_model.specs.Parts.{journal}
-use Rattle.sleep_model.specs.Lock.{holder, holder_after, let_go_by}
-use Rattle.sleep_model.specs.Path.{maker, maker_after, is_actor, is_same}
+use Rattle.sleep_model.specs.Lock.{holder}
+use Rattle.sleep_model.specs.Path.{maker}
 use Rattle.sleep_model.specs.Table.{stage_of, stage_after}
 use Rattle.sleep_model.specs.Word.{visible}
 use Rattle.sleep_laws.proofs.DevicesStand.{given_stage}
-use Rattle.sleep_laws.proofs.Guarding.{Shows, StillGuards, Says, AllSay, guarded_of}
+use Rattle.sleep_laws.proofs.Guarding.{Shows, Says, AllSay, guarded_of}
 use Rattle.sleep_laws.proofs.Holding.{HolderOf, StageMaker, held as lock}
-use Rattle.sleep_laws.proofs.Made.{Down, Made, Comes, AtOnce, PastNotifiers, PastCpus, PastParts, PastPartsUp, PastCpusUp, PastPosts, StepMade, TaskMade, WorkMade, DeviceMade, EntryMade, ByMaker, ByTask, ByWork, ByDevice, ByTime, Breaks, Settles}
+use Rattle.sleep_laws.proofs.Made.{Down, Made, Comes, AtOnce, PastNotifiers, PastCpus, PastParts, PastPartsUp, PastCpusUp, PastPosts, StepMade, TaskMade, WorkMade, DeviceMade, EntryMade, ByMaker, ByTask, ByWork, ByDevice, ByTime}
 use Rattle.sleep_laws.proofs.Telling.{some≢none}
 use Rattle.sleep_laws.proofs.MakingOwn.{by_maker, entry_made}
 

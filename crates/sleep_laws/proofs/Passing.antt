@@ -1,18 +1,16 @@
 -- Where the devices stand from stage to stage, and so at each place of a legal journal.
-use Rattle.std.proofs.Common.{◌≡◌, ◌≤◌, ◌∙◌, ℕ, Bool, true, false, not, nat_lt, arith, List, [], ◌∷◌, length, replicate, is_some, Option, Some, None, refl, sym, ap, subst, cond}
+use Rattle.std.proofs.Common.{◌≡◌, ◌≤◌, ◌∙◌, ℕ, Bool, true, false, nat_lt, arith, List, [], ◌∷◌, length, replicate, is_some, Option, Some, None, refl, sym, ap, subst}
 use Rattle.std.proofs.lemmas.Bool.{true≢false}
 use Rattle.std.proofs.lemmas.Bool.Decides.{nat_tests}
 use Rattle.std.proofs.lemmas.List.{get_or-replicate, get_or_past, length-replicate}
 use Rattle.sleep_base.specs.declared.errno.Errno.{Errno}
 use Rattle.sleep_model.specs.declared.entry.Actor.{Actor}
-use Rattle.sleep_model.specs.declared.entry.Actor.TheVariants as actor
 use Rattle.sleep_model.specs.declared.entry.Entry.{Entry}
 use Rattle.sleep_model.specs.declared.entry.Kind.{Kind}
 use Rattle.sleep_model.specs.declared.entry.Kind.TheVariants as kind
 use Rattle.sleep_model.specs.declared.machine.Machine.{Machine}
 use Rattle.sleep_model.specs.declared.machine.PlatDo.TheVariants as down
 use Rattle.sleep_model.specs.declared.machine.PlatUndo.TheVariants as undo
-use Rattle.sleep_model.specs.declared.place.Callback.{Callback}
 use Rattle.sleep_model.specs.declared.place.Stage.{Stage}
 use Rattle.sleep_model.specs.declared.place.Stage.TheVariants as stage
 use Rattle.sleep_model.specs.declared.place.Stand.{Stand}
@@ -20,17 +18,17 @@ use Rattle.sleep_model.specs.declared.place.Stand.TheVariants as stand
 use Rattle.sleep_model.specs.declared.word.EventNow.{EventNow}
 use Rattle.phase_table.specs.declared.phase.Phase.{Phase}
 use Rattle.phase_table.specs.declared.phase.Phase.TheVariants as phase
-use Rattle.sleep_model.specs.Devices.{callback, phase_failed, is_device, is_async_device, stand_in, waits_down, waits_up, next_down, next_prepared, next_completed}
+use Rattle.sleep_model.specs.Devices.{callback, is_device, is_async_device, stand_in, waits_down, waits_up, next_down, next_prepared, next_completed}
 use Rattle.sleep_model.specs.Legal.{JournalPart}
 use Rattle.sleep_model.specs.Order.{order, is_among}
-use Rattle.sleep_model.specs.Stands.{stands, stand_at, is_unprepared, is_prepared, is_ready, is_going_down, is_low}
+use Rattle.sleep_model.specs.Stands.{stand_at, is_unprepared, is_prepared, is_ready, is_going_down, is_low}
 use Rattle.sleep_model.specs.Table.{stage_of, stage_after}
 use Rattle.sleep_laws.proofs.Boards.{Three, at, at_is, three, all_three, first_none, last_none}
 use Rattle.sleep_laws.proofs.Holding.{Kept, Aside, at_stage, at_made}
-use Rattle.sleep_laws.proofs.Made.{Down, InSuspend, InLate, InNoirq, Up, Made, Comes, AtOnce, PastNotifiers, PastCpus, PastParts, PastPartsUp, PastCpusUp, PastPosts, Breaks, Settles, Rises, DeviceMade, EntryMade}
-use Rattle.sleep_laws.proofs.Moods.{Mood, Empty, Fresh, Going, Settled, Halted, Coming, Risen, mood_if, in_down, in_up, in_suspend, allows, when_empty, when_going, empty_fresh, fresh_going, fresh_halted, fresh_risen, settled_coming, halted_coming, going_halted, going_settled, coming_risen}
-use Rattle.sleep_laws.proofs.Standing.{When, IsFine, unprepared_fine, fine_else, outside, none_so, errs, Fines, InsideIf, CallIf, Standing, is_full_if}
-use Rattle.sleep_laws.proofs.Turning.{schedules_down, finds_down, leaves_down, begins_down, ends_down, schedules_up, begins_up, ends_up, prepares, completes, device_stands, free_call, never}
+use Rattle.sleep_laws.proofs.Made.{Down, InSuspend, InLate, InNoirq, Made, Comes, AtOnce, PastNotifiers, PastCpus, PastParts, PastPartsUp, PastCpusUp, PastPosts, Breaks, Settles, Rises}
+use Rattle.sleep_laws.proofs.Moods.{Mood, Empty, Fresh, Going, Settled, Halted, Coming, Risen, in_down, in_up, in_suspend, allows, when_empty, when_going, empty_fresh, fresh_going, fresh_halted, fresh_risen, settled_coming, halted_coming, going_halted, going_settled, coming_risen}
+use Rattle.sleep_laws.proofs.Standing.{When, IsFine, unprepared_fine, fine_else, none_so, errs, Fines, Standing}
+use Rattle.sleep_laws.proofs.Turning.{schedules_down, finds_down, leaves_down, begins_down, ends_down, schedules_up, begins_up, ends_up, prepares, completes, device_stands, free_call}
 
 -- ---- from one stage to another
 

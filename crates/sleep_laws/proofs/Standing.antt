@@ -1,34 +1,24 @@
 -- Where the devices stand at each stage of an attempt.
-use Rattle.std.proofs.Common.{◌≡◌, ◌≢◌, ◌∙◌, ℕ, ℤ, pos, negsuc, Bool, true, false, not, ◌==◌, ◌&&◌, ◌||◌, List, [], ◌∷◌, length, is_some, Option, Some, None, refl, sym, ap, subst, cond}
+use Rattle.std.proofs.Common.{◌≡◌, ◌∙◌, ℕ, Bool, true, false, List, ◌∷◌, is_some, Option, Some, None, refl, sym, ap, subst, cond}
 use Rattle.std.proofs.lemmas.Bool.{true≢false}
 use Rattle.sleep_base.specs.declared.errno.Errno.{Errno}
-use Rattle.sleep_model.specs.declared.entry.Actor.{Actor}
-use Rattle.sleep_model.specs.declared.entry.Actor.TheVariants as actor
 use Rattle.sleep_model.specs.declared.entry.Entry.{Entry}
-use Rattle.sleep_model.specs.declared.entry.Kind.{Kind}
-use Rattle.sleep_model.specs.declared.entry.Kind.TheVariants as kind
-use Rattle.sleep_model.specs.declared.entry.SkipCause.{SkipCause}
-use Rattle.sleep_model.specs.declared.entry.SkipCause.TheVariants as skip
 use Rattle.sleep_model.specs.declared.machine.Machine.{Machine}
 use Rattle.sleep_model.specs.declared.machine.PlatDo.TheVariants as down
-use Rattle.sleep_model.specs.declared.machine.PlatUndo.TheVariants as undo
 use Rattle.sleep_model.specs.declared.place.Callback.{Callback}
 use Rattle.sleep_model.specs.declared.place.Stage.{Stage}
 use Rattle.sleep_model.specs.declared.place.Stage.TheVariants as stage
 use Rattle.sleep_model.specs.declared.place.Stand.{Stand}
 use Rattle.sleep_model.specs.declared.place.Stand.TheVariants as stand
-use Rattle.sleep_model.specs.declared.word.EventNow.{EventNow}
 use Rattle.phase_table.specs.declared.phase.Phase.{Phase}
 use Rattle.phase_table.specs.declared.phase.Phase.TheVariants as phase
 use Rattle.phase_table.specs.Phases.{mirror, is_down}
-use Rattle.sleep_model.specs.Devices.{callback, callback_after, phase_failed, phase_failed_after, error_in, is_device, is_async_device, is_direct, stand_in, waits_down, waits_up, next_down, next_up, next_given, next_prepared, next_completed}
+use Rattle.sleep_model.specs.Devices.{callback, phase_failed, error_in, is_async_device, stand_in}
 use Rattle.sleep_model.specs.Order.{order, is_among}
-use Rattle.sleep_model.specs.Stands.{is_unprepared, is_prepared, is_ready, is_going_down, is_down_in, is_left_alone, is_low, ended_by, skipped_for, device_of}
-use Rattle.sleep_model.specs.Table.{stage_of, stage_after}
-use Rattle.sleep_laws.proofs.Boards.{Three, at, at_is, three, three_after, moved, moved_all, moved_other, moved_own, unmoved, Change, Here, Away, turned, turned_down, turned_up, all_three, mirror_down, Found, first_found, last_found, first_none, last_none}
-use Rattle.sleep_laws.proofs.Made.{Down, InSuspend, InLate, InNoirq, Up, InResume, InEarly, InResumeNoirq, Made, AtTurn, Breaks, Settles, Rises, GivenAt, DeviceMade}
-use Rattle.sleep_laws.proofs.Moods.{Mood, Empty, Fresh, Going, Settled, Halted, Coming, Risen, mood, mood_if, in_down, in_up, in_suspend, allows, allows_unprepared, when_fresh, when_going, when_coming, empty_fresh, fresh_going, fresh_halted, fresh_risen, settled_coming, halted_coming, going_halted, going_settled, coming_risen, unprepared_is, allows_more}
-use Rattle.sleep_laws.proofs.Telling.{some≢none}
+use Rattle.sleep_model.specs.Stands.{is_prepared, is_ready, is_down_in, is_left_alone, ended_by, device_of}
+use Rattle.sleep_laws.proofs.Boards.{Three, at, at_is, three, three_after, moved_all, Change, Here, Away, all_three}
+use Rattle.sleep_laws.proofs.Made.{Down, InSuspend, InLate, InNoirq, Up, InResume, InEarly, InResumeNoirq}
+use Rattle.sleep_laws.proofs.Moods.{Mood, Empty, Fresh, Going, Settled, Halted, Coming, Risen, mood_if, in_down, in_up, allows, allows_unprepared, when_fresh, when_going, when_coming, unprepared_is, allows_more}
 
 -- ---- one device
 

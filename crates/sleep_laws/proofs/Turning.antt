@@ -1,5 +1,5 @@
 -- An entry of a device leaves the devices where they may stand: the maker's walks, prepare and complete, and the device's own entries.
-use Rattle.std.proofs.Common.{◌≡◌, ◌≢◌, ◌∙◌, ℕ, ℤ, pos, negsuc, Bool, true, false, not, ◌==◌, ◌&&◌, ◌||◌, List, [], ◌∷◌, length, is_some, Option, Some, None, refl, sym, ap, subst, cond}
+use Rattle.std.proofs.Common.{◌≡◌, ◌∙◌, ℕ, ℤ, pos, negsuc, Bool, true, false, not, ◌&&◌, List, ◌∷◌, is_some, Option, Some, None, refl, sym, ap, subst}
 use Rattle.std.proofs.lemmas.Bool.{true≢false}
 use Rattle.sleep_base.specs.declared.errno.Errno.{Errno}
 use Rattle.sleep_model.specs.declared.entry.Actor.{Actor}
@@ -7,7 +7,6 @@ use Rattle.sleep_model.specs.declared.entry.Actor.TheVariants as actor
 use Rattle.sleep_model.specs.declared.entry.Entry.{Entry}
 use Rattle.sleep_model.specs.declared.entry.Kind.{Kind}
 use Rattle.sleep_model.specs.declared.entry.Kind.TheVariants as kind
-use Rattle.sleep_model.specs.declared.entry.SkipCause.{SkipCause}
 use Rattle.sleep_model.specs.declared.entry.SkipCause.TheVariants as skip
 use Rattle.sleep_model.specs.declared.machine.Machine.{Machine}
 use Rattle.sleep_model.specs.declared.place.Callback.{Callback}
@@ -18,15 +17,14 @@ use Rattle.sleep_model.specs.declared.place.Stand.TheVariants as stand
 use Rattle.sleep_model.specs.declared.word.EventNow.{EventNow}
 use Rattle.phase_table.specs.declared.phase.Phase.{Phase}
 use Rattle.phase_table.specs.declared.phase.Phase.TheVariants as phase
-use Rattle.phase_table.specs.Phases.{mirror, is_down}
-use Rattle.sleep_model.specs.Devices.{callback, callback_after, unless_own, phase_failed, phase_failed_after, error_in, is_device, is_async_device, is_direct, stand_in, next_down, next_up, next_given, next_prepared, next_completed}
+use Rattle.phase_table.specs.Phases.{mirror}
+use Rattle.sleep_model.specs.Devices.{callback, unless_own, phase_failed, error_in, is_device, is_async_device, is_direct, stand_in, next_down, next_up, next_given, next_prepared}
 use Rattle.sleep_model.specs.Order.{order, is_among}
-use Rattle.sleep_model.specs.Stands.{is_unprepared, is_prepared, is_ready, is_going_down, is_down_in, is_left_alone, is_low, ended_by, skipped_for, device_of}
-use Rattle.sleep_laws.proofs.Boards.{Three, at, at_is, three, three_after, moved_all, moved_other, moved_own, turned, turned_down, turned_up, all_three, mirror_down, Found, first_found, last_found}
-use Rattle.sleep_laws.proofs.Made.{Down, InSuspend, InLate, InNoirq, Up, InResume, InEarly, InResumeNoirq, Made, AtTurn, GivenAt, DeviceMade}
-use Rattle.sleep_laws.proofs.Moods.{Mood, Empty, Fresh, Going, Settled, Halted, Coming, Risen, mood, mood_if, in_down, in_up, in_suspend, allows}
-use Rattle.sleep_laws.proofs.Standing.{IsFine, unprepared_fine, prepared_fine, fine_else, errs, Fines, Inside, InsideIf, CallAt, CallIf, Standing, turn, going_allows, going_tells, coming_allows, scheduled_goes, suspending_goes, rescheduled_comes, resuming_comes, ready_is, down_is, fails_error, error_stays, ended_prepared, ended_apart, ended_given, is_full_if}
-use Rattle.sleep_laws.proofs.Telling.{some≢none}
+use Rattle.sleep_model.specs.Stands.{is_unprepared, is_prepared, is_ready, is_down_in, is_left_alone, ended_by, device_of}
+use Rattle.sleep_laws.proofs.Boards.{Three, at, at_is, three, three_after, moved_all, moved_other, moved_own, turned, turned_down, turned_up, all_three, mirror_down, first_found, last_found}
+use Rattle.sleep_laws.proofs.Made.{Down, InSuspend, InLate, InNoirq, Up, InResume, InEarly, InResumeNoirq, AtTurn, DeviceMade}
+use Rattle.sleep_laws.proofs.Moods.{Mood, Fresh, Risen, mood_if, in_down, in_up, allows}
+use Rattle.sleep_laws.proofs.Standing.{IsFine, unprepared_fine, prepared_fine, fine_else, errs, Fines, Inside, InsideIf, CallIf, Standing, turn, going_allows, coming_allows, scheduled_goes, suspending_goes, rescheduled_comes, resuming_comes, ready_is, down_is, fails_error, error_stays, ended_prepared, ended_apart, ended_given, is_full_if}
 
 pub never : {A : Type 0} → false ≡ true → A
 never e = absurd (true≢false (sym e))
@@ -63,16 +61,16 @@ module _ (m : Machine) (past : List Entry) (time : ℕ) (now : EventNow) (who : 
   pub schedules_down : (p : Phase) (d : ℕ) → Down p → callback past ≡ None → next_down m past p ≡ Some d → is_async_device m d ≡ true → Standing m past (Some (stage.Downs p)) → Standing m (by (kind.Schedule p d) ∷ past) (Some (stage.Downs p))
   schedules_down p d i c n a h = (
     turn m past (by (kind.Schedule p d)) d refl (in_down p) true h.0 p i stand.Prepared stand.Scheduled (ready_stands p d n) refl refl refl
-    (going_allows p i (errs past) stand.Scheduled refl) (λ x. x) (λ x. never x) (λ x. a)
-    (λ q j. turned_down p q stand.Scheduled (all_three stand.Rescheduled) (three m past d) i j),
+        (going_allows p i (errs past) stand.Scheduled refl) (λ x. x) (λ x. never x) (λ x. a)
+        (λ q j. turned_down p q stand.Scheduled (all_three stand.Rescheduled) (three m past d) i j),
     free_call m (callback past) stand.Suspending p (three m (by (kind.Schedule p d) ∷ past)) c,
   )
 
   pub finds_down : (p : Phase) (d : ℕ) → Down p → AtTurn m past p d → Standing m past (Some (stage.Downs p)) → Standing m (by (kind.Skip p d skip.Pending) ∷ past) (Some (stage.Downs p))
   finds_down p d i t h = (
     turn m past (by (kind.Skip p d skip.Pending)) d refl (in_down p) true h.0 p i stand.Prepared stand.Failed (ready_stands p d t.next) refl refl refl
-    (going_allows p i true stand.Failed refl) (λ x. refl) (λ x. never x) (λ x. never x)
-    (λ q j. turned_down p q stand.Failed (three m past d) (three m past d) i j),
+        (going_allows p i true stand.Failed refl) (λ x. refl) (λ x. never x) (λ x. never x)
+        (λ q j. turned_down p q stand.Failed (three m past d) (three m past d) i j),
     free_call m (callback past) stand.Suspending p (three m (by (kind.Skip p d skip.Pending) ∷ past)) t.free,
   )
 
@@ -84,8 +82,8 @@ module _ (m : Machine) (past : List Entry) (time : ℕ) (now : EventNow) (who : 
   pub leaves_down : (p : Phase) (d : ℕ) → Down p → AtTurn m past p d → is_direct m past p d ≡ true → Standing m past (Some (stage.Downs p)) → Standing m (by (kind.Skip p d skip.Direct) ∷ past) (Some (stage.Downs p))
   leaves_down p d i t a h = (
     turn m past (by (kind.Skip p d skip.Direct)) d refl (in_down p) true h.0 p i stand.Prepared stand.Direct (ready_stands p d t.next) refl refl refl
-    (going_allows p i (errs past) stand.Direct refl) (λ x. x) (λ x. direct_alone p d i a) (λ x. never x)
-    (λ q j. turned_down p q stand.Direct (three m past d) (three m past d) i j),
+        (going_allows p i (errs past) stand.Direct refl) (λ x. x) (λ x. direct_alone p d i a) (λ x. never x)
+        (λ q j. turned_down p q stand.Direct (three m past d) (three m past d) i j),
     free_call m (callback past) stand.Suspending p (three m (by (kind.Skip p d skip.Direct) ∷ past)) t.free,
   )
 
@@ -103,13 +101,13 @@ module _ (m : Machine) (past : List Entry) (time : ℕ) (now : EventNow) (who : 
   pub begins_down : (p : Phase) (d : ℕ) → Down p → AtTurn m past p d → Standing m past (Some (stage.Downs p)) → Standing m (by (kind.Begin p d) ∷ past) (Some (stage.Downs p))
   begins_down p d i t h = (
     turn m past (by (kind.Begin p d)) d refl (in_down p) true h.0 p i stand.Prepared stand.Suspending (ready_stands p d t.next) refl refl refl
-    (going_allows p i (errs past) stand.Suspending refl) (λ x. x) (λ x. never x) (λ x. never x)
-    (λ q j. turned_down p q stand.Suspending (all_three stand.Resuming) (three m past d) i j),
+        (going_allows p i (errs past) stand.Suspending refl) (λ x. x) (λ x. never x) (λ x. never x)
+        (λ q j. turned_down p q stand.Suspending (all_three stand.Resuming) (three m past d) i j),
     runs_call (record { phase = p; device = d }) stand.Suspending p (three m (by (kind.Begin p d) ∷ past)) (record {
       beside = t.beside;
       inside =
-        ap (λ (x : Three). at x p) (moved_own m past (by (kind.Begin p d)) d refl (prepared_all (in_down p) true h.0 p d stand.Prepared i (ready_stands p d t.next) refl))
-        ∙ turned_at p stand.Suspending (all_three stand.Resuming) (three m past d) i;
+          ap (λ (x : Three). at x p) (moved_own m past (by (kind.Begin p d)) d refl (prepared_all (in_down p) true h.0 p d stand.Prepared i (ready_stands p d t.next) refl))
+          ∙ turned_at p stand.Suspending (all_three stand.Resuming) (three m past d) i;
     }),
   )
 
@@ -119,24 +117,24 @@ module _ (m : Machine) (past : List Entry) (time : ℕ) (now : EventNow) (who : 
   pub ends_down : (p q : Phase) (d : ℕ) (r : Option Errno) → Down p → callback past ≡ Some (record { phase = q; device = d }) → Standing m past (Some (stage.Downs p)) → Standing m (by (kind.End p d r) ∷ past) (Some (stage.Downs p))
   ends_down p q d r i c h =
       let x : Inside m (record { phase = q; device = d }) stand.Suspending p (three m past) = called (callback past) (record { phase = q; device = d }) stand.Suspending p (three m past) c h.1 in (
-    turn m past (by (kind.End p d r)) d refl (in_down p) true h.0 p i stand.Suspending (ended_by r) (sym (at_is m past p d i) ∙ x.inside) refl refl (ended_prepared r)
-    (going_allows p i (is_some (error_in p r (phase_failed past))) (ended_by r) (fails_error p i r (phase_failed past))) (error_stays p r (phase_failed past))
-    (λ y. absurd (true≢false (sym y ∙ ended_apart r))) (λ y. absurd (true≢false (sym y ∙ ended_given r)))
-    (λ k j. turned_down p k (ended_by r) (all_three stand.Resumed) (three m past d) i j),
-    ends_call stand.Suspending p (three m (by (kind.End p d r) ∷ past)),
-  )
+        turn m past (by (kind.End p d r)) d refl (in_down p) true h.0 p i stand.Suspending (ended_by r) (sym (at_is m past p d i) ∙ x.inside) refl refl (ended_prepared r)
+            (going_allows p i (is_some (error_in p r (phase_failed past))) (ended_by r) (fails_error p i r (phase_failed past))) (error_stays p r (phase_failed past))
+            (λ y. absurd (true≢false (sym y ∙ ended_apart r))) (λ y. absurd (true≢false (sym y ∙ ended_given r)))
+            (λ k j. turned_down p k (ended_by r) (all_three stand.Resumed) (three m past d) i j),
+        ends_call stand.Suspending p (three m (by (kind.End p d r) ∷ past)),
+      )
 
   -- ---- the maker's walk up
 
   given_stands : (p : Phase) (d : ℕ) → next_given m past p ≡ Some d → (stand_in m past p d ≡ stand.Suspended) × (is_async_device m d ≡ true)
   given_stands p d n =
-    let x = and_both (is_down_in (stand_in m past p d)) (is_async_device m d) (first_found (λ y. is_down_in (stand_in m past p y) && is_async_device m y) (order m) d n).passes in
-    (down_is (stand_in m past p d) x.0, x.1)
+      let x = and_both (is_down_in (stand_in m past p d)) (is_async_device m d) (first_found (λ y. is_down_in (stand_in m past p y) && is_async_device m y) (order m) d n).passes in
+      (down_is (stand_in m past p d) x.0, x.1)
 
   up_stands : (p : Phase) (d : ℕ) → next_up m past p ≡ Some d → (stand_in m past p d ≡ stand.Suspended) × (is_async_device m d ≡ false)
   up_stands p d n =
-    let x = and_both (is_down_in (stand_in m past p d)) (not (is_async_device m d)) (first_found (λ y. is_down_in (stand_in m past p y) && not (is_async_device m y)) (order m) d n).passes in
-    (down_is (stand_in m past p d) x.0, not_true (is_async_device m d) x.1)
+      let x = and_both (is_down_in (stand_in m past p d)) (not (is_async_device m d)) (first_found (λ y. is_down_in (stand_in m past p y) && not (is_async_device m y)) (order m) d n).passes in
+      (down_is (stand_in m past p d) x.0, not_true (is_async_device m d) x.1)
     where
       not_true : (b : Bool) → not b ≡ true → b ≡ false
       not_true true e = never e
@@ -145,35 +143,35 @@ module _ (m : Machine) (past : List Entry) (time : ℕ) (now : EventNow) (who : 
   pub schedules_up : (p : Phase) (d : ℕ) → Up p → callback past ≡ None → next_given m past (mirror p) ≡ Some d → Standing m past (Some (stage.Ups p)) → Standing m (by (kind.Schedule p d) ∷ past) (Some (stage.Ups p))
   schedules_up p d u c n h =
       let x = given_stands (mirror p) d n in (
-    turn m past (by (kind.Schedule p d)) d refl (in_up p) false h.0 (mirror p) (mirror_down p u) stand.Suspended stand.Rescheduled x.0 refl refl refl
-    (coming_allows p u (errs past) stand.Rescheduled refl) (λ y. y) (λ y. never y) (λ y. x.1)
-    (λ q j. turned_up p q stand.Rescheduled stand.Scheduled (three m past d) u j),
-    free_call m (callback past) stand.Resuming (mirror p) (three m (by (kind.Schedule p d) ∷ past)) c,
-  )
+        turn m past (by (kind.Schedule p d)) d refl (in_up p) false h.0 (mirror p) (mirror_down p u) stand.Suspended stand.Rescheduled x.0 refl refl refl
+            (coming_allows p u (errs past) stand.Rescheduled refl) (λ y. y) (λ y. never y) (λ y. x.1)
+            (λ q j. turned_up p q stand.Rescheduled stand.Scheduled (three m past d) u j),
+        free_call m (callback past) stand.Resuming (mirror p) (three m (by (kind.Schedule p d) ∷ past)) c,
+      )
 
   pub begins_up : (p : Phase) (d : ℕ) → Up p → next_up m past (mirror p) ≡ Some d → Standing m past (Some (stage.Ups p)) → Standing m (by (kind.Begin p d) ∷ past) (Some (stage.Ups p))
   begins_up p d u n h =
       let x = up_stands (mirror p) d n in (
-    turn m past (by (kind.Begin p d)) d refl (in_up p) false h.0 (mirror p) (mirror_down p u) stand.Suspended stand.Resuming x.0 refl refl refl
-    (coming_allows p u (errs past) stand.Resuming refl) (λ y. y) (λ y. never y) (λ y. never y)
-    (λ q j. turned_up p q stand.Resuming stand.Suspending (three m past d) u j),
-    runs_call (record { phase = p; device = d }) stand.Resuming (mirror p) (three m (by (kind.Begin p d) ∷ past)) (record {
-      beside = x.1;
-      inside =
-        ap (λ (y : Three). at y (mirror p)) (moved_own m past (by (kind.Begin p d)) d refl (prepared_all (in_up p) false h.0 (mirror p) d stand.Suspended (mirror_down p u) x.0 refl))
-        ∙ turned_mirror p stand.Suspending stand.Resuming (three m past d) u;
-    }),
-  )
+        turn m past (by (kind.Begin p d)) d refl (in_up p) false h.0 (mirror p) (mirror_down p u) stand.Suspended stand.Resuming x.0 refl refl refl
+            (coming_allows p u (errs past) stand.Resuming refl) (λ y. y) (λ y. never y) (λ y. never y)
+            (λ q j. turned_up p q stand.Resuming stand.Suspending (three m past d) u j),
+        runs_call (record { phase = p; device = d }) stand.Resuming (mirror p) (three m (by (kind.Begin p d) ∷ past)) (record {
+          beside = x.1;
+          inside =
+              ap (λ (y : Three). at y (mirror p)) (moved_own m past (by (kind.Begin p d)) d refl (prepared_all (in_up p) false h.0 (mirror p) d stand.Suspended (mirror_down p u) x.0 refl))
+              ∙ turned_mirror p stand.Suspending stand.Resuming (three m past d) u;
+        }),
+      )
 
   pub ends_up : (p q : Phase) (d : ℕ) (r : Option Errno) → Up p → callback past ≡ Some (record { phase = q; device = d }) → Standing m past (Some (stage.Ups p)) → Standing m (by (kind.End p d r) ∷ past) (Some (stage.Ups p))
   ends_up p q d r u c h =
       let x : Inside m (record { phase = q; device = d }) stand.Resuming (mirror p) (three m past) = called (callback past) (record { phase = q; device = d }) stand.Resuming (mirror p) (three m past) c h.1 in (
-    turn m past (by (kind.End p d r)) d refl (in_up p) false h.0 (mirror p) (mirror_down p u) stand.Resuming stand.Resumed (sym (at_is m past (mirror p) d (mirror_down p u)) ∙ x.inside) refl refl refl
-    (coming_allows p u (is_some (error_in p r (phase_failed past))) stand.Resumed refl) (error_stays p r (phase_failed past))
-    (λ y. never y) (λ y. never y)
-    (λ k j. turned_up p k stand.Resumed (ended_by r) (three m past d) u j),
-    ends_call stand.Resuming (mirror p) (three m (by (kind.End p d r) ∷ past)),
-  )
+        turn m past (by (kind.End p d r)) d refl (in_up p) false h.0 (mirror p) (mirror_down p u) stand.Resuming stand.Resumed (sym (at_is m past (mirror p) d (mirror_down p u)) ∙ x.inside) refl refl refl
+            (coming_allows p u (is_some (error_in p r (phase_failed past))) stand.Resumed refl) (error_stays p r (phase_failed past))
+            (λ y. never y) (λ y. never y)
+            (λ k j. turned_up p k stand.Resumed (ended_by r) (three m past d) u j),
+        ends_call stand.Resuming (mirror p) (three m (by (kind.End p d r) ∷ past)),
+      )
 
   -- ---- prepare and complete
 
@@ -185,11 +183,11 @@ module _ (m : Machine) (past : List Entry) (time : ℕ) (now : EventNow) (who : 
   prepares d r n h =
       let error : Bool = errs (by (kind.Prepare d r) ∷ past) in
       let fresh : (x : ℕ) → IsFine (order m) (is_async_device m x) (λ q. Fresh) false error x (three m past x) =
-        λ x. fine_else (order m) (is_async_device m x) (λ q. Fresh) false (errs past) x (three m past x) (h.0 x) (λ q. Fresh) false error (h.0 x).allowed tt in (
-    moved_all m past (by (kind.Prepare d r)) d refl (λ (x : ℕ) (t : Three). IsFine (order m) (is_async_device m x) (λ q. Fresh) false error x t) fresh
-    (prepares_fine d r error (first_found (λ x. is_unprepared (stand_in m past phase.Suspend x)) (order m) d n).among (fresh d)),
-    h.1,
-  )
+      λ x. fine_else (order m) (is_async_device m x) (λ q. Fresh) false (errs past) x (three m past x) (h.0 x) (λ q. Fresh) false error (h.0 x).allowed tt in (
+        moved_all m past (by (kind.Prepare d r)) d refl (λ (x : ℕ) (t : Three). IsFine (order m) (is_async_device m x) (λ q. Fresh) false error x t) fresh
+            (prepares_fine d r error (first_found (λ x. is_unprepared (stand_in m past phase.Suspend x)) (order m) d n).among (fresh d)),
+        h.1,
+      )
 
   pub completes : (d : ℕ) → Standing m past (Some stage.Completes) → Standing m (by (kind.Complete d) ∷ past) (Some stage.Completes)
   completes d h = (
@@ -230,24 +228,24 @@ module _ (m : Machine) (past : List Entry) (time : ℕ) (now : EventNow) (d : �
   own_fails : (p : Phase) (r : Errno) → Down p → stand_in m past p d ≡ stand.Scheduled → phase_failed past ≡ Some r → Standing m (own (kind.Skip p d skip.Error) ∷ past) st
   own_fails p r i e f = (
     turn m past (own (kind.Skip p d skip.Error)) d refl moods (is_full_if st) h.0 p i stand.Scheduled stand.Failed e refl refl refl
-    (scheduled_goes (moods p) (errs past) (errs past) stand.Failed (allowed_as p stand.Scheduled i e) (ap is_some f)) (λ x. x) (λ x. never x) (λ x. never x)
-    (λ q j. turned_down p q stand.Failed (three m past d) (three m past d) i j),
+        (scheduled_goes (moods p) (errs past) (errs past) stand.Failed (allowed_as p stand.Scheduled i e) (ap is_some f)) (λ x. x) (λ x. never x) (λ x. never x)
+        (λ q j. turned_down p q stand.Failed (three m past d) (three m past d) i j),
     calls (kind.Skip p d skip.Error) refl,
   )
 
   own_finds : (p : Phase) → Down p → stand_in m past p d ≡ stand.Scheduled → Standing m (own (kind.Skip p d skip.Pending) ∷ past) st
   own_finds p i e = (
     turn m past (own (kind.Skip p d skip.Pending)) d refl moods (is_full_if st) h.0 p i stand.Scheduled stand.Failed e refl refl refl
-    (scheduled_goes (moods p) (errs past) true stand.Failed (allowed_as p stand.Scheduled i e) refl) (λ x. refl) (λ x. never x) (λ x. never x)
-    (λ q j. turned_down p q stand.Failed (three m past d) (three m past d) i j),
+        (scheduled_goes (moods p) (errs past) true stand.Failed (allowed_as p stand.Scheduled i e) refl) (λ x. refl) (λ x. never x) (λ x. never x)
+        (λ q j. turned_down p q stand.Failed (three m past d) (three m past d) i j),
     calls (kind.Skip p d skip.Pending) refl,
   )
 
   own_leaves : (p : Phase) → Down p → stand_in m past p d ≡ stand.Scheduled → is_direct m past p d ≡ true → Standing m (own (kind.Skip p d skip.Direct) ∷ past) st
   own_leaves p i e a = (
     turn m past (own (kind.Skip p d skip.Direct)) d refl moods (is_full_if st) h.0 p i stand.Scheduled stand.Direct e refl refl refl
-    (scheduled_goes (moods p) (errs past) (errs past) stand.Direct (allowed_as p stand.Scheduled i e) refl) (λ x. x) (λ x. lone p i a) (λ x. never x)
-    (λ q j. turned_down p q stand.Direct (three m past d) (three m past d) i j),
+        (scheduled_goes (moods p) (errs past) (errs past) stand.Direct (allowed_as p stand.Scheduled i e) refl) (λ x. x) (λ x. lone p i a) (λ x. never x)
+        (λ q j. turned_down p q stand.Direct (three m past d) (three m past d) i j),
     calls (kind.Skip p d skip.Direct) refl,
   )
     where
@@ -259,33 +257,33 @@ module _ (m : Machine) (past : List Entry) (time : ℕ) (now : EventNow) (d : �
   own_begins : (p : Phase) → Down p → stand_in m past p d ≡ stand.Scheduled → Standing m (own (kind.Begin p d) ∷ past) st
   own_begins p i e = (
     turn m past (own (kind.Begin p d)) d refl moods (is_full_if st) h.0 p i stand.Scheduled stand.Suspending e refl refl refl
-    (scheduled_goes (moods p) (errs past) (errs past) stand.Suspending (allowed_as p stand.Scheduled i e) refl) (λ x. x) (λ x. never x) (λ x. never x)
-    (λ q j. turned_down p q stand.Suspending (all_three stand.Resuming) (three m past d) i j),
+        (scheduled_goes (moods p) (errs past) (errs past) stand.Suspending (allowed_as p stand.Scheduled i e) refl) (λ x. x) (λ x. never x) (λ x. never x)
+        (λ q j. turned_down p q stand.Suspending (all_three stand.Resuming) (three m past d) i j),
     calls (kind.Begin p d) refl,
   )
 
   own_ends : (p : Phase) (r : Option Errno) → Down p → stand_in m past p d ≡ stand.Suspending → Standing m (own (kind.End p d r) ∷ past) st
   own_ends p r i e = (
     turn m past (own (kind.End p d r)) d refl moods (is_full_if st) h.0 p i stand.Suspending (ended_by r) e refl refl (ended_prepared r)
-    (suspending_goes (moods p) (errs past) (is_some (error_in p r (phase_failed past))) (ended_by r) (allowed_as p stand.Suspending i e) (fails_error p i r (phase_failed past))) (error_stays p r (phase_failed past))
-    (λ y. absurd (true≢false (sym y ∙ ended_apart r))) (λ y. absurd (true≢false (sym y ∙ ended_given r)))
-    (λ k j. turned_down p k (ended_by r) (all_three stand.Resumed) (three m past d) i j),
+        (suspending_goes (moods p) (errs past) (is_some (error_in p r (phase_failed past))) (ended_by r) (allowed_as p stand.Suspending i e) (fails_error p i r (phase_failed past))) (error_stays p r (phase_failed past))
+        (λ y. absurd (true≢false (sym y ∙ ended_apart r))) (λ y. absurd (true≢false (sym y ∙ ended_given r)))
+        (λ k j. turned_down p k (ended_by r) (all_three stand.Resumed) (three m past d) i j),
     calls (kind.End p d r) refl,
   )
 
   own_rises : (p : Phase) → Up p → stand_in m past (mirror p) d ≡ stand.Rescheduled → Standing m (own (kind.Begin p d) ∷ past) st
   own_rises p u e = (
     turn m past (own (kind.Begin p d)) d refl moods (is_full_if st) h.0 (mirror p) (mirror_down p u) stand.Rescheduled stand.Resuming e refl refl refl
-    (rescheduled_comes (moods (mirror p)) (errs past) (errs past) stand.Resuming (allowed_as (mirror p) stand.Rescheduled (mirror_down p u) e) refl) (λ x. x) (λ x. never x) (λ x. never x)
-    (λ q j. turned_up p q stand.Resuming stand.Suspending (three m past d) u j),
+        (rescheduled_comes (moods (mirror p)) (errs past) (errs past) stand.Resuming (allowed_as (mirror p) stand.Rescheduled (mirror_down p u) e) refl) (λ x. x) (λ x. never x) (λ x. never x)
+        (λ q j. turned_up p q stand.Resuming stand.Suspending (three m past d) u j),
     calls (kind.Begin p d) refl,
   )
 
   own_rose : (p : Phase) (r : Option Errno) → Up p → stand_in m past (mirror p) d ≡ stand.Resuming → Standing m (own (kind.End p d r) ∷ past) st
   own_rose p r u e = (
     turn m past (own (kind.End p d r)) d refl moods (is_full_if st) h.0 (mirror p) (mirror_down p u) stand.Resuming stand.Resumed e refl refl refl
-    (resuming_comes (moods (mirror p)) (errs past) (is_some (error_in p r (phase_failed past))) stand.Resumed (allowed_as (mirror p) stand.Resuming (mirror_down p u) e) refl) (error_stays p r (phase_failed past)) (λ x. never x) (λ x. never x)
-    (λ q j. turned_up p q stand.Resumed (ended_by r) (three m past d) u j),
+        (resuming_comes (moods (mirror p)) (errs past) (is_some (error_in p r (phase_failed past))) stand.Resumed (allowed_as (mirror p) stand.Resuming (mirror_down p u) e) refl) (error_stays p r (phase_failed past)) (λ x. never x) (λ x. never x)
+        (λ q j. turned_up p q stand.Resumed (ended_by r) (three m past d) u j),
     calls (kind.End p d r) refl,
   )
 

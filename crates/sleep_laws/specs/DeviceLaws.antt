@@ -1,5 +1,5 @@
 -- The laws of devices, each at each entry of every legal journal, whatever the machine.
-use Rattle.std.specs.Prelude.{◌≡◌, Bool, true, List, ◌∷◌, None}
+use Rattle.std.specs.Prelude.{◌≡◌, true, List, ◌∷◌, None}
 use Rattle.std.specs.List.{list_all}
 use Rattle.sleep_model.specs.declared.entry.Entry.{Entry}
 use Rattle.sleep_model.specs.declared.entry.Kind.{Kind}
