@@ -20,17 +20,19 @@ use Rattle.phase_table.specs.declared.phase.Phase.{Phase}
 use Rattle.phase_table.specs.declared.phase.Phase.TheVariants as phase
 use Rattle.phase_table.specs.Phases.{mirror, is_down, is_up}
 use Rattle.sleep_model.specs.Devices.{phase_failed, is_async_device, stand_in, waits_below, waits_above}
-use Rattle.sleep_model.specs.Laws.{DependentsFirst, SuppliersFirst, NoneStands, may_come_up, is_asleep}
+use Rattle.sleep_model.specs.Laws.{DependentsFirst, SuppliersFirst, Owed, Restored, EntersDown, NoneStands, may_come_up, is_asleep}
 use Rattle.sleep_model.specs.Legal.{JournalPart}
 use Rattle.sleep_model.specs.Order.{order, below, above, is_among}
 use Rattle.sleep_model.specs.Stands.{stands, stand_at, is_prepared, is_unsettled, is_settled_well, is_down_in, is_left_alone, is_low}
 use Rattle.sleep_model.specs.Table.{stage_of}
-use Rattle.sleep_laws.specs.DeviceLaws.{OwedDevice, StandsRestored, DevicesDown}
 use Rattle.sleep_laws.proofs.Boards.{at, at_is, three, stands_length, first_none, last_found, first_found}
 use Rattle.sleep_laws.proofs.Holding.{Moved, Opens, Makes, Beside, Owns, Aside, moved}
 use Rattle.sleep_laws.proofs.Made.{Down, InSuspend, InLate, InNoirq, Up, InResume, InEarly, InResumeNoirq, Made, DeviceMade}
 use Rattle.sleep_laws.proofs.Moods.{Mood, Empty, Fresh, Going, Settled, Halted, Coming, Risen, mood, mood_if, in_down, in_up, allows, when_empty, when_going, when_settled}
+use Rattle.sleep_laws.proofs.Owing.{DeviceOwed, owed}
 use Rattle.sleep_laws.proofs.Passing.{standing, standing_made}
+use Rattle.sleep_laws.proofs.Reaching.{DevicesAsleep, enters_down}
+use Rattle.sleep_laws.proofs.Restoring.{StandsRestored, restored}
 use Rattle.sleep_laws.proofs.Standing.{errs, Fines, Standing, down_is}
 use Rattle.sleep_laws.proofs.Turning.{never}
 use Rattle.sleep_model.proofs.Hanging.{among_first, among_rest}
@@ -144,7 +146,7 @@ suppliers_first m past e h = suppliers_moved m past e.now e.actor e.kind (moved 
 
 -- ---- what is owed of devices
 
-maker_owed : (m : Machine) (past : List Entry) (now : EventNow) (time : ℕ) (who : Actor) (there : Stage) (k : Kind) → Made m past now there k → OwedDevice m past k
+maker_owed : (m : Machine) (past : List Entry) (now : EventNow) (time : ℕ) (who : Actor) (there : Stage) (k : Kind) → Made m past now there k → DeviceOwed m past k
 maker_owed m past now time who _ _ (Made.BeginsUp p d u c g n w) =
     λ q. ap may_come_up (down_is (stand_in m past (mirror p) d) (and_left (is_down_in (stand_in m past (mirror p) d)) (not (is_async_device m d)) (first_found (λ y. is_down_in (stand_in m past (mirror p) y) && not (is_async_device m y)) (order m) d n).passes))
   where
@@ -155,22 +157,23 @@ maker_owed m past now time who _ _ (Made.BeginsDown p d i t e a) = λ q. never (
 maker_owed m past now time who _ _ (Made.Completes d n) = (last_found (λ y. is_prepared (stand_in m past phase.Suspend y)) (order m) d n).passes
 maker_owed m past now time who _ _ _ = tt
 
-own_owed : (m : Machine) (past : List Entry) (now : EventNow) (d : ℕ) (k : Kind) → DeviceMade m past now d k → OwedDevice m past k
+own_owed : (m : Machine) (past : List Entry) (now : EventNow) (d : ℕ) (k : Kind) → DeviceMade m past now d k → DeviceOwed m past k
 own_owed m past now d _ (DeviceMade.OwnRises p u a w s n) = λ q. ap may_come_up s
 own_owed m past now d _ (DeviceMade.OwnBegins p i g f t a) = λ q. never (sym (not_up p i) ∙ q)
 own_owed m past now d _ _ = tt
 
-aside_owed : (m : Machine) (past : List Entry) (k : Kind) → Aside k → OwedDevice m past k
+aside_owed : (m : Machine) (past : List Entry) (k : Kind) → Aside k → DeviceOwed m past k
 aside_owed m past _ Aside.Frozen = tt
 aside_owed m past _ _ = tt
 
-owed_moved : (m : Machine) (past : List Entry) (now : EventNow) (who : Actor) (k : Kind) → Moved m past now who k → OwedDevice m past k
+owed_moved : (m : Machine) (past : List Entry) (now : EventNow) (who : Actor) (k : Kind) → Moved m past now who k → DeviceOwed m past k
 owed_moved m past now _ _ (Opens who n guarded f e) = tt
 owed_moved m past now _ _ (Makes who here there k a e c x) = maker_owed m past now 0 who there k x
 owed_moved m past now _ _ (Beside who k a x) = aside_owed m past k x
 owed_moved m past now _ _ (Owns d k x) = own_owed m past now d k x
 
-pub owed_device : (m : Machine) (past : List Entry) (e : Entry) → JournalPart m (e ∷ past) → OwedDevice m past e.kind
+-- a device comes up, or is completed, only where that is owed
+pub owed_device : (m : Machine) (past : List Entry) (e : Entry) → JournalPart m (e ∷ past) → DeviceOwed m past e.kind
 owed_device m past e h = owed_moved m past e.now e.actor e.kind (moved m past e h)
 
 -- ---- none is left where an attempt is over
@@ -192,12 +195,7 @@ none_stands : (m : Machine) (past : List Entry) → Fines m past (λ q. Empty) f
 none_stands m past h p i = all_unprepared (length m.devices) (stands (length m.devices) p past) (stands_length (length m.devices) p past) (λ d. sym (at_is m past p d i) ∙ empty_is (at (three m past d) p) ((h d).allowed p i))
 
 maker_restored : (m : Machine) (past : List Entry) (now : EventNow) (there : Stage) (k : Kind) → Made m past now there k → Standing m past (Some there) → StandsRestored m past k
-maker_restored m past now _ _ Made.Ends h = record {
-  suspend = none_stands m past h.0 phase.Suspend InSuspend;
-  late = none_stands m past h.0 phase.Late InLate;
-  noirq = none_stands m past h.0 phase.Noirq InNoirq;
-  callbacks = h.1;
-}
+maker_restored m past now _ _ Made.Ends h = (none_stands m past h.0 phase.Suspend InSuspend, none_stands m past h.0 phase.Late InLate, none_stands m past h.0 phase.Noirq InNoirq)
 maker_restored m past now _ _ _ h = tt
 
 own_restored : (m : Machine) (past : List Entry) (now : EventNow) (d : ℕ) (k : Kind) → DeviceMade m past now d k → StandsRestored m past k
@@ -214,6 +212,7 @@ restored_moved m past now _ _ h (Makes who here there k a e c x) = maker_restore
 restored_moved m past now _ _ h (Beside who k a x) = aside_restored m past k x
 restored_moved m past now _ _ h (Owns d k x) = own_restored m past now d k x
 
+-- no device stands in a phase where an attempt is over
 pub stands_restored : (m : Machine) (past : List Entry) (e : Entry) → JournalPart m (e ∷ past) → StandsRestored m past e.kind
 stands_restored m past e h = restored_moved m past e.now e.actor e.kind h.1 (moved m past e h)
 
@@ -230,27 +229,42 @@ all_asleep m past h = all_pass (is_asleep m past) (order m) (λ x o.
     settled_down (stand_in m past phase.Noirq x) (stand_in m past phase.Suspend x) ((h x).allowed phase.Noirq InNoirq)
     ((h x).alike phase.Noirq InNoirq ∙ (h x).prepared o) ((h x).alone phase.Noirq InNoirq))
 
-maker_enters : (m : Machine) (past : List Entry) (now : EventNow) (there : Stage) (k : Kind) → Made m past now there k → Standing m past (Some there) → DevicesDown m past k
+maker_enters : (m : Machine) (past : List Entry) (now : EventNow) (there : Stage) (k : Kind) → Made m past now there k → Standing m past (Some there) → DevicesAsleep m past k
 maker_enters m past now _ _ (Made.Enters s w) h = all_asleep m past h.0
 maker_enters m past now _ _ (Made.EntersNot s w) h = tt
 maker_enters m past now _ _ _ h = tt
 
-own_enters : (m : Machine) (past : List Entry) (now : EventNow) (d : ℕ) (k : Kind) → DeviceMade m past now d k → DevicesDown m past k
+own_enters : (m : Machine) (past : List Entry) (now : EventNow) (d : ℕ) (k : Kind) → DeviceMade m past now d k → DevicesAsleep m past k
 own_enters m past now d _ (DeviceMade.OwnRises p u a w s n) = tt
 own_enters m past now d _ _ = tt
 
-aside_enters : (m : Machine) (past : List Entry) (k : Kind) → Aside k → DevicesDown m past k
+aside_enters : (m : Machine) (past : List Entry) (k : Kind) → Aside k → DevicesAsleep m past k
 aside_enters m past _ Aside.Frozen = tt
 aside_enters m past _ _ = tt
 
-enters_moved : (m : Machine) (past : List Entry) (now : EventNow) (who : Actor) (k : Kind) → JournalPart m past → Moved m past now who k → DevicesDown m past k
+enters_moved : (m : Machine) (past : List Entry) (now : EventNow) (who : Actor) (k : Kind) → JournalPart m past → Moved m past now who k → DevicesAsleep m past k
 enters_moved m past now _ _ h (Opens who n guarded f e) = tt
 enters_moved m past now _ _ h (Makes who here there k a e c x) = maker_enters m past now there k x (standing_made m past h here there e c)
 enters_moved m past now _ _ h (Beside who k a x) = aside_enters m past k x
 enters_moved m past now _ _ h (Owns d k x) = own_enters m past now d k x
 
-pub devices_down : (m : Machine) (past : List Entry) (e : Entry) → JournalPart m (e ∷ past) → DevicesDown m past e.kind
+-- each device of the order is down, or was left alone, where the machine enters
+pub devices_down : (m : Machine) (past : List Entry) (e : Entry) → JournalPart m (e ∷ past) → DevicesAsleep m past e.kind
 devices_down m past e h = enters_moved m past e.now e.actor e.kind h.1 (moved m past e h)
+
+-- ---- the whole laws
+
+-- an undo stands only for what is owed
+pub all_owed : (m : Machine) (past : List Entry) (e : Entry) → JournalPart m (e ∷ past) → Owed m past e.kind
+all_owed m past e h = owed m past e h (owed_device m past e h)
+
+-- where an attempt is over nothing is owed
+pub all_restored : (m : Machine) (past : List Entry) (e : Entry) → JournalPart m (e ∷ past) → Restored m past e.kind
+all_restored m past e h = restored m past e h (stands_restored m past e h)
+
+-- the machine enters only where all is down
+pub all_down : (m : Machine) (past : List Entry) (e : Entry) → JournalPart m (e ∷ past) → EntersDown m past e.kind
+all_down m past e h = enters_down m past e h (devices_down m past e h)
 
 -- ---- the stage of a device that is given out
 

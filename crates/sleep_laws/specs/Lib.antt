@@ -1,2 +1,1 @@
-pub mod DeviceLaws
 pub mod Laws

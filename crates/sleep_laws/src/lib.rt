@@ -6,7 +6,7 @@ mod guarded;
 mod laws;
 
 pub use devices::{
-    dependents_first, devices_are_down, devices_are_owed, devices_are_restored, suppliers_first,
+    dependents_first, enters_where_all_is_down, restored, suppliers_first, undone_where_owed,
 };
 pub use guarded::guarded_sleep;
 pub use laws::{
