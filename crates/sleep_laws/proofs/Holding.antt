@@ -207,6 +207,33 @@ pub held : (m : Machine) (past : List Entry) → JournalPart m past → Held (ma
 held m [] h = (tt, tt, tt)
 held m (e ∷ past) h = entry_held m past e.now e.actor e.kind (entry_made m past e h) (held m past h.1)
 
+no_stage : (o : Option Actor) (s : Option Stage) → StageMaker o s → o ≡ None → s ≡ None
+no_stage None None h e = refl
+no_stage (Some (actor.Script i)) None h e = absurd h
+no_stage (Some actor.Auto) None h e = absurd h
+no_stage (Some (actor.Dev i)) None h e = absurd h
+no_stage (Some (actor.Timer i)) None h e = absurd h
+no_stage (Some actor.Time) None h e = absurd h
+no_stage None (Some s) h e = absurd h
+no_stage (Some x) (Some s) h e = absurd (some≢none x e)
+
+no_maker : (o : Option Actor) (s : Option Stage) → StageMaker o s → s ≡ None → o ≡ None
+no_maker None s h e = refl
+no_maker (Some x) (Some s) h e = absurd (some≢none s e)
+no_maker (Some (actor.Script i)) None h e = absurd h
+no_maker (Some actor.Auto) None h e = absurd h
+no_maker (Some (actor.Dev i)) None h e = absurd h
+no_maker (Some (actor.Timer i)) None h e = absurd h
+no_maker (Some actor.Time) None h e = absurd h
+
+-- an attempt has a stage only where it has a maker
+pub stage_none : (m : Machine) (past : List Entry) → JournalPart m past → maker past ≡ None → stage_of past ≡ None
+stage_none m past h e = no_stage (maker past) (stage_of past) (held m past h).2 e
+
+-- and a maker only where it has a stage
+pub maker_none : (m : Machine) (past : List Entry) → JournalPart m past → stage_of past ≡ None → maker past ≡ None
+maker_none m past h e = no_maker (maker past) (stage_of past) (held m past h).2 e
+
 -- ---- what an entry is to the open attempt
 
 -- an entry of a task or of the work outside attempts, which touches none
@@ -246,16 +273,6 @@ pub data Moved (m : Machine) (past : List Entry) (now : EventNow) : Actor → Ki
   Makes : (who : Actor) (here there : Stage) (k : Kind) → is_device who ≡ false → stage_of past ≡ Some here → Comes m past here there → Made m past now there k → Moved m past now who k
   Beside : (who : Actor) (k : Kind) → is_device who ≡ false → Aside k → Moved m past now who k
   Owns : (d : ℕ) (k : Kind) → DeviceMade m past now d k → Moved m past now (actor.Dev d) k
-
-no_stage : (o : Option Actor) (s : Option Stage) → StageMaker o s → o ≡ None → s ≡ None
-no_stage None None h e = refl
-no_stage (Some (actor.Script i)) None h e = absurd h
-no_stage (Some actor.Auto) None h e = absurd h
-no_stage (Some (actor.Dev i)) None h e = absurd h
-no_stage (Some (actor.Timer i)) None h e = absurd h
-no_stage (Some actor.Time) None h e = absurd h
-no_stage None (Some s) h e = absurd h
-no_stage (Some x) (Some s) h e = absurd (some≢none x e)
 
 no_device : (who : Actor) (o : Option Actor) (s : Option Stage) → is_actor who o ≡ true → StageMaker o s → is_device who ≡ false
 no_device (actor.Script i) o s a h = refl

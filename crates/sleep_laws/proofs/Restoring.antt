@@ -150,8 +150,8 @@ undone_comes m past _ _ (PastCpusUp e) h = (h.0, none_off m past h.5 e, h.2, h.3
 undone_comes m past _ _ (PastPosts e) h = (none_told m past e, h.1, h.2, h.3, h.4, h.5)
 
 -- a processor that is stopped or started is not the first
-other_cpu : (m : Machine) (past : List Entry) (p : ℕ → Bool) (k : ℕ) → is_among (other_cpus m) k ≡ true → (b : Bool) → is_so (cpus_off m.cpus past) 0 ≡ false → is_so (slice_set (cpus_off m.cpus past) k b) 0 ≡ false
-other_cpu m past p k e b z = set_other (cpus_off m.cpus past) k b (run_least 1 _ k e) ∙ z
+other_cpu : (m : Machine) (past : List Entry) (k : ℕ) → is_among (other_cpus m) k ≡ true → (b : Bool) → is_so (cpus_off m.cpus past) 0 ≡ false → is_so (slice_set (cpus_off m.cpus past) k b) 0 ≡ false
+other_cpu m past k e b z = set_other (cpus_off m.cpus past) k b (run_least 1 _ k e) ∙ z
 
 undone_makes : (m : Machine) (past : List Entry) (time : ℕ) (now : EventNow) (who : Actor) (there : Stage) (k : Kind) → is_device who ≡ false → Made m past now there k → IsUndone m (Some there) past → IsUndone m (stage_after k (Some there)) (entry_of time now who k ∷ past)
 undone_makes m past time now who _ _ a (Made.SuspendFails r x) h = (h.0, h.1, h.2, h.3, x.free, h.5)
@@ -168,8 +168,8 @@ undone_makes m past time now who _ _ a (Made.Checks e) h = (h.0, h.1, tt, h.3, h
 undone_makes m past time now who _ _ a Made.TellsRecover h = (h.0, h.1, h.2, h.3, tt, h.5)
 undone_makes m past time now who _ _ a Made.TellsWake h = (h.0, h.1, h.2, h.3, tt, h.5)
 undone_makes m past time now who _ _ a Made.TellsFinish h = (h.0, h.1, h.2, h.3, tt, h.5)
-undone_makes m past time now who _ _ a (Made.StopsCpu k e p) h = (h.0, h.1, h.2, h.3, h.4, other_cpu m past (is_so []) k (first_among _ (other_cpus m) k e) true h.5)
-undone_makes m past time now who _ _ a (Made.StartsCpu k e) h = (h.0, h.1, h.2, h.3, h.4, other_cpu m past (is_so []) k (first_among _ (other_cpus m) k e) false h.5)
+undone_makes m past time now who _ _ a (Made.StopsCpu k e p) h = (h.0, h.1, h.2, h.3, h.4, other_cpu m past k (first_among _ (other_cpus m) k e) true h.5)
+undone_makes m past time now who _ _ a (Made.StartsCpu k e) h = (h.0, h.1, h.2, h.3, h.4, other_cpu m past k (first_among _ (other_cpus m) k e) false h.5)
 undone_makes m past time now who _ _ a Made.ThawsAll h = (h.0, h.1, h.2, all_gone_free m.actors (freezings m.actors past) (freezings_length m.actors past), h.4, h.5)
 undone_makes m past time now who _ _ a Made.Ends h = h
 undone_makes m past time now who _ _ a _ h = h
