@@ -6,6 +6,7 @@ pub mod Flags
 pub mod Guarding
 pub mod Held
 pub mod Holding
+pub mod Lawful
 pub mod Levels
 pub mod Made
 pub mod Making

@@ -2,9 +2,51 @@
 //! journal's part of legality alone is asked for, so they hold of the journal of each legal log,
 //! whatever the wakeup sources did meanwhile.
 
-ghost use Rattle.sleep_laws.specs.Laws.{HoldsAtEntries};
+ghost use Rattle.sleep_laws.specs.Laws.{HoldsAtEntries, HoldsOfAll, HoldsOfJournals};
 ghost use Rattle.sleep_model.specs.Guard.{count_part};
-ghost use Rattle.sleep_model.specs.Laws.{UndisturbedEnters, AnswersFailure, FoundPending, InOrder};
+ghost use Rattle.sleep_model.specs.Laws.{DependentsFirst, SuppliersFirst, Restored, Owed, EntersDown, UndisturbedEnters, AnswersFailure, FoundPending, InOrder, Laws};
+ghost use Rattle.sleep_model.specs.Parts.{journal};
+
+/// A device begins to go down in a phase only where all below it, its children and its consumers, are
+/// down in that phase or were left alone (`drivers/base/power/main.c`, `dpm_wait_for_subordinate`).
+#[tactic(auto, using(crate::proofs::DevicesStand::dependents_first))]
+pub fn dependents_first()
+    ensures { HoldsAtEntries (λ m past e. DependentsFirst m past e.kind) }
+{}
+
+/// A device begins to come up in a phase only where none above it, its parent and its suppliers, is
+/// still down in that phase or inside a callback (`drivers/base/power/main.c`,
+/// `dpm_wait_for_superior`).
+#[tactic(auto, using(crate::proofs::DevicesStand::suppliers_first))]
+pub fn suppliers_first()
+    ensures { HoldsAtEntries (λ m past e. SuppliersFirst m past e.kind) }
+{}
+
+/// Where an attempt is over, entered or failed at whatever step, nothing is owed: no notifier, task,
+/// device, processor, interrupt, part of the core nor step of the platform is left as the attempt put
+/// it (`kernel/power/suspend.c`, `suspend_devices_and_enter`, `suspend_finish`).
+#[tactic(auto, using(crate::proofs::DevicesStand::all_restored))]
+pub fn restored()
+    ensures { HoldsAtEntries (λ m past e. Restored m past e.kind) }
+{}
+
+/// An undo stands only for what is owed, so that each is made once: a device comes up only if it is
+/// down, and is completed only if it is prepared; a notifier is posted to only if it was told; a
+/// processor, a part of the core, interrupts and a step of the platform are undone only if they were
+/// done (`drivers/base/power/main.c`, `device_resume`, `device_complete`; `kernel/power/suspend.c`,
+/// `suspend_finish`).
+#[tactic(auto, using(crate::proofs::DevicesStand::all_owed))]
+pub fn undo_only_what_is_owed()
+    ensures { HoldsAtEntries (λ m past e. Owed m past e.kind) }
+{}
+
+/// The machine enters sleep only where all is down that sleep wants down: each device down through
+/// noirq or left alone, no task left of those that were asked to freeze, the other processors and
+/// interrupts off, each part of the core suspended (`kernel/power/suspend.c`, `suspend_enter`).
+#[tactic(auto, using(crate::proofs::DevicesStand::all_down))]
+pub fn enters_only_with_all_down()
+    ensures { HoldsAtEntries (λ m past e. EntersDown m past e.kind) }
+{}
 
 /// An attempt in which no test found a wakeup pending and no step failed has entered sleep, and
 /// answers 0 (`kernel/power/suspend.c`, `suspend_enter`).
@@ -34,4 +76,16 @@ pub fn found_tests_are_true()
 #[tactic(auto, using(crate::proofs::Stepping::in_order))]
 pub fn steps_once_and_in_order()
     ensures { HoldsAtEntries (λ m past e. InOrder m past e.actor e.kind) }
+{}
+
+/// All laws of the journal hold at each entry of every legal journal, of whatever machine.
+#[tactic(auto, using(crate::proofs::Lawful::laws))]
+pub fn all_laws()
+    ensures { HoldsOfJournals Laws }
+{}
+
+/// All laws of the journal hold of the journal of every legal log, of whatever machine.
+#[tactic(auto, using(crate::proofs::Lawful::laws_of_legal))]
+pub fn all_laws_of_logs()
+    ensures { HoldsOfAll (λ m past. Laws m (journal past)) }
 {}
