@@ -102,15 +102,6 @@ idle_maker : (o h : Option Actor) → HolderOf o h → h ≡ Some actor.Auto →
 idle_maker None h e f a = refl
 idle_maker (Some x) h e f a = absurd (true≢false (ap (is_actor actor.Auto) (sym f ∙ e) ∙ a))
 
-held_by_auto : (w : Work) → WorkHolds w (Some actor.Auto)
-held_by_auto (Attempting c) = refl
-held_by_auto Resting = tt
-held_by_auto Reading = tt
-held_by_auto (Saving c) = tt
-held_by_auto (Looking c) = tt
-held_by_auto (Napping u) = tt
-held_by_auto Closing = tt
-
 work_held : (m : Machine) (past : List Entry) (now : EventNow) (w : Work) (k : Kind) → WorkMade m past now w k → is_actor actor.Auto (maker past) ≡ false → Held (maker past) (holder past) w (stage_of past) → Held (maker_after k actor.Auto (maker past)) (holder_after k actor.Auto (holder past)) (work_step k w) (stage_after k (stage_of past))
 work_held m past now _ _ (WorkMade.Attempts c o) a h = (refl, refl, tt)
 work_held m past now _ _ (WorkMade.Saves c f v q) a h = (subst (λ (o : Option Actor). HolderOf o (Some actor.Auto)) (sym (free_maker (maker past) (holder past) h.0 f)) tt, refl, h.2)

@@ -12,10 +12,9 @@ use Rattle.sleep_model.specs.declared.place.Stage.TheVariants as stage
 use Rattle.sleep_model.specs.declared.word.EventNow.{EventNow}
 use Rattle.phase_table.specs.declared.phase.Phase.TheVariants as phase
 use Rattle.sleep_model.specs.Devices.{is_device}
-use Rattle.sleep_model.specs.Legal.{JournalPart}
 use Rattle.sleep_model.specs.Notifiers.{irqs_off, asked_platform}
-use Rattle.sleep_model.specs.Table.{stage_of, stage_after}
-use Rattle.sleep_laws.proofs.Holding.{Aside, Kept, at_stage, entry_of}
+use Rattle.sleep_model.specs.Table.{stage_after}
+use Rattle.sleep_laws.proofs.Holding.{Aside, Kept, entry_of}
 use Rattle.sleep_laws.proofs.Made.{Made, Comes, DeviceMade, EntryMade, PastNotifiers}
 
 -- interrupts are off at that stage (arch_suspend_disable_irqs)
@@ -103,7 +102,3 @@ exact_owns m past time now d _ s _ h = h
 
 pub exact_kept : (m : Machine) → Kept m Exact
 exact_kept m = record { starts = (refl, refl, refl, refl); opens = λ past time now who n guarded h. h; comes = exact_comes m; makes = exact_makes m; beside = exact_beside m; owns = exact_owns m }
-
--- interrupts and the platform are as the stage tells, at each place
-pub exact : (m : Machine) (past : List Entry) → JournalPart m past → Exact (stage_of past) past
-exact m past h = at_stage m Exact (exact_kept m) past h

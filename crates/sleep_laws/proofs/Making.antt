@@ -393,11 +393,6 @@ abbrev pub OnlyMade : (Kind → Type 0) → Due → Type 0
 OnlyMade P (Makes k) = P k
 OnlyMade P _ = Unit {0}
 
-only_made : (P : Kind → Type 0) (none : Type 0) (x : Due) → OnDue P none x → OnlyMade P x
-only_made P none (Makes k) h = h
-only_made P none (Waits w) h = tt
-only_made P none Gone h = tt
-
 pub maker_made : (m : Machine) (past : List Entry) (now : EventNow) (who : Actor) → is_actor who (maker past) ≡ true → (o : Option Stage) → stage_of past ≡ o → ProperIf o → OnlyMade (EntryMade m past now who) (due_at m past now o)
 maker_made m past now who a None e h = tt
 maker_made m past now who a (Some here) e h = by_due (stage_or_next m past now here) (at_made m past now here h)
