@@ -19,6 +19,13 @@ impl Model for Flags {
 impl Flags {
     ghost use Rattle.std.specs.Prelude.{◌≡◌, false, IfOk, length, replicate, slice_index_or, slice_set};
 
+    /// These flags, in this order.
+    pub fn of_vec(flags: Vec<bool>) -> Self
+        ensures { result ≡ flags.items }
+    {
+        Flags { flags }
+    }
+
     /// So many flags, none of which is set. `Mem` if there is no memory for them.
     pub fn new(alloc: Global, count: usize) -> Result<Self, Mem>
         ensures { IfOk result (λ f. f ≡ replicate count false) }

@@ -1,1 +1,3 @@
+pub mod Histories
+pub mod HistoryFields
 pub mod Looks

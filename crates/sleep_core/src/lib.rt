@@ -2,7 +2,9 @@
 #![tactic(auto)]
 
 mod auto;
+mod clock;
 mod events;
+mod history;
 mod steps;
 
 pub use events::{Events, PlainEvents};

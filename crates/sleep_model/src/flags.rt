@@ -36,3 +36,16 @@ impl Flags for DeviceFlags {
         DeviceFlags(bits)
     }
 }
+
+impl DeviceFlags {
+    ghost use Rattle.std.specs.Prelude.{◌≡◌, ◌<◌};
+    ghost use Rattle.sleep_model.specs.Runtime.{has_bit};
+
+    /// Whether these flags have that one flag.
+    pub fn has(self, flag: DeviceFlags) -> bool
+        requires { 0 < flag.0 }
+        ensures { result ≡ has_bit flag.0 self }
+    {
+        self.0 / flag.0 % 2 == 1
+    }
+}

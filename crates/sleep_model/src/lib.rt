@@ -1,6 +1,7 @@
 //! Plain data of a machine and of its sleep log, and the definitions that every contract cites.
 #![tactic(auto)]
 
+mod answer;
 mod entry;
 mod flags;
 mod list;
@@ -12,6 +13,7 @@ mod place;
 mod tests;
 mod word;
 
+pub use answer::error_of_number;
 pub use entry::{
     Actor, Entry, EntryList, FrozeEnd, Group, JournalEntry, Kind, SkipCause, SourceEntry,
     SourceList, State, Thaw,

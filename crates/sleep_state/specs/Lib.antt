@@ -1,4 +1,5 @@
 pub mod Autosleeps
+pub mod DeviceStates
 pub mod Fronts
 pub mod Paths
 pub mod Places

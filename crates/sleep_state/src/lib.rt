@@ -2,12 +2,14 @@
 #![tactic(auto)]
 
 mod autosleep;
+mod devices;
 mod journal;
 mod path;
 mod tasks;
 mod texts;
 
 pub use autosleep::{Autosleep, is_actor, is_same};
+pub use devices::Devices;
 pub use journal::Journal;
 pub use path::Path;
 pub use tasks::Tasks;

@@ -1,0 +1,115 @@
+-- The history as contracts see it: what the definitions read from the journal, and when an entry may be appended.
+use Rattle.std.specs.Prelude.{◌<◌, ◌-◌, ◌^◌, ℕ, List, [], ◌∷◌, length, map, reverse}
+use Rattle.phase_table.specs.declared.phase.Phase.TheVariants as phase
+use Rattle.sleep_model.specs.declared.entry.Entry.{Entry}
+use Rattle.sleep_model.specs.declared.entry.JournalEntry.{JournalEntry}
+use Rattle.sleep_model.specs.declared.machine.Machine.{Machine}
+use Rattle.sleep_model.specs.declared.word.Stamp.{Stamp}
+use Rattle.sleep_model.specs.Attempt.{failed, freeze_since, sleep_of}
+use Rattle.sleep_model.specs.Autosleep.{work, is_queued, runs, runs_after}
+use Rattle.sleep_model.specs.Devices.{callback, phase_failed, own_error, willing}
+use Rattle.sleep_model.specs.Freezer.{freezings}
+use Rattle.sleep_model.specs.Guard.{in_force, forgotten}
+use Rattle.sleep_model.specs.Lock.{holder, is_on}
+use Rattle.sleep_model.specs.Marks.{raised}
+use Rattle.sleep_model.specs.Notifiers.{call_order, told, cpus_off, stopped}
+use Rattle.sleep_model.specs.Order.{parents_of}
+use Rattle.sleep_model.specs.Path.{attempts, attempts_after, maker}
+use Rattle.sleep_model.specs.Runtime.{is_async, statuses, leaves_alone, takes_late}
+use Rattle.sleep_model.specs.Seats.{seats}
+use Rattle.sleep_model.specs.Stands.{stands}
+use Rattle.sleep_model.specs.Table.{stage_of}
+use Rattle.async_board.specs.Boards.{BoardState}
+use Rattle.platform_steps.specs.Steps.{Steps}
+use Rattle.sleep_state.specs.Autosleeps.{AutosleepState}
+use Rattle.sleep_state.specs.DeviceStates.{DeviceState}
+use Rattle.sleep_state.specs.Paths.{PathState}
+use Rattle.sleep_state.specs.Places.{entries}
+use Rattle.sleep_state.specs.TaskStates.{TaskState, SeatIsSmall, MarksAreSmall}
+use Rattle.syscore_ops.specs.Parts.{Parts}
+use Rattle.wakeup_guard.specs.Guarded.{Guarded}
+
+-- ---- what is read from the entries, the newest first
+
+-- the saved count, and the hard events that are forgotten
+abbrev pub guard_of : List Entry → Guarded
+guard_of past = record { force = in_force past; forgotten = forgotten past }
+
+-- where the open attempt stands
+abbrev pub path_of : List Entry → PathState
+path_of past = record {
+  attempts = attempts past;
+  maker = maker past;
+  stage = stage_of past;
+  failed = failed past;
+  freeze_since = freeze_since past;
+  sleep = sleep_of past;
+}
+
+-- what the phases of devices keep
+abbrev pub devices_of : Machine → List Entry → DeviceState
+devices_of m past = record {
+  callback = callback past;
+  failed = phase_failed past;
+  own_error = own_error past;
+  willing = willing (length m.devices) past;
+  statuses = statuses m.devices past;
+  leaves_alone = leaves_alone past;
+  takes_late = takes_late past;
+}
+
+-- where each device stands
+abbrev pub board_of : Machine → List Entry → BoardState
+board_of m past = record {
+  parents = parents_of m.devices;
+  links = reverse m.links;
+  beside = map is_async m.devices;
+  suspend = stands (length m.devices) phase.Suspend past;
+  late = stands (length m.devices) phase.Late past;
+  noirq = stands (length m.devices) phase.Noirq past;
+}
+
+-- where each script stands
+abbrev pub tasks_of : Machine → List Entry → TaskState
+tasks_of m past = record {
+  seats = seats (length m.actors) past;
+  freezings = freezings m.actors past;
+  marks = raised (length m.marks) past;
+}
+
+-- the autosleep lock, its setting, and the work
+abbrev pub autosleep_of : List Entry → AutosleepState
+autosleep_of past = record { holder = holder past; on = is_on past; work = work past; queued = is_queued past; runs = runs past }
+
+-- the notifiers and the other processors
+abbrev pub steps_of : Machine → List Entry → Steps
+steps_of m past = record { order = call_order m; told = told m past; cpus = m.cpus; off = cpus_off m.cpus past }
+
+-- the core's parts
+abbrev pub parts_of : Machine → List Entry → Parts
+parts_of m past = record { n = length m.syscore; flags = stopped (length m.syscore) past }
+
+-- ---- the history
+
+-- the machine, the entries so far, the newest first, and how many more have a place
+pub record Kept : Type 0 where
+  pub machine : Machine
+  pub past : List JournalEntry
+  pub room : ℕ
+
+-- what the last entry's maker and the journal last knew; nothing at first
+abbrev pub last_stamp : List JournalEntry → Stamp
+last_stamp [] = record { pos = 0; tick = 0 }
+last_stamp (j ∷ past) = j.stamp
+
+-- an entry may be appended: it has a place, and no number runs over
+pub record Admits (kept : Kept) (e : Entry) : Type 0 where
+  pub room : 0 < kept.room
+  pub attempts : attempts_after e.kind (attempts (entries kept.past)) < 2 ^ 32
+  pub runs : runs_after e.kind (runs (entries kept.past)) < 2 ^ 32
+  pub seat : SeatIsSmall e.actor (seats (length kept.machine.actors) (entries kept.past))
+  pub marks : MarksAreSmall e.kind (raised (length kept.machine.marks) (entries kept.past))
+
+-- the history after an entry
+abbrev pub after_entry : Kept → JournalEntry → Kept
+after_entry kept j = record kept { past = j ∷ kept.past; room = kept.room - 1 }

@@ -1,0 +1,176 @@
+use crate::clock::time_after;
+use async_board::Board;
+use device_links::Links;
+use platform_steps::Platform;
+use sleep_base::Mem;
+use sleep_model::{DeviceFlags, Entry, JournalEntry, Machine, Stamp, pos};
+use sleep_state::{Autosleep, Devices, Journal, Path, Tasks};
+use std::alloc::{AllocError, Global};
+use std::marker::Model;
+use syscore_ops::Syscore;
+use wakeup_guard::Guard;
+
+/// The journal of a machine, and what the definitions read from it, kept up to date entry by entry.
+#[derive(Drop)]
+pub struct History<'m> {
+    machine: &'m Machine,
+    journal: Journal,
+    last: Stamp,
+    time: u64,
+    guard: Guard<16>,
+    path: Path,
+    devices: Devices,
+    board: Board,
+    tasks: Tasks,
+    autosleep: Autosleep,
+    platform: Platform,
+    syscore: Syscore,
+}
+
+impl<'m> Model for History<'m> {
+    ghost use Rattle.sleep_core.specs.Histories.{Kept};
+
+    ghost Value = { Kept };
+
+    ghost use Rattle.sleep_core.specs.HistoryFields.{kept, IsHistory};
+
+    ghost view = { kept };
+
+    ghost invariant = { IsHistory };
+}
+
+impl<'m> History<'m> {
+    ghost use Rattle.std.specs.Prelude.{◌≡◌, ◌≤◌, ◌<◌, ◌+◌, ◌-◌, ◌^◌, [], ◌∷◌, length, reverse, IsOk, OnOk, OnErr, IfOk};
+    ghost use Rattle.sleep_model.specs.Numbers.{time_of};
+    ghost use Rattle.sleep_state.specs.Places.{entries};
+    ghost use Rattle.sleep_core.specs.Histories.{Kept, Admits, after_entry, last_stamp, guard_of, path_of, devices_of, board_of, tasks_of, autosleep_of, steps_of, parts_of};
+
+    /// Appends an entry in a reserved place.
+    pub fn append(&mut self, stamped: JournalEntry)
+        requires { Admits self.old stamped.entry }
+        ensures { self.new ≡ after_entry self.old stamped }
+    {
+        let Entry {
+            time,
+            now,
+            actor,
+            kind,
+        } = stamped.entry;
+        self.last = stamped.stamp;
+        self.time = time_after(kind, time, self.time);
+        self.guard.note(kind, now);
+        self.path.note(kind, actor, pos(now), time);
+        self.devices.note(kind, actor);
+        self.board.note(kind);
+        self.tasks.note(self.machine.actors.as_slice(), actor, kind);
+        self.autosleep.note(kind, actor);
+        self.platform.note(kind);
+        self.syscore.note(kind);
+        self.journal.put(stamped);
+    }
+
+    /// Sees that at least so many places are reserved. After an error nothing has changed.
+    pub fn reserve(&mut self, places: usize) -> Result<(), AllocError>
+        ensures machine { self.new.machine ≡ self.old.machine }
+        ensures past { self.new.past ≡ self.old.past }
+        ensures room { self.old.room ≤ self.new.room }
+        ensures ok { OnOk result (places ≤ self.new.room) }
+        ensures enough { places ≤ self.old.room → IsOk result }
+        ensures err { OnErr result (self.new ≡ self.old) }
+    {
+        self.journal.reserve(places)
+    }
+
+    /// The machine.
+    pub fn machine(&self) -> &'m Machine
+        ensures { result.now ≡ self.now.machine }
+    {
+        self.machine
+    }
+
+    /// The stamp of the last entry, 0 and 0 before the first.
+    pub fn last(&self) -> Stamp
+        ensures { result ≡ last_stamp self.now.past }
+    {
+        self.last
+    }
+
+    /// The time of the last jump, in ms.
+    pub fn time(&self) -> u64
+        ensures { result ≡ time_of (entries self.now.past) }
+    {
+        self.time
+    }
+
+    /// The saved count, and the hard events that are forgotten.
+    pub fn guard(&self) -> &Guard<16>
+        ensures { result.now ≡ guard_of (entries self.now.past) }
+    {
+        &self.guard
+    }
+
+    /// Where the open attempt stands.
+    pub fn path(&self) -> &Path
+        ensures { result.now ≡ path_of (entries self.now.past) }
+    {
+        &self.path
+    }
+
+    /// What the phases of devices keep.
+    pub fn devices(&self) -> &Devices
+        ensures { result.now ≡ devices_of self.now.machine (entries self.now.past) }
+    {
+        &self.devices
+    }
+
+    /// Where each device stands.
+    pub fn board(&self) -> &Board
+        ensures { result.now ≡ board_of self.now.machine (entries self.now.past) }
+    {
+        &self.board
+    }
+
+    /// Where each script stands.
+    pub fn tasks(&self) -> &Tasks
+        ensures { result.now ≡ tasks_of self.now.machine (entries self.now.past) }
+    {
+        &self.tasks
+    }
+
+    /// The autosleep lock, its setting, and the work.
+    pub fn autosleep(&self) -> &Autosleep
+        ensures { result.now ≡ autosleep_of (entries self.now.past) }
+    {
+        &self.autosleep
+    }
+
+    /// The notifiers and the other processors.
+    pub fn platform(&self) -> &Platform
+        ensures { result.now ≡ steps_of self.now.machine (entries self.now.past) }
+    {
+        &self.platform
+    }
+
+    /// The core's parts.
+    pub fn syscore(&self) -> &Syscore
+        ensures { result.now ≡ parts_of self.now.machine (entries self.now.past) }
+    {
+        &self.syscore
+    }
+
+    /// How many places are reserved.
+    pub fn room(&self) -> usize
+        ensures room { result ≡ self.now.room }
+        ensures small { result < 2 ^ 63 }
+    {
+        self.journal.room()
+    }
+
+    /// The entries, the oldest first.
+    pub fn into_entries(self) -> Vec<JournalEntry>
+        ensures { reverse result.items ≡ self.entry.past }
+    {
+        let History { journal, .. } = self;
+        journal.into_entries()
+    }
+}
