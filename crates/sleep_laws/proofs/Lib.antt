@@ -13,6 +13,7 @@ pub mod MakingOwn
 pub mod Moods
 pub mod Owing
 pub mod Passing
+pub mod Ranks
 pub mod Reaching
 pub mod Resting
 pub mod Restoring
@@ -20,3 +21,4 @@ pub mod Standing
 pub mod Stepping
 pub mod Telling
 pub mod Turning
+pub mod Underway
