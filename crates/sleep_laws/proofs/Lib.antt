@@ -14,6 +14,7 @@ pub mod MakingOwn
 pub mod Moods
 pub mod Owing
 pub mod Passing
+pub mod Ranks
 pub mod Reaching
 pub mod Resting
 pub mod Restoring
@@ -21,3 +22,4 @@ pub mod Standing
 pub mod Stepping
 pub mod Telling
 pub mod Turning
+pub mod Underway

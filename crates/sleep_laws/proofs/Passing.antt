@@ -233,7 +233,7 @@ module _ (m : Machine) (past : List Entry) (time : ℕ) (now : EventNow) (who : 
           ((h.0 x).alike q i ∙ none_so (order m) (is_async_device m x) (λ r. Risen) false (errs past) x (three m past x) (h.0 x) is_prepared refl phase.Suspend InSuspend (λ o. last_none (λ d. is_prepared (stand_in m past phase.Suspend d)) (order m) n x o))
 
   -- what the maker makes leaves the devices where they may stand at the stage after
-  maker_stands : (there : Stage) (k : Kind) → Made m past now there k → Standing m past (Some there) → Standing m (by k ∷ past) (stage_after k (Some there))
+  pub maker_stands : (there : Stage) (k : Kind) → Made m past now there k → Standing m past (Some there) → Standing m (by k ∷ past) (stage_after k (Some there))
   maker_stands _ _ Made.AsksBegin h = asks_begin h
   maker_stands _ _ Made.AsksPrepare h = asks_prepare h
   maker_stands _ _ (Made.PrepareFails r) h = prepare_fails r h
@@ -301,7 +301,7 @@ stands_beside : (m : Machine) (past : List Entry) (time : ℕ) (now : EventNow) 
 stands_beside m past time now who _ s Aside.Frozen h = h
 stands_beside m past time now who _ s _ h = h
 
-stands_kept : (m : Machine) → Kept m (λ (s : Option Stage) (past : List Entry). Standing m past s)
+pub stands_kept : (m : Machine) → Kept m (λ (s : Option Stage) (past : List Entry). Standing m past s)
 stands_kept m = record {
   starts = stands_starts m;
   opens = λ past time now who n guarded h. (else_fines m past (λ q. Empty) (λ q. Empty) false false false h.0 (λ x q i a. a) (λ x. tt), h.1);

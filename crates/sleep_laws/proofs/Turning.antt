@@ -38,12 +38,12 @@ and_both false b e = never e
 pub free_call : (m : Machine) (o : Option Callback) (s : Stand) (p : Phase) (stands : ℕ → Three) → o ≡ None → InsideIf m o s p stands
 free_call m o s p stands e = subst (λ (x : Option Callback). InsideIf m x s p stands) (sym e) tt
 
-turned_at : (p : Phase) (s : Stand) (up t : Three) → Down p → at (turned p s up t) p ≡ s
+pub turned_at : (p : Phase) (s : Stand) (up t : Three) → Down p → at (turned p s up t) p ≡ s
 turned_at _ s up t InSuspend = refl
 turned_at _ s up t InLate = refl
 turned_at _ s up t InNoirq = refl
 
-turned_mirror : (p : Phase) (other s : Stand) (t : Three) → Up p → at (turned p other (all_three s) t) (mirror p) ≡ s
+pub turned_mirror : (p : Phase) (other s : Stand) (t : Three) → Up p → at (turned p other (all_three s) t) (mirror p) ≡ s
 turned_mirror _ other s t InResume = refl
 turned_mirror _ other s t InEarly = refl
 turned_mirror _ other s t InResumeNoirq = refl
@@ -55,7 +55,7 @@ module _ (m : Machine) (past : List Entry) (time : ℕ) (now : EventNow) (who : 
   abbrev by : Kind → Entry
   by k = record { time = time; now = now; actor = who; kind = k }
 
-  ready_stands : (p : Phase) (d : ℕ) → next_down m past p ≡ Some d → stand_in m past p d ≡ stand.Prepared
+  pub ready_stands : (p : Phase) (d : ℕ) → next_down m past p ≡ Some d → stand_in m past p d ≡ stand.Prepared
   ready_stands p d n = ready_is (stand_in m past p d) (last_found (λ x. is_ready (stand_in m past p x)) (order m) d n).passes
 
   pub schedules_down : (p : Phase) (d : ℕ) → Down p → callback past ≡ None → next_down m past p ≡ Some d → is_async_device m d ≡ true → Standing m past (Some (stage.Downs p)) → Standing m (by (kind.Schedule p d) ∷ past) (Some (stage.Downs p))
@@ -88,7 +88,7 @@ module _ (m : Machine) (past : List Entry) (time : ℕ) (now : EventNow) (who : 
   )
 
   -- a device that stands prepared in one phase is prepared
-  prepared_all : (moods : Phase → Mood) (full : Bool) → Fines m past moods full → (p : Phase) (d : ℕ) (s : Stand) → Down p → stand_in m past p d ≡ s → is_prepared s ≡ true → is_prepared (stand_in m past phase.Suspend d) ≡ true
+  pub prepared_all : (moods : Phase → Mood) (full : Bool) → Fines m past moods full → (p : Phase) (d : ℕ) (s : Stand) → Down p → stand_in m past p d ≡ s → is_prepared s ≡ true → is_prepared (stand_in m past phase.Suspend d) ≡ true
   prepared_all moods full h p d s i e r = sym ((h d).alike p i) ∙ (ap is_prepared (at_is m past p d i ∙ e) ∙ r)
 
   -- the maker runs a callback
@@ -111,7 +111,7 @@ module _ (m : Machine) (past : List Entry) (time : ℕ) (now : EventNow) (who : 
     }),
   )
 
-  called : (o : Option Callback) (c : Callback) (s : Stand) (p : Phase) (stands : ℕ → Three) → o ≡ Some c → InsideIf m o s p stands → Inside m c s p stands
+  pub called : (o : Option Callback) (c : Callback) (s : Stand) (p : Phase) (stands : ℕ → Three) → o ≡ Some c → InsideIf m o s p stands → Inside m c s p stands
   called o c s p stands e h = subst (λ (x : Option Callback). InsideIf m x s p stands) e h
 
   pub ends_down : (p q : Phase) (d : ℕ) (r : Option Errno) → Down p → callback past ≡ Some (record { phase = q; device = d }) → Standing m past (Some (stage.Downs p)) → Standing m (by (kind.End p d r) ∷ past) (Some (stage.Downs p))
@@ -126,12 +126,12 @@ module _ (m : Machine) (past : List Entry) (time : ℕ) (now : EventNow) (who : 
 
   -- ---- the maker's walk up
 
-  given_stands : (p : Phase) (d : ℕ) → next_given m past p ≡ Some d → (stand_in m past p d ≡ stand.Suspended) × (is_async_device m d ≡ true)
+  pub given_stands : (p : Phase) (d : ℕ) → next_given m past p ≡ Some d → (stand_in m past p d ≡ stand.Suspended) × (is_async_device m d ≡ true)
   given_stands p d n =
       let x = and_both (is_down_in (stand_in m past p d)) (is_async_device m d) (first_found (λ y. is_down_in (stand_in m past p y) && is_async_device m y) (order m) d n).passes in
       (down_is (stand_in m past p d) x.0, x.1)
 
-  up_stands : (p : Phase) (d : ℕ) → next_up m past p ≡ Some d → (stand_in m past p d ≡ stand.Suspended) × (is_async_device m d ≡ false)
+  pub up_stands : (p : Phase) (d : ℕ) → next_up m past p ≡ Some d → (stand_in m past p d ≡ stand.Suspended) × (is_async_device m d ≡ false)
   up_stands p d n =
       let x = and_both (is_down_in (stand_in m past p d)) (not (is_async_device m d)) (first_found (λ y. is_down_in (stand_in m past p y) && not (is_async_device m y)) (order m) d n).passes in
       (down_is (stand_in m past p d) x.0, not_true (is_async_device m d) x.1)
