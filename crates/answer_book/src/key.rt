@@ -1,0 +1,70 @@
+//! By what an answer is looked up.
+
+ghost use Rattle.std.specs.Prelude.{◌≡◌};
+ghost use Rattle.phase_table.specs.Phases.{phase_place};
+ghost use Rattle.answer_book.specs.Keys.{step_place, thing_of};
+
+use sleep_model::{Phase, PlatDo, What};
+
+/// A thing that answers, with a phase or a step of the platform by its place in an attempt.
+#[derive(Clone, Copy, PartialEq, Eq, Hash)]
+pub(crate) enum Thing {
+    Device { device: u32, phase: u8 },
+    Syscore(u32),
+    Notifier(u32),
+    Platform { step: u8 },
+}
+
+/// A thing and the attempt that it answers in, or none for each.
+#[derive(Clone, Copy, PartialEq, Eq, Hash)]
+pub(crate) struct Key {
+    pub(crate) thing: Thing,
+    pub(crate) attempt: Option<u32>,
+}
+
+/// The key of a thing in an attempt.
+pub(crate) fn key_of(what: What, attempt: Option<u32>) -> Key
+    ensures { result ≡ record { thing = thing_of what; attempt = attempt } }
+{
+    let thing = match what {
+        What::Device(device, phase) => Thing::Device {
+            device,
+            phase: place_of(phase),
+        },
+        What::Syscore(part) => Thing::Syscore(part),
+        What::Notifier(notifier) => Thing::Notifier(notifier),
+        What::Platform(step) => Thing::Platform {
+            step: place_of_step(step),
+        },
+    };
+    Key { thing, attempt }
+}
+
+/// The place of a phase in an undisturbed attempt.
+fn place_of(phase: Phase) -> u8
+    ensures { result ≡ phase_place phase }
+{
+    match phase {
+        Phase::Prepare => 0,
+        Phase::Suspend => 1,
+        Phase::Late => 2,
+        Phase::Noirq => 3,
+        Phase::Syscore => 4,
+        Phase::SyscoreResume => 5,
+        Phase::ResumeNoirq => 6,
+        Phase::Early => 7,
+        Phase::Resume => 8,
+        Phase::Complete => 9,
+    }
+}
+
+/// The place of a step of the platform in an undisturbed attempt.
+fn place_of_step(step: PlatDo) -> u8
+    ensures { result ≡ step_place step }
+{
+    match step {
+        PlatDo::Begin => 0,
+        PlatDo::Prepare => 1,
+        PlatDo::PrepareLate => 2,
+    }
+}

@@ -1,0 +1,24 @@
+//! Where the first answer of each thing and attempt stands.
+
+ghost use Rattle.std.specs.Prelude.{◌≡◌, ◌<◌, ◌^◌, length, IfOk};
+ghost use Rattle.indexmap.specs.IndexMap.{get};
+ghost use Rattle.answer_book.specs.Keys.{IsIndexed};
+
+use crate::key::{Key, key_of};
+use indexmap::IndexMap;
+use sleep_base::Mem;
+use sleep_model::Answer;
+use std::alloc::Global;
+
+/// The place of the first answer of each thing and attempt, from the last answer on.
+pub(crate) fn places_of(alloc: Global, answers: &[Answer]) -> Result<IndexMap<Key, u32>, Mem>
+    requires { length answers.now < 2 ^ 32 }
+    ensures { IfOk result (λ places. IsIndexed answers.now (get ⟦<Key as PartialEq>⟧.eq places)) }
+{
+    let mut places = IndexMap::new(alloc);
+    for i in (0..answers.len()).rev() {
+        let answer = &answers[i];
+        places.insert(key_of(answer.what, answer.attempt), i as u32)?;
+    }
+    Ok(places)
+}
