@@ -2,9 +2,11 @@
 #![tactic(auto)]
 
 mod fault;
+mod requests;
 #[cfg(test)]
 mod tests;
 mod tree;
 
 pub use fault::TreeFault;
+pub use requests::request;
 pub use tree::Tree;

@@ -1,6 +1,7 @@
 use super::*;
 use bitflags::Flags;
-use sleep_model::{Device, DeviceFlags, Name};
+use sleep_base::Errno;
+use sleep_model::{Device, DeviceFlags, Name, Runtime};
 use std::alloc::Global;
 use std::process::Abort;
 use std::test::Fail;
@@ -86,4 +87,41 @@ fn a_thousand_devices_stand(rt: HostRuntime) -> Result<(), Fail> {
     assert_eq!(rt; tree.len(), 1000);
     assert_eq!(rt; tree.children(998), [999u32].as_slice());
     Ok(())
+}
+
+/// A request is refused where runtime PM is disabled, and where a prepared device is to be
+/// suspended; else it sets the status.
+#[test]
+fn requests_are_answered(rt: HostRuntime) {
+    for (prepared, off_direct, off_late, to_suspended, answer) in [
+        (false, false, false, true, Ok(())),
+        (false, false, false, false, Ok(())),
+        (true, false, false, true, Err(Errno::EAGAIN)),
+        (true, false, false, false, Ok(())),
+        (true, true, false, true, Err(Errno::EACCES)),
+        (true, true, false, false, Err(Errno::EACCES)),
+        (true, false, true, true, Err(Errno::EACCES)),
+        (true, false, true, false, Err(Errno::EACCES)),
+    ] {
+        let before = Runtime {
+            suspended: !to_suspended,
+            prepared,
+            off_direct,
+            off_late,
+        };
+        let mut r = before;
+        assert_eq!(rt; request(&mut r, to_suspended), answer);
+        let suspended = if answer.is_ok() {
+            to_suspended
+        } else {
+            before.suspended
+        };
+        assert_eq!(rt;
+            r,
+            Runtime {
+                suspended,
+                ..before
+            }
+        );
+    }
 }
