@@ -1,13 +1,12 @@
 -- What holds of a tree.
 use Rattle.std.specs.Prelude.{◌≡◌, ◌≤◌, ◌<◌, ℕ, List, [], map, length, slice_index_or, Option}
 use Rattle.sleep_model.specs.declared.machine.Device.{Device}
-use Rattle.sleep_model.specs.Accepted.{ParentsEarlier}
-use Rattle.sleep_model.specs.Order.{children_from, parents_of}
+use Rattle.sleep_model.specs.Order.{children_from, parents_of, EachAfterParent}
 
 -- at most 1,000 devices, each after its parent
 pub record IsTree (devices : List Device) : Type 0 where
   pub few : length devices ≤ 1000
-  pub parents : ParentsEarlier 0 devices
+  pub parents : EachAfterParent 0 (parents_of devices)
 
 -- each row has the children of its device
 pub record HasChildren (parents : List (Option ℕ)) (rows : List (List ℕ)) : Type 0 where
