@@ -1,11 +1,7 @@
 pub mod Look
-pub mod Gives
 pub mod Rules
 pub mod Spelled
-pub mod Links
-pub mod Faults
 pub mod Tree
-pub mod Spells
 pub mod Members
 pub mod Places
 pub mod Form
@@ -18,3 +14,5 @@ pub mod Whole
 pub mod Spelling
 pub mod Generated
 pub mod Words
+pub mod Broken
+pub mod Tests
