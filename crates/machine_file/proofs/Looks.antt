@@ -47,3 +47,12 @@ position_view p (v ∷ vs) = grind (arith, common_steps, position_view p vs)
 pub list_all_items : (p : Data → Bool) (vs : List Value) → list_all p (items_of (items_view vs)) ≡ list_all (λ v. p (view v)) vs
 list_all_items p [] = refl
 list_all_items p (v ∷ vs) = ap (λ b. p (view v) && b) (list_all_items p vs)
+
+-- as many data as values
+pub length_view : (vs : List Value) → length (map view vs) ≡ length vs
+length_view [] = refl
+length_view (v ∷ vs) = ap suc (length_view vs)
+
+pub all_view : (p : Data → Bool) (vs : List Value) → list_all p (map view vs) ≡ list_all (λ v. p (view v)) vs
+all_view p [] = refl
+all_view p (v ∷ vs) = ap (λ b. p (view v) && b) (all_view p vs)

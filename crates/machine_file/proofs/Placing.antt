@@ -1,5 +1,5 @@
 -- Where keys stand in a list, and the first that stands a second time.
-use Rattle.std.proofs.Common.{◌≡◌, ◌<◌, ◌≤◌, ◌+◌, ◌∙◌, ◌||◌, ℕ, zero, suc, Bool, true, false, not, cond, nat_lt, if◌then◌else◌, List, [], ◌∷◌, ◌++◌, length, map, take, drop, reverse, get_or, position, Option, Some, None, refl, sym, ap, subst, arith, drop-cons}
+use Rattle.std.proofs.Common.{◌≡◌, ◌<◌, ◌≤◌, ◌+◌, ◌-◌, ◌∙◌, ◌||◌, ℕ, zero, suc, Bool, true, false, not, cond, nat_lt, if◌then◌else◌, List, [], ◌∷◌, ◌++◌, length, map, take, drop, reverse, get_or, position, Option, Some, None, is_some, refl, sym, ap, subst, arith, drop-cons}
 use Rattle.std.specs.Cmp.{IsEquivalence}
 use Rattle.std.specs.List.{list_any, position_or_len}
 use Rattle.std.specs.Option.{option_map}
@@ -129,7 +129,7 @@ module _ {K : Type 0} (eq : K → K → Bool) (laws : IsEquivalence eq) where
 pub repeated_none : {K : Type 0} (eq : K → K → Bool) (keys : List K) (i : ℕ) → length keys ≤ i → repeated_from eq keys i ≡ None
 repeated_none eq keys i h = rw (drop_of_length-le keys h) refl
 
-any_map : {X Y : Type 0} (p : Y → Bool) (f : X → Y) (xs : List X) → list_any (λ x. p (f x)) xs ≡ list_any p (map f xs)
+pub any_map : {X Y : Type 0} (p : Y → Bool) (f : X → Y) (xs : List X) → list_any (λ x. p (f x)) xs ≡ list_any p (map f xs)
 any_map p f [] = refl
 any_map p f (x ∷ xs) = ap (λ b. p (f x) || b) (any_map p f xs)
 
@@ -140,3 +140,64 @@ repeated_map same f before n [] = refl
 repeated_map same f before n (x ∷ xs) =
     ap (λ t. if not t then first_not_after (λ b k. not (list_any (λ x. same (f k) (f x)) b)) (x ∷ before) (suc n) xs else Some n) (any_map (same (f x)) f before)
     ∙ ap (λ o. if not (list_any (same (f x)) (map f before)) then o else Some n) (repeated_map same f (x ∷ before) (suc n) xs)
+
+-- a search beside those before: of what is seen of each
+pub later_map : {X Y : Type 0} (test : List Y → Y → Bool) (f : X → Y) (before : List X) (n : ℕ) (xs : List X) →
+    first_not_after test (map f before) n (map f xs) ≡ first_not_after (λ b x. test (map f b) (f x)) before n xs
+later_map test f before n [] = refl
+later_map test f before n (x ∷ xs) = ap (λ o. if test (map f before) (f x) then o else Some n) (later_map test f (x ∷ before) (suc n) xs)
+
+-- a search beside those before, item by item
+module _ {X : Type 0} (test : List X → X → Bool) where
+  abbrev pub later_from : List X → ℕ → Option ℕ
+  later_from xs i = first_not_after test (reverse (take i xs)) i (drop i xs)
+
+  module _ (xs : List X) (i : ℕ) (x : X) (within : i < length xs) (is : x ≡ get_or xs i x) where
+    taken_more : x ∷ reverse (take i xs) ≡ reverse (take (suc i) xs)
+    taken_more = sym (ap reverse (take-suc xs i x within ∙ ap (λ y. take i xs ++ y ∷ []) (sym is)) ∙ reverse-append (take i xs) (x ∷ []))
+
+    one_later : later_from xs i ≡ (if test (reverse (take i xs)) x then later_from xs (suc i) else Some i)
+    one_later =
+        ap (first_not_after test (reverse (take i xs)) i) (drop-cons xs i x within ∙ ap (λ y. y ∷ drop (suc i) xs) (sym is))
+        ∙ ap (λ before. if test (reverse (take i xs)) x then first_not_after test before (suc i) (drop (suc i) xs) else Some i) taken_more
+
+    pub later_here : test (reverse (take i xs)) x ≡ false → Some i ≡ later_from xs i
+    later_here h = rw one_later (rw h refl)
+
+    pub later_next : test (reverse (take i xs)) x ≡ true → later_from xs i ≡ later_from xs (i + 1)
+    later_next h = let s : suc i ≡ i + 1 = omega arith in rw one_later (rw h (ap (later_from xs) s))
+
+  pub later_none : (xs : List X) (i : ℕ) → length xs ≤ i → later_from xs i ≡ None
+  later_none xs i h = rw (drop_of_length-le xs h) refl
+
+any_along : {X Y : Type 0} (p : Y → Bool) (f : X → Y) (i : ℕ) (xs : List X) → list_any (λ x. p (f x)) (take i xs) ≡ list_any p (take i (map f xs))
+any_along p f zero xs = refl
+any_along p f (suc i) [] = refl
+any_along p f (suc i) (x ∷ xs) = ap (λ b. p (f x) || b) (any_along p f i xs)
+
+-- among the first ones, the newest first
+pub any_taken : {X Y : Type 0} (p : Y → Bool) (f : X → Y) (i : ℕ) (xs : List X) → list_any p (map f (reverse (take i xs))) ≡ list_any p (take i (map f xs))
+any_taken p f i xs = sym (any_map p f (reverse (take i xs))) ∙ any_reverse (λ x. p (f x)) (take i xs) ∙ any_along p f i xs
+
+some_case : (b r : Bool) (o : Option ℕ) → is_some o ≡ r → is_some (cond b (Some 0) (option_map suc o)) ≡ (b || r)
+some_case true r o e = refl
+some_case false r None e = e
+some_case false r (Some j) e = e
+
+-- one of them passes where there is a first place
+pub some_position : {X : Type 0} (p : X → Bool) (xs : List X) → is_some (position p xs) ≡ list_any p xs
+some_position p [] = refl
+some_position p (x ∷ xs) = ap is_some (position_cons p x xs) ∙ some_case (p x) (list_any p xs) (position p xs) (some_position p xs)
+
+-- the same behind a reserved name
+pub reserved_first : {X : Type 0} (eq : X → X → Bool) (a : X) (before : List X) (n : ℕ) (xs : List X) →
+    first_not_after (λ b x. not (list_any (eq x) (a ∷ b))) before n xs ≡ option_map (λ k. k - 1) (first_not_after (λ b x. not (list_any (eq x) b)) (before ++ a ∷ []) (suc n) xs)
+reserved_first eq a before n [] = refl
+reserved_first eq a before n (x ∷ xs) =
+    ap (λ o. if not (list_any (eq x) (a ∷ before)) then o else Some n) (reserved_first eq a (x ∷ before) (suc n) xs)
+    ∙ by (not (list_any (eq x) (a ∷ before))) (first_not_after (λ b y. not (list_any (eq y) b)) (x ∷ before ++ a ∷ []) (suc (suc n)) xs)
+    ∙ ap (λ t. option_map (λ k. k - 1) (if not t then first_not_after (λ b y. not (list_any (eq y) b)) (x ∷ before ++ a ∷ []) (suc (suc n)) xs else Some (suc n))) (sym (any_append (eq x) before a))
+  where
+    by : (t : Bool) (o : Option ℕ) → (if t then option_map (λ k. k - 1) o else Some n) ≡ option_map (λ k. k - 1) (if t then o else Some (suc n))
+    by true o = refl
+    by false o = let z : n ≡ suc n - 1 = omega arith in ap Some z

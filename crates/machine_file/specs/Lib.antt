@@ -16,3 +16,6 @@ pub mod Generated
 pub mod Words
 pub mod Broken
 pub mod Tests
+pub mod Knows
+pub mod OperationRows
+pub mod AnswerTests

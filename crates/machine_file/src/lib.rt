@@ -1,11 +1,14 @@
 //! Reads a machine file: one JSON object that spells a machine.
 #![tactic(auto)]
 
+mod answers;
 mod fault;
 mod form;
 mod items;
+mod known;
 mod look;
 mod names;
+mod operations;
 mod place;
 mod places;
 mod tree;

@@ -1,4 +1,4 @@
-use Rattle.std.proofs.Common.{◌∙◌, [], List, Bor, bytes_eq}
+use Rattle.std.proofs.Common.{◌∙◌, [], bytes_eq}
 use Rattle.machine_file.proofs.Placing.{repeated_map}
 use Rattle.machine_file.proofs.names.first_repeated.Goals as goal
 
