@@ -1,3 +1,4 @@
 pub mod Looks
 pub mod Trees
 pub mod Placing
+pub mod Pairing

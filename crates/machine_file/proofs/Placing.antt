@@ -1,5 +1,5 @@
 -- Where keys stand in a list, and the first that stands a second time.
-use Rattle.std.proofs.Common.{◌≡◌, ◌<◌, ◌≤◌, ◌+◌, ◌-◌, ◌∙◌, ◌||◌, ℕ, zero, suc, Bool, true, false, not, cond, nat_lt, if◌then◌else◌, List, [], ◌∷◌, ◌++◌, length, map, take, drop, reverse, get_or, position, Option, Some, None, is_some, refl, sym, ap, subst, arith, drop-cons}
+use Rattle.std.proofs.Common.{◌≡◌, ◌<◌, ◌≤◌, ◌+◌, ◌-◌, ◌∙◌, ◌||◌, ◌&&◌, ℕ, zero, suc, Bool, true, false, not, cond, nat_lt, if◌then◌else◌, List, [], ◌∷◌, ◌++◌, length, map, take, drop, reverse, get_or, position, Option, Some, None, is_some, refl, sym, ap, subst, arith, drop-cons}
 use Rattle.std.specs.Cmp.{IsEquivalence}
 use Rattle.std.specs.List.{list_any, position_or_len}
 use Rattle.std.specs.Option.{option_map}
@@ -77,7 +77,7 @@ any_append p (y ∷ ys) x = ap (λ b. p y || b) (any_append p ys x) ∙ swap (p 
     swap false true c = refl
     swap false false c = refl
 
-any_reverse : {X : Type 0} (p : X → Bool) (xs : List X) → list_any p (reverse xs) ≡ list_any p xs
+pub any_reverse : {X : Type 0} (p : X → Bool) (xs : List X) → list_any p (reverse xs) ≡ list_any p xs
 any_reverse p [] = refl
 any_reverse p (x ∷ xs) = ap (list_any p) (reverse-append (x ∷ []) xs) ∙ any_append p (reverse xs) x ∙ ap (λ b. p x || b) (any_reverse p xs)
 
@@ -170,7 +170,7 @@ module _ {X : Type 0} (test : List X → X → Bool) where
   pub later_none : (xs : List X) (i : ℕ) → length xs ≤ i → later_from xs i ≡ None
   later_none xs i h = rw (drop_of_length-le xs h) refl
 
-any_along : {X Y : Type 0} (p : Y → Bool) (f : X → Y) (i : ℕ) (xs : List X) → list_any (λ x. p (f x)) (take i xs) ≡ list_any p (take i (map f xs))
+pub any_along : {X Y : Type 0} (p : Y → Bool) (f : X → Y) (i : ℕ) (xs : List X) → list_any (λ x. p (f x)) (take i xs) ≡ list_any p (take i (map f xs))
 any_along p f zero xs = refl
 any_along p f (suc i) [] = refl
 any_along p f (suc i) (x ∷ xs) = ap (λ b. p (f x) || b) (any_along p f i xs)
@@ -201,3 +201,16 @@ reserved_first eq a before n (x ∷ xs) =
     by : (t : Bool) (o : Option ℕ) → (if t then option_map (λ k. k - 1) o else Some n) ≡ option_map (λ k. k - 1) (if t then o else Some (suc n))
     by true o = refl
     by false o = let z : n ≡ suc n - 1 = omega arith in ap Some z
+
+-- the same, where each has also to pass a test of its own
+pub seen_map : {X Y : Type 0} (own : Y → Bool) (same : Y → Y → Bool) (f : X → Y) (before : List X) (n : ℕ) (xs : List X) →
+    first_not_after (λ b x. own (f x) && not (list_any (λ z. same (f x) (f z)) b)) before n xs ≡ first_not_after (λ b y. own y && not (list_any (same y) b)) (map f before) n (map f xs)
+seen_map own same f before n [] = refl
+seen_map own same f before n (x ∷ xs) =
+    ap (λ t. if own (f x) && not t then first_not_after (λ b k. own (f k) && not (list_any (λ z. same (f k) (f z)) b)) (x ∷ before) (suc n) xs else Some n) (any_map (same (f x)) f before)
+    ∙ ap (λ o. if own (f x) && not (list_any (same (f x)) (map f before)) then o else Some n) (seen_map own same f (x ∷ before) (suc n) xs)
+
+-- the first ones, seen through two functions
+pub any_taken_twice : {X Y Z : Type 0} (p : Z → Bool) (g : Y → Z) (f : X → Y) (i : ℕ) (xs : List X) → list_any p (map g (map f (reverse (take i xs)))) ≡ list_any p (take i (map g (map f xs)))
+any_taken_twice p g f i xs =
+    sym (any_map p g (map f (reverse (take i xs)))) ∙ any_taken (λ y. p (g y)) f i xs ∙ any_along p g i (map f xs)

@@ -19,3 +19,5 @@ pub mod Tests
 pub mod Knows
 pub mod OperationRows
 pub mod AnswerTests
+pub mod Seen
+pub mod Counted

@@ -43,7 +43,8 @@ pub(crate) fn known_in<'v>(alloc: Global, tree: &'v Value) -> Result<Known<'v>, 
     })
 }
 
-fn item(list: Member, number: Option<usize>) -> Option<Place>
+/// The place of an item of that number, where there is one.
+pub(crate) fn item(list: Member, number: Option<usize>) -> Option<Place>
     ensures { place_of result ≡ option_map (item_place (member_name list)) number }
 {
     match number {

@@ -37,6 +37,13 @@ impl<K: Hash + Eq + Copy> Places<K> {
         Ok(Places { keys, places })
     }
 
+    /// The keys, in order.
+    pub(crate) fn keys(&self) -> &[K]
+        ensures { result.now ≡ self.now }
+    {
+        self.keys.as_slice()
+    }
+
     /// The first place of a key. None exactly where it is none of them.
     pub(crate) fn place(&self, key: &K) -> Option<usize>
         ensures { result ≡ position (K.eq key.now) self.now }
