@@ -2,3 +2,4 @@ pub mod Looks
 pub mod Trees
 pub mod Placing
 pub mod Pairing
+pub mod Answered

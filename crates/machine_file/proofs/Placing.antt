@@ -214,3 +214,9 @@ seen_map own same f before n (x ∷ xs) =
 pub any_taken_twice : {X Y Z : Type 0} (p : Z → Bool) (g : Y → Z) (f : X → Y) (i : ℕ) (xs : List X) → list_any p (map g (map f (reverse (take i xs)))) ≡ list_any p (take i (map g (map f xs)))
 any_taken_twice p g f i xs =
     sym (any_map p g (map f (reverse (take i xs)))) ∙ any_taken (λ y. p (g y)) f i xs ∙ any_along p g i (map f xs)
+
+-- the first place, of what is seen of each
+pub position_map : {X Y : Type 0} (p : Y → Bool) (f : X → Y) (xs : List X) → position (λ x. p (f x)) xs ≡ position p (map f xs)
+position_map p f [] = refl
+position_map p f (x ∷ xs) =
+    position_cons (λ x. p (f x)) x xs ∙ ap (λ o. cond (p (f x)) (Some 0) (option_map suc o)) (position_map p f xs) ∙ sym (position_cons p (f x) (map f xs))

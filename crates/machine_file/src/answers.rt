@@ -1,24 +1,28 @@
 //! The answers of callbacks: what they are of, what they are, and what they report.
 
-ghost use Rattle.std.specs.Prelude.{◌≡◌, ◌&&◌, not, position, codes, if◌then◌else◌};
-ghost use Rattle.std.specs.List.{list_all};
+ghost use Rattle.std.specs.Prelude.{◌≡◌, ◌&&◌, [], not, map, position, codes, IfOk, if◌then◌else◌};
+ghost use Rattle.std.specs.List.{list_all, list_any};
 ghost use Rattle.serde_json.specs.View.{view};
 ghost use Rattle.machine_file.specs.Look.{is_number, is_text};
 ghost use Rattle.machine_file.specs.Members.{may_have, list_in, word_at};
-ghost use Rattle.machine_file.specs.Places.{first_not, first_item, item_place};
+ghost use Rattle.machine_file.specs.Places.{first_not, first_not_after, first_item};
 ghost use Rattle.machine_file.specs.Names.{is_among_names};
 ghost use Rattle.machine_file.specs.Operations.{names_source};
-ghost use Rattle.machine_file.specs.Answering.{is_of_device, has_its_phase, is_of_prepare, is_ret_allowed, may_report, names_of_kind, names_thing, thingless_answer, forbidden_ret, forbidden_reports, sourceless_report, platform_steps};
+ghost use Rattle.machine_file.specs.Answering.{is_of_device, has_its_phase, is_of_prepare, is_ret_allowed, may_report, names_of_kind, names_thing, thingless_answer, forbidden_ret, forbidden_reports, sourceless_report, repeated_answer};
 ghost use Rattle.machine_file.specs.Knows.{texts};
 ghost use Rattle.machine_file.specs.Rules.{name_of};
 ghost use Rattle.machine_file.specs.AnswerTests.{answer_test, kind_names};
+ghost use Rattle.machine_file.specs.Seen.{answer_seen, answer_written, same_answer};
 ghost use Rattle.machine_file.specs.Broken.{place_of};
 
-use crate::known::{Known, contains};
-use crate::look::{has_text, is_among, is_number, is_one_of, is_text, list_in, text_at};
+use crate::known::{Known, contains, item};
+use crate::look::{has_text, is_among, is_number, is_one_of, is_text, list_in, number_at, text_at};
 use crate::operations::names_one_of;
 use crate::place::{Member, Place, items};
+use crate::places::Places;
 use serde_json::Value;
+use sleep_base::Mem;
+use std::alloc::Global;
 
 // The steps of the platform that answer.
 const STEPS: [&str; 3] = ["begin", "prepare", "prepare_late"];
@@ -169,4 +173,50 @@ pub(crate) fn first_answer<'v>(
         Some(number) => Some(Place::Item(Member::Answers, number)),
         None => None,
     }
+}
+
+/// What an answer is of, and for which attempt.
+#[derive(Clone, Copy, PartialEq, Eq, Hash)]
+pub(crate) struct Given<'v> {
+    what: &'v str,
+    name: &'v str,
+    phase: &'v str,
+    attempt: Option<u64>,
+}
+
+fn given_of<'v>(answer: &'v Value) -> Given<'v>
+    ensures { answer_seen result ≡ answer_written (view answer.now) }
+{
+    Given {
+        what: text_at(answer, "what"),
+        name: text_at(answer, "name"),
+        phase: text_at(answer, "phase"),
+        attempt: number_at(answer, "attempt"),
+    }
+}
+
+fn all_given<'v>(alloc: Global, answers: &'v [Value]) -> Result<Vec<Given<'v>>, Mem>
+    ensures { IfOk result (λ v. map answer_seen v.items ≡ map answer_written (map view answers.now)) }
+{
+    let mut all = Vec::with_capacity(alloc, answers.len())?;
+    for answer in answers {
+        all.push(given_of(answer))?;
+    }
+    Ok(all)
+}
+
+fn first_again(answers: &Places<Given>) -> Option<usize>
+    ensures { result ≡ first_not_after (λ before a.
+        not (list_any (λ b. same_answer (answer_seen a) (answer_seen b)) before)) [] 0 answers.now }
+{
+    answers.first_repeated()
+}
+
+/// The first answer that stands a second time.
+pub(crate) fn repeated_answer(alloc: Global, tree: &Value) -> Result<Option<Place>, Mem>
+    ensures { IfOk result (λ p. place_of p ≡ repeated_answer (view tree.now)) }
+{
+    let answers = all_given(alloc, items(tree, Member::Answers))?;
+    let answers = Places::new(alloc, answers)?;
+    Ok(item(Member::Answers, first_again(&answers)))
 }

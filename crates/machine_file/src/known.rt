@@ -1,6 +1,6 @@
 //! The names of the things of a file, and the rules that tell them apart.
 
-ghost use Rattle.std.specs.Prelude.{◌≡◌, ◌-◌, ◌∷◌, [], not, map, take, bytes_eq, codes, IfOk, position, option_map};
+ghost use Rattle.std.specs.Prelude.{◌≡◌, ◌-◌, ◌∷◌, [], not, map, take, bytes_eq, codes, length, ◌<◌, IfOk, IfSome, position, option_map};
 ghost use Rattle.std.specs.List.{list_any};
 ghost use Rattle.serde_json.specs.View.{view};
 ghost use Rattle.machine_file.specs.Look.{is_none_or, text_at};
@@ -124,9 +124,17 @@ pub(crate) fn repeated_actor(alloc: Global, tree: &Value) -> Result<Option<Place
     Ok(item(Member::Actors, first_repeated(&names)))
 }
 
+/// The place of a name among these.
+pub(crate) fn place_of_name(names: &Places<&str>, name: &str) -> Option<usize>
+    ensures place { result ≡ position (bytes_eq name.now) (texts names.now) }
+    ensures within { IfSome result (λ i. i < length names.now) }
+{
+    names.place(&name)
+}
+
 /// Whether a name is one of these.
 pub(crate) fn contains(names: &Places<&str>, name: &str) -> bool
-    ensures { result ≡ is_among_names (map (λ s. s.now) names.now) name.now }
+    ensures { result ≡ is_among_names (texts names.now) name.now }
 {
-    names.place(&name).is_some()
+    place_of_name(names, name).is_some()
 }

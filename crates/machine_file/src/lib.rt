@@ -2,6 +2,7 @@
 #![tactic(auto)]
 
 mod answers;
+mod cycles;
 mod fault;
 mod form;
 mod items;

@@ -144,10 +144,16 @@ fn any_has_autosleep(actors: &[Value]) -> bool
     actors.iter().any(|actor| has_autosleep(actor))
 }
 
+fn is_automatic(tree: &Value) -> bool
+    ensures { result ≡ list_any has_autosleep (list_in (codes "actors") (view tree.now)) }
+{
+    any_has_autosleep(items(tree, Member::Actors))
+}
+
 fn autosleep_attempts(tree: &Value) -> u64
     ensures { result ≡ autosleep_attempts (view tree.now) }
 {
-    if any_has_autosleep(items(tree, Member::Actors)) {
+    if is_automatic(tree) {
         number_at(tree, "auto_cycles").unwrap_or(16)
     } else {
         0

@@ -25,7 +25,7 @@ impl<K: Hash + Eq + Copy> Model for Places<K> {
 }
 
 impl<K: Hash + Eq + Copy> Places<K> {
-    ghost use Rattle.std.specs.Prelude.{◌≡◌, [], not, take, IfOk, position};
+    ghost use Rattle.std.specs.Prelude.{◌≡◌, [], not, take, length, ◌<◌, IfOk, IfSome, position};
     ghost use Rattle.std.specs.List.{list_any};
     ghost use Rattle.machine_file.specs.Places.{first_not_after};
 
@@ -46,7 +46,8 @@ impl<K: Hash + Eq + Copy> Places<K> {
 
     /// The first place of a key. None exactly where it is none of them.
     pub(crate) fn place(&self, key: &K) -> Option<usize>
-        ensures { result ≡ position (K.eq key.now) self.now }
+        ensures place { result ≡ position (K.eq key.now) self.now }
+        ensures within { IfSome result (λ i. i < length self.now) }
     {
         self.places.get(key).copied()
     }

@@ -1,0 +1,85 @@
+//! The links between the devices of a file, and the first that closes a cycle.
+
+ghost use Rattle.std.specs.Prelude.{◌≡◌, ◌≤◌, map, length, position, bytes_eq, IfOk};
+ghost use Rattle.serde_json.specs.View.{view};
+ghost use Rattle.machine_file.specs.Spelled.{parent_of, place_among, link_of};
+ghost use Rattle.machine_file.specs.Knows.{texts};
+
+use crate::known::place_of_name;
+use crate::look::text_at;
+use crate::places::Places;
+use serde_json::Value;
+use sleep_base::Mem;
+use sleep_model::Link;
+use std::alloc::Global;
+
+/// The place of a name among these, and 0 where it is none of them.
+pub(crate) fn place_among<'v>(names: &Places<&'v str>, name: &'v str) -> usize
+    ensures place { result ≡ place_among (texts names.now) name.now }
+    ensures within { result ≤ length names.now }
+{
+    place_of_name(names, name).unwrap_or(0)
+}
+
+/// The place of a device's parent.
+pub(crate) fn parent_of<'v>(device: &'v Value, names: &Places<&'v str>) -> Option<u32>
+    requires { length names.now ≤ 1000 }
+    ensures { result ≡ parent_of (texts names.now) (view device.now) }
+{
+    match device.get("parent").and_then(Value::as_str) {
+        Some(parent) => device_at(names, parent),
+        None => None,
+    }
+}
+
+fn device_at<'v>(names: &Places<&'v str>, name: &'v str) -> Option<u32>
+    requires { length names.now ≤ 1000 }
+    ensures { result ≡ position (bytes_eq name.now) (texts names.now) }
+{
+    match place_of_name(names, name) {
+        Some(place) => Some(place as u32),
+        None => None,
+    }
+}
+
+/// The parents of these devices.
+pub(crate) fn parents_of<'v>(
+    alloc: Global,
+    devices: &'v [Value],
+    names: &Places<&'v str>,
+) -> Result<Vec<Option<u32>>, Mem>
+    requires { length names.now ≤ 1000 }
+    ensures { IfOk result (λ v. v.items ≡ map (parent_of (texts names.now)) (map view devices.now)) }
+{
+    let mut parents = Vec::with_capacity(alloc, devices.len())?;
+    for device in devices {
+        parents.push(parent_of(device, names))?;
+    }
+    Ok(parents)
+}
+
+fn link_of<'v>(link: &'v Value, names: &Places<&'v str>) -> Link
+    requires { length names.now ≤ 1000 }
+    ensures { result ≡ link_of (texts names.now) (view link.now) }
+{
+    Link {
+        supplier: place_among(names, text_at(link, "supplier")) as u32,
+        consumer: place_among(names, text_at(link, "consumer")) as u32,
+    }
+}
+
+/// The links of a file.
+pub(crate) fn links_of<'v>(
+    alloc: Global,
+    links: &'v [Value],
+    names: &Places<&'v str>,
+) -> Result<Vec<Link>, Mem>
+    requires { length names.now ≤ 1000 }
+    ensures { IfOk result (λ v. v.items ≡ map (link_of (texts names.now)) (map view links.now)) }
+{
+    let mut all = Vec::with_capacity(alloc, links.len())?;
+    for link in links {
+        all.push(link_of(link, names))?;
+    }
+    Ok(all)
+}
