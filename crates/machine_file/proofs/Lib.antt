@@ -3,3 +3,4 @@ pub mod Trees
 pub mod Placing
 pub mod Pairing
 pub mod Answered
+pub mod Cycling

@@ -21,3 +21,4 @@ pub mod OperationRows
 pub mod AnswerTests
 pub mod Seen
 pub mod Counted
+pub mod Fresh

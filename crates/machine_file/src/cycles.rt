@@ -1,13 +1,17 @@
 //! The links between the devices of a file, and the first that closes a cycle.
 
-ghost use Rattle.std.specs.Prelude.{◌≡◌, ◌≤◌, map, length, position, bytes_eq, IfOk};
+ghost use Rattle.std.specs.Prelude.{◌≡◌, ◌≤◌, [], map, reverse, length, position, bytes_eq, IfOk, None};
 ghost use Rattle.serde_json.specs.View.{view};
 ghost use Rattle.machine_file.specs.Spelled.{parent_of, place_among, link_of};
+ghost use Rattle.sleep_model.specs.Order.{EachAfterParent};
+ghost use Rattle.machine_file.specs.Places.{first_not_after};
+ghost use Rattle.machine_file.specs.Fresh.{AreFresh, closes_nothing};
 ghost use Rattle.machine_file.specs.Knows.{texts};
 
 use crate::known::place_of_name;
 use crate::look::text_at;
 use crate::places::Places;
+use device_links::{LinkFault, Links};
 use serde_json::Value;
 use sleep_base::Mem;
 use sleep_model::Link;
@@ -82,4 +86,43 @@ pub(crate) fn links_of<'v>(
         all.push(link_of(link, names))?;
     }
     Ok(all)
+}
+
+/// Links that were added in turn, and the number of the first that closes a cycle.
+#[derive(Drop)]
+pub(crate) struct Added {
+    pub(crate) links: Links,
+    pub(crate) cycle: Option<usize>,
+}
+
+/// Adds links in turn, up to the first that closes a cycle.
+pub(crate) fn add_links(
+    alloc: Global,
+    parents: &[Option<u32>],
+    links: &[Link],
+) -> Result<Added, Mem>
+    requires after { EachAfterParent 0 parents.now }
+    requires fresh { AreFresh parents.now links.now }
+    ensures cycle { IfOk result (λ a. a.cycle ≡ first_not_after (closes_nothing parents.now) [] 0 links.now) }
+    ensures added { IfOk result (λ a. a.cycle ≡ None → a.links ≡ record { parents = parents.now; links = reverse links.now }) }
+{
+    let mut added = Links::new(alloc, parents)?;
+    for i in 0..links.len() {
+        let link = &links[i];
+        match added.add(link.supplier, link.consumer) {
+            Ok(()) => (),
+            Err(LinkFault::Cycle(_)) => {
+                return Ok(Added {
+                    links: added,
+                    cycle: Some(i),
+                });
+            }
+            Err(LinkFault::Mem) => return Err(Mem),
+            Err(LinkFault::NoDevice | LinkFault::TooMany | LinkFault::Twice) => unreachable!(),
+        }
+    }
+    Ok(Added {
+        links: added,
+        cycle: None,
+    })
 }

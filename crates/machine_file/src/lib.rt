@@ -14,6 +14,7 @@ mod operations;
 mod pairs;
 mod place;
 mod places;
+mod texts;
 mod tree;
 
 pub use fault::MachineFault;
