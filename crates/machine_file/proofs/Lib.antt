@@ -4,3 +4,4 @@ pub mod Placing
 pub mod Pairing
 pub mod Answered
 pub mod Cycling
+pub mod Freshly

@@ -156,7 +156,7 @@ module _ {X : Type 0} (test : List X → X → Bool) where
     taken_more : x ∷ reverse (take i xs) ≡ reverse (take (suc i) xs)
     taken_more = sym (ap reverse (take-suc xs i x within ∙ ap (λ y. take i xs ++ y ∷ []) (sym is)) ∙ reverse-append (take i xs) (x ∷ []))
 
-    one_later : later_from xs i ≡ (if test (reverse (take i xs)) x then later_from xs (suc i) else Some i)
+    pub one_later : later_from xs i ≡ (if test (reverse (take i xs)) x then later_from xs (suc i) else Some i)
     one_later =
         ap (first_not_after test (reverse (take i xs)) i) (drop-cons xs i x within ∙ ap (λ y. y ∷ drop (suc i) xs) (sym is))
         ∙ ap (λ before. if test (reverse (take i xs)) x then first_not_after test before (suc i) (drop (suc i) xs) else Some i) taken_more
