@@ -1,25 +1,26 @@
 -- What devices and links that keep the rules on parents and ends are.
-use Rattle.std.proofs.Common.{◌≡◌, ◌<◌, ◌≤◌, ◌+◌, ◌∙◌, ◌&&◌, ◌||◌, ◌==◌, ◌++◌, ℕ, zero, suc, Bool, true, false, not, cond, if◌then◌else◌, nat_lt, List, [], ◌∷◌, length, map, take, drop, reverse, get_or, position, bytes_eq, codes, unwrap_or, is_some, option_and_then, IfSome, Option, Some, None, refl, sym, ap, subst, arith, append_assoc}
+use Rattle.std.proofs.Common.{◌≡◌, ◌<◌, ◌≤◌, ◌+◌, ◌∙◌, ◌&&◌, ◌||◌, ◌==◌, ◌++◌, ◌⊎◌, inl, inr, ℕ, zero, suc, Bool, true, false, not, cond, if◌then◌else◌, nat_lt, List, [], ◌∷◌, length, map, take, drop, reverse, get_or, position, bytes_eq, codes, unwrap_or, is_some, option_and_then, IfSome, Option, Some, None, refl, sym, ap, subst, arith, append_assoc}
 use Rattle.std.specs.List.{list_any, list_all}
 use Rattle.std.specs.Option.{option_map}
 use Rattle.std.specs.Cmp.Lexicographic.{bytes_decides}
 use Rattle.std.proofs.Math.ListN.{drop_of_length-le}
 use Rattle.std.proofs.lemmas.Bool.{true≢false, and_parts, ltb-true}
 use Rattle.std.proofs.lemmas.Bool.Decides.{nat_tests}
-use Rattle.std.proofs.lemmas.List.{reverse-append, length-map, length-reverse, map-append, get_or_default}
-use Rattle.serde_json.specs.Data.{Data}
+use Rattle.std.proofs.lemmas.List.{reverse-append, length-map, length-reverse, map-append, get_or_default, get_or-map}
+use Rattle.serde_json.specs.Data.{Data, null}
 use Rattle.sleep_model.specs.declared.machine.Link.{Link}
-use Rattle.sleep_model.specs.Order.{EachAfterParent}
+use Rattle.sleep_model.specs.Order.{EachAfterParent, parents_of}
 use Rattle.sleep_model.specs.Links.{is_linked}
 use Rattle.machine_file.specs.Look.{is_none_or, is_some_and, text_at}
-use Rattle.machine_file.specs.Members.{word_at}
-use Rattle.machine_file.specs.Places.{first_not, first_not_after}
-use Rattle.machine_file.specs.Names.{is_among_names}
+use Rattle.machine_file.specs.Members.{word_at, list_in}
+use Rattle.machine_file.specs.Joined.{AreJoined}
+use Rattle.machine_file.specs.Places.{first_not, first_not_after, item_place}
+use Rattle.machine_file.specs.Names.{is_among_names, devices_named}
 use Rattle.machine_file.specs.Rules.{name_of}
 use Rattle.machine_file.specs.Spelled.{parent_of, place_among, link_of}
-use Rattle.machine_file.specs.Devices.{has_parent_before, has_ends, is_same_link, is_new_link}
-use Rattle.machine_file.specs.Fresh.{IsFresh, AreFresh, no_link}
-use Rattle.machine_file.proofs.Placing.{position_cons, any_before, any_reverse, any_along, any_map, some_position, later_from, one_later}
+use Rattle.machine_file.specs.Devices.{has_parent_before, has_ends, is_same_link, is_new_link, whole_device, whole_devices, whole_links, closes_no_cycle}
+use Rattle.machine_file.specs.Fresh.{IsFresh, AreFresh, no_link, closes_nothing}
+use Rattle.machine_file.proofs.Placing.{position_cons, any_before, any_reverse, any_along, any_map, some_position, later_from, one_later, later_map}
 
 -- ---- parents
 
@@ -128,3 +129,148 @@ position_within p (s ∷ names) = subst (λ o. IfSome o (λ i. i < suc (length n
 -- a name's place among them is within
 pub place_within : (names : List (List ℕ)) (s : List ℕ) → is_among_names names s ≡ true → place_among names s < length names
 place_within names s e = some_within (position (bytes_eq s) names) (length names) (some_position (bytes_eq s) names ∙ e) (position_within (bytes_eq s) names)
+
+zero_suc : (k : ℕ) → 0 ≡ suc k → ⊥
+zero_suc k e = omega arith
+
+same_case : (b c : Bool) (o q : Option ℕ) (j : ℕ) → cond b (Some 0) (option_map suc o) ≡ Some j → cond c (Some 0) (option_map suc q) ≡ Some j →
+    ((b ≡ true) × (c ≡ true)) ⊎ ((k : ℕ) × (o ≡ Some k) × (q ≡ Some k))
+same_case true true o q j e f = inl (refl, refl)
+same_case true false o None j e f = cc
+same_case true false o (Some k) j e f = absurd (zero_suc k (cc))
+same_case false true None q j e f = cc
+same_case false true (Some k) q j e f = absurd (zero_suc k (cc))
+same_case false false None q j e f = cc
+same_case false false (Some k) None j e f = cc
+same_case false false (Some k) (Some n) j e f = inr (k, refl, (let s : suc k ≡ suc n = cc in let t : n ≡ k = omega arith in ap Some t))
+
+-- names with one place are one name
+one_name : (a b : List ℕ) (names : List (List ℕ)) (j : ℕ) → position (bytes_eq a) names ≡ Some j → position (bytes_eq b) names ≡ Some j → a ≡ b
+one_name a b [] j e f = cc
+one_name a b (s ∷ names) j e f =
+    by (λ k g h. one_name a b names k g h)
+    (same_case (bytes_eq a s) (bytes_eq b s) (position (bytes_eq a) names) (position (bytes_eq b) names) j (sym (position_cons (bytes_eq a) s names) ∙ e) (sym (position_cons (bytes_eq b) s names) ∙ f))
+  where
+    by : ((k : ℕ) → position (bytes_eq a) names ≡ Some k → position (bytes_eq b) names ≡ Some k → a ≡ b) →
+        ((bytes_eq a s ≡ true) × (bytes_eq b s ≡ true)) ⊎ ((k : ℕ) × (position (bytes_eq a) names ≡ Some k) × (position (bytes_eq b) names ≡ Some k)) → a ≡ b
+    by rest (inl h) = (bytes_decides a s).0 h.0 ∙ sym ((bytes_decides b s).0 h.1)
+    by rest (inr h) = rest h.0 h.1 h.2
+
+found_at : (o : Option ℕ) → is_some o ≡ true → o ≡ Some (unwrap_or o 0)
+found_at None e = cc
+found_at (Some j) e = refl
+
+same_place : (names : List (List ℕ)) (a b : List ℕ) → is_among_names names a ≡ true → is_among_names names b ≡ true → (place_among names a == place_among names b) ≡ true → bytes_eq a b ≡ true
+same_place names a b h k e =
+    let same : place_among names a ≡ place_among names b = grind (arith, nat_tests) in
+    (bytes_decides a b).1 (one_name a b names (place_among names b)
+    (found_at (position (bytes_eq a) names) (some_position (bytes_eq a) names ∙ h) ∙ ap Some same) (found_at (position (bytes_eq b) names) (some_position (bytes_eq b) names ∙ k)))
+
+apart_case : (p q r s : Bool) → (p ≡ true → r ≡ true) → (q ≡ true → s ≡ true) → (r && s) ≡ false → (p && q) ≡ false
+apart_case true true r s f g h = absurd (true≢false (sym (let a = f refl in let b = g refl in rw (a, b) refl) ∙ h))
+apart_case true false r s f g h = refl
+apart_case false q r s f g h = refl
+
+or_false : (a b : Bool) → (a || b) ≡ false → (a ≡ false) × (b ≡ false)
+or_false true b e = cc
+or_false false b e = (refl, e)
+
+or_from : (a b : Bool) → a ≡ false → b ≡ false → (a || b) ≡ false
+or_from a b e f = e' e f
+  where
+    e' : a ≡ false → b ≡ false → (a || b) ≡ false
+    e' e f = rw (e, f) refl
+
+module _ (names : List (List ℕ)) (l : Data) (ends : has_ends names l ≡ true) where
+  abbrev is_it : Link → Bool
+  is_it k = (k.supplier == (link_of names l).supplier) && (k.consumer == (link_of names l).consumer)
+
+  supplier_in : is_among_names names (text_at (codes "supplier") l) ≡ true
+  supplier_in = (and_parts _ (is_among_names names (text_at (codes "consumer") l)) ends).0
+
+  consumer_in : is_among_names names (text_at (codes "consumer") l) ≡ true
+  consumer_in = (and_parts (is_among_names names (text_at (codes "supplier") l)) _ ends).1
+
+  other : (k : Data) → has_ends names k ≡ true → is_same_link l k ≡ false → is_it (link_of names k) ≡ false
+  other k h e =
+      let parts = and_parts (is_among_names names (text_at (codes "supplier") k)) (is_among_names names (text_at (codes "consumer") k)) h in
+      apart_case (place_among names (text_at (codes "supplier") k) == place_among names (text_at (codes "supplier") l))
+      (place_among names (text_at (codes "consumer") k) == place_among names (text_at (codes "consumer") l))
+      (bytes_eq (text_at (codes "supplier") l) (text_at (codes "supplier") k)) (bytes_eq (text_at (codes "consumer") l) (text_at (codes "consumer") k))
+      (λ q. turn (text_at (codes "supplier") k) (text_at (codes "supplier") l) (same_place names _ _ parts.0 supplier_in q))
+      (λ q. turn (text_at (codes "consumer") k) (text_at (codes "consumer") l) (same_place names _ _ parts.1 consumer_in q)) e
+    where
+      turn : (a b : List ℕ) → bytes_eq a b ≡ true → bytes_eq b a ≡ true
+      turn a b e = (bytes_decides b a).1 (sym ((bytes_decides a b).0 e))
+
+  others : (i : ℕ) (ds : List Data) → list_all (has_ends names) ds ≡ true → list_any (is_same_link l) (take i ds) ≡ false → list_any (λ k. is_it (link_of names k)) (take i ds) ≡ false
+  others zero ds h e = refl
+  others (suc i) [] h e = refl
+  others (suc i) (k ∷ ds) h e =
+      let here = and_parts (has_ends names k) (list_all (has_ends names) ds) h in
+      let apart = or_false (is_same_link l k) (list_any (is_same_link l) (take i ds)) e in
+      or_from (is_it (link_of names k)) (list_any (λ k. is_it (link_of names k)) (take i ds)) (other k here.0 apart.0) (others i ds here.1 apart.1)
+
+linked_any : (ls : List Link) (s c : ℕ) → is_linked ls s c ≡ list_any (λ k. (k.supplier == s) && (k.consumer == c)) ls
+linked_any [] s c = refl
+linked_any (k ∷ ls) s c = ap (λ b. ((k.supplier == s) && (k.consumer == c)) || b) (linked_any ls s c)
+
+not_true : (b : Bool) → not b ≡ true → b ≡ false
+not_true true e = cc
+not_true false e = refl
+
+-- the links of a file that keeps the rules on their ends
+pub are_fresh : (names : List (List ℕ)) (parents : List (Option ℕ)) (ds : List Data) → length parents ≡ length names → length ds ≤ 4000 →
+    first_not (has_ends names) ds ≡ None → first_not_after is_new_link [] 0 ds ≡ None → AreFresh parents (map (link_of names) ds)
+are_fresh names parents ds count few loose again = record {
+  few = let n = length-map ds (link_of names) in omega (arith, n);
+  each = λ i h. fresh i (let n = length-map ds (link_of names) in omega (arith, n));
+}
+  where
+    all : list_all (has_ends names) ds ≡ true
+    all = all_pass (has_ends names) ds loose
+
+    fresh : (i : ℕ) → i < length ds → IsFresh parents (reverse (take i (map (link_of names) ds))) (get_or (map (link_of names) ds) i no_link)
+    fresh i h =
+        let l = get_or ds i null in
+        let ends = all_at (has_ends names) ds null i all h in
+        let is : get_or (map (link_of names) ds) i no_link ≡ link_of names l = get_or-map (link_of names) ds i null no_link h in
+        let parts = and_parts (not (bytes_eq (text_at (codes "supplier") l) (text_at (codes "consumer") l))) (not (list_any (is_same_link l) (reverse (take i ds)))) (later_each is_new_link ds null i h again) in
+        let apart : list_any (is_same_link l) (take i ds) ≡ false = sym (any_reverse (is_same_link l) (take i ds)) ∙ not_true _ parts.1 in
+        subst (IsFresh parents (reverse (take i (map (link_of names) ds)))) (sym is) record {
+          supplier = let p = place_within names (text_at (codes "supplier") l) (supplier_in names l ends) in omega (arith, count, p);
+          consumer = let p = place_within names (text_at (codes "consumer") l) (consumer_in names l ends) in omega (arith, count, p);
+          new =
+              linked_any (reverse (take i (map (link_of names) ds))) (link_of names l).supplier (link_of names l).consumer
+              ∙ any_reverse (is_it names l ends) (take i (map (link_of names) ds))
+              ∙ sym (any_along (is_it names l ends) (link_of names) i ds)
+              ∙ others names l ends i ds all apart;
+        }
+
+-- ---- a file's devices and links
+
+none_left : {A B : Type 0} (f : A → B) (o : Option A) → option_map f o ≡ None → o ≡ None
+none_left f None e = refl
+none_left f (Some x) e = cc
+
+pub parents_seen : (names : List (List ℕ)) (ds : List Data) → parents_of (map (whole_device names) ds) ≡ map (parent_of names) ds
+parents_seen names [] = refl
+parents_seen names (d ∷ ds) = ap (λ ps. parent_of names d ∷ ps) (parents_seen names ds)
+
+module _ (file : Data) (joined : AreJoined file) where
+  pub file_after : EachAfterParent 0 (parents_of (whole_devices file))
+  file_after =
+      subst (EachAfterParent 0) (sym (parents_seen (devices_named file) (list_in (codes "devices") file)))
+      (each_after (list_in (codes "devices") file) (none_left (item_place (codes "devices")) _ joined.parents))
+
+  pub file_fresh : AreFresh (parents_of (whole_devices file)) (whole_links file)
+  file_fresh =
+      let ds = list_in (codes "devices") file in
+      let count : length (parents_of (whole_devices file)) ≡ length (devices_named file) =
+      ap length (parents_seen (devices_named file) ds) ∙ length-map ds (parent_of (devices_named file)) ∙ sym (length-map ds name_of) in
+      are_fresh (devices_named file) (parents_of (whole_devices file)) (list_in (codes "links") file) count joined.few_links
+      (none_left (item_place (codes "links")) _ joined.ends) (none_left (item_place (codes "links")) _ joined.again)
+
+-- the first link that closes a cycle, by the numbers of its ends
+pub cycle_seen : (file : Data) → first_not_after (closes_nothing (parents_of (whole_devices file))) [] 0 (whole_links file) ≡ first_not_after (closes_no_cycle file) [] 0 (list_in (codes "links") file)
+cycle_seen file = later_map (closes_nothing (parents_of (whole_devices file))) (link_of (devices_named file)) [] 0 (list_in (codes "links") file)

@@ -5,6 +5,8 @@ use Rattle.machine_file.specs.declared.place.Member.TheVariants as member
 use Rattle.machine_file.specs.declared.place.Place.{Place}
 use Rattle.machine_file.specs.declared.place.Place.TheVariants as place
 use Rattle.machine_file.specs.Places.{item_place, operation_place}
+use Rattle.machine_file.specs.declared.rules.Broken.{Broken as Found}
+use Rattle.machine_file.specs.Whole.{Broken}
 
 -- a member's name
 abbrev pub member_name : Member → List ℕ
@@ -31,3 +33,7 @@ place_text (place.Operation actor n) = operation_place actor n
 -- a place, where there is one
 abbrev pub place_of : Option Place → Option (List ℕ)
 place_of p = option_map place_text p
+
+-- a broken rule and its place
+abbrev pub broken_view : Found → Broken
+broken_view b = record { rule = b.rule; place = place_text b.place }

@@ -22,3 +22,5 @@ pub mod AnswerTests
 pub mod Seen
 pub mod Counted
 pub mod Fresh
+pub mod Joined
+pub mod Groups

@@ -1,15 +1,19 @@
 //! The links between the devices of a file, and the first that closes a cycle.
 
-ghost use Rattle.std.specs.Prelude.{◌≡◌, ◌≤◌, [], map, reverse, length, position, bytes_eq, IfOk, None};
+ghost use Rattle.std.specs.Prelude.{◌≡◌, ◌≤◌, [], map, reverse, length, position, bytes_eq, codes, IfOk, None};
 ghost use Rattle.serde_json.specs.View.{view};
 ghost use Rattle.machine_file.specs.Spelled.{parent_of, place_among, link_of};
-ghost use Rattle.sleep_model.specs.Order.{EachAfterParent};
+ghost use Rattle.sleep_model.specs.Order.{EachAfterParent, parents_of};
+ghost use Rattle.machine_file.specs.Members.{list_in};
+ghost use Rattle.machine_file.specs.Devices.{whole_devices, whole_links, closes_no_cycle};
+ghost use Rattle.machine_file.specs.Joined.{AreJoined};
 ghost use Rattle.machine_file.specs.Places.{first_not_after};
 ghost use Rattle.machine_file.specs.Fresh.{AreFresh, closes_nothing};
-ghost use Rattle.machine_file.specs.Knows.{texts};
+ghost use Rattle.machine_file.specs.Knows.{Knows, texts};
 
-use crate::known::place_of_name;
+use crate::known::{Known, place_of_name};
 use crate::look::text_at;
+use crate::place::{Member, items};
 use crate::places::Places;
 use device_links::{LinkFault, Links};
 use serde_json::Value;
@@ -125,4 +129,53 @@ pub(crate) fn add_links(
         links: added,
         cycle: None,
     })
+}
+
+/// The links of a file, and what came of adding them.
+#[derive(Drop)]
+pub(crate) struct Linking {
+    pub(crate) links: Vec<Link>,
+    pub(crate) added: Added,
+}
+
+/// Adds the links of a file.
+pub(crate) fn linking_of<'v>(
+    alloc: Global,
+    tree: &'v Value,
+    known: &Known<'v>,
+) -> Result<Linking, Mem>
+    requires knows { Knows known.now (view tree.now) }
+    requires joined { AreJoined (view tree.now) }
+    ensures links { IfOk result (λ l. l.links.items ≡ whole_links (view tree.now)) }
+    ensures cycle { IfOk result (λ l. l.added.cycle ≡
+        first_not_after (closes_no_cycle (view tree.now)) [] 0 (list_in (codes "links") (view tree.now))) }
+    ensures added { IfOk result (λ l. l.added.cycle ≡ None → l.added.links ≡
+        record { parents = parents_of (whole_devices (view tree.now)); links = reverse (whole_links (view tree.now)) }) }
+{
+    let parents = parents_in(alloc, tree, known)?;
+    let links = links_in(alloc, tree, known)?;
+    let added = add_links(alloc, &parents, &links)?;
+    Ok(Linking { links, added })
+}
+
+fn parents_in<'v>(
+    alloc: Global,
+    tree: &'v Value,
+    known: &Known<'v>,
+) -> Result<Vec<Option<u32>>, Mem>
+    requires knows { Knows known.now (view tree.now) }
+    requires joined { AreJoined (view tree.now) }
+    ensures { IfOk result (λ v. v.items ≡ parents_of (whole_devices (view tree.now))) }
+{
+    let parents = parents_of(alloc, items(tree, Member::Devices), &known.devices)?;
+    Ok(parents)
+}
+
+fn links_in<'v>(alloc: Global, tree: &'v Value, known: &Known<'v>) -> Result<Vec<Link>, Mem>
+    requires knows { Knows known.now (view tree.now) }
+    requires joined { AreJoined (view tree.now) }
+    ensures { IfOk result (λ v. v.items ≡ whole_links (view tree.now)) }
+{
+    let links = links_of(alloc, items(tree, Member::Links), &known.devices)?;
+    Ok(links)
 }

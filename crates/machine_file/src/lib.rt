@@ -14,6 +14,7 @@ mod operations;
 mod pairs;
 mod place;
 mod places;
+mod rules;
 mod texts;
 mod tree;
 
