@@ -15,7 +15,9 @@ mod pairs;
 mod place;
 mod places;
 mod rules;
+mod stop;
 mod texts;
+mod things;
 mod tree;
 
 pub use fault::MachineFault;

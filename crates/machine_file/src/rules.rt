@@ -7,8 +7,8 @@ ghost use Rattle.machine_file.specs.Look.{has_only};
 ghost use Rattle.std.specs.Option.{option_or};
 ghost use Rattle.machine_file.specs.Members.{file_members};
 ghost use Rattle.machine_file.specs.Rules.{is_version_one};
-ghost use Rattle.machine_file.specs.Operations.{sourceless_operation};
-ghost use Rattle.machine_file.specs.Answering.{sourceless_report};
+ghost use Rattle.machine_file.specs.Operations.{sourceless_operation, deviceless_operation};
+ghost use Rattle.machine_file.specs.Answering.{sourceless_report, thingless_answer};
 ghost use Rattle.machine_file.specs.Places.{unless};
 ghost use Rattle.machine_file.specs.Groups.{form_rules, device_rules, thing_rules, operation_rules, answer_rules};
 ghost use Rattle.machine_file.specs.Knows.{Knows};
@@ -122,13 +122,41 @@ pub(crate) fn thing_broken<'v>(
     Ok(callback.or(breaks(14, source)).or(breaks(15, actor)))
 }
 
+fn sourceless_operation<'v>(tree: &'v Value, known: &Known<'v>) -> Option<Place>
+    requires { Knows known.now (view tree.now) }
+    ensures { place_of result ≡ sourceless_operation (view tree.now) }
+{
+    first_operation(OperationTest::Source, known, tree)
+}
+
+fn deviceless_operation<'v>(tree: &'v Value, known: &Known<'v>) -> Option<Place>
+    requires { Knows known.now (view tree.now) }
+    ensures { place_of result ≡ deviceless_operation (view tree.now) }
+{
+    first_operation(OperationTest::Device, known, tree)
+}
+
+fn sourceless_report<'v>(tree: &'v Value, known: &Known<'v>) -> Option<Place>
+    requires { Knows known.now (view tree.now) }
+    ensures { place_of result ≡ sourceless_report (view tree.now) }
+{
+    first_answer(AnswerTest::Sources, known, tree)
+}
+
+fn thingless_answer<'v>(tree: &'v Value, known: &Known<'v>) -> Option<Place>
+    requires { Knows known.now (view tree.now) }
+    ensures { place_of result ≡ thingless_answer (view tree.now) }
+{
+    first_answer(AnswerTest::Thing, known, tree)
+}
+
 fn sourceless<'v>(tree: &'v Value, known: &Known<'v>) -> Option<Place>
     requires { Knows known.now (view tree.now) }
     ensures { place_of result ≡ option_or (sourceless_operation (view tree.now)) (sourceless_report (view tree.now)) }
 {
-    match first_operation(OperationTest::Source, known, tree) {
+    match sourceless_operation(tree, known) {
         Some(place) => Some(place),
-        None => first_answer(AnswerTest::Sources, known, tree),
+        None => sourceless_report(tree, known),
     }
 }
 
@@ -140,7 +168,7 @@ pub(crate) fn operation_broken<'v>(tree: &'v Value, known: &Known<'v>) -> Option
     let form = breaks(16, first_operation(OperationTest::Formed, known, tree));
     let maker = breaks(17, first_operation(OperationTest::Allowed, known, tree));
     let source = breaks(18, sourceless(tree, known));
-    let device = breaks(19, first_operation(OperationTest::Device, known, tree));
+    let device = breaks(19, deviceless_operation(tree, known));
     form.or(maker).or(source).or(device)
 }
 
@@ -154,7 +182,7 @@ pub(crate) fn answer_broken<'v>(
     ensures { IfOk result (λ b. option_map broken_view b ≡ first_of answer_rules (view tree.now)) }
 {
     let again = breaks(23, repeated_answer(alloc, tree)?);
-    let thing = breaks(20, first_answer(AnswerTest::Thing, known, tree));
+    let thing = breaks(20, thingless_answer(tree, known));
     let ret = breaks(21, first_answer(AnswerTest::Ret, known, tree));
     let reports = breaks(22, first_answer(AnswerTest::Reports, known, tree));
     let much = breaks(24, too_much(tree));
