@@ -15,6 +15,7 @@ mod pairs;
 mod place;
 mod places;
 mod rules;
+mod scripts;
 mod stop;
 mod texts;
 mod things;
