@@ -14,6 +14,7 @@ mod operations;
 mod pairs;
 mod place;
 mod places;
+mod replies;
 mod rules;
 mod scripts;
 mod stop;
