@@ -5,3 +5,4 @@ pub mod Pairing
 pub mod Answered
 pub mod Cycling
 pub mod Freshly
+pub mod Grouping

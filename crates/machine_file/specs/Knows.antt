@@ -1,8 +1,10 @@
 -- That the names of a file's things are known.
-use Rattle.std.specs.Prelude.{◌≡◌, ◌≤◌, ℕ, List, [], map, length, codes}
+use Rattle.std.specs.Prelude.{◌≡◌, ◌≤◌, ℕ, Bool, not, List, [], map, length, codes, is_some}
+use Rattle.std.specs.List.{list_all}
 use Rattle.std.specs.Borrow.{Bor}
 use Rattle.serde_json.specs.Data.{Data}
 use Rattle.machine_file.specs.declared.known.Known.{Known}
+use Rattle.machine_file.specs.Members.{list_in, word_at}
 use Rattle.machine_file.specs.Operations.{Known as Names}
 use Rattle.machine_file.specs.Names.{names_in, texts_in, devices_named, sources_named}
 
@@ -27,3 +29,11 @@ pub record AreFew (k : Known) : Type 0 where
 -- what operations name by numbers, without marks
 abbrev pub known_seen : Known → Names
 known_seen k = record { devices = texts k.devices; sources = texts k.sources; marks = [] }
+
+-- an operation without a mark
+abbrev pub names_no_mark : Data → Bool
+names_no_mark o = not (is_some (word_at (codes "mark") o))
+
+-- an actor whose operations have none
+abbrev pub has_no_marks : Data → Bool
+has_no_marks a = list_all names_no_mark (list_in (codes "script") a)

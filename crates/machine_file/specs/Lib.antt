@@ -24,3 +24,4 @@ pub mod Counted
 pub mod Fresh
 pub mod Joined
 pub mod Groups
+pub mod Kept

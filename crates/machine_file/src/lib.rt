@@ -9,6 +9,7 @@ mod items;
 mod known;
 mod limits;
 mod look;
+mod machine;
 mod names;
 mod operations;
 mod pairs;

@@ -1,0 +1,166 @@
+//! A machine file as a whole: which rule it breaks, or which machine it spells.
+
+ghost use Rattle.std.specs.Prelude.{◌≡◌, [], reverse, option_map, is_some, codes, None, IfOk};
+ghost use Rattle.std.specs.List.{list_all};
+ghost use Rattle.serde_json.specs.View.{view};
+ghost use Rattle.sleep_model.specs.Order.{parents_of};
+ghost use Rattle.machine_file.specs.Members.{list_in, word_at};
+ghost use Rattle.machine_file.specs.Places.{first_not_after};
+ghost use Rattle.machine_file.specs.Devices.{closes_no_cycle, whole_devices, whole_links};
+ghost use Rattle.machine_file.specs.Knows.{names_no_mark, has_no_marks};
+ghost use Rattle.machine_file.specs.Knows.{Knows, AreFew};
+ghost use Rattle.machine_file.specs.Kept.{Checks, broken_form, broken_devices, broken_cycle, broken_rest};
+ghost use Rattle.machine_file.specs.Broken.{broken_view};
+
+use crate::cycles::{Linking, linking_of};
+use crate::known::{Known, known_in};
+use crate::look::list_in;
+use crate::place::{Member, Place, items};
+use crate::rules::{
+    Broken, answer_broken, device_broken, form_broken, operation_broken, thing_broken,
+};
+use serde_json::Value;
+use sleep_base::Mem;
+use std::alloc::Global;
+
+/// What came of testing the rules.
+#[derive(Drop)]
+pub(crate) enum Checked<'v> {
+    Broken(Broken),
+    Sound(Known<'v>, Linking),
+}
+
+#[tactic(auto, unfolding(crate::specs::Kept::broken_form))]
+fn first_of_form(tree: &Value) -> Option<Broken>
+    ensures { option_map broken_view result ≡ broken_form (view tree.now) }
+{
+    form_broken(tree)
+}
+
+#[tactic(auto, unfolding(crate::specs::Kept::broken_devices))]
+fn first_of_devices<'v>(
+    alloc: Global,
+    tree: &'v Value,
+    known: &Known<'v>,
+) -> Result<Option<Broken>, Mem>
+    requires { Knows known.now (view tree.now) }
+    ensures { IfOk result (λ b. option_map broken_view b ≡ broken_devices (view tree.now)) }
+{
+    device_broken(alloc, tree, known)
+}
+
+#[tactic(auto, unfolding(crate::specs::Kept::broken_cycle))]
+fn first_cycle(cycle: Option<usize>, tree: &Value) -> Option<Broken>
+    requires { cycle ≡ first_not_after (closes_no_cycle (view tree.now)) [] 0 (list_in (codes "links") (view tree.now)) }
+    ensures { option_map broken_view result ≡ broken_cycle (view tree.now) }
+{
+    let _ = tree;
+    match cycle {
+        Some(number) => {
+            let place = Place::Item(Member::Links, number);
+            Some(Broken { rule: 12, place })
+        }
+        None => None,
+    }
+}
+
+#[tactic(auto, unfolding(crate::specs::Kept::broken_rest))]
+fn first_of_rest<'v>(
+    alloc: Global,
+    tree: &'v Value,
+    known: &Known<'v>,
+) -> Result<Option<Broken>, Mem>
+    requires { Knows known.now (view tree.now) }
+    ensures { IfOk result (λ b. option_map broken_view b ≡ broken_rest (view tree.now)) }
+{
+    let thing = thing_broken(alloc, tree, known)?;
+    let answer = answer_broken(alloc, tree, known)?;
+    Ok(thing.or(operation_broken(tree, known)).or(answer))
+}
+
+/// Tests the rules in their order.
+pub(crate) fn check<'v>(alloc: Global, tree: &'v Value) -> Result<Checked<'v>, Mem>
+    ensures { IfOk result (Checks (view tree.now)) }
+{
+    match first_of_form(tree) {
+        Some(broken) => Ok(Checked::Broken(broken)),
+        None => check_devices(alloc, tree),
+    }
+}
+
+fn check_devices<'v>(alloc: Global, tree: &'v Value) -> Result<Checked<'v>, Mem>
+    requires { broken_form (view tree.now) ≡ None }
+    ensures { IfOk result (Checks (view tree.now)) }
+{
+    let known = known_in(alloc, tree)?;
+    match first_of_devices(alloc, tree, &known)? {
+        Some(broken) => Ok(Checked::Broken(broken)),
+        None => check_links(alloc, tree, known),
+    }
+}
+
+fn check_links<'v>(alloc: Global, tree: &'v Value, known: Known<'v>) -> Result<Checked<'v>, Mem>
+    requires form { broken_form (view tree.now) ≡ None }
+    requires devices { broken_devices (view tree.now) ≡ None }
+    requires knows { Knows known (view tree.now) }
+    ensures { IfOk result (Checks (view tree.now)) }
+{
+    let linking = linking_of(alloc, tree, &known)?;
+    match first_cycle(linking.added.cycle, tree) {
+        Some(broken) => Ok(Checked::Broken(broken)),
+        None => check_rest(alloc, tree, known, linking),
+    }
+}
+
+fn check_rest<'v>(
+    alloc: Global,
+    tree: &'v Value,
+    known: Known<'v>,
+    linking: Linking,
+) -> Result<Checked<'v>, Mem>
+    requires form { broken_form (view tree.now) ≡ None }
+    requires devices { broken_devices (view tree.now) ≡ None }
+    requires cycle { broken_cycle (view tree.now) ≡ None }
+    requires knows { Knows known (view tree.now) }
+    requires few { AreFew known }
+    requires links { linking.links.items ≡ whole_links (view tree.now) }
+    requires added { linking.added.links ≡
+        record { parents = parents_of (whole_devices (view tree.now)); links = reverse (whole_links (view tree.now)) } }
+    ensures { IfOk result (Checks (view tree.now)) }
+{
+    match first_of_rest(alloc, tree, &known)? {
+        Some(broken) => Ok(Checked::Broken(broken)),
+        None => Ok(Checked::Sound(known, linking)),
+    }
+}
+
+fn names_mark(operation: &Value) -> bool
+    ensures { result ≡ is_some (word_at (codes "mark") (view operation.now)) }
+{
+    operation.get("mark").and_then(Value::as_str).is_some()
+}
+
+fn has_no_mark(script: &[Value]) -> bool
+    ensures { result ≡ list_all (λ v. names_no_mark (view v)) script.now }
+{
+    script.iter().all(|operation| !names_mark(operation))
+}
+
+fn has_no_marks(actor: &Value) -> bool
+    ensures { result ≡ has_no_marks (view actor.now) }
+{
+    has_no_mark(list_in(actor, "script"))
+}
+
+fn have_no_marks(actors: &[Value]) -> bool
+    ensures { result ≡ list_all (λ v. has_no_marks (view v)) actors.now }
+{
+    actors.iter().all(|actor| has_no_marks(actor))
+}
+
+/// Whether no operation names a mark.
+pub(crate) fn is_markless(tree: &Value) -> bool
+    ensures { result ≡ list_all has_no_marks (list_in (codes "actors") (view tree.now)) }
+{
+    have_no_marks(items(tree, Member::Actors))
+}
