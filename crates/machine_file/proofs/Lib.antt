@@ -6,3 +6,4 @@ pub mod Answered
 pub mod Cycling
 pub mod Freshly
 pub mod Grouping
+pub mod Replying

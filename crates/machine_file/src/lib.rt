@@ -2,6 +2,7 @@
 #![tactic(auto)]
 
 mod answers;
+mod built;
 mod cycles;
 mod fault;
 mod form;
@@ -22,5 +23,6 @@ mod stop;
 mod texts;
 mod things;
 mod tree;
+mod whole;
 
 pub use fault::MachineFault;

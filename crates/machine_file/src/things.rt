@@ -46,7 +46,7 @@ fn device_of<'v>(device: &'v Value, names: &Places<&'v str>) -> Result<Device, S
     })
 }
 
-fn devices_of<'v>(
+pub(crate) fn devices_of<'v>(
     alloc: Global,
     devices: &'v [Value],
     names: &Places<&'v str>,
