@@ -25,3 +25,5 @@ pub mod Fresh
 pub mod Joined
 pub mod Groups
 pub mod Kept
+pub mod Reading
+pub mod Refusing

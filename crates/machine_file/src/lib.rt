@@ -16,6 +16,7 @@ mod operations;
 mod pairs;
 mod place;
 mod places;
+mod reading;
 mod replies;
 mod rules;
 mod scripts;
@@ -26,3 +27,4 @@ mod tree;
 mod whole;
 
 pub use fault::MachineFault;
+pub use reading::{ReadMachine, read_machine};
