@@ -7,7 +7,7 @@ use Rattle.sleep_model.specs.Answers.{is_for}
 use Rattle.machine_file.specs.declared.answers.Given.{Given}
 use Rattle.machine_file.specs.contracts.answers.GivenPartialEq.TheImpl.{eq-value}
 use Rattle.machine_file.specs.Answering.{is_same_answer}
-use Rattle.machine_file.specs.Seen.{SeenAnswer, answer_seen, answer_written, same_answer}
+use Rattle.machine_file.specs.Seen.{answer_seen, answer_written, same_answer}
 use Rattle.machine_file.specs.Places.{first_not_after}
 use Rattle.machine_file.proofs.Placing.{repeated_map}
 

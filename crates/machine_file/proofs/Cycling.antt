@@ -1,10 +1,10 @@
 -- Links that are added in turn.
-use Rattle.std.proofs.Common.{◌≡◌, ◌<◌, ◌≤◌, ◌+◌, ◌++◌, ◌∙◌, ◌⊎◌, inl, inr, ℕ, suc, List, [], ◌∷◌, length, take, drop, get_or, reverse, not, Bool, true, false, Option, Some, Ok, Err, refl, sym, ap, subst, arith}
+use Rattle.std.proofs.Common.{◌≡◌, ◌<◌, ◌≤◌, ◌+◌, ◌++◌, ◌∙◌, ◌⊎◌, inl, inr, ℕ, List, [], ◌∷◌, length, take, get_or, reverse, not, true, false, Option, Some, Ok, Err, sym, ap, subst, arith}
 use Rattle.std.proofs.lemmas.List.{take_more, reverse-append, length-reverse, length-take-le}
 use Rattle.std.proofs.lemmas.Bool.{true≢false}
 use Rattle.sleep_model.specs.declared.machine.Link.{Link}
 use Rattle.sleep_model.specs.Order.{EachAfterParent, is_among, hanging, moved}
-use Rattle.sleep_model.specs.Links.{AreLinks, is_linked}
+use Rattle.sleep_model.specs.Links.{AreLinks}
 use Rattle.sleep_model.proofs.Acyclic.{links_descend, order_ranked}
 use Rattle.sleep_model.proofs.Paths.{no_path_moved, path_below}
 use Rattle.device_links.specs.Adds.{Adds}

@@ -1,9 +1,8 @@
 -- The order of the rules, by groups.
 use Rattle.std.proofs.Common.{◌≡◌, ◌≤◌, ◌∙◌, ℕ, Bor, Bool, true, false, not, cond, nat_le, List, [], ◌∷◌, ◌++◌, length, drop, codes, find, is_some, Option, Some, None, refl, sym, ap, arith}
 use Rattle.std.specs.Option.{option_or, option_map}
-use Rattle.std.proofs.lemmas.Bool.Decides.{nat_tests}
 use Rattle.serde_json.specs.Data.{Data}
-use Rattle.machine_file.specs.Whole.{Rule, rule, Broken, rules, first_of, first_broken, broken_at}
+use Rattle.machine_file.specs.Whole.{Rule, rule, first_of, first_broken, broken_at}
 use Rattle.machine_file.specs.Groups.{form_rules, device_rules, thing_rules, operation_rules, answer_rules}
 use Rattle.machine_file.specs.Members.{list_in, word_at, file_members}
 use Rattle.machine_file.specs.Devices.{cyclic_link, closes_no_cycle, orphan, loose_link, repeated_link}
@@ -15,9 +14,9 @@ use Rattle.machine_file.specs.Form.{Named, row, first_row, unformed_member, unfo
 use Rattle.machine_file.specs.Limits.{too_many, most_items}
 use Rattle.machine_file.specs.Rules.{name_of, is_version_one}
 use Rattle.machine_file.specs.Names.{repeated_device}
-use Rattle.machine_file.specs.Operations.{marks_of, whole_marks}
+use Rattle.machine_file.specs.Operations.{marks_of}
 use Rattle.machine_file.specs.Places.{unless, item_place, first_not_after}
-use Rattle.std.specs.List.{list_all, filter_map, flat_map, cons_option}
+use Rattle.std.specs.List.{list_all, flat_map, cons_option}
 use Rattle.std.proofs.lemmas.Bool.{and_parts}
 use Rattle.machine_file.specs.Look.{text_of, has_only}
 use Rattle.std.proofs.lemmas.Bool.{leb-true}

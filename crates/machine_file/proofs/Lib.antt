@@ -7,3 +7,8 @@ pub mod Cycling
 pub mod Freshly
 pub mod Grouping
 pub mod Replying
+pub mod ScriptsKept
+pub mod LinksKept
+pub mod AnswersKept
+pub mod Accepted
+pub mod Machined

@@ -1,5 +1,5 @@
 -- Members and items of a value, one after another.
-use Rattle.std.proofs.Common.{◌≡◌, ◌≤◌, ◌==◌, ◌&&◌, ◌||◌, ℕ, suc, List, [], ◌∷◌, length, map, Bool, bytes_eq, string_bytes, Bor, refl, sym, ap, ◌∙◌, true, false, position, arith}
+use Rattle.std.proofs.Common.{◌≡◌, ◌&&◌, ◌||◌, ℕ, suc, List, [], ◌∷◌, length, map, Bool, bytes_eq, string_bytes, Bor, refl, sym, ap, ◌∙◌, true, false, position, arith}
 use Rattle.std.proofs.lemmas.Grind.{common_steps}
 use Rattle.std.specs.List.{list_any, list_all}
 use Rattle.serde_json.specs.Data.{Data}

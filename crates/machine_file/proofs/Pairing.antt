@@ -1,5 +1,5 @@
 -- Parents and the ends of links beside those before.
-use Rattle.std.proofs.Common.{◌≡◌, ◌∙◌, ◌&&◌, ℕ, Bool, true, false, not, List, [], ◌∷◌, map, take, reverse, bytes_eq, codes, Option, Some, None, refl, sym, ap}
+use Rattle.std.proofs.Common.{◌≡◌, ◌∙◌, ◌&&◌, ℕ, Bool, true, false, not, List, [], map, take, reverse, bytes_eq, codes, Option, Some, None, refl, sym, ap}
 use Rattle.std.specs.List.{list_any}
 use Rattle.serde_json.specs.Data.{Data}
 use Rattle.serde_json.specs.View.{view}
@@ -8,8 +8,8 @@ use Rattle.machine_file.specs.declared.pairs.Ends.{Ends}
 use Rattle.machine_file.specs.Look.{is_none_or}
 use Rattle.machine_file.specs.Members.{word_at}
 use Rattle.machine_file.specs.Rules.{name_of}
-use Rattle.machine_file.specs.Devices.{has_parent_before, is_new_link, is_same_link}
-use Rattle.machine_file.specs.Seen.{SeenEnds, ends_seen, ends_written, differ, same_ends}
+use Rattle.machine_file.specs.Devices.{has_parent_before, is_new_link}
+use Rattle.machine_file.specs.Seen.{ends_seen, ends_written, differ, same_ends}
 use Rattle.machine_file.specs.Places.{first_not_after}
 use Rattle.machine_file.proofs.Placing.{any_taken_twice, any_reverse, seen_map}
 

@@ -1,14 +1,13 @@
 -- Answers by the names that are known.
-use Rattle.std.proofs.Common.{◌≡◌, ◌∙◌, List, ℕ, Bool, ap, map, codes, if◌then◌else◌}
+use Rattle.std.proofs.Common.{◌≡◌, ◌∙◌, List, ℕ, ap, map, codes, if◌then◌else◌}
 use Rattle.serde_json.specs.Data.{Data}
 use Rattle.sleep_model.specs.declared.machine.Answer.{Answer}
-use Rattle.sleep_model.specs.declared.machine.What.{What}
 use Rattle.sleep_model.specs.declared.machine.What.TheVariants as what
 use Rattle.sleep_model.specs.Text.{down_word}
 use Rattle.machine_file.specs.declared.known.Known.{Known}
 use Rattle.machine_file.specs.Knows.{Knows, texts}
 use Rattle.machine_file.specs.Members.{has_text, list_in, number_at}
-use Rattle.machine_file.specs.Names.{devices_named, sources_named, texts_in, names_in}
+use Rattle.machine_file.specs.Names.{devices_named, texts_in, names_in}
 use Rattle.machine_file.specs.Rules.{name_of}
 use Rattle.machine_file.specs.Spelled.{place_among}
 use Rattle.machine_file.specs.Answering.{is_of_device, platform_steps, phase_of, step_of, ret_of, whole_report, whole_answer}

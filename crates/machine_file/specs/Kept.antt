@@ -3,7 +3,6 @@ use Rattle.std.specs.Prelude.{◌≡◌, Option, Some, None, reverse}
 use Rattle.std.specs.Option.{option_or, option_map}
 use Rattle.serde_json.specs.Data.{Data}
 use Rattle.sleep_model.specs.Order.{parents_of}
-use Rattle.device_links.specs.Linked.{Linked}
 use Rattle.machine_file.specs.declared.known.Known.{Known}
 use Rattle.machine_file.specs.declared.cycles.Linking.{Linking}
 use Rattle.machine_file.specs.declared.machine.Checked.{Checked}

@@ -1,10 +1,11 @@
-ghost use Rattle.std.specs.Prelude.{◌≡◌, true, Some, IfOk, IfErr, string_bytes};
+ghost use Rattle.std.specs.Prelude.{◌≡◌, ◌++◌, true, codes, Some, IfOk, IfErr, string_bytes};
 ghost use Rattle.serde_json.specs.View.{view};
 ghost use Rattle.sleep_model.specs.Accepted.{IsAccepted};
 ghost use Rattle.sleep_model.specs.Built.{is_built};
 ghost use Rattle.machine_file.specs.Whole.{machine_in};
 ghost use Rattle.machine_file.specs.Reading.{links_among, ReadsBuilt};
 ghost use Rattle.machine_file.specs.Refusing.{Names, Refuses, RefusesValue};
+ghost use Rattle.machine_file.specs.Places.{item_place};
 ghost use Rattle.machine_file.specs.Kept.{IsSound};
 ghost use Rattle.machine_file.specs.Broken.{broken_view, place_text};
 
@@ -109,10 +110,28 @@ fn text_of_place(alloc: Global, place: Place) -> Result<String, AllocError>
         Place::Json => String::from_str(alloc, "json"),
         Place::Top => String::from_str(alloc, "top"),
         Place::Member(member) => String::from_str(alloc, member.name()),
-        Place::Item(member, number) => {
-            let name = member.name();
-            format!(in alloc; "{name}[{number}]")
+        Place::Item(member, number) => text_of_item(alloc, member.name(), number),
+        Place::Operation(actor, number) => {
+            let actor = text_of_item(alloc, "actors", actor)?;
+            let step = text_of_item(alloc, "script", number)?;
+            joined(alloc, actor.as_str(), step.as_str())
         }
-        Place::Operation(actor, number) => format!(in alloc; "actors[{actor}].script[{number}]"),
     }
+}
+
+fn text_of_item(alloc: Global, list: &str, number: usize) -> Result<String, AllocError>
+    ensures { IfOk result (λ s. string_bytes s ≡ item_place list.now number) }
+{
+    let digits = format!(in alloc; "{number}")?;
+    let mut text = String::from_str(alloc, list)?;
+    text.push_str("[")?;
+    text.push_str(digits.as_str())?;
+    text.push_str("]")?;
+    Ok(text)
+}
+
+fn joined(alloc: Global, one: &str, other: &str) -> Result<String, AllocError>
+    ensures { IfOk result (λ s. string_bytes s ≡ one.now ++ codes "." ++ other.now) }
+{
+    format!(in alloc; "{one}.{other}")
 }

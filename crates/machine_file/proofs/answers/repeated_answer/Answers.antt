@@ -1,4 +1,4 @@
-use Rattle.std.proofs.Common.{◌≡◌, ◌∙◌, ap, map, codes}
+use Rattle.std.proofs.Common.{◌∙◌, ap, map, codes}
 use Rattle.std.specs.Option.{option_map}
 use Rattle.machine_file.specs.Places.{item_place}
 use Rattle.machine_file.specs.Seen.{answer_seen, answer_written}

@@ -1,4 +1,4 @@
-use Rattle.std.proofs.Common.{◌≡◌, ◌<◌, length, get_or, refl, subst, Err, arith}
+use Rattle.std.proofs.Common.{◌<◌, length, get_or, refl, subst, Err, arith}
 use Rattle.device_links.specs.Adds.{Adds}
 use Rattle.device_links.specs.declared.fault.LinkFault.{LinkFault}
 use Rattle.std.proofs.lemmas.List.{get_or_default}

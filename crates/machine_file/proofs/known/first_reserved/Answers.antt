@@ -1,4 +1,4 @@
-use Rattle.std.proofs.Common.{◌≡◌, ◌∙◌, ◌∷◌, ◌-◌, [], ℕ, List, ap, sym, not, bytes_eq}
+use Rattle.std.proofs.Common.{◌≡◌, ◌∙◌, ◌∷◌, ◌-◌, [], ap, sym, not, bytes_eq}
 use Rattle.std.specs.Option.{option_map}
 use Rattle.machine_file.specs.Knows.{texts}
 use Rattle.machine_file.specs.Names.{is_among_names}

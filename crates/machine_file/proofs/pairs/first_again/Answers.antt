@@ -1,4 +1,4 @@
-use Rattle.std.proofs.Common.{◌≡◌, ◌<◌, ◌∙◌, ◌&&◌, ℕ, Bool, [], List, ap, sym, not, length, get_or, arith}
+use Rattle.std.proofs.Common.{◌<◌, ◌∙◌, ◌&&◌, Bool, [], List, ap, sym, not, length, get_or, arith}
 use Rattle.std.specs.List.{list_any}
 use Rattle.std.proofs.lemmas.List.{get_or_default}
 use Rattle.machine_file.specs.declared.pairs.Ends.{Ends}

@@ -1,4 +1,4 @@
-use Rattle.std.proofs.Common.{◌≡◌, ◌∙◌, ◌<◌, sym, map, arith}
+use Rattle.std.proofs.Common.{◌∙◌, sym, map, arith}
 use Rattle.serde_json.specs.View.{view}
 use Rattle.machine_file.specs.Knows.{texts}
 use Rattle.machine_file.specs.Devices.{has_parent_before}

@@ -1,19 +1,19 @@
-use Rattle.std.proofs.Common.{rules, ◌≡◌, ◌∙◌, [], sym, ap, codes, unwrap_or, map}
+use Rattle.std.proofs.Common.{rules, ◌≡◌, ◌∙◌, [], sym, ap, codes, unwrap_or}
 use Rattle.serde_json.specs.View.{view}
 use Rattle.machine_file.specs.Members.{list_in, number_at}
-use Rattle.machine_file.specs.Operations.{whole_marks}
+use Rattle.machine_file.specs.Operations.{whole_marks, first_places}
 use Rattle.machine_file.proofs.Grouping.{no_marks}
 use Rattle.machine_file.proofs.whole.machine_of.Goals as goal
 
 pub scripts_in-requires-clause-markless : goal.scripts_in-requires-clause-markless
 scripts_in-requires-clause-markless c =
-    no_marks (list_in (codes "actors") (view c.args.tree.now)) (sym c.is_markless.ensures ∙ c.if-not-is_markless.false)
+    ap (first_places []) (no_marks (list_in (codes "actors") (view c.args.tree.now)) (sym c.is_markless.ensures ∙ c.if-not-is_markless.false))
 
 pub returns : goal.returns
 returns c =
     let file = view c.args.tree.now in
     let alarm : c.unwrap_or.result ≡ unwrap_or (number_at (codes "alarm_ms") file) 1000 = search rules in
-    let markless : whole_marks file ≡ [] = no_marks (list_in (codes "actors") file) (sym c.is_markless.ensures ∙ c.if-not-is_markless.false) in
+    let markless : whole_marks file ≡ [] = ap (first_places []) (no_marks (list_in (codes "actors") file) (sym c.is_markless.ensures ∙ c.if-not-is_markless.false)) in
     let marks : c.of_vec-6.result ≡ whole_marks file = c.of_vec-6.ensures ∙ c.new.ensures.items ∙ sym markless in
     let devices = c.of_vec.ensures ∙ c.in_ok-devices.ensures in
     let links = c.of_vec-2.ensures ∙ c.requires.links in

@@ -1,4 +1,4 @@
-use Rattle.std.proofs.Common.{◌≡◌, ◌∙◌, [], List, ℕ, sym, ap, map, codes}
+use Rattle.std.proofs.Common.{◌≡◌, ◌∙◌, [], List, ℕ, sym, ap, map}
 use Rattle.serde_json.specs.View.{view}
 use Rattle.machine_file.specs.Knows.{known_seen, texts}
 use Rattle.machine_file.specs.Names.{devices_named, sources_named}
