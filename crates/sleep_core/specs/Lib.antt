@@ -1,3 +1,5 @@
+pub mod CoreFields
+pub mod Cores
 pub mod Histories
 pub mod HistoryFields
 pub mod Looks

@@ -3,8 +3,10 @@
 
 mod auto;
 mod clock;
+mod core;
 mod events;
 mod history;
 mod steps;
 
+pub use core::Core;
 pub use events::{Events, PlainEvents};

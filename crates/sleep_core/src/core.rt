@@ -1,0 +1,91 @@
+use crate::history::History;
+use answer_book::AnswerBook;
+use device_rows::Flags;
+use script_plan::Plan;
+use sleep_base::Errno;
+use sleep_model::{Actor, EventNow, Machine, What};
+use std::marker::Model;
+
+/// The core of system sleep for one machine: what each actor may do next, and the journal of what it did
+/// (`kernel/power/suspend.c`, `drivers/base/power/main.c`).
+#[derive(Drop)]
+pub struct Core<'m> {
+    pub(crate) history: History<'m>,
+    pub(crate) plans: Vec<Plan<'m>>,
+    pub(crate) answers: AnswerBook<'m>,
+    // Which devices may wake the machine.
+    pub(crate) wakeup: Flags,
+}
+
+impl<'m> Model for Core<'m> {
+    ghost use Rattle.sleep_core.specs.Cores.{CoreState};
+
+    ghost Value = { CoreState };
+
+    ghost use Rattle.sleep_core.specs.CoreFields.{state, keeps};
+
+    ghost view = { state };
+
+    ghost invariant = { keeps };
+}
+
+impl<'m> Core<'m> {
+    ghost use Rattle.std.specs.Prelude.{◌≡◌, ◌≤◌, ◌<◌, ◌^◌, ◌+◌, map};
+    ghost use Rattle.sleep_model.specs.Attempt.{answered, sleeps_now};
+    ghost use Rattle.sleep_model.specs.Guard.{pending, in_force};
+    ghost use Rattle.sleep_model.specs.Lock.{holder, is_on};
+    ghost use Rattle.sleep_model.specs.Numbers.{time_of};
+    ghost use Rattle.sleep_model.specs.Path.{attempts, is_actor, maker};
+    ghost use Rattle.sleep_state.specs.Places.{entries};
+
+    /// The machine.
+    pub(crate) fn machine(&self) -> &'m Machine
+        ensures { result.now ≡ self.now.machine }
+    {
+        self.history.machine()
+    }
+
+    /// Whether a wakeup is pending at this word (`pm_wakeup_pending`).
+    pub(crate) fn pending(&self, now: EventNow) -> bool
+        ensures { result ≡ pending (entries self.now.past) now }
+    {
+        self.history.guard().is_pending(now)
+    }
+
+    /// The time of the last jump, in ms.
+    pub(crate) fn now(&self) -> u64
+        ensures is { result ≡ time_of (entries self.now.past) }
+        ensures early { result ≤ 2 ^ 63 }
+    {
+        self.history.time()
+    }
+
+    /// The number of the attempt that was begun last.
+    pub(crate) fn attempts(&self) -> u32
+        ensures is { result ≡ attempts (entries self.now.past) }
+        ensures few { result + 1 < 2 ^ 32 }
+    {
+        self.history.path().attempts()
+    }
+
+    /// What the machine answers for a thing in the open attempt.
+    pub(crate) fn answered(&self, what: What) -> Option<Errno>
+        ensures { result ≡ answered self.now.machine (entries self.now.past) what }
+    {
+        self.answers.error(what, self.history.path().attempts())
+    }
+
+    /// Whether that actor makes the open attempt.
+    pub(crate) fn is_maker(&self, who: Actor) -> bool
+        ensures { result ≡ is_actor who (maker (entries self.now.past)) }
+    {
+        sleep_state::is_actor(who, self.history.path().maker())
+    }
+
+    /// Whether the machine sleeps.
+    pub(crate) fn is_asleep(&self) -> bool
+        ensures { result ≡ sleeps_now (entries self.now.past) }
+    {
+        self.history.path().sleep().is_some()
+    }
+}
