@@ -1,5 +1,5 @@
 -- A board as contracts see it, and what is asked of it.
-use Rattle.std.specs.Prelude.{ℕ, Bool, not, ◌&&◌, List, length, filter, replicate, Option}
+use Rattle.std.specs.Prelude.{ℕ, Bool, not, ◌&&◌, List, length, filter, replicate, if◌then◌else◌, Option}
 use Rattle.std.specs.List.{list_all}
 use Rattle.phase_table.specs.declared.phase.Phase.{Phase}
 use Rattle.phase_table.specs.declared.phase.Phase.TheVariants as phase
@@ -7,6 +7,9 @@ use Rattle.sleep_model.specs.declared.entry.Kind.{Kind}
 use Rattle.sleep_model.specs.declared.machine.Link.{Link}
 use Rattle.sleep_model.specs.declared.place.Stand.{Stand}
 use Rattle.sleep_model.specs.declared.place.Stand.TheVariants as stand
+use Rattle.sleep_model.specs.declared.place.AsyncWork.{AsyncWork}
+use Rattle.sleep_model.specs.declared.place.AsyncWork.TheVariants.{Idle}
+use Rattle.sleep_model.specs.Devices.{work_by}
 use Rattle.sleep_model.specs.Links.{first_places}
 use Rattle.sleep_model.specs.Order.{hanging, holding, order_by}
 use Rattle.sleep_model.specs.Stands.{stands_after, device_of, stand_at, is_unprepared, is_prepared, is_ready, is_unsettled, is_going_down, is_down_in, is_left_alone, is_low}
@@ -97,3 +100,10 @@ open_above_on board p d = length (filter (λ e. is_low (stand_at (stands_on boar
 -- all devices below d are left alone (direct_complete)
 abbrev pub all_left_alone_on : BoardState → ℕ → Bool
 all_left_alone_on board d = list_all (λ e. is_left_alone (stand_at board.suspend e)) (hanging board.parents board.links d)
+
+-- the work of its own of device d: a synchronous one has none (async_schedule_dev)
+abbrev pub work_on : BoardState → ℕ → AsyncWork
+work_on board d =
+    if is_so board.beside d
+    then work_by (stand_at board.suspend d) (stand_at board.late d) (stand_at board.noirq d)
+    else Idle

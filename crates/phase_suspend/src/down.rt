@@ -1,0 +1,196 @@
+ghost use Rattle.std.specs.Prelude.{◌≡◌};
+ghost use Rattle.sleep_model.specs.Devices.{error_in, error_by, unless_own, phase_failed_after, own_error_after, unless_failed};
+ghost use Rattle.sleep_model.specs.Answers.{error_of_number};
+ghost use Rattle.sleep_model.specs.Walk.{or_else};
+ghost use Rattle.phase_suspend.specs.Downs.{down_state, down_after, is_direct_on, taken_on, take_down_on, close_down_on, walk_due_on, given_down_on};
+
+use async_board::{Board, is_left_alone};
+use device_rows::Flags;
+use sleep_base::Errno;
+use sleep_model::{Due, Kind, Phase, SkipCause, Why};
+
+/// The errors that stand in the open phase (`drivers/base/power/main.c`, `async_error`, `error`).
+#[derive(Clone, Copy)]
+pub struct Down {
+    /// The last error of any device, or `EBUSY` of a wakeup that was found.
+    pub failed: Option<Errno>,
+    /// The last error of a synchronous device's callback.
+    pub own: Option<Errno>,
+}
+
+/// What a phase on the way down looks at.
+#[derive(Clone, Copy)]
+pub struct DownEnv<'a> {
+    /// Where each device stands.
+    pub board: &'a Board,
+    /// Which devices answered 1 to their last prepare.
+    pub willing: &'a Flags,
+    /// Which devices are runtime suspended.
+    pub statuses: &'a Flags,
+    /// Which devices may wake the machine.
+    pub wakeup: &'a Flags,
+    /// A wakeup is pending.
+    pub pending: bool,
+}
+
+// The error of a callback counts on the way down.
+fn error_in(p: Phase, r: Option<Errno>, before: Option<Errno>) -> Option<Errno>
+    ensures { result ≡ error_in p r before }
+{
+    match r {
+        Some(r) if p.is_down() => Some(r),
+        _ => before,
+    }
+}
+
+fn error_of_number(number: i32) -> Option<Errno>
+    ensures { result ≡ error_of_number number }
+{
+    match number {
+        -4 => Some(Errno::EINTR),
+        -5 => Some(Errno::EIO),
+        -11 => Some(Errno::EAGAIN),
+        -13 => Some(Errno::EACCES),
+        -16 => Some(Errno::EBUSY),
+        -19 => Some(Errno::ENODEV),
+        -22 => Some(Errno::EINVAL),
+        _ => None,
+    }
+}
+
+fn failed_after(kind: Kind, before: Option<Errno>) -> Option<Errno>
+    ensures { result ≡ phase_failed_after kind before }
+{
+    match kind {
+        Kind::Attempt { .. } | Kind::Done(..) => None,
+        Kind::Prepare { r, .. } => match error_of_number(r) {
+            None => before,
+            error => error,
+        },
+        Kind::End(p, _, r) => error_in(p, r, before),
+        Kind::Skip(_, _, SkipCause::Pending) => Some(Errno::EBUSY),
+        _ => before,
+    }
+}
+
+fn own_after(kind: Kind, own: bool, before: Option<Errno>) -> Option<Errno>
+    ensures { result ≡ own_error_after kind own before }
+{
+    match kind {
+        Kind::Attempt { .. } | Kind::Done(..) => None,
+        Kind::End(p, _, r) if !own => error_in(p, r, before),
+        _ => before,
+    }
+}
+
+// Whether the phase leaves the device alone: suspend by what is so now, late and noirq where
+// suspend did.
+fn is_direct(env: &DownEnv<'_>, p: Phase, device: u32) -> bool
+    ensures { (down : Down) → result ≡ is_direct_on (down_state down env.now) p device }
+{
+    match p {
+        Phase::Suspend => {
+            env.willing.is_set(device)
+                && env.statuses.is_set(device)
+                && !env.wakeup.is_set(device)
+                && env.board.all_left_alone(device)
+        }
+        _ => is_left_alone(env.board.stand(Phase::Suspend, device)),
+    }
+}
+
+// What a device makes at its turn: a pending wakeup skips it, it is left alone, or its callback
+// begins.
+fn taken(env: &DownEnv<'_>, p: Phase, device: u32) -> Kind
+    ensures { (down : Down) → result ≡ taken_on (down_state down env.now) p device }
+{
+    if p.checks_wakeup() && env.pending {
+        Kind::Skip(p, device, SkipCause::Pending)
+    } else if is_direct(env, p, device) {
+        Kind::Skip(p, device, SkipCause::Direct)
+    } else {
+        Kind::Begin(p, device)
+    }
+}
+
+impl Down {
+    /// No error stands.
+    pub fn new() -> Down
+        ensures { result ≡ record { failed = None; own = None } }
+    {
+        Down {
+            failed: None,
+            own: None,
+        }
+    }
+
+    /// Takes down what an entry does to the errors; `own` says whether the entry is an asynchronous
+    /// device's own.
+    pub fn note(&mut self, kind: Kind, own: bool)
+        ensures { self.new ≡ down_after kind own self.old }
+    {
+        self.failed = failed_after(kind, self.failed);
+        self.own = own_after(kind, own, self.own);
+    }
+
+    /// What the phase answers: a synchronous callback's error, else the last one (`dpm_suspend`).
+    pub fn error(&self) -> Option<Errno>
+        ensures { result ≡ or_else self.now.own self.now.failed }
+    {
+        match self.own {
+            Some(error) => Some(error),
+            None => self.failed,
+        }
+    }
+
+    /// What the walk of a phase on the way down does next, where it is inside no callback
+    /// (`dpm_suspend`, `dpm_suspend_late`, `dpm_noirq_suspend_devices`). It takes the devices from
+    /// the last to the first, gives out the asynchronous ones, waits for all below a synchronous
+    /// one before it begins, is left alone or is skipped, and ends once all that were given out are
+    /// through: by an error, or where no device is left.
+    pub fn walk_due(&self, env: &DownEnv<'_>, p: Phase) -> Due
+        ensures { result ≡ walk_due_on (down_state self.now env.now) p }
+    {
+        match (self.failed, env.board.next_down(p)) {
+            (None, Some(device)) => self.take(env, p, device),
+            _ => self.close(env, p),
+        }
+    }
+
+    /// What a device does next that a phase on the way down has given out (`__device_suspend`): it
+    /// waits for all below it, and is then skipped by an error or a wakeup, left alone, or begins.
+    pub fn device_due(&self, env: &DownEnv<'_>, p: Phase, device: u32) -> Due
+        ensures { result ≡ given_down_on (down_state self.now env.now) p device }
+    {
+        match env.board.waits_below(p, device) {
+            Some(other) => Due::Waits(Why::Device(other)),
+            None => match self.failed {
+                Some(_) => Due::Makes(Kind::Skip(p, device, SkipCause::Error)),
+                None => Due::Makes(taken(env, p, device)),
+            },
+        }
+    }
+
+    // The walk at a device: an asynchronous one is given out, another waits for all below it.
+    fn take(&self, env: &DownEnv<'_>, p: Phase, device: u32) -> Due
+        ensures { result ≡ take_down_on (down_state self.now env.now) p device }
+    {
+        if env.board.is_beside(device) {
+            return Due::Makes(Kind::Schedule(p, device));
+        }
+        match env.board.waits_below(p, device) {
+            Some(other) => Due::Waits(Why::Device(other)),
+            None => Due::Makes(taken(env, p, device)),
+        }
+    }
+
+    // The end of the walk, once all that were given out are through.
+    fn close(&self, env: &DownEnv<'_>, p: Phase) -> Due
+        ensures { result ≡ close_down_on (down_state self.now env.now) p }
+    {
+        match env.board.waits_down(p) {
+            Some(other) => Due::Waits(Why::Device(other)),
+            None => Due::Makes(Kind::Done(p, self.error())),
+        }
+    }
+}
