@@ -1,4 +1,4 @@
-//! What the phases prepare and complete do next, and which devices may be left alone.
+//! What the phases prepare and complete do next.
 #![tactic(auto)]
 
 mod law;
@@ -7,4 +7,4 @@ mod prepare;
 mod tests;
 
 pub use law::prepare_follows;
-pub use prepare::{Prepare, complete_due, prepare_due};
+pub use prepare::{complete_due, prepare_due};

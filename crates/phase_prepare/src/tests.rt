@@ -5,14 +5,12 @@ use sleep_base::Errno;
 use sleep_model::{Due, Kind, Phase};
 use std::test::Fail;
 
-/// Prepare goes forward, a device that answers 1 may be left alone, an error ends it, and complete
-/// goes back over those that were prepared.
+/// Prepare goes forward, an error ends it, and complete goes back over those that were prepared.
 #[test]
 fn devices_are_prepared_and_completed(rt: HostRuntime) -> Result<(), Fail> {
     let links = Links::new(rt.alloc(), &[None, Some(0), Some(1)])?;
     let beside = vec![in rt.alloc(); false; 3]?;
     let mut board = Board::wired(rt.alloc(), links, beside)?;
-    let mut prepare = Prepare::new(rt.alloc(), 3)?;
     for (device, r) in [(0, 0), (1, 1)] {
         match prepare_due(&board, None, r) {
             Due::Makes(
@@ -25,11 +23,8 @@ fn devices_are_prepared_and_completed(rt: HostRuntime) -> Result<(), Fail> {
             }
             _ => panic!(rt; "no prepare"),
         }
-        let kind = Kind::Prepare { device, r };
-        board.note(kind);
-        prepare.note(kind);
+        board.note(Kind::Prepare { device, r });
     }
-    assert!(rt; prepare.willing().is_set(1) && !prepare.willing().is_set(0));
     let failed = Some(Errno::EIO);
     let due = prepare_due(&board, failed, 0);
     assert!(rt;

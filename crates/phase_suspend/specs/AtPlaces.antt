@@ -9,7 +9,6 @@ use Rattle.sleep_model.specs.Devices.{phase_failed, own_error, willing, down_due
 use Rattle.sleep_model.specs.Guard.{pending}
 use Rattle.sleep_model.specs.Runtime.{may_wake, statuses, leaves_alone, takes_late, runtime_due}
 use Rattle.async_board.specs.AtPlaces.{board_at}
-use Rattle.phase_suspend.specs.declared.runtime.Spans.{Spans}
 use Rattle.phase_suspend.specs.Downs.{DownState, walk_due_on, given_down_on}
 use Rattle.phase_suspend.specs.Spanned.{runtime_due_on}
 
@@ -25,12 +24,8 @@ down_at m past now = record {
   pending = pending past now;
 }
 
--- the spans after these entries
-abbrev pub spans_at : List Entry → Spans
-spans_at past = record { leaves_alone = leaves_alone past; takes_late = takes_late past }
-
 -- the walk and the devices do what is due of them
 pub record Follows (m : Machine) (past : List Entry) (now : EventNow) : Type 0 where
   pub walk : (p : Phase) → is_down p ≡ true → walk_due_on (down_at m past now) p ≡ down_due m past now p None
   pub given : (p : Phase) (d : ℕ) → is_down p ≡ true → given_down_on (down_at m past now) p d ≡ given_due m past now p d
-  pub answer : (d : ℕ) (to_suspended : Bool) → runtime_due_on (board_at m past) (spans_at past) d to_suspended ≡ runtime_due m d to_suspended past
+  pub answer : (d : ℕ) (to_suspended : Bool) → runtime_due_on (board_at m past) (leaves_alone past) (takes_late past) d to_suspended ≡ runtime_due m d to_suspended past

@@ -9,7 +9,7 @@ use Rattle.sleep_model.specs.declared.entry.Kind.TheVariants as kind
 use Rattle.sleep_model.specs.declared.entry.SkipCause.TheVariants as skip
 use Rattle.sleep_model.specs.declared.place.Due.{Due}
 use Rattle.sleep_model.specs.declared.place.Due.TheVariants.{Makes}
-use Rattle.sleep_model.specs.Devices.{after_device, phase_failed_after, own_error_after, unless_failed}
+use Rattle.sleep_model.specs.Devices.{after_device, unless_failed}
 use Rattle.sleep_model.specs.Stands.{stand_at, is_left_alone}
 use Rattle.sleep_model.specs.Walk.{is_so, or_else}
 use Rattle.async_board.specs.Boards.{BoardState, next_down_on, waits_down_on, waits_below_on, all_left_alone_on}
@@ -37,10 +37,6 @@ down_state down env = record {
   wakeup = env.wakeup.now;
   pending = env.pending;
 }
-
--- the errors after an entry, which is a device's own or not (async_error, error)
-abbrev pub down_after : Kind → Bool → Down → Down
-down_after k own down = record { failed = phase_failed_after k down.failed; own = own_error_after k own down.own }
 
 -- d is left alone by suspend (__device_suspend, direct_complete)
 abbrev pub is_direct_now_on : DownState → ℕ → Bool

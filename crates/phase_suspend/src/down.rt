@@ -1,8 +1,7 @@
 ghost use Rattle.std.specs.Prelude.{◌≡◌};
-ghost use Rattle.sleep_model.specs.Devices.{error_in, error_by, unless_own, phase_failed_after, own_error_after, unless_failed};
-ghost use Rattle.sleep_model.specs.Answers.{error_of_number};
+ghost use Rattle.sleep_model.specs.Devices.{unless_failed};
 ghost use Rattle.sleep_model.specs.Walk.{or_else};
-ghost use Rattle.phase_suspend.specs.Downs.{down_state, down_after, is_direct_on, taken_on, take_down_on, close_down_on, walk_due_on, given_down_on};
+ghost use Rattle.phase_suspend.specs.Downs.{down_state, is_direct_on, taken_on, take_down_on, close_down_on, walk_due_on, given_down_on};
 
 use async_board::{Board, is_left_alone};
 use device_rows::Flags;
@@ -31,56 +30,6 @@ pub struct DownEnv<'a> {
     pub wakeup: &'a Flags,
     /// A wakeup is pending.
     pub pending: bool,
-}
-
-// The error of a callback counts on the way down.
-fn error_in(p: Phase, r: Option<Errno>, before: Option<Errno>) -> Option<Errno>
-    ensures { result ≡ error_in p r before }
-{
-    match r {
-        Some(r) if p.is_down() => Some(r),
-        _ => before,
-    }
-}
-
-fn error_of_number(number: i32) -> Option<Errno>
-    ensures { result ≡ error_of_number number }
-{
-    match number {
-        -4 => Some(Errno::EINTR),
-        -5 => Some(Errno::EIO),
-        -11 => Some(Errno::EAGAIN),
-        -13 => Some(Errno::EACCES),
-        -16 => Some(Errno::EBUSY),
-        -19 => Some(Errno::ENODEV),
-        -22 => Some(Errno::EINVAL),
-        _ => None,
-    }
-}
-
-fn failed_after(kind: Kind, before: Option<Errno>) -> Option<Errno>
-    ensures { result ≡ phase_failed_after kind before }
-{
-    match kind {
-        Kind::Attempt { .. } | Kind::Done(..) => None,
-        Kind::Prepare { r, .. } => match error_of_number(r) {
-            None => before,
-            error => error,
-        },
-        Kind::End(p, _, r) => error_in(p, r, before),
-        Kind::Skip(_, _, SkipCause::Pending) => Some(Errno::EBUSY),
-        _ => before,
-    }
-}
-
-fn own_after(kind: Kind, own: bool, before: Option<Errno>) -> Option<Errno>
-    ensures { result ≡ own_error_after kind own before }
-{
-    match kind {
-        Kind::Attempt { .. } | Kind::Done(..) => None,
-        Kind::End(p, _, r) if !own => error_in(p, r, before),
-        _ => before,
-    }
 }
 
 // Whether the phase leaves the device alone: suspend by what is so now, late and noirq where
@@ -114,27 +63,8 @@ fn taken(env: &DownEnv<'_>, p: Phase, device: u32) -> Kind
 }
 
 impl Down {
-    /// No error stands.
-    pub fn new() -> Down
-        ensures { result ≡ record { failed = None; own = None } }
-    {
-        Down {
-            failed: None,
-            own: None,
-        }
-    }
-
-    /// Takes down what an entry does to the errors; `own` says whether the entry is an asynchronous
-    /// device's own.
-    pub fn note(&mut self, kind: Kind, own: bool)
-        ensures { self.new ≡ down_after kind own self.old }
-    {
-        self.failed = failed_after(kind, self.failed);
-        self.own = own_after(kind, own, self.own);
-    }
-
-    /// What the phase answers: a synchronous callback's error, else the last one (`dpm_suspend`).
-    pub fn error(&self) -> Option<Errno>
+    // What the phase answers: a synchronous callback's error, else the last one.
+    fn error(&self) -> Option<Errno>
         ensures { result ≡ or_else self.now.own self.now.failed }
     {
         match self.own {

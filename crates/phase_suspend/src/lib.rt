@@ -10,4 +10,4 @@ mod tests;
 
 pub use down::{Down, DownEnv};
 pub use law::down_follows;
-pub use runtime::{Spans, move_statuses, runtime_due};
+pub use runtime::runtime_due;
