@@ -279,3 +279,76 @@ module _ (m : Machine) (past : List Entry) (time : ℕ) (now : EventNow) (who : 
   maker_walks _ k (Made.SchedulesUp p d u c n) h w = schedules_up p d n h w
   maker_walks _ k (Made.BeginsUp p d u c g n a) h w = begins_up p d c h w
   maker_walks _ k _ h w = tt
+
+-- ---- a device's own entries
+
+module _ (m : Machine) (past : List Entry) (e : Entry) (d : ℕ) (is : device_of e.kind ≡ Some d) (same : callback (e ∷ past) ≡ callback past) (async : is_async_device m d ≡ true) (q : Phase) (b s : Stand) (was : at (three m past d) q ≡ b) (rb : is_ready b ≡ false) (rs : is_ready s ≡ false) (changes : (p : Phase) → Down p → Change q s (three m past d) (three_after e.kind (three m past d)) p) where
+  own_walks : (st : Option Stage) → WalksIf m past st → WalksIf m (e ∷ past) st
+  own_walks (Some (stage.Downs p)) w = λ i. (
+    goes_on m past e d is p (w i).0 (same_ready m past e d is q b s was rb rs p (changes p i)),
+    calls_beside m past e d is p is_suspending (w i).1 same async,
+  )
+  own_walks (Some (stage.Ups p)) w = λ u. calls_beside m past e d is (mirror p) is_resuming (w u) same async
+  own_walks None w = tt
+  own_walks (Some stage.Notifies) w = tt
+  own_walks (Some _) w = tt
+
+device_walks : (m : Machine) (past : List Entry) (time : ℕ) (now : EventNow) (d : ℕ) (k : Kind) (st : Option Stage) → DeviceMade m past now d k → WalksIf m past st → WalksIf m (record { time = time; now = now; actor = actor.Dev d; kind = k } ∷ past) st
+device_walks m past time now d k st (DeviceMade.OwnFails p r i g f) w =
+    own_walks m past (record { time = time; now = now; actor = actor.Dev d; kind = k }) d refl refl g.beside p stand.Scheduled stand.Failed (at_is m past p d i ∙ g.stands) refl refl (λ q j. turned_down p q stand.Failed (three m past d) (three m past d) i j) st w
+device_walks m past time now d k st (DeviceMade.OwnFinds p i g f t b) w =
+    own_walks m past (record { time = time; now = now; actor = actor.Dev d; kind = k }) d refl refl g.beside p stand.Scheduled stand.Failed (at_is m past p d i ∙ g.stands) refl refl (λ q j. turned_down p q stand.Failed (three m past d) (three m past d) i j) st w
+device_walks m past time now d k st (DeviceMade.OwnLeaves p i g f t a) w =
+    own_walks m past (record { time = time; now = now; actor = actor.Dev d; kind = k }) d refl refl g.beside p stand.Scheduled stand.Direct (at_is m past p d i ∙ g.stands) refl refl (λ q j. turned_down p q stand.Direct (three m past d) (three m past d) i j) st w
+device_walks m past time now d k st (DeviceMade.OwnBegins p i g f t a) w =
+    own_walks m past (record { time = time; now = now; actor = actor.Dev d; kind = k }) d refl refl g.beside p stand.Scheduled stand.Suspending (at_is m past p d i ∙ g.stands) refl refl (λ q j. turned_down p q stand.Suspending (all_three stand.Resuming) (three m past d) i j) st w
+device_walks m past time now d k st (DeviceMade.OwnRises p u a x s n) w =
+    own_walks m past (record { time = time; now = now; actor = actor.Dev d; kind = k }) d refl refl a (mirror p) stand.Rescheduled stand.Resuming (at_is m past (mirror p) d (mirror_down p u) ∙ s) refl refl (λ q j. turned_up p q stand.Resuming stand.Suspending (three m past d) u j) st w
+device_walks m past time now d k st (DeviceMade.OwnEnds p r i a x s) w =
+    own_walks m past (record { time = time; now = now; actor = actor.Dev d; kind = k }) d refl refl a p stand.Suspending (ended_by r) (at_is m past p d i ∙ s) refl (taken r) (λ q j. turned_down p q (ended_by r) (all_three stand.Resumed) (three m past d) i j) st w
+  where
+    taken : (r : Option Errno) → is_ready (ended_by r) ≡ false
+    taken None = refl
+    taken (Some y) = refl
+device_walks m past time now d k st (DeviceMade.OwnRose p r u a x s) w =
+    own_walks m past (record { time = time; now = now; actor = actor.Dev d; kind = k }) d refl refl a (mirror p) stand.Resuming stand.Resumed (at_is m past (mirror p) d (mirror_down p u) ∙ s) refl refl (λ q j. turned_up p q stand.Resumed (ended_by r) (three m past d) u j) st w
+
+-- ---- at each place
+
+-- where the devices stand, and how their walk goes on
+abbrev pub Underway : Machine → Option Stage → List Entry → Type 0
+Underway m st past = Standing m past st × WalksIf m past st
+
+walks_comes : (m : Machine) (past : List Entry) (here there : Stage) → Comes m past here there → WalksAt m past here → WalksAt m past there
+walks_comes m past _ _ (AtOnce s) w = w
+walks_comes m past _ _ (PastNotifiers e) w = tt
+walks_comes m past _ _ (PastCpus e) w = tt
+walks_comes m past _ _ (PastParts e) w = tt
+walks_comes m past _ _ (PastPartsUp e) w = tt
+walks_comes m past _ _ (PastCpusUp e) w = tt
+walks_comes m past _ _ (PastPosts e) w = tt
+
+walks_beside : (m : Machine) (past : List Entry) (time : ℕ) (now : EventNow) (who : Actor) (k : Kind) (st : Option Stage) → Aside k → WalksIf m past st → WalksIf m (record { time = time; now = now; actor = who; kind = k } ∷ past) st
+walks_beside m past time now who _ (Some (stage.Downs p)) Aside.Frozen w = w
+walks_beside m past time now who _ (Some (stage.Ups p)) Aside.Frozen w = w
+walks_beside m past time now who _ None Aside.Frozen w = tt
+walks_beside m past time now who _ (Some (stage.Downs p)) _ w = w
+walks_beside m past time now who _ (Some (stage.Ups p)) _ w = w
+walks_beside m past time now who k None a w = tt
+walks_beside m past time now who k (Some _) a w = tt
+
+underway_kept : (m : Machine) → Kept m (Underway m)
+underway_kept m =
+    let s : Kept m (λ (st : Option Stage) (past : List Entry). Standing m past st) = stands_kept m in
+    record {
+      starts = (s.starts, tt);
+      opens = λ past time now who n guarded h. (s.opens past time now who n guarded h.0, tt);
+      comes = λ past here there c h. (s.comes past here there c h.0, walks_comes m past here there c h.1);
+      makes = λ past time now who there k task x h. (s.makes past time now who there k task x h.0, maker_walks m past time now who task there k x h.0 h.1);
+      beside = λ past time now who k st x task a h. (s.beside past time now who k st x task a h.0, walks_beside m past time now who k st a h.1);
+      owns = λ past time now d k st x h. (s.owns past time now d k st x h.0, device_walks m past time now d k st x h.1);
+    }
+
+-- so at each place of a legal journal
+pub underway : (m : Machine) (past : List Entry) → JournalPart m past → Underway m (stage_of past) past
+underway m past h = at_stage m (Underway m) (underway_kept m) past h
