@@ -2,6 +2,7 @@ pub mod Activity
 pub mod Answering
 pub mod Boards
 pub mod DevicesStand
+pub mod Ending
 pub mod Flags
 pub mod Guarding
 pub mod Held
