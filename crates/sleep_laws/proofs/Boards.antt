@@ -162,7 +162,7 @@ turned_up _ _ s other t InResumeNoirq InSuspend = Away refl
 turned_up _ _ s other t InResumeNoirq InLate = Away refl
 turned_up _ _ s other t InResumeNoirq InNoirq = Here refl refl
 
-pub mirror_down : (p : Phase) → Up p → Down (mirror p)
+abbrev pub mirror_down : (p : Phase) → Up p → Down (mirror p)
 mirror_down _ InResume = InSuspend
 mirror_down _ InEarly = InLate
 mirror_down _ InResumeNoirq = InNoirq

@@ -38,14 +38,14 @@ use Rattle.sleep_model.specs.Table.{stage_of, behind}
 use Rattle.sleep_model.specs.Walk.{first_where, last_where}
 use Rattle.sleep_model.proofs.Walks.{AllDifferent}
 use Rattle.sleep_laws.proofs.Activity.{same_number, different}
-use Rattle.sleep_laws.proofs.Boards.{Three, at, at_is, three, Found, first_found, last_found, first_none, last_none}
+use Rattle.sleep_laws.proofs.Boards.{Three, at, at_is, three, mirror_down, Found, first_found, last_found, first_none, last_none}
 use Rattle.sleep_laws.proofs.Holding.{StageMaker, held}
 use Rattle.sleep_laws.proofs.Made.{Down, InSuspend, InLate, InNoirq, Up, InResume, InEarly, InResumeNoirq, Made, StepMade, TaskMade, WorkMade, DeviceMade, EntryMade, ByMaker, ByTask, ByWork, ByDevice, ByTime, MayGo}
 use Rattle.sleep_laws.proofs.Making.{Proper, ProperIf, stage_proper}
 use Rattle.sleep_laws.proofs.MakingOwn.{entry_made}
 use Rattle.sleep_laws.proofs.Moods.{Mood, Settled, Going, Coming, in_down, in_up, allows, when_settled}
 use Rattle.sleep_laws.proofs.Ranks.{Behind, behind_first, behind_last, order_behind, order_apart, last_behind, first_before, first_or_behind, last_there, first_there, above_below, IsRanked}
-use Rattle.sleep_laws.proofs.Standing.{IsFine, is_given, errs, Fines, Standing}
+use Rattle.sleep_laws.proofs.Standing.{IsFine, is_given, down_is, errs, Fines, Standing}
 use Rattle.sleep_laws.proofs.Telling.{some≢none}
 use Rattle.sleep_laws.proofs.Turning.{never}
 use Rattle.sleep_laws.proofs.Underway.{is_suspending, is_resuming, IsCalled, TakesLast, Calls, Underway, underway}
@@ -230,3 +230,122 @@ module _ (m : Machine) (ranks : IsRanked m) (past : List Entry) (now : EventNow)
       by_error (Some r) o n x = close_goes (kind.Done p (phase_error past)) x
       by_error None None n x = close_goes (kind.Done p (phase_error past)) x
       by_error None (Some d) n x = take_goes d n x
+
+-- ---- on the way up: q is the phase on the way down whose mirror it is
+
+up_settled : (p : Phase) (u : Up p) → SettledBefore (in_up p) (mirror p) (mirror_down p u)
+up_settled _ InResume = tt
+up_settled _ InEarly = refl
+up_settled _ InResumeNoirq = (refl, refl)
+
+low_prepared : (s : Stand) → is_low s ≡ true → is_prepared s ≡ true
+low_prepared stand.Unprepared e = never e
+low_prepared _ e = refl
+
+-- what a device that was given out on the way up makes
+up_given : (m : Machine) (past : List Entry) (now : EventNow) (q : Phase) (d : ℕ) → Down q → is_made (given_due m past now (mirror q) d) ≡ false → is_made (after_device (waits_above m past q d) (turn.Makes (kind.Begin (mirror q) d))) ≡ false
+up_given m past now _ d InSuspend x = x
+up_given m past now _ d InLate x = x
+up_given m past now _ d InNoirq x = x
+
+module _ (m : Machine) (ranks : IsRanked m) (past : List Entry) (now : EventNow) (p : Phase) (u : Up p) (h : Standing m past (Some (stage.Ups p))) (calls : Calls m past (mirror p) is_resuming) (free : callback past ≡ None) (stuck : (d : ℕ) → is_among (order m) d ≡ true → is_async_device m d ≡ true → StuckAt m past now d) where
+  apart_up : AllDifferent (order m)
+  apart_up = order_apart (below m) (order m) ranks
+
+  down_of : Down (mirror p)
+  down_of = mirror_down p u
+
+  low_among : (d : ℕ) → is_low (stand_in m past (mirror p) d) ≡ true → is_among (order m) d ≡ true
+  low_among d l = in_order m past (in_up p) false h.0 (mirror p) d (mirror_down p u) (low_prepared (stand_in m past (mirror p) d) l)
+
+  -- the first device that is not up waits for none above it
+  first_free : (g : ℕ) → first_where (λ d. is_low (stand_in m past (mirror p) d)) (order m) ≡ Some g → (e : ℕ) → waits_above m past (mirror p) g ≡ Some e → ⊥
+  first_free g l e w =
+      let f : Found (λ x. is_low (stand_in m past (mirror p) x)) (above m g) e = first_found (λ x. is_low (stand_in m past (mirror p) x)) (above m g) e w in
+      let b : Behind (order m) e g = order_behind (below m) (order m) ranks e g (low_among e f.passes) (above_below m g e f.among) in
+      true≢false (sym f.passes ∙ first_before (λ x. is_low (stand_in m past (mirror p) x)) (order m) apart_up g e l b)
+
+  -- it can go on, unless it is a synchronous one that is down
+  first_goes : (g : ℕ) → first_where (λ d. is_low (stand_in m past (mirror p) d)) (order m) ≡ Some g → (stand_in m past (mirror p) g ≡ stand.Suspended → ⊥) → ⊥
+  first_goes g l down =
+      let f : Found (λ d. is_low (stand_in m past (mirror p) d)) (order m) g = first_found (λ d. is_low (stand_in m past (mirror p) d)) (order m) g l in
+      by_stand (stand_in m past (mirror p) g) refl f.passes f.among
+    where
+      is_sync : is_resuming (stand_in m past (mirror p) g) ≡ true → is_async_device m g ≡ true
+      is_sync s = by_test (is_async_device m g) refl
+        where
+          by_test : (b : Bool) → is_async_device m g ≡ b → is_async_device m g ≡ true
+          by_test true e = e
+          by_test false e = absurd (subst (λ (o : Option Callback). IsCalled o g) free (calls g (ap is_resuming (at_is m past (mirror p) g (mirror_down p u)) ∙ s) e))
+
+      resuming : stand_in m past (mirror p) g ≡ stand.Resuming → is_among (order m) g ≡ true → ⊥
+      resuming e o =
+          let a : is_async_device m g ≡ true = is_sync (ap is_resuming e) in
+          let w : async_work m past g ≡ Within (mirror (mirror p)) = work_at m past (in_up p) false h.0 (mirror p) (mirror_down p u) (up_settled p u) g stand.Resuming (Within (mirror (mirror p))) (λ other. refl) e a in
+          true≢false (subst (λ (x : AsyncWork). is_made (device_due m past now g x) ≡ false) w (stuck g o a))
+
+      rescheduled : stand_in m past (mirror p) g ≡ stand.Rescheduled → is_among (order m) g ≡ true → ⊥
+      rescheduled e o =
+          let a : is_async_device m g ≡ true = (h.0 g).given (mirror p) (mirror_down p u) (ap is_given (at_is m past (mirror p) g (mirror_down p u) ∙ e)) in
+          let w : async_work m past g ≡ Given (mirror (mirror p)) = work_at m past (in_up p) false h.0 (mirror p) (mirror_down p u) (up_settled p u) g stand.Rescheduled (Given (mirror (mirror p))) (λ other. refl) e a in
+          let s : is_made (given_due m past now (mirror (mirror p)) g) ≡ false = subst (λ (x : AsyncWork). is_made (device_due m past now g x) ≡ false) w (stuck g o a) in
+          let d = waits_made (waits_above m past (mirror p) g) (kind.Begin (mirror (mirror p)) g) (up_given m past now (mirror p) g (mirror_down p u) s) in
+          first_free g l d.0 d.1
+
+      by_stand : (s : Stand) → stand_in m past (mirror p) g ≡ s → is_low (stand_in m past (mirror p) g) ≡ true → is_among (order m) g ≡ true → ⊥
+      by_stand stand.Suspended e t o = down e
+      by_stand stand.Rescheduled e t o = rescheduled e o
+      by_stand stand.Resuming e t o = resuming e o
+      by_stand stand.Unprepared e t o = true≢false (sym t ∙ ap is_low e)
+      by_stand _ e t o = true≢false (sym t ∙ ap is_low e)
+
+  -- none is low, where none is down that has to be taken next
+  none_low : next_given m past (mirror p) ≡ None → ((g : ℕ) → first_where (λ d. is_low (stand_in m past (mirror p) d)) (order m) ≡ Some g → stand_in m past (mirror p) g ≡ stand.Suspended → is_async_device m g ≡ false → ⊥) → (d : ℕ) → is_among (order m) d ≡ true → is_low (stand_in m past (mirror p) d) ≡ true → ⊥
+  none_low n sync d o low =
+      let l = first_there (λ x. is_low (stand_in m past (mirror p) x)) (order m) d o low in
+      first_goes l.0 l.1 (λ e. by_async l.0 l.1 e (is_async_device m l.0) refl)
+    where
+      by_async : (g : ℕ) → first_where (λ x. is_low (stand_in m past (mirror p) x)) (order m) ≡ Some g → stand_in m past (mirror p) g ≡ stand.Suspended → (b : Bool) → is_async_device m g ≡ b → ⊥
+      by_async g l e false a = sync g l e a
+      by_async g l e true a =
+          let given : (is_down_in (stand_in m past (mirror p) g) && is_async_device m g) ≡ true = rw (e, a) refl in
+          let f : Found (λ x. is_low (stand_in m past (mirror p) x)) (order m) g = first_found (λ x. is_low (stand_in m past (mirror p) x)) (order m) g l in
+          true≢false (sym given ∙ first_none (λ x. is_down_in (stand_in m past (mirror p) x) && is_async_device m x) (order m) n g f.among)
+
+  -- the walk up goes on
+  up_goes : is_made (up_due m past p (callback past)) ≡ false → ⊥
+  up_goes e = by_walk (next_given m past (mirror p)) (next_up m past (mirror p)) refl refl (subst (λ (o : Option Callback). is_made (up_due m past p o) ≡ false) free e)
+    where
+      sync_test : (g : ℕ) → stand_in m past (mirror p) g ≡ stand.Suspended → is_async_device m g ≡ false → (is_down_in (stand_in m past (mirror p) g) && not (is_async_device m g)) ≡ true
+      sync_test g e a = rw (e, a) refl
+
+      next_stands : (d : ℕ) → next_up m past (mirror p) ≡ Some d → is_low (stand_in m past (mirror p) d) ≡ true
+      next_stands d n =
+          let f : Found (λ x. is_down_in (stand_in m past (mirror p) x) && not (is_async_device m x)) (order m) d = first_found (λ x. is_down_in (stand_in m past (mirror p) x) && not (is_async_device m x)) (order m) d n in
+          ap is_low (down_is (stand_in m past (mirror p) d) (and_left (is_down_in (stand_in m past (mirror p) d)) (not (is_async_device m d)) f.passes))
+
+      is_of_order : (g : ℕ) → first_where (λ x. is_low (stand_in m past (mirror p) x)) (order m) ≡ Some g → is_among (order m) g ≡ true
+      is_of_order g l = (first_found (λ x. is_low (stand_in m past (mirror p) x)) (order m) g l).among
+
+      -- no synchronous device is down where none is taken next
+      none_next : next_up m past (mirror p) ≡ None → (g : ℕ) → first_where (λ x. is_low (stand_in m past (mirror p) x)) (order m) ≡ Some g → stand_in m past (mirror p) g ≡ stand.Suspended → is_async_device m g ≡ false → ⊥
+      none_next n g l s a = true≢false (sym (sync_test g s a) ∙ first_none (λ x. is_down_in (stand_in m past (mirror p) x) && not (is_async_device m x)) (order m) n g (is_of_order g l))
+
+      -- the one that is taken next is the first that is down, and waits for none
+      waits_next : (d x : ℕ) → next_up m past (mirror p) ≡ Some d → waits_above m past (mirror p) d ≡ Some x → (g : ℕ) → first_where (λ y. is_low (stand_in m past (mirror p) y)) (order m) ≡ Some g → stand_in m past (mirror p) g ≡ stand.Suspended → is_async_device m g ≡ false → ⊥
+      waits_next d x n w g l s a = by_place (first_or_behind (λ y. is_down_in (stand_in m past (mirror p) y) && not (is_async_device m y)) (order m) d g n (sync_test g s a) (is_of_order g l))
+        where
+          by_place : (d ≡ g) ⊎ Behind (order m) d g → ⊥
+          by_place (inl same) = first_free g l x (subst (λ (y : ℕ). waits_above m past (mirror p) y ≡ Some x) same w)
+          by_place (inr b) = true≢false (sym (next_stands d n) ∙ first_before (λ y. is_low (stand_in m past (mirror p) y)) (order m) apart_up g d l b)
+
+      by_walk : (g o : Option ℕ) → next_given m past (mirror p) ≡ g → next_up m past (mirror p) ≡ o → is_made (walk_up m past p g o) ≡ false → ⊥
+      by_walk (Some d) o f n x = true≢false x
+      by_walk None None f n x =
+          let w = waits_made (waits_up m past (mirror p)) (kind.Done p None) x in
+          let t : Found (λ y. is_low (stand_in m past (mirror p) y)) (order m) w.0 = first_found (λ y. is_low (stand_in m past (mirror p) y)) (order m) w.0 w.1 in
+          none_low f (none_next n) w.0 t.among t.passes
+      by_walk None (Some d) f n x =
+          let w = waits_made (waits_above m past (mirror p) d) (kind.Begin p d) x in
+          let t : Found (λ y. is_low (stand_in m past (mirror p) y)) (above m d) w.0 = first_found (λ y. is_low (stand_in m past (mirror p) y)) (above m d) w.0 w.1 in
+          none_low f (waits_next d w.0 n w.1) w.0 (low_among w.0 t.passes) t.passes
