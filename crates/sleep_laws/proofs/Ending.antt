@@ -1,7 +1,9 @@
 -- Where nobody can go on, and no time is pending, no attempt is open.
-use Rattle.std.proofs.Common.{◌≡◌, ◌≢◌, ◌<◌, ◌∙◌, ℕ, zero, suc, Bool, true, false, not, ◌==◌, ◌&&◌, ◌||◌, nat_lt, List, [], ◌∷◌, ◌⊎◌, inl, inr, length, is_some, slice_get, Option, Some, None, refl, sym, ap, subst, cond, arith}
+use Rattle.std.proofs.Common.{◌≡◌, ◌≢◌, ◌≤◌, ◌<◌, ◌+◌, ◌∙◌, min, map, ℕ, zero, suc, Bool, true, false, not, ◌==◌, ◌&&◌, ◌||◌, nat_lt, List, [], ◌∷◌, ◌⊎◌, inl, inr, length, is_some, slice_get, Option, Some, None, refl, sym, ap, subst, cond, arith}
 use Rattle.std.proofs.lemmas.Bool.{eqb-true, true≢false}
 use Rattle.std.proofs.lemmas.Bool.Decides.{nat_tests}
+use Rattle.std.proofs.lemmas.List.{get_or_past, length-map}
+use Rattle.std.proofs.lemmas.Option.{slice_get_within}
 use Rattle.sleep_base.specs.declared.errno.Errno.{Errno}
 use Rattle.sleep_model.specs.declared.entry.Actor.{Actor}
 use Rattle.sleep_model.specs.declared.entry.Actor.TheVariants as actor
@@ -12,6 +14,8 @@ use Rattle.sleep_model.specs.declared.entry.Kind.{Kind}
 use Rattle.sleep_model.specs.declared.entry.Kind.TheVariants as kind
 use Rattle.sleep_model.specs.declared.machine.Machine.{Machine}
 use Rattle.sleep_model.specs.declared.machine.Op.{Op}
+use Rattle.sleep_model.specs.declared.machine.PlatUndo.TheVariants as undo
+use Rattle.sleep_model.specs.declared.place.Work.{Work}
 use Rattle.sleep_model.specs.declared.place.AsyncWork.{AsyncWork}
 use Rattle.sleep_model.specs.declared.place.AsyncWork.TheVariants.{Idle, Given, Inside as Within}
 use Rattle.sleep_model.specs.declared.place.Callback.{Callback}
@@ -27,12 +31,17 @@ use Rattle.sleep_model.specs.declared.word.EventNow.{EventNow}
 use Rattle.phase_table.specs.declared.phase.Phase.{Phase}
 use Rattle.phase_table.specs.declared.phase.Phase.TheVariants as phase
 use Rattle.phase_table.specs.Phases.{mirror, is_down}
-use Rattle.sleep_model.specs.Attempt.{sleep_of, freeze_since, freeze_due, enter_due, if_left, or_next, stage_due, stage_or_next, due_at, attempt_due, gives_up_at}
+use Rattle.sleep_model.specs.Attempt.{sleep_of, freeze_since, freeze_due, enter_due, if_left, or_next, stage_due, stage_or_next, due_at, attempt_due, gives_up_at, cpu_kind, failed}
 use Rattle.sleep_model.specs.Devices.{callback, phase_failed, is_async_device, stand_in, waits_below, waits_down, waits_above, waits_up, next_down, next_up, next_given, next_prepared, next_completed, async_work, work_by, work_in, down_due, walk_down, take_down, phase_error, up_due, walk_up, prepare_due, complete_due, device_due, given_due, after_device, taken, unless_failed}
 use Rattle.sleep_model.specs.Due.{due, own_due}
-use Rattle.sleep_model.specs.Legal.{JournalPart, is_made, is_enabled, none_enabled, is_idle, sooner, next_time, journal_time, alarm_at, deadline_at, pending_nap, next_sleep, next_expiry}
+use Rattle.sleep_model.specs.Legal.{JournalPart, is_made, is_enabled, none_enabled, none_expires, is_idle, sooner, next_time, journal_time, alarm_at, deadline_at, pending_nap, next_sleep, next_expiry}
+use Rattle.sleep_model.specs.Numbers.{time_of}
 use Rattle.sleep_model.specs.Order.{order, below, above, is_among}
-use Rattle.sleep_model.specs.Path.{maker, maker_after, is_actor, is_same}
+use Rattle.sleep_model.specs.Notifiers.{next_called, next_cpu_off, next_stopped, next_started, next_cpu_on, next_posted}
+use Rattle.sleep_model.specs.Path.{attempts, maker, maker_after, is_actor, is_same}
+use Rattle.sleep_model.specs.Calls.{calls_due, made, is_calling}
+use Rattle.sleep_model.specs.Guard.{pending}
+use Rattle.sleep_model.specs.Runtime.{is_async}
 use Rattle.sleep_model.specs.Stands.{is_prepared, is_ready, is_unsettled, is_going_down, is_down_in, is_low}
 use Rattle.sleep_model.specs.Table.{stage_of, behind}
 use Rattle.sleep_model.specs.Walk.{first_where, last_where}
@@ -349,3 +358,212 @@ module _ (m : Machine) (ranks : IsRanked m) (past : List Entry) (now : EventNow)
           let w = waits_made (waits_above m past (mirror p) d) (kind.Begin p d) x in
           let t : Found (λ y. is_low (stand_in m past (mirror p) y)) (above m d) w.0 = first_found (λ y. is_low (stand_in m past (mirror p) y)) (above m d) w.0 w.1 in
           none_low f (waits_next d w.0 n w.1) w.0 (low_among w.0 t.passes) t.passes
+
+-- ---- the stages
+
+first_made : (x y : Due) → is_made (or_next x y) ≡ false → is_made x ≡ false
+first_made (turn.Makes k) y e = e
+first_made (turn.Waits w) y e = refl
+first_made turn.Gone y e = refl
+
+left_made : (k : ℕ → Kind) (o : Option ℕ) (next : Due) → is_made (or_next (if_left k o) next) ≡ false → is_made next ≡ false
+left_made k None next e = e
+left_made k (Some x) next e = absurd (true≢false e)
+
+prepare_goes : (m : Machine) (past : List Entry) (r : Option Errno) (o : Option ℕ) → is_made (prepare_due m past r o) ≡ false → ⊥
+prepare_goes m past (Some r) o e = true≢false e
+prepare_goes m past None (Some d) e = true≢false e
+prepare_goes m past None None e = true≢false e
+
+complete_goes : (o : Option ℕ) → is_made (complete_due o) ≡ false → ⊥
+complete_goes None e = true≢false e
+complete_goes (Some d) e = true≢false e
+
+module _ (m : Machine) (ranks : IsRanked m) (past : List Entry) (now : EventNow) (journal : JournalPart m past) (stuck : (d : ℕ) → is_among (order m) d ≡ true → is_async_device m d ≡ true → StuckAt m past now d) (awake : sleep_of past ≡ None) (unfrozen : freeze_since past ≡ None) where
+  freeze_goes : (g : Group) → is_made (freeze_due m past now g (freeze_since past)) ≡ false → ⊥
+  freeze_goes g e = true≢false (subst (λ (o : Option ℕ). is_made (freeze_due m past now g o) ≡ false) unfrozen e)
+
+  enter_goes : is_made (enter_due m past now (sleep_of past)) ≡ false → ⊥
+  enter_goes e = true≢false (subst (λ (o : Option Sleep). is_made (enter_due m past now o) ≡ false) awake e)
+
+  walk_down_goes : (p : Phase) → stage_of past ≡ Some (stage.Downs p) → Down p → is_made (down_due m past now p (callback past)) ≡ false → ⊥
+  walk_down_goes p at i e = by_callback (callback past) refl
+    where
+      here : Underway m (Some (stage.Downs p)) past
+      here = subst (λ (s : Option Stage). Underway m s past) at (underway m past journal)
+
+      by_callback : (o : Option Callback) → callback past ≡ o → ⊥
+      by_callback None f = let u = here in let w = u.1 i in down_goes m ranks past now p i u.0 w.0 w.1 f stuck e
+      by_callback (Some c) f = true≢false (subst (λ (o : Option Callback). is_made (down_due m past now p o) ≡ false) f e)
+
+  walk_up_goes : (p : Phase) → stage_of past ≡ Some (stage.Ups p) → Up p → is_made (up_due m past p (callback past)) ≡ false → ⊥
+  walk_up_goes p at i e = by_callback (callback past) refl
+    where
+      here : Underway m (Some (stage.Ups p)) past
+      here = subst (λ (s : Option Stage). Underway m s past) at (underway m past journal)
+
+      by_callback : (o : Option Callback) → callback past ≡ o → ⊥
+      by_callback None f = let u = here in up_goes m ranks past now p i u.0 (u.1 i) f stuck e
+      by_callback (Some c) f = true≢false (subst (λ (o : Option Callback). is_made (up_due m past p o) ≡ false) f e)
+
+  -- at each stage something is made
+  stage_goes : (s : Stage) → stage_of past ≡ Some s → Proper s → is_made (stage_or_next m past now s) ≡ false → ⊥
+  stage_goes stage.Notifies at p e = freeze_goes group.User (left_made _ (next_called m past) (freeze_due m past now group.User (freeze_since past)) e)
+  stage_goes (stage.Freezes g) at p e = freeze_goes g (first_made (freeze_due m past now g (freeze_since past)) (stage_due m past now (behind (stage.Freezes g))) e)
+  stage_goes stage.Prepares at p e = prepare_goes m past (phase_failed past) (next_prepared m past) (first_made (prepare_due m past (phase_failed past) (next_prepared m past)) (stage_due m past now (behind stage.Prepares)) e)
+  stage_goes (stage.Downs p) at i e = walk_down_goes p at i (first_made (down_due m past now p (callback past)) (stage_due m past now (behind (stage.Downs p))) e)
+  stage_goes stage.StopsCpus at p e = true≢false (left_made (cpu_kind (pending past now)) (next_cpu_off m past) (turn.Makes (kind.Irqs false)) e)
+  stage_goes stage.StopsSyscore at p e = enter_goes (left_made _ (next_stopped m past) (enter_due m past now (sleep_of past)) e)
+  stage_goes stage.Enters at p e = enter_goes (first_made (enter_due m past now (sleep_of past)) (stage_due m past now (behind stage.Enters)) e)
+  stage_goes stage.StartsSyscore at p e = true≢false (left_made kind.SyscoreResume (next_started m past) (turn.Makes (kind.Irqs true)) e)
+  stage_goes stage.StartsCpus at p e = true≢false (left_made kind.CpuOn (next_cpu_on m past) (turn.Makes (kind.PlatformUndo undo.Wake)) e)
+  stage_goes (stage.Ups p) at i e = walk_up_goes p at i (first_made (up_due m past p (callback past)) (stage_due m past now (behind (stage.Ups p))) e)
+  stage_goes stage.Completes at p e = complete_goes (next_completed m past) (first_made (complete_due (next_completed m past)) (stage_due m past now (behind stage.Completes)) e)
+  stage_goes stage.Posts at p e = true≢false (left_made kind.NotifyPost (next_posted m past) (turn.Makes (kind.Over (attempts past) (failed past))) e)
+  stage_goes _ at p e = true≢false e
+
+-- ---- the maker
+
+-- a task that makes the attempt is one of the machine's
+abbrev MakerIn : Machine → Option Actor → Type 0
+MakerIn m (Some (actor.Script i)) = i < length m.actors
+MakerIn m _ = Unit {0}
+
+step_maker : (m : Machine) (past : List Entry) (now : EventNow) (i : ℕ) (seat : Seat) (asked : Bool) (o : Option Op) (k : Kind) → i < length m.actors → StepMade m past now seat asked o k → MakerIn m (maker past) → MakerIn m (maker_after k (actor.Script i) (maker past))
+step_maker m past now i seat asked _ _ l (StepMade.Attempts text s f on) h = l
+step_maker m past now i seat asked _ _ l _ h = h
+
+work_maker : (m : Machine) (past : List Entry) (now : EventNow) (w : Work) (k : Kind) → WorkMade m past now w k → MakerIn m (maker past) → MakerIn m (maker_after k actor.Auto (maker past))
+work_maker m past now _ _ (WorkMade.Attempts c on) h = tt
+work_maker m past now _ _ _ h = h
+
+own_maker : (m : Machine) (past : List Entry) (now : EventNow) (there : Stage) (k : Kind) (who : Actor) → Made m past now there k → MakerIn m (maker past) → MakerIn m (maker_after k who (maker past))
+own_maker m past now _ _ who Made.Ends h = tt
+own_maker m past now _ _ who _ h = h
+
+device_maker : (m : Machine) (past : List Entry) (now : EventNow) (d : ℕ) (k : Kind) → DeviceMade m past now d k → MakerIn m (maker past) → MakerIn m (maker_after k (actor.Dev d) (maker past))
+device_maker m past now d _ (DeviceMade.OwnFails p r w g f) h = h
+device_maker m past now d _ _ h = h
+
+entry_maker : (m : Machine) (past : List Entry) (now : EventNow) (who : Actor) (k : Kind) → EntryMade m past now who k → MakerIn m (maker past) → MakerIn m (maker_after k who (maker past))
+entry_maker m past now who k (ByMaker _ here there _ own at come x) h = own_maker m past now there k who x h
+entry_maker m past now _ k (ByTask i _ other (TaskMade.Freezes s go asked)) h = h
+entry_maker m past now _ _ (ByTask i _ other (TaskMade.Steps s k o go at x)) h = step_maker m past now i _ _ o k (slice_get_within m.actors i s go.script) x h
+entry_maker m past now _ k (ByWork w _ other awake over at x) h = work_maker m past now w k x h
+entry_maker m past now _ k (ByDevice d _ other x) h = device_maker m past now d k x h
+entry_maker m past now _ _ ByTime h = h
+
+maker_in : (m : Machine) (past : List Entry) → JournalPart m past → MakerIn m (maker past)
+maker_in m [] h = tt
+maker_in m (e ∷ past) h = entry_maker m past e.now e.actor e.kind (entry_made m past e h) (maker_in m past h.1)
+
+not_device_maker : (d : ℕ) (o : Option Actor) (s : Option Stage) → StageMaker o s → is_actor (actor.Dev d) o ≡ false
+not_device_maker d None s h = refl
+not_device_maker d (Some (actor.Script i)) s h = refl
+not_device_maker d (Some actor.Auto) s h = refl
+not_device_maker d (Some (actor.Dev e)) s h = absurd h
+not_device_maker d (Some (actor.Timer e)) s h = absurd h
+not_device_maker d (Some actor.Time) s h = absurd h
+
+-- ---- nobody can go on
+
+sooner_none : (a b : Option ℕ) → sooner a b ≡ None → (a ≡ None) × (b ≡ None)
+sooner_none None b e = (refl, e)
+sooner_none (Some x) None e = absurd (some≢none x e)
+sooner_none (Some x) (Some y) e = absurd (some≢none (min x y) e)
+
+no_alarm : (m : Machine) (o : Option Sleep) → alarm_at m o ≡ None → o ≡ None
+no_alarm m None e = refl
+no_alarm m (Some s) e = absurd (some≢none (s.since + m.alarm_ms) e)
+
+no_deadline : (o : Option ℕ) → deadline_at o ≡ None → o ≡ None
+no_deadline None e = refl
+no_deadline (Some s) e = absurd (some≢none (gives_up_at s) e)
+
+async_there : (m : Machine) (d : ℕ) → is_async_device m d ≡ true → d < length m.devices
+async_there m d e = by_test (nat_lt d (length m.devices)) refl
+  where
+    by_test : (b : Bool) → nat_lt d (length m.devices) ≡ b → d < length m.devices
+    by_test true f = grind (arith, nat_tests)
+    by_test false f =
+        let l : length m.devices ≤ d = grind (arith, nat_tests) in
+        let k : length (map is_async m.devices) ≤ d = omega (arith, length-map m.devices is_async) in
+        absurd (true≢false (sym e ∙ get_or_past (map is_async m.devices) d false k))
+
+none_of : (m : Machine) (past : List Entry) (of : ℕ → List Entry) (now : EventNow) (who : ℕ → Actor) (n : ℕ) → none_enabled m past of now who n ≡ true → (i : ℕ) → i < n → is_enabled m past of now (who i) ≡ false
+none_of m past of now who zero h i l = absurd (omega arith)
+none_of m past of now who (suc n) h i l = by_test (i == n) refl (λ k. none_of m past of now who n (and_right (not (is_enabled m past of now (who n))) (none_enabled m past of now who n) h) i k)
+  where
+    by_test : (b : Bool) → (i == n) ≡ b → (i < n → is_enabled m past of now (who i) ≡ false) → is_enabled m past of now (who i) ≡ false
+    by_test true e rest = ap (λ x. is_enabled m past of now (who x)) (eqb-true i n e) ∙ not_true (is_enabled m past of now (who n)) (and_left (not (is_enabled m past of now (who n))) (none_enabled m past of now who n) h)
+    by_test false e rest = let other : i ≢ n = different i n e in rest (omega arith)
+
+not_made : (m : Machine) (past : List Entry) (of : ℕ → List Entry) (now : EventNow) (who : Actor) → is_enabled m past of now who ≡ false → is_made (due m past who now) ≡ false
+not_made m past of now who e = or_right_false (is_calling (length m.sources + 1) of who || nat_lt (made (length m.sources + 1) of who) (calls_due m who past)) (is_made (due m past who now)) e
+
+-- where nobody is enabled and no time is pending no attempt is open
+pub no_attempt : (m : Machine) → IsRanked m → (past : List Entry) → JournalPart m past → (of : ℕ → List Entry) (now : EventNow) → is_idle m past of now ≡ true → next_time m past of ≡ None → maker past ≡ None
+no_attempt m ranks past journal of now idle timeless = by_maker (maker past) refl (held m past journal).2 (maker_in m past journal)
+  where
+    scripts : Bool
+    scripts = none_enabled m past of now actor.Script (length m.actors)
+
+    devices : Bool
+    devices = none_enabled m past of now actor.Dev (length m.devices)
+
+    work : Bool
+    work = not (is_enabled m past of now actor.Auto)
+
+    expiries : Bool
+    expiries = none_expires (length m.sources + 1) of (time_of past)
+
+    three_idle : (scripts && work && devices) ≡ true
+    three_idle = and_left (scripts && work && devices) expiries idle
+
+    scripts_idle : scripts ≡ true
+    scripts_idle = and_left scripts work (and_left (scripts && work) devices three_idle)
+
+    work_idle : work ≡ true
+    work_idle = and_right scripts work (and_left (scripts && work) devices three_idle)
+
+    devices_idle : devices ≡ true
+    devices_idle = and_right (scripts && work) devices three_idle
+
+    by_journal : journal_time m past ≡ None
+    by_journal = (sooner_none (journal_time m past) (next_expiry (length m.sources + 1) of) timeless).0
+
+    rest_none : sooner (deadline_at (freeze_since past)) (sooner (pending_nap past) (next_sleep m past (length m.actors))) ≡ None
+    rest_none = (sooner_none (alarm_at m (sleep_of past)) (sooner (deadline_at (freeze_since past)) (sooner (pending_nap past) (next_sleep m past (length m.actors)))) by_journal).1
+
+    awake : sleep_of past ≡ None
+    awake = no_alarm m (sleep_of past) (sooner_none (alarm_at m (sleep_of past)) (sooner (deadline_at (freeze_since past)) (sooner (pending_nap past) (next_sleep m past (length m.actors)))) by_journal).0
+
+    unfrozen : freeze_since past ≡ None
+    unfrozen = no_deadline (freeze_since past) (sooner_none (deadline_at (freeze_since past)) (sooner (pending_nap past) (next_sleep m past (length m.actors))) rest_none).0
+
+    stuck : (d : ℕ) → is_among (order m) d ≡ true → is_async_device m d ≡ true → StuckAt m past now d
+    stuck d o a =
+        let e : is_made (due m past (actor.Dev d) now) ≡ false = not_made m past of now (actor.Dev d) (none_of m past of now actor.Dev (length m.devices) devices_idle d (async_there m d a)) in
+        ap (λ b. is_made (cond b (attempt_due m past now) (own_due m past (actor.Dev d) now))) (sym (not_device_maker d (maker past) (stage_of past) (held m past journal).2)) ∙ e
+
+    at_stage : (o : Option Stage) → stage_of past ≡ o → (w : Actor) → StageMaker (Some w) o → ProperIf o → is_made (due_at m past now o) ≡ false → ⊥
+    at_stage (Some here) e w s p x = stage_goes m ranks past now journal stuck awake unfrozen here e p x
+    at_stage None e (actor.Script i) s p x = s
+    at_stage None e actor.Auto s p x = s
+    at_stage None e (actor.Dev d) s p x = s
+    at_stage None e (actor.Timer d) s p x = s
+    at_stage None e actor.Time s p x = s
+
+    -- the maker of an open attempt makes something
+    makes : (w : Actor) → maker past ≡ Some w → is_same w w ≡ true → StageMaker (Some w) (stage_of past) → is_made (due m past w now) ≡ false → ⊥
+    makes w e same s x =
+        let is : is_actor w (maker past) ≡ true = ap (is_actor w) e ∙ same in
+        at_stage (stage_of past) refl w s (stage_proper past) (ap (λ b. is_made (cond b (attempt_due m past now) (own_due m past w now))) (sym is) ∙ x)
+
+    by_maker : (o : Option Actor) → maker past ≡ o → StageMaker o (stage_of past) → MakerIn m o → maker past ≡ None
+    by_maker None e s l = e
+    by_maker (Some (actor.Script i)) e s l = absurd (makes (actor.Script i) e (same_number i) s (not_made m past of now (actor.Script i) (none_of m past of now actor.Script (length m.actors) scripts_idle i l)))
+    by_maker (Some actor.Auto) e s l = absurd (makes actor.Auto e refl s (not_made m past of now actor.Auto (not_true (is_enabled m past of now actor.Auto) work_idle)))
+    by_maker (Some (actor.Dev d)) e s l = absurd s
+    by_maker (Some (actor.Timer d)) e s l = absurd s
+    by_maker (Some actor.Time) e s l = absurd s
