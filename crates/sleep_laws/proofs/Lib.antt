@@ -1,6 +1,7 @@
 pub mod Activity
 pub mod Answering
 pub mod Boards
+pub mod Closing
 pub mod DevicesStand
 pub mod Ending
 pub mod Flags
