@@ -1,5 +1,5 @@
 -- No attempt is open at the end of a legal log.
-use Rattle.std.proofs.Common.{◌≡◌, ◌∙◌, Bool, true, false, ◌&&◌, List, ◌⊎◌, inl, inr, reverse, is_none, Option, Some, None, refl}
+use Rattle.std.proofs.Common.{◌≡◌, Bool, true, false, ◌&&◌, List, ◌⊎◌, inl, inr, reverse, is_none, Option, Some, None, refl}
 use Rattle.sleep_model.specs.declared.entry.Entry.{Entry}
 use Rattle.sleep_model.specs.declared.entry.Actor.{Actor}
 use Rattle.sleep_model.specs.declared.log.Log.{Log}

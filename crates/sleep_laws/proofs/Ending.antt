@@ -1,5 +1,5 @@
 -- Where nobody can go on, and no time is pending, no attempt is open.
-use Rattle.std.proofs.Common.{◌≡◌, ◌≢◌, ◌≤◌, ◌<◌, ◌+◌, ◌∙◌, min, map, ℕ, zero, suc, Bool, true, false, not, ◌==◌, ◌&&◌, ◌||◌, nat_lt, List, [], ◌∷◌, ◌⊎◌, inl, inr, length, is_some, slice_get, Option, Some, None, refl, sym, ap, subst, cond, arith}
+use Rattle.std.proofs.Common.{◌≡◌, ◌≢◌, ◌≤◌, ◌<◌, ◌+◌, ◌∙◌, min, map, ℕ, zero, suc, Bool, true, false, not, ◌==◌, ◌&&◌, ◌||◌, nat_lt, List, [], ◌∷◌, ◌⊎◌, inl, inr, length, Option, Some, None, refl, sym, ap, subst, cond, arith}
 use Rattle.std.proofs.lemmas.Bool.{eqb-true, true≢false}
 use Rattle.std.proofs.lemmas.Bool.Decides.{nat_tests}
 use Rattle.std.proofs.lemmas.List.{get_or_past, length-map}
@@ -30,7 +30,7 @@ use Rattle.sleep_model.specs.declared.place.Stand.TheVariants as stand
 use Rattle.sleep_model.specs.declared.word.EventNow.{EventNow}
 use Rattle.phase_table.specs.declared.phase.Phase.{Phase}
 use Rattle.phase_table.specs.declared.phase.Phase.TheVariants as phase
-use Rattle.phase_table.specs.Phases.{mirror, is_down}
+use Rattle.phase_table.specs.Phases.{mirror}
 use Rattle.sleep_model.specs.Attempt.{sleep_of, freeze_since, freeze_due, enter_due, if_left, or_next, stage_due, stage_or_next, due_at, attempt_due, gives_up_at, cpu_kind, failed}
 use Rattle.sleep_model.specs.Devices.{callback, phase_failed, is_async_device, stand_in, waits_below, waits_down, waits_above, waits_up, next_down, next_up, next_given, next_prepared, next_completed, async_work, work_by, work_in, down_due, walk_down, take_down, phase_error, up_due, walk_up, prepare_due, complete_due, device_due, given_due, after_device, taken, unless_failed}
 use Rattle.sleep_model.specs.Due.{due, own_due}
@@ -47,14 +47,14 @@ use Rattle.sleep_model.specs.Table.{stage_of, behind}
 use Rattle.sleep_model.specs.Walk.{first_where, last_where}
 use Rattle.sleep_model.proofs.Walks.{AllDifferent}
 use Rattle.sleep_laws.proofs.Activity.{same_number, different}
-use Rattle.sleep_laws.proofs.Boards.{Three, at, at_is, three, mirror_down, Found, first_found, last_found, first_none, last_none}
+use Rattle.sleep_laws.proofs.Boards.{at, at_is, three, mirror_down, Found, first_found, last_found, first_none}
 use Rattle.sleep_laws.proofs.Holding.{StageMaker, held}
-use Rattle.sleep_laws.proofs.Made.{Down, InSuspend, InLate, InNoirq, Up, InResume, InEarly, InResumeNoirq, Made, StepMade, TaskMade, WorkMade, DeviceMade, EntryMade, ByMaker, ByTask, ByWork, ByDevice, ByTime, MayGo}
+use Rattle.sleep_laws.proofs.Made.{Down, InSuspend, InLate, InNoirq, Up, InResume, InEarly, InResumeNoirq, Made, StepMade, TaskMade, WorkMade, DeviceMade, EntryMade, ByMaker, ByTask, ByWork, ByDevice, ByTime}
 use Rattle.sleep_laws.proofs.Making.{Proper, ProperIf, stage_proper}
 use Rattle.sleep_laws.proofs.MakingOwn.{entry_made}
-use Rattle.sleep_laws.proofs.Moods.{Mood, Settled, Going, Coming, in_down, in_up, allows, when_settled}
-use Rattle.sleep_laws.proofs.Ranks.{Behind, behind_first, behind_last, order_behind, order_apart, last_behind, first_before, first_or_behind, last_there, first_there, above_below, IsRanked}
-use Rattle.sleep_laws.proofs.Standing.{IsFine, is_given, down_is, errs, Fines, Standing}
+use Rattle.sleep_laws.proofs.Moods.{Mood, Settled, in_down, in_up, allows, when_settled}
+use Rattle.sleep_laws.proofs.Ranks.{Behind, behind_last, order_behind, order_apart, last_behind, first_before, first_or_behind, last_there, first_there, above_below, IsRanked}
+use Rattle.sleep_laws.proofs.Standing.{is_given, down_is, errs, Fines, Standing}
 use Rattle.sleep_laws.proofs.Telling.{some≢none}
 use Rattle.sleep_laws.proofs.Turning.{never}
 use Rattle.sleep_laws.proofs.Underway.{is_suspending, is_resuming, IsCalled, TakesLast, Calls, Underway, underway}

@@ -1,5 +1,5 @@
 -- A walk on the way down takes the devices from the order's end, and the maker is inside each synchronous device's callback.
-use Rattle.std.proofs.Common.{◌≡◌, ◌≢◌, ◌∙◌, ℕ, ℤ, Bool, true, false, not, ◌==◌, ◌&&◌, List, [], ◌∷◌, length, is_some, Option, Some, None, refl, sym, ap, subst, cond}
+use Rattle.std.proofs.Common.{◌≡◌, ◌∙◌, ℕ, Bool, true, false, ◌==◌, List, ◌∷◌, Option, Some, None, refl, sym, ap, subst}
 use Rattle.std.proofs.lemmas.Bool.{eqb-true, true≢false}
 use Rattle.sleep_base.specs.declared.errno.Errno.{Errno}
 use Rattle.sleep_model.specs.declared.entry.Actor.{Actor}
@@ -7,11 +7,7 @@ use Rattle.sleep_model.specs.declared.entry.Actor.TheVariants as actor
 use Rattle.sleep_model.specs.declared.entry.Entry.{Entry}
 use Rattle.sleep_model.specs.declared.entry.Kind.{Kind}
 use Rattle.sleep_model.specs.declared.entry.Kind.TheVariants as kind
-use Rattle.sleep_model.specs.declared.entry.SkipCause.{SkipCause}
-use Rattle.sleep_model.specs.declared.entry.SkipCause.TheVariants as skip
 use Rattle.sleep_model.specs.declared.machine.Machine.{Machine}
-use Rattle.sleep_model.specs.declared.machine.PlatDo.TheVariants as down
-use Rattle.sleep_model.specs.declared.machine.PlatUndo.TheVariants as undo
 use Rattle.sleep_model.specs.declared.place.Callback.{Callback}
 use Rattle.sleep_model.specs.declared.place.Stage.{Stage}
 use Rattle.sleep_model.specs.declared.place.Stage.TheVariants as stage
@@ -21,20 +17,20 @@ use Rattle.sleep_model.specs.declared.word.EventNow.{EventNow}
 use Rattle.phase_table.specs.declared.phase.Phase.{Phase}
 use Rattle.phase_table.specs.declared.phase.Phase.TheVariants as phase
 use Rattle.phase_table.specs.Phases.{mirror}
-use Rattle.sleep_model.specs.Devices.{callback, unless_own, is_device, is_async_device, stand_in, next_down, next_up, next_given}
+use Rattle.sleep_model.specs.Devices.{callback, unless_own, is_device, is_async_device, stand_in, next_down, next_given}
 use Rattle.sleep_model.specs.Legal.{JournalPart}
 use Rattle.sleep_model.specs.Order.{order, is_among}
-use Rattle.sleep_model.specs.Stands.{is_prepared, is_ready, is_down_in, ended_by, device_of}
+use Rattle.sleep_model.specs.Stands.{is_prepared, is_ready, ended_by, device_of}
 use Rattle.sleep_model.specs.Table.{stage_of, stage_after}
 use Rattle.sleep_model.proofs.Ordering.{order_different}
 use Rattle.sleep_laws.proofs.Activity.{different}
 use Rattle.sleep_laws.proofs.Boards.{Three, at, at_is, three, three_after, moved, moved_other, moved_own, Change, Here, Away, turned, turned_down, turned_up, all_three, mirror_down}
 use Rattle.sleep_laws.proofs.Holding.{Kept, Aside, at_stage}
-use Rattle.sleep_laws.proofs.Made.{Down, InSuspend, InLate, InNoirq, Up, InResume, InEarly, InResumeNoirq, Made, Comes, AtOnce, PastNotifiers, PastCpus, PastParts, PastPartsUp, PastCpusUp, PastPosts, AtTurn, DeviceMade}
-use Rattle.sleep_laws.proofs.Moods.{Mood, Empty, Fresh, Going, Settled, Halted, Coming, Risen, in_down, in_up, in_suspend, allows}
+use Rattle.sleep_laws.proofs.Made.{Down, InSuspend, InLate, InNoirq, Up, Made, Comes, AtOnce, PastNotifiers, PastCpus, PastParts, PastPartsUp, PastCpusUp, PastPosts, AtTurn, DeviceMade}
+use Rattle.sleep_laws.proofs.Moods.{Mood, Fresh, Going, Settled, Halted, Risen, in_down, in_up, in_suspend, allows}
 use Rattle.sleep_laws.proofs.Passing.{maker_stands, stands_kept}
 use Rattle.sleep_laws.proofs.Ranks.{Behind, behind_first, last_behind}
-use Rattle.sleep_laws.proofs.Standing.{IsFine, errs, Fines, Inside, Standing, ready_is, down_is}
+use Rattle.sleep_laws.proofs.Standing.{errs, Fines, Inside, Standing}
 use Rattle.sleep_laws.proofs.Turning.{never, turned_at, turned_mirror, ready_stands, prepared_all, called, given_stands}
 
 -- inside a callback on the way down, or up (dpm_run_callback)
@@ -221,9 +217,9 @@ module _ (m : Machine) (past : List Entry) (time : ℕ) (now : EventNow) (who : 
   ends_down : (p q : Phase) (d : ℕ) (r : Option Errno) → callback past ≡ Some (record { phase = q; device = d }) → Standing m past (Some (stage.Downs p)) → WalksAt m past (stage.Downs p) → WalksAt m (by (kind.End p d r) ∷ past) (stage.Downs p)
   ends_down p q d r c h w = λ i.
       let x : Inside m (record { phase = q; device = d }) stand.Suspending p (three m past) = called m past time now who task (callback past) (record { phase = q; device = d }) stand.Suspending p (three m past) c h.1 in (
-    goes_on m past (by (kind.End p d r)) d refl p (w i).0 (same_ready m past (by (kind.End p d r)) d refl p stand.Suspending (ended_by r) x.inside refl (ended_taken r) p (turned_down p p (ended_by r) (all_three stand.Resumed) (three m past d) i i)),
-    calls_end m past (by (kind.End p d r)) d refl p is_suspending (w i).1 (record { phase = q; device = d }) refl c (ap is_suspending (stood_down p d i (kind.End p d r) stand.Suspending (ended_by r) (all_three stand.Resumed) refl refl (sym (at_is m past p d i) ∙ x.inside) refl h) ∙ ended_out r),
-  )
+        goes_on m past (by (kind.End p d r)) d refl p (w i).0 (same_ready m past (by (kind.End p d r)) d refl p stand.Suspending (ended_by r) x.inside refl (ended_taken r) p (turned_down p p (ended_by r) (all_three stand.Resumed) (three m past d) i i)),
+        calls_end m past (by (kind.End p d r)) d refl p is_suspending (w i).1 (record { phase = q; device = d }) refl c (ap is_suspending (stood_down p d i (kind.End p d r) stand.Suspending (ended_by r) (all_three stand.Resumed) refl refl (sym (at_is m past p d i) ∙ x.inside) refl h) ∙ ended_out r),
+      )
     where
       ended_taken : (r : Option Errno) → is_ready (ended_by r) ≡ false
       ended_taken None = refl
