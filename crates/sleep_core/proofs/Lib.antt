@@ -1,3 +1,4 @@
 mod Counted
 mod Frozen
 mod Looking
+mod Walks

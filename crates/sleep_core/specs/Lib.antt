@@ -3,3 +3,4 @@ pub mod Cores
 pub mod Histories
 pub mod HistoryFields
 pub mod Looks
+pub mod Seen

@@ -1,9 +1,10 @@
 use crate::history::History;
 use answer_book::AnswerBook;
+use async_board::Board;
 use device_rows::Flags;
 use script_plan::Plan;
 use sleep_base::Errno;
-use sleep_model::{Actor, EventNow, Machine, What};
+use sleep_model::{Actor, Callback, EventNow, Machine, What};
 use std::marker::Model;
 
 /// The core of system sleep for one machine: what each actor may do next, and the journal of what it did
@@ -30,10 +31,11 @@ impl<'m> Model for Core<'m> {
 }
 
 impl<'m> Core<'m> {
-    ghost use Rattle.std.specs.Prelude.{◌≡◌, ◌≤◌, ◌<◌, ◌^◌, ◌+◌, map};
+    ghost use Rattle.std.specs.Prelude.{◌≡◌, ◌≤◌, ◌<◌, ◌^◌, ◌+◌};
     ghost use Rattle.sleep_model.specs.Attempt.{answered, sleeps_now};
-    ghost use Rattle.sleep_model.specs.Guard.{pending, in_force};
-    ghost use Rattle.sleep_model.specs.Lock.{holder, is_on};
+    ghost use Rattle.sleep_model.specs.Devices.{callback, phase_failed, own_error};
+    ghost use Rattle.sleep_model.specs.Guard.{pending};
+    ghost use Rattle.async_board.specs.AtPlaces.{board_at};
     ghost use Rattle.sleep_model.specs.Numbers.{time_of};
     ghost use Rattle.sleep_model.specs.Path.{attempts, is_actor, maker};
     ghost use Rattle.sleep_state.specs.Places.{entries};
@@ -87,5 +89,33 @@ impl<'m> Core<'m> {
         ensures { result ≡ sleeps_now (entries self.now.past) }
     {
         self.history.path().sleep().is_some()
+    }
+
+    /// Where each device stands.
+    pub(crate) fn board(&self) -> &Board
+        ensures { result.now ≡ board_at self.now.machine (entries self.now.past) }
+    {
+        self.history.board()
+    }
+
+    /// The error that stands in the open phase.
+    pub(crate) fn phase_failed(&self) -> Option<Errno>
+        ensures { result ≡ phase_failed (entries self.now.past) }
+    {
+        self.history.devices().failed()
+    }
+
+    /// The error of a synchronous device's callback in the open phase.
+    pub(crate) fn own_error(&self) -> Option<Errno>
+        ensures { result ≡ own_error (entries self.now.past) }
+    {
+        self.history.devices().own_error()
+    }
+
+    /// The callback that the attempt's maker runs, if one.
+    pub(crate) fn callback(&self) -> Option<Callback>
+        ensures { result ≡ callback (entries self.now.past) }
+    {
+        self.history.devices().callback()
     }
 }

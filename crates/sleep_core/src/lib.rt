@@ -6,6 +6,7 @@ mod clock;
 mod core;
 mod events;
 mod history;
+mod phases;
 mod steps;
 
 pub use core::Core;
