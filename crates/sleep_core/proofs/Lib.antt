@@ -1,4 +1,6 @@
 mod Counted
 mod Frozen
 mod Looking
+mod Propers
+mod Seated
 mod Walks

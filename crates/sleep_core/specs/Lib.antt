@@ -4,3 +4,4 @@ pub mod Histories
 pub mod HistoryFields
 pub mod Looks
 pub mod Seen
+pub mod Stages

@@ -1,6 +1,7 @@
 //! What the maker of the open attempt does next, stage by stage (`kernel/power/suspend.c`).
 
-ghost use Rattle.std.specs.Prelude.{◌≡◌, ◌≤◌, ◌^◌, length, slice_get};
+ghost use Rattle.std.specs.Prelude.{◌≡◌, ◌≤◌, ◌^◌};
+ghost use Rattle.sleep_model.specs.declared.place.Due.TheVariants.{Makes};
 ghost use Rattle.sleep_model.specs.declared.entry.Kind.TheVariants as kind;
 ghost use Rattle.sleep_model.specs.declared.machine.What.TheVariants as what;
 ghost use Rattle.sleep_model.specs.Attempt.{answered, freeze_since, sleep_of, freeze_due, froze_due, wakes_due, enter_due, if_left, cpu_kind, busy_error, stage_due, stage_or_next, due_at, attempt_due};
@@ -13,6 +14,7 @@ ghost use Rattle.sleep_core.specs.Stages.{IsProper};
 
 use crate::core::Core;
 use sleep_base::Errno;
+use sleep_state::behind;
 use sleep_model::{
     Due, EventNow, FrozeEnd, Group, Kind, PlatDo, Sleep, Stage, What, Why, pos,
 };
@@ -30,7 +32,7 @@ impl<'m> Core<'m> {
         ensures { result ≡ if_left (λ x. kind.NotifyPrepare x (answered self.now.machine (entries self.now.past) (what.Notifier x)))
             (next_called self.now.machine (entries self.now.past)) }
     {
-        match self.history.platform().next_called() {
+        match self.next_called() {
             None => Due::Gone,
             Some(x) => Due::Makes(Kind::NotifyPrepare(x, self.answered(What::Notifier(x)))),
         }
@@ -91,7 +93,7 @@ impl<'m> Core<'m> {
         ensures { result ≡ if_left (λ x. kind.SyscoreSuspend x (answered self.now.machine (entries self.now.past) (what.Syscore x)))
             (next_stopped self.now.machine (entries self.now.past)) }
     {
-        match self.history.syscore().next() {
+        match self.next_stopped() {
             None => Due::Gone,
             Some(x) => Due::Makes(Kind::SyscoreSuspend(x, self.answered(What::Syscore(x)))),
         }
@@ -104,7 +106,7 @@ impl<'m> Core<'m> {
     {
         if sleep.pos < pos(now) {
             Due::Makes(Kind::Wake { by_event: true })
-        } else if sleep.since + self.machine().alarm_ms <= self.now() {
+        } else if sleep.since + self.alarm_ms() <= self.now() {
             Due::Makes(Kind::Wake { by_event: false })
         } else {
             Due::Waits(Why::Asleep)
@@ -191,7 +193,7 @@ impl<'m> Core<'m> {
         ensures { result ≡ stage_or_next self.now.machine (entries self.now.past) now stage }
     {
         match self.stage_due(now, stage) {
-            Due::Gone => self.stage_due(now, stage.behind()),
+            Due::Gone => self.stage_due(now, behind(stage)),
             due => due,
         }
     }

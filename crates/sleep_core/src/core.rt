@@ -4,7 +4,8 @@ use async_board::Board;
 use device_rows::Flags;
 use script_plan::Plan;
 use sleep_base::Errno;
-use sleep_model::{Actor, Callback, EventNow, Machine, What};
+use sleep_model::{Actor, Callback, EventNow, Group, Machine, Sleep, Stage, What};
+use sleep_state::Left;
 use std::marker::Model;
 
 /// The core of system sleep for one machine: what each actor may do next, and the journal of what it did
@@ -31,10 +32,15 @@ impl<'m> Model for Core<'m> {
 }
 
 impl<'m> Core<'m> {
-    ghost use Rattle.std.specs.Prelude.{◌≡◌, ◌≤◌, ◌<◌, ◌^◌, ◌+◌};
-    ghost use Rattle.sleep_model.specs.Attempt.{answered, sleeps_now};
+    ghost use Rattle.std.specs.Prelude.{◌≡◌, ◌≤◌, ◌<◌, ◌^◌, ◌+◌, IfSome};
+    ghost use Rattle.sleep_model.specs.Attempt.{answered, sleeps_now, freeze_since, sleep_of};
     ghost use Rattle.sleep_model.specs.Devices.{callback, phase_failed, own_error};
+    ghost use Rattle.sleep_model.specs.Freezer.{left};
     ghost use Rattle.sleep_model.specs.Guard.{pending};
+    ghost use Rattle.sleep_model.specs.Notifiers.{next_called, next_stopped};
+    ghost use Rattle.sleep_model.specs.Table.{stage_of};
+    ghost use Rattle.sleep_state.specs.TaskStates.{IsLeft};
+    ghost use Rattle.sleep_core.specs.Stages.{IsProper};
     ghost use Rattle.async_board.specs.AtPlaces.{board_at};
     ghost use Rattle.sleep_model.specs.Numbers.{time_of};
     ghost use Rattle.sleep_model.specs.Path.{attempts, is_actor, maker};
@@ -117,5 +123,61 @@ impl<'m> Core<'m> {
         ensures { result ≡ callback (entries self.now.past) }
     {
         self.history.devices().callback()
+    }
+
+    /// Since when a freeze goes on, in ms, if one does.
+    pub(crate) fn freeze_since(&self) -> Option<u64>
+        ensures is { result ≡ freeze_since (entries self.now.past) }
+        ensures early { IfSome result (λ since. since ≤ 2 ^ 63) }
+    {
+        self.history.path().freeze_since()
+    }
+
+    /// The machine's sleep, if it sleeps.
+    pub(crate) fn sleep(&self) -> Option<Sleep>
+        ensures is { result ≡ sleep_of (entries self.now.past) }
+        ensures early { IfSome result (λ sleep. sleep.since ≤ 2 ^ 63) }
+    {
+        self.history.path().sleep()
+    }
+
+    /// The stage of the open attempt, if one is open.
+    pub(crate) fn stage(&self) -> Option<Stage>
+        ensures is { result ≡ stage_of (entries self.now.past) }
+        ensures proper { IfSome result IsProper }
+    {
+        self.history.path().stage()
+    }
+
+    /// The tasks that a freeze of the group still waits for.
+    pub(crate) fn left(&self, group: Group) -> Left
+        ensures { IsLeft result (left self.now.machine group (entries self.now.past)) }
+    {
+        self.history
+            .tasks()
+            .left(self.machine().actors.as_slice(), group)
+    }
+
+    /// How long a sleep lasts that no event ends, in ms.
+    pub(crate) fn alarm_ms(&self) -> u64
+        ensures is { result ≡ self.now.machine.alarm_ms }
+        ensures most { result ≤ 86400000 }
+    {
+        let _core = &self.history;
+        self.machine().alarm_ms
+    }
+
+    /// The notifier that is to be told of the attempt.
+    pub(crate) fn next_called(&self) -> Option<u32>
+        ensures { result ≡ next_called self.now.machine (entries self.now.past) }
+    {
+        self.history.platform().next_called()
+    }
+
+    /// The core's part that is suspended next.
+    pub(crate) fn next_stopped(&self) -> Option<u32>
+        ensures { result ≡ next_stopped self.now.machine (entries self.now.past) }
+    {
+        self.history.syscore().next()
     }
 }

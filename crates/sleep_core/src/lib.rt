@@ -1,6 +1,7 @@
 //! The core of system sleep: what each actor may do next, and the journal of what it did.
 #![tactic(auto)]
 
+mod attempt;
 mod auto;
 mod clock;
 mod core;
