@@ -5,3 +5,4 @@ pub mod HistoryFields
 pub mod Looks
 pub mod Seen
 pub mod Stages
+pub mod Steps

@@ -4,7 +4,7 @@ use async_board::Board;
 use device_rows::Flags;
 use script_plan::Plan;
 use sleep_base::Errno;
-use sleep_model::{Actor, Callback, EventNow, Group, Machine, Sleep, Stage, What};
+use sleep_model::{Actor, Callback, EventNow, Group, Machine, Sleep, Stage, TaskKind, What};
 use sleep_state::Left;
 use std::marker::Model;
 
@@ -32,11 +32,13 @@ impl<'m> Model for Core<'m> {
 }
 
 impl<'m> Core<'m> {
-    ghost use Rattle.std.specs.Prelude.{◌≡◌, ◌≤◌, ◌<◌, ◌^◌, ◌+◌, IfSome};
+    ghost use Rattle.std.specs.Prelude.{◌≡◌, ◌≤◌, ◌<◌, ◌^◌, ◌+◌, IfSome, is_some, length, slice_get};
     ghost use Rattle.sleep_model.specs.Attempt.{answered, sleeps_now, freeze_since, sleep_of};
     ghost use Rattle.sleep_model.specs.Devices.{callback, phase_failed, own_error};
     ghost use Rattle.sleep_model.specs.Freezer.{left};
     ghost use Rattle.sleep_model.specs.Guard.{pending};
+    ghost use Rattle.sleep_model.specs.Lock.{holder, is_on};
+    ghost use Rattle.sleep_core.specs.Steps.{IsKindOf};
     ghost use Rattle.sleep_model.specs.Notifiers.{next_called, next_stopped};
     ghost use Rattle.sleep_model.specs.Table.{stage_of};
     ghost use Rattle.sleep_state.specs.TaskStates.{IsLeft};
@@ -179,5 +181,27 @@ impl<'m> Core<'m> {
         ensures { result ≡ next_stopped self.now.machine (entries self.now.past) }
     {
         self.history.syscore().next()
+    }
+
+    /// Whether somebody holds the autosleep lock.
+    pub(crate) fn is_held(&self) -> bool
+        ensures { result ≡ is_some (holder (entries self.now.past)) }
+    {
+        self.history.autosleep().holder().is_some()
+    }
+
+    /// Whether autosleep is on.
+    pub(crate) fn is_on(&self) -> bool
+        ensures { result ≡ is_on (entries self.now.past) }
+    {
+        self.history.autosleep().is_on()
+    }
+
+    /// The kind of a script.
+    pub(crate) fn kind_of(&self, script: u32) -> TaskKind
+        requires { script < length self.now.machine.actors }
+        ensures { IsKindOf (slice_get self.now.machine.actors script) result }
+    {
+        self.machine().actors.as_slice()[script as usize].kind
     }
 }

@@ -9,6 +9,7 @@ mod events;
 mod history;
 mod phases;
 mod steps;
+mod tasks;
 
 pub use core::Core;
 pub use events::{Events, PlainEvents};
