@@ -5,6 +5,7 @@ mod attempt;
 mod auto;
 mod clock;
 mod core;
+mod due;
 mod events;
 mod history;
 mod phases;

@@ -15,7 +15,7 @@ use sleep_state::{is_mem, is_off};
 
 impl<'m> Core<'m> {
     /// The entry that begins an attempt now.
-    fn attempt(&self) -> Kind
+    pub(crate) fn attempt(&self) -> Kind
         ensures { result ≡ next_attempt (entries self.now.past) }
     {
         Kind::Attempt {
@@ -86,7 +86,7 @@ impl<'m> Core<'m> {
     }
 
     /// A script at its own steps.
-    fn script_due(&self, script: u32, now: EventNow) -> Due
+    pub(crate) fn script_due(&self, script: u32, now: EventNow) -> Due
         requires { script < length self.now.machine.actors }
         ensures { result ≡ script_due self.now.machine (entries self.now.past) now script }
     {
