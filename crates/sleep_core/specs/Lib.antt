@@ -3,6 +3,8 @@ pub mod Cores
 pub mod Histories
 pub mod HistoryFields
 pub mod Looks
+pub mod Numbered
 pub mod Seen
 pub mod Stages
 pub mod Steps
+pub mod Turned

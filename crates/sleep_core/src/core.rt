@@ -37,7 +37,9 @@ impl<'m> Core<'m> {
     ghost use Rattle.sleep_model.specs.Devices.{callback, phase_failed, own_error};
     ghost use Rattle.sleep_model.specs.Freezer.{left};
     ghost use Rattle.sleep_model.specs.Guard.{pending};
+    ghost use Rattle.sleep_model.specs.Autosleep.{runs};
     ghost use Rattle.sleep_model.specs.Lock.{holder, is_on};
+    ghost use Rattle.sleep_model.specs.Marks.{mark_at, raised};
     ghost use Rattle.sleep_core.specs.Steps.{IsKindOf};
     ghost use Rattle.sleep_model.specs.Notifiers.{next_called, next_stopped};
     ghost use Rattle.sleep_model.specs.Table.{stage_of};
@@ -203,5 +205,19 @@ impl<'m> Core<'m> {
         ensures { IsKindOf (slice_get self.now.machine.actors script) result }
     {
         self.machine().actors.as_slice()[script as usize].kind
+    }
+
+    /// How often the autosleep work has run.
+    pub(crate) fn runs(&self) -> u32
+        ensures { result ≡ runs (entries self.now.past) }
+    {
+        self.history.autosleep().runs()
+    }
+
+    /// How often that mark was raised and not yet taken.
+    pub(crate) fn raised(&self, mark: u32) -> u32
+        ensures { result ≡ mark_at (raised (length self.now.machine.marks) (entries self.now.past)) mark }
+    {
+        self.history.tasks().raised(mark)
     }
 }

@@ -11,6 +11,8 @@ mod history;
 mod phases;
 mod steps;
 mod tasks;
+mod turns;
 
 pub use core::Core;
 pub use events::{Events, PlainEvents};
+pub use turns::{CoreFault, CoreTurn};

@@ -57,7 +57,7 @@ impl<'m> Core<'m> {
             Op::SleepD { ms } => steps::sleep_d_due(*ms, seat, self.now()),
             Op::FreezePoint => Due::Makes(Kind::Pass),
             Op::Post { mark } => Due::Makes(Kind::Post(*mark)),
-            Op::Wait { mark } => steps::mark_due(*mark, self.history.tasks().raised(*mark)),
+            Op::Wait { mark } => steps::mark_due(*mark, self.raised(*mark)),
             Op::Runtime {
                 device,
                 to_suspended,
