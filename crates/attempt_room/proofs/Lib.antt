@@ -1,3 +1,4 @@
 pub mod Sums
 pub mod Things
 pub mod Weights
+pub mod Falling

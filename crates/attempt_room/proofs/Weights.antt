@@ -40,7 +40,7 @@ needs_less : (t : Three) (a b : Bool) → leads b a ≡ true → needs b t ≤ n
 needs_less t a b h = omega (arith, prepared_less t.suspend a b h)
 
 -- a prepared device needs its completion, wherever the walk is
-prepared_one : (s : Stand) (a : Bool) → is_prepared s ≡ true → prepared_needs s a ≡ 1
+pub prepared_one : (s : Stand) (a : Bool) → is_prepared s ≡ true → prepared_needs s a ≡ 1
 prepared_one stand.Unprepared a h = absurd (true≢false (sym h))
 prepared_one _ a h = refl
 
