@@ -1,5 +1,6 @@
 pub mod Falling
 pub mod Fitting
+pub mod Needing
 pub mod Spending
 pub mod Sums
 pub mod Things

@@ -166,7 +166,7 @@ abbrev pub is_attempt : Kind → Bool
 is_attempt (kind.Attempt n guarded) = true
 is_attempt _ = false
 
--- where no attempt is open none is needed
+-- where no attempt is open none is needed (own)
 abbrev pub NoneNeededOutside : Type 0
 NoneNeededOutside = (m : Machine) (past : List Entry) → JournalPart m past → maker past ≡ None → needed m past ≡ 0
 
@@ -183,7 +183,7 @@ OwnEntrySpends =
 -- the same of a device's own entry
 abbrev pub DeviceEntrySpends : Type 0
 DeviceEntrySpends =
-    (m : Machine) (past : List Entry) (e : Entry) → IsAccepted m → JournalPart m (e ∷ past) → is_device e.actor ≡ true
+    (m : Machine) (past : List Entry) (e : Entry) → JournalPart m (e ∷ past) → is_device e.actor ≡ true
     → needed m (e ∷ past) + 1 ≤ needed m past
 
 -- an entry of anybody else, which begins no attempt, leaves it
