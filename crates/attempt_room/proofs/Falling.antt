@@ -1,5 +1,5 @@
 -- What the maker of an attempt makes, and what it spends: of the table's rows, of notifiers, processors, parts of the core, or devices.
-use Rattle.std.proofs.Common.{◌≡◌, ◌≢◌, ◌≤◌, ◌<◌, ◌+◌, ◌*◌, ◌-◌, ◌∙◌, ℕ, ℤ, zero, suc, pos, negsuc, Bool, true, false, not, ◌&&◌, List, [], ◌∷◌, length, Option, Some, None, is_some, refl, sym, ap, subst, arith}
+use Rattle.std.proofs.Common.{◌≡◌, ◌≤◌, ◌<◌, ◌+◌, ◌-◌, ◌∙◌, ℕ, ℤ, suc, pos, negsuc, Bool, true, false, not, ◌&&◌, List, ◌∷◌, length, Option, Some, None, is_some, refl, sym, ap, subst, arith}
 use Rattle.std.proofs.lemmas.Bool.{true≢false}
 use Rattle.sleep_base.specs.declared.errno.Errno.{Errno}
 use Rattle.sleep_model.specs.declared.entry.Actor.{Actor}
@@ -11,7 +11,6 @@ use Rattle.sleep_model.specs.declared.entry.SkipCause.TheVariants as skip
 use Rattle.sleep_model.specs.declared.machine.Machine.{Machine}
 use Rattle.sleep_model.specs.declared.place.Callback.{Callback}
 use Rattle.sleep_model.specs.declared.place.Stage.{Stage}
-use Rattle.sleep_model.specs.declared.place.Stage.TheVariants as stage
 use Rattle.sleep_model.specs.declared.place.Stand.{Stand}
 use Rattle.sleep_model.specs.declared.place.Stand.TheVariants as stand
 use Rattle.sleep_model.specs.declared.word.EventNow.{EventNow}
@@ -26,14 +25,14 @@ use Rattle.sleep_model.specs.Order.{order, is_among}
 use Rattle.sleep_model.specs.Stands.{is_unprepared, is_prepared, is_ready, is_down_in, ended_by, skipped_for}
 use Rattle.sleep_model.specs.Table.{stage_after}
 use Rattle.sleep_model.specs.Walk.{is_so, or_else}
-use Rattle.sleep_laws.proofs.Boards.{Three, at, at_is, three, three_after, all_three, first_found, last_found, mirror_down}
+use Rattle.sleep_laws.proofs.Boards.{at, at_is, three, all_three, first_found, last_found, mirror_down}
 use Rattle.sleep_laws.proofs.Flags.{told_length, off_length, stopped_length, run_least}
 use Rattle.sleep_laws.proofs.Holding.{entry_of}
 use Rattle.sleep_laws.proofs.Made.{Down, Up, Made}
-use Rattle.sleep_laws.proofs.Standing.{Inside, InsideIf, Standing, ready_is, down_is, ended_prepared}
-use Rattle.attempt_room.specs.Room.{one_unless, rows_from, things_need, tells_ahead, cpus_ahead, parts_ahead, stand_needs, prepared_needs, device_needs, devices_need, prepares_ahead}
+use Rattle.sleep_laws.proofs.Standing.{InsideIf, Standing, ready_is, down_is, ended_prepared}
+use Rattle.attempt_room.specs.Room.{one_unless, rows_from, things_need, tells_ahead, cpus_ahead, parts_ahead, stand_needs, prepared_needs, devices_need, prepares_ahead}
 use Rattle.attempt_room.proofs.Things.{leads, things_less, thing_done, thing_undone, within_run, within_ranked}
-use Rattle.attempt_room.proofs.Weights.{needs, prepared_one, devices_less, down_falls, up_falls, device_spends, busy_within}
+use Rattle.attempt_room.proofs.Weights.{prepared_one, devices_less, down_falls, up_falls, device_spends, busy_within}
 
 -- ---- who pays
 

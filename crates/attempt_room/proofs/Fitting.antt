@@ -1,8 +1,6 @@
 -- What acceptance tells: the devices of the order are the machine's, and a prepare that fails answers an error of ours.
-use Rattle.std.proofs.Common.{◌≡◌, ◌<◌, ◌∙◌, ℕ, ℤ, suc, pos, negsuc, Bool, true, false, ◌==◌, ◌&&◌, ◌||◌, List, [], ◌∷◌, length, reverse, Option, Some, None, is_some, cond, refl, sym, ap, subst, arith}
-use Rattle.std.proofs.lemmas.Bool.{true≢false}
+use Rattle.std.proofs.Common.{◌≡◌, ◌<◌, ◌∙◌, ℕ, ℤ, pos, negsuc, Bool, true, false, ◌&&◌, List, [], ◌∷◌, length, reverse, Option, Some, None, cond, refl, sym, ap, subst, arith}
 use Rattle.std.proofs.lemmas.List.{length-map}
-use Rattle.sleep_base.specs.declared.errno.Errno.{Errno}
 use Rattle.sleep_model.specs.declared.entry.Actor.{Actor}
 use Rattle.sleep_model.specs.declared.entry.Entry.{Entry}
 use Rattle.sleep_model.specs.declared.entry.Kind.{Kind}
@@ -26,7 +24,7 @@ use Rattle.sleep_model.specs.Order.{order, is_among, parents_of}
 use Rattle.sleep_model.specs.Path.{attempts, maker, is_actor}
 use Rattle.sleep_model.specs.Table.{stage_of, behind}
 use Rattle.sleep_model.proofs.Acyclic.{order_within}
-use Rattle.sleep_laws.proofs.Made.{Made, Comes, AtOnce, TaskMade, StepMade, WorkMade, DeviceMade, EntryMade, ByMaker, ByTask, ByWork, ByDevice, ByTime}
+use Rattle.sleep_laws.proofs.Made.{Made, Comes, AtOnce}
 use Rattle.attempt_room.proofs.Falling.{is_fit, FitsKind}
 
 -- the devices of an accepted machine's order are its own
@@ -86,10 +84,7 @@ prepare_fits m acc past now who d r due_is a s f n =
     number_same : (e : ℕ) (x y : ℤ) → Makes (kind.Prepare e x) ≡ Makes (kind.Prepare e y) → x ≡ y
     number_same e x y h = cc
 
-made_fits : (m : Machine) → IsAccepted m → (past : List Entry) (now : EventNow) (who : Actor) (here there : Stage) (k : Kind) → due m past who now ≡ Makes k → is_actor who (maker past) ≡ true → stage_of past ≡ Some here → Comes m past here there → Made m past now there k → FitsKind k
-made_fits m acc past now who here _ _ e a s c (Made.Prepares d r f n) = prepare_fits m acc past now who d r e a (s ∙ ap Some (at_prepares m past here c)) f n
-made_fits m acc past now who here _ _ e a s c _ = tt
-
 -- what is due of the maker answers rightly
 pub due_fits : (m : Machine) → IsAccepted m → (past : List Entry) (now : EventNow) (who : Actor) (here there : Stage) (k : Kind) → due m past who now ≡ Makes k → is_actor who (maker past) ≡ true → stage_of past ≡ Some here → Comes m past here there → Made m past now there k → FitsKind k
-due_fits m acc past now who here there k e a s c x = made_fits m acc past now who here there k e a s c x
+due_fits m acc past now who here _ _ e a s c (Made.Prepares d r f n) = prepare_fits m acc past now who d r e a (s ∙ ap Some (at_prepares m past here c)) f n
+due_fits m acc past now who here _ _ e a s c _ = tt

@@ -1,7 +1,6 @@
 -- What the open attempt needs, at each entry of a legal journal: by what is due, and by the entry that stands there.
-use Rattle.std.proofs.Common.{◌≡◌, ◌≤◌, ◌<◌, ◌+◌, ◌*◌, ◌∙◌, ℕ, Bool, true, false, List, [], ◌∷◌, length, Option, Some, None, refl, sym, ap, subst, arith}
-use Rattle.std.proofs.lemmas.Bool.{true≢false}
-use Rattle.sleep_base.specs.declared.errno.Errno.{Errno}
+use Rattle.std.proofs.Common.{◌≡◌, ◌≤◌, ◌+◌, ◌*◌, ◌∙◌, ℕ, Bool, true, false, List, ◌∷◌, length, Option, Some, None, refl, sym, ap, subst, arith, ◌||◌, ◌⊎◌, inl, inr}
+use Rattle.std.proofs.lemmas.Bool.{true≢false, or_cases}
 use Rattle.sleep_model.specs.declared.entry.Actor.{Actor}
 use Rattle.sleep_model.specs.declared.entry.Actor.TheVariants as actor
 use Rattle.sleep_model.specs.declared.entry.Entry.{Entry}
@@ -12,7 +11,6 @@ use Rattle.sleep_model.specs.declared.machine.Op.{Op}
 use Rattle.sleep_model.specs.declared.place.Due.TheVariants.{Makes}
 use Rattle.sleep_model.specs.declared.place.Seat.{Seat}
 use Rattle.sleep_model.specs.declared.place.Stage.{Stage}
-use Rattle.sleep_model.specs.declared.place.Stage.TheVariants as stage
 use Rattle.sleep_model.specs.declared.place.Stand.{Stand}
 use Rattle.sleep_model.specs.declared.place.Stand.TheVariants as stand
 use Rattle.sleep_model.specs.declared.place.Work.{Work}
@@ -113,6 +111,14 @@ module _ (m : Machine) (past : List Entry) (h : JournalPart m past) where
     -- what is due of a device spends a place
     pub due_device_spends : (who : Actor) (k : Kind) → due m past who now ≡ Makes k → is_device who ≡ true → needed m (entry_of time now who k ∷ past) + 1 ≤ needed m past
     due_device_spends who k d a = device_spends_made who k a (made m past now who k d)
+
+    -- what is due of the attempt's maker, or of a device, spends a place
+    pub due_own_spends : IsAccepted m → (who : Actor) (k : Kind) → due m past who now ≡ Makes k → (is_actor who (maker past) || is_device who) ≡ true → needed m (entry_of time now who k ∷ past) + 1 ≤ needed m past
+    due_own_spends acc who k d a = by_part (or_cases (is_actor who (maker past)) (is_device who) a)
+      where
+        by_part : (is_actor who (maker past) ≡ true) ⊎ (is_device who ≡ true) → needed m (entry_of time now who k ∷ past) + 1 ≤ needed m past
+        by_part (inl b) = due_spends acc who k d b
+        by_part (inr b) = due_device_spends who k d b
 
     -- ---- anybody else
 

@@ -1,12 +1,10 @@
 -- What an attempt needs falls with each entry of its own.
-use Rattle.std.proofs.Common.{◌≡◌, ◌≤◌, ◌<◌, ◌+◌, ◌*◌, ◌∙◌, ℕ, Bool, true, false, not, List, [], ◌∷◌, length, Option, Some, None, is_some, refl, sym, ap, subst, arith}
+use Rattle.std.proofs.Common.{◌≡◌, ◌≤◌, ◌<◌, ◌+◌, ◌∙◌, ℕ, Bool, true, false, List, ◌∷◌, length, Option, Some, None, is_some, refl, sym, ap, arith}
 use Rattle.std.proofs.lemmas.Bool.{true≢false}
-use Rattle.sleep_base.specs.declared.errno.Errno.{Errno}
 use Rattle.sleep_model.specs.declared.entry.Actor.{Actor}
 use Rattle.sleep_model.specs.declared.entry.Actor.TheVariants as actor
 use Rattle.sleep_model.specs.declared.entry.Entry.{Entry}
 use Rattle.sleep_model.specs.declared.entry.Kind.{Kind}
-use Rattle.sleep_model.specs.declared.entry.Kind.TheVariants as kind
 use Rattle.sleep_model.specs.declared.entry.SkipCause.TheVariants as skip
 use Rattle.sleep_model.specs.declared.machine.Machine.{Machine}
 use Rattle.sleep_model.specs.declared.machine.PlatDo.TheVariants as down
@@ -22,9 +20,9 @@ use Rattle.sleep_model.specs.Devices.{phase_failed, stand_in}
 use Rattle.sleep_model.specs.Notifiers.{told, cpus_off, stopped}
 use Rattle.sleep_model.specs.Order.{order, is_among}
 use Rattle.sleep_model.specs.Table.{stage_after}
-use Rattle.sleep_laws.proofs.Boards.{at, at_is, three, mirror_down}
+use Rattle.sleep_laws.proofs.Boards.{at_is, mirror_down}
 use Rattle.sleep_laws.proofs.Holding.{entry_of}
-use Rattle.sleep_laws.proofs.Made.{Down, Up, Made, Comes, AtOnce, PastNotifiers, PastCpus, PastParts, PastPartsUp, PastCpusUp, PastPosts, DeviceMade}
+use Rattle.sleep_laws.proofs.Made.{Down, Made, Comes, AtOnce, PastNotifiers, PastCpus, PastParts, PastPartsUp, PastCpusUp, PastPosts, DeviceMade}
 use Rattle.sleep_laws.proofs.Moods.{when_empty}
 use Rattle.sleep_laws.proofs.Standing.{Standing, errs, error_stays}
 use Rattle.attempt_room.specs.Room.{one_unless, rows_from, things_need, tells_ahead, cpus_ahead, parts_ahead, devices_need, prepares_ahead, needed_at}

@@ -1,14 +1,14 @@
 -- What notifiers, processors and parts of the core need, by their flags.
-use Rattle.std.proofs.Common.{◌≡◌, ◌≢◌, ◌≤◌, ◌<◌, ◌+◌, ◌*◌, ◌∙◌, ◌-◌, int_lt, ℕ, zero, suc, Bool, true, false, not, ◌==◌, ◌||◌, nat_lt, List, [], ◌∷◌, ◌⊎◌, inl, inr, length, slice_set, Option, Some, None, cond, refl, sym, ap, subst, arith}
+use Rattle.std.proofs.Common.{◌≡◌, ◌≢◌, ◌≤◌, ◌<◌, ◌+◌, ◌*◌, ◌∙◌, int_lt, ℕ, zero, suc, Bool, true, false, ◌==◌, ◌||◌, nat_lt, List, [], ◌∷◌, ◌⊎◌, inl, inr, length, slice_set, cond, refl, sym, ap, subst, arith}
 use Rattle.std.specs.List.{range_with_len}
 use Rattle.std.proofs.lemmas.Bool.{true≢false, eqb-true, or_cases}
 use Rattle.std.proofs.lemmas.Bool.Decides.{nat_tests}
-use Rattle.std.proofs.lemmas.List.{length-set, get_or-set_same, get_or-set_other, get_or_past}
+use Rattle.std.proofs.lemmas.List.{get_or-set_same, get_or-set_other, get_or_past}
 use Rattle.sleep_model.specs.declared.machine.Notifier.{Notifier}
 use Rattle.sleep_model.specs.Notifiers.{Ranked, put_ranked, ranked_from, numbers_of}
 use Rattle.sleep_model.specs.Order.{is_among}
 use Rattle.sleep_model.specs.Walk.{is_so}
-use Rattle.attempt_room.specs.Room.{sum_below, thing_needs, things_need}
+use Rattle.attempt_room.specs.Room.{thing_needs, things_need}
 use Rattle.attempt_room.proofs.Sums.{sum_less, sum_falls, sum_most}
 
 -- the second holds wherever the first does

@@ -1,10 +1,9 @@
 -- What devices need, and how an entry of one makes it fall.
-use Rattle.std.proofs.Common.{◌≡◌, ◌≢◌, ◌≤◌, ◌<◌, ◌+◌, ◌*◌, ◌∙◌, ℕ, pos, negsuc, Bool, true, false, not, nat_lt, List, [], ◌∷◌, length, slice_set, Option, Some, None, is_some, refl, sym, ap, subst, arith}
+use Rattle.std.proofs.Common.{◌≡◌, ◌≤◌, ◌<◌, ◌+◌, ◌*◌, ◌∙◌, ℕ, Bool, true, false, nat_lt, List, ◌∷◌, length, Option, Some, refl, sym, ap, subst, arith}
 use Rattle.std.proofs.lemmas.Bool.{true≢false}
 use Rattle.std.proofs.lemmas.Bool.Decides.{nat_tests}
 use Rattle.std.proofs.lemmas.List.{get_or_past, get_or-set_same}
 use Rattle.sleep_model.specs.declared.entry.Entry.{Entry}
-use Rattle.sleep_model.specs.declared.entry.Kind.{Kind}
 use Rattle.sleep_model.specs.declared.machine.Machine.{Machine}
 use Rattle.sleep_model.specs.declared.place.Stand.{Stand}
 use Rattle.sleep_model.specs.declared.place.Stand.TheVariants as stand
@@ -12,10 +11,10 @@ use Rattle.phase_table.specs.declared.phase.Phase.{Phase}
 use Rattle.phase_table.specs.declared.phase.Phase.TheVariants as phase
 use Rattle.phase_table.specs.Phases.{mirror}
 use Rattle.sleep_model.specs.Devices.{stand_in}
-use Rattle.sleep_model.specs.Stands.{stands, stands_after, stand_after, stand_at, device_of, is_prepared}
-use Rattle.sleep_laws.proofs.Boards.{Three, at, at_is, all_three, three, three_after, turned, moved_other, stands_length}
+use Rattle.sleep_model.specs.Stands.{stands, stands_after, stand_at, device_of, is_prepared}
+use Rattle.sleep_laws.proofs.Boards.{Three, at, all_three, three, three_after, turned, moved_other, stands_length}
 use Rattle.sleep_laws.proofs.Made.{Down, InSuspend, InLate, InNoirq, Up, InResume, InEarly, InResumeNoirq}
-use Rattle.attempt_room.specs.Room.{sum_below, stand_needs, prepared_needs, device_needs, devices_need}
+use Rattle.attempt_room.specs.Room.{stand_needs, prepared_needs, device_needs, devices_need}
 use Rattle.attempt_room.proofs.Sums.{sum_less, sum_falls, sum_most}
 use Rattle.attempt_room.proofs.Things.{leads}
 

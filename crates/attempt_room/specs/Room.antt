@@ -34,7 +34,7 @@ abbrev pub one_unless : Bool → ℕ
 one_unless true = 0
 one_unless false = 1
 
--- how many entries the table's rows may take from a stage on, by the longest way, where its freeze or its sleep has begun or not: those of notifiers, devices, processors and parts of the core are not among them (suspend_devices_and_enter, suspend_enter)
+-- the entries of the table's fixed rows from a stage on, by the longest way, where its freeze or sleep has begun or not (suspend_devices_and_enter, suspend_enter)
 abbrev pub rows_from : Stage → Bool → Bool → ℕ
 rows_from stage.Notifies freezes sleeps = 26
 rows_from (stage.Freezes group.User) freezes sleeps = 25 + one_unless freezes
@@ -123,13 +123,17 @@ prepared_needs _ ahead = 1
 
 -- what a device needs that stands so in suspend, late and noirq, and their mirrors
 abbrev pub device_needs : Bool → Stand → Stand → Stand → ℕ
-device_needs ahead suspend late noirq = prepared_needs suspend ahead + (stand_needs suspend + (stand_needs late + stand_needs noirq))
+device_needs ahead suspend late noirq =
+    prepared_needs suspend ahead + (stand_needs suspend + (stand_needs late + stand_needs noirq))
+
+-- what device d needs
+abbrev pub device_need : Machine → Bool → List Entry → ℕ → ℕ
+device_need m ahead past d =
+    device_needs ahead (stand_in m past phase.Suspend d) (stand_in m past phase.Late d) (stand_in m past phase.Noirq d)
 
 -- what the devices need
 abbrev pub devices_need : Machine → Bool → List Entry → ℕ
-devices_need m ahead past =
-    sum_below (length m.devices)
-    (λ d. device_needs ahead (stand_in m past phase.Suspend d) (stand_in m past phase.Late d) (stand_in m past phase.Noirq d))
+devices_need m ahead past = sum_below (length m.devices) (λ d. device_need m ahead past d)
 
 -- devices may still be prepared, where an error stands in the phase or not (dpm_prepare)
 abbrev pub prepares_ahead : Stage → Bool → Bool
@@ -172,13 +176,15 @@ NoneNeededOutside = (m : Machine) (past : List Entry) → JournalPart m past →
 
 -- an attempt that begins needs, with its first entry, no more than that
 abbrev pub AttemptNeedsFew : Type 0
-AttemptNeedsFew = (m : Machine) (past : List Entry) (e : Entry) → JournalPart m (e ∷ past) → is_attempt e.kind ≡ true → needed m (e ∷ past) + 1 ≤ enough m
+AttemptNeedsFew =
+    (m : Machine) (past : List Entry) (e : Entry) → JournalPart m (e ∷ past) → is_attempt e.kind ≡ true
+    → needed m (e ∷ past) + 1 ≤ enough m
 
 -- each entry of the attempt's maker, or of a device, makes what is needed fall
 abbrev pub OwnEntrySpends : Type 0
 OwnEntrySpends =
-    (m : Machine) (past : List Entry) (e : Entry) → IsAccepted m → JournalPart m (e ∷ past) → is_actor e.actor (maker past) ≡ true
-    → needed m (e ∷ past) + 1 ≤ needed m past
+    (m : Machine) (past : List Entry) (e : Entry) → IsAccepted m → JournalPart m (e ∷ past)
+    → is_actor e.actor (maker past) ≡ true → needed m (e ∷ past) + 1 ≤ needed m past
 
 -- the same of a device's own entry
 abbrev pub DeviceEntrySpends : Type 0
