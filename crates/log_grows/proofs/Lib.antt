@@ -1,0 +1,6 @@
+pub mod Calling
+pub mod Events
+pub mod Growing
+pub mod Histories
+pub mod Idling
+pub mod Journals
