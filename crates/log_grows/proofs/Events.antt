@@ -10,7 +10,7 @@ use Rattle.sleep_model.specs.declared.machine.SourceCall.TheVariants as call
 use Rattle.sleep_model.specs.declared.word.EventNow.{EventNow}
 use Rattle.sleep_model.specs.declared.word.WordKind.TheVariants as step
 use Rattle.sleep_model.specs.Calls.{calls_of, made, notes_of, one_more}
-use Rattle.sleep_model.specs.Legal.{IsLegal, is_behind}
+use Rattle.sleep_model.specs.Legal.{IsLegal}
 use Rattle.sleep_model.specs.Numbers.{numbers, time_of, after_step}
 use Rattle.sleep_model.specs.Parts.{journal}
 use Rattle.sleep_model.specs.Path.{is_same}
@@ -88,8 +88,8 @@ event_legal m past legal i s time word w t q next =
     let begins : owed (note ∷ own) ≡ step.Start ∷ step.Finish ∷ [] = event_makes time word who s own (q s).inactive in
     let noted = note_legal m past legal note i s (call.Event 0 false) refl tt refl w t (q s).owes_none next in
     let started = step_legal m (note ∷ past) noted start s step.Start refl w t
-        (subst (λ (xs : List Entry). IsNext step.Start (owed xs)) (sym (note_history time word who s past)) (subst (IsNext step.Start) (sym begins) refl))
-        (ap caller (note_history time word who s past)) (behind_own i s _) in
+    (subst (λ (xs : List Entry). IsNext step.Start (owed xs)) (sym (note_history time word who s past)) (subst (IsNext step.Start) (sym begins) refl))
+    (ap caller (note_history time word who s past)) (behind_own i s _) in
     step_legal m (start ∷ note ∷ past) started (event_finish time word who s) s step.Finish refl (ap (after_step (Some step.Start)) w) t
     (subst (λ (xs : List Entry). IsNext step.Finish (owed xs)) (sym (start_history time word who s past)) (subst (IsNext step.Finish) (sym (ap behind_first begins)) refl))
     (ap caller (start_history time word who s past)) (behind_own i s _)

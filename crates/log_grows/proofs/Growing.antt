@@ -1,5 +1,5 @@
 -- A legal list with one more entry is legal: an entry that is due, a note of a call, a step of the word, a jump.
-use Rattle.std.proofs.Common.{◌≡◌, ◌<◌, ◌∙◌, ℕ, true, false, ◌+◌, List, [], ◌∷◌, length, Some, refl, sym, ap, subst, slice_get}
+use Rattle.std.proofs.Common.{◌≡◌, ◌<◌, ◌∙◌, ℕ, true, ◌+◌, List, [], ◌∷◌, length, Some, sym, ap, subst, slice_get}
 use Rattle.sleep_model.specs.declared.entry.Actor.{Actor}
 use Rattle.sleep_model.specs.declared.entry.Actor.TheVariants as actor
 use Rattle.sleep_model.specs.declared.entry.Entry.{Entry}
@@ -9,14 +9,12 @@ use Rattle.sleep_model.specs.declared.machine.Machine.{Machine}
 use Rattle.sleep_model.specs.declared.machine.SourceCall.{SourceCall}
 use Rattle.sleep_model.specs.declared.machine.SourceCall.TheVariants as call
 use Rattle.sleep_model.specs.declared.place.Due.TheVariants.{Makes}
-use Rattle.sleep_model.specs.declared.word.EventNow.{EventNow}
 use Rattle.sleep_model.specs.declared.word.WordKind.{WordKind}
-use Rattle.sleep_model.specs.declared.word.WordKind.TheVariants as step
 use Rattle.sleep_model.specs.Calls.{calls_of, calls_due, made}
 use Rattle.sleep_model.specs.Due.{due}
 use Rattle.sleep_model.specs.Legal.{IsLegal, IsOwnCall, JournalPart, JournalStep, OwnStep, JointStep, JumpStep, IsOnTime, is_behind}
-use Rattle.sleep_model.specs.Numbers.{numbers, time_of, after_step}
-use Rattle.sleep_model.specs.Parts.{Part, OfJournal, Notes, Moves, OfTime, part_of, is_kept, journal}
+use Rattle.sleep_model.specs.Numbers.{numbers, time_of}
+use Rattle.sleep_model.specs.Parts.{OfJournal, Notes, Moves, OfTime, part_of, is_kept, journal}
 use Rattle.sleep_model.specs.Sources.{history, owed, caller, SourceStep, IsNext}
 use Rattle.log_grows.proofs.Journals.{journal_more, journal_same, time_journal, due_part}
 
@@ -33,8 +31,8 @@ entry_legal m past legal e other is word time own =
     let part : part_of e.kind ≡ OfJournal = due_part m (journal past) e.now e.actor e.kind other is in
     record {
       journal =
-        subst (JournalPart m) (sym (journal_more e past (ap is_kept part)))
-            (subst (JournalStep m (journal past) e) (sym part) (is, time ∙ sym (time_journal past)), legal.journal);
+          subst (JournalPart m) (sym (journal_more e past (ap is_kept part)))
+          (subst (JournalStep m (journal past) e) (sym part) (is, time ∙ sym (time_journal past)), legal.journal);
       sources = (subst (OwnStep past e) (sym part) tt, legal.sources);
       placed = (word, subst (IsOnTime past e.time) (sym part) time, legal.placed);
       joint = (subst (JointStep m past e) (sym part) own, legal.joint);
@@ -92,8 +90,8 @@ jump_legal m past legal e who jumps word later may =
     let part : part_of e.kind ≡ OfTime = ap part_of jumps in
     record {
       journal =
-        subst (JournalPart m) (sym (journal_more e past (ap is_kept part)))
-            (subst (JournalStep m (journal past) e) (sym part) (who, subst (λ t. t < e.time) (sym (time_journal past)) later), legal.journal);
+          subst (JournalPart m) (sym (journal_more e past (ap is_kept part)))
+          (subst (JournalStep m (journal past) e) (sym part) (who, subst (λ t. t < e.time) (sym (time_journal past)) later), legal.journal);
       sources = (subst (OwnStep past e) (sym part) tt, legal.sources);
       placed = (word, subst (IsOnTime past e.time) (sym part) tt, legal.placed);
       joint = (subst (JointStep m past e) (sym part) may, legal.joint);

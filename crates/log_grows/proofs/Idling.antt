@@ -1,5 +1,5 @@
 -- Where nobody goes on, while the sources are quiet.
-use Rattle.std.proofs.Common.{◌≡◌, ◌<◌, ◌+◌, ◌∙◌, ℕ, Bool, true, false, not, ◌&&◌, ◌||◌, nat_lt, List, length, Option, Some, None, refl, ap}
+use Rattle.std.proofs.Common.{◌≡◌, ◌+◌, ◌∙◌, ℕ, Bool, true, false, not, ◌&&◌, ◌||◌, nat_lt, List, length, Option, Some, None, refl, ap}
 use Rattle.sleep_model.specs.declared.entry.Actor.{Actor}
 use Rattle.sleep_model.specs.declared.entry.Actor.TheVariants as actor
 use Rattle.sleep_model.specs.declared.entry.Entry.{Entry}
@@ -32,10 +32,10 @@ enabled_quiet m past q now who calls same =
 pub idle_quiet : (m : Machine) (past : List Entry) → AreQuiet past → (now : EventNow)
     → is_idle m (journal past) (λ s. history s past) now
     ≡ (none_enabled m (journal past) (λ s. history s past) now actor.Script (length m.actors) && not (is_enabled m (journal past) (λ s. history s past) now actor.Auto)
-        && none_enabled m (journal past) (λ s. history s past) now actor.Dev (length m.devices))
+    && none_enabled m (journal past) (λ s. history s past) now actor.Dev (length m.devices))
 idle_quiet m past q now =
     ap (λ b. none_enabled m (journal past) (λ s. history s past) now actor.Script (length m.actors) && not (is_enabled m (journal past) (λ s. history s past) now actor.Auto)
-        && none_enabled m (journal past) (λ s. history s past) now actor.Dev (length m.devices) && b) (quiet_expires past q (length m.sources + 1) (time_of (journal past)))
+    && none_enabled m (journal past) (λ s. history s past) now actor.Dev (length m.devices) && b) (quiet_expires past q (length m.sources + 1) (time_of (journal past)))
     ∙ and_true _
 
 -- the next moment is the journal's

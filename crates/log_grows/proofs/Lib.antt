@@ -4,3 +4,4 @@ pub mod Growing
 pub mod Histories
 pub mod Idling
 pub mod Journals
+pub mod Planning
