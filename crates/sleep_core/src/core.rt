@@ -220,4 +220,12 @@ impl<'m> Core<'m> {
     {
         self.history.tasks().raised(mark)
     }
+
+    /// How many scripts the machine has.
+    pub(crate) fn scripts(&self) -> u32
+        ensures { result ≡ length self.now.machine.actors }
+    {
+        let _core = &self.history;
+        self.machine().actors.len() as u32
+    }
 }

@@ -8,6 +8,7 @@ mod core;
 mod due;
 mod events;
 mod history;
+mod pending;
 mod phases;
 mod steps;
 mod tasks;
