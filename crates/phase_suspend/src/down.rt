@@ -1,4 +1,4 @@
-ghost use Rattle.std.specs.Prelude.{◌≡◌};
+ghost use Rattle.std.specs.Prelude.{◌≡◌, None};
 ghost use Rattle.sleep_model.specs.Devices.{unless_failed};
 ghost use Rattle.sleep_model.specs.Walk.{or_else};
 ghost use Rattle.phase_suspend.specs.Downs.{down_state, is_direct_on, taken_on, take_down_on, close_down_on, walk_due_on, given_down_on};
@@ -94,23 +94,30 @@ impl Down {
     {
         match env.board.waits_below(p, device) {
             Some(other) => Due::Waits(Why::Device(other)),
-            None => match self.failed {
-                Some(_) => Due::Makes(Kind::Skip(p, device, SkipCause::Error)),
-                None => Due::Makes(taken(env, p, device)),
-            },
+            None => Due::Makes(self.made(env, p, device)),
         }
     }
 
-    // The walk at a device: an asynchronous one is given out, another waits for all below it.
+    // What a device makes that waits for none: an error lets it do nothing.
+    fn made(&self, env: &DownEnv<'_>, p: Phase, device: u32) -> Kind
+        ensures { result ≡ unless_failed self.now.failed p device
+            (taken_on (down_state self.now env.now) p device) }
+    {
+        match self.failed {
+            Some(_) => Kind::Skip(p, device, SkipCause::Error),
+            None => taken(env, p, device),
+        }
+    }
+
+    // The walk at a device, where no error stands: an asynchronous one is given out.
     fn take(&self, env: &DownEnv<'_>, p: Phase, device: u32) -> Due
+        requires { self.now.failed ≡ None }
         ensures { result ≡ take_down_on (down_state self.now env.now) p device }
     {
         if env.board.is_beside(device) {
-            return Due::Makes(Kind::Schedule(p, device));
-        }
-        match env.board.waits_below(p, device) {
-            Some(other) => Due::Waits(Why::Device(other)),
-            None => Due::Makes(taken(env, p, device)),
+            Due::Makes(Kind::Schedule(p, device))
+        } else {
+            self.device_due(env, p, device)
         }
     }
 
