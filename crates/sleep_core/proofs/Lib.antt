@@ -3,4 +3,5 @@ mod Frozen
 mod Looking
 mod Propers
 mod Seated
+mod Turning
 mod Walks

@@ -9,6 +9,7 @@ use Rattle.sleep_model.specs.Legal.{JournalPart}
 use Rattle.sleep_model.specs.Numbers.{time_of}
 use Rattle.sleep_model.specs.Path.{attempts}
 use Rattle.sleep_model.specs.Runtime.{may_wake}
+use Rattle.attempt_room.specs.Room.{needed}
 use Rattle.sleep_state.specs.Places.{entries}
 use Rattle.sleep_core.specs.declared.core.Core.TheInside.{Inside}
 use Rattle.sleep_core.specs.Cores.{CoreState}
@@ -24,11 +25,12 @@ abbrev pub FrozeEarly : Option ℕ → Type 0
 FrozeEarly None = Unit {0}
 FrozeEarly (Some since) = since ≤ 2 ^ 63
 
--- the history is a legal journal of an accepted machine, and its numbers stay small
+-- the history is a legal journal of an accepted machine, with room for what its open attempt needs, and its numbers stay small
 pub record IsCore (h : Kept) : Type 0 where
   pub accepted : IsAccepted h.machine
   pub built : is_built h.machine ≡ true
   pub legal : JournalPart h.machine (entries h.past)
+  pub room : needed h.machine (entries h.past) ≤ h.room
   pub few : attempts (entries h.past) + 1 < 2 ^ 32
   pub early : time_of (entries h.past) ≤ 2 ^ 63
   pub slept : SleptEarly (sleep_of (entries h.past))

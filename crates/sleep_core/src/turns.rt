@@ -1,9 +1,10 @@
 //! Turns: one actor looks at the event word, and makes at most one entry.
 
-ghost use Rattle.std.specs.Prelude.{◌≡◌, ◌≤◌, ◌<◌, ◌+◌, ◌^◌, false, length, max};
+ghost use Rattle.std.specs.Prelude.{◌≡◌, ◌≤◌, ◌<◌, ◌+◌, ◌^◌, false, length, max, OnOk, OnErr, ◌||◌};
 ghost use Rattle.std.specs.Bool.{OnTrue, OnFalse};
 ghost use Rattle.sleep_model.specs.declared.place.Due.TheVariants.{Makes};
 ghost use Rattle.sleep_model.specs.declared.word.EventNow.{EventNow};
+ghost use Rattle.sleep_model.specs.Calls.{calls_due};
 ghost use Rattle.sleep_model.specs.Devices.{is_device};
 ghost use Rattle.sleep_model.specs.Due.{due};
 ghost use Rattle.sleep_model.specs.Legal.{JournalPart};
@@ -16,7 +17,7 @@ ghost use Rattle.sleep_model.specs.Word.{position};
 ghost use Rattle.sleep_state.specs.Places.{entries};
 ghost use Rattle.sleep_core.specs.Cores.{IsActor, with_entry, next_stamp, jump_entry};
 ghost use Rattle.sleep_core.specs.Histories.{last_stamp};
-ghost use Rattle.sleep_core.specs.Looks.{IsTold, IsNewest};
+ghost use Rattle.sleep_core.specs.Looks.{IsTold, GrewTo};
 ghost use Rattle.sleep_core.specs.Numbered.{Leaves, IsCounted};
 ghost use Rattle.sleep_core.specs.Turned.{AfterTurn};
 
@@ -111,5 +112,108 @@ impl<'m> Core<'m> {
         ensures counted { OnFalse result (IsCounted kind) }
     {
         self.leaves_attempts(kind) && self.leaves_runs(kind) && self.leaves_marks(kind)
+    }
+
+    /// Whether an entry of that actor is of the open attempt: its maker's, or a device's.
+    fn is_own(&self, who: Actor) -> bool
+        ensures { result ≡ (is_actor who (maker (entries self.now.past)) || is_device who) }
+    {
+        self.is_maker(who) || is_device(who)
+    }
+
+    /// Makes the entry that is due. `Mem` where there is no memory for it, or no number; never for the maker
+    /// of the open attempt, nor for a device.
+    fn make(&mut self, who: Actor, now: EventNow, kind: Kind, stamp: Stamp) -> Result<(), CoreFault>
+        requires actor { IsActor self.old.machine who }
+        requires due { due self.old.machine (entries self.old.past) who now ≡ Makes kind }
+        ensures ok { OnOk result (self.new ≡ with_entry self.old (record {
+          stamp = stamp;
+          entry = record { time = time_of (entries self.old.past); now = now; actor = who; kind = kind };
+        })) }
+        ensures err { OnErr result ((is_actor who (maker (entries self.old.past)) ≡ false) × (is_device who ≡ false) × (self.new ≡ self.old)) }
+    {
+        let own = self.is_own(who);
+        if !self.leaves(kind) {
+            return Err(CoreFault::Mem);
+        }
+        match self.history.make_room(own, kind) {
+            Ok(()) => {}
+            Err(_) => return Err(CoreFault::Mem),
+        }
+        // A journal is shorter than 2^63, so no script's steps run over.
+        let _made = self.history.len();
+        let entry = Entry {
+            time: self.history.time(),
+            now,
+            actor: who,
+            kind,
+        };
+        self.history.append(JournalEntry { stamp, entry });
+        Ok(())
+    }
+
+    /// The turn of an actor that saw this word.
+    fn step<R: Wait>(
+        &mut self,
+        rt: &R,
+        who: Actor,
+        word: EventNow,
+        floor: Stamp,
+    ) -> Result<CoreTurn, CoreFault>
+        requires { IsActor self.old.machine who }
+        ensures { AfterTurn self.old self.new who word floor result }
+    {
+        match self.due(who, word) {
+            Due::Waits(why) => Ok(CoreTurn::NotYet(why)),
+            Due::Gone => Ok(CoreTurn::Done),
+            Due::Makes(kind) => {
+                let tick = next_tick(rt, floor.tick, self.history.last().tick);
+                let stamp = Stamp {
+                    pos: pos(word),
+                    tick,
+                };
+                self.make(who, word, kind, stamp)?;
+                let attempt = self.history.path().attempts();
+                Ok(CoreTurn::Did {
+                    stamp,
+                    kind,
+                    attempt,
+                })
+            }
+        }
+    }
+
+    /// One turn of an actor: looks at the word until it is at least the floor's, decides, and makes
+    /// at most one entry. `calls` is the number of source calls that the actor has made, `now` the
+    /// time in ms. `NotYet` exactly where the actor waits, `Done` exactly where nothing is due of it.
+    /// `Mem` where there is no memory, or no number for one more attempt, run or mark; never for the maker of
+    /// the open attempt, nor for a device; nothing has changed then.
+    pub fn turn<R: Wait, E: Events>(
+        &mut self,
+        rt: &R,
+        events: &mut E,
+        who: Actor,
+        calls: u32,
+        floor: Stamp,
+        now: u64,
+    ) -> Result<CoreTurn, CoreFault>
+        requires actor { IsActor self.old.machine who }
+        requires calls { calls ≡ calls_due self.old.machine who (entries self.old.past) }
+        requires now { now ≡ time_of (entries self.old.past) }
+        requires floor { (last_stamp self.old.past).pos ≤ E.floor events.old }
+        // There is one word that was seen, by which the answer and the journal are what the definitions say.
+        ensures turn { (word : EventNow) × IsTold (E.tells events.old) word × GrewTo word (E.looked events.old) (E.looked events.new)
+            × (floor.pos ≤ position word) × AfterTurn self.old self.new who word floor result }
+        ensures tells { E.tells events.new ≡ E.tells events.old }
+        ensures root { E.root events.new ≡ E.root events.old }
+        ensures floor { (last_stamp self.new.past).pos ≤ E.floor events.new }
+        ensures legal { JournalPart self.new.machine (entries self.new.past) }
+    {
+        let _ = (calls, now);
+        let word = look_from(rt, events, floor.pos);
+        let answer = self.step(rt, who, word, floor);
+        // A look at the field makes the invariant known here: the journal is legal.
+        let _ = &self.history;
+        answer
     }
 }
