@@ -37,4 +37,6 @@ pub record Tells (m : Machine) (past : List Entry) (board : BoardState) : Type 0
   pub opens : (p : Phase) → is_down p ≡ true → waits_up_on board p ≡ waits_up m past p
   pub waits_for_below : (p : Phase) (d : ℕ) → is_down p ≡ true → waits_below_on board p d ≡ waits_below m past p d
   pub waits_for_above : (p : Phase) (d : ℕ) → is_down p ≡ true → waits_above_on board p d ≡ waits_above m past p d
-  pub left_alone : (d : ℕ) → (is_so (willing (length m.devices) past) d && is_so (statuses m.devices past) d && not (may_wake_device m d) && all_left_alone_on board d) ≡ is_direct_now m past d
+  pub left_alone : (d : ℕ)
+      → (is_so (willing (length m.devices) past) d && is_so (statuses m.devices past) d
+      && not (may_wake_device m d) && all_left_alone_on board d) ≡ is_direct_now m past d

@@ -264,7 +264,11 @@ impl Board {
         ensures { result ≡ work_on self.now device }
     {
         if self.is_beside(device) {
-            let noirq = work_in(Phase::Noirq, self.stand(Phase::Noirq, device), AsyncWork::Idle);
+            let noirq = work_in(
+                Phase::Noirq,
+                self.stand(Phase::Noirq, device),
+                AsyncWork::Idle,
+            );
             let late = work_in(Phase::Late, self.stand(Phase::Late, device), noirq);
             work_in(Phase::Suspend, self.stand(Phase::Suspend, device), late)
         } else {

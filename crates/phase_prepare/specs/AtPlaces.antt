@@ -17,5 +17,6 @@ prepare_number m past d = answer_number (answer m (what.Device d phase.Prepare) 
 -- prepare does what is due of it where r is what the next device's callback answers, and complete does
 pub record Follows (m : Machine) (past : List Entry) : Type 0 where
   pub prepare : (r : ℤ) → IfSome (next_prepared m past) (λ d. r ≡ prepare_number m past d)
-      → prepare_due_on (board_at m past) r (phase_failed past) ≡ prepare_due m past (phase_failed past) (next_prepared m past)
+      → prepare_due_on (board_at m past) r (phase_failed past)
+      ≡ prepare_due m past (phase_failed past) (next_prepared m past)
   pub complete : complete_due_on (board_at m past) ≡ complete_due (next_completed m past)

@@ -28,4 +28,6 @@ down_at m past now = record {
 pub record Follows (m : Machine) (past : List Entry) (now : EventNow) : Type 0 where
   pub walk : (p : Phase) → is_down p ≡ true → walk_due_on (down_at m past now) p ≡ down_due m past now p None
   pub given : (p : Phase) (d : ℕ) → is_down p ≡ true → given_down_on (down_at m past now) p d ≡ given_due m past now p d
-  pub answer : (d : ℕ) (to_suspended : Bool) → runtime_due_on (board_at m past) (leaves_alone past) (takes_late past) d to_suspended ≡ runtime_due m d to_suspended past
+  pub answer : (d : ℕ) (to_suspended : Bool)
+      → runtime_due_on (board_at m past) (leaves_alone past) (takes_late past) d to_suspended
+      ≡ runtime_due m d to_suspended past
