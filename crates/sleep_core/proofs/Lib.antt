@@ -1,3 +1,4 @@
+pub mod Calling
 mod Counted
 mod Frozen
 mod Looking

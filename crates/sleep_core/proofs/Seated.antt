@@ -28,7 +28,7 @@ set_read (x ∷ xs) zero (suc j) v = inr refl
 set_read (x ∷ xs) (suc i) zero v = inr refl
 set_read (x ∷ xs) (suc i) (suc j) v = set_read xs i j v
 
-first_seats : (n i : ℕ) → seat_at (replicate n first_seat) i ≡ first_seat
+pub first_seats : (n i : ℕ) → seat_at (replicate n first_seat) i ≡ first_seat
 first_seats zero i = refl
 first_seats (suc n) zero = refl
 first_seats (suc n) (suc i) = first_seats n i

@@ -1,5 +1,5 @@
 -- An entry that is due keeps what the core keeps.
-use Rattle.std.proofs.Common.{◌≡◌, ◌∙◌, ◌≤◌, ◌<◌, ◌+◌, ◌-◌, ◌^◌, ◌||◌, ℕ, Bool, true, false, List, ◌∷◌, length, Option, Some, None, refl, sym, ap, subst, arith}
+use Rattle.std.proofs.Common.{◌≡◌, ◌∙◌, ◌≤◌, ◌<◌, ◌+◌, ◌-◌, ◌^◌, ◌||◌, ℕ, Bool, true, false, List, [], ◌∷◌, length, Option, Some, None, refl, sym, ap, subst, arith}
 use Rattle.std.proofs.lemmas.Bool.{false≢true}
 use Rattle.sleep_model.specs.declared.entry.Actor.{Actor}
 use Rattle.sleep_model.specs.declared.entry.Actor.TheVariants as actor
@@ -12,7 +12,9 @@ use Rattle.sleep_model.specs.declared.place.Due.TheVariants.{Makes}
 use Rattle.sleep_model.specs.declared.place.Sleep.{Sleep}
 use Rattle.sleep_model.specs.declared.place.Stage.{Stage}
 use Rattle.sleep_model.specs.declared.word.EventNow.{EventNow}
+use Rattle.sleep_model.specs.declared.word.Stamp.{Stamp}
 use Rattle.sleep_model.specs.Accepted.{IsAccepted}
+use Rattle.sleep_model.specs.Built.{is_built}
 use Rattle.sleep_model.specs.Attempt.{freeze_since, freeze_since_after, sleep_of, sleep_after, unless_busy}
 use Rattle.sleep_model.specs.Devices.{is_device}
 use Rattle.sleep_model.specs.Due.{due}
@@ -195,4 +197,49 @@ admits_more h reserved e own core makes leaves own_is has short =
       seat = seat_small (length reserved.machine.actors) reserved.past e.actor short;
       marks = subst (λ (xs : List JournalEntry). MarksAreSmall e.kind (raised (length reserved.machine.marks) (entries xs))) (sym has.past)
           (subst (λ (x : Machine). MarksAreSmall e.kind (raised (length x.marks) past)) (sym has.machine) leaves.marks);
+    }
+
+-- ---- jumps of time
+
+-- a jump may be appended where one more place was made
+pub admits_jump : (h reserved : Kept) (t : ℕ) (now : EventNow) → IsCore h → reserved.machine ≡ h.machine → reserved.past ≡ h.past → h.room + 1 ≤ reserved.room → runs (entries reserved.past) < 2 ^ 32 → length reserved.past < 2 ^ 63 → Admits reserved (record { time = t; now = now; actor = actor.Time; kind = kind.Jump })
+admits_jump h reserved t now core machine past room few_runs short = record {
+      room = omega (arith, room);
+      attempts = subst (λ (xs : List JournalEntry). attempts (entries xs) < 2 ^ 32) (sym past) (omega (arith, core.few));
+      runs = few_runs;
+      seat = tt;
+      marks = tt;
+    }
+
+-- the core after a jump
+pub core_jumped : (h reserved new : Kept) (s : Stamp) (t : ℕ) (now : EventNow) → IsCore h → reserved.machine ≡ h.machine → reserved.past ≡ h.past → h.room + 1 ≤ reserved.room → time_of (entries h.past) < t → t ≤ 2 ^ 63
+    → new ≡ after_entry reserved (record { stamp = s; entry = record { time = t; now = now; actor = actor.Time; kind = kind.Jump } }) → IsCore new
+core_jumped h reserved new s t now core machine past room later small new_is =
+    let j : JournalEntry = record { stamp = s; entry = record { time = t; now = now; actor = actor.Time; kind = kind.Jump } } in
+    let kept : Kept = record { machine = h.machine; past = j ∷ h.past; room = reserved.room - 1 } in
+    let here : new ≡ kept = new_is ∙ (ap (λ (x : Machine). record { machine = x; past = j ∷ reserved.past; room = reserved.room - 1 }) machine ∙ ap (λ (xs : List JournalEntry). record { machine = h.machine; past = j ∷ xs; room = reserved.room - 1 }) past) in
+    subst IsCore (sym here) (record {
+      accepted = core.accepted;
+      built = core.built;
+      legal = ((refl, later), core.legal);
+      room = omega (arith, jump_needs_nothing h.machine (entries h.past) core.legal t now, core.room, room);
+      few = core.few;
+      early = small;
+      slept = core.slept;
+      froze = core.froze;
+    })
+
+-- ---- the beginning
+
+-- the core before its first entry
+pub core_empty : (m : Machine) → IsAccepted m → is_built m ≡ true → IsCore (record { machine = m; past = []; room = 0 })
+core_empty m accepted built = record {
+      accepted = accepted;
+      built = built;
+      legal = tt;
+      room = omega (arith, none_needed m [] tt refl);
+      few = omega arith;
+      early = omega arith;
+      slept = tt;
+      froze = tt;
     }

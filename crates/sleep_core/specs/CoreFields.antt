@@ -11,7 +11,7 @@ use Rattle.sleep_model.specs.Path.{attempts}
 use Rattle.sleep_model.specs.Runtime.{may_wake}
 use Rattle.attempt_room.specs.Room.{needed}
 use Rattle.sleep_state.specs.Places.{entries}
-use Rattle.sleep_core.specs.declared.core.Core.TheInside.{Inside}
+use Rattle.sleep_core.specs.declared.state.Core.TheInside.{Inside}
 use Rattle.sleep_core.specs.Cores.{CoreState}
 use Rattle.sleep_core.specs.Histories.{Kept}
 

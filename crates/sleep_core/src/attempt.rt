@@ -12,7 +12,7 @@ ghost use Rattle.sleep_model.specs.Table.{stage_of, behind};
 ghost use Rattle.sleep_state.specs.Places.{entries};
 ghost use Rattle.sleep_core.specs.Stages.{IsProper};
 
-use crate::core::Core;
+use crate::state::Core;
 use sleep_base::Errno;
 use sleep_state::behind;
 use sleep_model::{

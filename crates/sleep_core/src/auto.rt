@@ -11,7 +11,7 @@ ghost use Rattle.sleep_model.specs.Lock.{is_on};
 ghost use Rattle.sleep_state.specs.Places.{entries};
 ghost use Rattle.sleep_core.specs.Steps.{next_attempt};
 
-use crate::core::Core;
+use crate::state::Core;
 use crate::steps::visible;
 use sleep_model::{Due, EventNow, Kind, Why, Work};
 

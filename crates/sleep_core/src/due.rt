@@ -5,7 +5,7 @@ ghost use Rattle.sleep_model.specs.Due.{own_due, due};
 ghost use Rattle.sleep_state.specs.Places.{entries};
 ghost use Rattle.sleep_core.specs.Cores.{IsActor};
 
-use crate::core::Core;
+use crate::state::Core;
 use sleep_model::{Actor, Due, EventNow};
 
 impl<'m> Core<'m> {

@@ -4,16 +4,18 @@
 mod attempt;
 mod auto;
 mod clock;
-mod core;
+mod state;
 mod due;
 mod events;
 mod history;
+mod outside;
 mod pending;
 mod phases;
+mod start;
 mod steps;
 mod tasks;
 mod turns;
 
-pub use core::Core;
+pub use state::Core;
 pub use events::{Events, PlainEvents};
 pub use turns::{CoreFault, CoreTurn};

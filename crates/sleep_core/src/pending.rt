@@ -7,7 +7,7 @@ ghost use Rattle.sleep_model.specs.Legal.{sooner, alarm_at, deadline_at, pending
 ghost use Rattle.sleep_state.specs.Places.{entries};
 ghost use Rattle.sleep_core.specs.Steps.{sleep_end};
 
-use crate::core::Core;
+use crate::state::Core;
 use crate::steps::is_line;
 use sleep_model::Work;
 

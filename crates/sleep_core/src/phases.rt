@@ -8,7 +8,7 @@ ghost use Rattle.sleep_state.specs.Places.{entries};
 ghost use Rattle.phase_prepare.specs.AtPlaces.{prepare_number};
 ghost use Rattle.sleep_core.specs.Seen.{AreSeen};
 
-use crate::core::Core;
+use crate::state::Core;
 use phase_suspend::{Down, DownEnv};
 use sleep_base::Errno;
 use sleep_model::{AsyncWork, Due, EventNow, Kind, Phase, What, Why};

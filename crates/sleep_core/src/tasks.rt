@@ -8,7 +8,7 @@ ghost use Rattle.sleep_state.specs.Places.{entries};
 ghost use Rattle.sleep_model.specs.declared.machine.Op.TheVariants as op;
 ghost use Rattle.sleep_core.specs.Steps.{next_attempt};
 
-use crate::core::Core;
+use crate::state::Core;
 use crate::steps;
 use sleep_model::{Due, EventNow, Freezing, Kind, Op, Seat, TaskKind, Why};
 use sleep_state::{is_mem, is_off};

@@ -12,7 +12,7 @@ use Rattle.sleep_state.specs.Places.{entries}
 use Rattle.sleep_core.specs.Cores.{CoreState, IsActor}
 use Rattle.sleep_core.specs.Numbered.{Leaves}
 use Rattle.sleep_core.proofs.Turning.{counted_outside, admits_more, core_more}
-use Rattle.sleep_core.proofs.core.Core.make.Goals as goal
+use Rattle.sleep_core.proofs.state.Core.make.Goals as goal
 
 pub returns-then-not-leaves-clause-err : goal.returns-then-not-leaves-clause-err
 returns-then-not-leaves-clause-err c =

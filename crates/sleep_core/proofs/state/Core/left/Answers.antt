@@ -5,7 +5,7 @@ use Rattle.sleep_model.specs.declared.machine.Machine.{Machine}
 use Rattle.sleep_core.specs.Cores.{CoreState}
 use Rattle.sleep_core.proofs.Frozen.{freezings_len}
 use Rattle.sleep_core.proofs.Seated.{seats_len}
-use Rattle.sleep_core.proofs.core.Core.left.Goals as goal
+use Rattle.sleep_core.proofs.state.Core.left.Goals as goal
 
 pub left-requires-clause-seats : goal.left-requires-clause-seats
 left-requires-clause-seats c =

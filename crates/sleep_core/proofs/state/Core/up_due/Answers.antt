@@ -3,7 +3,7 @@ use Rattle.sleep_model.specs.Devices.{up_due}
 use Rattle.sleep_state.specs.Places.{entries}
 use Rattle.phase_resume.specs.Ups.{walk_due_on}
 use Rattle.phase_resume.proofs.Following.{follows}
-use Rattle.sleep_core.proofs.core.Core.up_due.Goals as goal
+use Rattle.sleep_core.proofs.state.Core.up_due.Goals as goal
 
 pub returns-in-None : goal.returns-in-None
 returns-in-None c =

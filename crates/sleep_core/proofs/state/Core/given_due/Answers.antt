@@ -3,7 +3,7 @@ use Rattle.sleep_state.specs.Places.{entries}
 use Rattle.phase_resume.specs.Ups.{given_up_on}
 use Rattle.phase_resume.proofs.Following.{follows}
 use Rattle.sleep_core.proofs.Walks.{up_if_not}
-use Rattle.sleep_core.proofs.core.Core.given_due.Goals as goal
+use Rattle.sleep_core.proofs.state.Core.given_due.Goals as goal
 
 pub returns-else-is_down : goal.returns-else-is_down
 returns-else-is_down c =

@@ -3,7 +3,7 @@ use Rattle.sleep_state.specs.Places.{entries}
 use Rattle.phase_suspend.specs.Downs.{walk_due_on}
 use Rattle.phase_suspend.proofs.Following.{follows}
 use Rattle.sleep_core.proofs.Walks.{seen_is}
-use Rattle.sleep_core.proofs.core.Core.walk_down.Goals as goal
+use Rattle.sleep_core.proofs.state.Core.walk_down.Goals as goal
 
 pub returns : goal.returns
 returns c =
