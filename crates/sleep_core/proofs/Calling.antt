@@ -70,7 +70,7 @@ script_turns : (i j : ℕ) (k : Kind) (ss : List Seat) → i < length ss → (b 
 script_turns i j k ss l true e =
     let same : j ≡ i = grind (arith, nat_tests) in
     subst (λ n. (seat_at (slice_set ss n (seat_after (seat_part k) (seat_at ss n))) i).turns ≡ one_more (ends_turn k) (seat_at ss i).turns) (sym same)
-      (ap (λ (s : Seat). s.turns) (same_set ss i (seat_after (seat_part k) (seat_at ss i)) l) ∙ kind_turns k (seat_at ss i))
+    (ap (λ (s : Seat). s.turns) (same_set ss i (seat_after (seat_part k) (seat_at ss i)) l) ∙ kind_turns k (seat_at ss i))
 script_turns i j k ss l false e = ap (λ (s : Seat). s.turns) (other_set ss i j (seat_after (seat_part k) (seat_at ss j)) e)
 
 entry_turns : (i : ℕ) (who : Actor) (k : Kind) (ss : List Seat) → i < length ss → (seat_at (seats_after who (seat_part k) ss) i).turns ≡ one_more (is_same who (actor.Script i) && ends_turn k) (seat_at ss i).turns

@@ -147,7 +147,7 @@ other_room m past legal e room places makes fits not_maker not_device more true 
     record { place = omega (arith, spends, all, more); rest = omega (arith, spends, all, more) }
 other_room m past legal e room places makes fits not_maker not_device more false is =
     by_maker m past legal e room places fits (due_needs_nothing m past legal e.time e.now e.actor e.kind makes not_maker not_device is) (maker past) refl
-        (other_places m e.kind (maker past) room places is more)
+    (other_places m e.kind (maker past) room places is more)
 
 either : (a b : Bool) → false ≡ (a || b) → (a ≡ false) × (b ≡ false)
 either true b e = absurd (false≢true e)
@@ -204,12 +204,12 @@ admits_more h reserved e own core makes leaves own_is has short =
 -- a jump may be appended where one more place was made
 pub admits_jump : (h reserved : Kept) (t : ℕ) (now : EventNow) → IsCore h → reserved.machine ≡ h.machine → reserved.past ≡ h.past → h.room + 1 ≤ reserved.room → runs (entries reserved.past) < 2 ^ 32 → length reserved.past < 2 ^ 63 → Admits reserved (record { time = t; now = now; actor = actor.Time; kind = kind.Jump })
 admits_jump h reserved t now core machine past room few_runs short = record {
-      room = omega (arith, room);
-      attempts = subst (λ (xs : List JournalEntry). attempts (entries xs) < 2 ^ 32) (sym past) (omega (arith, core.few));
-      runs = few_runs;
-      seat = tt;
-      marks = tt;
-    }
+  room = omega (arith, room);
+  attempts = subst (λ (xs : List JournalEntry). attempts (entries xs) < 2 ^ 32) (sym past) (omega (arith, core.few));
+  runs = few_runs;
+  seat = tt;
+  marks = tt;
+}
 
 -- the core after a jump
 pub core_jumped : (h reserved new : Kept) (s : Stamp) (t : ℕ) (now : EventNow) → IsCore h → reserved.machine ≡ h.machine → reserved.past ≡ h.past → h.room + 1 ≤ reserved.room → time_of (entries h.past) < t → t ≤ 2 ^ 63
@@ -234,12 +234,12 @@ core_jumped h reserved new s t now core machine past room later small new_is =
 -- the core before its first entry
 pub core_empty : (m : Machine) → IsAccepted m → is_built m ≡ true → IsCore (record { machine = m; past = []; room = 0 })
 core_empty m accepted built = record {
-      accepted = accepted;
-      built = built;
-      legal = tt;
-      room = omega (arith, none_needed m [] tt refl);
-      few = omega arith;
-      early = omega arith;
-      slept = tt;
-      froze = tt;
-    }
+  accepted = accepted;
+  built = built;
+  legal = tt;
+  room = omega (arith, none_needed m [] tt refl);
+  few = omega arith;
+  early = omega arith;
+  slept = tt;
+  froze = tt;
+}

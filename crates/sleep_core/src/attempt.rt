@@ -14,10 +14,8 @@ ghost use Rattle.sleep_core.specs.Stages.{IsProper};
 
 use crate::state::Core;
 use sleep_base::Errno;
+use sleep_model::{Due, EventNow, FrozeEnd, Group, Kind, PlatDo, Sleep, Stage, What, Why, pos};
 use sleep_state::behind;
-use sleep_model::{
-    Due, EventNow, FrozeEnd, Group, Kind, PlatDo, Sleep, Stage, What, Why, pos,
-};
 
 /// EBUSY where a wakeup is pending.
 fn busy_error(busy: bool) -> Option<Errno>

@@ -4,7 +4,6 @@
 mod attempt;
 mod auto;
 mod clock;
-mod state;
 mod due;
 mod events;
 mod history;
@@ -12,10 +11,11 @@ mod outside;
 mod pending;
 mod phases;
 mod start;
+mod state;
 mod steps;
 mod tasks;
 mod turns;
 
-pub use state::Core;
 pub use events::{Events, PlainEvents};
+pub use state::Core;
 pub use turns::{CoreFault, CoreTurn};

@@ -4,7 +4,9 @@ ghost use Rattle.std.specs.Prelude.{◌≡◌, ◌≤◌, ◌<◌, ◌+◌, ◌-
 ghost use Rattle.sleep_model.specs.Calls.{calls_due, pieces_in};
 ghost use Rattle.sleep_model.specs.Due.{due, all_gone};
 ghost use Rattle.sleep_model.specs.Legal.{JournalPart, is_made};
+ghost use Rattle.sleep_model.specs.Links.{first_places};
 ghost use Rattle.sleep_model.specs.Numbers.{time_of};
+ghost use Rattle.sleep_model.specs.Order.{above, below};
 ghost use Rattle.sleep_model.specs.Path.{maker};
 ghost use Rattle.sleep_model.specs.Seats.{seat_at, seats};
 ghost use Rattle.sleep_model.specs.Word.{position};
@@ -100,6 +102,20 @@ impl<'m> Core<'m> {
         ensures { result ≡ (all_gone self.now.machine (entries self.now.past) && is_none (maker (entries self.now.past))) }
     {
         self.history.tasks().all_exited() && self.history.path().maker().is_none()
+    }
+
+    /// The devices that hang right below one: its children, then its consumers, each once.
+    pub fn below(&self, device: u32) -> &[u32]
+        ensures { result.now ≡ first_places (below self.now.machine device) }
+    {
+        self.history.board().links().below(device)
+    }
+
+    /// The devices that one hangs right below: its parent, then its suppliers, each once.
+    pub fn above(&self, device: u32) -> &[u32]
+        ensures { result.now ≡ first_places (above self.now.machine device) }
+    {
+        self.history.board().links().above(device)
     }
 
     /// The journal, the oldest entry first.

@@ -4,8 +4,8 @@ ghost use Rattle.std.specs.Prelude.{◌≡◌, ◌≤◌, length, map, IfOk};
 ghost use Rattle.sleep_model.specs.Places.{all_operations};
 ghost use Rattle.sleep_model.specs.Runtime.{may_wake};
 
-use crate::state::Core;
 use crate::history::History;
+use crate::state::Core;
 use answer_book::AnswerBook;
 use device_links::Links;
 use device_rows::Flags;

@@ -32,7 +32,14 @@ impl<'m> Core<'m> {
             return Due::Makes(Kind::StateUnsaved);
         }
         let held = self.is_held();
-        steps::state_due(held, self.is_on(), seat.waits, asked, is_mem(text), self.attempt())
+        steps::state_due(
+            held,
+            self.is_on(),
+            seat.waits,
+            asked,
+            is_mem(text),
+            self.attempt(),
+        )
     }
 
     /// The next entry of a script at an operation, or its exit.
@@ -71,7 +78,14 @@ impl<'m> Core<'m> {
     }
 
     /// A task that is not frozen waits while the machine sleeps, and freezes where it is asked to and may.
-    fn task_due(&self, now: EventNow, freezing: Freezing, kind: TaskKind, seat: Seat, op: Option<&Op>) -> Due
+    fn task_due(
+        &self,
+        now: EventNow,
+        freezing: Freezing,
+        kind: TaskKind,
+        seat: Seat,
+        op: Option<&Op>,
+    ) -> Due
         ensures { result ≡ task_due self.now.machine (entries self.now.past) now freezing kind seat (option_copied op.entry) }
     {
         if freezing.frozen {

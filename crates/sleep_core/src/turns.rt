@@ -21,8 +21,8 @@ ghost use Rattle.sleep_core.specs.Looks.{IsTold, GrewTo};
 ghost use Rattle.sleep_core.specs.Numbered.{Leaves, IsCounted};
 ghost use Rattle.sleep_core.specs.Turned.{AfterTurn};
 
-use crate::state::Core;
 use crate::events::{Events, look_from};
+use crate::state::Core;
 use sleep_base::Mem;
 use sleep_model::{Actor, Due, Entry, EventNow, JournalEntry, Kind, Stamp, Why, pos};
 use std::sync::Wait;

@@ -11,12 +11,12 @@ pub returns-in-Script : goal.returns-in-Script
 returns-in-Script c =
     let s = c.args.self.now in
     subst (λ who. c.script_calls_due.result ≡ calls_due s.machine who (entries s.past)) (sym c.in-Script.is)
-      (script_calls_due s.machine c.in-Script.script (entries s.past) c.script_calls_due.result
-        (subst (λ (t : CoreState). is_built t.machine ≡ true) c.self.view_is c.self.invariant.core.built)
-        (subst (λ who. IsActor s.machine who) c.in-Script.is c.requires) c.script_calls_due.ensures)
+    (script_calls_due s.machine c.in-Script.script (entries s.past) c.script_calls_due.result
+    (subst (λ (t : CoreState). is_built t.machine ≡ true) c.self.view_is c.self.invariant.core.built)
+    (subst (λ who. IsActor s.machine who) c.in-Script.is c.requires) c.script_calls_due.ensures)
 
 pub returns-in_default : goal.returns-in_default
 returns-in_default c =
     let s = c.args.self.now in
     no_calls_due s.machine (entries s.past) c.args.who
-        (subst (λ (t : CoreState). is_built t.machine ≡ true) c.self.view_is c.self.invariant.core.built) c.in_default.not-Script
+    (subst (λ (t : CoreState). is_built t.machine ≡ true) c.self.view_is c.self.invariant.core.built) c.in_default.not-Script

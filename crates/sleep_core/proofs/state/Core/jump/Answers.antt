@@ -13,9 +13,9 @@ use Rattle.sleep_core.proofs.state.Core.jump.Goals as goal
 pub append-requires : goal.append-requires
 append-requires c =
     admits_jump c.self.inside.history c.reserve.new.self c.args.to c.args.seen c.self.invariant.core c.in_ok-reserve.ensures.machine c.in_ok-reserve.ensures.past
-        (omega (arith, c.in_ok-reserve.ensures.ok, c.room-places.ensures.room))
-        (omega (arith, c.runs-runs.type_inv, c.runs-runs.ensures, ap (λ (a : AutosleepState). a.runs) c.autosleep.ensures))
-        (omega (arith, c.len-made.ensures.len, c.len-made.ensures.small))
+    (omega (arith, c.in_ok-reserve.ensures.ok, c.room-places.ensures.room))
+    (omega (arith, c.runs-runs.type_inv, c.runs-runs.ensures, ap (λ (a : AutosleepState). a.runs) c.autosleep.ensures))
+    (omega (arith, c.len-made.ensures.len, c.len-made.ensures.small))
 
 pub invariant_of-self-2 : goal.invariant_of-self-2
 invariant_of-self-2 c =

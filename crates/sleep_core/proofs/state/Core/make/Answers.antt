@@ -23,10 +23,10 @@ returns-then-not-leaves-clause-err c =
 pub append-requires : goal.append-requires
 append-requires c =
     admits_more c.self.inside.history c.make_room.new.self (record { time = c.time.result; now = c.args.now; actor = c.args.who; kind = c.args.kind }) c.is_own-own.result c.self.invariant.core
-        (subst (λ (s : CoreState). due s.machine (entries s.past) c.args.who c.args.now ≡ Makes c.args.kind) (sym c.self.view_is) c.requires.due)
-        (subst (λ (s : CoreState). Leaves s.machine c.args.kind (entries s.past)) (sym c.self.view_is) c.if-not-leaves.ensures.fits)
-        (subst (λ (s : CoreState). c.is_own-own.result ≡ (is_actor c.args.who (maker (entries s.past)) || is_device c.args.who)) (sym c.self.view_is) c.is_own-own.ensures)
-        c.in-Ok.ensures.ok (omega (arith, c.len-made.ensures.len, c.len-made.ensures.small))
+    (subst (λ (s : CoreState). due s.machine (entries s.past) c.args.who c.args.now ≡ Makes c.args.kind) (sym c.self.view_is) c.requires.due)
+    (subst (λ (s : CoreState). Leaves s.machine c.args.kind (entries s.past)) (sym c.self.view_is) c.if-not-leaves.ensures.fits)
+    (subst (λ (s : CoreState). c.is_own-own.result ≡ (is_actor c.args.who (maker (entries s.past)) || is_device c.args.who)) (sym c.self.view_is) c.is_own-own.ensures)
+    c.in-Ok.ensures.ok (omega (arith, c.len-made.ensures.len, c.len-made.ensures.small))
 
 pub invariant_of-self-2 : goal.invariant_of-self-2
 invariant_of-self-2 c =

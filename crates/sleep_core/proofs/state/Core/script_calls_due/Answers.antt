@@ -13,6 +13,6 @@ returns c =
     let h = c.self.inside.history in
     let i = c.args.script in
     subst (λ (s : CoreState). c.calls_before.result ≡ calls_before (pieces_in s.machine i) (seat_at (seats (length s.machine.actors) (entries s.past)) i).turns) c.self.view_is
-      (planned_calls h.machine i (entries h.past) c.self.inside.plans.items c.index.result.now c.seat-seat.result c.calls_before.result c.self.invariant.plans_are
-        (subst (λ (s : CoreState). i < length s.machine.actors) (sym c.self.view_is) c.requires)
-        c.index.ensures c.calls_before.ensures (c.seat-seat.ensures ∙ ap (λ (t : TaskState). seat_at t.seats i) c.tasks.ensures))
+    (planned_calls h.machine i (entries h.past) c.self.inside.plans.items c.index.result.now c.seat-seat.result c.calls_before.result c.self.invariant.plans_are
+    (subst (λ (s : CoreState). i < length s.machine.actors) (sym c.self.view_is) c.requires)
+    c.index.ensures c.calls_before.ensures (c.seat-seat.ensures ∙ ap (λ (t : TaskState). seat_at t.seats i) c.tasks.ensures))
