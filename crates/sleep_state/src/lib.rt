@@ -6,6 +6,8 @@ mod devices;
 mod journal;
 mod path;
 mod tasks;
+#[cfg(test)]
+mod tests;
 mod texts;
 
 pub use autosleep::{Autosleep, is_actor, is_same};
