@@ -1,14 +1,12 @@
--- How far one entry counts, and how many tasks the freezer has come to something with after it.
+-- How far one entry counts, and how many tasks a freeze asks.
 use Rattle.std.proofs.Common.{◌≡◌, ℕ, suc, ◌+◌, ◌≤◌, List, [], ◌∷◌, length, refl, arith}
-use Rattle.std.proofs.lemmas.List.{length-set}
 use Rattle.sleep_model.specs.declared.entry.Actor.{Actor}
-use Rattle.sleep_model.specs.declared.entry.Actor.TheVariants as actor
 use Rattle.sleep_model.specs.declared.entry.Group.{Group}
 use Rattle.sleep_model.specs.declared.entry.Kind.{Kind}
 use Rattle.sleep_model.specs.declared.entry.Kind.TheVariants as kind
 use Rattle.sleep_model.specs.declared.machine.Script.{Script}
 use Rattle.sleep_model.specs.declared.place.Freezing.{Freezing}
-use Rattle.sleep_model.specs.Freezer.{all_asked, put_frozen}
+use Rattle.sleep_model.specs.Freezer.{all_asked}
 use Rattle.sleep_model.specs.Path.{attempts_after}
 
 -- an entry begins one attempt at most
@@ -22,8 +20,3 @@ asked_len g who i [] [] all = refl
 asked_len g who i [] (f ∷ fs) all = refl
 asked_len g who i (s ∷ ss) [] all = all
 asked_len g who i (s ∷ ss) (f ∷ fs) all = omega (arith, asked_len g who (suc i) ss fs (omega arith))
-
--- and so does a task that freezes
-pub frozen_len : (who : Actor) (fs : List Freezing) → length (put_frozen who fs) ≡ length fs
-frozen_len (actor.Script i) fs = grind (arith, length-set)
-frozen_len _ fs = refl
