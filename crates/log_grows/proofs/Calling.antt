@@ -5,17 +5,20 @@ use Rattle.sleep_model.specs.declared.entry.Actor.{Actor}
 use Rattle.sleep_model.specs.declared.entry.Entry.{Entry}
 use Rattle.sleep_model.specs.Calls.{made, notes_of, one_more}
 use Rattle.sleep_model.specs.Parts.{OfJournal, part_of}
-use Rattle.sleep_model.specs.Sources.{history}
-use Rattle.log_grows.proofs.Histories.{history_kept}
+use Rattle.sleep_model.specs.Sources.{history, is_of}
+use Rattle.log_grows.proofs.Histories.{history_other}
 
 -- where each history has as many notes of an actor, it has made as many calls
 pub made_same : (n : ℕ) (of other : ℕ → List Entry) (who : Actor) → ((s : ℕ) → notes_of who (of s) ≡ notes_of who (other s)) → made n of who ≡ made n other who
 made_same zero of other who h = refl
 made_same (suc n) of other who h = ap₂ (λ a b. a + b) (h n) (made_same n of other who h)
 
--- an entry of the journal is no call
+-- an entry that is no source's is no call
+pub made_other : (n : ℕ) (e : Entry) (past : List Entry) (who : Actor) → ((s : ℕ) → is_of s (part_of e.kind) ≡ false) → made n (λ s. history s (e ∷ past)) who ≡ made n (λ s. history s past) who
+made_other n e past who h = made_same n (λ s. history s (e ∷ past)) (λ s. history s past) who (λ s. ap (notes_of who) (history_other s e past (h s)))
+
 pub made_kept : (n : ℕ) (e : Entry) (past : List Entry) (who : Actor) → part_of e.kind ≡ OfJournal → made n (λ s. history s (e ∷ past)) who ≡ made n (λ s. history s past) who
-made_kept n e past who part = made_same n (λ s. history s (e ∷ past)) (λ s. history s past) who (λ s. ap (notes_of who) (history_kept e past part s))
+made_kept n e past who part = made_other n e past who (λ s. ap (is_of s) part)
 
 same_before : (n s : ℕ) (of other : ℕ → List Entry) (who : Actor) → ((t : ℕ) → (s == t) ≡ false → notes_of who (of t) ≡ notes_of who (other t)) → n < suc s → made n of who ≡ made n other who
 same_before zero s of other who h l = refl

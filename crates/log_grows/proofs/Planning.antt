@@ -65,7 +65,7 @@ silent_none : (rs : List Report) → is_silent rs ≡ true → rs ≡ []
 silent_none [] h = refl
 silent_none (r ∷ rs) h = absurd (true≢false (sym h))
 
-and_both : (a b : Bool) → (a && b) ≡ true → (a ≡ true) × (b ≡ true)
+pub and_both : (a b : Bool) → (a && b) ≡ true → (a ≡ true) × (b ≡ true)
 and_both true true h = (refl, refl)
 and_both true false h = absurd (true≢false (sym h))
 and_both false b h = absurd (true≢false (sym h))

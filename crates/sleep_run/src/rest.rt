@@ -1,0 +1,163 @@
+//! What comes after a round that did nothing: a jump of time, or the end.
+
+ghost use Rattle.std.specs.Prelude.{◌≡◌, ◌<◌, ◌+◌, ◌^◌, [], ◌∷◌, map, IfOk, All};
+ghost use Rattle.sleep_model.specs.Sources.{run_time};
+ghost use Rattle.sleep_run.specs.Meters.{stats_at};
+ghost use Rattle.sleep_run.specs.Runs.{writer};
+
+use crate::meter::Meter;
+use crate::run::{Run, RunFault, WRITER, append, wait_unless};
+use sleep_core::{CoreTurn, Events};
+use sleep_model::{
+    Actor, Entry, EntryList, EventNow, Kind, ListOf, Log, LogEnd, Stats, Waiting, Why,
+};
+use std::alloc::{AllocError, Global};
+use std::sync::Wait;
+
+/// The greatest moment of a run, in ms. A run that comes past it waits for ever.
+const LAST_MOMENT: u64 = 1 << 63;
+
+/// What comes after a round that did nothing.
+#[derive(Clone, Copy)]
+pub(crate) enum Rest {
+    /// Another round.
+    GoesOn,
+    /// The end: nothing is left to do.
+    Finished,
+    /// The end: nobody goes on.
+    Stuck,
+}
+
+/// The statistics of the sources at that moment.
+fn stats_of(alloc: Global, meters: &[Meter], at: u64) -> Result<Vec<Stats>, AllocError>
+    requires { All (λ m. m.total + run_time m.since at < 2 ^ 64) meters.now }
+    ensures { IfOk result (λ v. v.items ≡ map (λ m. stats_at m at) meters.now) }
+{
+    let mut stats = Vec::new(alloc);
+    for meter in meters {
+        stats.push(meter.stats(at))?;
+    }
+    Ok(stats)
+}
+
+/// That the writer waits, and why.
+fn writer_waits(alloc: Global, why: Why) -> Result<Vec<Waiting>, AllocError>
+    ensures { IfOk result (λ v. v.items ≡ record { actor = writer; why = why } ∷ []) }
+{
+    let mut those = Vec::new(alloc);
+    those.push(Waiting { actor: WRITER, why })?;
+    Ok(those)
+}
+
+impl<'m> Run<'m> {
+    ghost use Rattle.std.specs.Prelude.{◌≡◌, ◌<◌, length, Ok, IfOk, OnOk};
+    ghost use Rattle.sleep_model.specs.declared.entry.Actor.TheVariants.{Dev};
+    ghost use Rattle.sleep_model.specs.Legal.{JumpStep, IsStuckAfter, none_enabled, waiting};
+    ghost use Rattle.sleep_model.specs.Numbers.{numbers, time_of};
+    ghost use Rattle.sleep_model.specs.Parts.{journal};
+    ghost use Rattle.sleep_model.specs.Sources.{history};
+    ghost use Rattle.sleep_run.specs.Runs.{is_resting, AfterRest, AfterAll, IsRun};
+
+    /// Whether no device can make an entry that sees this word.
+    fn rest_devices(&self, word: EventNow) -> bool
+        ensures { result ≡ none_enabled self.now.machine (journal self.now.past) (λ s. history s self.now.past) word Dev (length self.now.machine.devices) }
+    {
+        let time = self.core.time();
+        let mut none = true;
+        for device in 0..self.machine.devices.len() as u32 {
+            none = !self.core.enabled(Actor::Dev(device), 0, word, time) && none;
+        }
+        none
+    }
+
+    /// Whether nobody can make anything.
+    fn is_resting(&self) -> bool
+        ensures { result ≡ is_resting self.now.machine self.now.past }
+    {
+        let mut events = self.events;
+        let word = events.look();
+        let time = self.core.time();
+        let by_writer = self.core.enabled(WRITER, self.made, word, time);
+        let by_work = self.core.enabled(Actor::Auto, 0, word, time);
+        !by_writer && !by_work && self.rest_devices(word)
+    }
+
+    /// Time jumps to the next pending moment, where nobody can make anything.
+    fn jump<R: Wait>(&mut self, rt: &R, to: u64) -> Result<(), RunFault>
+        requires { JumpStep self.old.machine (journal self.old.past) (λ s. history s self.old.past) (numbers self.old.past) to }
+        ensures machine { self.new.machine ≡ self.old.machine }
+        ensures made { OnOk result (length self.old.past < length self.new.past) }
+    {
+        wait_unless(rt, to <= LAST_MOMENT && self.floor.tick < u64::MAX);
+        self.entries.reserve(1)?;
+        let now = self.events.look();
+        self.floor = self.core.jump(now, to, self.floor)?;
+        append(
+            &mut self.entries,
+            Entry {
+                time: to,
+                now,
+                actor: Actor::Time,
+                kind: Kind::Jump,
+            },
+        );
+        Ok(())
+    }
+
+    /// After a round that did nothing: time jumps where nobody can make anything, or the run is over.
+    pub(crate) fn rest<R: Wait>(&mut self, rt: &R) -> Result<Rest, RunFault>
+        ensures machine { self.new.machine ≡ self.old.machine }
+        ensures after { AfterRest self.old self.new result }
+    {
+        if !self.is_resting() {
+            self.asks.fill();
+            self.auto = true;
+            return Ok(Rest::GoesOn);
+        }
+        if self.core.whole() {
+            return Ok(Rest::Finished);
+        }
+        match self.core.next_time() {
+            Some(to) => {
+                self.jump(rt, to)?;
+                Ok(Rest::GoesOn)
+            }
+            None => Ok(Rest::Stuck),
+        }
+    }
+
+    /// Why the writer waits, where nobody goes on.
+    fn waiting<R: Wait>(&mut self, rt: &R, alloc: Global) -> Result<Vec<Waiting>, RunFault>
+        requires { IsStuckAfter self.old.machine self.old.past }
+        ensures same { OnOk result (self.new ≡ self.old) }
+        ensures waiting { IfOk result (λ v. v.items ≡ waiting self.old.machine (journal self.old.past) (numbers self.old.past)) }
+    {
+        let time = self.core.time();
+        let turn = self
+            .core
+            .turn(rt, &mut self.events, WRITER, self.made, self.floor, time)?;
+        match turn {
+            CoreTurn::NotYet(why) => Ok(writer_waits(alloc, why)?),
+            CoreTurn::Done => Ok(Vec::new(alloc)),
+            CoreTurn::Did { .. } => unreachable!(),
+        }
+    }
+
+    /// The log of a run that is over.
+    pub(crate) fn into_log<R: Wait>(mut self, rt: &R, alloc: Global, rest: Rest) -> Result<Log, RunFault>
+        requires { AfterAll self (Ok rest) }
+        ensures { IfOk result (λ log. IsRun self.entry.machine log) }
+    {
+        let end = match rest {
+            Rest::Stuck => LogEnd::Stuck(ListOf::of_vec(self.waiting(rt, alloc)?)),
+            _ => LogEnd::Finished,
+        };
+        let stats = stats_of(alloc, &self.meters, self.core.time())?;
+        let Run { entries, .. } = self;
+        Ok(Log {
+            entries: EntryList::of_vec(entries),
+            stats: ListOf::of_vec(stats),
+            end,
+        })
+    }
+}
