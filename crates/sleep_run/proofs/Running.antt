@@ -1,5 +1,7 @@
 -- A turn keeps what a run keeps.
-use Rattle.std.proofs.Common.{◌≡◌, ◌<◌, ◌≤◌, ◌+◌, ◌++◌, ◌∙◌, ℕ, zero, suc, Bool, true, false, ◌==◌, List, [], ◌∷◌, length, reverse, slice_set, slice_get, slice_index_or, Option, Some, None, refl, sym, ap, ap₂, subst, cond, arith}
+use Rattle.std.proofs.Common.{◌≡◌, ◌<◌, ◌≤◌, ◌+◌, ◌++◌, ◌∙◌, ℕ, zero, suc, Bool, true, false, not, ◌==◌, ◌&&◌, ◌||◌, nat_lt, List, [], ◌∷◌, length, reverse, slice_set, slice_get, slice_index_or, Option, Some, None, refl, sym, ap, ap₂, subst, cond, arith}
+use Rattle.std.proofs.lemmas.Bool.{true≢false}
+use Rattle.std.proofs.lemmas.Bool.Decides.{nat_tests}
 use Rattle.std.proofs.lemmas.List.{reverse-append}
 use Rattle.sleep_model.specs.declared.entry.Actor.{Actor}
 use Rattle.sleep_model.specs.declared.entry.Actor.TheVariants as actor
@@ -15,26 +17,27 @@ use Rattle.sleep_model.specs.Accepted.{IsAccepted}
 use Rattle.sleep_model.specs.Built.{is_built}
 use Rattle.sleep_model.specs.Calls.{calls_of, calls_due, made, one_more}
 use Rattle.sleep_model.specs.Due.{due}
-use Rattle.sleep_model.specs.Legal.{JumpStep}
+use Rattle.sleep_model.specs.Legal.{JumpStep, is_made, is_enabled, none_enabled, next_time, journal_time}
 use Rattle.sleep_model.specs.Numbers.{numbers, after_step, time_of}
 use Rattle.sleep_model.specs.Parts.{OfJournal, part_of, is_kept, journal}
 use Rattle.sleep_model.specs.Path.{is_same}
 use Rattle.sleep_model.specs.Sources.{is_of, history}
 use Rattle.sleep_model.specs.Word.{position}
 use Rattle.sleep_state.specs.Places.{entries}
-use Rattle.sleep_core.specs.Cores.{CoreState, with_entry, made_entry, jump_entry, next_stamp}
+use Rattle.sleep_core.specs.Cores.{CoreState, IsActor, with_entry, made_entry, jump_entry, next_stamp}
 use Rattle.sleep_core.specs.Histories.{last_stamp}
 use Rattle.log_grows.proofs.Calling.{made_kept, made_other}
 use Rattle.log_grows.proofs.Events.{with_event, each_event, event_legal, event_quiet, event_made}
 use Rattle.log_grows.proofs.Growing.{first_legal, entry_legal, jump_legal}
 use Rattle.log_grows.proofs.Histories.{each_kept, quiet_first, quiet_kept}
+use Rattle.log_grows.proofs.Idling.{enabled_quiet, next_quiet}
 use Rattle.log_grows.proofs.Journals.{journal_more, time_journal, word_kept, due_part}
-use Rattle.log_grows.proofs.Planning.{still_due}
+use Rattle.log_grows.proofs.Planning.{no_calls, still_due}
 use Rattle.sleep_run.specs.declared.meter.Meter.{Meter}
 use Rattle.sleep_run.specs.Meters.{meter_of, meters_of}
 use Rattle.sleep_run.specs.Runs.{IsMomentary, IsRunning, events_of, first_steps, writer, calls_by, calls_made}
 use Rattle.sleep_run.proofs.Meters.{IsSmall, meter_small, meter_here, meters_len, after_event, meters_event, meters_kept}
-use Rattle.sleep_run.proofs.Writers.{next_event, few_events}
+use Rattle.sleep_run.proofs.Writers.{next_event, few_events, one_actor, silent}
 
 -- nothing is made at first
 none_made : (n : ℕ) (who : Actor) → made n (λ s. history s []) who ≡ 0
@@ -238,3 +241,55 @@ running_jump m past core new word seen calls made meters floor stamp to r j late
 -- a word that is told is kept
 pub told_same : (one other : EventNow) → Some one ≡ Some other → one ≡ other
 told_same one other e = cc
+
+-- ---- where nobody goes on
+
+-- what the core says of an actor is whether it is enabled
+pub enabled_is : (m : Machine) (past : List Entry) (core : CoreState) (word : EventNow) (calls : List ℕ) (made : ℕ) (meters : List Meter) (floor : Stamp) → IsRunning m past core word calls made meters floor
+    → (now : EventNow) (who : Actor) (n : ℕ) → calls_made m past who ≡ n
+    → (nat_lt n (calls_due core.machine who (entries core.past)) || is_made (due core.machine (entries core.past) who now)) ≡ is_enabled m (journal past) (λ s. history s past) now who
+enabled_is m past core word calls made meters floor r now who n e =
+    ap (λ (x : Machine). nat_lt n (calls_due x who (entries core.past)) || is_made (due x (entries core.past) who now)) r.machine_is
+    ∙ (ap (λ (xs : List Entry). nat_lt n (calls_due m who xs) || is_made (due m xs who now)) r.journal_is
+    ∙ sym (enabled_quiet m past r.quiet now who n e))
+
+-- one actor more that is not enabled
+pub none_more : (m : Machine) (past : List Entry) (now : EventNow) (kind : ℕ → Actor) (n k : ℕ) (none on : Bool) → k ≡ suc n → none ≡ none_enabled m (journal past) (λ s. history s past) now kind n
+    → on ≡ is_enabled m (journal past) (λ s. history s past) now (kind n) → (not on && none) ≡ none_enabled m (journal past) (λ s. history s past) now kind k
+none_more m past now kind n k none on next so is =
+    ap₂ (λ x y. not x && y) is so ∙ ap (none_enabled m (journal past) (λ s. history s past) now kind) (sym next)
+
+
+-- the next pending moment is the core's
+pub next_joint : (m : Machine) (past : List Entry) (core : CoreState) (word : EventNow) (calls : List ℕ) (made : ℕ) (meters : List Meter) (floor : Stamp) → IsRunning m past core word calls made meters floor
+    → journal_time core.machine (entries core.past) ≡ next_time m (journal past) (λ s. history s past)
+next_joint m past core word calls made meters floor r =
+    ap (λ (x : Machine). journal_time x (entries core.past)) r.machine_is ∙ (ap (λ (xs : List Entry). journal_time m xs) r.journal_is ∙ sym (next_quiet m past r.quiet))
+
+-- who is the writer
+is_writer : (who : Actor) → is_same writer who ≡ true → who ≡ writer
+is_writer (actor.Script i) e = let same : i ≡ 0 = grind (arith, nat_tests) in ap actor.Script same
+is_writer actor.Auto e = absurd (true≢false (sym e))
+is_writer (actor.Dev d) e = absurd (true≢false (sym e))
+is_writer (actor.Timer s) e = absurd (true≢false (sym e))
+is_writer actor.Time e = absurd (true≢false (sym e))
+
+-- no actor has made more calls than are due
+pub all_fit : (m : Machine) (past : List Entry) (core : CoreState) (word : EventNow) (calls : List ℕ) (made : ℕ) (meters : List Meter) (floor : Stamp) → IsRunning m past core word calls made meters floor
+    → (who : Actor) → calls_made m past who ≤ calls_due m who (journal past)
+all_fit m past core word calls made meters floor r who = by_test (is_same writer who) refl
+  where
+    by_test : (b : Bool) → is_same writer who ≡ b → calls_made m past who ≤ calls_due m who (journal past)
+    by_test true e =
+        let is : who ≡ writer = is_writer who e in
+        let same : calls_made m past who ≡ made = r.made_are who ∙ ap (λ x. cond x made 0) e in
+        subst (λ (w : Actor). calls_made m past who ≤ calls_due m w (journal past)) (sym is) (omega (arith, same, r.fits))
+    by_test false e = let same : calls_made m past who ≡ 0 = r.made_are who ∙ ap (λ x. cond x made 0) e in omega (arith, same)
+
+-- where an actor's call is due it is the writer
+pub caller_is : (m : Machine) → is_built m ≡ true → (past : List Entry) (who : Actor) (n : ℕ) → IsActor m who → n < calls_due m who past → who ≡ writer
+caller_is m built past (actor.Script i) n h l = let same : i ≡ 0 = omega (arith, h, one_actor m built) in ap actor.Script same
+caller_is m built past actor.Auto n h l = absurd (omega (arith, l, ap length (no_calls m (silent m built) actor.Auto refl past)))
+caller_is m built past (actor.Dev d) n h l = absurd (omega (arith, l, ap length (no_calls m (silent m built) (actor.Dev d) refl past)))
+caller_is m built past (actor.Timer s) n h l = absurd h
+caller_is m built past actor.Time n h l = absurd h

@@ -2,6 +2,7 @@
 #![tactic(auto)]
 
 mod asks;
+mod looks;
 mod meter;
 mod rest;
 mod rounds;

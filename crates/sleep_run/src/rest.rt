@@ -51,21 +51,31 @@ fn writer_waits(alloc: Global, why: Why) -> Result<Vec<Waiting>, AllocError>
 
 impl<'m> Run<'m> {
     ghost use Rattle.std.specs.Prelude.{◌≡◌, ◌<◌, length, Ok, IfOk, OnOk};
-    ghost use Rattle.sleep_model.specs.declared.entry.Actor.TheVariants.{Dev};
+    ghost use Rattle.sleep_model.specs.declared.entry.Actor.TheVariants.{Script, Dev};
     ghost use Rattle.sleep_model.specs.Legal.{JumpStep, IsStuckAfter, none_enabled, waiting};
     ghost use Rattle.sleep_model.specs.Numbers.{numbers, time_of};
     ghost use Rattle.sleep_model.specs.Parts.{journal};
     ghost use Rattle.sleep_model.specs.Sources.{history};
     ghost use Rattle.sleep_run.specs.Runs.{is_resting, AfterRest, AfterAll, IsRun};
 
-    /// Whether no device can make an entry that sees this word.
+    /// Whether no script can make anything that sees this word.
+    fn rest_scripts(&self, word: EventNow) -> bool
+        ensures { result ≡ none_enabled self.now.machine (journal self.now.past) (λ s. history s self.now.past) word Script (length self.now.machine.actors) }
+    {
+        let mut none = true;
+        for script in 0..self.machine.actors.len() as u32 {
+            none = !self.is_enabled(Actor::Script(script), word) & none;
+        }
+        none
+    }
+
+    /// Whether no device can make anything that sees this word.
     fn rest_devices(&self, word: EventNow) -> bool
         ensures { result ≡ none_enabled self.now.machine (journal self.now.past) (λ s. history s self.now.past) word Dev (length self.now.machine.devices) }
     {
-        let time = self.core.time();
         let mut none = true;
         for device in 0..self.machine.devices.len() as u32 {
-            none = !self.core.enabled(Actor::Dev(device), 0, word, time) && none;
+            none = !self.is_enabled(Actor::Dev(device), word) & none;
         }
         none
     }
@@ -74,17 +84,17 @@ impl<'m> Run<'m> {
     fn is_resting(&self) -> bool
         ensures { result ≡ is_resting self.now.machine self.now.past }
     {
-        let mut events = self.events;
-        let word = events.look();
-        let time = self.core.time();
-        let by_writer = self.core.enabled(WRITER, self.made, word, time);
-        let by_work = self.core.enabled(Actor::Auto, 0, word, time);
-        !by_writer && !by_work && self.rest_devices(word)
+        let word = self.word();
+        let by_script = self.rest_scripts(word);
+        let by_work = !self.is_enabled(Actor::Auto, word);
+        let by_device = self.rest_devices(word);
+        by_script & by_work & by_device
     }
 
     /// Time jumps to the next pending moment, where nobody can make anything.
     fn jump<R: Wait>(&mut self, rt: &R, to: u64) -> Result<(), RunFault>
-        requires { JumpStep self.old.machine (journal self.old.past) (λ s. history s self.old.past) (numbers self.old.past) to }
+        requires least { JumpStep self.old.machine (journal self.old.past) (λ s. history s self.old.past) (numbers self.old.past) to }
+        requires later { time_of self.old.past < to }
         ensures machine { self.new.machine ≡ self.old.machine }
         ensures made { OnOk result (length self.old.past < length self.new.past) }
     {
@@ -114,11 +124,12 @@ impl<'m> Run<'m> {
             self.auto = true;
             return Ok(Rest::GoesOn);
         }
-        if self.core.whole() {
+        if self.is_whole() {
             return Ok(Rest::Finished);
         }
-        match self.core.next_time() {
+        match self.next_time() {
             Some(to) => {
+                wait_unless(rt, to > self.time());
                 self.jump(rt, to)?;
                 Ok(Rest::GoesOn)
             }
@@ -152,7 +163,7 @@ impl<'m> Run<'m> {
             Rest::Stuck => LogEnd::Stuck(ListOf::of_vec(self.waiting(rt, alloc)?)),
             _ => LogEnd::Finished,
         };
-        let stats = stats_of(alloc, &self.meters, self.core.time())?;
+        let stats = stats_of(alloc, &self.meters, self.time())?;
         let Run { entries, .. } = self;
         Ok(Log {
             entries: EntryList::of_vec(entries),

@@ -4,39 +4,43 @@ ghost use Rattle.std.specs.Prelude.{◌≡◌, true, reverse, IfOk};
 ghost use Rattle.sleep_model.specs.Accepted.{IsAccepted};
 ghost use Rattle.sleep_model.specs.Built.{is_built};
 ghost use Rattle.sleep_model.specs.Order.{parents_of};
+ghost use Rattle.sleep_core.specs.Cores.{IsActor};
 ghost use Rattle.sleep_run.specs.Runs.{AfterTry, AfterAll, IsRun};
 
 use crate::rest::Rest;
-use crate::run::{Run, RunEnd, RunFault, WRITER};
+use crate::run::{Run, RunEnd, RunFault};
 use device_links::Links;
 use sleep_model::{Actor, Machine};
 use std::alloc::Global;
 use std::sync::Wait;
 
 impl<'m> Run<'m> {
-    /// The writer's try in a round: its next call on a source, else its turn. Whether entries were made.
-    fn ask_writer<R: Wait>(&mut self, rt: &R) -> Result<bool, RunFault>
+    /// An actor's try in a round: its next call on a source, else its turn. Whether entries were made.
+    fn ask<R: Wait>(&mut self, rt: &R, who: Actor) -> Result<bool, RunFault>
+        requires { IsActor self.old.machine who }
         ensures machine { self.new.machine ≡ self.old.machine }
         ensures after { AfterTry self.old self.new result }
     {
-        if self.made < self.core.calls_due(WRITER) {
+        if self.calls_made(who) < self.calls_due(who) {
             self.report(rt)?;
             Ok(true)
         } else {
-            self.turn(rt, WRITER, self.made)
+            self.turn(rt, who)
         }
     }
 
-    /// The try of the autosleep work, once it was set. Whether an entry was made.
-    fn ask_work<R: Wait>(&mut self, rt: &R) -> Result<bool, RunFault>
+    /// The tries of the scripts, in order. Whether entries were made.
+    fn ask_scripts<R: Wait>(&mut self, rt: &R) -> Result<bool, RunFault>
         ensures machine { self.new.machine ≡ self.old.machine }
         ensures after { AfterTry self.old self.new result }
     {
-        if self.auto {
-            self.turn(rt, Actor::Auto, 0)
-        } else {
-            Ok(false)
+        let mut made = false;
+        for script in 0..self.machine.actors.len() as u32 {
+            if self.ask(rt, Actor::Script(script))? {
+                made = true;
+            }
         }
+        Ok(made)
     }
 
     /// The tries of the devices that may have something to do, by number. Whether entries were made.
@@ -52,7 +56,7 @@ impl<'m> Run<'m> {
                 break;
             };
             from = device + 1;
-            if self.turn(rt, Actor::Dev(device), 0)? {
+            if self.ask(rt, Actor::Dev(device))? {
                 made = true;
             } else {
                 self.asks.remove(device);
@@ -67,10 +71,10 @@ impl<'m> Run<'m> {
         ensures machine { self.new.machine ≡ self.old.machine }
         ensures after { AfterTry self.old self.new result }
     {
-        let by_writer = self.ask_writer(rt)?;
-        let by_work = self.ask_work(rt)?;
-        let by_devices = self.ask_devices(rt)?;
-        Ok(by_writer || by_work || by_devices)
+        let by_script = self.ask_scripts(rt)?;
+        let by_work = self.auto && self.ask(rt, Actor::Auto)?;
+        let by_device = self.ask_devices(rt)?;
+        Ok(by_script || by_work || by_device)
     }
 
     /// Rounds, and jumps of time between them, to the end.

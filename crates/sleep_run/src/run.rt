@@ -114,6 +114,25 @@ fn by_writer(time: u64, now: EventNow, kind: Kind) -> Entry
     }
 }
 
+/// After an entry: the devices that may have something to do by it. One may that is given out, and one that waits for a
+/// device right below it on the way down, or right above it on the way up.
+fn wake(core: &Core<'_>, asks: &mut Asks, kind: Kind) {
+    match kind {
+        Kind::Schedule(_, device) => asks.insert(device),
+        Kind::End(phase, device, _) | Kind::Skip(phase, device, _) => {
+            let waiting = if phase.is_down() {
+                core.above(device)
+            } else {
+                core.below(device)
+            };
+            for other in waiting {
+                asks.insert(*other);
+            }
+        }
+        _ => {}
+    }
+}
+
 /// Appends an entry where there is room for it.
 pub(crate) fn append(entries: &mut Vec<Entry>, entry: Entry)
     requires { vec_len entries.old < vec_capacity entries.old }
@@ -192,36 +211,22 @@ impl<'m> Run<'m> {
         Ok(())
     }
 
-    /// After an entry: who may have something to do by it. A device may that is given out, and one that waits for a
-    /// device right below it on the way down, or right above it on the way up.
+    /// After an entry: who may have something to do by it.
     fn heed(&mut self, kind: Kind)
         ensures { self.new ≡ self.old }
     {
-        match kind {
-            Kind::Schedule(_, device) => self.asks.insert(device),
-            Kind::End(phase, device, _) | Kind::Skip(phase, device, _) => {
-                let waiting = if phase.is_down() {
-                    self.core.above(device)
-                } else {
-                    self.core.below(device)
-                };
-                for other in waiting {
-                    self.asks.insert(*other);
-                }
-            }
-            Kind::AutoSet(_) => self.auto = true,
-            _ => {}
-        }
+        self.auto = self.auto || matches!(kind, Kind::AutoSet(_));
+        wake(&self.core, &mut self.asks, kind);
     }
 
     /// A turn of an actor that has made its calls: whether it made an entry.
-    pub(crate) fn turn<R: Wait>(&mut self, rt: &R, who: Actor, calls: u32) -> Result<bool, RunFault>
+    pub(crate) fn turn<R: Wait>(&mut self, rt: &R, who: Actor) -> Result<bool, RunFault>
         requires actor { IsActor self.old.machine who }
-        requires calls { calls ≡ calls_due self.old.machine who (journal self.old.past) }
-        requires made { calls_made self.old.machine self.old.past who ≡ calls }
+        requires calls { calls_made self.old.machine self.old.past who ≡ calls_due self.old.machine who (journal self.old.past) }
         ensures machine { self.new.machine ≡ self.old.machine }
         ensures after { AfterTry self.old self.new result }
     {
+        let calls = self.calls_made(who);
         self.entries.reserve(1)?;
         let time = self.core.time();
         let turn = self

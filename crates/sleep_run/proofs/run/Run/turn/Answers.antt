@@ -40,7 +40,7 @@ invariant_of-self-in-Did g c =
         ∙ (ap (λ (w : EventNow). record { time = c.time-time.result; now = w; actor = who; kind = k } ∷ reverse c.reserve.new.self.items) looked
         ∙ ap (λ (xs : List Entry). record { time = c.time-time.result; now = r.events; actor = who; kind = k } ∷ reverse xs) c.in_ok-reserve.ensures.items) in
     let own : calls_made m past who ≡ calls_due m who (journal past) =
-        subst (λ (s : RunState). calls_made s.machine s.past who ≡ calls_due s.machine who (journal s.past)) (sym c.self.view_is) (c.requires.made ∙ c.requires.calls) in
+        subst (λ (s : RunState). calls_made s.machine s.past who ≡ calls_due s.machine who (journal s.past)) (sym c.self.view_is) c.requires.calls in
     subst (λ (w : EventNow). IsRunning m (reverse c.append.new.entries.items) c.turn.new.self w r.calls.items r.made r.meters.items c.in-Did.stamp) (sym word)
     (subst (λ (xs : List Entry). IsRunning m xs c.turn.new.self r.events r.calls.items r.made r.meters.items c.in-Did.stamp) (sym all)
     (running_entry m past r.core c.turn.new.self r.events r.calls.items r.made r.meters.items r.floor c.in-Did.stamp who c.time-time.result k c.self.invariant
