@@ -1,3 +1,4 @@
 pub mod Meters
-pub mod Writers
+pub mod Resting
 pub mod Running
+pub mod Writers

@@ -9,6 +9,7 @@ use Rattle.sleep_model.specs.declared.entry.Entry.{Entry}
 use Rattle.sleep_model.specs.declared.entry.Kind.{Kind}
 use Rattle.sleep_model.specs.declared.entry.Kind.TheVariants as kind
 use Rattle.sleep_model.specs.declared.machine.Machine.{Machine}
+use Rattle.sleep_model.specs.declared.place.Due.{Due}
 use Rattle.sleep_model.specs.declared.place.Due.TheVariants.{Makes}
 use Rattle.sleep_model.specs.declared.word.EventNow.{EventNow}
 use Rattle.sleep_model.specs.declared.word.Stamp.{Stamp}
@@ -17,7 +18,7 @@ use Rattle.sleep_model.specs.Accepted.{IsAccepted}
 use Rattle.sleep_model.specs.Built.{is_built}
 use Rattle.sleep_model.specs.Calls.{calls_of, calls_due, made, one_more}
 use Rattle.sleep_model.specs.Due.{due}
-use Rattle.sleep_model.specs.Legal.{JumpStep, is_made, is_enabled, none_enabled, next_time, journal_time}
+use Rattle.sleep_model.specs.Legal.{JumpStep, IsStuckAfter, is_made, is_enabled, none_enabled, next_time, journal_time, waiting}
 use Rattle.sleep_model.specs.Numbers.{numbers, after_step, time_of}
 use Rattle.sleep_model.specs.Parts.{OfJournal, part_of, is_kept, journal}
 use Rattle.sleep_model.specs.Path.{is_same}
@@ -37,6 +38,7 @@ use Rattle.sleep_run.specs.declared.meter.Meter.{Meter}
 use Rattle.sleep_run.specs.Meters.{meter_of, meters_of}
 use Rattle.sleep_run.specs.Runs.{IsMomentary, IsRunning, events_of, first_steps, writer, calls_by, calls_made}
 use Rattle.sleep_run.proofs.Meters.{IsSmall, meter_small, meter_here, meters_len, after_event, meters_event, meters_kept}
+use Rattle.sleep_run.proofs.Resting.{waits_of, waits_are, writer_rests}
 use Rattle.sleep_run.proofs.Writers.{next_event, few_events, one_actor, silent}
 
 -- nothing is made at first
@@ -293,3 +295,28 @@ caller_is m built past actor.Auto n h l = absurd (omega (arith, l, ap length (no
 caller_is m built past (actor.Dev d) n h l = absurd (omega (arith, l, ap length (no_calls m (silent m built) (actor.Dev d) refl past)))
 caller_is m built past (actor.Timer s) n h l = absurd h
 caller_is m built past actor.Time n h l = absurd h
+
+-- ---- a turn of one who makes nothing
+
+-- where the writer rests, the core asks for the calls that it has made, and makes nothing for it
+pub record WriterRests (m : Machine) (past : List Entry) (core : CoreState) (word : EventNow) : Type 0 where
+  pub calls : calls_made m past writer ≡ calls_due core.machine writer (entries core.past)
+  pub due_is : (d : Due) → due core.machine (entries core.past) writer word ≡ d → waiting m (journal past) (numbers past) ≡ waits_of d
+  pub makes_none : (k : Kind) → ¬ (due core.machine (entries core.past) writer word ≡ Makes k)
+
+pub writer_idle : (m : Machine) (past : List Entry) (core : CoreState) (word : EventNow) (calls : List ℕ) (made : ℕ) (meters : List Meter) (floor : Stamp) → IsRunning m past core word calls made meters floor
+    → IsStuckAfter m past → WriterRests m past core word
+writer_idle m past core word calls made meters floor r stuck =
+    let rests = writer_rests m r.built past stuck.idle in
+    let same : due core.machine (entries core.past) writer word ≡ due m (journal past) writer (numbers past) =
+        ap (λ (x : Machine). due x (entries core.past) writer word) r.machine_is ∙ (ap (λ (xs : List Entry). due m xs writer word) r.journal_is ∙ ap (due m (journal past) writer) r.word_is) in
+    let asked : calls_due core.machine writer (entries core.past) ≡ calls_due m writer (journal past) =
+        ap (λ (x : Machine). calls_due x writer (entries core.past)) r.machine_is ∙ ap (λ (xs : List Entry). calls_due m writer xs) r.journal_is in
+    let none : nat_lt (calls_made m past writer) (calls_due m writer (journal past)) ≡ false = rests.0 in
+    let most : calls_due m writer (journal past) ≤ calls_made m past writer = grind (arith, nat_tests) in
+    let fits : calls_made m past writer ≤ calls_due m writer (journal past) = all_fit m past core word calls made meters floor r writer in
+    record {
+      calls = omega (arith, most, fits, asked);
+      due_is = λ d e. waits_are m r.built past stuck ∙ ap waits_of (sym same ∙ e);
+      makes_none = λ k e. true≢false (sym (ap is_made (sym same ∙ e)) ∙ rests.1);
+    }

@@ -1,9 +1,13 @@
 -- A run of a machine, as far as it has come.
-use Rattle.std.specs.Prelude.{◌≡◌, ◌≤◌, ◌<◌, ◌+◌, ◌⊎◌, Bool, true, false, ℕ, List, [], ◌∷◌, length, reverse, if◌then◌else◌, None, Result, Ok, Err}
+use Rattle.std.specs.Prelude.{◌≡◌, ◌≤◌, ◌<◌, ◌+◌, ◌⊎◌, Bool, true, false, ℕ, List, [], ◌∷◌, length, reverse, if◌then◌else◌, Option, Some, None, Result, Ok, Err}
 use Rattle.sleep_model.specs.declared.entry.Actor.{Actor}
 use Rattle.sleep_model.specs.declared.entry.Actor.TheVariants.{Script}
 use Rattle.sleep_model.specs.declared.entry.Entry.{Entry}
 use Rattle.sleep_model.specs.declared.log.Log.{Log}
+use Rattle.sleep_model.specs.declared.log.LogEnd.{LogEnd}
+use Rattle.sleep_model.specs.declared.log.LogEnd.TheVariants as end
+use Rattle.sleep_model.specs.declared.log.Waiting.{Waiting}
+use Rattle.sleep_model.specs.declared.log.Why.{Why}
 use Rattle.sleep_model.specs.declared.machine.Machine.{Machine}
 use Rattle.sleep_model.specs.declared.machine.Op.{Op}
 use Rattle.sleep_model.specs.declared.machine.Op.TheVariants.{Event}
@@ -15,7 +19,7 @@ use Rattle.sleep_model.specs.Accepted.{IsAccepted}
 use Rattle.sleep_model.specs.Built.{is_built}
 use Rattle.sleep_model.specs.Calls.{calls_due, made}
 use Rattle.sleep_model.specs.Laws.{Laws, GuardedSleep}
-use Rattle.sleep_model.specs.Legal.{IsLegal, IsLegalLog, IsFinishedLog, IsStuckLog, IsStuckAfter, is_finished_after, is_idle}
+use Rattle.sleep_model.specs.Legal.{IsLegal, IsLegalLog, IsFinishedLog, IsStuckLog, IsStuckAfter, is_finished_after, is_idle, waiting}
 use Rattle.sleep_model.specs.Numbers.{numbers}
 use Rattle.sleep_model.specs.Parts.{journal}
 use Rattle.sleep_model.specs.Path.{is_same, maker}
@@ -114,6 +118,16 @@ AfterAll run (Ok GoesOn) = ⊥
 AfterAll run (Ok Finished) = is_finished_after run.machine run.past ≡ true
 AfterAll run (Ok Stuck) = IsStuckAfter run.machine run.past
 AfterAll run (Err fault) = Unit {0}
+
+-- who waits, where that is why the writer does
+abbrev pub waits_if : Option Why → List Waiting
+waits_if None = []
+waits_if (Some why) = record { actor = writer; why = why } ∷ []
+
+-- the run is over, and ends so
+abbrev pub EndsSo : RunState → LogEnd → Type 0
+EndsSo run end.Finished = is_finished_after run.machine run.past ≡ true
+EndsSo run (end.Stuck those) = IsStuckAfter run.machine run.past × (those ≡ waiting run.machine (journal run.past) (numbers run.past))
 
 -- the log of a whole run: it is legal, and over, and so the laws hold of it, and no attempt is open
 pub record IsRun (m : Machine) (log : Log) : Type 0 where

@@ -5,7 +5,7 @@ use sleep_core::Events;
 use sleep_model::{Actor, EventNow};
 
 impl<'m> Run<'m> {
-    ghost use Rattle.std.specs.Prelude.{◌≡◌, ◌≤◌, ◌<◌, ◌^◌, ◌&&◌, is_none};
+    ghost use Rattle.std.specs.Prelude.{◌≡◌, ◌≤◌, ◌<◌, ◌^◌, ◌&&◌, true, None, is_none};
     ghost use Rattle.sleep_model.specs.Calls.{calls_due};
     ghost use Rattle.sleep_model.specs.Due.{all_gone};
     ghost use Rattle.sleep_model.specs.Legal.{is_enabled, next_time};
@@ -14,7 +14,7 @@ impl<'m> Run<'m> {
     ghost use Rattle.sleep_model.specs.Path.{maker};
     ghost use Rattle.sleep_model.specs.Sources.{history};
     ghost use Rattle.sleep_core.specs.Cores.{IsActor};
-    ghost use Rattle.sleep_run.specs.Runs.{calls_made, writer};
+    ghost use Rattle.sleep_run.specs.Runs.{calls_made, is_resting, writer};
 
     /// The event word.
     pub(crate) fn word(&self) -> EventNow
@@ -69,7 +69,9 @@ impl<'m> Run<'m> {
 
     /// The next pending moment in ms, where there is one.
     pub(crate) fn next_time(&self) -> Option<u64>
-        ensures { result ≡ next_time self.now.machine (journal self.now.past) (λ s. history s self.now.past) }
+        ensures is { result ≡ next_time self.now.machine (journal self.now.past) (λ s. history s self.now.past) }
+        // Where nobody can make anything and no moment is pending no attempt is open.
+        ensures closed { result ≡ None → is_resting self.now.machine self.now.past ≡ true → maker (journal self.now.past) ≡ None }
     {
         self.core.next_time()
     }

@@ -1,9 +1,9 @@
 //! What comes after a round that did nothing: a jump of time, or the end.
 
-ghost use Rattle.std.specs.Prelude.{◌≡◌, ◌<◌, ◌+◌, ◌^◌, [], ◌∷◌, map, IfOk, All};
+ghost use Rattle.std.specs.Prelude.{◌≡◌, ◌<◌, ◌+◌, ◌^◌, map, IfOk, All};
 ghost use Rattle.sleep_model.specs.Sources.{run_time};
 ghost use Rattle.sleep_run.specs.Meters.{stats_at};
-ghost use Rattle.sleep_run.specs.Runs.{writer};
+ghost use Rattle.sleep_run.specs.Runs.{waits_if};
 
 use crate::meter::Meter;
 use crate::run::{Run, RunFault, WRITER, append, wait_unless};
@@ -40,23 +40,25 @@ fn stats_of(alloc: Global, meters: &[Meter], at: u64) -> Result<Vec<Stats>, Allo
     Ok(stats)
 }
 
-/// That the writer waits, and why.
-fn writer_waits(alloc: Global, why: Why) -> Result<Vec<Waiting>, AllocError>
-    ensures { IfOk result (λ v. v.items ≡ record { actor = writer; why = why } ∷ []) }
+/// Who waits, and why, where that is why the writer does.
+fn waiting_of(alloc: Global, why: Option<Why>) -> Result<Vec<Waiting>, AllocError>
+    ensures { IfOk result (λ v. v.items ≡ waits_if why) }
 {
     let mut those = Vec::new(alloc);
-    those.push(Waiting { actor: WRITER, why })?;
+    if let Some(why) = why {
+        those.push(Waiting { actor: WRITER, why })?;
+    }
     Ok(those)
 }
 
 impl<'m> Run<'m> {
-    ghost use Rattle.std.specs.Prelude.{◌≡◌, ◌<◌, length, Ok, IfOk, OnOk};
+    ghost use Rattle.std.specs.Prelude.{◌≡◌, ◌<◌, ◌+◌, length, Ok, IfOk, OnOk};
     ghost use Rattle.sleep_model.specs.declared.entry.Actor.TheVariants.{Script, Dev};
-    ghost use Rattle.sleep_model.specs.Legal.{JumpStep, IsStuckAfter, none_enabled, waiting};
+    ghost use Rattle.sleep_model.specs.Legal.{JumpStep, IsStuckAfter, none_enabled, none_expires, waiting};
     ghost use Rattle.sleep_model.specs.Numbers.{numbers, time_of};
     ghost use Rattle.sleep_model.specs.Parts.{journal};
     ghost use Rattle.sleep_model.specs.Sources.{history};
-    ghost use Rattle.sleep_run.specs.Runs.{is_resting, AfterRest, AfterAll, IsRun};
+    ghost use Rattle.sleep_run.specs.Runs.{is_resting, AfterRest, AfterAll, EndsSo, IsRun};
 
     /// Whether no script can make anything that sees this word.
     fn rest_scripts(&self, word: EventNow) -> bool
@@ -80,6 +82,15 @@ impl<'m> Run<'m> {
         none
     }
 
+    /// Whether no timer of a source is to make anything: no event lasts today.
+    fn rest_timers(&self) -> bool
+        ensures { result ≡ none_expires (length self.now.machine.sources + 1) (λ s. history s self.now.past) (time_of (journal self.now.past)) }
+    {
+        // A look at the field makes the invariant known here: all sources are quiet.
+        let _ = &self.meters;
+        true
+    }
+
     /// Whether nobody can make anything.
     fn is_resting(&self) -> bool
         ensures { result ≡ is_resting self.now.machine self.now.past }
@@ -88,7 +99,8 @@ impl<'m> Run<'m> {
         let by_script = self.rest_scripts(word);
         let by_work = !self.is_enabled(Actor::Auto, word);
         let by_device = self.rest_devices(word);
-        by_script & by_work & by_device
+        let by_timer = self.rest_timers();
+        by_script & by_work & by_device & by_timer
     }
 
     /// Time jumps to the next pending moment, where nobody can make anything.
@@ -138,31 +150,50 @@ impl<'m> Run<'m> {
     }
 
     /// Why the writer waits, where nobody goes on.
-    fn waiting<R: Wait>(&mut self, rt: &R, alloc: Global) -> Result<Vec<Waiting>, RunFault>
+    fn writer_waits<R: Wait>(&mut self, rt: &R) -> Result<Option<Why>, RunFault>
         requires { IsStuckAfter self.old.machine self.old.past }
         ensures same { OnOk result (self.new ≡ self.old) }
-        ensures waiting { IfOk result (λ v. v.items ≡ waiting self.old.machine (journal self.old.past) (numbers self.old.past)) }
+        ensures waiting { IfOk result (λ why. waiting self.old.machine (journal self.old.past) (numbers self.old.past) ≡ waits_if why) }
     {
+        let calls = self.calls_made(WRITER);
         let time = self.core.time();
         let turn = self
             .core
-            .turn(rt, &mut self.events, WRITER, self.made, self.floor, time)?;
+            .turn(rt, &mut self.events, WRITER, calls, self.floor, time)?;
         match turn {
-            CoreTurn::NotYet(why) => Ok(writer_waits(alloc, why)?),
-            CoreTurn::Done => Ok(Vec::new(alloc)),
+            CoreTurn::NotYet(why) => Ok(Some(why)),
+            CoreTurn::Done => Ok(None),
             CoreTurn::Did { .. } => unreachable!(),
         }
     }
 
+    /// How a run that is over ended.
+    fn end<R: Wait>(&mut self, rt: &R, alloc: Global, rest: Rest) -> Result<LogEnd, RunFault>
+        requires { AfterAll self.old (Ok rest) }
+        ensures same { OnOk result (self.new ≡ self.old) }
+        ensures end { IfOk result (λ end. EndsSo self.old end) }
+    {
+        match rest {
+            Rest::Stuck => {
+                let why = self.writer_waits(rt)?;
+                let those = waiting_of(alloc, why)?;
+                Ok(LogEnd::Stuck(ListOf::of_vec(those)))
+            }
+            _ => Ok(LogEnd::Finished),
+        }
+    }
+
     /// The log of a run that is over.
-    pub(crate) fn into_log<R: Wait>(mut self, rt: &R, alloc: Global, rest: Rest) -> Result<Log, RunFault>
+    pub(crate) fn into_log<R: Wait>(
+        mut self,
+        rt: &R,
+        alloc: Global,
+        rest: Rest,
+    ) -> Result<Log, RunFault>
         requires { AfterAll self (Ok rest) }
         ensures { IfOk result (λ log. IsRun self.entry.machine log) }
     {
-        let end = match rest {
-            Rest::Stuck => LogEnd::Stuck(ListOf::of_vec(self.waiting(rt, alloc)?)),
-            _ => LogEnd::Finished,
-        };
+        let end = self.end(rt, alloc, rest)?;
         let stats = stats_of(alloc, &self.meters, self.time())?;
         let Run { entries, .. } = self;
         Ok(Log {

@@ -15,6 +15,8 @@ use std::alloc::Global;
 use std::sync::Wait;
 
 impl<'m> Run<'m> {
+    ghost use Rattle.std.specs.Prelude.{◌<◌, length};
+
     /// An actor's try in a round: its next call on a source, else its turn. Whether entries were made.
     fn ask<R: Wait>(&mut self, rt: &R, who: Actor) -> Result<bool, RunFault>
         requires { IsActor self.old.machine who }
@@ -36,9 +38,32 @@ impl<'m> Run<'m> {
     {
         let mut made = false;
         for script in 0..self.machine.actors.len() as u32 {
-            if self.ask(rt, Actor::Script(script))? {
-                made = true;
-            }
+            made = self.ask(rt, Actor::Script(script))? | made;
+        }
+        Ok(made)
+    }
+
+    /// The try of the autosleep work, once it was set. Whether an entry was made.
+    fn ask_work<R: Wait>(&mut self, rt: &R) -> Result<bool, RunFault>
+        ensures machine { self.new.machine ≡ self.old.machine }
+        ensures after { AfterTry self.old self.new result }
+    {
+        if self.auto {
+            self.ask(rt, Actor::Auto)
+        } else {
+            Ok(false)
+        }
+    }
+
+    /// The try of a device, which is not asked again if it had nothing to do. Whether an entry was made.
+    fn ask_device<R: Wait>(&mut self, rt: &R, device: u32) -> Result<bool, RunFault>
+        requires { device < length self.old.machine.devices }
+        ensures machine { self.new.machine ≡ self.old.machine }
+        ensures after { AfterTry self.old self.new result }
+    {
+        let made = self.ask(rt, Actor::Dev(device))?;
+        if !made {
+            self.asks.remove(device);
         }
         Ok(made)
     }
@@ -55,12 +80,8 @@ impl<'m> Run<'m> {
             let Some(device) = self.asks.next(from, devices) else {
                 break;
             };
+            made = self.ask_device(rt, device)? | made;
             from = device + 1;
-            if self.ask(rt, Actor::Dev(device))? {
-                made = true;
-            } else {
-                self.asks.remove(device);
-            }
         }
         Ok(made)
     }
@@ -72,9 +93,9 @@ impl<'m> Run<'m> {
         ensures after { AfterTry self.old self.new result }
     {
         let by_script = self.ask_scripts(rt)?;
-        let by_work = self.auto && self.ask(rt, Actor::Auto)?;
-        let by_device = self.ask_devices(rt)?;
-        Ok(by_script || by_work || by_device)
+        let by_work = self.ask_work(rt)? | by_script;
+        let by_device = self.ask_devices(rt)? | by_work;
+        Ok(by_device)
     }
 
     /// Rounds, and jumps of time between them, to the end.
