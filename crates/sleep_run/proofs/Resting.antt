@@ -1,5 +1,5 @@
 -- Where a run rests.
-use Rattle.std.proofs.Common.{◌≡◌, ◌<◌, ◌+◌, ◌∙◌, ◌⊎◌, inl, inr, ℕ, zero, suc, Bool, true, false, not, ◌&&◌, ◌||◌, nat_lt, List, [], ◌∷◌, length, reverse, Option, Some, None, is_none, Ok, refl, sym, ap, subst, cond, arith}
+use Rattle.std.proofs.Common.{◌≡◌, ◌<◌, ◌+◌, ◌∙◌, ◌⊎◌, inl, inr, ℕ, Bool, true, false, not, ◌&&◌, ◌||◌, nat_lt, List, [], ◌∷◌, length, reverse, Option, Some, None, is_none, Ok, refl, sym, ap, subst, arith}
 use Rattle.std.proofs.lemmas.Bool.{true≢false}
 use Rattle.std.proofs.lemmas.List.{length-set, length-replicate}
 use Rattle.sleep_model.specs.declared.entry.Actor.{Actor}
@@ -19,7 +19,7 @@ use Rattle.sleep_model.specs.Accepted.{IsAccepted}
 use Rattle.sleep_model.specs.Built.{is_built}
 use Rattle.sleep_model.specs.Calls.{calls_due, is_calling}
 use Rattle.sleep_model.specs.Due.{due, all_gone}
-use Rattle.sleep_model.specs.Legal.{IsLegal, IsLegalLog, IsFinishedLog, IsStuckLog, IsStuckAfter, stats_of, is_made, is_enabled, none_enabled, none_expires, is_finished_after, next_time, waiting, waiting_from, put_waiting}
+use Rattle.sleep_model.specs.Legal.{IsLegal, IsLegalLog, IsFinishedLog, IsStuckLog, IsStuckAfter, stats_of, is_made, is_enabled, none_enabled, none_expires, next_time, waiting, waiting_from, put_waiting}
 use Rattle.sleep_model.specs.Numbers.{numbers, time_of}
 use Rattle.sleep_model.specs.Parts.{journal}
 use Rattle.sleep_model.specs.Path.{maker}
@@ -29,7 +29,6 @@ use Rattle.sleep_laws.proofs.Closing.{rests_closed, ends_closed}
 use Rattle.sleep_laws.proofs.Held.{guarded_sleep}
 use Rattle.sleep_laws.proofs.Lawful.{laws_of_legal}
 use Rattle.log_grows.proofs.Planning.{and_both}
-use Rattle.sleep_run.specs.declared.run.RunFault.{RunFault}
 use Rattle.sleep_run.specs.Runs.{RunState, AfterTry, is_resting, calls_made, waits_if, writer, EndsSo, IsRun}
 use Rattle.sleep_run.proofs.Writers.{one_actor}
 

@@ -1,5 +1,5 @@
 -- A turn keeps what a run keeps.
-use Rattle.std.proofs.Common.{◌≡◌, ◌<◌, ◌≤◌, ◌+◌, ◌++◌, ◌∙◌, ℕ, zero, suc, Bool, true, false, not, ◌==◌, ◌&&◌, ◌||◌, nat_lt, List, [], ◌∷◌, length, reverse, slice_set, slice_get, slice_index_or, Option, Some, None, refl, sym, ap, ap₂, subst, cond, arith}
+use Rattle.std.proofs.Common.{◌≡◌, ◌<◌, ◌≤◌, ◌+◌, ◌++◌, ◌∙◌, ℕ, zero, suc, Bool, true, false, not, ◌&&◌, ◌||◌, nat_lt, List, [], ◌∷◌, length, reverse, slice_set, slice_get, slice_index_or, Some, refl, sym, ap, ap₂, subst, cond, arith}
 use Rattle.std.proofs.lemmas.Bool.{true≢false}
 use Rattle.std.proofs.lemmas.Bool.Decides.{nat_tests}
 use Rattle.std.proofs.lemmas.List.{reverse-append}
@@ -36,7 +36,7 @@ use Rattle.log_grows.proofs.Journals.{journal_more, time_journal, word_kept, due
 use Rattle.log_grows.proofs.Planning.{no_calls, still_due}
 use Rattle.sleep_run.specs.declared.meter.Meter.{Meter}
 use Rattle.sleep_run.specs.Meters.{meter_of, meters_of}
-use Rattle.sleep_run.specs.Runs.{IsMomentary, IsRunning, events_of, first_steps, writer, calls_by, calls_made}
+use Rattle.sleep_run.specs.Runs.{IsMomentary, IsRunning, events_of, first_steps, writer, calls_made}
 use Rattle.sleep_run.proofs.Meters.{IsSmall, meter_small, meter_here, meters_len, after_event, meters_event, meters_kept}
 use Rattle.sleep_run.proofs.Resting.{waits_of, waits_are, writer_rests}
 use Rattle.sleep_run.proofs.Writers.{next_event, few_events, one_actor, silent}
@@ -92,13 +92,13 @@ pub running_event : (m : Machine) (past : List Entry) (core : CoreState) (word :
     → IsRunning m past core word calls made meters floor → made < calls_due m writer (journal past) → time ≡ time_of past → meter ≡ meter_of (history (slice_index_or calls made none) past)
     → stamp.pos ≤ position word + 2 → floor.tick ≤ stamp.tick
     → IsRunning m (with_event time word writer (slice_index_or calls made none) past) core (after_step (Some step.Finish) (after_step (Some step.Start) word)) calls (made + 1)
-        (slice_set meters (slice_index_or calls made none) (after_event time meter)) stamp
+    (slice_set meters (slice_index_or calls made none) (after_event time meter)) stamp
 running_event m past core word calls made meters floor stamp none time meter r due at counted low tick =
     let next = next_event m r.accepted r.built (journal past) made none due in
     let same : slice_index_or (events_of (first_steps m.actors)) made none ≡ slice_index_or calls made none = ap (λ xs. slice_index_or xs made none) (sym r.calls_are) in
     let s = slice_index_or calls made none in
     let note : slice_get (calls_of m writer (journal past)) (calls_made m past writer) ≡ Some (kind.Event s 0 false) =
-        ap (slice_get (calls_of m writer (journal past))) (r.made_are writer) ∙ (next.note ∙ ap (λ (t : ℕ). Some (kind.Event t 0 false)) same) in
+    ap (slice_get (calls_of m writer (journal past))) (r.made_are writer) ∙ (next.note ∙ ap (λ (t : ℕ). Some (kind.Event t 0 false)) same) in
     let within : s < length m.sources + 1 = omega (arith, next.source, same) in
     record {
       accepted = r.accepted;
@@ -261,7 +261,6 @@ pub none_more : (m : Machine) (past : List Entry) (now : EventNow) (kind : ℕ �
 none_more m past now kind n k none on next so is =
     ap₂ (λ x y. not x && y) is so ∙ ap (none_enabled m (journal past) (λ s. history s past) now kind) (sym next)
 
-
 -- the next pending moment is the core's
 pub next_joint : (m : Machine) (past : List Entry) (core : CoreState) (word : EventNow) (calls : List ℕ) (made : ℕ) (meters : List Meter) (floor : Stamp) → IsRunning m past core word calls made meters floor
     → journal_time core.machine (entries core.past) ≡ next_time m (journal past) (λ s. history s past)
@@ -309,9 +308,9 @@ pub writer_idle : (m : Machine) (past : List Entry) (core : CoreState) (word : E
 writer_idle m past core word calls made meters floor r stuck =
     let rests = writer_rests m r.built past stuck.idle in
     let same : due core.machine (entries core.past) writer word ≡ due m (journal past) writer (numbers past) =
-        ap (λ (x : Machine). due x (entries core.past) writer word) r.machine_is ∙ (ap (λ (xs : List Entry). due m xs writer word) r.journal_is ∙ ap (due m (journal past) writer) r.word_is) in
+    ap (λ (x : Machine). due x (entries core.past) writer word) r.machine_is ∙ (ap (λ (xs : List Entry). due m xs writer word) r.journal_is ∙ ap (due m (journal past) writer) r.word_is) in
     let asked : calls_due core.machine writer (entries core.past) ≡ calls_due m writer (journal past) =
-        ap (λ (x : Machine). calls_due x writer (entries core.past)) r.machine_is ∙ ap (λ (xs : List Entry). calls_due m writer xs) r.journal_is in
+    ap (λ (x : Machine). calls_due x writer (entries core.past)) r.machine_is ∙ ap (λ (xs : List Entry). calls_due m writer xs) r.journal_is in
     let none : nat_lt (calls_made m past writer) (calls_due m writer (journal past)) ≡ false = rests.0 in
     let most : calls_due m writer (journal past) ≤ calls_made m past writer = grind (arith, nat_tests) in
     let fits : calls_made m past writer ≤ calls_due m writer (journal past) = all_fit m past core word calls made meters floor r writer in

@@ -1,5 +1,5 @@
 -- What the one writer of a machine calls.
-use Rattle.std.proofs.Common.{◌≡◌, ◌≤◌, ◌<◌, ◌+◌, ◌*◌, ◌++◌, ◌∙◌, ℕ, zero, suc, Bool, true, false, not, ◌==◌, ◌&&◌, nat_le, List, [], ◌∷◌, length, map, replicate, Option, Some, refl, sym, ap, ap₂, subst, slice_get, slice_index_or, option_map, length-append, arith}
+use Rattle.std.proofs.Common.{◌≡◌, ◌≤◌, ◌<◌, ◌++◌, ◌∙◌, ℕ, zero, suc, Bool, true, false, not, ◌==◌, ◌&&◌, nat_le, List, [], ◌∷◌, length, map, replicate, Some, refl, sym, ap, ap₂, slice_get, slice_index_or, option_map, arith}
 use Rattle.std.specs.List.{list_all}
 use Rattle.std.specs.Prelude.{flat_map}
 use Rattle.std.proofs.lemmas.Bool.{true≢false}
@@ -14,12 +14,11 @@ use Rattle.sleep_model.specs.declared.machine.Op.{Op}
 use Rattle.sleep_model.specs.declared.machine.Op.TheVariants as op
 use Rattle.sleep_model.specs.declared.machine.Script.{Script}
 use Rattle.sleep_model.specs.declared.machine.Step.{Step}
-use Rattle.sleep_model.specs.declared.word.EventNow.{EventNow}
 use Rattle.sleep_model.specs.Accepted.{IsAccepted, IsOp, AreSteps, AreScripts}
 use Rattle.sleep_model.specs.Built.{is_user_kind, is_built_op, is_built_script, is_built, is_silent}
 use Rattle.sleep_model.specs.Calls.{calls_of, calls_due, pieces_in, pieces_if}
 use Rattle.sleep_model.specs.Places.{all_operations}
-use Rattle.sleep_model.specs.Scripts.{Piece, pieces, pieces_of, operations, times_over}
+use Rattle.sleep_model.specs.Scripts.{Piece, pieces_of, operations, times_over}
 use Rattle.log_grows.proofs.Planning.{AreSilent, and_both, all_calls, next_call, calls_fit}
 use Rattle.sleep_run.specs.Runs.{with_event, events_of, first_steps, writer}
 
@@ -152,8 +151,8 @@ next_event m acc h past calls none l =
       within = within;
       source = script_fits m m.actors acc.scripts calls none within;
       note =
-        next_call m (silent m h) 0 past calls l
-        ∙ (ap (λ ks. slice_get ks calls) all ∙ (slice_get-map event_on cs calls ∙ ap (option_map event_on) (slice_get-get_or cs calls none within)));
+          next_call m (silent m h) 0 past calls l
+          ∙ (ap (λ ks. slice_get ks calls) all ∙ (slice_get-map event_on cs calls ∙ ap (option_map event_on) (slice_get-get_or cs calls none within)));
     }
   where
     length_events : (rs : List ℕ) → length (map event_on rs) ≡ length rs

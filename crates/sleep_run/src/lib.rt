@@ -8,6 +8,5 @@ mod rest;
 mod rounds;
 mod run;
 
-pub use run::{RunEnd, RunFault};
-
 pub use rounds::run_machine;
+pub use run::{RunEnd, RunFault};

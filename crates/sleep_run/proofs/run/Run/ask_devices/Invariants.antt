@@ -1,4 +1,4 @@
-use Rattle.std.proofs.Common.{◌≡◌, Ok, length}
+use Rattle.std.proofs.Common.{◌≡◌, Ok}
 use Rattle.sleep_run.specs.Runs.{AfterTry}
 use Rattle.sleep_run.proofs.run.Run.ask_devices.Given as goal
 

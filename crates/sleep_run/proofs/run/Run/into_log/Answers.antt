@@ -25,8 +25,8 @@ returns g c =
     let over : EndsSo (record { machine = m; past = past }) c.in_ok-end.end = subst (λ (s : RunState). EndsSo s c.in_ok-end.end) (sym same) c.in_ok-end.ensures.end in
     let time = c.time.ensures.is ∙ ap (λ (s : RunState). time_of s.past) (sym c.self.view_is) in
     let counted = c.of_vec-2.ensures ∙ (c.in_ok-stats.ensures
-        ∙ (ap (λ (ms : List Meter). map (λ x. stats_at x c.time.result) ms) (c.deref.ensures.value ∙ c.self.invariant.meters_are)
-        ∙ (ap (λ t. map (λ x. stats_at x t) (meters_of m past)) time ∙ stats_are m past))) in
+    ∙ (ap (λ (ms : List Meter). map (λ x. stats_at x c.time.result) ms) (c.deref.ensures.value ∙ c.self.invariant.meters_are)
+    ∙ (ap (λ t. map (λ x. stats_at x t) (meters_of m past)) time ∙ stats_are m past))) in
     subst (λ (s : RunState). IsRun s.machine (record { entries = c.of_vec.result; stats = c.of_vec-2.result; end = c.in_ok-end.end })) same
     (subst (λ (xs : List Entry). IsRun m (record { entries = xs; stats = c.of_vec-2.result; end = c.in_ok-end.end })) (sym c.of_vec.ensures)
     (run_of m r.entries.items c.of_vec-2.result c.in_ok-end.end c.self.invariant.accepted c.self.invariant.legal over counted))

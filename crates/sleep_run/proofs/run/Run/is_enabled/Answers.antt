@@ -10,6 +10,6 @@ pub returns : goal.returns
 returns c =
     let r = c.self.inside in
     let calls : calls_made r.machine.now (reverse r.entries.items) c.args.who ≡ c.calls_made-calls.result =
-        sym (subst (λ (s : RunState). c.calls_made-calls.result ≡ calls_made s.machine s.past c.args.who) (sym c.self.view_is) c.calls_made-calls.ensures) in
+    sym (subst (λ (s : RunState). c.calls_made-calls.result ≡ calls_made s.machine s.past c.args.who) (sym c.self.view_is) c.calls_made-calls.ensures) in
     subst (λ (s : RunState). c.enabled.result ≡ is_enabled s.machine (journal s.past) (λ t. history t s.past) c.args.word c.args.who) c.self.view_is
     (c.enabled.ensures ∙ enabled_is r.machine.now (reverse r.entries.items) r.core r.events r.calls.items r.made r.meters.items r.floor c.self.invariant c.args.word c.args.who c.calls_made-calls.result calls)

@@ -7,8 +7,6 @@ use Rattle.sleep_model.specs.Legal.{JumpStep}
 use Rattle.sleep_model.specs.Numbers.{numbers, time_of}
 use Rattle.sleep_model.specs.Parts.{journal}
 use Rattle.sleep_model.specs.Sources.{history}
-use Rattle.sleep_run.specs.declared.run.Run.TheInside.{Inside}
-use Rattle.sleep_run.specs.RunFields.{state, keeps}
 use Rattle.sleep_run.specs.Runs.{RunState, IsRunning}
 use Rattle.sleep_run.proofs.Running.{running_jump, time_joint, told_same}
 use Rattle.sleep_run.proofs.run.Run.jump.Goals as goal
@@ -26,9 +24,9 @@ invariant_of-self-2 g c =
     let past = reverse r.entries.items in
     let later : time_of past < c.args.to = subst (λ (s : RunState). time_of s.past < c.args.to) (sym c.self.view_is) c.requires.later in
     let may : JumpStep m (journal past) (λ s. history s past) (numbers past) c.args.to =
-        subst (λ (s : RunState). JumpStep s.machine (journal s.past) (λ t. history t s.past) (numbers s.past) c.args.to) (sym c.self.view_is) c.requires.least in
+    subst (λ (s : RunState). JumpStep s.machine (journal s.past) (λ t. history t s.past) (numbers s.past) c.args.to) (sym c.self.view_is) c.requires.least in
     let all : reverse c.append.new.entries.items ≡ record { time = c.args.to; now = c.look-now.result; actor = actor.Time; kind = kind.Jump } ∷ past =
-        c.append.ensures ∙ ap (λ (xs : List Entry). record { time = c.args.to; now = c.look-now.result; actor = actor.Time; kind = kind.Jump } ∷ reverse xs) c.in_ok-reserve.ensures.items in
+    c.append.ensures ∙ ap (λ (xs : List Entry). record { time = c.args.to; now = c.look-now.result; actor = actor.Time; kind = kind.Jump } ∷ reverse xs) c.in_ok-reserve.ensures.items in
     let word : c.look-now.new.self ≡ r.events = told_same c.look-now.new.self r.events c.look-now.ensures.tells in
     subst (λ (w : EventNow). IsRunning m (reverse c.append.new.entries.items) c.jump.new.self w r.calls.items r.made r.meters.items c.in_ok-self-inside.field-0) (sym word)
     (subst (λ (xs : List Entry). IsRunning m xs c.jump.new.self r.events r.calls.items r.made r.meters.items c.in_ok-self-inside.field-0) (sym all)

@@ -1,4 +1,4 @@
-use Rattle.std.proofs.Common.{◌≡◌, ◌∙◌, ◌∷◌, ◌+◌, ℕ, [], List, length, replicate, get_or, refl, ap, ap₂, arith}
+use Rattle.std.proofs.Common.{◌≡◌, ◌∙◌, ◌∷◌, ◌+◌, [], List, length, replicate, get_or, refl, ap, ap₂, arith}
 use Rattle.sleep_model.specs.declared.machine.Script.{Script}
 use Rattle.sleep_run.specs.declared.meter.Meter.{Meter}
 use Rattle.sleep_run.specs.Meters.{meters_of}

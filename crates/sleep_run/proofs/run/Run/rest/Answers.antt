@@ -1,4 +1,4 @@
-use Rattle.std.proofs.Common.{◌≡◌, ◌∙◌, true, false, refl, sym}
+use Rattle.std.proofs.Common.{◌≡◌, ◌∙◌, true, refl, sym}
 use Rattle.sleep_run.specs.Runs.{is_resting}
 use Rattle.sleep_run.proofs.Resting.{stuck_of}
 use Rattle.sleep_run.proofs.run.Run.rest.Goals as goal

@@ -13,7 +13,7 @@ use Rattle.sleep_core.specs.Cores.{IsActor, with_entry, made_entry, next_stamp}
 use Rattle.sleep_core.specs.Turned.{AfterTurn}
 use Rattle.sleep_state.specs.Places.{entries}
 use Rattle.sleep_run.specs.Runs.{RunState, IsRunning, calls_made}
-use Rattle.sleep_run.proofs.Running.{running_entry, time_joint, told_same, joint}
+use Rattle.sleep_run.proofs.Running.{running_entry, time_joint, told_same}
 use Rattle.sleep_run.proofs.run.Run.turn.Goals as goal
 
 not_time : (m : Machine) (who : Actor) → IsActor m who → ¬ (who ≡ actor.Time)
@@ -36,11 +36,11 @@ invariant_of-self-in-Did g c =
     let looked : c.look-now.result ≡ r.events = c.look-now.ensures.told ∙ kept in
     let word : c.look-now.new.self ≡ r.events = told_same c.look-now.new.self c.turn.new.events c.look-now.ensures.tells ∙ kept in
     let all : reverse c.append.new.entries.items ≡ record { time = c.time-time.result; now = r.events; actor = who; kind = k } ∷ past =
-        c.append.ensures
-        ∙ (ap (λ (w : EventNow). record { time = c.time-time.result; now = w; actor = who; kind = k } ∷ reverse c.reserve.new.self.items) looked
-        ∙ ap (λ (xs : List Entry). record { time = c.time-time.result; now = r.events; actor = who; kind = k } ∷ reverse xs) c.in_ok-reserve.ensures.items) in
+    c.append.ensures
+    ∙ (ap (λ (w : EventNow). record { time = c.time-time.result; now = w; actor = who; kind = k } ∷ reverse c.reserve.new.self.items) looked
+    ∙ ap (λ (xs : List Entry). record { time = c.time-time.result; now = r.events; actor = who; kind = k } ∷ reverse xs) c.in_ok-reserve.ensures.items) in
     let own : calls_made m past who ≡ calls_due m who (journal past) =
-        subst (λ (s : RunState). calls_made s.machine s.past who ≡ calls_due s.machine who (journal s.past)) (sym c.self.view_is) c.requires.calls in
+    subst (λ (s : RunState). calls_made s.machine s.past who ≡ calls_due s.machine who (journal s.past)) (sym c.self.view_is) c.requires.calls in
     subst (λ (w : EventNow). IsRunning m (reverse c.append.new.entries.items) c.turn.new.self w r.calls.items r.made r.meters.items c.in-Did.stamp) (sym word)
     (subst (λ (xs : List Entry). IsRunning m xs c.turn.new.self r.events r.calls.items r.made r.meters.items c.in-Did.stamp) (sym all)
     (running_entry m past r.core c.turn.new.self r.events r.calls.items r.made r.meters.items r.floor c.in-Did.stamp who c.time-time.result k c.self.invariant

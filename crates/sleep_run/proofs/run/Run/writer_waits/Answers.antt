@@ -1,4 +1,4 @@
-use Rattle.std.proofs.Common.{◌≡◌, ◌∙◌, Option, Some, None, reverse, Ok, refl, sym, ap, subst}
+use Rattle.std.proofs.Common.{◌≡◌, ◌∙◌, Option, Some, None, reverse, Ok, sym, subst}
 use Rattle.sleep_model.specs.declared.log.Why.{Why}
 use Rattle.sleep_model.specs.declared.place.Due.TheVariants.{Makes, Waits, Gone}
 use Rattle.sleep_model.specs.declared.word.EventNow.{EventNow}
@@ -42,13 +42,13 @@ returns-clause-waiting g c =
     let t = c.in_ok-turn.ensures.turn in
     let idle = rests r c.self.invariant c.args.self.now c.self.view_is c.requires in
     let so = λ (o : Option Why) (e : waiting r.machine.now (journal (reverse r.entries.items)) (numbers (reverse r.entries.items)) ≡ waits_if o).
-        subst (λ (s : RunState). waiting s.machine (journal s.past) (numbers s.past) ≡ waits_if o) c.self.view_is e in
+    subst (λ (s : RunState). waiting s.machine (journal s.past) (numbers s.past) ≡ waits_if o) c.self.view_is e in
     elim c.match-turn.branch [
       | in-NotYet w ↦
-        let waits = subst (λ (x : CoreTurn). AfterTurn r.core c.turn.new.self writer t.0 r.floor (Ok x)) w.in-NotYet.is t.4 in
-        rw w.result-is
-        (so (Some w.in-NotYet.why) (idle.due_is (Waits w.in-NotYet.why) (subst (λ (x : EventNow). due r.core.machine (entries r.core.past) writer x ≡ Waits w.in-NotYet.why) t.1 waits.0)))
+          let waits = subst (λ (x : CoreTurn). AfterTurn r.core c.turn.new.self writer t.0 r.floor (Ok x)) w.in-NotYet.is t.4 in
+          rw w.result-is
+          (so (Some w.in-NotYet.why) (idle.due_is (Waits w.in-NotYet.why) (subst (λ (x : EventNow). due r.core.machine (entries r.core.past) writer x ≡ Waits w.in-NotYet.why) t.1 waits.0)))
       | in-Done w ↦
-        let gone = subst (λ (x : CoreTurn). AfterTurn r.core c.turn.new.self writer t.0 r.floor (Ok x)) w.in-Done.is t.4 in
-        rw w.result-is (so None (idle.due_is Gone (subst (λ (x : EventNow). due r.core.machine (entries r.core.past) writer x ≡ Gone) t.1 gone.0)))
+          let gone = subst (λ (x : CoreTurn). AfterTurn r.core c.turn.new.self writer t.0 r.floor (Ok x)) w.in-Done.is t.4 in
+          rw w.result-is (so None (idle.due_is Gone (subst (λ (x : EventNow). due r.core.machine (entries r.core.past) writer x ≡ Gone) t.1 gone.0)))
     ]
