@@ -4,6 +4,8 @@ use Rattle.std.specs.Io.KnownBytes.{Consumes, Appends, IsAtEnd}
 use Rattle.sleep_base.specs.Faults.{Rose}
 use Rattle.sleep_base.specs.Whole.{Took}
 use Rattle.sleep_model.specs.declared.log.Log.{Log}
+use Rattle.sleep_model.specs.declared.log.LogEnd.{LogEnd}
+use Rattle.sleep_model.specs.declared.log.LogEnd.TheVariants as end
 use Rattle.sleep_model.specs.declared.machine.Machine.{Machine}
 use Rattle.sleep_model.specs.Built.{is_built}
 use Rattle.sleep_model.specs.Legal.{IsFinishedLog, IsStuckLog}
@@ -64,6 +66,11 @@ pub record ReadWhole (old new : Streams) (bytes : List ℕ) : Type 0 where
 pub record Spells (bytes : List ℕ) (m : Machine) : Type 0 where
   pub spelled : machine_in bytes ≡ Some m
   pub built : is_built m ≡ true
+
+-- the run was stuck
+abbrev pub is_stuck : LogEnd → Bool
+is_stuck end.Finished = false
+is_stuck (end.Stuck those) = true
 
 -- the log of a run ends so: nothing is left to do, or nobody goes on
 abbrev pub EndsAs : Machine → Log → Bool → Type 0

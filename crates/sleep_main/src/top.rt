@@ -1,6 +1,6 @@
 ghost use Rattle.std.specs.Prelude.{◌≡◌, ◌↔◌, ℕ, IsTrue, codes, map, string_bytes};
 ghost use Rattle.sleep_main.specs.declared.ending.Ending.{Ending};
-ghost use Rattle.sleep_main.specs.Endings.{IsForm, GivesLog, FileEnded, Ended, Completes, Says, status_of, text_of};
+ghost use Rattle.sleep_main.specs.Endings.{IsForm, GivesLog, FileEnded, Ended, Completes, Says, is_stuck, status_of, text_of};
 
 use crate::ending::Ending;
 use log_text::write_log;
@@ -48,7 +48,9 @@ enum TextFault {
 }
 
 /// Whether the run was stuck.
-fn is_stuck(end: &LogEnd) -> bool {
+fn is_stuck(end: &LogEnd) -> bool
+    ensures { result ≡ is_stuck end.now }
+{
     matches!(end, LogEnd::Stuck(_))
 }
 

@@ -1,5 +1,6 @@
 use Rattle.std.proofs.Common.{◌≡◌, ◌∙◌, ◌∷◌, ◌+◌, [], List, length, replicate, get_or, refl, ap, ap₂, arith}
 use Rattle.sleep_model.specs.declared.machine.Script.{Script}
+use Rattle.sleep_core.specs.Cores.{CoreState}
 use Rattle.sleep_run.specs.declared.meter.Meter.{Meter}
 use Rattle.sleep_run.specs.Meters.{meters_of}
 use Rattle.sleep_run.specs.Runs.{events_of, first_steps}
@@ -21,4 +22,4 @@ invariant_of-result c =
     let count : c.len.result ≡ length m.sources = c.len.ensures in
     let meters : c.in_ok-meters.meters.items ≡ meters_of m [] = c.in_ok-meters.ensures.items_if_clones_equal (λ y e. e) ∙ (ap₂ (λ n (x : Meter). replicate (n + 1) x) count c.new-2.ensures ∙ meters_first m) in
     rw c.new-5.ensures.items
-    (running_first m c.in_ok-core.core c.new-4.result c.in_ok-calls.calls.items c.in_ok-meters.meters.items c.requires.accepted c.requires.built c.in_ok-core.ensures c.new-4.ensures (c.in_ok-calls.ensures ∙ ap events_of first) meters)
+    (running_first m c.in_ok-core.core c.new-4.result c.in_ok-calls.calls.items c.in_ok-meters.meters.items c.requires.accepted c.requires.built (ap (λ (x : CoreState). x.machine) c.in_ok-core.ensures, ap (λ (x : CoreState). x.past) c.in_ok-core.ensures) c.new-4.ensures (c.in_ok-calls.ensures ∙ ap events_of first) meters)
