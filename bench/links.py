@@ -10,12 +10,11 @@ there is:
           link's consumer stands high in the chain, so that nearly all devices are moved
   wide    all devices hang below the first, and each link moves one
 
-Prints the best time of some runs and how it compares with the row before. One link costs at most a
-walk over what hangs below its consumer and one pass over the order: from 1,000 to 4,000 links the time
-may grow fourfold, and not more.
+Prints the processor time of the best of some runs, less that of the machine without links, for each link, and
+how it compares with the row before. One link costs at most a walk over what hangs below its consumer and one
+pass over the order: so the time for each may stay as it is, and not grow with the links.
 """
 
-import json
 import sys
 
 from attempts import PROGRAM, timed
@@ -50,15 +49,16 @@ def wide(count):
 
 def main():
     program = sys.argv[1] if len(sys.argv) > 1 else PROGRAM
-    print(f"{'machine':>8} {'links':>6} {'ms':>8} {'ratio':>6}")
+    print(f"{'machine':>8} {'links':>6} {'us/link':>8} {'ratio':>6}")
     for name, make in (("chain", chain), ("wide", wide)):
+        base, _ = timed(program, make(0))
         before = None
-        for count in (0, 1000, 2000, 4000):
+        for count in (1000, 2000, 4000):
             built = make(count)
-            seconds, _ = timed(program, json.dumps(built).encode())
-            ratio = f"{seconds / before:.2f}" if before else "-"
-            print(f"{name:>8} {len(built['links']):>6} {seconds * 1e3:>8.2f} {ratio:>6}")
-            before = seconds
+            seconds, _ = timed(program, built)
+            each = max(seconds - base, 0.0) / len(built["links"]) * 1e6
+            print(f"{name:>8} {len(built['links']):>6} {each:>8.2f} {f'{each / before:.2f}' if before else '-':>6}")
+            before = each
 
 
 if __name__ == "__main__":

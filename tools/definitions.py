@@ -3,7 +3,8 @@
 
 usage: tools/definitions.py
 
-Ends with status 1, and names the definition, where one has no comment line.
+A module that no section names comes last. Ends with status 1, and says which, where a definition has no
+comment line.
 """
 
 import pathlib
@@ -14,20 +15,20 @@ ROOT = pathlib.Path(__file__).resolve().parent.parent
 
 HEAD = """# Definitions
 
-What sleep is, in the words that contracts use. Each definition stands in a crate's `specs/`, on one
-screen, with one comment line. They speak of one list of entries, looking backward: `past` is the
-entries before a place, the newest first. The code keeps words, flags and counters instead, and the
-proofs say that both agree.
+What sleep is, in the words that contracts use. Each definition stands in a crate's `specs/`, with one
+comment line. They speak of one list of entries, looking backward: `past` is the entries before a place,
+the newest first. The code keeps words, flags, cursors and counters instead, and the proofs say that both
+agree.
 
 The last column names the function or field of Linux 6.1 that a definition states; "own" means that
 the kernel has none.
 
-Where to begin: `IsLegalLog` says what a log is, `due` says which entry may stand next, `Laws` says
-what every legal log keeps, and `text` says how it is printed.
+Where to begin: `IsLegalLog` says what a log is, `due` says which entry may stand next, `stage_after` which
+stage of an attempt follows an entry, `Laws` and `GuardedSleep` what every legal log keeps, and `text` how
+it is printed.
 
-The definitions are whole: they say what a sleep is with all its stages, asynchronous devices, the
-freezer and autosleep. What the program builds today is cut off by one small table, `built_rows`: the
-clauses of the core and of a run speak of the whole definitions by that choice of rows.
+The definitions are whole: all stages of an attempt, asynchronous devices, direct-complete, the freezer,
+autosleep, timers, any number of scripts. `is_built` alone says what of it a machine file may use today.
 
 `tools/definitions.py` writes this page.
 """
@@ -39,13 +40,16 @@ SECTIONS = [
     ("sleep_model", "What callbacks answer", "`include/linux/pm.h`", ["Answers"]),
     ("sleep_model", "The saved count and pending wakeups", "`drivers/base/power/wakeup.c`", ["Guard"]),
     ("sleep_model", "The machine that a file may spell", "`drivers/base/core.c`", ["Accepted"]),
+    ("sleep_model", "What of it may be used today", "own", ["Built"]),
     ("sleep_model", "Scripts", "own", ["Scripts", "Seats", "Calls", "Marks"]),
     ("sleep_model", "The freezer", "`kernel/power/process.c`, `kernel/freezer.c`", ["Freezer"]),
     ("sleep_model", "The autosleep lock", "`kernel/power/autosleep.c`", ["Lock"]),
     ("sleep_model", "The autosleep work", "`kernel/power/autosleep.c`", ["Autosleep"]),
     ("sleep_model", "Runtime status", "`drivers/base/power/runtime.c`", ["Runtime"]),
     ("sleep_model", "The order of devices", "`drivers/base/power/main.c`, `drivers/base/core.c`", ["Order", "Links"]),
-    ("sleep_model", "The phases of devices", "`drivers/base/power/main.c`", ["Phases", "Walk", "Devices"]),
+    ("phase_table", "The ten phases", "`drivers/base/power/main.c`", ["Phases"]),
+    ("sleep_model", "Where devices stand", "`drivers/base/power/main.c`", ["Walk", "Stands"]),
+    ("sleep_model", "The phases of devices", "`drivers/base/power/main.c`", ["Devices"]),
     ("sleep_model", "Notifiers, processors, interrupts, the core and the platform", "`kernel/power/suspend.c`, `drivers/base/syscore.c`, `kernel/cpu.c`", ["Notifiers"]),
     ("sleep_model", "The table of an attempt", "`kernel/power/suspend.c`", ["Table"]),
     ("sleep_model", "An attempt, stage by stage", "`kernel/power/suspend.c`", ["Path", "Attempt"]),
@@ -53,24 +57,38 @@ SECTIONS = [
     ("sleep_model", "What is due", "own", ["Due"]),
     ("sleep_model", "Legal logs", "own", ["Legal"]),
     ("sleep_model", "The laws of sleep", "`drivers/base/power/main.c`, `kernel/power/suspend.c`", ["Laws"]),
+    ("sleep_laws", "What the laws are proved of", "own", ["Laws", "Ends"]),
     ("sleep_model", "The one log of separate histories", "own", ["Merge"]),
     ("sleep_model", "Which logs can be written, and how many places a source needs", "own", ["Fits", "Places"]),
     ("sleep_model", "The text of a log", "own", ["NameBytes", "Text"]),
     ("sleep_base", "The outside", "`include/uapi/asm-generic/errno-base.h`, for errors; the rest is own", ["Errno", "Faults", "Calls", "Streams", "Whole"]),
-    ("sleep_laws", "Laws and worked logs", "own", ["Laws", "Terms", "Attempts", "Autosleep", "Broken", "Counts", "Devices", "Failures", "Freezing", "Laptop", "LaptopDown", "LaptopUp", "Merging", "Rounds", "Texts", "Timers", "Worked"]),
     ("device_rows", "Rows of device numbers", "own", ["Table"]),
-    ("device_tree", "The tree of devices", "`drivers/base/core.c`", ["Kept", "Refusal"]),
+    ("device_tree", "The tree of devices", "`drivers/base/core.c`, `drivers/base/power/runtime.c`", ["Kept", "Refusal", "Requests"]),
     ("device_links", "Links of devices", "`drivers/base/core.c`", ["Adds", "Kept", "Linked", "Walks"]),
-    ("machine_file", "Accepted bytes, as far as they are built", "own", ["Tree", "Look", "Rules", "Spelled", "Links", "Spells", "Gives", "Faults"]),
-    ("machine_file", "Accepted bytes, whole: the first broken rule, and the machine that is spelled", "`include/linux/pm.h`, `drivers/base/core.c`; most is own", ["Whole", "Members", "Places", "Form", "Names", "Devices", "Operations", "Answering", "Limits"]),
+    ("wakeup_guard", "A saved count and its test", "`drivers/base/power/wakeup.c`", ["Guarded"]),
+    ("async_board", "Where devices stand, as the code keeps it", "`drivers/base/power/main.c`", ["Boards", "AtPlaces", "BoardFields", "Walks", "Picks", "Cursors", "Counts"]),
+    ("phase_prepare", "Prepare and complete, over a board", "`drivers/base/power/main.c`", ["Prepares", "AtPlaces"]),
+    ("phase_suspend", "The three phases down, over a board", "`drivers/base/power/main.c`", ["Downs", "Spanned", "AtPlaces"]),
+    ("phase_resume", "The three phases up, over a board", "`drivers/base/power/main.c`", ["Ups", "AtPlaces"]),
+    ("syscore_ops", "The steps of the core, as the code keeps them", "`drivers/base/syscore.c`", ["Parts"]),
+    ("platform_steps", "Notifiers and processors, as the code keeps them", "`kernel/notifier.c`, `kernel/cpu.c`", ["Ranks", "Steps"]),
+    ("answer_book", "Answers by attempt and thing", "own", ["Keys", "Book"]),
+    ("sleep_state", "What the core keeps of each part, each as one value", "own", ["Places", "Fronts", "Paths", "DeviceStates", "TaskStates", "Autosleeps"]),
+    ("script_plan", "A script's turns, counted once", "own", ["Plans", "PlanFields"]),
+    ("attempt_room", "How many entries an attempt may need", "own", ["Room"]),
+    ("sleep_core", "The core", "own", ["Cores", "Turned", "Looks", "Histories", "HistoryFields", "CoreFields", "Numbered", "Seen", "Stages", "Steps"]),
+    ("machine_file", "Accepted bytes: the first broken rule, and the machine that is spelled", "`include/linux/pm.h`, `drivers/base/core.c`; most is own", ["Whole", "Members", "Places", "Form", "Names", "Devices", "Operations", "Answering", "Limits"]),
     ("machine_file", "How a machine is written, and generated machines", "own", ["Spelling", "Generated"]),
     ("machine_file", "The words of the command line", "own", ["Words"]),
-    ("file_laws", "Files by which the definitions are tried", "own", ["Files", "Values", "Worked"]),
-    ("sleep_core", "The core", "own", ["Places", "Histories", "HistoryFields", "Cursors", "Plans", "PlanFields", "Looks", "Room", "Cores", "CoreFields"]),
-    ("sleep_main", "A whole run", "own", ["Runs", "RunFields", "Meters", "Endings"]),
+    ("sleep_run", "A whole run", "own", ["Runs", "RunFields", "Meters"]),
+    ("sleep_main", "How the program ends", "own", ["Endings"]),
 ]
 
-DEFINITION = re.compile(r"(?:abbrev pub|pub record|pub data) (\w+)")
+# What no contract of the program speaks of: terms by which the definitions are tried.
+TRIALS = {"worked_logs", "file_laws"}
+
+DEFINITION = re.compile(r"(?:abbrev pub|unfoldable pub|pub record|pub data) (\w+)")
+MODULE = re.compile(r"pub mod (\w+)")
 CITED = re.compile(r" \(((?:own: )?[^()]*(?:\.c|\.h|_|own|struct )[^()]*)\)")
 
 
@@ -117,10 +135,28 @@ def section(crate, title, kernel, modules):
         yield f"| `{name}` | {sentence(comment)} |" + (f" {kernel_of(comment)} |" if wide else "")
 
 
+def modules_of(crate):
+    """The modules of a crate's specs."""
+    lib = ROOT / "crates" / crate / "specs" / "Lib.antt"
+    return MODULE.findall(lib.read_text()) if lib.exists() else []
+
+
+def sections():
+    """The sections as they stand: those of the table, without modules that are gone, then a crate's other modules."""
+    listed = {(crate, module) for crate, _, _, modules in SECTIONS for module in modules}
+    for crate, title, kernel, modules in SECTIONS:
+        yield crate, title, kernel, [module for module in modules if module in modules_of(crate)]
+    for lib in sorted((ROOT / "crates").glob("*/specs/Lib.antt")):
+        crate = lib.parent.parent.name
+        if crate not in TRIALS:
+            yield crate, f"Others of `{crate}`", "own", [m for m in modules_of(crate) if (crate, m) not in listed]
+
+
 def main():
     lines = [HEAD.rstrip("\n")]
-    for crate, title, kernel, modules in SECTIONS:
-        lines += section(crate, title, kernel, modules)
+    for crate, title, kernel, modules in sections():
+        if modules:
+            lines += section(crate, title, kernel, modules)
     (ROOT / "docs" / "DEFINITIONS.md").write_text("\n".join(lines) + "\n")
 
 

@@ -7,8 +7,8 @@ For each machine the log that tools/second.py writes has to be what the definiti
 same statistics and the same end, and each source has to have as many places: each is a law that the prover
 has to close. With --interleaved the log is a merged one of tools/interleaved.py: it has to be legal, to have
 its end, and to be what the journal and the histories are merged to. FOLDER is a clone of this
-repository of its own, made where it is not there; the laws take the place of its crate sleep_laws. Sixty
-machines take about a minute. Ends with status 1 where a law stays open, and names it.
+repository of its own, made where it is not there; the laws take the place of its crate worked_logs. Sixty
+machines take about a minute, once its libraries are checked. Ends with status 1 where a law stays open, and names it.
 """
 
 import json
@@ -219,8 +219,8 @@ def merged_law(log):
     machine, end = f"{log.name}_machine", "IsStuckLog" if log.stuck else "IsFinishedLog"
     return f"""
 pub fn {log.name}_is_made()
-    ensures legal {{ IsLegalLog every_row {machine} {log.name} }}
-    ensures ends {{ {end} every_row {machine} {log.name} }}
+    ensures legal {{ IsLegalLog {machine} {log.name} }}
+    ensures ends {{ {end} {machine} {log.name} }}
     ensures merged {{ Merges {machine} {log.name}_stamped {log.name}_entries }}
 {{}}
 """
@@ -241,9 +241,9 @@ def law(log):
     places = worked.listed([str(places_of(m.tree, source)) for source in m.sources])
     return f"""
 pub fn {log.name}_is_made()
-    ensures made {{ one_worker every_row {machine} {len(log.lines) + 1} ≡ {log.name}_entries }}
+    ensures made {{ one_worker {machine} {len(log.lines) + 1} ≡ {log.name}_entries }}
     ensures stats {{ {log.name}.stats ≡ stats_of {machine} (reverse {log.name}_entries) }}
-    ensures ends {{ {end} every_row {machine} {log.name} }}
+    ensures ends {{ {end} {machine} {log.name} }}
     ensures places {{ map (places {machine}) (range_with_len 0 {len(m.sources)}) ≡ {places} }}
 {{}}
 """
@@ -257,14 +257,13 @@ ghost use Rattle.std.specs.List.{range_with_len};
 ghost use Rattle.std.specs.Prelude.{[], ◌∷◌, ◌≡◌, map, reverse};
 ghost use Rattle.sleep_model.specs.Legal.{IsLegalLog, IsFinishedLog, IsStuckLog, stats_of};
 ghost use Rattle.sleep_model.specs.Places.{places};
-ghost use Rattle.sleep_model.specs.Table.{every_row};
-ghost use Rattle.sleep_laws.specs.Merging.{Merges};
-ghost use Rattle.sleep_laws.specs.Rounds.{one_worker};
+ghost use Rattle.worked_logs.specs.Merging.{Merges};
+ghost use Rattle.worked_logs.specs.Rounds.{one_worker};
 """
 KEPT = ["Merging", "Rounds", "Terms"]
 STAMPED = """\
 use Rattle.sleep_model.specs.declared.entry.JournalEntry.{JournalEntry}
-use Rattle.sleep_laws.specs.Merging.{ticked}
+use Rattle.worked_logs.specs.Merging.{ticked}
 """
 
 
@@ -292,12 +291,12 @@ def main():
     merged = "--interleaved" in sys.argv
     if not folder.exists():
         subprocess.run(["git", "clone", "--quiet", ROOT, folder], check=True)
-    crate = folder / "crates" / "sleep_laws"
+    crate = folder / "crates" / "worked_logs"
     logs = logs_of(seed, machines, interleaved.Interleaved if merged else second.Run)
     write_crate(crate, logs, merged)
     ran = subprocess.run(["rt", "check"], cwd=crate, capture_output=True, text=True)
     said = ran.stdout + ran.stderr
-    open_laws = sorted(set(re.findall(r"sleep_laws::(machine_\d+)_is_made: (?!proved)", said)))
+    open_laws = sorted(set(re.findall(r"worked_logs::(machine_\d+)_is_made: (?!proved)", said)))
     for log in logs:
         if log.name in open_laws:
             print(f"{log.name}: {log.says}\n{log.text}")

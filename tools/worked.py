@@ -1,13 +1,12 @@
 #!/usr/bin/env python3
-"""Writes the whole worked logs of crates/sleep_laws as terms, with the laws that they are legal.
+"""Writes the whole worked logs of crates/worked_logs as terms, with the laws that they are legal.
 
-usage: tools/worked.py FOLDER
+usage: tools/worked.py
 
-FOLDER has a folder for each case: a machine file `in`, and texts of logs that were worked out apart from
-the program. The table LOGS names those that are taken, and how they are called here. A machine becomes
-the value that its file spells, a log the value that its text spells, an entry a line. What is written:
-specs/*.antt with the values, a module a subject; src/whole.rt, src/rounds.rt and src/texts.rt with the
-laws; and the proof of the law of a long log.
+tools/worked/ has for each log its machine file NAME.json and its text NAME.log, worked out apart from the
+program. The table LOGS says what each shows. A machine becomes the value that its file spells, a log the
+value that its text spells, an entry a line. What is written: specs/*.antt with the values, a module a
+subject; src/whole.rt, src/rounds.rt and src/texts.rt with the laws; and the proof of the law of a long log.
 """
 
 import json
@@ -16,7 +15,8 @@ import re
 import sys
 
 ROOT = pathlib.Path(__file__).resolve().parent.parent
-CRATE = ROOT / "crates" / "sleep_laws"
+CRATE = ROOT / "crates" / "worked_logs"
+INPUT = ROOT / "tools" / "worked"
 WIDTH = 110
 
 # The subjects: each a module of specs/, and what it says at its head.
@@ -31,83 +31,54 @@ MODULES = {
     "Laptop": "The whole log of a laptop of sixty devices, forty of them asynchronous.",
 }
 
-# Each log: its module, its name, its folder and its text, and what it shows.
+# Each log: its module, its name, and what it shows.
 LOGS = [
-    ("Attempts", "nothing", "21/r05.out", "A machine with nothing in it."),
-    ("Attempts", "smallest_attempt", "1/r06.out", "An attempt of a machine without devices, under a saved count."),
-    ("Attempts", "parent_and_child", "1.1/r06.out", "An attempt of a parent and its child that nothing disturbs."),
-    ("Attempts", "three_generations", "2/r06.out", "An attempt of a device, its child and its grandchild."),
-    ("Attempts", "event_after_save", "1.2/r06.out", "An event after the save: the attempt is given up before a device suspends."),
-    ("Attempts", "event_stops_syscore", "1.4/r06.out", "An event after the save, and no devices: the last test before the syscore steps finds it."),
-    ("Attempts", "event_stops_a_device", "5/r06.out", "An event while the first of two devices suspends: the second is skipped, and a second attempt sleeps."),
-    ("Attempts", "event_stops_a_processor", "6.1/r06.out", "An event after the first processor is off: the second stays on."),
-    ("Attempts", "event_in_progress", "7/r07.out", "A source that stays active while a second event comes: the attempt is given up."),
-    ("Attempts", "hard_event", "8/r07.out", "A hard event gives up an attempt without a saved count; the next attempt forgets it and sleeps."),
-    ("Attempts", "callback_reports", "13/r07.out", "A device's own suspend reports an event: its parent is skipped."),
-    ("Attempts", "event_wakes", "5.1/r06.out", "An interrupt line wakes the sleeping machine before its alarm."),
-    ("Failures", "callback_fails_in_noirq", "9/r06.out", "The middle one of three generations fails in the noirq phase: what was suspended resumes."),
-    ("Failures", "prepare_fails", "3.2/r06.out", "The middle one of three generations fails to prepare."),
-    ("Failures", "asynchronous_callback_fails", "9.1/r09.out", "An asynchronous child fails to suspend: its parent is not taken."),
-    ("Failures", "syscore_step_fails", "12/r06.out", "The second of three syscore steps fails: the one before it resumes."),
-    ("Failures", "platform_begin_fails", "6.2/r06.out", "The platform fails to begin: it is ended, and no device is prepared."),
-    ("Failures", "platform_prepare_late_fails", "6.3/r06.out", "The platform fails in its last preparation: no processor and no interrupt is turned off."),
-    ("Failures", "notifier_fails", "24/r06.out", "A notifier fails: the one before it is told, and nothing is frozen."),
-    ("Devices", "first_link", "10_first_link/r06.out", "A camera on a bus whose port needs a line."),
-    ("Devices", "two_links", "10_two_links/r06.out", "The same, where the line needs a clock."),
-    ("Devices", "asynchronous_child", "25/r09.out", "An asynchronous child of a synchronous parent."),
-    ("Devices", "direct_complete", "11/r06.out", "Three generations that are runtime suspended and stay so."),
-    ("Devices", "wakeup_is_not_direct", "11_wakeup/r06.out", "The same, where the lowest one may wake the machine: no callback is left out."),
-    ("Devices", "suspended_before_the_attempt", "4.2/r06.out", "A device that a task suspends at run time before the attempt, and that stays so."),
-    ("Devices", "runtime_requests", "20/r06.out", "Requests at run time while the device is prepared, and after its late suspend began."),
-    ("Freezing", "freeze_times_out", "6/r05.out", "A task that sleeps uninterruptibly: freezing gives up, first by its time and then by an event."),
-    ("Freezing", "kernel_freeze_times_out", "5.3/r05.out", "A kernel thread that sleeps uninterruptibly: freezing gives up, and all are let go."),
-    ("Freezing", "read_interrupted", "16_b/r07.out", "A read that waits is interrupted as its task is asked to freeze."),
-    ("Freezing", "save_interrupted", "8.1/r08.out", "A save that waits for another's attempt is interrupted as its task is asked to freeze."),
-    ("Counts", "event_before_save", "3/r08.out", "An event between the read and the save: the save fails, and the state is not written."),
-    ("Counts", "event_before_plain_attempt", "1.3/r06.out", "An event between the read and the save: the save fails, and a plain attempt sleeps."),
-    ("Counts", "read_waits", "4/r07.out", "A read waits until the event in progress ends."),
-    ("Counts", "stuck_read", "16_a/r07.out", "A read waits for ever for the end of an event."),
-    ("Counts", "stuck_mark", "5.2/r05.out", "A task waits for ever for a mark that nobody raises."),
-    ("Counts", "state_texts", "19/r08.out", "A text that is no state, and one with a line's end."),
-    ("Counts", "state_unsaved", "8.3/r08.out", "A save of a wrong number, and a write that needs a save that was ok."),
-    ("Counts", "sleep_alone", "1.5/r05.out", "A task that sleeps for five ms."),
-    ("Counts", "calls_of_a_line", "26_b/r12.out", "A task that raises a mark, and an interrupt line that makes two calls on a source."),
-    ("Timers", "event_expires", "7.1/r07.out", "Events of several lengths on one source: the latest end counts."),
-    ("Timers", "event_stays_active", "7.2/r07.out", "The run ends while the source is still active."),
-    ("Autosleep", "autosleep", "15/r08.out", "Autosleep is turned on, sleeps once, and is turned off."),
-    ("Autosleep", "autosleep_of_no_state", "8.2/r08.out", "A text that autosleep refuses."),
-    ("Autosleep", "autosleep_of_two_lines", "8.2_off_newline_x/r08.out", "A text of autosleep with something after its first line."),
-    ("Laptop", "laptop", "17/r09.out", "A laptop with its links, four processors and five scripts sleeps once and is woken by its lid."),
+    ("Attempts", "nothing", "A machine with nothing in it."),
+    ("Attempts", "smallest_attempt", "An attempt of a machine without devices, under a saved count."),
+    ("Attempts", "parent_and_child", "An attempt of a parent and its child that nothing disturbs."),
+    ("Attempts", "three_generations", "An attempt of a device, its child and its grandchild."),
+    ("Attempts", "event_after_save", "An event after the save: the attempt is given up before a device suspends."),
+    ("Attempts", "event_stops_syscore", "An event after the save, and no devices: the last test before the syscore steps finds it."),
+    ("Attempts", "event_stops_a_device", "An event while the first of two devices suspends: the second is skipped, and a second attempt sleeps."),
+    ("Attempts", "event_stops_a_processor", "An event after the first processor is off: the second stays on."),
+    ("Attempts", "event_in_progress", "A source that stays active while a second event comes: the attempt is given up."),
+    ("Attempts", "hard_event", "A hard event gives up an attempt without a saved count; the next attempt forgets it and sleeps."),
+    ("Attempts", "callback_reports", "A device's own suspend reports an event: its parent is skipped."),
+    ("Attempts", "event_wakes", "An interrupt line wakes the sleeping machine before its alarm."),
+    ("Failures", "callback_fails_in_noirq", "The middle one of three generations fails in the noirq phase: what was suspended resumes."),
+    ("Failures", "prepare_fails", "The middle one of three generations fails to prepare."),
+    ("Failures", "asynchronous_callback_fails", "An asynchronous child fails to suspend: its parent is not taken."),
+    ("Failures", "syscore_step_fails", "The second of three syscore steps fails: the one before it resumes."),
+    ("Failures", "platform_begin_fails", "The platform fails to begin: it is ended, and no device is prepared."),
+    ("Failures", "platform_prepare_late_fails", "The platform fails in its last preparation: no processor and no interrupt is turned off."),
+    ("Failures", "notifier_fails", "A notifier fails: the one before it is told, and nothing is frozen."),
+    ("Devices", "first_link", "A camera on a bus whose port needs a line."),
+    ("Devices", "two_links", "The same, where the line needs a clock."),
+    ("Devices", "asynchronous_child", "An asynchronous child of a synchronous parent."),
+    ("Devices", "direct_complete", "Three generations that are runtime suspended and stay so."),
+    ("Devices", "wakeup_is_not_direct", "The same, where the lowest one may wake the machine: no callback is left out."),
+    ("Devices", "suspended_before_the_attempt", "A device that a task suspends at run time before the attempt, and that stays so."),
+    ("Devices", "runtime_requests", "Requests at run time while the device is prepared, and after its late suspend began."),
+    ("Freezing", "freeze_times_out", "A task that sleeps uninterruptibly: freezing gives up, first by its time and then by an event."),
+    ("Freezing", "kernel_freeze_times_out", "A kernel thread that sleeps uninterruptibly: freezing gives up, and all are let go."),
+    ("Freezing", "read_interrupted", "A read that waits is interrupted as its task is asked to freeze."),
+    ("Freezing", "save_interrupted", "A save that waits for another's attempt is interrupted as its task is asked to freeze."),
+    ("Counts", "event_before_save", "An event between the read and the save: the save fails, and the state is not written."),
+    ("Counts", "event_before_plain_attempt", "An event between the read and the save: the save fails, and a plain attempt sleeps."),
+    ("Counts", "read_waits", "A read waits until the event in progress ends."),
+    ("Counts", "stuck_read", "A read waits for ever for the end of an event."),
+    ("Counts", "stuck_mark", "A task waits for ever for a mark that nobody raises."),
+    ("Counts", "state_texts", "A text that is no state, and one with a line's end."),
+    ("Counts", "state_unsaved", "A save of a wrong number, and a write that needs a save that was ok."),
+    ("Counts", "sleep_alone", "A task that sleeps for five ms."),
+    ("Counts", "calls_of_a_line", "A task that raises a mark, and an interrupt line that makes two calls on a source."),
+    ("Timers", "event_expires", "Events of several lengths on one source: the latest end counts."),
+    ("Timers", "event_stays_active", "The run ends while the source is still active."),
+    ("Autosleep", "autosleep", "Autosleep is turned on, sleeps once, and is turned off."),
+    ("Autosleep", "autosleep_of_no_state", "A text that autosleep refuses."),
+    ("Autosleep", "autosleep_of_two_lines", "A text of autosleep with something after its first line."),
+    ("Laptop", "laptop", "A laptop with its links, four processors and five scripts sleeps once and is woken by its lid."),
 ]
-
-# Logs that are taken up to a line: the rest is worked out by hand, for the machine with one value changed.
-ENDINGS = {
-    "laptop": (
-        "task:sleepd over 1 0",
-        ("sleepd", "repeat", 1),
-        """\
-400 0/1/0 task:sleepd exit
-700 0/1/0 time jump
-700 0/1/0 irq:keys slept
-700 0/1/0 irq:keys event kbd 500 soft
-700 0/1/0 irq:keys start kbd
-700 1/1/0 irq:keys exit
-1200 1/1/0 time jump
-1200 1/1/0 timer:kbd expire kbd
-1200 1/1/0 timer:kbd finish kbd
-3000 0/2/0 time jump
-3000 0/2/0 task:shell slept
-3000 0/2/0 task:kflushd slept
-3000 0/2/0 task:shell exit
-3000 0/2/0 task:kflushd exit
-source lid 1 1 0 0 0 0 400
-source kbd 1 1 1 0 500 500 1200
-source net 0 0 0 0 0 0 0
-source autosleep 0 0 0 0 0 0 0
-finished
-""",
-    ),
-}
 
 # Those whose text is taken too: they have lines of nearly every form.
 TEXTS = [
@@ -158,7 +129,7 @@ USES = [
     ("call", f"use {MODEL}.machine.SourceCall.TheVariants as call"),
     ("task", f"use {MODEL}.machine.TaskKind.TheVariants as task"),
     ("what", f"use {MODEL}.machine.What.TheVariants as what"),
-    ("phase", f"use {MODEL}.phase.Phase.TheVariants as phase"),
+    ("phase", "use Rattle.phase_table.specs.declared.phase.Phase.TheVariants as phase"),
 ]
 PRELUDE = ["◌++◌", "true", "false", "List", "[]", "◌∷◌", "codes", "pos", "negsuc", "Some", "None"]
 ERRORS = ["EINTR", "EIO", "EAGAIN", "EACCES", "EBUSY", "ENODEV", "EINVAL"]
@@ -517,15 +488,10 @@ class Worked:
         self.lines = [line for line in lines if line[0].isdigit()]
 
     @classmethod
-    def read(cls, folder, module, name, place, says):
+    def read(cls, module, name, says):
         """The log of a row of LOGS."""
-        tree = json.loads((folder / place).parent.joinpath("in").read_text())
-        text = (folder / place).read_text()
-        if name in ENDINGS:
-            last, (actor, member, value), rest = ENDINGS[name]
-            text = text[: text.index(last + "\n") + len(last) + 1] + rest
-            next(a for a in tree["actors"] if a["name"] == actor)[member] = value
-        return cls(module, name, says, tree, text)
+        tree = json.loads((INPUT / f"{name}.json").read_text())
+        return cls(module, name, says, tree, (INPUT / f"{name}.log").read_text())
 
     def entries(self):
         return [entry_term(self.machine, line) for line in self.lines]
@@ -574,10 +540,10 @@ def uses_of(text):
         if is_used(name, text):
             yield f"use {MODEL}.{place}.{{{name}}}"
     yield from (line for word, line in USES if re.search(rf"(?<![\w.]){word}\.", text))
-    yield f"use Rattle.sleep_laws.specs.Terms.{{{', '.join(name for name in TERMS if is_used(name, text))}}}"
+    yield f"use Rattle.worked_logs.specs.Terms.{{{', '.join(name for name in TERMS if is_used(name, text))}}}"
     for module, name, _ in (half for halves in HALVES.values() for half in halves):
         if is_used(name, text) and f"pub {name} " not in text:
-            yield f"use Rattle.sleep_laws.specs.{module}.{{{name}}}"
+            yield f"use Rattle.worked_logs.specs.{module}.{{{name}}}"
 
 
 def write_module(module, says, texts, crate=CRATE, more=""):
@@ -596,17 +562,26 @@ def write_halves(log):
         write_module(module, says, [list_text(name, comment, items)])
 
 
-# How many places of a long log are computed in one lemma: a declaration may take only so many steps.
-STRETCH = 150
+
+def cuts(length):
+    """How many newest entries are left out of each stretch that one lemma computes, the most first.
+
+    A declaration may take only so many steps, and a place costs more the more entries stand before it.
+    """
+    found, at = [], 0
+    while at < length:
+        found.append(at)
+        at += 75 if at < 300 else 100 if at < 600 else 150
+    return reversed(found)
+
 
 PLACES_HEAD = """\
 -- The parts of a long log fit together: computed a stretch of places at a time.
 use Rattle.std.proofs.Common.{{refl, reverse, ℕ, List}}
 use Rattle.sleep_model.specs.declared.entry.Entry.{{Entry}}
 use Rattle.sleep_model.specs.Legal.{{JointPart}}
-use Rattle.sleep_model.specs.Table.{{every_row}}
-use Rattle.sleep_laws.specs.{module}.{{{name}_machine, {name}_entries}}
-use Rattle.sleep_laws.proofs.Computed.{{before, joint_stretch}}
+use Rattle.worked_logs.specs.{module}.{{{name}_machine, {name}_entries}}
+use Rattle.worked_logs.proofs.Computed.{{before, joint_stretch}}
 
 -- the log without its newest n entries
 abbrev without : ℕ → List Entry
@@ -615,17 +590,18 @@ without n = before n (reverse {name}_entries)
 
 ANSWERS = """\
 use Rattle.std.proofs.Common.{{refl, reverse}}
-use Rattle.sleep_model.specs.Table.{{every_row}}
-use Rattle.sleep_laws.specs.{module}.{{{name}_machine, {name}_entries}}
-use Rattle.sleep_laws.proofs.Computed.{{journal_part, source_part}}
-use Rattle.sleep_laws.proofs.{module}Places.{{{name}_fits}}
-use Rattle.sleep_laws.proofs.whole.{name}_is_legal.Goals as goal
+use Rattle.worked_logs.specs.{module}.{{{name}_machine, {name}_entries}}
+use Rattle.sleep_model.specs.Parts.{{journal}}
+use Rattle.worked_logs.proofs.Computed.{{journal_part, source_part, placed}}
+use Rattle.worked_logs.proofs.{module}Places.{{{name}_fits}}
+use Rattle.worked_logs.proofs.whole.{name}_is_legal.Goals as goal
 
 pub returns-clause-legal : goal.returns-clause-legal
 returns-clause-legal c = record {{
   legal = record {{
-    journal = journal_part every_row {name}_machine (reverse {name}_entries) refl;
+    journal = journal_part {name}_machine (journal (reverse {name}_entries)) refl;
     sources = source_part (reverse {name}_entries) refl;
+    placed = placed (reverse {name}_entries) refl;
     joint = {name}_fits;
   }};
   stats = refl;
@@ -636,11 +612,11 @@ returns-clause-legal c = record {{
 def stretches(log):
     """The lemmas that a log's parts fit together, the oldest stretch first."""
     older, rest = len(log.lines), "tt"
-    for newer in range((older - 1) // STRETCH * STRETCH, -1, -STRETCH):
+    for newer in cuts(len(log.lines)):
         name, here = (f"fits_{newer}", f"(without {newer})") if newer else (f"{log.name}_fits", f"(reverse {log.name}_entries)")
-        given = f"every_row {log.name}_machine {older - newer} {here} (without {older}) refl refl {rest}"
+        given = f"{log.name}_machine {older - newer} {here} (without {older}) refl refl {rest}"
         visible = "" if newer else "pub "
-        yield f"\n{visible}{name} : JointPart every_row {log.name}_machine {here}\n{name} = joint_stretch {given}\n"
+        yield f"\n{visible}{name} : JointPart {log.name}_machine {here}\n{name} = joint_stretch {given}\n"
         older, rest = newer, name
 
 
@@ -660,7 +636,6 @@ LAWS_HEAD = """\
 
 ghost use Rattle.sleep_model.specs.Fits.{IsWritable};
 ghost use Rattle.sleep_model.specs.Legal.{IsLegalLog, IsFinishedLog, IsStuckLog};
-ghost use Rattle.sleep_model.specs.Table.{every_row};
 """
 
 TEXTS_HEAD = """\
@@ -675,8 +650,7 @@ ROUNDS_HEAD = """\
 //! time jumps where a round did nothing, one worker writes just these entries.
 
 ghost use Rattle.std.specs.Prelude.{◌≡◌};
-ghost use Rattle.sleep_model.specs.Table.{every_row};
-ghost use Rattle.sleep_laws.specs.Rounds.{one_worker};
+ghost use Rattle.worked_logs.specs.Rounds.{one_worker};
 """
 
 
@@ -685,7 +659,7 @@ def ghost_uses(logs, *endings):
     for module in dict.fromkeys(log.module for log in logs):
         names = [log.name + ending for log in logs if log.module == module for ending in endings]
         if names:
-            yield f"ghost use Rattle.sleep_laws.specs.{module}.{{{', '.join(names)}}};\n"
+            yield f"ghost use Rattle.worked_logs.specs.{module}.{{{', '.join(names)}}};\n"
 
 
 def legal_law(log):
@@ -694,9 +668,9 @@ def legal_law(log):
     return f"""
 /// {log.says}
 pub fn {log.name}_is_legal()
-    ensures legal {{ IsLegalLog every_row {log.name}_machine {log.name} }}
+    ensures legal {{ IsLegalLog {log.name}_machine {log.name} }}
     ensures writable {{ IsWritable {log.name}_machine {log.name} }}
-    ensures {end} every_row {log.name}_machine {log.name} }}
+    ensures {end} {log.name}_machine {log.name} }}
 {{}}
 """
 
@@ -706,7 +680,7 @@ def made_law(log):
     return f"""
 /// {log.says}
 pub fn {log.name}_is_made()
-    ensures {{ one_worker every_row {log.name}_machine {len(log.lines) + 1} ≡ {log.name}_entries }}
+    ensures {{ one_worker {log.name}_machine {len(log.lines) + 1} ≡ {log.name}_entries }}
 {{}}
 """
 
@@ -733,7 +707,7 @@ def write_texts(logs):
     """The texts of some logs, with the laws that they are the logs'."""
     head = "-- Texts of worked logs, a line an entry.\nuse Rattle.std.specs.Prelude.{ℕ, ◌++◌, List, codes}\n\n"
     (CRATE / "specs" / "Texts.antt").write_text(head + "\n".join(map(text_term, logs)))
-    uses = f"ghost use Rattle.sleep_laws.specs.Texts.{{{', '.join(f'{log.name}_text' for log in logs)}}};\n"
+    uses = f"ghost use Rattle.worked_logs.specs.Texts.{{{', '.join(f'{log.name}_text' for log in logs)}}};\n"
     laws = [TEXTS_HEAD, *ghost_uses(logs, "_machine", ""), uses, *map(text_law, logs)]
     (CRATE / "src" / "texts.rt").write_text("".join(laws))
 
@@ -748,10 +722,9 @@ def write_laws(logs):
 
 
 def main():
-    if len(sys.argv) != 2:
+    if len(sys.argv) != 1:
         sys.exit(__doc__)
-    folder = pathlib.Path(sys.argv[1])
-    logs = [Worked.read(folder, *row) for row in LOGS]
+    logs = [Worked.read(*row) for row in LOGS]
     for module, says in MODULES.items():
         write_module(module, says, [text for log in logs if log.module == module for text in pieces(log)])
     for log in logs:

@@ -36,6 +36,7 @@ module _ (m : Machine) (past : List Entry) where
   pub tells : Tells m past (board_at m past)
   tells = record {
     asynchronous = λ d. refl;
+    works = λ d. refl;
     stood = λ p d e. ap (λ ss. stand_at ss d) (stands_down m past p e);
     prepares = refl;
     completes = refl;

@@ -5,12 +5,12 @@ use Rattle.phase_table.specs.declared.phase.Phase.TheVariants as phase
 use Rattle.phase_table.specs.Phases.{is_down}
 use Rattle.sleep_model.specs.declared.entry.Entry.{Entry}
 use Rattle.sleep_model.specs.declared.machine.Machine.{Machine}
-use Rattle.sleep_model.specs.Devices.{is_async_device, may_wake_device, stand_in, is_direct_now, next_prepared, next_completed, next_down, waits_down, next_given, next_up, waits_up, waits_below, waits_above, willing}
+use Rattle.sleep_model.specs.Devices.{is_async_device, async_work, may_wake_device, stand_in, is_direct_now, next_prepared, next_completed, next_down, waits_down, next_given, next_up, waits_up, waits_below, waits_above, willing}
 use Rattle.sleep_model.specs.Order.{parents_of}
 use Rattle.sleep_model.specs.Runtime.{is_async, statuses}
 use Rattle.sleep_model.specs.Stands.{stands, stand_at}
 use Rattle.sleep_model.specs.Walk.{is_so}
-use Rattle.async_board.specs.Boards.{BoardState, stands_on, next_prepared_on, next_completed_on, next_down_on, waits_down_on, next_given_on, next_up_on, waits_up_on, waits_below_on, waits_above_on, all_left_alone_on}
+use Rattle.async_board.specs.Boards.{BoardState, stands_on, next_prepared_on, next_completed_on, next_down_on, waits_down_on, next_given_on, next_up_on, waits_up_on, waits_below_on, waits_above_on, all_left_alone_on, work_on}
 
 -- the board of a machine, after these entries (dpm_list, struct dev_pm_info)
 abbrev pub board_at : Machine → List Entry → BoardState
@@ -26,6 +26,7 @@ board_at m past = record {
 -- what is asked of a board is what the definitions tell of the machine at that place, in each phase on the way down
 pub record Tells (m : Machine) (past : List Entry) (board : BoardState) : Type 0 where
   pub asynchronous : (d : ℕ) → is_so board.beside d ≡ is_async_device m d
+  pub works : (d : ℕ) → work_on board d ≡ async_work m past d
   pub stood : (p : Phase) (d : ℕ) → is_down p ≡ true → stand_at (stands_on board p) d ≡ stand_in m past p d
   pub prepares : next_prepared_on board ≡ next_prepared m past
   pub completes : next_completed_on board ≡ next_completed m past
@@ -36,4 +37,6 @@ pub record Tells (m : Machine) (past : List Entry) (board : BoardState) : Type 0
   pub opens : (p : Phase) → is_down p ≡ true → waits_up_on board p ≡ waits_up m past p
   pub waits_for_below : (p : Phase) (d : ℕ) → is_down p ≡ true → waits_below_on board p d ≡ waits_below m past p d
   pub waits_for_above : (p : Phase) (d : ℕ) → is_down p ≡ true → waits_above_on board p d ≡ waits_above m past p d
-  pub left_alone : (d : ℕ) → (is_so (willing (length m.devices) past) d && is_so (statuses m.devices past) d && not (may_wake_device m d) && all_left_alone_on board d) ≡ is_direct_now m past d
+  pub left_alone : (d : ℕ)
+      → (is_so (willing (length m.devices) past) d && is_so (statuses m.devices past) d
+      && not (may_wake_device m d) && all_left_alone_on board d) ≡ is_direct_now m past d

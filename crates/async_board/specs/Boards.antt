@@ -1,5 +1,5 @@
 -- A board as contracts see it, and what is asked of it.
-use Rattle.std.specs.Prelude.{ℕ, Bool, not, ◌&&◌, List, length, filter, replicate, Option}
+use Rattle.std.specs.Prelude.{ℕ, Bool, not, ◌&&◌, List, length, filter, replicate, if◌then◌else◌, Option}
 use Rattle.std.specs.List.{list_all}
 use Rattle.phase_table.specs.declared.phase.Phase.{Phase}
 use Rattle.phase_table.specs.declared.phase.Phase.TheVariants as phase
@@ -7,6 +7,9 @@ use Rattle.sleep_model.specs.declared.entry.Kind.{Kind}
 use Rattle.sleep_model.specs.declared.machine.Link.{Link}
 use Rattle.sleep_model.specs.declared.place.Stand.{Stand}
 use Rattle.sleep_model.specs.declared.place.Stand.TheVariants as stand
+use Rattle.sleep_model.specs.declared.place.AsyncWork.{AsyncWork}
+use Rattle.sleep_model.specs.declared.place.AsyncWork.TheVariants.{Idle}
+use Rattle.sleep_model.specs.Devices.{work_by}
 use Rattle.sleep_model.specs.Links.{first_places}
 use Rattle.sleep_model.specs.Order.{hanging, holding, order_by}
 use Rattle.sleep_model.specs.Stands.{stands_after, device_of, stand_at, is_unprepared, is_prepared, is_ready, is_unsettled, is_going_down, is_down_in, is_left_alone, is_low}
@@ -68,11 +71,13 @@ waits_down_on board p = first_where (λ d. is_going_down (stand_at (stands_on bo
 
 -- the first asynchronous device that is down (dpm_async_fn)
 abbrev pub next_given_on : BoardState → Phase → Option ℕ
-next_given_on board p = first_where (λ d. is_down_in (stand_at (stands_on board p) d) && is_so board.beside d) (order_on board)
+next_given_on board p =
+    first_where (λ d. is_down_in (stand_at (stands_on board p) d) && is_so board.beside d) (order_on board)
 
 -- the first synchronous device that is down (dpm_resume)
 abbrev pub next_up_on : BoardState → Phase → Option ℕ
-next_up_on board p = first_where (λ d. is_down_in (stand_at (stands_on board p) d) && not (is_so board.beside d)) (order_on board)
+next_up_on board p =
+    first_where (λ d. is_down_in (stand_at (stands_on board p) d) && not (is_so board.beside d)) (order_on board)
 
 -- the first device that is not yet up (async_synchronize_full)
 abbrev pub waits_up_on : BoardState → Phase → Option ℕ
@@ -80,20 +85,34 @@ waits_up_on board p = first_where (λ d. is_low (stand_at (stands_on board p) d)
 
 -- the first device below d that is not through (dpm_wait_for_subordinate)
 abbrev pub waits_below_on : BoardState → Phase → ℕ → Option ℕ
-waits_below_on board p d = first_where (λ e. is_unsettled (stand_at (stands_on board p) e)) (hanging board.parents board.links d)
+waits_below_on board p d =
+    first_where (λ e. is_unsettled (stand_at (stands_on board p) e)) (hanging board.parents board.links d)
 
 -- the first device above d that is not yet up (dpm_wait_for_superior)
 abbrev pub waits_above_on : BoardState → Phase → ℕ → Option ℕ
-waits_above_on board p d = first_where (λ e. is_low (stand_at (stands_on board p) e)) (holding board.parents board.links d)
+waits_above_on board p d =
+    first_where (λ e. is_low (stand_at (stands_on board p) e)) (holding board.parents board.links d)
 
 -- how many devices below d are not through (dpm_wait_for_subordinate)
 abbrev pub open_below_on : BoardState → Phase → ℕ → ℕ
-open_below_on board p d = length (filter (λ e. is_unsettled (stand_at (stands_on board p) e)) (first_places (hanging board.parents board.links d)))
+open_below_on board p d =
+    length (filter (λ e. is_unsettled (stand_at (stands_on board p) e))
+    (first_places (hanging board.parents board.links d)))
 
 -- how many devices above d are not yet up (dpm_wait_for_superior)
 abbrev pub open_above_on : BoardState → Phase → ℕ → ℕ
-open_above_on board p d = length (filter (λ e. is_low (stand_at (stands_on board p) e)) (first_places (holding board.parents board.links d)))
+open_above_on board p d =
+    length (filter (λ e. is_low (stand_at (stands_on board p) e))
+    (first_places (holding board.parents board.links d)))
 
 -- all devices below d are left alone (direct_complete)
 abbrev pub all_left_alone_on : BoardState → ℕ → Bool
-all_left_alone_on board d = list_all (λ e. is_left_alone (stand_at board.suspend e)) (hanging board.parents board.links d)
+all_left_alone_on board d =
+    list_all (λ e. is_left_alone (stand_at board.suspend e)) (hanging board.parents board.links d)
+
+-- the work of its own of device d: a synchronous one has none (async_schedule_dev)
+abbrev pub work_on : BoardState → ℕ → AsyncWork
+work_on board d =
+    if is_so board.beside d
+    then work_by (stand_at board.suspend d) (stand_at board.late d) (stand_at board.noirq d)
+    else Idle

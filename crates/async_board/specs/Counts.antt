@@ -31,7 +31,8 @@ pub record AreRaised (row old new : List ℕ) : Type 0 where
 -- one less for each of the row that was counted, one more for each that is
 pub record AreShifted (row : List ℕ) (was is : Bool) (old new : List ℕ) : Type 0 where
   pub size : length new ≡ length old
-  pub each : (d : ℕ) → d < length old → slice_index_or new d 0 + one (was && is_among row d) ≡ slice_index_or old d 0 + one (is && is_among row d)
+  pub each : (d : ℕ) → d < length old
+      → slice_index_or new d 0 + one (was && is_among row d) ≡ slice_index_or old d 0 + one (is && is_among row d)
 
 -- how many of each of n rows pass
 pub record IsCount (n : ℕ) (p : ℕ → Bool) (row : ℕ → List ℕ) (counts : List ℕ) : Type 0 where

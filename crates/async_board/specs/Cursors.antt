@@ -26,7 +26,8 @@ pub record AreCursors (beside : List Bool) (stands : List Stand) (order : List �
   pub prepared : IsAhead (is_picked pick.Prepared beside stands) order c.prepared
 
 -- the cursors of devices that stand so in this order, where the device at place k may stand otherwise
-pub record AreCursorsBut (k : ℕ) (beside : List Bool) (stands : List Stand) (order : List ℕ) (c : Cursors) : Type 0 where
+pub record AreCursorsBut (k : ℕ) (beside : List Bool) (stands : List Stand) (order : List ℕ) (c : Cursors)
+    : Type 0 where
   pub unprepared : IsPassedBut k (is_picked pick.Unprepared beside stands) order c.unprepared
   pub going : IsPassedBut k (is_picked pick.Going beside stands) order c.going
   pub given : IsPassedBut k (is_picked pick.Given beside stands) order c.given

@@ -26,11 +26,15 @@ failed_after _ before = before
 
 -- how many devices right below each are not through with the phase on the way down
 abbrev pub IsBelow : List (Option ℕ) → List Link → List Stand → List ℕ → Type 0
-IsBelow parents links stands counts = IsCount (length parents) (λ d. is_unsettled (stand_at stands d)) (λ d. first_places (hanging parents links d)) counts
+IsBelow parents links stands counts =
+    IsCount (length parents) (λ d. is_unsettled (stand_at stands d))
+    (λ d. first_places (hanging parents links d)) counts
 
 -- how many devices right above each are not yet up
 abbrev pub IsAbove : List (Option ℕ) → List Link → List Stand → List ℕ → Type 0
-IsAbove parents links stands counts = IsCount (length parents) (λ d. is_low (stand_at stands d)) (λ d. first_places (holding parents links d)) counts
+IsAbove parents links stands counts =
+    IsCount (length parents) (λ d. is_low (stand_at stands d))
+    (λ d. first_places (holding parents links d)) counts
 
 -- the order that the links of a layout leave
 abbrev pub order_of : Layout → List ℕ

@@ -6,11 +6,11 @@ ghost use Rattle.async_board.specs.Walks.{IsLayout, IsWalk, IsBelow, IsAbove};
 
 use crate::pick::{Look, Pick, first_picked, is_so, last_picked, stand_at};
 use crate::rows::{all_left_alone, count_at, first_low, first_unsettled, is_none};
-use crate::stand::{device_of, stand_after};
+use crate::stand::{device_of, stand_after, work_in};
 use crate::walk::{Layout, Walk, places_of, put};
 use device_links::Links;
 use sleep_base::Mem;
-use sleep_model::{Kind, Phase, Stand};
+use sleep_model::{AsyncWork, Kind, Phase, Stand};
 use std::alloc::Global;
 use std::marker::Model;
 
@@ -54,7 +54,7 @@ fn move_in(walk: &mut Walk, layout: &Layout, p: Phase, kind: Kind, device: u32)
 
 impl Board {
     ghost use Rattle.std.specs.Prelude.{◌≡◌, ◌<◌, IfOk, length};
-    ghost use Rattle.async_board.specs.Boards.{first_board, board_after, stands_on, order_on, next_prepared_on, next_completed_on, next_down_on, waits_down_on, next_given_on, next_up_on, waits_up_on, waits_below_on, waits_above_on, open_below_on, open_above_on, all_left_alone_on};
+    ghost use Rattle.async_board.specs.Boards.{first_board, board_after, stands_on, order_on, next_prepared_on, next_completed_on, next_down_on, waits_down_on, next_given_on, next_up_on, waits_up_on, waits_below_on, waits_above_on, open_below_on, open_above_on, all_left_alone_on, work_on};
 
     /// A board over these links, on which no device is prepared; `beside` says for each device
     /// whether it is asynchronous. `Mem` if there is no memory for it.
@@ -256,5 +256,23 @@ impl Board {
         ensures { result ≡ is_so self.now.beside device }
     {
         is_so(&self.layout.beside, device)
+    }
+
+    /// Where an asynchronous device's own work stands; a synchronous one has none
+    /// (`async_schedule_dev`).
+    pub fn work(&self, device: u32) -> AsyncWork
+        ensures { result ≡ work_on self.now device }
+    {
+        if self.is_beside(device) {
+            let noirq = work_in(
+                Phase::Noirq,
+                self.stand(Phase::Noirq, device),
+                AsyncWork::Idle,
+            );
+            let late = work_in(Phase::Late, self.stand(Phase::Late, device), noirq);
+            work_in(Phase::Suspend, self.stand(Phase::Suspend, device), late)
+        } else {
+            AsyncWork::Idle
+        }
     }
 }

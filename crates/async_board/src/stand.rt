@@ -1,10 +1,11 @@
 //! What an entry does to the stand of its device, and tests of a stand.
 
 ghost use Rattle.std.specs.Prelude.{◌≡◌};
+ghost use Rattle.sleep_model.specs.Devices.{work_in};
 ghost use Rattle.sleep_model.specs.Stands as stands;
 
 use sleep_base::Errno;
-use sleep_model::{Kind, Phase, SkipCause, Stand};
+use sleep_model::{AsyncWork, Kind, Phase, SkipCause, Stand};
 
 fn prepared_by(r: i32, before: Stand) -> Stand
     ensures { result ≡ stands.prepared_by r before }
@@ -70,6 +71,20 @@ pub fn device_of(kind: Kind) -> Option<u32>
         | Kind::End(_, device, _)
         | Kind::Skip(_, device, _) => Some(device),
         _ => None,
+    }
+}
+
+/// The work in a phase on the way down or its mirror of a device that stands there, else the other
+/// (`dpm_run_callback`).
+pub(crate) fn work_in(p: Phase, stand: Stand, other: AsyncWork) -> AsyncWork
+    ensures { result ≡ work_in p stand other }
+{
+    match stand {
+        Stand::Scheduled => AsyncWork::Given(p),
+        Stand::Suspending => AsyncWork::Inside(p),
+        Stand::Rescheduled => AsyncWork::Given(p.mirror()),
+        Stand::Resuming => AsyncWork::Inside(p.mirror()),
+        _ => other,
     }
 }
 

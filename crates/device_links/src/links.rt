@@ -69,10 +69,11 @@ impl Links {
 
     /// Adds a link, and moves the consumer and all that hangs below it to the end of the order.
     ///
-    /// The faults, in this order: `NoDevice` exactly where one of the two is not registered;
-    /// `TooMany` exactly where 4,000 links stand; `Twice` exactly where this link stands; `Cycle`
-    /// exactly where the supplier is the consumer or hangs below it, with a path; `Mem` where
-    /// memory ran out, which may come in place of `Cycle`. After each all is as before.
+    /// Tested in turn, each refusal exactly where its test fails: that both are registered
+    /// (`NoDevice`), that a link more has a place among 4,000 (`TooMany`), that these two have none
+    /// yet (`Twice`), and that the consumer would not come to hang below itself (`Cycle`, with a
+    /// path from it to the supplier). Want of memory (`Mem`) may come in place of `Cycle`. A refused
+    /// link changes nothing.
     pub fn add(&mut self, supplier: u32, consumer: u32) -> Result<(), LinkFault>
         ensures answer { Adds self.old supplier consumer result }
         ensures ok { OnOk result (self.new ≡ record {

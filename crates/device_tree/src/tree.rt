@@ -55,9 +55,9 @@ impl Tree {
 
     /// Registers a device behind those that stand, and gives its number.
     ///
-    /// The faults, in this order: `TooMany` exactly where 1,000 devices stand; `NameTaken` exactly
-    /// where one has this name; `NoParent` exactly where the parent's number is not below the new
-    /// one; `Mem` where memory ran out. After each the tree is as before.
+    /// A full tree of 1,000 devices takes none (`TooMany`). Else a name that is taken is refused
+    /// (`NameTaken`), and then a parent that is not among those that stand (`NoParent`): each exactly
+    /// there. `Mem` comes last, for want of memory. A refused device leaves no trace.
     pub fn register(&mut self, device: Device) -> Result<u32, TreeFault>
         ensures refused { Refuses result (refusal self.old device) }
         ensures number { IfOk result (λ n. n ≡ length self.old) }

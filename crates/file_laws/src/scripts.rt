@@ -2,7 +2,7 @@
 
 ghost use Rattle.file_laws.specs.Files.{Breaks};
 
-/// Each operation is one of the table, with the members of its row.
+/// An operation is one that is known, has what it needs, and no more.
 #[tactic(auto, unfolding(crate::proofs::Reading::reading))]
 pub fn operations_have_form()
     ensures unknown { Breaks "{'version':1,'actors':[{'name':'w','kind':'user','script':[{'op':'fly'}]}]}" 16 "actors[0].script[0]" }
@@ -25,7 +25,7 @@ pub fn operations_have_form()
     ensures length { Breaks "{'version':1,'actors':[{'name':'w','kind':'user','script':[{'op':'awake','source':'s','ms':0}]}]}" 16 "actors[0].script[0]" }
 {}
 
-/// Each operation is allowed to its maker's kind.
+/// Lines call sources, raise and await marks, and sleep; only user tasks read, save and write states.
 #[tactic(auto, unfolding(crate::proofs::Reading::reading))]
 pub fn operations_are_allowed()
     ensures read { Breaks "{'version':1,'actors':[{'name':'w','kind':'irq','script':[{'op':'read'}]}]}" 17 "actors[0].script[0]" }
@@ -37,7 +37,7 @@ pub fn operations_are_allowed()
     ensures runtime { Breaks "{'version':1,'actors':[{'name':'w','kind':'irq','script':[{'op':'runtime','device':'d','to':'active'}]}]}" 17 "actors[0].script[0]" }
 {}
 
-/// Each answer names a thing that is there, with a phase exactly for a device.
+/// An answer is of a device in some phase, or of a callback without phases, and of one in the file.
 #[tactic(auto, unfolding(crate::proofs::Reading::reading))]
 pub fn answers_have_things()
     ensures callback { Breaks "{'version':1,'answers':[{'what':'syscore','name':'t'}]}" 20 "answers[0]" }
@@ -49,7 +49,7 @@ pub fn answers_have_things()
     ensures platform { Breaks "{'version':1,'answers':[{'what':'platform','name':'recover'}]}" 20 "answers[0]" }
 {}
 
-/// An answer is 0 or an error that is allowed; 1 and no EAGAIN in a device's prepare.
+/// What may be answered: prepare alone says 1, and it alone may not say EAGAIN.
 #[tactic(auto, unfolding(crate::proofs::Reading::reading))]
 pub fn answers_are_allowed()
     ensures one { Breaks "{'version':1,'syscore':['t'],'answers':[{'what':'syscore','name':'t','ret':1}]}" 21 "answers[0]" }
@@ -69,7 +69,7 @@ pub fn reports_are_allowed()
     ensures many { Breaks "{'version':1,'sources':['s'],'devices':[{'name':'d'}],'answers':[{'what':'device','name':'d','phase':'early','reports':[{'call':'awake','source':'s'},{'call':'awake','source':'s'},{'call':'awake','source':'s'},{'call':'awake','source':'s'},{'call':'awake','source':'s'},{'call':'awake','source':'s'},{'call':'awake','source':'s'},{'call':'awake','source':'s'},{'call':'awake','source':'s'},{'call':'awake','source':'s'},{'call':'awake','source':'s'},{'call':'awake','source':'s'},{'call':'awake','source':'s'},{'call':'awake','source':'s'},{'call':'awake','source':'s'},{'call':'awake','source':'s'},{'call':'awake','source':'s'}]}]}" 22 "answers[0]" }
 {}
 
-/// No two answers are of the same thing, phase and attempt.
+/// A callback is answered for once in an attempt, and once for all others.
 #[tactic(auto, unfolding(crate::proofs::Reading::reading))]
 pub fn answers_are_distinct()
     ensures callback { Breaks "{'version':1,'syscore':['t'],'answers':[{'what':'syscore','name':'t'},{'what':'syscore','name':'t'}]}" 23 "answers[1]" }

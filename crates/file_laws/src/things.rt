@@ -2,34 +2,34 @@
 
 ghost use Rattle.file_laws.specs.Files.{Breaks};
 
-/// No two devices have the same name.
+/// A name is one device's alone: the second that bears it breaks the rule.
 #[tactic(auto, unfolding(crate::proofs::Reading::reading))]
 pub fn devices_are_distinct()
     ensures twice { Breaks "{'version':1,'devices':[{'name':'a'},{'name':'a'}]}" 8 "devices[1]" }
 {}
 
-/// A device's parent is an earlier device.
+/// A parent is registered before its child; one that comes later, or never, is none.
 #[tactic(auto, unfolding(crate::proofs::Reading::reading))]
 pub fn parents_come_first()
     ensures later { Breaks "{'version':1,'devices':[{'name':'a','parent':'b'},{'name':'b'}]}" 9 "devices[0]" }
     ensures itself { Breaks "{'version':1,'devices':[{'name':'a'},{'name':'b','parent':'b'}]}" 9 "devices[1]" }
 {}
 
-/// Both ends of a link are devices.
+/// A link joins devices of the file: neither its supplier nor its consumer may be missing there.
 #[tactic(auto, unfolding(crate::proofs::Reading::reading))]
 pub fn links_have_ends()
     ensures consumer { Breaks "{'version':1,'devices':[{'name':'a'}],'links':[{'supplier':'a','consumer':'b'}]}" 10 "links[0]" }
     ensures supplier { Breaks "{'version':1,'devices':[{'name':'a'}],'links':[{'supplier':'b','consumer':'a'}]}" 10 "links[0]" }
 {}
 
-/// A link's ends differ, and it stands once.
+/// A device is no supplier of its own, and a link that is repeated breaks the rule where it is.
 #[tactic(auto, unfolding(crate::proofs::Reading::reading))]
 pub fn links_are_distinct()
     ensures itself { Breaks "{'version':1,'devices':[{'name':'a'}],'links':[{'supplier':'a','consumer':'a'}]}" 11 "links[0]" }
     ensures twice { Breaks "{'version':1,'devices':[{'name':'a'},{'name':'b'}],'links':[{'supplier':'a','consumer':'b'},{'supplier':'a','consumer':'b'}]}" 11 "links[1]" }
 {}
 
-/// No link closes a cycle with the parents and the links before it.
+/// The link by which a device would come to hang below itself is refused, not the ones that led to it.
 #[tactic(auto, unfolding(crate::proofs::Reading::reading))]
 pub fn links_close_no_cycle()
     // A camera on a bus, whose port needs a line that needs a clock that needs the camera.
@@ -46,7 +46,7 @@ pub fn callbacks_are_distinct()
     ensures notifiers { Breaks "{'version':1,'notifiers':[{'name':'n'},{'name':'n','priority':1}]}" 13 "notifiers[1]" }
 {}
 
-/// No two sources have the same name, and none that of autosleep's own.
+/// A source is told by its name, and `autosleep` is a name that is taken.
 #[tactic(auto, unfolding(crate::proofs::Reading::reading))]
 pub fn sources_are_distinct()
     ensures twice { Breaks "{'version':1,'sources':['a','b','a']}" 14 "sources[2]" }
@@ -61,7 +61,7 @@ pub fn actors_are_distinct()
     ensures twice { Breaks "{'version':1,'actors':[{'name':'w','kind':'user'},{'name':'w','kind':'irq'}]}" 15 "actors[1]" }
 {}
 
-/// Each source that an operation or a report names is there.
+/// Events are of sources of the file, whether an operation makes them or a callback.
 #[tactic(auto, unfolding(crate::proofs::Reading::reading))]
 pub fn sources_are_there()
     ensures operation { Breaks "{'version':1,'actors':[{'name':'w','kind':'irq','script':[{'op':'relax','source':'s'}]}]}" 18 "actors[0].script[0]" }
@@ -73,7 +73,7 @@ pub fn sources_are_there()
     ensures spelled_report { Breaks "{'version':1,'devices':[{'name':'d'}],'answers':[{'what':'device','name':'d','phase':'suspend','reports':[{'call':'event','source':'S'}]}]}" 18 "answers[0]" }
 {}
 
-/// Each device that an operation names is there.
+/// Runtime statuses are asked for of devices of the file.
 #[tactic(auto, unfolding(crate::proofs::Reading::reading))]
 pub fn devices_are_there()
     ensures operation { Breaks "{'version':1,'actors':[{'name':'w','kind':'user','script':[{'op':'runtime','device':'d','to':'active'}]}]}" 19 "actors[0].script[0]" }

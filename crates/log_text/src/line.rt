@@ -2,7 +2,7 @@ ghost use Rattle.std.specs.Prelude.{◌≡◌, ◌++◌, OnOk, slice_get};
 ghost use Rattle.sleep_model.specs.Text.{actor_text, script_text, waiting_text, entry_line, source_line, counts_text, times_text, waiting_line};
 
 use crate::body::put_body;
-use crate::names::{device_name, mark_name, name_at};
+use crate::names::{device_name, mark_name, source_name};
 use crate::writer::{LineWriter, Spelled, put};
 use sleep_base::Mem;
 use sleep_model::{Actor, Entry, Machine, Stats, Waiting, Why};
@@ -15,7 +15,7 @@ fn put_actor(out: &mut LineWriter, machine: &Machine, actor: Actor) -> Result<()
         Actor::Script(index) => put_script(out, machine, index),
         Actor::Auto => put!(out; "auto"),
         Actor::Dev(index) => put!(out; "dev:", device_name(machine, index)),
-        Actor::Timer(index) => put!(out; "timer:", name_at(machine.sources.as_slice(), index)),
+        Actor::Timer(index) => put!(out; "timer:", source_name(machine, index)),
         Actor::Time => put!(out; "time"),
     }
 }

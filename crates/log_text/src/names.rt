@@ -4,7 +4,7 @@ ghost use Rattle.sleep_model.specs.Text.{name_in, device, source, notifier, sysc
 use sleep_model::{Machine, Name};
 
 /// The name with that number, empty past the end.
-pub fn name_at(names: &[Name], index: u32) -> &[u8]
+fn name_at(names: &[Name], index: u32) -> &[u8]
     ensures { result.now ≡ name_in (slice_get names.now index) }
 {
     match names.get(index as usize) {

@@ -106,6 +106,10 @@ fn writes_steps_of_tasks(rt: HostRuntime) -> Result<(), Fail> {
             "0 0/0/0 timer:lid expire lid\n",
         ),
         (
+            made(0, 0, Actor::Timer(1), Kind::Expire(1)),
+            "0 0/0/0 timer:autosleep expire autosleep\n",
+        ),
+        (
             made(1000, 0, Actor::Time, Kind::Jump),
             "1000 0/0/0 time jump\n",
         ),

@@ -1,5 +1,6 @@
 ghost use Rattle.sleep_base.specs.Errno.{name_of};
-ghost use Rattle.sleep_model.specs.Text.{answer_text, phase_name, cause_text, script_word, state_word, group_word, down_word, up_word, word_text};
+ghost use Rattle.phase_table.specs.Phases.{phase_name};
+ghost use Rattle.sleep_model.specs.Text.{answer_text, cause_text, script_word, state_word, group_word, down_word, up_word, word_text};
 
 use crate::writer::{LineWriter, Spelled, put};
 use sleep_base::{Errno, Mem};
@@ -28,18 +29,7 @@ impl Spelled for Phase {
     ghost spelling = { phase_name };
 
     fn write_to(self, out: &mut LineWriter) -> Result<(), Mem> {
-        out.push_text(match self {
-            Phase::Prepare => "prepare",
-            Phase::Suspend => "suspend",
-            Phase::Late => "late",
-            Phase::Noirq => "noirq",
-            Phase::Syscore => "syscore",
-            Phase::SyscoreResume => "syscore_resume",
-            Phase::ResumeNoirq => "resume_noirq",
-            Phase::Early => "early",
-            Phase::Resume => "resume",
-            Phase::Complete => "complete",
-        })
+        out.push_text(self.name())
     }
 }
 

@@ -1,5 +1,5 @@
 -- The notifiers, the platform and the other processors of an attempt (kernel/power/suspend.c, kernel/power/main.c, kernel/cpu.c).
-use Rattle.std.specs.Prelude.{ℕ, Bool, true, false, not, ◌-◌, List, [], ◌∷◌, Option, length, replicate}
+use Rattle.std.specs.Prelude.{ℕ, Bool, false, not, ◌-◌, List, Option, length, replicate}
 use Rattle.std.specs.List.{range_with_len}
 use Rattle.sleep_base.specs.declared.errno.Errno.{Errno}
 use Rattle.sleep_model.specs.declared.entry.Kind.{Kind}

@@ -4,5 +4,7 @@
 
 mod expand;
 mod plan;
+#[cfg(test)]
+mod tests;
 
 pub use plan::Plan;

@@ -1,8 +1,11 @@
 -- The history as contracts see it: what the definitions read from the journal, and when an entry may be appended.
-use Rattle.std.specs.Prelude.{◌<◌, ◌-◌, ◌^◌, ℕ, List, [], ◌∷◌, length, map, reverse}
+use Rattle.std.specs.Prelude.{◌≡◌, ◌≤◌, ◌<◌, ◌+◌, ◌-◌, ◌^◌, ℕ, Bool, true, false, List, [], ◌∷◌, length, map, reverse, Option, Some, None}
 use Rattle.phase_table.specs.declared.phase.Phase.TheVariants as phase
 use Rattle.sleep_model.specs.declared.entry.Entry.{Entry}
 use Rattle.sleep_model.specs.declared.entry.JournalEntry.{JournalEntry}
+use Rattle.sleep_model.specs.declared.entry.Actor.{Actor}
+use Rattle.sleep_model.specs.declared.entry.Kind.{Kind}
+use Rattle.sleep_model.specs.declared.entry.Kind.TheVariants as kind
 use Rattle.sleep_model.specs.declared.machine.Machine.{Machine}
 use Rattle.sleep_model.specs.declared.word.Stamp.{Stamp}
 use Rattle.sleep_model.specs.Attempt.{failed, freeze_since, sleep_of}
@@ -19,6 +22,7 @@ use Rattle.sleep_model.specs.Runtime.{is_async, statuses, leaves_alone, takes_la
 use Rattle.sleep_model.specs.Seats.{seats}
 use Rattle.sleep_model.specs.Stands.{stands}
 use Rattle.sleep_model.specs.Table.{stage_of}
+use Rattle.attempt_room.specs.Room.{enough}
 use Rattle.async_board.specs.Boards.{BoardState}
 use Rattle.platform_steps.specs.Steps.{Steps}
 use Rattle.sleep_state.specs.Autosleeps.{AutosleepState}
@@ -113,3 +117,18 @@ pub record Admits (kept : Kept) (e : Entry) : Type 0 where
 -- the history after an entry
 abbrev pub after_entry : Kept → JournalEntry → Kept
 after_entry kept j = record kept { past = j ∷ kept.past; room = kept.room - 1 }
+
+-- ---- room
+
+-- the places that are reserved before an entry that the open attempt, whose maker that is, does not make: a whole attempt's, one, or one beside those that are reserved
+abbrev pub places_for : Machine → Kind → Option Actor → ℕ → ℕ
+places_for m (kind.Attempt n guarded) maker room = enough m
+places_for m k None room = 1
+places_for m k (Some who) room = room + 1
+
+-- an entry of the open attempt's own has the room that was reserved, another has more
+pub record HasRoom (own : Bool) (k : Kind) (old new : Kept) : Type 0 where
+  pub machine : new.machine ≡ old.machine
+  pub past : new.past ≡ old.past
+  pub own_room : own ≡ true → new.room ≡ old.room
+  pub other_room : own ≡ false → places_for old.machine k (maker (entries old.past)) old.room ≤ new.room

@@ -1,6 +1,7 @@
 -- What the history's fields are: each is what the definitions read from the journal's entries.
 use Rattle.std.specs.Prelude.{◌≡◌, ◌<◌, ◌^◌, length}
 use Rattle.sleep_model.specs.Numbers.{time_of}
+use Rattle.attempt_room.specs.Room.{enough}
 use Rattle.sleep_state.specs.Places.{entries}
 use Rattle.sleep_core.specs.declared.history.History.TheInside.{Inside}
 use Rattle.sleep_core.specs.Histories.{Kept, last_stamp, guard_of, path_of, devices_of, board_of, tasks_of, autosleep_of, steps_of, parts_of}
@@ -12,6 +13,7 @@ kept h = record { machine = h.machine.now; past = h.journal.past; room = h.journ
 -- each field is what the definitions read from the entries
 pub record IsHistory (h : Inside) : Type 0 where
   pub few : length h.machine.now.actors < 2 ^ 32
+  pub small : enough h.machine.now < 2 ^ 32
   pub last_is : h.last ≡ last_stamp h.journal.past
   pub time_is : h.time ≡ time_of (entries h.journal.past)
   pub guard_is : h.guard ≡ guard_of (entries h.journal.past)

@@ -1,3 +1,10 @@
+pub mod CoreFields
+pub mod Cores
 pub mod Histories
 pub mod HistoryFields
 pub mod Looks
+pub mod Numbered
+pub mod Seen
+pub mod Stages
+pub mod Steps
+pub mod Turned

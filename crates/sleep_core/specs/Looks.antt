@@ -1,5 +1,5 @@
 -- What a look at the event word says, by what the looked-at object tells.
-use Rattle.std.specs.Prelude.{◌≡◌, List, [], ◌∷◌, Option, Some, None}
+use Rattle.std.specs.Prelude.{◌≡◌, List, ◌∷◌, ◌++◌, Option, Some, None}
 use Rattle.sleep_model.specs.declared.word.EventNow.{EventNow}
 
 -- the word is the one that is told, where one is
@@ -14,8 +14,16 @@ GainsLook word None (Some new) = ⊥
 GainsLook word (Some old) None = ⊥
 GainsLook word (Some old) (Some new) = new ≡ word ∷ old
 
--- this is the word looked at last, where the words are told
-abbrev pub IsNewest : EventNow → Option (List EventNow) → Type 0
-IsNewest word None = Unit {0}
-IsNewest word (Some []) = ⊥
-IsNewest word (Some (newest ∷ older)) = newest ≡ word
+-- the words looked at are some put before the old ones; where they are not told they stay untold
+abbrev pub HasGrown : Option (List EventNow) → Option (List EventNow) → Type 0
+HasGrown None None = Unit {0}
+HasGrown None (Some new) = ⊥
+HasGrown (Some old) None = ⊥
+HasGrown (Some old) (Some new) = (more : List EventNow) × (new ≡ more ++ old)
+
+-- the words looked at have grown, and this is the newest
+abbrev pub GrewTo : EventNow → Option (List EventNow) → Option (List EventNow) → Type 0
+GrewTo word None None = Unit {0}
+GrewTo word None (Some new) = ⊥
+GrewTo word (Some old) None = ⊥
+GrewTo word (Some old) (Some new) = (more : List EventNow) × (new ≡ word ∷ more ++ old)

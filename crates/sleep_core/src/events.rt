@@ -3,7 +3,7 @@ ghost use Rattle.sleep_model.specs.declared.word.EventNow.{EventNow};
 ghost use Rattle.sleep_model.specs.declared.word.WordKind.TheVariants.{Start, Finish};
 ghost use Rattle.sleep_model.specs.Numbers.{after_step};
 ghost use Rattle.sleep_model.specs.Word.{position};
-ghost use Rattle.sleep_core.specs.Looks.{IsTold, GainsLook, IsNewest};
+ghost use Rattle.sleep_core.specs.Looks.{IsTold, GainsLook, GrewTo};
 
 use sleep_model::{EventNow, pos};
 use std::marker::Model;
@@ -36,11 +36,11 @@ pub trait Events {
 }
 
 /// Looks until the word's position is at least `floor`.
-#[tactic(auto, using(crate::proofs::Looking::newest_from_gain))]
+#[tactic(auto, using(crate::proofs::Looking::not_grown, crate::proofs::Looking::grew, crate::proofs::Looking::still_grown))]
 pub fn look_from<R: Wait, E: Events>(rt: &R, events: &mut E, floor: u64) -> EventNow
     ensures told { IsTold (E.tells events.old) result }
     ensures tells { E.tells events.new ≡ E.tells events.old }
-    ensures newest { IsNewest result (E.looked events.new) }
+    ensures grows { GrewTo result (E.looked events.old) (E.looked events.new) }
     ensures root { E.root events.new ≡ E.root events.old }
     ensures low { floor ≤ position result }
     ensures rises { E.floor events.old ≤ position result }

@@ -1,9 +1,13 @@
+ghost use Rattle.std.specs.Prelude.{◌≡◌, map, IfOk};
+ghost use Rattle.sleep_model.specs.Runtime.{is_async};
+ghost use Rattle.async_board.specs.Boards.{first_board};
+
 use crate::clock::time_after;
 use async_board::Board;
 use device_links::Links;
 use platform_steps::Platform;
 use sleep_base::Mem;
-use sleep_model::{DeviceFlags, Entry, JournalEntry, Machine, Stamp, pos};
+use sleep_model::{Device, DeviceFlags, Entry, JournalEntry, Kind, Machine, Stamp, pos};
 use sleep_state::{Autosleep, Devices, Journal, Path, Tasks};
 use std::alloc::{AllocError, Global};
 use std::marker::Model;
@@ -39,11 +43,58 @@ impl<'m> Model for History<'m> {
     ghost invariant = { IsHistory };
 }
 
+/// Which devices are asynchronous.
+fn beside(alloc: Global, devices: &[Device]) -> Result<Vec<bool>, Mem>
+    ensures { IfOk result (λ v. v.items ≡ map is_async devices.now) }
+{
+    let mut beside = Vec::with_capacity(alloc, devices.len())?;
+    for device in devices {
+        beside.push(device.flags.has(DeviceFlags::ASYNC))?;
+    }
+    Ok(beside)
+}
+
+/// The board of these devices and links, on which nobody is prepared.
+fn first_board(alloc: Global, devices: &[Device], links: Links) -> Result<Board, Mem>
+    ensures { IfOk result (λ b. b ≡ first_board links.parents links.links (map is_async devices.now)) }
+{
+    let beside = beside(alloc, devices)?;
+    Board::wired(alloc, links, beside)
+}
+
 impl<'m> History<'m> {
-    ghost use Rattle.std.specs.Prelude.{◌≡◌, ◌≤◌, ◌<◌, ◌+◌, ◌-◌, ◌^◌, [], ◌∷◌, length, reverse, IsOk, OnOk, OnErr, IfOk};
+    ghost use Rattle.std.specs.Prelude.{◌≡◌, ◌≤◌, ◌<◌, ◌+◌, ◌-◌, ◌^◌, [], false, length, reverse, IsOk, OnOk, OnErr, IfOk};
+    ghost use Rattle.attempt_room.specs.Room.{enough};
     ghost use Rattle.sleep_model.specs.Numbers.{time_of};
+    ghost use Rattle.sleep_model.specs.Path.{maker};
+    ghost use Rattle.sleep_model.specs.Accepted.{IsAccepted};
+    ghost use Rattle.sleep_model.specs.Order.{parents_of};
     ghost use Rattle.sleep_state.specs.Places.{entries};
-    ghost use Rattle.sleep_core.specs.Histories.{Kept, Admits, after_entry, last_stamp, guard_of, path_of, devices_of, board_of, tasks_of, autosleep_of, steps_of, parts_of};
+    ghost use Rattle.sleep_core.specs.Histories.{Admits, after_entry, places_for, HasRoom, last_stamp, guard_of, path_of, devices_of, board_of, tasks_of, autosleep_of, steps_of, parts_of};
+
+    /// The empty journal of a machine, whose links these are. `Mem` where there is no memory.
+    pub fn new(alloc: Global, machine: &'m Machine, links: Links) -> Result<Self, Mem>
+        requires accepted { IsAccepted machine.now }
+        requires links { links ≡ record { parents = parents_of machine.now.devices; links = reverse machine.now.links } }
+        ensures { IfOk result (λ h. h ≡ record { machine = machine.now; past = []; room = 0 }) }
+    {
+        let devices = machine.devices.as_slice();
+        let board = first_board(alloc, devices, links)?;
+        Ok(History {
+            machine,
+            journal: Journal::new(alloc),
+            last: Stamp { pos: 0, tick: 0 },
+            time: 0,
+            guard: Guard::new(),
+            path: Path::new(),
+            devices: Devices::new(alloc, devices)?,
+            board,
+            tasks: Tasks::new(alloc, machine.actors.len(), machine.marks.len())?,
+            autosleep: Autosleep::new(),
+            platform: Platform::new(alloc, machine)?,
+            syscore: Syscore::new(alloc, machine.syscore.len() as u32)?,
+        })
+    }
 
     /// Appends an entry in a reserved place.
     pub fn append(&mut self, stamped: JournalEntry)
@@ -79,6 +130,48 @@ impl<'m> History<'m> {
         ensures err { OnErr result (self.new ≡ self.old) }
     {
         self.journal.reserve(places)
+    }
+
+    /// The places that a whole attempt may need.
+    fn attempt_places(&self) -> usize
+        ensures { result ≡ enough self.now.machine }
+    {
+        let _few = &self.last;
+        let machine = self.machine;
+        let things = machine.notifiers.len() + machine.syscore.len() + machine.cpus as usize;
+        40 + 20 * machine.devices.len() + 2 * things
+    }
+
+    /// How many places must be reserved before an entry that the open attempt does not make.
+    fn places_for(&self, kind: Kind) -> usize
+        ensures { result ≡ places_for self.now.machine kind (maker (entries self.now.past)) self.now.room }
+    {
+        match kind {
+            Kind::Attempt { .. } => self.attempt_places(),
+            _ if self.path.maker().is_none() => 1,
+            _ => self.journal.room() + 1,
+        }
+    }
+
+    /// Makes room for an entry: one of the open attempt's own has its place reserved, another wants one
+    /// beside those. After an error nothing has changed.
+    pub fn make_room(&mut self, own: bool, kind: Kind) -> Result<(), AllocError>
+        ensures ok { OnOk result (HasRoom own kind self.old self.new) }
+        ensures err { OnErr result ((own ≡ false) × (self.new ≡ self.old)) }
+    {
+        if own {
+            return Ok(());
+        }
+        let places = self.places_for(kind);
+        self.reserve(places)
+    }
+
+    /// How many entries there are. A journal has fewer than 2^63.
+    pub fn len(&self) -> usize
+        ensures len { result ≡ length self.now.past }
+        ensures small { result < 2 ^ 63 }
+    {
+        self.journal.len()
     }
 
     /// The machine.

@@ -1,10 +1,21 @@
 //! The core of system sleep: what each actor may do next, and the journal of what it did.
 #![tactic(auto)]
 
+mod attempt;
 mod auto;
 mod clock;
+mod due;
 mod events;
 mod history;
+mod outside;
+mod pending;
+mod phases;
+mod start;
+mod state;
 mod steps;
+mod tasks;
+mod turns;
 
 pub use events::{Events, PlainEvents};
+pub use state::Core;
+pub use turns::{CoreFault, CoreTurn};

@@ -59,12 +59,24 @@ fn lock_due(waits: bool, asked: bool, says: Due, gives_up: Due) -> Due
 }
 
 /// A write of that number to the count of events (`wakeup_count_store`).
-pub(crate) fn count_due(held: bool, on: bool, waits: bool, asked: bool, now: EventNow, count: u32) -> Due
+pub(crate) fn count_due(
+    held: bool,
+    on: bool,
+    waits: bool,
+    asked: bool,
+    now: EventNow,
+    count: u32,
+) -> Due
     ensures { result ≡ count_due held on waits asked now count }
 {
     if held {
         let says = Due::Makes(Kind::SaveWait(count));
-        lock_due(waits, asked, says, Due::Makes(Kind::SaveErr(count, Errno::EINTR)))
+        lock_due(
+            waits,
+            asked,
+            says,
+            Due::Makes(Kind::SaveErr(count, Errno::EINTR)),
+        )
     } else if on {
         Due::Makes(Kind::SaveErr(count, Errno::EBUSY))
     } else {
@@ -73,7 +85,14 @@ pub(crate) fn count_due(held: bool, on: bool, waits: bool, asked: bool, now: Eve
 }
 
 /// A write to the state, whose text is `mem` or not, and whose attempt would be that (`state_store`).
-pub(crate) fn state_due(held: bool, on: bool, waits: bool, asked: bool, mem: bool, attempt: Kind) -> Due
+pub(crate) fn state_due(
+    held: bool,
+    on: bool,
+    waits: bool,
+    asked: bool,
+    mem: bool,
+    attempt: Kind,
+) -> Due
     ensures { result ≡ state_due held on waits asked mem attempt }
 {
     if held {

@@ -56,10 +56,6 @@ stands_length n p (e ∷ past) = by_device (device_of e.kind) (stands_length n p
     by_device None l = l
     by_device (Some d) l = length-set (stands n p past) d (stand_after p e.kind (stand_at (stands n p past) d)) ∙ l
 
--- an entry of no device leaves each where it stands
-pub unmoved : (m : Machine) (past : List Entry) (e : Entry) → device_of e.kind ≡ None → (x : ℕ) → three m (e ∷ past) x ≡ three m past x
-unmoved m past e is x = ap (λ (o : Option ℕ). record { suspend = stand_at (stands_after phase.Suspend e.kind o (stands (length m.devices) phase.Suspend past)) x; late = stand_at (stands_after phase.Late e.kind o (stands (length m.devices) phase.Late past)) x; noirq = stand_at (stands_after phase.Noirq e.kind o (stands (length m.devices) phase.Noirq past)) x }) is
-
 stand_other : (xs : List Stand) (d x : ℕ) (s : Stand) → x ≢ d → stand_at (slice_set xs d s) x ≡ stand_at xs x
 stand_other xs d x s other = get_or-set_other xs d x s stand.Unprepared other
 
@@ -162,7 +158,7 @@ turned_up _ _ s other t InResumeNoirq InSuspend = Away refl
 turned_up _ _ s other t InResumeNoirq InLate = Away refl
 turned_up _ _ s other t InResumeNoirq InNoirq = Here refl refl
 
-pub mirror_down : (p : Phase) → Up p → Down (mirror p)
+abbrev pub mirror_down : (p : Phase) → Up p → Down (mirror p)
 mirror_down _ InResume = InSuspend
 mirror_down _ InEarly = InLate
 mirror_down _ InResumeNoirq = InNoirq

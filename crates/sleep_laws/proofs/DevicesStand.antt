@@ -146,16 +146,16 @@ suppliers_first m past e h = suppliers_moved m past e.now e.actor e.kind (moved 
 
 -- ---- what is owed of devices
 
-maker_owed : (m : Machine) (past : List Entry) (now : EventNow) (time : ℕ) (who : Actor) (there : Stage) (k : Kind) → Made m past now there k → DeviceOwed m past k
-maker_owed m past now time who _ _ (Made.BeginsUp p d u c g n w) =
+maker_owed : (m : Machine) (past : List Entry) (now : EventNow) (there : Stage) (k : Kind) → Made m past now there k → DeviceOwed m past k
+maker_owed m past now _ _ (Made.BeginsUp p d u c g n w) =
     λ q. ap may_come_up (down_is (stand_in m past (mirror p) d) (and_left (is_down_in (stand_in m past (mirror p) d)) (not (is_async_device m d)) (first_found (λ y. is_down_in (stand_in m past (mirror p) y) && not (is_async_device m y)) (order m) d n).passes))
   where
     and_left : (a b : Bool) → (a && b) ≡ true → a ≡ true
     and_left true b e = refl
     and_left false b e = never e
-maker_owed m past now time who _ _ (Made.BeginsDown p d i t e a) = λ q. never (sym (not_up p i) ∙ q)
-maker_owed m past now time who _ _ (Made.Completes d n) = (last_found (λ y. is_prepared (stand_in m past phase.Suspend y)) (order m) d n).passes
-maker_owed m past now time who _ _ _ = tt
+maker_owed m past now _ _ (Made.BeginsDown p d i t e a) = λ q. never (sym (not_up p i) ∙ q)
+maker_owed m past now _ _ (Made.Completes d n) = (last_found (λ y. is_prepared (stand_in m past phase.Suspend y)) (order m) d n).passes
+maker_owed m past now _ _ _ = tt
 
 own_owed : (m : Machine) (past : List Entry) (now : EventNow) (d : ℕ) (k : Kind) → DeviceMade m past now d k → DeviceOwed m past k
 own_owed m past now d _ (DeviceMade.OwnRises p u a w s n) = λ q. ap may_come_up s
@@ -168,7 +168,7 @@ aside_owed m past _ _ = tt
 
 owed_moved : (m : Machine) (past : List Entry) (now : EventNow) (who : Actor) (k : Kind) → Moved m past now who k → DeviceOwed m past k
 owed_moved m past now _ _ (Opens who n guarded f e) = tt
-owed_moved m past now _ _ (Makes who here there k a e c x) = maker_owed m past now 0 who there k x
+owed_moved m past now _ _ (Makes who here there k a e c x) = maker_owed m past now there k x
 owed_moved m past now _ _ (Beside who k a x) = aside_owed m past k x
 owed_moved m past now _ _ (Owns d k x) = own_owed m past now d k x
 

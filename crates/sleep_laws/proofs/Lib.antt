@@ -1,7 +1,9 @@
 pub mod Activity
 pub mod Answering
 pub mod Boards
+pub mod Closing
 pub mod DevicesStand
+pub mod Ending
 pub mod Flags
 pub mod Guarding
 pub mod Held

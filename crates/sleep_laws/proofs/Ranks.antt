@@ -1,19 +1,18 @@
 -- Which devices stand behind which in the order, and what a search finds there.
-use Rattle.std.proofs.Common.{◌≡◌, ◌≢◌, ◌≤◌, ◌<◌, ◌+◌, ◌∙◌, ℕ, Bool, true, false, ◌==◌, ◌||◌, nat_lt, List, [], ◌∷◌, ◌++◌, ◌⊎◌, inl, inr, length, reverse, slice_get, get_or, Option, Some, None, refl, sym, ap, subst, cond, arith}
+use Rattle.std.proofs.Common.{◌≡◌, ◌≤◌, ◌<◌, ◌+◌, ◌∙◌, ℕ, Bool, true, false, ◌==◌, nat_lt, List, [], ◌∷◌, ◌⊎◌, inl, inr, length, reverse, slice_get, get_or, Option, Some, None, refl, sym, ap, subst, cond, arith}
 use Rattle.std.proofs.lemmas.Bool.{eqb-true, true≢false, or_cases, or_left, or_right}
 use Rattle.std.proofs.lemmas.Bool.Decides.{nat_tests}
 use Rattle.std.proofs.lemmas.List.{get_or_past}
 use Rattle.sleep_model.specs.declared.machine.Machine.{Machine}
 use Rattle.sleep_model.specs.declared.machine.Link.{Link}
-use Rattle.sleep_model.specs.Links.{AllAmong, IsOrder, AreLinks}
-use Rattle.sleep_model.specs.Order.{is_among, is_parent, hanging, holding, below, above, order, parents_of, parent_of, suppliers_of, consumers_of, children_from, EachAfterParent}
+use Rattle.sleep_model.specs.Links.{IsOrder, AreLinks}
+use Rattle.sleep_model.specs.Order.{is_among, is_parent, hanging, below, above, order, parents_of, parent_of, suppliers_of, consumers_of, children_from, EachAfterParent}
 use Rattle.sleep_model.specs.Walk.{first_where, last_where, or_else}
 use Rattle.sleep_model.proofs.Acyclic.{order_ranked}
 use Rattle.sleep_model.proofs.FirstPlaces.{suppliers_linked, consumers_linked, among_children, among_parent}
 use Rattle.sleep_model.proofs.Hanging.{among_app, among_first, among_rest, within_of}
 use Rattle.sleep_model.proofs.Walks.{AllDifferent}
-use Rattle.sleep_laws.proofs.Boards.{Found, first_found, last_found, first_none, last_none}
-use Rattle.sleep_laws.proofs.Telling.{some≢none}
+use Rattle.sleep_laws.proofs.Boards.{last_found, first_none, last_none}
 
 -- e stands behind d
 abbrev pub Behind : List ℕ → ℕ → ℕ → Type 0

@@ -204,11 +204,6 @@ going_allows _ InSuspend e s h = h
 going_allows _ InLate e s h = h
 going_allows _ InNoirq e s h = h
 
-pub going_tells : (p : Phase) → Down p → (e : Bool) (s : Stand) → allows (in_down p p) e s ≡ true → when_going e s ≡ true
-going_tells _ InSuspend e s h = h
-going_tells _ InLate e s h = h
-going_tells _ InNoirq e s h = h
-
 pub coming_allows : (p : Phase) → Up p → (e : Bool) (s : Stand) → when_coming s ≡ true → allows (in_up p (mirror p)) e s ≡ true
 coming_allows _ InResume e s h = h
 coming_allows _ InEarly e s h = h

@@ -1,5 +1,5 @@
 -- A walk on the way down takes the devices from the order's end, and the maker is inside each synchronous device's callback.
-use Rattle.std.proofs.Common.{◌≡◌, ◌≢◌, ◌∙◌, ℕ, ℤ, Bool, true, false, not, ◌==◌, ◌&&◌, List, [], ◌∷◌, length, is_some, Option, Some, None, refl, sym, ap, subst, cond}
+use Rattle.std.proofs.Common.{◌≡◌, ◌∙◌, ℕ, Bool, true, false, ◌==◌, List, ◌∷◌, Option, Some, None, refl, sym, ap, subst}
 use Rattle.std.proofs.lemmas.Bool.{eqb-true, true≢false}
 use Rattle.sleep_base.specs.declared.errno.Errno.{Errno}
 use Rattle.sleep_model.specs.declared.entry.Actor.{Actor}
@@ -7,11 +7,7 @@ use Rattle.sleep_model.specs.declared.entry.Actor.TheVariants as actor
 use Rattle.sleep_model.specs.declared.entry.Entry.{Entry}
 use Rattle.sleep_model.specs.declared.entry.Kind.{Kind}
 use Rattle.sleep_model.specs.declared.entry.Kind.TheVariants as kind
-use Rattle.sleep_model.specs.declared.entry.SkipCause.{SkipCause}
-use Rattle.sleep_model.specs.declared.entry.SkipCause.TheVariants as skip
 use Rattle.sleep_model.specs.declared.machine.Machine.{Machine}
-use Rattle.sleep_model.specs.declared.machine.PlatDo.TheVariants as down
-use Rattle.sleep_model.specs.declared.machine.PlatUndo.TheVariants as undo
 use Rattle.sleep_model.specs.declared.place.Callback.{Callback}
 use Rattle.sleep_model.specs.declared.place.Stage.{Stage}
 use Rattle.sleep_model.specs.declared.place.Stage.TheVariants as stage
@@ -21,20 +17,20 @@ use Rattle.sleep_model.specs.declared.word.EventNow.{EventNow}
 use Rattle.phase_table.specs.declared.phase.Phase.{Phase}
 use Rattle.phase_table.specs.declared.phase.Phase.TheVariants as phase
 use Rattle.phase_table.specs.Phases.{mirror}
-use Rattle.sleep_model.specs.Devices.{callback, unless_own, is_device, is_async_device, stand_in, next_down, next_up, next_given}
+use Rattle.sleep_model.specs.Devices.{callback, unless_own, is_device, is_async_device, stand_in, next_down, next_given}
 use Rattle.sleep_model.specs.Legal.{JournalPart}
 use Rattle.sleep_model.specs.Order.{order, is_among}
-use Rattle.sleep_model.specs.Stands.{is_prepared, is_ready, is_down_in, ended_by, device_of}
+use Rattle.sleep_model.specs.Stands.{is_prepared, is_ready, ended_by, device_of}
 use Rattle.sleep_model.specs.Table.{stage_of, stage_after}
 use Rattle.sleep_model.proofs.Ordering.{order_different}
 use Rattle.sleep_laws.proofs.Activity.{different}
 use Rattle.sleep_laws.proofs.Boards.{Three, at, at_is, three, three_after, moved, moved_other, moved_own, Change, Here, Away, turned, turned_down, turned_up, all_three, mirror_down}
 use Rattle.sleep_laws.proofs.Holding.{Kept, Aside, at_stage}
-use Rattle.sleep_laws.proofs.Made.{Down, InSuspend, InLate, InNoirq, Up, InResume, InEarly, InResumeNoirq, Made, Comes, AtOnce, PastNotifiers, PastCpus, PastParts, PastPartsUp, PastCpusUp, PastPosts, AtTurn, DeviceMade}
-use Rattle.sleep_laws.proofs.Moods.{Mood, Empty, Fresh, Going, Settled, Halted, Coming, Risen, in_down, in_up, in_suspend, allows}
+use Rattle.sleep_laws.proofs.Made.{Down, InSuspend, InLate, InNoirq, Up, Made, Comes, AtOnce, PastNotifiers, PastCpus, PastParts, PastPartsUp, PastCpusUp, PastPosts, AtTurn, DeviceMade}
+use Rattle.sleep_laws.proofs.Moods.{Mood, Fresh, Going, Settled, Halted, Risen, in_down, in_up, in_suspend, allows}
 use Rattle.sleep_laws.proofs.Passing.{maker_stands, stands_kept}
 use Rattle.sleep_laws.proofs.Ranks.{Behind, behind_first, last_behind}
-use Rattle.sleep_laws.proofs.Standing.{IsFine, errs, Fines, Inside, Standing, ready_is, down_is}
+use Rattle.sleep_laws.proofs.Standing.{errs, Fines, Inside, Standing}
 use Rattle.sleep_laws.proofs.Turning.{never, turned_at, turned_mirror, ready_stands, prepared_all, called, given_stands}
 
 -- inside a callback on the way down, or up (dpm_run_callback)
@@ -221,9 +217,9 @@ module _ (m : Machine) (past : List Entry) (time : ℕ) (now : EventNow) (who : 
   ends_down : (p q : Phase) (d : ℕ) (r : Option Errno) → callback past ≡ Some (record { phase = q; device = d }) → Standing m past (Some (stage.Downs p)) → WalksAt m past (stage.Downs p) → WalksAt m (by (kind.End p d r) ∷ past) (stage.Downs p)
   ends_down p q d r c h w = λ i.
       let x : Inside m (record { phase = q; device = d }) stand.Suspending p (three m past) = called m past time now who task (callback past) (record { phase = q; device = d }) stand.Suspending p (three m past) c h.1 in (
-    goes_on m past (by (kind.End p d r)) d refl p (w i).0 (same_ready m past (by (kind.End p d r)) d refl p stand.Suspending (ended_by r) x.inside refl (ended_taken r) p (turned_down p p (ended_by r) (all_three stand.Resumed) (three m past d) i i)),
-    calls_end m past (by (kind.End p d r)) d refl p is_suspending (w i).1 (record { phase = q; device = d }) refl c (ap is_suspending (stood_down p d i (kind.End p d r) stand.Suspending (ended_by r) (all_three stand.Resumed) refl refl (sym (at_is m past p d i) ∙ x.inside) refl h) ∙ ended_out r),
-  )
+        goes_on m past (by (kind.End p d r)) d refl p (w i).0 (same_ready m past (by (kind.End p d r)) d refl p stand.Suspending (ended_by r) x.inside refl (ended_taken r) p (turned_down p p (ended_by r) (all_three stand.Resumed) (three m past d) i i)),
+        calls_end m past (by (kind.End p d r)) d refl p is_suspending (w i).1 (record { phase = q; device = d }) refl c (ap is_suspending (stood_down p d i (kind.End p d r) stand.Suspending (ended_by r) (all_three stand.Resumed) refl refl (sym (at_is m past p d i) ∙ x.inside) refl h) ∙ ended_out r),
+      )
     where
       ended_taken : (r : Option Errno) → is_ready (ended_by r) ≡ false
       ended_taken None = refl
@@ -279,3 +275,76 @@ module _ (m : Machine) (past : List Entry) (time : ℕ) (now : EventNow) (who : 
   maker_walks _ k (Made.SchedulesUp p d u c n) h w = schedules_up p d n h w
   maker_walks _ k (Made.BeginsUp p d u c g n a) h w = begins_up p d c h w
   maker_walks _ k _ h w = tt
+
+-- ---- a device's own entries
+
+module _ (m : Machine) (past : List Entry) (e : Entry) (d : ℕ) (is : device_of e.kind ≡ Some d) (same : callback (e ∷ past) ≡ callback past) (async : is_async_device m d ≡ true) (q : Phase) (b s : Stand) (was : at (three m past d) q ≡ b) (rb : is_ready b ≡ false) (rs : is_ready s ≡ false) (changes : (p : Phase) → Down p → Change q s (three m past d) (three_after e.kind (three m past d)) p) where
+  own_walks : (st : Option Stage) → WalksIf m past st → WalksIf m (e ∷ past) st
+  own_walks (Some (stage.Downs p)) w = λ i. (
+    goes_on m past e d is p (w i).0 (same_ready m past e d is q b s was rb rs p (changes p i)),
+    calls_beside m past e d is p is_suspending (w i).1 same async,
+  )
+  own_walks (Some (stage.Ups p)) w = λ u. calls_beside m past e d is (mirror p) is_resuming (w u) same async
+  own_walks None w = tt
+  own_walks (Some stage.Notifies) w = tt
+  own_walks (Some _) w = tt
+
+device_walks : (m : Machine) (past : List Entry) (time : ℕ) (now : EventNow) (d : ℕ) (k : Kind) (st : Option Stage) → DeviceMade m past now d k → WalksIf m past st → WalksIf m (record { time = time; now = now; actor = actor.Dev d; kind = k } ∷ past) st
+device_walks m past time now d k st (DeviceMade.OwnFails p r i g f) w =
+    own_walks m past (record { time = time; now = now; actor = actor.Dev d; kind = k }) d refl refl g.beside p stand.Scheduled stand.Failed (at_is m past p d i ∙ g.stands) refl refl (λ q j. turned_down p q stand.Failed (three m past d) (three m past d) i j) st w
+device_walks m past time now d k st (DeviceMade.OwnFinds p i g f t b) w =
+    own_walks m past (record { time = time; now = now; actor = actor.Dev d; kind = k }) d refl refl g.beside p stand.Scheduled stand.Failed (at_is m past p d i ∙ g.stands) refl refl (λ q j. turned_down p q stand.Failed (three m past d) (three m past d) i j) st w
+device_walks m past time now d k st (DeviceMade.OwnLeaves p i g f t a) w =
+    own_walks m past (record { time = time; now = now; actor = actor.Dev d; kind = k }) d refl refl g.beside p stand.Scheduled stand.Direct (at_is m past p d i ∙ g.stands) refl refl (λ q j. turned_down p q stand.Direct (three m past d) (three m past d) i j) st w
+device_walks m past time now d k st (DeviceMade.OwnBegins p i g f t a) w =
+    own_walks m past (record { time = time; now = now; actor = actor.Dev d; kind = k }) d refl refl g.beside p stand.Scheduled stand.Suspending (at_is m past p d i ∙ g.stands) refl refl (λ q j. turned_down p q stand.Suspending (all_three stand.Resuming) (three m past d) i j) st w
+device_walks m past time now d k st (DeviceMade.OwnRises p u a x s n) w =
+    own_walks m past (record { time = time; now = now; actor = actor.Dev d; kind = k }) d refl refl a (mirror p) stand.Rescheduled stand.Resuming (at_is m past (mirror p) d (mirror_down p u) ∙ s) refl refl (λ q j. turned_up p q stand.Resuming stand.Suspending (three m past d) u j) st w
+device_walks m past time now d k st (DeviceMade.OwnEnds p r i a x s) w =
+    own_walks m past (record { time = time; now = now; actor = actor.Dev d; kind = k }) d refl refl a p stand.Suspending (ended_by r) (at_is m past p d i ∙ s) refl (taken r) (λ q j. turned_down p q (ended_by r) (all_three stand.Resumed) (three m past d) i j) st w
+  where
+    taken : (r : Option Errno) → is_ready (ended_by r) ≡ false
+    taken None = refl
+    taken (Some y) = refl
+device_walks m past time now d k st (DeviceMade.OwnRose p r u a x s) w =
+    own_walks m past (record { time = time; now = now; actor = actor.Dev d; kind = k }) d refl refl a (mirror p) stand.Resuming stand.Resumed (at_is m past (mirror p) d (mirror_down p u) ∙ s) refl refl (λ q j. turned_up p q stand.Resumed (ended_by r) (three m past d) u j) st w
+
+-- ---- at each place
+
+-- where the devices stand, and how their walk goes on
+abbrev pub Underway : Machine → Option Stage → List Entry → Type 0
+Underway m st past = Standing m past st × WalksIf m past st
+
+walks_comes : (m : Machine) (past : List Entry) (here there : Stage) → Comes m past here there → WalksAt m past here → WalksAt m past there
+walks_comes m past _ _ (AtOnce s) w = w
+walks_comes m past _ _ (PastNotifiers e) w = tt
+walks_comes m past _ _ (PastCpus e) w = tt
+walks_comes m past _ _ (PastParts e) w = tt
+walks_comes m past _ _ (PastPartsUp e) w = tt
+walks_comes m past _ _ (PastCpusUp e) w = tt
+walks_comes m past _ _ (PastPosts e) w = tt
+
+walks_beside : (m : Machine) (past : List Entry) (time : ℕ) (now : EventNow) (who : Actor) (k : Kind) (st : Option Stage) → Aside k → WalksIf m past st → WalksIf m (record { time = time; now = now; actor = who; kind = k } ∷ past) st
+walks_beside m past time now who _ (Some (stage.Downs p)) Aside.Frozen w = w
+walks_beside m past time now who _ (Some (stage.Ups p)) Aside.Frozen w = w
+walks_beside m past time now who _ None Aside.Frozen w = tt
+walks_beside m past time now who _ (Some (stage.Downs p)) _ w = w
+walks_beside m past time now who _ (Some (stage.Ups p)) _ w = w
+walks_beside m past time now who k None a w = tt
+walks_beside m past time now who k (Some _) a w = tt
+
+underway_kept : (m : Machine) → Kept m (Underway m)
+underway_kept m =
+    let s : Kept m (λ (st : Option Stage) (past : List Entry). Standing m past st) = stands_kept m in
+    record {
+      starts = (s.starts, tt);
+      opens = λ past time now who n guarded h. (s.opens past time now who n guarded h.0, tt);
+      comes = λ past here there c h. (s.comes past here there c h.0, walks_comes m past here there c h.1);
+      makes = λ past time now who there k task x h. (s.makes past time now who there k task x h.0, maker_walks m past time now who task there k x h.0 h.1);
+      beside = λ past time now who k st x task a h. (s.beside past time now who k st x task a h.0, walks_beside m past time now who k st a h.1);
+      owns = λ past time now d k st x h. (s.owns past time now d k st x h.0, device_walks m past time now d k st x h.1);
+    }
+
+-- so at each place of a legal journal
+pub underway : (m : Machine) (past : List Entry) → JournalPart m past → Underway m (stage_of past) past
+underway m past h = at_stage m (Underway m) (underway_kept m) past h

@@ -1,9 +1,11 @@
 //! The laws of sleep: what holds of every legal log, whoever wrote it.
 #![tactic(auto)]
 
+mod ends;
 mod guarded;
 mod laws;
 
+pub use ends::{attempts_end_closed, attempts_rest_closed};
 pub use guarded::guarded_sleep;
 pub use laws::{
     all_laws, all_laws_of_logs, attempts_answer_their_failure, dependents_first,

@@ -3,10 +3,9 @@ use Rattle.std.proofs.Common.{◌≡◌, ◌≤◌, ◌++◌, ◌∙◌, inl, in
 use Rattle.std.proofs.lemmas.List.{length-append, append-nil}
 use Rattle.std.specs.Io.KnownBytes.{Consumes, IsAtEnd}
 use Rattle.sleep_base.specs.Faults.{Rose}
-use Rattle.machine_file.specs.Spells.{Spells}
 use Rattle.sleep_main.specs.declared.ending.Ending.{Ending}
-use Rattle.sleep_main.specs.declared.ending.Ending.TheVariants.{Ran, NoForm, TooLong, Refused, ReadFault, WriteFault, NoMemory}
-use Rattle.sleep_main.specs.Endings.{Streams, NoFault, Completes, Ended, status_of}
+use Rattle.sleep_main.specs.declared.ending.Ending.TheVariants.{Ran, Stuck, NoForm, TooLong, Refused, ReadFault, WriteFault, NoMemory}
+use Rattle.sleep_main.specs.Endings.{Streams, NoFault, Completes, Ended, Spells, status_of}
 
 -- a count that rose is no count that stayed
 rose_not : (before now : ℕ) → Rose before now → NoFault before now → ⊥
@@ -25,7 +24,8 @@ part (Some xs) None bytes bs e taken = absurd taken
 part (Some xs) (Some ys) bytes bs e taken = let all : xs ≡ bytes = cc in omega (arith, ap length all, ap length taken, length-append bs ys)
 
 pub completes : (words : List (List ℕ)) (old new : Streams) (ending : Ending) → Ended words old new ending → Completes words old new (status_of ending)
-completes words old new Ran h = λ form bytes told fits m spells read out. inl refl
+completes words old new Ran h = λ form bytes told fits m spells read out. inl (inl refl)
+completes words old new Stuck h = λ form bytes told fits m spells read out. inl (inr refl)
 completes words old new NoForm h = λ form bytes told fits m spells read out. absurd (h.0 form)
 completes words old new TooLong h = λ form bytes told fits m spells read out. absurd (omega (arith, h.1.0.2, part old.left new.left bytes h.1.0.0 told h.1.0.1, fits))
 completes words old new Refused h = λ form bytes told fits m spells read out.

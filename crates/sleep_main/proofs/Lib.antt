@@ -1,4 +1,2 @@
 pub mod Completing
-pub mod Meters
-pub mod Running
-pub mod Writers
+pub mod Refusing

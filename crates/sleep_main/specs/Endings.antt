@@ -1,18 +1,22 @@
 -- How the program ends: its status, its text on standard error, and what it has read and written.
-use Rattle.std.specs.Prelude.{◌≡◌, ◌≤◌, ◌<◌, ◌-◌, ◌^◌, ◌⊎◌, ℕ, List, [], ◌∷◌, ◌++◌, length, codes, Option, Some, Result, Ok, Err, Vec}
+use Rattle.std.specs.Prelude.{◌≡◌, ◌≤◌, ◌<◌, ◌-◌, ◌^◌, ◌⊎◌, ℕ, Bool, true, false, List, [], ◌∷◌, ◌++◌, length, codes, Option, Some, Result, Ok, Err}
 use Rattle.std.specs.Io.KnownBytes.{Consumes, Appends, IsAtEnd}
 use Rattle.sleep_base.specs.Faults.{Rose}
 use Rattle.sleep_base.specs.Whole.{Took}
 use Rattle.sleep_model.specs.declared.log.Log.{Log}
+use Rattle.sleep_model.specs.declared.log.LogEnd.{LogEnd}
+use Rattle.sleep_model.specs.declared.log.LogEnd.TheVariants as end
 use Rattle.sleep_model.specs.declared.machine.Machine.{Machine}
+use Rattle.sleep_model.specs.Built.{is_built}
+use Rattle.sleep_model.specs.Legal.{IsFinishedLog, IsStuckLog}
 use Rattle.sleep_model.specs.Text.{text}
-use Rattle.machine_file.specs.Spells.{Spells}
-use Rattle.machine_file.specs.declared.fault.MachineFault.{MachineFault}
-use Rattle.machine_file.specs.declared.fault.MachineFault.TheVariants as fault
-use Rattle.std.specs.declared.alloc.Global.{Global}
+use Rattle.machine_file.specs.Whole.{machine_in}
 use Rattle.sleep_main.specs.declared.ending.Ending.{Ending}
-use Rattle.sleep_main.specs.declared.ending.Ending.TheVariants.{Ran, NoForm, TooLong, Refused, ReadFault, WriteFault, NoMemory}
-use Rattle.sleep_main.specs.Runs.{IsRun}
+use Rattle.sleep_main.specs.declared.top.LogText.{LogText}
+use Rattle.sleep_main.specs.declared.top.TextFault.{TextFault}
+use Rattle.sleep_main.specs.declared.top.TextFault.TheVariants as fault
+use Rattle.sleep_main.specs.declared.ending.Ending.TheVariants.{Ran, Stuck, NoForm, TooLong, Refused, ReadFault, WriteFault, NoMemory}
+use Rattle.sleep_run.specs.Runs.{IsRun}
 
 -- the program's status
 abbrev pub status_of : Ending → ℕ
@@ -22,6 +26,7 @@ status_of TooLong = 3
 status_of Refused = 3
 status_of ReadFault = 4
 status_of WriteFault = 5
+status_of Stuck = 6
 status_of NoMemory = 8
 
 -- a line of standard error
@@ -31,6 +36,7 @@ line text = text ++ 10 ∷ []
 -- what the program says on standard error
 abbrev pub text_of : Ending → List ℕ
 text_of Ran = []
+text_of Stuck = []
 text_of NoForm = line (codes "usage: run --workers 1")
 text_of TooLong = line (codes "machine: longer than 16777216 bytes")
 text_of Refused = line (codes "machine: refused")
@@ -56,23 +62,39 @@ pub record ReadWhole (old new : Streams) (bytes : List ℕ) : Type 0 where
   pub at_end : IsAtEnd new.left
   pub fits : length bytes ≤ 16777216
 
--- the text is that of the log of a run of the machine that the bytes spell
-pub record IsLogOf (bytes said : List ℕ) : Type 0 where
+-- the bytes are accepted, and spell this machine, which uses only what is built
+pub record Spells (bytes : List ℕ) (m : Machine) : Type 0 where
+  pub spelled : machine_in bytes ≡ Some m
+  pub built : is_built m ≡ true
+
+-- the run was stuck
+abbrev pub is_stuck : LogEnd → Bool
+is_stuck end.Finished = false
+is_stuck (end.Stuck those) = true
+
+-- the log of a run ends so: nothing is left to do, or nobody goes on
+abbrev pub EndsAs : Machine → Log → Bool → Type 0
+EndsAs m log false = IsFinishedLog m log
+EndsAs m log true = IsStuckLog m log
+
+-- the text is that of the log of a run of the machine that the bytes spell, which is stuck or not
+pub record IsLogOf (bytes said : List ℕ) (stuck : Bool) : Type 0 where
   pub machine : Machine
   pub log : Log
   pub spells : Spells bytes machine
   pub run : IsRun machine log
+  pub ends : EndsAs machine log stuck
   pub is_text : said ≡ text machine log
 
--- the bytes give the text of a log, or spell no machine
-abbrev pub GivesLog : List ℕ → Result (Vec ℕ Global) MachineFault → Type 0
-GivesLog bytes (Ok said) = IsLogOf bytes said.items
+-- the bytes give the text of a log, or spell no machine that may be run
+abbrev pub GivesLog : List ℕ → Result LogText TextFault → Type 0
+GivesLog bytes (Ok said) = IsLogOf bytes said.text.items said.stuck
 GivesLog bytes (Err fault.Refused) = (m : Machine) → ¬ Spells bytes m
 GivesLog bytes (Err fault.Mem) = Unit {0}
 
 -- the whole input was a machine file, and the text is that of its log
-abbrev pub RanFile : Streams → Streams → List ℕ → Type 0
-RanFile old new said = (bytes : List ℕ) × ReadWhole old new bytes × IsLogOf bytes said
+abbrev pub RanFile : Streams → Streams → List ℕ → Bool → Type 0
+RanFile old new said stuck = (bytes : List ℕ) × ReadWhole old new bytes × IsLogOf bytes said stuck
 
 -- nothing was written on standard output
 abbrev pub KeepsOut : Streams → Streams → Type 0
@@ -81,7 +103,8 @@ KeepsOut old new = new.out ≡ old.out
 -- what an ending of a run of a file means
 abbrev pub FileEnded : Streams → Streams → Ending → Type 0
 -- the log's text was written
-FileEnded old new Ran = (said : List ℕ) × RanFile old new said × Appends old.out new.out said
+FileEnded old new Ran = (said : List ℕ) × RanFile old new said false × Appends old.out new.out said
+FileEnded old new Stuck = (said : List ℕ) × RanFile old new said true × Appends old.out new.out said
 FileEnded old new NoForm = ⊥
 -- more than 16,777,216 bytes came
 FileEnded old new TooLong = Took old.left new.left (λ n. 16777216 < n) × KeepsOut old new
@@ -90,7 +113,7 @@ FileEnded old new Refused = ((bytes : List ℕ) × ReadWhole old new bytes × ((
 -- a read failed
 FileEnded old new ReadFault = Rose old.read_faults new.read_faults × KeepsOut old new
 -- a write failed, after a front of the log's text
-FileEnded old new WriteFault = Rose old.out_faults new.out_faults × ((front back : List ℕ) × RanFile old new (front ++ back) × Appends old.out new.out front)
+FileEnded old new WriteFault = Rose old.out_faults new.out_faults × ((front back : List ℕ) (stuck : Bool) × RanFile old new (front ++ back) stuck × Appends old.out new.out front)
 FileEnded old new NoMemory = KeepsOut old new
 
 -- what an ending means: the words are of no form, exactly where nothing was read or written; or they are, and a file was run
@@ -106,8 +129,8 @@ Says old new before now said = Appends old new said ⊎ ((front back : List ℕ)
 abbrev pub NoFault : ℕ → ℕ → Type 0
 NoFault before now = (now ≡ before) × (now < 2 ^ 64 - 1)
 
--- completeness: words of the form, an input that spells a machine, and no fault counted give a log, or want of memory
+-- completeness: words of the form, an input that spells a machine, and no fault counted give a log, of a run that is finished or stuck, or want of memory
 abbrev pub Completes : List (List ℕ) → Streams → Streams → ℕ → Type 0
 Completes words old new status =
     IsForm words → (bytes : List ℕ) → old.left ≡ Some bytes → length bytes ≤ 16777216 → (m : Machine) → Spells bytes m → NoFault old.read_faults new.read_faults → NoFault old.out_faults new.out_faults
-    → (status ≡ status_of Ran) ⊎ (status ≡ status_of NoMemory)
+    → (status ≡ status_of Ran) ⊎ (status ≡ status_of Stuck) ⊎ (status ≡ status_of NoMemory)

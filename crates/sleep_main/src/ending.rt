@@ -4,8 +4,10 @@ ghost use Rattle.sleep_main.specs.Endings.{status_of, text_of};
 /// How the program ends.
 #[derive(Clone, Copy, Debug, PartialEq, Eq)]
 pub enum Ending {
-    /// The log was written.
+    /// The log was written, of a run in which nothing was left to do.
     Ran,
+    /// The log was written, of a run in which nobody went on.
+    Stuck,
     /// The words are of no form.
     NoForm,
     /// The input is longer than a machine file may be.
@@ -31,6 +33,7 @@ impl Ending {
             Ending::TooLong | Ending::Refused => 3,
             Ending::ReadFault => 4,
             Ending::WriteFault => 5,
+            Ending::Stuck => 6,
             Ending::NoMemory => 8,
         }
     }
@@ -40,7 +43,7 @@ impl Ending {
         ensures { result.now ≡ text_of self }
     {
         match self {
-            Ending::Ran => "",
+            Ending::Ran | Ending::Stuck => "",
             Ending::NoForm => "usage: run --workers 1\n",
             Ending::TooLong => "machine: longer than 16777216 bytes\n",
             Ending::Refused => "machine: refused\n",

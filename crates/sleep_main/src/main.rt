@@ -2,8 +2,6 @@
 #![tactic(auto)]
 
 mod ending;
-mod meter;
-mod run;
 #[cfg(test)]
 mod tests;
 mod top;

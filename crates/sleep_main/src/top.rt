@@ -1,12 +1,13 @@
 ghost use Rattle.std.specs.Prelude.{◌≡◌, ◌↔◌, ℕ, IsTrue, codes, map, string_bytes};
 ghost use Rattle.sleep_main.specs.declared.ending.Ending.{Ending};
-ghost use Rattle.sleep_main.specs.Endings.{IsForm, GivesLog, FileEnded, Ended, Completes, Says, status_of, text_of};
+ghost use Rattle.sleep_main.specs.Endings.{IsForm, GivesLog, FileEnded, Ended, Completes, Says, is_stuck, status_of, text_of};
 
 use crate::ending::Ending;
-use crate::run::{RunFault, run_machine};
 use log_text::write_log;
-use machine_file::{MachineFault, read_machine};
+use machine_file::{MachineFault, ReadMachine, read_machine};
 use sleep_base::{ByteSink, ByteSource, ReadStop, read_all, write_all};
+use sleep_model::LogEnd;
+use sleep_run::{RunFault, run_machine};
 use std::alloc::Global;
 use std::sync::Wait;
 
@@ -30,22 +31,49 @@ fn is_form(words: &[String]) -> bool
     }
 }
 
-/// The text of the log of the machine that the bytes spell. `Refused` where they spell none, `Mem`
-/// where there is no memory.
-fn log_of_bytes<R: Wait>(rt: &R, alloc: Global, bytes: &[u8]) -> Result<Vec<u8>, MachineFault>
+/// The text of the log of a run, and whether the run was stuck.
+#[derive(Drop)]
+struct LogText {
+    text: Vec<u8>,
+    stuck: bool,
+}
+
+/// Why there is no text.
+#[derive(Clone, Copy)]
+enum TextFault {
+    /// The bytes spell no machine that may be run.
+    Refused,
+    /// There was no memory.
+    Mem,
+}
+
+/// Whether the run was stuck.
+fn is_stuck(end: &LogEnd) -> bool
+    ensures { result ≡ is_stuck end.now }
+{
+    matches!(end, LogEnd::Stuck(_))
+}
+
+/// The text of the log of the machine that the bytes spell. `Refused` where they spell none that may be
+/// run, `Mem` where there is no memory.
+fn log_of_bytes<R: Wait>(rt: &R, alloc: Global, bytes: &[u8]) -> Result<LogText, TextFault>
     ensures { GivesLog bytes.now result }
 {
-    let machine = match read_machine(alloc, bytes) {
-        Ok(machine) => machine,
-        Err(MachineFault::Refused) => return Err(MachineFault::Refused),
-        Err(MachineFault::Mem) => return Err(MachineFault::Mem),
+    let ReadMachine { machine, links } = match read_machine(alloc, bytes) {
+        Ok(read) => read,
+        Err(MachineFault::Rule { .. }) => return Err(TextFault::Refused),
+        Err(MachineFault::NotBuilt) => return Err(TextFault::Refused),
+        Err(MachineFault::Mem) => return Err(TextFault::Mem),
     };
-    match run_machine(rt, alloc, &machine) {
-        Ok(end) => match write_log(alloc, &machine, &end.log) {
-            Ok(text) => Ok(text),
-            Err(_) => Err(MachineFault::Mem),
+    match run_machine(rt, alloc, &machine, links) {
+        Ok(run) => match write_log(alloc, &machine, &run.log) {
+            Ok(text) => {
+                let stuck = is_stuck(&run.log.end);
+                Ok(LogText { text, stuck })
+            }
+            Err(_) => Err(TextFault::Mem),
         },
-        Err(RunFault::Mem) => Err(MachineFault::Mem),
+        Err(RunFault::Mem) => Err(TextFault::Mem),
     }
 }
 
@@ -67,12 +95,13 @@ fn run_file<R: Wait, S: ByteSource, K: ByteSink>(
         Err(ReadStop::TooLong) => return Ending::TooLong,
         Err(ReadStop::Mem) => return Ending::NoMemory,
     };
-    let text = match log_of_bytes(rt, alloc, &bytes) {
-        Ok(text) => text,
-        Err(MachineFault::Refused) => return Ending::Refused,
-        Err(MachineFault::Mem) => return Ending::NoMemory,
+    let log = match log_of_bytes(rt, alloc, &bytes) {
+        Ok(log) => log,
+        Err(TextFault::Refused) => return Ending::Refused,
+        Err(TextFault::Mem) => return Ending::NoMemory,
     };
-    match write_all(out, &text) {
+    match write_all(out, &log.text) {
+        Ok(()) if log.stuck => Ending::Stuck,
         Ok(()) => Ending::Ran,
         Err(_) => Ending::WriteFault,
     }
@@ -109,14 +138,14 @@ fn say<K: ByteSink>(err: &mut K, text: &str)
 /// writes its log to `out`. The first word is the program's name. The answer is the status, and
 /// `err` is told what it means:
 ///
-/// - 0: the log was written.
+/// - 0: the log was written, of a run in which nothing was left to do. 6: of one in which nobody went on.
 /// - 2: exactly where the words are others; nothing is read or written.
 /// - 3: exactly where the input has more than 16,777,216 bytes or spells no machine that may be
 ///   run today.
 /// - 4: a read failed. 5: a write failed, after a front of the log's text.
 /// - 8: there was no memory.
 ///
-/// At 2, 3, 4 and 8 nothing is written to `out`. An input that spells a machine gives 0 or 8, where
+/// At 2, 3, 4 and 8 nothing is written to `out`. An input that spells a machine gives 0, 6 or 8, where
 /// no fault is counted.
 pub fn run_words<R: Wait, S: ByteSource, K: ByteSink>(
     rt: &R,

@@ -1,5 +1,5 @@
 -- The phases of devices, with asynchronous ones, errors and devices that are left alone (drivers/base/power/main.c).
-use Rattle.std.specs.Prelude.{ℕ, Bool, true, false, not, ◌==◌, ◌&&◌, ◌||◌, List, [], ◌∷◌, ℤ, pos, negsuc, length, map, if◌then◌else◌, Option, Some, None, replicate, slice_set}
+use Rattle.std.specs.Prelude.{ℕ, Bool, true, false, not, ◌==◌, ◌&&◌, List, [], ◌∷◌, ℤ, pos, negsuc, length, map, if◌then◌else◌, Option, Some, None, replicate, slice_set}
 use Rattle.std.specs.List.{list_all}
 use Rattle.sleep_base.specs.declared.errno.Errno.{Errno}
 use Rattle.sleep_base.specs.declared.errno.Errno.TheVariants.{EBUSY}

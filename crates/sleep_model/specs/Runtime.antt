@@ -1,5 +1,5 @@
 -- The runtime status of devices, as far as sleep asks for it (drivers/base/power/runtime.c).
-use Rattle.std.specs.Prelude.{ℕ, Bool, true, false, ◌==◌, ◌&&◌, ◌||◌, ◌/◌, ◌%◌, List, [], ◌∷◌, length, map, if◌then◌else◌, Option, Some, None, slice_set, slice_index_or}
+use Rattle.std.specs.Prelude.{ℕ, Bool, true, false, ◌==◌, ◌&&◌, ◌||◌, ◌/◌, ◌%◌, List, [], ◌∷◌, length, map, if◌then◌else◌, Option, Some, None, slice_set}
 use Rattle.sleep_base.specs.declared.errno.Errno.{Errno}
 use Rattle.sleep_base.specs.declared.errno.Errno.TheVariants.{EACCES, EAGAIN}
 use Rattle.sleep_model.specs.declared.entry.Entry.{Entry}

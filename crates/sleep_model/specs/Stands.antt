@@ -1,5 +1,5 @@
 -- Where devices stand, one state a device for each pair of phases (include/linux/pm.h, struct dev_pm_info).
-use Rattle.std.specs.Prelude.{ℕ, Bool, true, false, ◌==◌, List, [], ◌∷◌, ℤ, pos, negsuc, Option, Some, None, if◌then◌else◌, replicate, slice_set, slice_index_or}
+use Rattle.std.specs.Prelude.{ℕ, Bool, true, false, List, [], ◌∷◌, ℤ, pos, negsuc, Option, Some, None, if◌then◌else◌, replicate, slice_set, slice_index_or}
 use Rattle.sleep_base.specs.declared.errno.Errno.{Errno}
 use Rattle.sleep_model.specs.declared.entry.Entry.{Entry}
 use Rattle.sleep_model.specs.declared.entry.Kind.{Kind}

@@ -1,5 +1,5 @@
 -- The tasks as one value, and what an entry does to them.
-use Rattle.std.specs.Prelude.{ℕ, ◌<◌, ◌+◌, ◌^◌, List, replicate}
+use Rattle.std.specs.Prelude.{◌≡◌, ℕ, ◌<◌, ◌+◌, ◌^◌, List, [], ◌∷◌, length, Option, Some, None, replicate}
 use Rattle.sleep_model.specs.declared.entry.Actor.{Actor}
 use Rattle.sleep_model.specs.declared.entry.Actor.TheVariants as actor
 use Rattle.sleep_model.specs.declared.entry.Kind.{Kind}
@@ -7,6 +7,7 @@ use Rattle.sleep_model.specs.declared.entry.Kind.TheVariants as kind
 use Rattle.sleep_model.specs.declared.machine.Script.{Script}
 use Rattle.sleep_model.specs.declared.place.Freezing.{Freezing}
 use Rattle.sleep_model.specs.declared.place.Seat.{Seat}
+use Rattle.sleep_state.specs.declared.tasks.Left.{Left}
 use Rattle.sleep_model.specs.Freezer.{unasked, freezings_after}
 use Rattle.sleep_model.specs.Marks.{mark_at, marks_after}
 use Rattle.sleep_model.specs.Seats.{first_seat, seat_at, seat_part, seats_after}
@@ -43,3 +44,23 @@ tasks_after scripts who kind before = record {
   freezings = freezings_after scripts who kind before.freezings;
   marks = marks_after kind before.marks;
 }
+
+-- the first, or else the other
+abbrev pub first_or : Option ℕ → ℕ → Option ℕ
+first_or None other = Some other
+first_or (Some x) other = Some x
+
+-- the first of these, if there is one
+abbrev pub first_of : List ℕ → Option ℕ
+first_of [] = None
+first_of (x ∷ xs) = Some x
+
+-- how many these are, and the first of them (try_to_freeze_tasks, todo)
+pub record IsLeft (left : Left) (tasks : List ℕ) : Type 0 where
+  pub count : left.count ≡ length tasks
+  pub first : left.first ≡ first_of tasks
+
+-- the first that was found, or else the first of these
+abbrev pub first_from : Option ℕ → List ℕ → Option ℕ
+first_from None tasks = first_of tasks
+first_from (Some x) tasks = Some x

@@ -6,11 +6,13 @@ mod devices;
 mod journal;
 mod path;
 mod tasks;
+#[cfg(test)]
+mod tests;
 mod texts;
 
 pub use autosleep::{Autosleep, is_actor, is_same};
 pub use devices::Devices;
 pub use journal::Journal;
-pub use path::Path;
-pub use tasks::Tasks;
+pub use path::{Path, behind};
+pub use tasks::{Left, Tasks};
 pub use texts::{is_autosleep_text, is_mem, is_off};

@@ -2,7 +2,7 @@ ghost use Rattle.std.specs.Prelude.{◌≡◌, ◌<◌, ◌^◌};
 ghost use Rattle.sleep_model.specs.Path.{attempts_after, maker_after};
 ghost use Rattle.sleep_model.specs.Attempt.{freeze_since_after, sleep_after, failed_after, freeze_error, busy_error};
 ghost use Rattle.sleep_model.specs.Walk.{or_else};
-ghost use Rattle.sleep_model.specs.Table.{stage_after, behind_asked, failed_asked, behind_told, behind_freeze, failed_freeze, by_froze, behind_thaw, after_done, by_error, by_case};
+ghost use Rattle.sleep_model.specs.Table.{stage_after, behind, behind_down, behind_up, behind_asked, failed_asked, behind_told, behind_freeze, failed_freeze, by_froze, behind_thaw, after_done, by_error, by_case};
 
 use sleep_base::Errno;
 use sleep_model::{Actor, FrozeEnd, Group, Kind, Phase, PlatDo, PlatUndo, Sleep, Stage, Thaw};
@@ -135,6 +135,57 @@ fn by_case(so: bool, here: Stage, there: Stage) -> Stage
     ensures { result ≡ by_case so here there }
 {
     if so { here } else { there }
+}
+
+/// The phase or step behind a phase on the devices' way down.
+fn behind_down(phase: Phase) -> Stage
+    ensures { result ≡ behind_down phase }
+{
+    match phase {
+        Phase::Suspend => Stage::Asks(PlatDo::Prepare),
+        Phase::Late => Stage::Downs(Phase::Noirq),
+        _ => Stage::Asks(PlatDo::PrepareLate),
+    }
+}
+
+/// The phase or step behind a phase on the devices' way up.
+fn behind_up(phase: Phase) -> Stage
+    ensures { result ≡ behind_up phase }
+{
+    match phase {
+        Phase::ResumeNoirq => Stage::Ups(Phase::Early),
+        Phase::Early => Stage::Tells(PlatUndo::Finish),
+        _ => Stage::Completes,
+    }
+}
+
+/// The stage behind a stage, where nothing fails (`enter_state`, `suspend_devices_and_enter`,
+/// `suspend_enter`).
+pub fn behind(stage: Stage) -> Stage
+    ensures { result ≡ behind stage }
+{
+    match stage {
+        Stage::Notifies => Stage::Freezes(Group::User),
+        Stage::Freezes(group) => behind_freeze(group),
+        Stage::Asks(step) => behind_asked(step),
+        Stage::Prepares => Stage::Downs(Phase::Suspend),
+        Stage::Downs(phase) => behind_down(phase),
+        Stage::StopsCpus => Stage::StopsIrqs,
+        Stage::StopsIrqs => Stage::Checks,
+        Stage::Checks => Stage::StopsSyscore,
+        Stage::StopsSyscore => Stage::Enters,
+        Stage::Enters => Stage::StartsSyscore,
+        Stage::StartsSyscore => Stage::StartsIrqs,
+        Stage::StartsIrqs => Stage::StartsCpus,
+        Stage::StartsCpus => Stage::Tells(PlatUndo::Wake),
+        Stage::Tells(step) => behind_told(step),
+        Stage::Ups(phase) => behind_up(phase),
+        Stage::Completes => Stage::Tells(PlatUndo::End),
+        Stage::Clears => Stage::Thaws(Thaw::All),
+        Stage::Thaws(those) => behind_thaw(those),
+        Stage::Posts => Stage::Ends,
+        Stage::Ends => Stage::Ends,
+    }
 }
 
 /// The stage of the open attempt after an entry (`enter_state`).

@@ -1,8 +1,8 @@
-ghost use Rattle.std.specs.Prelude.{◌≡◌, ◌<◌, ◌≤◌, ◌^◌, length};
-ghost use Rattle.sleep_model.specs.Freezer.{unasked, is_in, is_task, asked_by, all_asked, let_go, all_let_go, put_frozen, freezings_after};
+ghost use Rattle.std.specs.Prelude.{◌≡◌, ◌<◌, ◌≤◌, ◌+◌, ◌-◌, ◌^◌, length};
+ghost use Rattle.sleep_model.specs.Freezer.{unasked, is_in, is_task, asked_by, all_asked, let_go, all_let_go, put_frozen, freezings_after, keeps_waiting};
 ghost use Rattle.sleep_model.specs.Marks.{marks_after};
 ghost use Rattle.sleep_model.specs.Seats.{first_seat, seat_part, next_step, seat_after, seats_after};
-ghost use Rattle.sleep_state.specs.TaskStates.{SeatIsSmall, MarksAreSmall};
+ghost use Rattle.sleep_state.specs.TaskStates.{SeatIsSmall, MarksAreSmall, first_or};
 
 use sleep_base::Mem;
 use sleep_model::{Actor, Freezing, Group, Kind, Script, Seat, TaskKind, Thaw};
@@ -249,12 +249,44 @@ fn move_freezings(freezings: &mut Vec<Freezing>, scripts: &[Script], who: Actor,
     }
 }
 
+/// The tasks that a freeze still waits for: how many they are, and the first in the order of the file.
+#[derive(Clone, Copy)]
+pub struct Left {
+    pub count: u32,
+    pub first: Option<u32>,
+}
+
+/// Whether a task keeps the freeze of its group waiting (`try_to_freeze_tasks`).
+fn keeps_waiting(group: Group, kind: TaskKind, freezing: Freezing, seat: Seat) -> bool
+    ensures { result ≡ keeps_waiting group kind freezing seat }
+{
+    is_in(group, kind) && freezing.asked && !freezing.frozen && !seat.exited
+}
+
+impl Left {
+    /// One task more is left, behind the others.
+    fn and(self, task: u32) -> Left
+        requires { self.count < 2 ^ 32 - 1 }
+        ensures count { result.count ≡ self.count + 1 }
+        ensures first { result.first ≡ first_or self.first task }
+    {
+        let first = match self.first {
+            None => Some(task),
+            first => first,
+        };
+        Left {
+            count: self.count + 1,
+            first,
+        }
+    }
+}
+
 impl Tasks {
     ghost use Rattle.std.specs.Prelude.{◌≡◌, ◌<◌, ◌^◌, IfOk, length};
-    ghost use Rattle.sleep_model.specs.Freezer.{freezing_at};
+    ghost use Rattle.sleep_model.specs.Freezer.{freezing_at, left_from};
     ghost use Rattle.sleep_model.specs.Marks.{mark_at};
     ghost use Rattle.sleep_model.specs.Seats.{seat_at, all_exited};
-    ghost use Rattle.sleep_state.specs.TaskStates.{SeatIsSmall, MarksAreSmall, tasks_after, at_first};
+    ghost use Rattle.sleep_state.specs.TaskStates.{SeatIsSmall, MarksAreSmall, tasks_after, at_first, IsLeft};
 
     /// So many scripts at their first steps, and so many marks. `Mem` where there is no memory.
     pub fn new(alloc: Global, scripts: usize, marks: usize) -> Result<Self, Mem>
@@ -315,5 +347,25 @@ impl Tasks {
         ensures { result ≡ all_exited self.now.seats }
     {
         self.seats.iter().all(|seat| seat.exited)
+    }
+
+    /// The tasks that a freeze of the group still waits for, where these are the scripts
+    /// (`try_to_freeze_tasks`).
+    pub fn left(&self, scripts: &[Script], group: Group) -> Left
+        requires seats { length self.now.seats ≡ length scripts.now }
+        requires freezings { length self.now.freezings ≡ length scripts.now }
+        requires few { length scripts.now < 2 ^ 32 }
+        ensures { IsLeft result (left_from group 0 scripts.now self.now.freezings self.now.seats) }
+    {
+        let mut left = Left {
+            count: 0,
+            first: None,
+        };
+        for (i, script) in scripts.iter().enumerate() {
+            if keeps_waiting(group, script.kind, self.freezings[i], self.seats[i]) {
+                left = left.and(i as u32);
+            }
+        }
+        left
     }
 }

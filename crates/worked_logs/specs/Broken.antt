@@ -2,6 +2,7 @@
 use Rattle.std.specs.Prelude.{ℕ, ◌+◌, List, [], ◌∷◌, ◌++◌, take, drop}
 use Rattle.sleep_model.specs.declared.entry.Actor.{Actor}
 use Rattle.sleep_model.specs.declared.entry.Entry.{Entry}
+use Rattle.sleep_model.specs.declared.entry.JournalEntry.{JournalEntry}
 use Rattle.sleep_model.specs.declared.entry.Kind.{Kind}
 use Rattle.sleep_model.specs.declared.log.Log.{Log}
 
@@ -39,6 +40,24 @@ first_by who (e ∷ entries) = record e { actor = who } ∷ entries
 -- it is by another
 abbrev pub by : ℕ → Actor → List Entry → List Entry
 by k who entries = take k entries ++ first_by who (drop k entries)
+
+-- the first is made at another time
+abbrev pub first_at_time : ℕ → List Entry → List Entry
+first_at_time time [] = []
+first_at_time time (e ∷ entries) = record e { time = time } ∷ entries
+
+-- it is made at another time
+abbrev pub at_time : ℕ → ℕ → List Entry → List Entry
+at_time k time entries = take k entries ++ first_at_time time (drop k entries)
+
+-- the first has another stamp
+abbrev pub first_stamped : ℕ → ℕ → List JournalEntry → List JournalEntry
+first_stamped pos tick [] = []
+first_stamped pos tick (e ∷ entries) = record e { stamp = record { pos = pos; tick = tick } } ∷ entries
+
+-- the entry with that place, from 0, has another stamp, of that position and that tick
+abbrev pub with_stamp : ℕ → ℕ → ℕ → List JournalEntry → List JournalEntry
+with_stamp k pos tick entries = take k entries ++ first_stamped pos tick (drop k entries)
 
 -- the log with other entries
 abbrev pub with_entries : Log → List Entry → Log

@@ -1,14 +1,17 @@
 -- Logs taken apart into a journal and the sources' histories, each entry with its stamp.
 use Rattle.std.specs.Prelude.{◌≡◌, ◌+◌, ℕ, suc, List, [], ◌∷◌, length, map, filter}
 use Rattle.std.specs.List.{range_with_len}
+use Rattle.sleep_model.specs.declared.entry.Actor.TheVariants as actor
 use Rattle.sleep_model.specs.declared.entry.Entry.{Entry}
 use Rattle.sleep_model.specs.declared.entry.JournalEntry.{JournalEntry}
+use Rattle.sleep_model.specs.declared.entry.Kind.TheVariants as kind
 use Rattle.sleep_model.specs.declared.entry.SourceEntry.{SourceEntry}
 use Rattle.sleep_model.specs.declared.machine.Machine.{Machine}
 use Rattle.sleep_model.specs.Merge.{IsFit, merge}
 use Rattle.sleep_model.specs.Parts.{is_kept, part_of}
 use Rattle.sleep_model.specs.Sources.{is_of}
 use Rattle.sleep_model.specs.Word.{position}
+use Rattle.worked_logs.specs.Terms.{entry, word}
 
 -- an entry with that tick, and with the position of the word that it carries
 abbrev pub ticked : ℕ → Entry → JournalEntry
@@ -43,3 +46,15 @@ pub record Merges (m : Machine) (entries : List JournalEntry) (log : List Entry)
 -- the entries of a log, taken apart as one worker makes them, are merged to the log
 abbrev pub MergesAgain : Machine → List Entry → Type 0
 MergesAgain m entries = Merges m (all_ticked 1 entries) entries
+
+-- the entries of two workers that know nothing of each other, as they made them: ticks are each actor's and each list's own
+abbrev pub two_workers : List JournalEntry
+two_workers =
+    ticked 1 (entry 0 (word 0 0 0) (actor.Script 0) (kind.Post 0))
+    ∷ ticked 2 (entry 0 (word 1 0 0) (actor.Script 0) kind.Exit)
+    ∷ ticked 1 (entry 0 (word 0 0 0) (actor.Script 1) (kind.Awake 0))
+    ∷ ticked 2 (entry 0 (word 0 0 0) (actor.Script 1) (kind.Start 0))
+    ∷ ticked 3 (entry 0 (word 1 0 0) (actor.Script 1) (kind.Relax 0))
+    ∷ ticked 4 (entry 0 (word 1 0 0) (actor.Script 1) (kind.Finish 0))
+    ∷ ticked 5 (entry 0 (word 0 1 0) (actor.Script 1) kind.Exit)
+    ∷ []

@@ -1,15 +1,10 @@
 //! Worked logs taken apart into the machine's journal and the sources' histories: merged by their
 //! stamps they are the log again.
 
-ghost use Rattle.std.specs.Prelude.{[], ◌∷◌};
-ghost use Rattle.sleep_model.specs.declared.entry.Actor.TheVariants as actor;
-ghost use Rattle.sleep_model.specs.declared.entry.Kind.TheVariants as kind;
-ghost use Rattle.sleep_model.specs.Merge.{IsFit};
 ghost use Rattle.worked_logs.specs.Attempts.{event_stops_a_device_machine, event_stops_a_device_entries, hard_event_machine, hard_event_entries, callback_reports_machine, callback_reports_entries};
 ghost use Rattle.worked_logs.specs.Autosleep.{autosleep_machine, autosleep_entries};
 ghost use Rattle.worked_logs.specs.Counts.{read_waits_machine, read_waits_entries, calls_of_a_line_machine, calls_of_a_line_entries};
-ghost use Rattle.worked_logs.specs.Merging.{Merges, MergesAgain, ticked, journal_among, histories_among};
-ghost use Rattle.worked_logs.specs.Terms.{entry, word};
+ghost use Rattle.worked_logs.specs.Merging.{Merges, MergesAgain, two_workers};
 ghost use Rattle.worked_logs.specs.Timers.{event_expires_machine, event_expires_entries};
 
 /// Logs that one worker makes: each entry's maker knows the entry before it.
@@ -24,13 +19,5 @@ pub fn logs_merge_again()
 
 /// A log of two workers that know nothing of each other: ticks are each actor's and each list's own.
 pub fn log_of_two_workers_merges()
-    ensures { Merges calls_of_a_line_machine (
-        ticked 1 (entry 0 (word 0 0 0) (actor.Script 0) (kind.Post 0))
-        ∷ ticked 2 (entry 0 (word 1 0 0) (actor.Script 0) kind.Exit)
-        ∷ ticked 1 (entry 0 (word 0 0 0) (actor.Script 1) (kind.Awake 0))
-        ∷ ticked 2 (entry 0 (word 0 0 0) (actor.Script 1) (kind.Start 0))
-        ∷ ticked 3 (entry 0 (word 1 0 0) (actor.Script 1) (kind.Relax 0))
-        ∷ ticked 4 (entry 0 (word 1 0 0) (actor.Script 1) (kind.Finish 0))
-        ∷ ticked 5 (entry 0 (word 0 1 0) (actor.Script 1) kind.Exit)
-        ∷ []) calls_of_a_line_entries }
+    ensures { Merges calls_of_a_line_machine two_workers calls_of_a_line_entries }
 {}

@@ -1,4 +1,5 @@
 use Rattle.std.proofs.Common.{◌≡◌, ◌≤◌}
+use Rattle.sleep_core.specs.Looks.{HasGrown}
 use Rattle.sleep_core.proofs.events.look_from.Given as goal
 
 abbrev pub invariant-loop : goal.invariant-loop
@@ -7,5 +8,6 @@ invariant-loop g l = record {
   ends : (goal.iterator-loop g).is_finite l.iterator';
   tells : g.E.Events.tells l.events ≡ g.E.Events.tells l.fn.events;
   root : g.E.Events.root l.events ≡ g.E.Events.root l.fn.events;
+  grown : HasGrown (g.E.Events.looked l.fn.events) (g.E.Events.looked l.events);
   rises : g.E.Events.floor l.fn.events ≤ g.E.Events.floor l.events;
 }

@@ -1,5 +1,5 @@
-use Rattle.std.proofs.Common.{◌≡◌, ◌∙◌, ap, sym, not, true, false, arith}
-use Rattle.sleep_model.specs.Walk.{is_so, last_where}
+use Rattle.std.proofs.Common.{◌∙◌, ap, sym, not, arith}
+use Rattle.sleep_model.specs.Walk.{is_so}
 use Rattle.sleep_model.proofs.Searches.{below_passes, below_fails}
 use Rattle.syscore_ops.proofs.syscore.last_unset.Goals as goal
 

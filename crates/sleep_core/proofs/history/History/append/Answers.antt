@@ -28,6 +28,7 @@ invariant_of-self c =
     let i = c.self.invariant in
     rw (c.put.ensures) (record {
       few = i.few;
+      small = i.small;
       last_is = refl;
       time_is = c.time_after-self-inside.ensures ∙ ap (time_after e.kind e.time) i.time_is;
       guard_is = c.note.ensures ∙ (ap (guarded_after 16 e.kind e.now) i.guard_is ∙ guarded_16 e.kind e.now (guard_of (entries c.self.inside.journal.past)));

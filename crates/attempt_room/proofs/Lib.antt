@@ -1,0 +1,7 @@
+pub mod Falling
+pub mod Fitting
+pub mod Needing
+pub mod Spending
+pub mod Sums
+pub mod Things
+pub mod Weights

@@ -1,0 +1,10 @@
+//! What the walks of the three phases on the way up do next, and a device that they gave out.
+#![tactic(auto)]
+
+mod law;
+#[cfg(test)]
+mod tests;
+mod up;
+
+pub use law::up_follows;
+pub use up::{device_due, walk_due};

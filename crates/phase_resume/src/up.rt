@@ -1,0 +1,44 @@
+ghost use Rattle.std.specs.Prelude.{◌≡◌};
+ghost use Rattle.phase_resume.specs.Ups.{walk_due_on, given_up_on, close_up_on};
+
+use async_board::Board;
+use sleep_model::{Due, Kind, Phase, Why};
+
+/// What the walk of a phase on the way up does next, where it is inside no callback
+/// (`dpm_noirq_resume_devices`, `dpm_resume_early`, `dpm_resume`). First it gives out each
+/// asynchronous device that the mirror phase suspended, then it takes the synchronous ones from the
+/// first to the last, each once all above it are up, and it ends once all are up. It brings up no
+/// device that the mirror phase did not suspend.
+pub fn walk_due(board: &Board, p: Phase) -> Due
+    ensures { result ≡ walk_due_on board.now p }
+{
+    let down = p.mirror();
+    if let Some(device) = board.next_given(down) {
+        return Due::Makes(Kind::Schedule(p, device));
+    }
+    match board.next_up(down) {
+        Some(device) => device_due(board, p, device),
+        None => close(board, p),
+    }
+}
+
+/// What a device does next that a phase on the way up has given out or taken
+/// (`dpm_wait_for_superior`, `device_resume`): it waits for all above it, and then begins.
+pub fn device_due(board: &Board, p: Phase, device: u32) -> Due
+    ensures { result ≡ given_up_on board.now p device }
+{
+    match board.waits_above(p.mirror(), device) {
+        Some(other) => Due::Waits(Why::Device(other)),
+        None => Due::Makes(Kind::Begin(p, device)),
+    }
+}
+
+// The end of the walk, once all devices are up.
+fn close(board: &Board, p: Phase) -> Due
+    ensures { result ≡ close_up_on board.now p }
+{
+    match board.waits_up(p.mirror()) {
+        Some(other) => Due::Waits(Why::Device(other)),
+        None => Due::Makes(Kind::Done(p, None)),
+    }
+}

@@ -1,0 +1,3 @@
+pub mod AtPlaces
+pub mod Downs
+pub mod Spanned

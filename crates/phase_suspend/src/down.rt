@@ -1,0 +1,133 @@
+ghost use Rattle.std.specs.Prelude.{◌≡◌, None};
+ghost use Rattle.sleep_model.specs.Devices.{unless_failed};
+ghost use Rattle.sleep_model.specs.Walk.{or_else};
+ghost use Rattle.phase_suspend.specs.Downs.{down_state, is_direct_on, taken_on, take_down_on, close_down_on, walk_due_on, given_down_on};
+
+use async_board::{Board, is_left_alone};
+use device_rows::Flags;
+use sleep_base::Errno;
+use sleep_model::{Due, Kind, Phase, SkipCause, Why};
+
+/// The errors that stand in the open phase (`drivers/base/power/main.c`, `async_error`, `error`).
+#[derive(Clone, Copy)]
+pub struct Down {
+    /// The last error of any device, or `EBUSY` of a wakeup that was found.
+    pub failed: Option<Errno>,
+    /// The last error of a synchronous device's callback.
+    pub own: Option<Errno>,
+}
+
+/// What a phase on the way down looks at.
+#[derive(Clone, Copy)]
+pub struct DownEnv<'a> {
+    /// Where each device stands.
+    pub board: &'a Board,
+    /// Which devices answered 1 to their last prepare.
+    pub willing: &'a Flags,
+    /// Which devices are runtime suspended.
+    pub statuses: &'a Flags,
+    /// Which devices may wake the machine.
+    pub wakeup: &'a Flags,
+    /// A wakeup is pending.
+    pub pending: bool,
+}
+
+// Whether the phase leaves the device alone: suspend by what is so now, late and noirq where
+// suspend did.
+fn is_direct(env: &DownEnv<'_>, p: Phase, device: u32) -> bool
+    ensures { (down : Down) → result ≡ is_direct_on (down_state down env.now) p device }
+{
+    match p {
+        Phase::Suspend => {
+            env.willing.is_set(device)
+                && env.statuses.is_set(device)
+                && !env.wakeup.is_set(device)
+                && env.board.all_left_alone(device)
+        }
+        _ => is_left_alone(env.board.stand(Phase::Suspend, device)),
+    }
+}
+
+// What a device makes at its turn: a pending wakeup skips it, it is left alone, or its callback
+// begins.
+fn taken(env: &DownEnv<'_>, p: Phase, device: u32) -> Kind
+    ensures { (down : Down) → result ≡ taken_on (down_state down env.now) p device }
+{
+    if p.checks_wakeup() && env.pending {
+        Kind::Skip(p, device, SkipCause::Pending)
+    } else if is_direct(env, p, device) {
+        Kind::Skip(p, device, SkipCause::Direct)
+    } else {
+        Kind::Begin(p, device)
+    }
+}
+
+impl Down {
+    // What the phase answers: a synchronous callback's error, else the last one.
+    fn error(&self) -> Option<Errno>
+        ensures { result ≡ or_else self.now.own self.now.failed }
+    {
+        match self.own {
+            Some(error) => Some(error),
+            None => self.failed,
+        }
+    }
+
+    /// What the walk of a phase on the way down does next, where it is inside no callback
+    /// (`dpm_suspend`, `dpm_suspend_late`, `dpm_noirq_suspend_devices`). It takes the devices from
+    /// the last to the first, gives out the asynchronous ones, waits for all below a synchronous
+    /// one before it begins, is left alone or is skipped, and ends once all that were given out are
+    /// through: by an error, or where no device is left.
+    pub fn walk_due(&self, env: &DownEnv<'_>, p: Phase) -> Due
+        ensures { result ≡ walk_due_on (down_state self.now env.now) p }
+    {
+        match (self.failed, env.board.next_down(p)) {
+            (None, Some(device)) => self.take(env, p, device),
+            _ => self.close(env, p),
+        }
+    }
+
+    /// What a device does next that a phase on the way down has given out (`__device_suspend`): it
+    /// waits for all below it, and is then skipped by an error or a wakeup, left alone, or begins.
+    pub fn device_due(&self, env: &DownEnv<'_>, p: Phase, device: u32) -> Due
+        ensures { result ≡ given_down_on (down_state self.now env.now) p device }
+    {
+        match env.board.waits_below(p, device) {
+            Some(other) => Due::Waits(Why::Device(other)),
+            None => Due::Makes(self.made(env, p, device)),
+        }
+    }
+
+    // What a device makes that waits for none: an error lets it do nothing.
+    fn made(&self, env: &DownEnv<'_>, p: Phase, device: u32) -> Kind
+        ensures { result ≡ unless_failed self.now.failed p device
+            (taken_on (down_state self.now env.now) p device) }
+    {
+        match self.failed {
+            Some(_) => Kind::Skip(p, device, SkipCause::Error),
+            None => taken(env, p, device),
+        }
+    }
+
+    // The walk at a device, where no error stands: an asynchronous one is given out.
+    fn take(&self, env: &DownEnv<'_>, p: Phase, device: u32) -> Due
+        requires { self.now.failed ≡ None }
+        ensures { result ≡ take_down_on (down_state self.now env.now) p device }
+    {
+        if env.board.is_beside(device) {
+            Due::Makes(Kind::Schedule(p, device))
+        } else {
+            self.device_due(env, p, device)
+        }
+    }
+
+    // The end of the walk, once all that were given out are through.
+    fn close(&self, env: &DownEnv<'_>, p: Phase) -> Due
+        ensures { result ≡ close_down_on (down_state self.now env.now) p }
+    {
+        match env.board.waits_down(p) {
+            Some(other) => Due::Waits(Why::Device(other)),
+            None => Due::Makes(Kind::Done(p, self.error())),
+        }
+    }
+}

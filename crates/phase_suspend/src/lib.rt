@@ -1,0 +1,13 @@
+//! What the walks of the three phases on the way down do next, what a device does that they gave
+//! out, and what a request for a runtime status is answered meanwhile.
+#![tactic(auto)]
+
+mod down;
+mod law;
+mod runtime;
+#[cfg(test)]
+mod tests;
+
+pub use down::{Down, DownEnv};
+pub use law::down_follows;
+pub use runtime::runtime_due;

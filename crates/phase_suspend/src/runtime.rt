@@ -1,0 +1,37 @@
+//! Requests for a runtime status (`drivers/base/power/runtime.c`).
+
+ghost use Rattle.std.specs.Prelude.{◌≡◌};
+ghost use Rattle.sleep_model.specs.Runtime.{runtime_answer};
+ghost use Rattle.phase_suspend.specs.Spanned.{runtime_due_on};
+
+use async_board::{Board, is_left_alone, is_prepared, is_taken};
+use sleep_base::Errno;
+use sleep_model::Phase;
+
+/// What a request is answered that a device be runtime suspended, or active: `EACCES` exactly where
+/// its runtime PM is disabled, else `EAGAIN` exactly where it is prepared and is to be suspended,
+/// else 0 (`__pm_runtime_set_status`, `rpm_check_suspend_allowed`).
+///
+/// Runtime PM is disabled for a device that suspend left alone, where `leaves_alone` says that
+/// resume is not done since, and for one that late has taken, where `takes_late` says that early is
+/// not done since.
+pub fn runtime_due(
+    board: &Board,
+    leaves_alone: bool,
+    takes_late: bool,
+    device: u32,
+    to_suspended: bool,
+) -> Option<Errno>
+    ensures { result ≡ runtime_due_on board.now leaves_alone takes_late device to_suspended }
+{
+    let stand = board.stand(Phase::Suspend, device);
+    let is_off = (leaves_alone && is_left_alone(stand))
+        || (takes_late && is_taken(board.stand(Phase::Late, device)));
+    if is_off {
+        Some(Errno::EACCES)
+    } else if is_prepared(stand) && to_suspended {
+        Some(Errno::EAGAIN)
+    } else {
+        None
+    }
+}

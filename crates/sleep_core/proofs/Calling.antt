@@ -1,0 +1,146 @@
+-- The calls of a script by the turns that it has ended.
+use Rattle.std.proofs.Common.{◌≡◌, ◌∙◌, ◌<◌, ◌+◌, ◌==◌, ◌&&◌, ◌||◌, ◌++◌, ◌⊎◌, inl, inr, ℕ, zero, suc, Bool, true, false, List, [], ◌∷◌, length, replicate, slice_get, slice_index_or, slice_set, refl, sym, ap, subst, length-append, arith}
+use Rattle.std.proofs.lemmas.Bool.{true≢false}
+use Rattle.std.proofs.lemmas.Bool.Decides.{nat_tests}
+use Rattle.sleep_model.specs.declared.entry.Actor.{Actor}
+use Rattle.sleep_model.specs.declared.entry.Actor.TheVariants as actor
+use Rattle.sleep_model.specs.declared.entry.Entry.{Entry}
+use Rattle.sleep_model.specs.declared.entry.Kind.{Kind}
+use Rattle.sleep_model.specs.declared.entry.Kind.TheVariants as kind
+use Rattle.sleep_model.specs.declared.machine.Machine.{Machine}
+use Rattle.sleep_model.specs.declared.place.Seat.{Seat}
+use Rattle.std.specs.Prelude.{nat_le}
+use Rattle.std.specs.List.{list_all}
+use Rattle.sleep_model.specs.Built.{is_built, is_built_script, is_silent}
+use Rattle.sleep_model.specs.Calls.{calls_at, calls_due, ends_step, ends_turn, is_setting, one_more, pieces_if, pieces_in, turns_ended}
+use Rattle.sleep_model.specs.Path.{is_same}
+use Rattle.sleep_model.specs.declared.machine.Script.{Script}
+use Rattle.sleep_model.specs.Scripts.{Piece, Calls, Turns, pieces}
+use Rattle.sleep_model.specs.Seats.{SeatPart, Waits, Sets, Sleeps, Reads, Saves, Steps, Exits, Stays, first_seat, seat_at, seat_part, seat_after, seats_after, seats}
+use Rattle.script_plan.specs.Plans.{calls_before}
+use Rattle.log_grows.proofs.Planning.{AreSilent, calls_until, calls_are, no_calls}
+use Rattle.sleep_core.proofs.Seated.{seats_len, first_seats}
+
+-- ---- a script's place counts the turns that it has ended
+
+kind_turns : (k : Kind) (s : Seat) → (seat_after (seat_part k) s).turns ≡ one_more (ends_turn k) s.turns
+kind_turns kind.ReadWait s = refl
+kind_turns (kind.SaveWait c) s = refl
+kind_turns kind.StateWait s = refl
+kind_turns (kind.AutoSet state) s = refl
+kind_turns (kind.Sleep until) s = refl
+kind_turns (kind.SleepD until) s = refl
+kind_turns (kind.Read c) s = refl
+kind_turns kind.ReadIntr s = refl
+kind_turns (kind.Saved c) s = refl
+kind_turns (kind.SaveErr c r) s = refl
+kind_turns (kind.StateErr r) s = refl
+kind_turns kind.StateUnsaved s = refl
+kind_turns (kind.Over n r) s = refl
+kind_turns kind.AutoBad s = refl
+kind_turns kind.AutoDone s = refl
+kind_turns kind.Slept s = refl
+kind_turns kind.Pass s = refl
+kind_turns (kind.Post mark) s = refl
+kind_turns (kind.Got mark) s = refl
+kind_turns (kind.RuntimeAsk device to_suspended r) s = refl
+kind_turns kind.Exit s = refl
+kind_turns _ s = refl
+
+same_set : (ss : List Seat) (i : ℕ) (v : Seat) → i < length ss → seat_at (slice_set ss i v) i ≡ v
+same_set [] i v l = absurd (omega (arith, l))
+same_set (x ∷ xs) zero v l = refl
+same_set (x ∷ xs) (suc i) v l = same_set xs i v (omega (arith, l))
+
+suc_false : (j i : ℕ) → (suc j == suc i) ≡ false → (j == i) ≡ false
+suc_false j i e = by_test (j == i) refl
+  where
+    by_test : (b : Bool) → (j == i) ≡ b → (j == i) ≡ false
+    by_test false t = t
+    by_test true t = absurd (let same : j ≡ i = grind (arith, nat_tests) in grind (arith, nat_tests))
+
+other_set : (ss : List Seat) (i j : ℕ) (v : Seat) → (j == i) ≡ false → seat_at (slice_set ss j v) i ≡ seat_at ss i
+other_set [] i j v l = refl
+other_set (x ∷ xs) zero zero v l = absurd (grind (arith, nat_tests))
+other_set (x ∷ xs) (suc i) zero v l = refl
+other_set (x ∷ xs) zero (suc j) v l = refl
+other_set (x ∷ xs) (suc i) (suc j) v l = other_set xs i j v (suc_false j i l)
+
+script_turns : (i j : ℕ) (k : Kind) (ss : List Seat) → i < length ss → (b : Bool) → (j == i) ≡ b → (seat_at (seats_after (actor.Script j) (seat_part k) ss) i).turns ≡ one_more (b && ends_turn k) (seat_at ss i).turns
+script_turns i j k ss l true e =
+    let same : j ≡ i = grind (arith, nat_tests) in
+    subst (λ n. (seat_at (slice_set ss n (seat_after (seat_part k) (seat_at ss n))) i).turns ≡ one_more (ends_turn k) (seat_at ss i).turns) (sym same)
+    (ap (λ (s : Seat). s.turns) (same_set ss i (seat_after (seat_part k) (seat_at ss i)) l) ∙ kind_turns k (seat_at ss i))
+script_turns i j k ss l false e = ap (λ (s : Seat). s.turns) (other_set ss i j (seat_after (seat_part k) (seat_at ss j)) e)
+
+entry_turns : (i : ℕ) (who : Actor) (k : Kind) (ss : List Seat) → i < length ss → (seat_at (seats_after who (seat_part k) ss) i).turns ≡ one_more (is_same who (actor.Script i) && ends_turn k) (seat_at ss i).turns
+entry_turns i (actor.Script j) k ss l = script_turns i j k ss l (j == i) refl
+entry_turns i _ k ss l = refl
+
+-- a script's place has the number of turns that it has ended
+turns_are : (n i : ℕ) (past : List Entry) → i < n → (seat_at (seats n past) i).turns ≡ turns_ended (actor.Script i) past
+turns_are n i [] l = ap (λ (s : Seat). s.turns) (first_seats n i)
+turns_are n i (e ∷ past) l =
+    entry_turns i e.actor e.kind (seats n past) (omega (arith, l, seats_len n past))
+    ∙ ap (λ t. one_more (is_same e.actor (actor.Script i) && ends_turn e.kind) t) (turns_are n i past l)
+
+-- ---- calls before a turn
+
+before_first : (ps : List Piece) → length (calls_at ps 0) ≡ calls_before ps 0
+before_first [] = refl
+before_first (Calls note ∷ ps) = omega (arith, before_first ps)
+before_first (Turns ∷ ps) = refl
+
+before_next : (ps : List Piece) (k : ℕ) → calls_before ps k + length (calls_at ps (suc k)) ≡ calls_before ps (suc k)
+before_next [] k = refl
+before_next (Calls note ∷ ps) k = omega (arith, before_next ps k)
+before_next (Turns ∷ ps) zero = omega (arith, before_first ps)
+before_next (Turns ∷ ps) (suc k) = before_next ps k
+
+until_before : (ps : List Piece) (k : ℕ) → length (calls_until ps k) ≡ calls_before ps k
+until_before ps zero = before_first ps
+until_before ps (suc k) = length-append (calls_until ps k) (calls_at ps (suc k)) ∙ (ap (λ n. n + length (calls_at ps (suc k))) (until_before ps k) ∙ before_next ps k)
+
+-- a script has to have made the calls that stand before its turn
+script_calls : (m : Machine) → AreSilent m → (i : ℕ) (past : List Entry) → i < length m.actors
+    → calls_before (pieces_in m i) (seat_at (seats (length m.actors) past) i).turns ≡ calls_due m (actor.Script i) past
+script_calls m silent i past l =
+    ap (calls_before (pieces_in m i)) (turns_are (length m.actors) i past l)
+    ∙ (sym (until_before (pieces_in m i) (turns_ended (actor.Script i) past)) ∙ ap length (sym (calls_are m silent i past)))
+
+-- ---- machines that are built
+
+last_of : (a b : Bool) → (a && b) ≡ true → b ≡ true
+last_of true b h = h
+last_of false b h = absurd (true≢false (sym h))
+
+-- no callback of theirs reports anything
+silent : (m : Machine) → is_built m ≡ true → AreSilent m
+silent m h = last_of (nat_le (length m.sources) 1 && is_built_script m.actors) (list_all (λ a. is_silent a.reports) m.answers) h
+
+-- so a script has to have made the calls that stand before its turn
+pub script_calls_due : (m : Machine) (i : ℕ) (past : List Entry) (calls : ℕ) → is_built m ≡ true → i < length m.actors
+    → calls ≡ calls_before (pieces_in m i) (seat_at (seats (length m.actors) past) i).turns → calls ≡ calls_due m (actor.Script i) past
+script_calls_due m i past calls built l e = e ∙ script_calls m (silent m built) i past l
+
+-- and nobody else makes any
+pub no_calls_due : (m : Machine) (past : List Entry) (who : Actor) → is_built m ≡ true → ((i : ℕ) → who ≡ actor.Script i → ⊥) → 0 ≡ calls_due m who past
+no_calls_due m past (actor.Script i) built not = absurd (not i refl)
+no_calls_due m past actor.Auto built not = ap length (sym (no_calls m (silent m built) actor.Auto refl past))
+no_calls_due m past (actor.Dev d) built not = ap length (sym (no_calls m (silent m built) (actor.Dev d) refl past))
+no_calls_due m past (actor.Timer s) built not = ap length (sym (no_calls m (silent m built) (actor.Timer s) refl past))
+no_calls_due m past actor.Time built not = ap length (sym (no_calls m (silent m built) actor.Time refl past))
+
+pieces_here : (source i : ℕ) (ss : List Script) (s : Script) → i < length ss → s ≡ slice_index_or ss i s → pieces source s ≡ pieces_if source (slice_get ss i)
+pieces_here source i [] s l e = absurd (omega (arith, l))
+pieces_here source zero (t ∷ ss) s l e = ap (pieces source) e
+pieces_here source (suc i) (t ∷ ss) s l e = pieces_here source i ss s (omega (arith, l)) e
+
+-- the calls before a turn, by the script's plan
+pub planned_calls : (m : Machine) (i : ℕ) (past : List Entry) (plans : List Script) (s : Script) (seat : Seat) (calls : ℕ) → plans ≡ m.actors → i < length m.actors → s ≡ slice_index_or plans i s
+    → ((source : ℕ) → calls ≡ calls_before (pieces source s) seat.turns) → seat ≡ seat_at (seats (length m.actors) past) i
+    → calls ≡ calls_before (pieces_in m i) (seat_at (seats (length m.actors) past) i).turns
+planned_calls m i past plans s seat calls all l at is here =
+    is (length m.sources)
+    ∙ (ap (λ ps. calls_before ps seat.turns) (pieces_here (length m.sources) i m.actors s l (subst (λ (xs : List Script). s ≡ slice_index_or xs i s) all at))
+    ∙ ap (λ (x : Seat). calls_before (pieces_in m i) x.turns) here)

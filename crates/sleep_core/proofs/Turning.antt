@@ -1,0 +1,245 @@
+-- An entry that is due keeps what the core keeps.
+use Rattle.std.proofs.Common.{◌≡◌, ◌∙◌, ◌≤◌, ◌<◌, ◌+◌, ◌-◌, ◌^◌, ◌||◌, ℕ, Bool, true, false, List, [], ◌∷◌, length, Option, Some, None, refl, sym, ap, subst, arith}
+use Rattle.std.proofs.lemmas.Bool.{false≢true}
+use Rattle.sleep_model.specs.declared.entry.Actor.{Actor}
+use Rattle.sleep_model.specs.declared.entry.Actor.TheVariants as actor
+use Rattle.sleep_model.specs.declared.entry.Entry.{Entry}
+use Rattle.sleep_model.specs.declared.entry.JournalEntry.{JournalEntry}
+use Rattle.sleep_model.specs.declared.entry.Kind.{Kind}
+use Rattle.sleep_model.specs.declared.entry.Kind.TheVariants as kind
+use Rattle.sleep_model.specs.declared.machine.Machine.{Machine}
+use Rattle.sleep_model.specs.declared.place.Due.TheVariants.{Makes}
+use Rattle.sleep_model.specs.declared.place.Sleep.{Sleep}
+use Rattle.sleep_model.specs.declared.place.Stage.{Stage}
+use Rattle.sleep_model.specs.declared.word.EventNow.{EventNow}
+use Rattle.sleep_model.specs.declared.word.Stamp.{Stamp}
+use Rattle.sleep_model.specs.Accepted.{IsAccepted}
+use Rattle.sleep_model.specs.Built.{is_built}
+use Rattle.sleep_model.specs.Attempt.{freeze_since, freeze_since_after, sleep_of, sleep_after, unless_busy}
+use Rattle.sleep_model.specs.Devices.{is_device}
+use Rattle.sleep_model.specs.Due.{due}
+use Rattle.sleep_model.specs.Legal.{JournalStep, JournalPart}
+use Rattle.sleep_model.specs.Numbers.{time_of, time_after}
+use Rattle.sleep_model.specs.Parts.{OfJournal, part_of}
+use Rattle.sleep_model.specs.Autosleep.{runs, runs_after}
+use Rattle.sleep_model.specs.Marks.{raised}
+use Rattle.sleep_model.specs.Path.{attempts, attempts_after, is_actor, maker}
+use Rattle.sleep_state.specs.TaskStates.{MarksAreSmall}
+use Rattle.sleep_core.proofs.Seated.{seat_small}
+use Rattle.sleep_model.specs.Word.{position}
+use Rattle.sleep_laws.proofs.Made.{Made, DeviceMade, StepMade, TaskMade, WorkMade, EntryMade, ByMaker, ByTask, ByWork, ByDevice, ByTime}
+use Rattle.sleep_laws.proofs.MakingOwn.{made}
+use Rattle.attempt_room.specs.Room.{needed, enough, is_attempt}
+use Rattle.attempt_room.proofs.Needing.{none_needed, due_own_spends, due_attempt_needs, due_needs_nothing, jump_needs_nothing}
+use Rattle.sleep_state.specs.Places.{entries}
+use Rattle.sleep_core.specs.CoreFields.{SleptEarly, FrozeEarly, IsCore}
+use Rattle.sleep_core.specs.Cores.{IsActor}
+use Rattle.sleep_core.specs.Histories.{Kept, Admits, HasRoom, places_for, after_entry}
+use Rattle.sleep_core.specs.Numbered.{Leaves, IsCounted}
+
+-- ---- what is due is of the journal
+
+made_part : (m : Machine) (past : List Entry) (now : EventNow) (here : Stage) (k : Kind) → Made m past now here k → part_of k ≡ OfJournal
+made_part m past now _ _ Made.Ends = refl
+made_part m past now _ _ _ = refl
+
+step_part : (m : Machine) (past : List Entry) (now : EventNow) (seat : _) (asked : Bool) (o : _) (k : Kind) → StepMade m past now seat asked o k → part_of k ≡ OfJournal
+step_part m past now seat asked _ _ StepMade.Exits = refl
+step_part m past now seat asked _ _ _ = refl
+
+task_part : (m : Machine) (past : List Entry) (now : EventNow) (i : ℕ) (k : Kind) → TaskMade m past now i k → part_of k ≡ OfJournal
+task_part m past now i _ (TaskMade.Freezes s may asked) = refl
+task_part m past now i k (TaskMade.Steps s _ o may at x) = step_part m past now _ _ o k x
+
+work_part : (m : Machine) (past : List Entry) (now : EventNow) (w : _) (k : Kind) → WorkMade m past now w k → part_of k ≡ OfJournal
+work_part m past now _ _ WorkMade.Runs = refl
+work_part m past now _ _ _ = refl
+
+device_part : (m : Machine) (past : List Entry) (now : EventNow) (d : ℕ) (k : Kind) → DeviceMade m past now d k → part_of k ≡ OfJournal
+device_part m past now d _ (DeviceMade.OwnEnds p r down beside work stands) = refl
+device_part m past now d _ _ = refl
+
+entry_part : (m : Machine) (past : List Entry) (now : EventNow) (who : Actor) (k : Kind) → IsActor m who → EntryMade m past now who k → part_of k ≡ OfJournal
+entry_part m past now who k is (ByMaker _ here there _ maker at comes x) = made_part m past now there k x
+entry_part m past now _ k is (ByTask i _ not x) = task_part m past now i k x
+entry_part m past now _ k is (ByWork w _ not awake goes at x) = work_part m past now w k x
+entry_part m past now _ k is (ByDevice d _ not x) = device_part m past now d k x
+entry_part m past now _ _ is ByTime = absurd is
+
+-- the journal with an entry that is due now is legal
+pub legal_more : (m : Machine) (past : List Entry) → JournalPart m past → (e : Entry) → IsActor m e.actor → due m past e.actor e.now ≡ Makes e.kind → e.time ≡ time_of past → JournalPart m (e ∷ past)
+legal_more m past legal e is makes at =
+    (subst (JournalStep m past e) (sym (entry_part m past e.now e.actor e.kind is (made m past e.now e.actor e.kind makes))) (makes, at), legal)
+
+-- ---- numbers
+
+made_uncounted : (m : Machine) (past : List Entry) (now : EventNow) (here : Stage) (k : Kind) → Made m past now here k → IsCounted k → ⊥
+made_uncounted m past now _ _ Made.Ends h = h
+made_uncounted m past now _ _ _ h = h
+
+device_uncounted : (m : Machine) (past : List Entry) (now : EventNow) (d : ℕ) (k : Kind) → DeviceMade m past now d k → IsCounted k → ⊥
+device_uncounted m past now d _ (DeviceMade.OwnEnds p r down beside work stands) h = h
+device_uncounted m past now d _ _ h = h
+
+entry_outside : (m : Machine) (past : List Entry) (now : EventNow) (who : Actor) (k : Kind) → EntryMade m past now who k → IsCounted k → (is_actor who (maker past) ≡ false) × (is_device who ≡ false)
+entry_outside m past now who k (ByMaker _ here there _ maker at comes x) h = absurd (made_uncounted m past now there k x h)
+entry_outside m past now _ k (ByTask i _ not x) h = (not, refl)
+entry_outside m past now _ k (ByWork w _ not awake goes at x) h = (not, refl)
+entry_outside m past now _ k (ByDevice d _ not x) h = absurd (device_uncounted m past now d k x h)
+entry_outside m past now _ _ ByTime h = absurd h
+
+-- an entry that raises such a number is made outside the open attempt
+pub counted_outside : (m : Machine) (past : List Entry) (now : EventNow) (who : Actor) (k : Kind) → due m past who now ≡ Makes k → IsCounted k → (is_actor who (maker past) ≡ false) × (is_device who ≡ false)
+counted_outside m past now who k makes h = entry_outside m past now who k (made m past now who k makes) h
+
+-- ---- moments
+
+slept_busy : (busy : Bool) (pos time : ℕ) (before : Option Sleep) → time ≤ 2 ^ 63 → SleptEarly before → SleptEarly (unless_busy busy before (record { pos = pos; since = time }))
+slept_busy true pos time before t h = h
+slept_busy false pos time before t h = t
+
+-- who sleeps after an entry made early sleeps since an early moment
+pub slept_after : (k : Kind) (pos time : ℕ) (before : Option Sleep) → time ≤ 2 ^ 63 → SleptEarly before → SleptEarly (sleep_after k pos time before)
+slept_after (kind.Enter busy) pos time before t h = slept_busy busy pos time before t h
+slept_after (kind.Wake by_event) pos time before t h = tt
+slept_after _ pos time before t h = h
+
+-- a freeze that goes on after an entry made early goes on since an early moment
+pub froze_after : (k : Kind) (time : ℕ) (before : Option ℕ) → time ≤ 2 ^ 63 → FrozeEarly before → FrozeEarly (freeze_since_after k time before)
+froze_after (kind.Freeze g) time before t h = t
+froze_after (kind.Froze g end) time before t h = tt
+froze_after _ time before t h = h
+
+-- the time after an entry made early is early
+pub time_early : (k : Kind) (at before : ℕ) → at ≤ 2 ^ 63 → before ≤ 2 ^ 63 → time_after k at before ≤ 2 ^ 63
+time_early kind.Jump at before a b = a
+time_early _ at before a b = b
+
+-- ---- room
+
+attempt_places : (m : Machine) (k : Kind) (who : Option Actor) (room : ℕ) → is_attempt k ≡ true → places_for m k who room ≡ enough m
+attempt_places m (kind.Attempt n guarded) who room is = refl
+attempt_places m _ who room is = absurd (false≢true is)
+
+other_places : (m : Machine) (k : Kind) (who : Option Actor) (room places : ℕ) → is_attempt k ≡ false → places_for m k who room ≤ places → (who ≡ None → 1 ≤ places) × ((who ≡ None → ⊥) → room + 1 ≤ places)
+other_places m (kind.Attempt n guarded) who room places is fits = absurd (false≢true (sym is))
+other_places m k None room places is fits = (λ none. fits, λ some. absurd (some refl))
+other_places m k (Some w) room places is fits = (λ none. absurd (let e : Some w ≡ None = none in cc), λ some. fits)
+
+-- the room that an entry wants, and that is left behind it
+pub record Suffices (m : Machine) (past : List Entry) (e : Entry) (room : ℕ) : Type 0 where
+  pub place : 0 < room
+  pub rest : needed m (e ∷ past) + 1 ≤ room
+
+by_maker : (m : Machine) (past : List Entry) → JournalPart m past → (e : Entry) (room places : ℕ) → needed m past ≤ room → needed m (e ∷ past) ≡ needed m past → (who : Option Actor) → who ≡ maker past → (who ≡ None → 1 ≤ places) × ((who ≡ None → ⊥) → room + 1 ≤ places) → Suffices m past e places
+by_maker m past legal e room places fits same None is more =
+    let nothing : needed m past ≡ 0 = none_needed m past legal (sym is) in
+    let one : 1 ≤ places = more.0 refl in
+    record { place = omega (arith, one); rest = omega (arith, same, nothing, one) }
+by_maker m past legal e room places fits same (Some w) is more =
+    let one : room + 1 ≤ places = more.1 (λ none. let e : Some w ≡ None = none in cc) in
+    record { place = omega (arith, one); rest = omega (arith, same, fits, one) }
+
+other_room : (m : Machine) (past : List Entry) → JournalPart m past → (e : Entry) (room places : ℕ) → due m past e.actor e.now ≡ Makes e.kind → needed m past ≤ room → is_actor e.actor (maker past) ≡ false → is_device e.actor ≡ false → places_for m e.kind (maker past) room ≤ places → (b : Bool) → is_attempt e.kind ≡ b → Suffices m past e places
+other_room m past legal e room places makes fits not_maker not_device more true is =
+    let spends : needed m (e ∷ past) + 1 ≤ enough m = due_attempt_needs m past legal e.time e.now e.actor e.kind makes is in
+    let all : places_for m e.kind (maker past) room ≡ enough m = attempt_places m e.kind (maker past) room is in
+    record { place = omega (arith, spends, all, more); rest = omega (arith, spends, all, more) }
+other_room m past legal e room places makes fits not_maker not_device more false is =
+    by_maker m past legal e room places fits (due_needs_nothing m past legal e.time e.now e.actor e.kind makes not_maker not_device is) (maker past) refl
+    (other_places m e.kind (maker past) room places is more)
+
+either : (a b : Bool) → false ≡ (a || b) → (a ≡ false) × (b ≡ false)
+either true b e = absurd (false≢true e)
+either false b e = (refl, sym e)
+
+-- the room that was made for an entry suffices
+pub room_suffices : (m : Machine) (past : List Entry) → JournalPart m past → IsAccepted m → (e : Entry) (room places : ℕ) → due m past e.actor e.now ≡ Makes e.kind → needed m past ≤ room → (own : Bool) → own ≡ (is_actor e.actor (maker past) || is_device e.actor) → (own ≡ true → places ≡ room) → (own ≡ false → places_for m e.kind (maker past) room ≤ places) → Suffices m past e places
+room_suffices m past legal accepted e room places makes fits true is own other =
+    let spends : needed m (e ∷ past) + 1 ≤ needed m past = due_own_spends m past legal e.time e.now accepted e.actor e.kind makes (sym is) in
+    let same : places ≡ room = own refl in
+    record { place = omega (arith, spends, same, fits); rest = omega (arith, spends, same, fits) }
+room_suffices m past legal accepted e room places makes fits false is own other =
+    let none : (is_actor e.actor (maker past) ≡ false) × (is_device e.actor ≡ false) = either (is_actor e.actor (maker past)) (is_device e.actor) is in
+    other_room m past legal e room places makes fits none.0 none.1 (other refl) (is_attempt e.kind) refl
+
+-- the core after an entry that was due, in the room that was made for it
+pub core_more : (h reserved new : Kept) (j : JournalEntry) (own : Bool) → IsCore h → IsActor h.machine j.entry.actor → due h.machine (entries h.past) j.entry.actor j.entry.now ≡ Makes j.entry.kind → j.entry.time ≡ time_of (entries h.past) → Leaves h.machine j.entry.kind (entries h.past) → own ≡ (is_actor j.entry.actor (maker (entries h.past)) || is_device j.entry.actor) → HasRoom own j.entry.kind h reserved → new ≡ after_entry reserved j → IsCore new
+core_more h reserved new j own core is makes at leaves own_is has new_is =
+    let m = h.machine in
+    let past = entries h.past in
+    let suffices = room_suffices m past core.legal core.accepted j.entry h.room reserved.room makes core.room own own_is has.own_room has.other_room in
+    let kept : Kept = record { machine = m; past = j ∷ h.past; room = reserved.room - 1 } in
+    let here : new ≡ kept = new_is ∙ (ap (λ (x : Machine). record { machine = x; past = j ∷ reserved.past; room = reserved.room - 1 }) has.machine ∙ ap (λ (xs : List JournalEntry). record { machine = m; past = j ∷ xs; room = reserved.room - 1 }) has.past) in
+    let early : j.entry.time ≤ 2 ^ 63 = subst (λ t. t ≤ 2 ^ 63) (sym at) core.early in
+    subst IsCore (sym here) (record {
+      accepted = core.accepted;
+      built = core.built;
+      legal = legal_more m past core.legal j.entry is makes at;
+      room = omega (arith, suffices.rest);
+      few = leaves.attempts;
+      early = time_early j.entry.kind j.entry.time (time_of past) early core.early;
+      slept = slept_after j.entry.kind (position j.entry.now) j.entry.time (sleep_of past) early core.slept;
+      froze = froze_after j.entry.kind j.entry.time (freeze_since past) early core.froze;
+    })
+
+-- an entry that is due may be appended in that room
+pub admits_more : (h reserved : Kept) (e : Entry) (own : Bool) → IsCore h → due h.machine (entries h.past) e.actor e.now ≡ Makes e.kind → Leaves h.machine e.kind (entries h.past) → own ≡ (is_actor e.actor (maker (entries h.past)) || is_device e.actor) → HasRoom own e.kind h reserved → length reserved.past < 2 ^ 63 → Admits reserved e
+admits_more h reserved e own core makes leaves own_is has short =
+    let m = h.machine in
+    let past = entries h.past in
+    let suffices = room_suffices m past core.legal core.accepted e h.room reserved.room makes core.room own own_is has.own_room has.other_room in
+    let few : attempts_after e.kind (attempts past) + 1 < 2 ^ 32 = leaves.attempts in
+    record {
+      room = suffices.place;
+      attempts = subst (λ (xs : List JournalEntry). attempts_after e.kind (attempts (entries xs)) < 2 ^ 32) (sym has.past) (omega (arith, few));
+      runs = subst (λ (xs : List JournalEntry). runs_after e.kind (runs (entries xs)) < 2 ^ 32) (sym has.past) leaves.runs;
+      seat = seat_small (length reserved.machine.actors) reserved.past e.actor short;
+      marks = subst (λ (xs : List JournalEntry). MarksAreSmall e.kind (raised (length reserved.machine.marks) (entries xs))) (sym has.past)
+          (subst (λ (x : Machine). MarksAreSmall e.kind (raised (length x.marks) past)) (sym has.machine) leaves.marks);
+    }
+
+-- ---- jumps of time
+
+-- a jump may be appended where one more place was made
+pub admits_jump : (h reserved : Kept) (t : ℕ) (now : EventNow) → IsCore h → reserved.machine ≡ h.machine → reserved.past ≡ h.past → h.room + 1 ≤ reserved.room → runs (entries reserved.past) < 2 ^ 32 → length reserved.past < 2 ^ 63 → Admits reserved (record { time = t; now = now; actor = actor.Time; kind = kind.Jump })
+admits_jump h reserved t now core machine past room few_runs short = record {
+  room = omega (arith, room);
+  attempts = subst (λ (xs : List JournalEntry). attempts (entries xs) < 2 ^ 32) (sym past) (omega (arith, core.few));
+  runs = few_runs;
+  seat = tt;
+  marks = tt;
+}
+
+-- the core after a jump
+pub core_jumped : (h reserved new : Kept) (s : Stamp) (t : ℕ) (now : EventNow) → IsCore h → reserved.machine ≡ h.machine → reserved.past ≡ h.past → h.room + 1 ≤ reserved.room → time_of (entries h.past) < t → t ≤ 2 ^ 63
+    → new ≡ after_entry reserved (record { stamp = s; entry = record { time = t; now = now; actor = actor.Time; kind = kind.Jump } }) → IsCore new
+core_jumped h reserved new s t now core machine past room later small new_is =
+    let j : JournalEntry = record { stamp = s; entry = record { time = t; now = now; actor = actor.Time; kind = kind.Jump } } in
+    let kept : Kept = record { machine = h.machine; past = j ∷ h.past; room = reserved.room - 1 } in
+    let here : new ≡ kept = new_is ∙ (ap (λ (x : Machine). record { machine = x; past = j ∷ reserved.past; room = reserved.room - 1 }) machine ∙ ap (λ (xs : List JournalEntry). record { machine = h.machine; past = j ∷ xs; room = reserved.room - 1 }) past) in
+    subst IsCore (sym here) (record {
+      accepted = core.accepted;
+      built = core.built;
+      legal = ((refl, later), core.legal);
+      room = omega (arith, jump_needs_nothing h.machine (entries h.past) core.legal t now, core.room, room);
+      few = core.few;
+      early = small;
+      slept = core.slept;
+      froze = core.froze;
+    })
+
+-- ---- the beginning
+
+-- the core before its first entry
+pub core_empty : (m : Machine) → IsAccepted m → is_built m ≡ true → IsCore (record { machine = m; past = []; room = 0 })
+core_empty m accepted built = record {
+  accepted = accepted;
+  built = built;
+  legal = tt;
+  room = omega (arith, none_needed m [] tt refl);
+  few = omega arith;
+  early = omega arith;
+  slept = tt;
+  froze = tt;
+}

@@ -1,0 +1,36 @@
+-- What the phases of devices look at in the core is what stands at its place.
+use Rattle.std.proofs.Common.{◌≡◌, ◌∙◌, ◌⊎◌, inl, inr, ℕ, true, false, length, map, refl, sym, ap, subst}
+use Rattle.std.proofs.lemmas.Bool.{false≢true}
+use Rattle.phase_table.specs.declared.phase.Phase.{Phase}
+use Rattle.phase_table.specs.Phases.{is_down, is_up}
+use Rattle.sleep_model.specs.declared.word.EventNow.{EventNow}
+use Rattle.sleep_model.specs.Devices.{phase_failed, own_error, willing}
+use Rattle.sleep_model.specs.Guard.{pending}
+use Rattle.sleep_model.specs.Runtime.{may_wake, statuses}
+use Rattle.async_board.specs.AtPlaces.{board_at}
+use Rattle.phase_suspend.specs.declared.down.Down.{Down}
+use Rattle.phase_suspend.specs.declared.down.DownEnv.{DownEnv}
+use Rattle.phase_suspend.specs.AtPlaces.{down_at}
+use Rattle.phase_suspend.specs.Downs.{DownState, down_state}
+use Rattle.sleep_state.specs.Places.{entries}
+use Rattle.sleep_core.specs.Cores.{CoreState}
+use Rattle.sleep_core.specs.Seen.{AreSeen}
+
+-- the state that a phase on the way down sees
+pub seen_is : (core : CoreState) (now : EventNow) (env : DownEnv) (down : Down) → AreSeen core now env → down.failed ≡ phase_failed (entries core.past) → down.own ≡ own_error (entries core.past) → down_state down env ≡ down_at core.machine (entries core.past) now
+seen_is core now env down seen failed own =
+    let m = core.machine in
+    let past = entries core.past in
+    let start = down_state down env in
+    ap (λ b. record start { board = b }) seen.board
+    ∙ (ap (λ f. record start { board = board_at m past; failed = f }) failed
+    ∙ (ap (λ o. record start { board = board_at m past; failed = phase_failed past; own = o }) own
+    ∙ (ap (λ w. record start { board = board_at m past; failed = phase_failed past; own = own_error past; willing = w }) seen.willing_are
+    ∙ (ap (λ s. record start { board = board_at m past; failed = phase_failed past; own = own_error past; willing = willing (length m.devices) past; statuses = s }) seen.statuses_are
+    ∙ (ap (λ w. record start { board = board_at m past; failed = phase_failed past; own = own_error past; willing = willing (length m.devices) past; statuses = statuses m.devices past; wakeup = w }) seen.wakeup_are
+    ∙ ap (λ (p : _). record { board = board_at m past; failed = phase_failed past; own = own_error past; willing = willing (length m.devices) past; statuses = statuses m.devices past; wakeup = map may_wake m.devices; pending = p }) seen.pending_is)))))
+
+-- a phase that is not on the way down is on the way up
+pub up_if_not : (p : Phase) → (is_down p ≡ true) ⊎ (is_up p ≡ true) → is_down p ≡ false → is_up p ≡ true
+up_if_not p (inl down) not_down = absurd (false≢true (sym not_down ∙ down))
+up_if_not p (inr up) not_down = up

@@ -1,0 +1,31 @@
+use Rattle.std.proofs.Common.{◌≡◌, ◌∙◌, ◌<◌, ◌^◌, map, ap, sym, subst, arith}
+use Rattle.sleep_model.specs.declared.machine.Machine.{Machine}
+use Rattle.sleep_model.specs.Autosleep.{runs}
+use Rattle.sleep_model.specs.Numbers.{time_of}
+use Rattle.sleep_model.specs.Runtime.{may_wake}
+use Rattle.sleep_state.specs.Autosleeps.{AutosleepState}
+use Rattle.sleep_state.specs.Places.{entries}
+use Rattle.sleep_core.specs.Cores.{CoreState}
+use Rattle.sleep_core.specs.Histories.{Kept}
+use Rattle.sleep_core.proofs.Turning.{admits_jump, core_jumped}
+use Rattle.sleep_core.proofs.state.Core.jump.Goals as goal
+
+pub append-requires : goal.append-requires
+append-requires c =
+    admits_jump c.self.inside.history c.reserve.new.self c.args.to c.args.seen c.self.invariant.core c.in_ok-reserve.ensures.machine c.in_ok-reserve.ensures.past
+    (omega (arith, c.in_ok-reserve.ensures.ok, c.room-places.ensures.room))
+    (omega (arith, c.runs-runs.type_inv, c.runs-runs.ensures, ap (λ (a : AutosleepState). a.runs) c.autosleep.ensures))
+    (omega (arith, c.len-made.ensures.len, c.len-made.ensures.small))
+
+pub invariant_of-self-2 : goal.invariant_of-self-2
+invariant_of-self-2 c =
+    let h = c.self.inside.history in
+    let same : c.append.new.self.machine ≡ h.machine = ap (λ (k : Kept). k.machine) c.append.ensures ∙ c.in_ok-reserve.ensures.machine in
+    record {
+      core = core_jumped h c.reserve.new.self c.append.new.self _ c.args.to c.args.seen c.self.invariant.core c.in_ok-reserve.ensures.machine c.in_ok-reserve.ensures.past
+          (omega (arith, c.in_ok-reserve.ensures.ok, c.room-places.ensures.room))
+          (subst (λ (s : CoreState). time_of (entries s.past) < c.args.to) (sym c.self.view_is) c.requires.later) c.requires.small c.append.ensures;
+      plans_are = c.self.invariant.plans_are ∙ ap (λ (m : Machine). m.actors) (sym same);
+      answers_are = c.self.invariant.answers_are ∙ ap (λ (m : Machine). m.answers) (sym same);
+      wakeup_is = c.self.invariant.wakeup_is ∙ ap (λ (m : Machine). map may_wake m.devices) (sym same);
+    }

@@ -1,0 +1,47 @@
+use Rattle.std.proofs.Common.{◌≡◌, ◌∙◌, ◌||◌, List, map, ap, refl, sym, subst, arith}
+use Rattle.sleep_model.specs.declared.entry.JournalEntry.{JournalEntry}
+use Rattle.sleep_model.specs.declared.place.Due.TheVariants.{Makes}
+use Rattle.sleep_model.specs.declared.machine.Machine.{Machine}
+use Rattle.sleep_model.specs.Runtime.{may_wake}
+use Rattle.sleep_core.specs.Histories.{Kept}
+use Rattle.sleep_model.specs.Devices.{is_device}
+use Rattle.sleep_model.specs.Due.{due}
+use Rattle.sleep_model.specs.Numbers.{time_of}
+use Rattle.sleep_model.specs.Path.{is_actor, maker}
+use Rattle.sleep_state.specs.Places.{entries}
+use Rattle.sleep_core.specs.Cores.{CoreState, IsActor}
+use Rattle.sleep_core.specs.Numbered.{Leaves}
+use Rattle.sleep_core.proofs.Turning.{counted_outside, admits_more, core_more}
+use Rattle.sleep_core.proofs.state.Core.make.Goals as goal
+
+pub returns-then-not-leaves-clause-err : goal.returns-then-not-leaves-clause-err
+returns-then-not-leaves-clause-err c =
+    let s = c.args.self.now in
+    let outside = counted_outside s.machine (entries s.past) c.args.now c.args.who c.args.kind c.requires.due c.if-not-leaves.ensures.counted in
+    (outside.0, outside.1, refl)
+
+pub append-requires : goal.append-requires
+append-requires c =
+    admits_more c.self.inside.history c.make_room.new.self (record { time = c.time.result; now = c.args.now; actor = c.args.who; kind = c.args.kind }) c.is_own-own.result c.self.invariant.core
+    (subst (λ (s : CoreState). due s.machine (entries s.past) c.args.who c.args.now ≡ Makes c.args.kind) (sym c.self.view_is) c.requires.due)
+    (subst (λ (s : CoreState). Leaves s.machine c.args.kind (entries s.past)) (sym c.self.view_is) c.if-not-leaves.ensures.fits)
+    (subst (λ (s : CoreState). c.is_own-own.result ≡ (is_actor c.args.who (maker (entries s.past)) || is_device c.args.who)) (sym c.self.view_is) c.is_own-own.ensures)
+    c.in-Ok.ensures.ok (omega (arith, c.len-made.ensures.len, c.len-made.ensures.small))
+
+pub invariant_of-self-2 : goal.invariant_of-self-2
+invariant_of-self-2 c =
+    let h = c.self.inside.history in
+    let has = c.in-Ok.ensures.ok in
+    let same : c.append.new.self.machine ≡ h.machine = ap (λ (k : Kept). k.machine) c.append.ensures ∙ has.machine in
+    record {
+      core = core_more h c.make_room.new.self c.append.new.self (record { stamp = c.args.stamp; entry = record { time = c.time.result; now = c.args.now; actor = c.args.who; kind = c.args.kind } }) c.is_own-own.result c.self.invariant.core
+          (subst (λ (s : CoreState). IsActor s.machine c.args.who) (sym c.self.view_is) c.requires.actor)
+          (subst (λ (s : CoreState). due s.machine (entries s.past) c.args.who c.args.now ≡ Makes c.args.kind) (sym c.self.view_is) c.requires.due)
+          (c.time.ensures ∙ ap (λ (xs : List JournalEntry). time_of (entries xs)) has.past)
+          (subst (λ (s : CoreState). Leaves s.machine c.args.kind (entries s.past)) (sym c.self.view_is) c.if-not-leaves.ensures.fits)
+          (subst (λ (s : CoreState). c.is_own-own.result ≡ (is_actor c.args.who (maker (entries s.past)) || is_device c.args.who)) (sym c.self.view_is) c.is_own-own.ensures)
+          has c.append.ensures;
+      plans_are = c.self.invariant.plans_are ∙ ap (λ (m : Machine). m.actors) (sym same);
+      answers_are = c.self.invariant.answers_are ∙ ap (λ (m : Machine). m.answers) (sym same);
+      wakeup_is = c.self.invariant.wakeup_is ∙ ap (λ (m : Machine). map may_wake m.devices) (sym same);
+    }

@@ -1,0 +1,8 @@
+use Rattle.std.proofs.Common.{◌∙◌, ap}
+use Rattle.sleep_state.specs.Paths.{PathState}
+use Rattle.sleep_core.proofs.Propers.{proper_if}
+use Rattle.sleep_state.specs.Places.{entries}
+use Rattle.sleep_core.proofs.state.Core.stage.Goals as goal
+
+pub returns-clause-proper : goal.returns-clause-proper
+returns-clause-proper c = proper_if (entries c.self.inside.history.past) c.stage.result (c.stage.ensures ∙ ap (λ (p : PathState). p.stage) c.path.ensures)

@@ -1,0 +1,208 @@
+//! What the maker of the open attempt does next, stage by stage (`kernel/power/suspend.c`).
+
+ghost use Rattle.std.specs.Prelude.{◌≡◌, ◌≤◌, ◌^◌};
+ghost use Rattle.sleep_model.specs.declared.place.Due.TheVariants.{Makes};
+ghost use Rattle.sleep_model.specs.declared.entry.Kind.TheVariants as kind;
+ghost use Rattle.sleep_model.specs.declared.machine.What.TheVariants as what;
+ghost use Rattle.sleep_model.specs.Attempt.{answered, freeze_since, sleep_of, freeze_due, froze_due, wakes_due, enter_due, if_left, cpu_kind, busy_error, stage_due, stage_or_next, due_at, attempt_due};
+ghost use Rattle.sleep_model.specs.Freezer.{left};
+ghost use Rattle.sleep_model.specs.Guard.{pending};
+ghost use Rattle.sleep_model.specs.Notifiers.{next_called, next_posted, next_cpu_off, next_cpu_on, next_stopped, next_started};
+ghost use Rattle.sleep_model.specs.Table.{stage_of, behind};
+ghost use Rattle.sleep_state.specs.Places.{entries};
+ghost use Rattle.sleep_core.specs.Stages.{IsProper};
+
+use crate::state::Core;
+use sleep_base::Errno;
+use sleep_model::{Due, EventNow, FrozeEnd, Group, Kind, PlatDo, Sleep, Stage, What, Why, pos};
+use sleep_state::behind;
+
+/// EBUSY where a wakeup is pending.
+fn busy_error(busy: bool) -> Option<Errno>
+    ensures { result ≡ busy_error busy }
+{
+    if busy { Some(Errno::EBUSY) } else { None }
+}
+
+impl<'m> Core<'m> {
+    /// The next notifier is told of the attempt.
+    fn notify_due(&self) -> Due
+        ensures { result ≡ if_left (λ x. kind.NotifyPrepare x (answered self.now.machine (entries self.now.past) (what.Notifier x)))
+            (next_called self.now.machine (entries self.now.past)) }
+    {
+        match self.next_called() {
+            None => Due::Gone,
+            Some(x) => Due::Makes(Kind::NotifyPrepare(x, self.answered(What::Notifier(x)))),
+        }
+    }
+
+    /// A freeze of a group that goes on since that time.
+    fn froze_due(&self, now: EventNow, group: Group, since: u64) -> Due
+        requires { since ≤ 2 ^ 63 }
+        ensures { result ≡ froze_due (entries self.now.past) now group since (left self.now.machine group (entries self.now.past)) }
+    {
+        let left = self.left(group);
+        let Some(first) = left.first else {
+            return Due::Makes(Kind::Froze(group, FrozeEnd::AllFrozen));
+        };
+        let left = left.count;
+        if since + 20000 <= self.now() {
+            Due::Makes(Kind::Froze(group, FrozeEnd::Timeout { left, first }))
+        } else if self.pending(now) {
+            Due::Makes(Kind::Froze(group, FrozeEnd::Wakeup { left, first }))
+        } else {
+            Due::Waits(Why::Tasks {
+                left,
+                until: since + 20000,
+            })
+        }
+    }
+
+    /// A freeze of a group: it asks the group's tasks, then waits for them.
+    fn freeze_due(&self, now: EventNow, group: Group) -> Due
+        ensures { result ≡ freeze_due self.now.machine (entries self.now.past) now group (freeze_since (entries self.now.past)) }
+    {
+        match self.freeze_since() {
+            None => Due::Makes(Kind::Freeze(group)),
+            Some(since) => self.froze_due(now, group, since),
+        }
+    }
+
+    /// A step of the platform on the way down.
+    fn ask_due(&self, step: PlatDo) -> Due
+        ensures { result ≡ Makes (kind.PlatformDo step (answered self.now.machine (entries self.now.past) (what.Platform step))) }
+    {
+        Due::Makes(Kind::PlatformDo(step, self.answered(What::Platform(step))))
+    }
+
+    /// The next processor is stopped, unless a wakeup is pending.
+    fn cpu_off_due(&self, now: EventNow) -> Due
+        ensures { result ≡ if_left (cpu_kind (pending (entries self.now.past) now)) (next_cpu_off self.now.machine (entries self.now.past)) }
+    {
+        match self.history.platform().next_cpu_off() {
+            None => Due::Gone,
+            Some(k) if self.pending(now) => Due::Makes(Kind::CpuBusy(k)),
+            Some(k) => Due::Makes(Kind::CpuOff(k)),
+        }
+    }
+
+    /// The next part of the core is suspended.
+    fn stop_due(&self) -> Due
+        ensures { result ≡ if_left (λ x. kind.SyscoreSuspend x (answered self.now.machine (entries self.now.past) (what.Syscore x)))
+            (next_stopped self.now.machine (entries self.now.past)) }
+    {
+        match self.next_stopped() {
+            None => Due::Gone,
+            Some(x) => Due::Makes(Kind::SyscoreSuspend(x, self.answered(What::Syscore(x)))),
+        }
+    }
+
+    /// What wakes a machine that entered sleep so.
+    fn wakes_due(&self, now: EventNow, sleep: Sleep) -> Due
+        requires { sleep.since ≤ 2 ^ 63 }
+        ensures { result ≡ wakes_due self.now.machine (entries self.now.past) now sleep }
+    {
+        if sleep.pos < pos(now) {
+            Due::Makes(Kind::Wake { by_event: true })
+        } else if sleep.since + self.alarm_ms() <= self.now() {
+            Due::Makes(Kind::Wake { by_event: false })
+        } else {
+            Due::Waits(Why::Asleep)
+        }
+    }
+
+    /// The entering, and the sleep behind it.
+    fn enter_due(&self, now: EventNow) -> Due
+        ensures { result ≡ enter_due self.now.machine (entries self.now.past) now (sleep_of (entries self.now.past)) }
+    {
+        match self.sleep() {
+            None => Due::Makes(Kind::Enter {
+                busy: self.pending(now),
+            }),
+            Some(sleep) => self.wakes_due(now, sleep),
+        }
+    }
+
+    /// The next part of the core is resumed.
+    fn start_due(&self) -> Due
+        ensures { result ≡ if_left kind.SyscoreResume (next_started self.now.machine (entries self.now.past)) }
+    {
+        match self.history.syscore().next_started() {
+            None => Due::Gone,
+            Some(x) => Due::Makes(Kind::SyscoreResume(x)),
+        }
+    }
+
+    /// The next processor is started.
+    fn cpu_on_due(&self) -> Due
+        ensures { result ≡ if_left kind.CpuOn (next_cpu_on self.now.machine (entries self.now.past)) }
+    {
+        match self.history.platform().next_cpu_on() {
+            None => Due::Gone,
+            Some(k) => Due::Makes(Kind::CpuOn(k)),
+        }
+    }
+
+    /// The next notifier is told that the attempt is over.
+    fn post_due(&self) -> Due
+        ensures { result ≡ if_left kind.NotifyPost (next_posted self.now.machine (entries self.now.past)) }
+    {
+        match self.history.platform().next_posted() {
+            None => Due::Gone,
+            Some(x) => Due::Makes(Kind::NotifyPost(x)),
+        }
+    }
+
+    /// What the maker makes at a stage, if that has anything left.
+    fn stage_due(&self, now: EventNow, stage: Stage) -> Due
+        requires { IsProper stage }
+        ensures { result ≡ stage_due self.now.machine (entries self.now.past) now stage }
+    {
+        match stage {
+            Stage::Notifies => self.notify_due(),
+            Stage::Freezes(group) => self.freeze_due(now, group),
+            Stage::Asks(step) => self.ask_due(step),
+            Stage::Prepares => self.prepare_due(),
+            Stage::Downs(p) => self.down_due(now, p),
+            Stage::StopsCpus => self.cpu_off_due(now),
+            Stage::StopsIrqs => Due::Makes(Kind::Irqs { on: false }),
+            Stage::Checks => Due::Makes(Kind::SyscoreCheck(busy_error(self.pending(now)))),
+            Stage::StopsSyscore => self.stop_due(),
+            Stage::Enters => self.enter_due(now),
+            Stage::StartsSyscore => self.start_due(),
+            Stage::StartsIrqs => Due::Makes(Kind::Irqs { on: true }),
+            Stage::StartsCpus => self.cpu_on_due(),
+            Stage::Tells(step) => Due::Makes(Kind::PlatformUndo(step)),
+            Stage::Ups(p) => self.up_due(p),
+            Stage::Completes => self.complete_due(),
+            Stage::Clears => Due::Makes(Kind::Clear),
+            Stage::Thaws(those) => Due::Makes(Kind::Thaw(those)),
+            Stage::Posts => self.post_due(),
+            Stage::Ends => Due::Makes(Kind::Over {
+                n: self.attempts(),
+                r: self.history.path().failed(),
+            }),
+        }
+    }
+
+    /// What is made at a stage, or else at the one behind it.
+    fn stage_or_next(&self, now: EventNow, stage: Stage) -> Due
+        requires { IsProper stage }
+        ensures { result ≡ stage_or_next self.now.machine (entries self.now.past) now stage }
+    {
+        match self.stage_due(now, stage) {
+            Due::Gone => self.stage_due(now, behind(stage)),
+            due => due,
+        }
+    }
+
+    /// What the maker of the open attempt makes next.
+    pub(crate) fn attempt_due(&self, now: EventNow) -> Due
+        ensures { result ≡ attempt_due self.now.machine (entries self.now.past) now }
+    {
+        match self.stage() {
+            None => Due::Gone,
+            Some(stage) => self.stage_or_next(now, stage),
+        }
+    }
+}

@@ -1,0 +1,36 @@
+//! What is due of an actor.
+
+ghost use Rattle.std.specs.Prelude.{◌≡◌};
+ghost use Rattle.sleep_model.specs.Due.{own_due, due};
+ghost use Rattle.sleep_state.specs.Places.{entries};
+ghost use Rattle.sleep_core.specs.Cores.{IsActor};
+
+use crate::state::Core;
+use sleep_model::{Actor, Due, EventNow};
+
+impl<'m> Core<'m> {
+    /// What is due of an actor that makes no attempt.
+    fn own_due(&self, who: Actor, now: EventNow) -> Due
+        requires { IsActor self.now.machine who }
+        ensures { result ≡ own_due self.now.machine (entries self.now.past) who now }
+    {
+        match who {
+            Actor::Script(script) => self.script_due(script, now),
+            Actor::Auto => self.auto_due(now),
+            Actor::Dev(device) => self.device_due(now, device),
+            Actor::Timer(_) | Actor::Time => Due::Gone,
+        }
+    }
+
+    /// What is due of an actor that sees this word.
+    pub(crate) fn due(&self, who: Actor, now: EventNow) -> Due
+        requires { IsActor self.now.machine who }
+        ensures { result ≡ due self.now.machine (entries self.now.past) who now }
+    {
+        if self.is_maker(who) {
+            self.attempt_due(now)
+        } else {
+            self.own_due(who, now)
+        }
+    }
+}

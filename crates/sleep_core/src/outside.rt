@@ -1,0 +1,128 @@
+//! What a run asks of the core between turns: jumps of time, calls that are due, and whether all is over.
+
+ghost use Rattle.std.specs.Prelude.{◌≡◌, ◌≤◌, ◌<◌, ◌+◌, ◌-◌, ◌^◌, ◌&&◌, ◌||◌, nat_lt, is_none, length, reverse, IfOk, OnErr};
+ghost use Rattle.sleep_model.specs.Calls.{calls_due, pieces_in};
+ghost use Rattle.sleep_model.specs.Due.{due, all_gone};
+ghost use Rattle.sleep_model.specs.Legal.{JournalPart, is_made};
+ghost use Rattle.sleep_model.specs.Links.{first_places};
+ghost use Rattle.sleep_model.specs.Numbers.{time_of};
+ghost use Rattle.sleep_model.specs.Order.{above, below};
+ghost use Rattle.sleep_model.specs.Path.{maker};
+ghost use Rattle.sleep_model.specs.Seats.{seat_at, seats};
+ghost use Rattle.sleep_model.specs.Word.{position};
+ghost use Rattle.sleep_state.specs.Places.{entries};
+ghost use Rattle.script_plan.specs.Plans.{calls_before};
+ghost use Rattle.sleep_core.specs.Cores.{IsActor, with_entry, next_stamp, jump_entry};
+ghost use Rattle.sleep_core.specs.Histories.{last_stamp};
+
+use crate::state::Core;
+use sleep_base::Mem;
+use sleep_model::{Actor, Due, Entry, EventNow, JournalEntry, Kind, Stamp, pos};
+
+impl<'m> Core<'m> {
+    /// Time jumps to `to` ms, later than now, as seen at a word that was looked at. That the moment is the
+    /// next pending one is for the caller to see to. `Mem` where there is no memory; nothing has changed then.
+    pub fn jump(&mut self, seen: EventNow, to: u64, floor: Stamp) -> Result<Stamp, Mem>
+        requires floor { floor.pos ≤ position seen }
+        requires last { (last_stamp self.old.past).pos ≤ position seen }
+        requires tick { floor.tick < 2 ^ 64 - 1 }
+        requires last_tick { (last_stamp self.old.past).tick < 2 ^ 64 - 1 }
+        requires later { time_of (entries self.old.past) < to }
+        requires small { to ≤ 2 ^ 63 }
+        ensures ok { IfOk result (λ stamp. (stamp ≡ next_stamp self.old.past floor seen)
+            × (self.new ≡ with_entry self.old (jump_entry self.old.past seen to floor))) }
+        ensures err { OnErr result (self.new ≡ self.old) }
+        ensures legal { JournalPart self.new.machine (entries self.new.past) }
+    {
+        let stamp = Stamp {
+            pos: pos(seen),
+            tick: floor.tick.max(self.history.last().tick) + 1,
+        };
+        let places = self.history.room() + 1;
+        self.history.reserve(places)?;
+        // A journal is shorter than 2^63, and the work's runs have a number of 32 bits.
+        let _made = self.history.len();
+        let _runs = self.history.autosleep().runs();
+        let entry = Entry {
+            time: to,
+            now: seen,
+            actor: Actor::Time,
+            kind: Kind::Jump,
+        };
+        self.history.append(JournalEntry { stamp, entry });
+        Ok(stamp)
+    }
+
+    /// How many calls on sources a script has to have made before its next entry, by its plan.
+    fn script_calls_due(&self, script: u32) -> u32
+        requires { script < length self.now.machine.actors }
+        ensures { result ≡ calls_before (pieces_in self.now.machine script)
+            (seat_at (seats (length self.now.machine.actors) (entries self.now.past)) script).turns }
+    {
+        let seat = self.history.tasks().seat(script);
+        self.plans[script as usize].calls_before(seat.turns)
+    }
+
+    /// How many calls on sources the actor has to have made before its next entry of the journal
+    /// (`pm_wakeup_event`, `pm_stay_awake`, `pm_relax`).
+    pub fn calls_due(&self, who: Actor) -> u32
+        requires { IsActor self.now.machine who }
+        ensures { result ≡ calls_due self.now.machine who (entries self.now.past) }
+    {
+        // A look at the field makes the invariant known here: no callback reports anything.
+        let _ = &self.history;
+        match who {
+            Actor::Script(script) => self.script_calls_due(script),
+            _ => 0,
+        }
+    }
+
+    /// Whether the actor, which has made so many calls on sources, has one to make, or can make an entry that
+    /// sees this word. `time` is the time of the last jump in ms.
+    pub fn enabled(&self, who: Actor, calls: u32, now: EventNow, time: u64) -> bool
+        requires actor { IsActor self.now.machine who }
+        requires time { time ≡ time_of (entries self.now.past) }
+        ensures { result ≡ (nat_lt calls (calls_due self.now.machine who (entries self.now.past))
+            || is_made (due self.now.machine (entries self.now.past) who now)) }
+    {
+        let _ = time;
+        calls < self.calls_due(who) || matches!(self.due(who, now), Due::Makes(_))
+    }
+
+    /// The time of the last jump in ms, else 0.
+    pub fn time(&self) -> u64
+        ensures time { result ≡ time_of (entries self.now.past) }
+        ensures small { result ≤ 2 ^ 63 }
+    {
+        self.now()
+    }
+
+    /// Whether every script has exited and no attempt is open.
+    pub fn whole(&self) -> bool
+        ensures { result ≡ (all_gone self.now.machine (entries self.now.past) && is_none (maker (entries self.now.past))) }
+    {
+        self.history.tasks().all_exited() && self.history.path().maker().is_none()
+    }
+
+    /// The devices that hang right below one: its children, then its consumers, each once.
+    pub fn below(&self, device: u32) -> &[u32]
+        ensures { result.now ≡ first_places (below self.now.machine device) }
+    {
+        self.history.board().links().below(device)
+    }
+
+    /// The devices that one hangs right below: its parent, then its suppliers, each once.
+    pub fn above(&self, device: u32) -> &[u32]
+        ensures { result.now ≡ first_places (above self.now.machine device) }
+    {
+        self.history.board().links().above(device)
+    }
+
+    /// The journal, the oldest entry first.
+    pub fn into_journal(self) -> Vec<JournalEntry>
+        ensures { reverse result.items ≡ self.entry.past }
+    {
+        let Core { history, .. } = self;
+        history.into_entries()
+    }
+}

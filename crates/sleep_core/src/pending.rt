@@ -1,0 +1,98 @@
+//! Pending moments, by the journal alone.
+
+ghost use Rattle.std.specs.Prelude.{◌≡◌, ◌≤◌, ◌<◌, ◌^◌, length, slice_get};
+ghost use Rattle.sleep_model.specs.Attempt.{sleep_of, freeze_since};
+ghost use Rattle.sleep_model.specs.Autosleep.{naps_until, work};
+ghost use Rattle.sleep_model.specs.Legal.{sooner, alarm_at, deadline_at, pending_sleep, next_sleep, pending_nap, journal_time};
+ghost use Rattle.sleep_state.specs.Places.{entries};
+ghost use Rattle.sleep_core.specs.Steps.{sleep_end};
+
+use crate::state::Core;
+use crate::steps::is_line;
+use sleep_model::Work;
+
+/// The lesser of two moments, where there are any.
+fn sooner(one: Option<u64>, other: Option<u64>) -> Option<u64>
+    ensures { result ≡ sooner one other }
+{
+    match (one, other) {
+        (None, other) => other,
+        (one, None) => one,
+        (Some(one), Some(other)) => Some(one.min(other)),
+    }
+}
+
+/// Until when the work naps, if it does.
+fn naps_until(work: Work) -> Option<u64>
+    ensures { result ≡ naps_until work }
+{
+    match work {
+        Work::Napping(until) => until,
+        _ => None,
+    }
+}
+
+impl<'m> Core<'m> {
+    /// When the alarm of a machine that sleeps is due.
+    fn alarm_at(&self) -> Option<u64>
+        ensures { result ≡ alarm_at self.now.machine (sleep_of (entries self.now.past)) }
+    {
+        match self.sleep() {
+            None => None,
+            Some(sleep) => Some(sleep.since + self.alarm_ms()),
+        }
+    }
+
+    /// When a freeze that goes on gives up.
+    fn deadline_at(&self) -> Option<u64>
+        ensures { result ≡ deadline_at (freeze_since (entries self.now.past)) }
+    {
+        match self.freeze_since() {
+            None => None,
+            Some(since) => Some(since + 20000),
+        }
+    }
+
+    /// The end of the autosleep work's nap, where it is pending.
+    fn pending_nap(&self) -> Option<u64>
+        ensures { result ≡ pending_nap (entries self.now.past) }
+    {
+        if self.is_asleep() {
+            None
+        } else {
+            naps_until(self.history.autosleep().work())
+        }
+    }
+
+    /// The end of a script's sleep, where it is pending.
+    fn pending_sleep(&self, script: u32) -> Option<u64>
+        requires { script < length self.now.machine.actors }
+        ensures { result ≡ sleep_end self.now.machine (entries self.now.past) script }
+    {
+        let tasks = self.history.tasks();
+        if tasks.freezing(script).frozen || (self.is_asleep() && !is_line(self.kind_of(script))) {
+            None
+        } else {
+            tasks.seat(script).until
+        }
+    }
+
+    /// The least end of the scripts' sleeps.
+    fn next_sleep(&self) -> Option<u64>
+        ensures { result ≡ next_sleep self.now.machine (entries self.now.past) (length self.now.machine.actors) }
+    {
+        let mut next = None;
+        for script in 0..self.scripts() {
+            next = sooner(self.pending_sleep(script), next);
+        }
+        next
+    }
+
+    /// The least pending time in ms, the sources' expiries left out. None where none is pending.
+    pub fn next_time(&self) -> Option<u64>
+        ensures { result ≡ journal_time self.now.machine (entries self.now.past) }
+    {
+        let sleeps = sooner(self.pending_nap(), self.next_sleep());
+        sooner(self.alarm_at(), sooner(self.deadline_at(), sleeps))
+    }
+}

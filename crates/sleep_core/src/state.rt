@@ -1,0 +1,231 @@
+use crate::history::History;
+use answer_book::AnswerBook;
+use async_board::Board;
+use device_rows::Flags;
+use script_plan::Plan;
+use sleep_base::Errno;
+use sleep_model::{Actor, Callback, EventNow, Group, Machine, Sleep, Stage, TaskKind, What};
+use sleep_state::Left;
+use std::marker::Model;
+
+/// The core of system sleep for one machine: what each actor may do next, and the journal of what it did
+/// (`kernel/power/suspend.c`, `drivers/base/power/main.c`).
+#[derive(Drop)]
+pub struct Core<'m> {
+    pub(crate) history: History<'m>,
+    pub(crate) plans: Vec<Plan<'m>>,
+    pub(crate) answers: AnswerBook<'m>,
+    // Which devices may wake the machine.
+    pub(crate) wakeup: Flags,
+}
+
+impl<'m> Model for Core<'m> {
+    ghost use Rattle.sleep_core.specs.Cores.{CoreState};
+
+    ghost Value = { CoreState };
+
+    ghost use Rattle.sleep_core.specs.CoreFields.{state, keeps};
+
+    ghost view = { state };
+
+    ghost invariant = { keeps };
+}
+
+impl<'m> Core<'m> {
+    ghost use Rattle.std.specs.Prelude.{◌≡◌, ◌≤◌, ◌<◌, ◌^◌, ◌+◌, IfSome, is_some, length, slice_get};
+    ghost use Rattle.sleep_model.specs.Attempt.{answered, sleeps_now, freeze_since, sleep_of};
+    ghost use Rattle.sleep_model.specs.Devices.{callback, phase_failed, own_error};
+    ghost use Rattle.sleep_model.specs.Freezer.{left};
+    ghost use Rattle.sleep_model.specs.Guard.{pending};
+    ghost use Rattle.sleep_model.specs.Autosleep.{runs};
+    ghost use Rattle.sleep_model.specs.Lock.{holder, is_on};
+    ghost use Rattle.sleep_model.specs.Marks.{mark_at, raised};
+    ghost use Rattle.sleep_core.specs.Steps.{IsKindOf};
+    ghost use Rattle.sleep_model.specs.Notifiers.{next_called, next_stopped};
+    ghost use Rattle.sleep_model.specs.Table.{stage_of};
+    ghost use Rattle.sleep_state.specs.TaskStates.{IsLeft};
+    ghost use Rattle.sleep_core.specs.Stages.{IsProper};
+    ghost use Rattle.async_board.specs.AtPlaces.{board_at};
+    ghost use Rattle.sleep_model.specs.Numbers.{time_of};
+    ghost use Rattle.sleep_model.specs.Path.{attempts, is_actor, maker};
+    ghost use Rattle.sleep_state.specs.Places.{entries};
+
+    /// The machine.
+    pub(crate) fn machine(&self) -> &'m Machine
+        ensures { result.now ≡ self.now.machine }
+    {
+        self.history.machine()
+    }
+
+    /// Whether a wakeup is pending at this word (`pm_wakeup_pending`).
+    pub(crate) fn pending(&self, now: EventNow) -> bool
+        ensures { result ≡ pending (entries self.now.past) now }
+    {
+        self.history.guard().is_pending(now)
+    }
+
+    /// The time of the last jump, in ms.
+    pub(crate) fn now(&self) -> u64
+        ensures is { result ≡ time_of (entries self.now.past) }
+        ensures early { result ≤ 2 ^ 63 }
+    {
+        self.history.time()
+    }
+
+    /// The number of the attempt that was begun last.
+    pub(crate) fn attempts(&self) -> u32
+        ensures is { result ≡ attempts (entries self.now.past) }
+        ensures few { result + 1 < 2 ^ 32 }
+    {
+        self.history.path().attempts()
+    }
+
+    /// What the machine answers for a thing in the open attempt.
+    pub(crate) fn answered(&self, what: What) -> Option<Errno>
+        ensures { result ≡ answered self.now.machine (entries self.now.past) what }
+    {
+        self.answers.error(what, self.history.path().attempts())
+    }
+
+    /// Whether that actor makes the open attempt.
+    pub(crate) fn is_maker(&self, who: Actor) -> bool
+        ensures { result ≡ is_actor who (maker (entries self.now.past)) }
+    {
+        sleep_state::is_actor(who, self.history.path().maker())
+    }
+
+    /// Whether the machine sleeps.
+    pub(crate) fn is_asleep(&self) -> bool
+        ensures { result ≡ sleeps_now (entries self.now.past) }
+    {
+        self.history.path().sleep().is_some()
+    }
+
+    /// Where each device stands.
+    pub(crate) fn board(&self) -> &Board
+        ensures { result.now ≡ board_at self.now.machine (entries self.now.past) }
+    {
+        self.history.board()
+    }
+
+    /// The error that stands in the open phase.
+    pub(crate) fn phase_failed(&self) -> Option<Errno>
+        ensures { result ≡ phase_failed (entries self.now.past) }
+    {
+        self.history.devices().failed()
+    }
+
+    /// The error of a synchronous device's callback in the open phase.
+    pub(crate) fn own_error(&self) -> Option<Errno>
+        ensures { result ≡ own_error (entries self.now.past) }
+    {
+        self.history.devices().own_error()
+    }
+
+    /// The callback that the attempt's maker runs, if one.
+    pub(crate) fn callback(&self) -> Option<Callback>
+        ensures { result ≡ callback (entries self.now.past) }
+    {
+        self.history.devices().callback()
+    }
+
+    /// Since when a freeze goes on, in ms, if one does.
+    pub(crate) fn freeze_since(&self) -> Option<u64>
+        ensures is { result ≡ freeze_since (entries self.now.past) }
+        ensures early { IfSome result (λ since. since ≤ 2 ^ 63) }
+    {
+        self.history.path().freeze_since()
+    }
+
+    /// The machine's sleep, if it sleeps.
+    pub(crate) fn sleep(&self) -> Option<Sleep>
+        ensures is { result ≡ sleep_of (entries self.now.past) }
+        ensures early { IfSome result (λ sleep. sleep.since ≤ 2 ^ 63) }
+    {
+        self.history.path().sleep()
+    }
+
+    /// The stage of the open attempt, if one is open.
+    pub(crate) fn stage(&self) -> Option<Stage>
+        ensures is { result ≡ stage_of (entries self.now.past) }
+        ensures proper { IfSome result IsProper }
+    {
+        self.history.path().stage()
+    }
+
+    /// The tasks that a freeze of the group still waits for.
+    pub(crate) fn left(&self, group: Group) -> Left
+        ensures { IsLeft result (left self.now.machine group (entries self.now.past)) }
+    {
+        self.history
+            .tasks()
+            .left(self.machine().actors.as_slice(), group)
+    }
+
+    /// How long a sleep lasts that no event ends, in ms.
+    pub(crate) fn alarm_ms(&self) -> u64
+        ensures is { result ≡ self.now.machine.alarm_ms }
+        ensures most { result ≤ 86400000 }
+    {
+        let _core = &self.history;
+        self.machine().alarm_ms
+    }
+
+    /// The notifier that is to be told of the attempt.
+    pub(crate) fn next_called(&self) -> Option<u32>
+        ensures { result ≡ next_called self.now.machine (entries self.now.past) }
+    {
+        self.history.platform().next_called()
+    }
+
+    /// The core's part that is suspended next.
+    pub(crate) fn next_stopped(&self) -> Option<u32>
+        ensures { result ≡ next_stopped self.now.machine (entries self.now.past) }
+    {
+        self.history.syscore().next()
+    }
+
+    /// Whether somebody holds the autosleep lock.
+    pub(crate) fn is_held(&self) -> bool
+        ensures { result ≡ is_some (holder (entries self.now.past)) }
+    {
+        self.history.autosleep().holder().is_some()
+    }
+
+    /// Whether autosleep is on.
+    pub(crate) fn is_on(&self) -> bool
+        ensures { result ≡ is_on (entries self.now.past) }
+    {
+        self.history.autosleep().is_on()
+    }
+
+    /// The kind of a script.
+    pub(crate) fn kind_of(&self, script: u32) -> TaskKind
+        requires { script < length self.now.machine.actors }
+        ensures { IsKindOf (slice_get self.now.machine.actors script) result }
+    {
+        self.machine().actors.as_slice()[script as usize].kind
+    }
+
+    /// How often the autosleep work has run.
+    pub(crate) fn runs(&self) -> u32
+        ensures { result ≡ runs (entries self.now.past) }
+    {
+        self.history.autosleep().runs()
+    }
+
+    /// How often that mark was raised and not yet taken.
+    pub(crate) fn raised(&self, mark: u32) -> u32
+        ensures { result ≡ mark_at (raised (length self.now.machine.marks) (entries self.now.past)) mark }
+    {
+        self.history.tasks().raised(mark)
+    }
+
+    /// How many scripts the machine has.
+    pub(crate) fn scripts(&self) -> u32
+        ensures { result ≡ length self.now.machine.actors }
+    {
+        let _core = &self.history;
+        self.machine().actors.len() as u32
+    }
+}

@@ -1,0 +1,115 @@
+//! What a task, or the autosleep work, does next outside attempts of its own (`kernel/power/main.c`,
+//! `kernel/power/autosleep.c`).
+
+ghost use Rattle.std.specs.Prelude.{◌≡◌, ◌≤◌, ◌<◌, ◌^◌, length, slice_get, option_copied, Some};
+ghost use Rattle.sleep_model.specs.Due.{script_due};
+ghost use Rattle.sleep_model.specs.Steps.{step_due, task_due};
+ghost use Rattle.sleep_state.specs.Places.{entries};
+ghost use Rattle.sleep_model.specs.declared.machine.Op.TheVariants as op;
+ghost use Rattle.sleep_core.specs.Steps.{next_attempt};
+
+use crate::state::Core;
+use crate::steps;
+use sleep_model::{Due, EventNow, Freezing, Kind, Op, Seat, TaskKind, Why};
+use sleep_state::{is_mem, is_off};
+
+impl<'m> Core<'m> {
+    /// The entry that begins an attempt now.
+    pub(crate) fn attempt(&self) -> Kind
+        ensures { result ≡ next_attempt (entries self.now.past) }
+    {
+        Kind::Attempt {
+            n: self.attempts() + 1,
+            guarded: self.history.guard().in_force(),
+        }
+    }
+
+    /// A write of that text to the state.
+    fn state_due(&self, seat: Seat, asked: bool, text: &[u8], if_saved: bool) -> Due
+        ensures { result ≡ step_due self.now.machine (entries self.now.past) (record { inpr = 0; count = 0; hard = 0 }) seat asked (Some (op.State text.now if_saved)) }
+    {
+        if if_saved && !seat.saved {
+            return Due::Makes(Kind::StateUnsaved);
+        }
+        let held = self.is_held();
+        steps::state_due(
+            held,
+            self.is_on(),
+            seat.waits,
+            asked,
+            is_mem(text),
+            self.attempt(),
+        )
+    }
+
+    /// The next entry of a script at an operation, or its exit.
+    fn step_due(&self, now: EventNow, seat: Seat, asked: bool, op: Option<&Op>) -> Due
+        ensures { result ≡ step_due self.now.machine (entries self.now.past) now seat asked (option_copied op.entry) }
+    {
+        let Some(op) = op else {
+            return Due::Makes(Kind::Exit);
+        };
+        match op {
+            Op::Read => steps::read_due(now, seat.waits, asked),
+            Op::Save { count } => {
+                let number = steps::saved_number(*count, seat.last_read);
+                steps::count_due(self.is_held(), self.is_on(), seat.waits, asked, now, number)
+            }
+            Op::State { text, if_saved } => self.state_due(seat, asked, text.as_slice(), *if_saved),
+            Op::Autosleep { text } => {
+                let text = text.as_slice();
+                steps::autosleep_due(self.is_held(), seat.waits, is_mem(text), is_off(text))
+            }
+            Op::Sleep { ms } => steps::sleep_due(*ms, seat, self.now()),
+            Op::SleepD { ms } => steps::sleep_d_due(*ms, seat, self.now()),
+            Op::FreezePoint => Due::Makes(Kind::Pass),
+            Op::Post { mark } => Due::Makes(Kind::Post(*mark)),
+            Op::Wait { mark } => steps::mark_due(*mark, self.raised(*mark)),
+            Op::Runtime {
+                device,
+                to_suspended,
+            } => Due::Makes(Kind::RuntimeAsk {
+                device: *device,
+                to_suspended: *to_suspended,
+                r: self.runtime_due(*device, *to_suspended),
+            }),
+            Op::Awake { .. } | Op::Relax { .. } | Op::Event { .. } => Due::Gone,
+        }
+    }
+
+    /// A task that is not frozen waits while the machine sleeps, and freezes where it is asked to and may.
+    fn task_due(
+        &self,
+        now: EventNow,
+        freezing: Freezing,
+        kind: TaskKind,
+        seat: Seat,
+        op: Option<&Op>,
+    ) -> Due
+        ensures { result ≡ task_due self.now.machine (entries self.now.past) now freezing kind seat (option_copied op.entry) }
+    {
+        if freezing.frozen {
+            Due::Waits(Why::Frozen)
+        } else if self.is_asleep() && !steps::is_line(kind) {
+            Due::Waits(Why::Asleep)
+        } else if freezing.asked && steps::freezes_at(kind == TaskKind::User, seat.waits, op) {
+            Due::Makes(Kind::Frozen)
+        } else {
+            self.step_due(now, seat, freezing.asked, op)
+        }
+    }
+
+    /// A script at its own steps.
+    pub(crate) fn script_due(&self, script: u32, now: EventNow) -> Due
+        requires { script < length self.now.machine.actors }
+        ensures { result ≡ script_due self.now.machine (entries self.now.past) now script }
+    {
+        let tasks = self.history.tasks();
+        let seat = tasks.seat(script);
+        if seat.exited {
+            return Due::Gone;
+        }
+        let op = self.plans[script as usize].operation(seat.done);
+        self.task_due(now, tasks.freezing(script), self.kind_of(script), seat, op)
+    }
+}

@@ -1,0 +1,219 @@
+//! Turns: one actor looks at the event word, and makes at most one entry.
+
+ghost use Rattle.std.specs.Prelude.{◌≡◌, ◌≤◌, ◌<◌, ◌+◌, ◌^◌, false, length, max, OnOk, OnErr, ◌||◌};
+ghost use Rattle.std.specs.Bool.{OnTrue, OnFalse};
+ghost use Rattle.sleep_model.specs.declared.place.Due.TheVariants.{Makes};
+ghost use Rattle.sleep_model.specs.declared.word.EventNow.{EventNow};
+ghost use Rattle.sleep_model.specs.Calls.{calls_due};
+ghost use Rattle.sleep_model.specs.Devices.{is_device};
+ghost use Rattle.sleep_model.specs.Due.{due};
+ghost use Rattle.sleep_model.specs.Legal.{JournalPart};
+ghost use Rattle.sleep_model.specs.Numbers.{time_of};
+ghost use Rattle.sleep_model.specs.Autosleep.{runs, runs_after};
+ghost use Rattle.sleep_model.specs.Marks.{raised};
+ghost use Rattle.sleep_model.specs.Path.{attempts, attempts_after, is_actor, maker};
+ghost use Rattle.sleep_state.specs.TaskStates.{MarksAreSmall};
+ghost use Rattle.sleep_model.specs.Word.{position};
+ghost use Rattle.sleep_state.specs.Places.{entries};
+ghost use Rattle.sleep_core.specs.Cores.{IsActor, with_entry, next_stamp, jump_entry};
+ghost use Rattle.sleep_core.specs.Histories.{last_stamp};
+ghost use Rattle.sleep_core.specs.Looks.{IsTold, GrewTo};
+ghost use Rattle.sleep_core.specs.Numbered.{Leaves, IsCounted};
+ghost use Rattle.sleep_core.specs.Turned.{AfterTurn};
+
+use crate::events::{Events, look_from};
+use crate::state::Core;
+use sleep_base::Mem;
+use sleep_model::{Actor, Due, Entry, EventNow, JournalEntry, Kind, Stamp, Why, pos};
+use std::sync::Wait;
+
+/// What a turn did.
+#[derive(Clone, Copy)]
+pub enum CoreTurn {
+    /// It made one entry. `attempt` is the number of the attempt begun last, 0 before the first.
+    Did {
+        stamp: Stamp,
+        kind: Kind,
+        attempt: u32,
+    },
+    /// The actor waits, and for what.
+    NotYet(Why),
+    /// Nothing is due of the actor any more: it has exited.
+    Done,
+}
+
+/// Why a turn was refused.
+#[derive(Clone, Copy, Debug, PartialEq, Eq)]
+pub enum CoreFault {
+    /// There was no memory for the journal, or a number would have passed its range. It comes for no turn
+    /// of the open attempt's maker, nor of a device.
+    Mem,
+}
+
+/// Whether it is an asynchronous device.
+fn is_device(who: Actor) -> bool
+    ensures { result ≡ is_device who }
+{
+    matches!(who, Actor::Dev(_))
+}
+
+/// The tick behind these two; a tick that would pass its range waits for ever.
+fn next_tick<R: Wait>(rt: &R, one: u64, other: u64) -> u64
+    ensures { result ≡ max one other + 1 }
+{
+    let last = one.max(other);
+    for _ in rt.forever() {
+        if last < u64::MAX {
+            return last + 1;
+        }
+    }
+    unreachable!()
+}
+
+impl<'m> Core<'m> {
+    /// Whether the number of attempts stays in its range.
+    fn leaves_attempts(&self, kind: Kind) -> bool
+        ensures fits { OnTrue result (attempts_after kind (attempts (entries self.now.past)) + 1 < 2 ^ 32) }
+        ensures counted { OnFalse result (IsCounted kind) }
+    {
+        let attempts = self.attempts();
+        match kind {
+            Kind::Attempt { .. } => attempts < u32::MAX - 1,
+            _ => true,
+        }
+    }
+
+    /// Whether the number of the work's runs stays in its range.
+    fn leaves_runs(&self, kind: Kind) -> bool
+        ensures fits { OnTrue result (runs_after kind (runs (entries self.now.past)) < 2 ^ 32) }
+        ensures counted { OnFalse result (IsCounted kind) }
+    {
+        let runs = self.runs();
+        match kind {
+            Kind::AutoRun => runs < u32::MAX,
+            _ => true,
+        }
+    }
+
+    /// Whether a mark's number stays in its range.
+    fn leaves_marks(&self, kind: Kind) -> bool
+        ensures fits { OnTrue result (MarksAreSmall kind (raised (length self.now.machine.marks) (entries self.now.past))) }
+        ensures counted { OnFalse result (IsCounted kind) }
+    {
+        match kind {
+            Kind::Post(mark) => self.raised(mark) < u32::MAX,
+            _ => true,
+        }
+    }
+
+    /// Whether the numbers that an entry raises stay in their ranges.
+    fn leaves(&self, kind: Kind) -> bool
+        ensures fits { OnTrue result (Leaves self.now.machine kind (entries self.now.past)) }
+        ensures counted { OnFalse result (IsCounted kind) }
+    {
+        self.leaves_attempts(kind) && self.leaves_runs(kind) && self.leaves_marks(kind)
+    }
+
+    /// Whether an entry of that actor is of the open attempt: its maker's, or a device's.
+    fn is_own(&self, who: Actor) -> bool
+        ensures { result ≡ (is_actor who (maker (entries self.now.past)) || is_device who) }
+    {
+        self.is_maker(who) || is_device(who)
+    }
+
+    /// Makes the entry that is due. `Mem` where there is no memory for it, or no number; never for the maker
+    /// of the open attempt, nor for a device.
+    fn make(&mut self, who: Actor, now: EventNow, kind: Kind, stamp: Stamp) -> Result<(), CoreFault>
+        requires actor { IsActor self.old.machine who }
+        requires due { due self.old.machine (entries self.old.past) who now ≡ Makes kind }
+        ensures ok { OnOk result (self.new ≡ with_entry self.old (record {
+          stamp = stamp;
+          entry = record { time = time_of (entries self.old.past); now = now; actor = who; kind = kind };
+        })) }
+        ensures err { OnErr result ((is_actor who (maker (entries self.old.past)) ≡ false) × (is_device who ≡ false) × (self.new ≡ self.old)) }
+    {
+        let own = self.is_own(who);
+        if !self.leaves(kind) {
+            return Err(CoreFault::Mem);
+        }
+        match self.history.make_room(own, kind) {
+            Ok(()) => {}
+            Err(_) => return Err(CoreFault::Mem),
+        }
+        // A journal is shorter than 2^63, so no script's steps run over.
+        let _made = self.history.len();
+        let entry = Entry {
+            time: self.history.time(),
+            now,
+            actor: who,
+            kind,
+        };
+        self.history.append(JournalEntry { stamp, entry });
+        Ok(())
+    }
+
+    /// The turn of an actor that saw this word.
+    fn step<R: Wait>(
+        &mut self,
+        rt: &R,
+        who: Actor,
+        word: EventNow,
+        floor: Stamp,
+    ) -> Result<CoreTurn, CoreFault>
+        requires { IsActor self.old.machine who }
+        ensures { AfterTurn self.old self.new who word floor result }
+    {
+        match self.due(who, word) {
+            Due::Waits(why) => Ok(CoreTurn::NotYet(why)),
+            Due::Gone => Ok(CoreTurn::Done),
+            Due::Makes(kind) => {
+                let tick = next_tick(rt, floor.tick, self.history.last().tick);
+                let stamp = Stamp {
+                    pos: pos(word),
+                    tick,
+                };
+                self.make(who, word, kind, stamp)?;
+                let attempt = self.history.path().attempts();
+                Ok(CoreTurn::Did {
+                    stamp,
+                    kind,
+                    attempt,
+                })
+            }
+        }
+    }
+
+    /// One turn of an actor: looks at the word until it is at least the floor's, decides, and makes
+    /// at most one entry. `calls` is the number of source calls that the actor has made, `now` the
+    /// time in ms. `NotYet` exactly where the actor waits, `Done` exactly where nothing is due of it.
+    /// `Mem` where there is no memory, or no number for one more attempt, run or mark; never for the maker of
+    /// the open attempt, nor for a device; nothing has changed then.
+    pub fn turn<R: Wait, E: Events>(
+        &mut self,
+        rt: &R,
+        events: &mut E,
+        who: Actor,
+        calls: u32,
+        floor: Stamp,
+        now: u64,
+    ) -> Result<CoreTurn, CoreFault>
+        requires actor { IsActor self.old.machine who }
+        requires calls { calls ≡ calls_due self.old.machine who (entries self.old.past) }
+        requires now { now ≡ time_of (entries self.old.past) }
+        requires floor { (last_stamp self.old.past).pos ≤ E.floor events.old }
+        // There is one word that was seen, by which the answer and the journal are what the definitions say.
+        ensures turn { (word : EventNow) × IsTold (E.tells events.old) word × GrewTo word (E.looked events.old) (E.looked events.new)
+            × (floor.pos ≤ position word) × AfterTurn self.old self.new who word floor result }
+        ensures tells { E.tells events.new ≡ E.tells events.old }
+        ensures root { E.root events.new ≡ E.root events.old }
+        ensures floor { (last_stamp self.new.past).pos ≤ E.floor events.new }
+        ensures legal { JournalPart self.new.machine (entries self.new.past) }
+    {
+        let _ = (calls, now);
+        let word = look_from(rt, events, floor.pos);
+        let answer = self.step(rt, who, word, floor);
+        // A look at the field makes the invariant known here: the journal is legal.
+        let _ = &self.history;
+        answer
+    }
+}

@@ -1,0 +1,4 @@
+pub mod Meters
+pub mod Resting
+pub mod Running
+pub mod Writers

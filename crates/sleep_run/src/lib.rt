@@ -1,0 +1,12 @@
+//! Runs a machine with one worker: rounds over its actors, jumps of time, and the log of every step.
+#![tactic(auto)]
+
+mod asks;
+mod looks;
+mod meter;
+mod rest;
+mod rounds;
+mod run;
+
+pub use rounds::run_machine;
+pub use run::{RunEnd, RunFault};

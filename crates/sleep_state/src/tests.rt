@@ -1,0 +1,362 @@
+use super::*;
+use sleep_base::Errno;
+use sleep_model::{
+    Actor, Device, DeviceFlags, Entry, EventNow, Freezing, FrozeEnd, Group, JournalEntry, Kind,
+    ListOf, Name, Phase, PlatDo, PlatUndo, Script, SkipCause, Stage, Stamp, State, TaskKind, Thaw,
+    Work,
+};
+use std::alloc::Global;
+use std::test::Fail;
+
+const TASK: Actor = Actor::Script(0);
+
+// An attempt from its begin, in the order in which `enter_state` makes its steps, each with the
+// stage behind it.
+const CALM: [(Kind, Stage); 24] = [
+    (Kind::NotifyPrepare(0, None), Stage::Notifies),
+    (
+        Kind::Froze(Group::User, FrozeEnd::AllFrozen),
+        Stage::Freezes(Group::Kernel),
+    ),
+    (
+        Kind::Froze(Group::Kernel, FrozeEnd::AllFrozen),
+        Stage::Asks(PlatDo::Begin),
+    ),
+    (Kind::PlatformDo(PlatDo::Begin, None), Stage::Prepares),
+    (
+        Kind::Done(Phase::Prepare, None),
+        Stage::Downs(Phase::Suspend),
+    ),
+    (
+        Kind::Done(Phase::Suspend, None),
+        Stage::Asks(PlatDo::Prepare),
+    ),
+    (
+        Kind::PlatformDo(PlatDo::Prepare, None),
+        Stage::Downs(Phase::Late),
+    ),
+    (Kind::Done(Phase::Late, None), Stage::Downs(Phase::Noirq)),
+    (
+        Kind::Done(Phase::Noirq, None),
+        Stage::Asks(PlatDo::PrepareLate),
+    ),
+    (
+        Kind::PlatformDo(PlatDo::PrepareLate, None),
+        Stage::StopsCpus,
+    ),
+    (Kind::Irqs { on: false }, Stage::Checks),
+    (Kind::SyscoreCheck(None), Stage::StopsSyscore),
+    (Kind::Enter { busy: false }, Stage::Enters),
+    (Kind::Wake { by_event: false }, Stage::StartsSyscore),
+    (Kind::Irqs { on: true }, Stage::StartsCpus),
+    (
+        Kind::PlatformUndo(PlatUndo::Wake),
+        Stage::Ups(Phase::ResumeNoirq),
+    ),
+    (
+        Kind::Done(Phase::ResumeNoirq, None),
+        Stage::Ups(Phase::Early),
+    ),
+    (
+        Kind::Done(Phase::Early, None),
+        Stage::Tells(PlatUndo::Finish),
+    ),
+    (
+        Kind::PlatformUndo(PlatUndo::Finish),
+        Stage::Ups(Phase::Resume),
+    ),
+    (Kind::Done(Phase::Resume, None), Stage::Completes),
+    (
+        Kind::Done(Phase::Complete, None),
+        Stage::Tells(PlatUndo::End),
+    ),
+    (Kind::PlatformUndo(PlatUndo::End), Stage::Clears),
+    (Kind::Clear, Stage::Thaws(Thaw::All)),
+    (Kind::Thaw(Thaw::All), Stage::Posts),
+];
+
+// Steps of an attempt that fail, each with the stage behind it (`suspend_devices_and_enter`,
+// `suspend_enter`).
+const FAILED: [(Kind, Stage); 11] = [
+    (Kind::NotifyPrepare(0, Some(Errno::EIO)), Stage::Posts),
+    (
+        Kind::Froze(Group::User, FrozeEnd::Wakeup { left: 1, first: 1 }),
+        Stage::Thaws(Thaw::All),
+    ),
+    (
+        Kind::Froze(Group::Kernel, FrozeEnd::Timeout { left: 1, first: 1 }),
+        Stage::Thaws(Thaw::Kernel),
+    ),
+    (
+        Kind::PlatformDo(PlatDo::Begin, Some(Errno::EIO)),
+        Stage::Tells(PlatUndo::End),
+    ),
+    (
+        Kind::Done(Phase::Suspend, Some(Errno::EIO)),
+        Stage::Tells(PlatUndo::Recover),
+    ),
+    (
+        Kind::PlatformDo(PlatDo::Prepare, Some(Errno::EIO)),
+        Stage::Tells(PlatUndo::Finish),
+    ),
+    (
+        Kind::Done(Phase::Noirq, Some(Errno::EIO)),
+        Stage::Ups(Phase::ResumeNoirq),
+    ),
+    (
+        Kind::PlatformDo(PlatDo::PrepareLate, Some(Errno::EIO)),
+        Stage::Tells(PlatUndo::Wake),
+    ),
+    (Kind::CpuBusy(1), Stage::StartsCpus),
+    (Kind::SyscoreCheck(Some(Errno::EBUSY)), Stage::StartsIrqs),
+    (Kind::Enter { busy: true }, Stage::StartsSyscore),
+];
+
+/// An attempt that nothing disturbs passes each stage once, sleeps from its entering to its wake,
+/// and ends with no error.
+#[test]
+#[tactic(auto, using(crate::proofs::Counting::attempts_few))]
+fn an_attempt_passes_its_stages(rt: HostRuntime) -> Result<(), Fail> {
+    let mut path = Path::new();
+    let (n, guarded) = (1, None);
+    path.note(Kind::Attempt { n, guarded }, TASK, 0, 0);
+    assert!(rt; path.stage() == Some(Stage::Notifies));
+    for (kind, stage) in CALM {
+        assert!(rt; path.attempts() < 9);
+        path.note(kind, TASK, 7, 50);
+        assert!(rt; path.stage() == Some(stage));
+        let sleeps = path.sleep().is_some();
+        assert_eq!(rt; sleeps, stage == Stage::Enters);
+    }
+    assert!(rt; path.attempts() < 9);
+    assert_eq!(rt; path.maker(), Some(TASK));
+    assert_eq!(rt; path.failed(), None);
+    path.note(Kind::Over { n: 1, r: None }, TASK, 7, 50);
+    assert_eq!(rt; path.maker(), None);
+    assert!(rt; path.stage().is_none());
+    Ok(())
+}
+
+/// A step that fails leads back from where it stands, and its error is the attempt's.
+#[test]
+#[tactic(auto, using(crate::proofs::Counting::attempts_few))]
+fn a_failure_leads_back(rt: HostRuntime) -> Result<(), Fail> {
+    for (kind, stage) in FAILED {
+        let mut path = Path::new();
+        let (n, guarded) = (1, None);
+        path.note(Kind::Attempt { n, guarded }, TASK, 0, 0);
+        assert!(rt; path.attempts() < 9);
+        path.note(kind, TASK, 0, 0);
+        assert!(rt; path.stage() == Some(stage));
+        assert!(rt; path.failed().is_some());
+    }
+    Ok(())
+}
+
+/// A freeze goes on from its begin to its end.
+#[test]
+fn a_freeze_has_its_time(rt: HostRuntime) -> Result<(), Fail> {
+    let mut path = Path::new();
+    path.note(Kind::Freeze(Group::User), TASK, 0, 30);
+    assert_eq!(rt; path.freeze_since(), Some(30));
+    path.note(Kind::Froze(Group::User, FrozeEnd::AllFrozen), TASK, 0, 40);
+    assert_eq!(rt; path.freeze_since(), None);
+    Ok(())
+}
+
+/// A script of that kind, which has no steps.
+fn script(alloc: Global, kind: TaskKind) -> Result<Script, Fail> {
+    Ok(Script {
+        name: Name::of_bytes(b"w").ok_or("a name")?,
+        kind,
+        repeat: 1,
+        steps: ListOf::of_vec(Vec::new(alloc)),
+    })
+}
+
+/// A freeze asks the tasks of its group but its maker, waits for each of them, and a thaw lets
+/// them go; a task freezes alone.
+#[test]
+#[tactic(auto, using(crate::proofs::Counting::asked_len))]
+fn a_freeze_asks_its_group(rt: HostRuntime) -> Result<(), Fail> {
+    let alloc = rt.alloc();
+    let unasked = Freezing {
+        asked: false,
+        frozen: false,
+    };
+    let mut scripts = Vec::new(alloc);
+    for kind in [
+        TaskKind::User,
+        TaskKind::User,
+        TaskKind::Kthread,
+        TaskKind::NoFreeze,
+        TaskKind::User,
+    ] {
+        scripts.push(script(alloc, kind)?)?;
+    }
+    let mut tasks = Tasks::new(alloc, 5, 0)?;
+    assert!(rt; scripts.len() == 5);
+    assert_eq!(rt; tasks.left(scripts.as_slice(), Group::User).count, 0);
+    tasks.note(scripts.as_slice(), TASK, Kind::Freeze(Group::User));
+    for (i, asked) in [(0, false), (1, true), (2, false), (3, false), (4, true)] {
+        assert_eq!(rt; tasks.freezing(i).asked, asked, "task {i}");
+    }
+    let left = tasks.left(scripts.as_slice(), Group::User);
+    assert_eq!(rt; (left.count, left.first), (2, Some(1)));
+    tasks.note(scripts.as_slice(), TASK, Kind::Thaw(Thaw::All));
+    assert!(rt; tasks.freezing(1) == unasked);
+    let mut frozen = Tasks::new(alloc, 5, 0)?;
+    frozen.note(scripts.as_slice(), Actor::Script(1), Kind::Frozen);
+    assert!(rt; frozen.freezing(1).frozen && !frozen.freezing(4).frozen);
+    Ok(())
+}
+
+/// Autosleep that is set queues its work, which runs, and looks at the count after its attempt.
+#[test]
+fn the_work_goes_round(rt: HostRuntime) -> Result<(), Fail> {
+    let mut auto = Autosleep::new();
+    auto.note(Kind::AutoSet(State::Mem), TASK);
+    assert_eq!(rt; auto.holder(), Some(TASK));
+    assert!(rt; auto.is_on() && !auto.is_queued());
+    auto.note(Kind::AutoDone, TASK);
+    assert_eq!(rt; auto.holder(), None);
+    assert!(rt; auto.is_queued());
+    auto.note(Kind::AutoRun, Actor::Auto);
+    assert_eq!(rt; auto.runs(), 1);
+    assert!(rt; !auto.is_queued());
+    auto.note(Kind::Read(5), Actor::Auto);
+    auto.note(Kind::AutoSaved(5), Actor::Auto);
+    assert!(rt; matches!(auto.work(), Work::Attempting(5)));
+    auto.note(Kind::Over { n: 1, r: None }, Actor::Auto);
+    auto.note(Kind::AutoAfter(Some(5)), Actor::Auto);
+    assert!(rt; matches!(auto.work(), Work::Napping(None)));
+    auto.note(Kind::SleepD(500), Actor::Auto);
+    auto.note(Kind::Slept, Actor::Auto);
+    auto.note(Kind::AutoAgain, Actor::Auto);
+    assert!(rt; matches!(auto.work(), Work::Resting) && auto.is_queued());
+    Ok(())
+}
+
+/// Two devices, of which the second is runtime suspended at first.
+fn two_devices(alloc: Global) -> Result<Vec<Device>, Fail> {
+    let name = Name::of_bytes(b"d").ok_or("a name")?;
+    let mut devices = Vec::new(alloc);
+    for flags in [DeviceFlags::WAKEUP, DeviceFlags::RUNTIME_SUSPENDED] {
+        let parent = None;
+        devices.push(Device {
+            name,
+            parent,
+            flags,
+        })?;
+    }
+    Ok(devices)
+}
+
+/// Devices keep their answers to prepare and their runtime statuses; a callback's error on the way
+/// down stands to the end of its phase, and one on the way up does not.
+#[test]
+fn devices_keep_what_they_answer(rt: HostRuntime) -> Result<(), Fail> {
+    let listed = two_devices(rt.alloc())?;
+    let mut devices = Devices::new(rt.alloc(), listed.as_slice())?;
+    assert!(rt; !devices.statuses().is_set(0) && devices.statuses().is_set(1));
+    devices.note(Kind::Prepare { device: 1, r: 1 }, TASK);
+    assert!(rt; !devices.willing().is_set(0) && devices.willing().is_set(1));
+    devices.note(Kind::Begin(Phase::Late, 0), TASK);
+    assert!(rt; devices.callback().is_some() && devices.takes_late());
+    devices.note(Kind::End(Phase::Late, 0, Some(Errno::EIO)), TASK);
+    assert!(rt; devices.callback().is_none());
+    let own = Actor::Dev(1);
+    devices.note(Kind::End(Phase::Late, 1, Some(Errno::EBUSY)), own);
+    assert_eq!(rt; devices.failed(), Some(Errno::EBUSY));
+    assert_eq!(rt; devices.own_error(), Some(Errno::EIO));
+    devices.note(Kind::Done(Phase::Late, Some(Errno::EIO)), TASK);
+    assert_eq!(rt; devices.failed(), None);
+    devices.note(Kind::End(Phase::Early, 0, Some(Errno::EIO)), TASK);
+    assert_eq!(rt; devices.failed(), None);
+    devices.note(Kind::Skip(Phase::Suspend, 1, SkipCause::Direct), TASK);
+    assert!(rt; devices.leaves_alone());
+    let r = None;
+    let to_suspended = false;
+    let device = 1;
+    let ask = Kind::RuntimeAsk {
+        device,
+        to_suspended,
+        r,
+    };
+    devices.note(ask, TASK);
+    assert!(rt; !devices.statuses().is_set(1));
+    Ok(())
+}
+
+/// A journal gives its entries back, the oldest first, and takes one where a place is reserved.
+#[test]
+fn a_journal_keeps_its_entries(rt: HostRuntime) -> Result<(), Fail> {
+    let mut journal = Journal::new(rt.alloc());
+    journal.reserve(2)?;
+    for time in [10, 20] {
+        assert!(rt; journal.room() > 0);
+        let now = EventNow {
+            inpr: 0,
+            count: 0,
+            hard: 0,
+        };
+        let entry = Entry {
+            time,
+            now,
+            actor: TASK,
+            kind: Kind::Pass,
+        };
+        let stamp = Stamp { pos: 0, tick: 0 };
+        journal.put(JournalEntry { stamp, entry });
+    }
+    assert_eq!(rt; journal.len(), 2);
+    let entries = journal.into_entries();
+    for (at, time) in [(0, 10), (1, 20)] {
+        assert!(rt; at < entries.len());
+        assert_eq!(rt; entries[at].entry.time, time);
+    }
+    Ok(())
+}
+
+/// A state is read up to its newline, and `off` with one newline at most.
+#[test]
+fn texts_end_at_a_newline(rt: HostRuntime) {
+    let rows = [
+        ("mem", true, false),
+        ("mem\n", true, false),
+        ("mem\ndisk", true, false),
+        ("mem ", false, false),
+        ("", false, false),
+        ("off", false, true),
+        ("off\n", false, true),
+        ("off\noff", false, false),
+    ];
+    for (text, mem, off) in rows {
+        assert_eq!(rt; is_mem(text.as_bytes()), mem, "at {text}");
+        assert_eq!(rt; is_off(text.as_bytes()), off, "at {text}");
+        assert_eq!(rt; is_autosleep_text(text.as_bytes()), mem || off, "at {text}");
+    }
+}
+
+/// A script's own entries move its place; a post raises a mark, and a wait that ends lowers it.
+#[test]
+fn a_script_moves_on(rt: HostRuntime) -> Result<(), Fail> {
+    let alloc = rt.alloc();
+    let mut scripts = Vec::new(alloc);
+    scripts.push(script(alloc, TaskKind::User)?)?;
+    assert!(rt; scripts.len() == 1);
+    let mut tasks = Tasks::new(alloc, 1, 1)?;
+    tasks.note(scripts.as_slice(), TASK, Kind::ReadWait);
+    assert!(rt; tasks.seat(0).waits);
+    tasks.note(scripts.as_slice(), TASK, Kind::Read(3));
+    let seat = tasks.seat(0);
+    assert_eq!(rt; (seat.done, seat.last_read), (1, Some(3)));
+    tasks.note(scripts.as_slice(), TASK, Kind::Post(0));
+    assert_eq!(rt; tasks.raised(0), 1);
+    tasks.note(scripts.as_slice(), TASK, Kind::Got(0));
+    assert_eq!(rt; (tasks.raised(0), tasks.seat(0).turns), (0, 3));
+    assert!(rt; !tasks.all_exited());
+    tasks.note(scripts.as_slice(), TASK, Kind::Exit);
+    assert!(rt; tasks.all_exited());
+    Ok(())
+}
