@@ -21,6 +21,8 @@ mod replies;
 mod rules;
 mod scripts;
 mod stop;
+#[cfg(test)]
+mod tests;
 mod texts;
 mod things;
 mod tree;

@@ -1,0 +1,225 @@
+use crate::{MachineFault, ReadMachine, read_machine};
+use bitflags::Flags;
+use sleep_model::{Op, Phase, What};
+use std::alloc::{AllocError, Global};
+use std::test::Fail;
+
+// A file with these further members, and one actor that makes these operations.
+fn file(alloc: Global, more: &str, operations: &str) -> Result<String, AllocError> {
+    format!(in alloc;
+        "{{\"version\":1{more},\"actors\":[{{\"name\":\"w\",\"kind\":\"user\",\"script\":[{operations}]}}]}}"
+    )
+}
+
+// The number of the rule that is named, and 0 where none is.
+fn rule_of(read: &Result<ReadMachine, MachineFault>) -> u8 {
+    match read {
+        Err(MachineFault::Rule { rule, .. }) => *rule,
+        _ => 0,
+    }
+}
+
+fn place_of(read: &Result<ReadMachine, MachineFault>) -> &str {
+    match read {
+        Err(MachineFault::Rule { place, .. }) => place.as_str(),
+        Err(MachineFault::NotBuilt) => "not built",
+        Err(MachineFault::Mem) => "no memory",
+        Ok(_) => "",
+    }
+}
+
+/// Files that are none: the first rule that they break, and where.
+#[test]
+fn files_that_are_none(rt: HostRuntime) -> Result<(), Fail> {
+    for (text, rule, place) in [
+        ("not JSON", 1u8, "json"),
+        ("[]", 2, "top"),
+        (r#"{"version":1,"sleep":1}"#, 2, "top"),
+        (r#"{"actors":[]}"#, 3, "version"),
+        (r#"{"version":2}"#, 3, "version"),
+        (r#"{"version":1,"cpus":65}"#, 4, "cpus"),
+        (r#"{"version":1,"cpus":1.0}"#, 4, "cpus"),
+        (r#"{"version":1,"actors":{}}"#, 4, "actors"),
+    ] {
+        let read = read_machine(rt.alloc(), text.as_bytes());
+        assert_eq!(rt; rule_of(&read), rule, "{text}");
+        assert_eq!(rt; place_of(&read), place, "{text}");
+    }
+    Ok(())
+}
+
+/// Each rule on the members of a file, by a file that breaks it alone, and where.
+#[test]
+fn members_that_break_a_rule(rt: HostRuntime) -> Result<(), Fail> {
+    for (more, rule, place) in [
+        (r#","devices":[{"name":"a"},{"name":1}]"#, 5u8, "devices[1]"),
+        (r#","devices":[{"name":"A"}]"#, 7, "devices[0]"),
+        (r#","devices":[{"name":"a"},{"name":"a"}]"#, 8, "devices[1]"),
+        (
+            r#","devices":[{"name":"a","parent":"b"},{"name":"b"}]"#,
+            9,
+            "devices[0]",
+        ),
+        (
+            r#","devices":[{"name":"a"}],"links":[{"supplier":"a","consumer":"b"}]"#,
+            10,
+            "links[0]",
+        ),
+        (
+            r#","devices":[{"name":"a"}],"links":[{"supplier":"a","consumer":"a"}]"#,
+            11,
+            "links[0]",
+        ),
+        (
+            r#","devices":[{"name":"a"},{"name":"b","parent":"a"}],"links":[{"supplier":"a","consumer":"b"},{"supplier":"b","consumer":"a"}]"#,
+            12,
+            "links[1]",
+        ),
+        (
+            r#","notifiers":[{"name":"a"},{"name":"b"},{"name":"a"}]"#,
+            13,
+            "notifiers[2]",
+        ),
+        (r#","sources":["a","autosleep"]"#, 14, "sources[1]"),
+        (r#","sources":["a","b","b"]"#, 14, "sources[2]"),
+        (
+            r#","answers":[{"what":"syscore","name":"a"}]"#,
+            20,
+            "answers[0]",
+        ),
+        (
+            r#","answers":[{"what":"platform","name":"begin","ret":1}]"#,
+            21,
+            "answers[0]",
+        ),
+        (
+            r#","sources":["s"],"answers":[{"what":"platform","name":"begin","reports":[{"call":"awake","source":"s"}]}]"#,
+            22,
+            "answers[0]",
+        ),
+        (
+            r#","answers":[{"what":"platform","name":"begin","attempt":2},{"what":"platform","name":"begin"},{"what":"platform","name":"begin","attempt":2}]"#,
+            23,
+            "answers[2]",
+        ),
+    ] {
+        let text = file(rt.alloc(), more, "")?;
+        let read = read_machine(rt.alloc(), text.as_str().as_bytes());
+        assert_eq!(rt; rule_of(&read), rule, "{more}");
+        assert_eq!(rt; place_of(&read), place, "{more}");
+    }
+    Ok(())
+}
+
+/// Each rule on operations, by a script that breaks it alone, and where.
+#[test]
+fn operations_that_break_a_rule(rt: HostRuntime) -> Result<(), Fail> {
+    for (operations, rule, place) in [
+        (r#"{"op":"read"},{"op":"fly"}"#, 16u8, "actors[0].script[1]"),
+        (r#"{"op":"read","count":1}"#, 16, "actors[0].script[0]"),
+        (r#"{"op":"sleep","ms":0}"#, 16, "actors[0].script[0]"),
+        (
+            r#"{"op":"read"},{"op":"read"},{"op":"event","source":"s"}"#,
+            18,
+            "actors[0].script[2]",
+        ),
+        (
+            r#"{"op":"runtime","device":"d","to":"active"}"#,
+            19,
+            "actors[0].script[0]",
+        ),
+        (
+            r#"{"op":"state","text":"mem","times":2000},{"op":"read"}"#,
+            0,
+            "not built",
+        ),
+        (r#"{"op":"state","text":"mem","times":2001}"#, 24, "actors"),
+        (r#"{"op":"post","mark":"m"}"#, 0, "not built"),
+        (r#"{"op":"save","count":7}"#, 0, "not built"),
+    ] {
+        let text = file(rt.alloc(), "", operations)?;
+        let read = read_machine(rt.alloc(), text.as_str().as_bytes());
+        assert_eq!(rt; rule_of(&read), rule, "{operations}");
+        assert_eq!(rt; place_of(&read), place, "{operations}");
+    }
+    Ok(())
+}
+
+/// A machine with everything that is built is read as it is written, and its links are added.
+#[test]
+fn a_machine_is_read(rt: HostRuntime) -> Result<(), Fail> {
+    let more = r#","alarm_ms":7,"cpus":4,"auto_cycles":3,
+        "devices":[{"name":"bus"},{"name":"usb","parent":"bus","async":true,"runtime":"suspended"},{"name":"clk","wakeup":true}],
+        "links":[{"supplier":"clk","consumer":"usb"}],
+        "syscore":["irq","clock"],"notifiers":[{"name":"n","priority":-5}],"sources":["lid"],
+        "answers":[{"what":"device","name":"usb","phase":"late","attempt":2,"ret":"EIO"},{"what":"syscore","name":"clock","ret":"EBUSY"}]"#;
+    let operations = r#"{"op":"read"},{"op":"save"},{"op":"event","source":"lid"},
+        {"op":"runtime","device":"clk","to":"suspended"},{"op":"state","text":"mem"}"#;
+    let text = file(rt.alloc(), more, operations)?;
+    let read = read_machine(rt.alloc(), text.as_str().as_bytes())?;
+    let machine = &read.machine;
+    assert_eq!(rt;
+        (machine.alarm_ms, machine.cpus, machine.auto_cycles),
+        (7, 4, 3)
+    );
+    let [bus, usb, clk] = machine.devices.as_slice() else {
+        return Err(Fail::from("three devices"));
+    };
+    assert_eq!(rt; (bus.parent, usb.parent, clk.parent), (None, Some(0), None));
+    assert_eq!(rt;
+        (bus.flags.bits(), usb.flags.bits(), clk.flags.bits()),
+        (0, 5, 2)
+    );
+    let [link] = machine.links.as_slice() else {
+        return Err(Fail::from("one link"));
+    };
+    assert_eq!(rt; (link.supplier, link.consumer), (2, 1));
+    assert_eq!(rt; read.links.order(), [0u32, 2, 1].as_slice());
+    let [notifier] = machine.notifiers.as_slice() else {
+        return Err(Fail::from("one notifier"));
+    };
+    assert_eq!(rt; notifier.priority, -5);
+    assert_eq!(rt; machine.syscore.len(), 2);
+    let [late, core] = machine.answers.as_slice() else {
+        return Err(Fail::from("two answers"));
+    };
+    assert_eq!(rt; late.what, What::Device(1, Phase::Late));
+    assert_eq!(rt; (late.attempt, late.ret), (Some(2), -5));
+    assert_eq!(rt; core.what, What::Syscore(1));
+    assert_eq!(rt; (core.attempt, core.ret), (None, -16));
+    let [actor] = machine.actors.as_slice() else {
+        return Err(Fail::from("one actor"));
+    };
+    let [_, _, event, runtime, state] = actor.steps.as_slice() else {
+        return Err(Fail::from("five steps"));
+    };
+    assert!(rt;
+        matches!(
+            &event.op,
+            Op::Event {
+                source: 0,
+                ms: 0,
+                hard: false
+            }
+        )
+    );
+    assert!(rt;
+        matches!(
+            &runtime.op,
+            Op::Runtime {
+                device: 2,
+                to_suspended: true
+            }
+        )
+    );
+    assert!(rt;
+        matches!(
+            &state.op,
+            Op::State {
+                if_saved: false,
+                ..
+            }
+        )
+    );
+    Ok(())
+}
