@@ -2,6 +2,7 @@ use crate::{MachineFault, ReadMachine, read_machine};
 use bitflags::Flags;
 use sleep_model::{Op, Phase, What};
 use std::alloc::{AllocError, Global};
+use std::process::Abort;
 use std::test::Fail;
 
 // A file with these further members, and one actor that makes these operations.
@@ -28,9 +29,16 @@ fn place_of(read: &Result<ReadMachine, MachineFault>) -> &str {
     }
 }
 
+// That a file breaks that rule first, and there; rule 0 is none.
+fn expect(rt: &impl Abort, alloc: Global, text: &str, rule: u8, place: &str) {
+    let read = read_machine(alloc, text.as_bytes());
+    assert_eq!(rt; rule_of(&read), rule, "{text}");
+    assert_eq!(rt; place_of(&read), place, "{text}");
+}
+
 /// Files that are none: the first rule that they break, and where.
 #[test]
-fn files_that_are_none(rt: HostRuntime) -> Result<(), Fail> {
+fn files_that_are_none(rt: HostRuntime) {
     for (text, rule, place) in [
         ("not JSON", 1u8, "json"),
         ("[]", 2, "top"),
@@ -41,11 +49,8 @@ fn files_that_are_none(rt: HostRuntime) -> Result<(), Fail> {
         (r#"{"version":1,"cpus":1.0}"#, 4, "cpus"),
         (r#"{"version":1,"actors":{}}"#, 4, "actors"),
     ] {
-        let read = read_machine(rt.alloc(), text.as_bytes());
-        assert_eq!(rt; rule_of(&read), rule, "{text}");
-        assert_eq!(rt; place_of(&read), place, "{text}");
+        expect(&rt, rt.alloc(), text, rule, place);
     }
-    Ok(())
 }
 
 /// Each rule on the members of a file, by a file that breaks it alone, and where.
@@ -104,9 +109,7 @@ fn members_that_break_a_rule(rt: HostRuntime) -> Result<(), Fail> {
         ),
     ] {
         let text = file(rt.alloc(), more, "")?;
-        let read = read_machine(rt.alloc(), text.as_str().as_bytes());
-        assert_eq!(rt; rule_of(&read), rule, "{more}");
-        assert_eq!(rt; place_of(&read), place, "{more}");
+        expect(&rt, rt.alloc(), text.as_str(), rule, place);
     }
     Ok(())
 }
@@ -138,16 +141,13 @@ fn operations_that_break_a_rule(rt: HostRuntime) -> Result<(), Fail> {
         (r#"{"op":"save","count":7}"#, 0, "not built"),
     ] {
         let text = file(rt.alloc(), "", operations)?;
-        let read = read_machine(rt.alloc(), text.as_str().as_bytes());
-        assert_eq!(rt; rule_of(&read), rule, "{operations}");
-        assert_eq!(rt; place_of(&read), place, "{operations}");
+        expect(&rt, rt.alloc(), text.as_str(), rule, place);
     }
     Ok(())
 }
 
-/// A machine with everything that is built is read as it is written, and its links are added.
-#[test]
-fn a_machine_is_read(rt: HostRuntime) -> Result<(), Fail> {
+// A machine with everything that is built.
+fn machine(alloc: Global) -> Result<ReadMachine, Fail> {
     let more = r#","alarm_ms":7,"cpus":4,"auto_cycles":3,
         "devices":[{"name":"bus"},{"name":"usb","parent":"bus","async":true,"runtime":"suspended"},{"name":"clk","wakeup":true}],
         "links":[{"supplier":"clk","consumer":"usb"}],
@@ -155,39 +155,64 @@ fn a_machine_is_read(rt: HostRuntime) -> Result<(), Fail> {
         "answers":[{"what":"device","name":"usb","phase":"late","attempt":2,"ret":"EIO"},{"what":"syscore","name":"clock","ret":"EBUSY"}]"#;
     let operations = r#"{"op":"read"},{"op":"save"},{"op":"event","source":"lid"},
         {"op":"runtime","device":"clk","to":"suspended"},{"op":"state","text":"mem"}"#;
-    let text = file(rt.alloc(), more, operations)?;
-    let read = read_machine(rt.alloc(), text.as_str().as_bytes())?;
-    let machine = &read.machine;
-    assert_eq!(rt;
-        (machine.alarm_ms, machine.cpus, machine.auto_cycles),
-        (7, 4, 3)
-    );
-    let [bus, usb, clk] = machine.devices.as_slice() else {
+    let text = file(alloc, more, operations)?;
+    Ok(read_machine(alloc, text.as_str().as_bytes())?)
+}
+
+/// Numbers and devices are read as they are written.
+#[test]
+fn numbers_and_devices_are_read(rt: HostRuntime) -> Result<(), Fail> {
+    let read = machine(rt.alloc())?;
+    assert_eq!(rt; read.machine.alarm_ms, 7);
+    assert_eq!(rt; read.machine.cpus, 4);
+    assert_eq!(rt; read.machine.auto_cycles, 3);
+    let [bus, usb, clk] = read.machine.devices.as_slice() else {
         return Err(Fail::from("three devices"));
     };
-    assert_eq!(rt; (bus.parent, usb.parent, clk.parent), (None, Some(0), None));
-    assert_eq!(rt;
-        (bus.flags.bits(), usb.flags.bits(), clk.flags.bits()),
-        (0, 5, 2)
-    );
-    let [link] = machine.links.as_slice() else {
+    for (device, parent, flags) in [(bus, None, 0u8), (usb, Some(0u32), 5), (clk, None, 2)] {
+        assert_eq!(rt; device.parent, parent);
+        assert_eq!(rt; device.flags.bits(), flags);
+    }
+    Ok(())
+}
+
+/// Links are read, and added in turn.
+#[test]
+fn links_are_read(rt: HostRuntime) -> Result<(), Fail> {
+    let read = machine(rt.alloc())?;
+    let [link] = read.machine.links.as_slice() else {
         return Err(Fail::from("one link"));
     };
-    assert_eq!(rt; (link.supplier, link.consumer), (2, 1));
+    assert_eq!(rt; link.supplier, 2);
+    assert_eq!(rt; link.consumer, 1);
     assert_eq!(rt; read.links.order(), [0u32, 2, 1].as_slice());
-    let [notifier] = machine.notifiers.as_slice() else {
+    Ok(())
+}
+
+/// Notifiers and answers are read.
+#[test]
+fn notifiers_and_answers_are_read(rt: HostRuntime) -> Result<(), Fail> {
+    let read = machine(rt.alloc())?;
+    let [notifier] = read.machine.notifiers.as_slice() else {
         return Err(Fail::from("one notifier"));
     };
     assert_eq!(rt; notifier.priority, -5);
-    assert_eq!(rt; machine.syscore.len(), 2);
-    let [late, core] = machine.answers.as_slice() else {
+    let [late, core] = read.machine.answers.as_slice() else {
         return Err(Fail::from("two answers"));
     };
     assert_eq!(rt; late.what, What::Device(1, Phase::Late));
-    assert_eq!(rt; (late.attempt, late.ret), (Some(2), -5));
+    assert_eq!(rt; late.attempt, Some(2));
+    assert_eq!(rt; late.ret, -5);
     assert_eq!(rt; core.what, What::Syscore(1));
-    assert_eq!(rt; (core.attempt, core.ret), (None, -16));
-    let [actor] = machine.actors.as_slice() else {
+    assert_eq!(rt; core.ret, -16);
+    Ok(())
+}
+
+/// Operations are read.
+#[test]
+fn operations_are_read(rt: HostRuntime) -> Result<(), Fail> {
+    let read = machine(rt.alloc())?;
+    let [actor] = read.machine.actors.as_slice() else {
         return Err(Fail::from("one actor"));
     };
     let [_, _, event, runtime, state] = actor.steps.as_slice() else {
