@@ -1,24 +1,25 @@
 -- Members and items of a value, one after another.
-use Rattle.std.proofs.Common.{◌≡◌, ◌≤◌, ◌==◌, ◌&&◌, ◌||◌, ℕ, suc, List, [], ◌∷◌, length, map, Bool, bytes_eq, string_bytes, Bor, refl, sym, ap, ◌∙◌, arith, true, false}
-use Rattle.std.proofs.lemmas.Bool.Decides.{nat_tests}
-use Rattle.std.specs.List.{list_any}
-use Rattle.serde_json.specs.View.{items_view, members_view}
+use Rattle.std.proofs.Common.{◌≡◌, ◌&&◌, ◌||◌, ℕ, suc, List, [], ◌∷◌, length, map, Bool, bytes_eq, string_bytes, Bor, refl, sym, ap, ◌∙◌, true, false, position, arith}
+use Rattle.std.proofs.lemmas.Grind.{common_steps}
+use Rattle.std.specs.List.{list_any, list_all}
+use Rattle.serde_json.specs.Data.{Data}
+use Rattle.machine_file.specs.Members.{items_of}
+use Rattle.serde_json.specs.View.{view, items_view, members_view}
 use Rattle.serde_json.specs.declared.value.Value.{Value}
 use Rattle.serde_json.proofs.Views.{Entry}
-use Rattle.machine_file.specs.Rules.{are_sources, is_one_actor}
-use Rattle.machine_file.specs.Look.{are_named, has_no_items, items_len}
+use Rattle.machine_file.specs.Look.{are_named}
 
 -- a text among texts behind references
-pub list_any-texts : (text : List ℕ) (names : List (Bor (List ℕ))) → list_any (λ s. bytes_eq text s.now) names ≡ list_any (bytes_eq text) (map (λ s. s.now) names)
-list_any-texts text [] = refl
-list_any-texts text (s ∷ names) = ap (λ b. bytes_eq text s.now || b) (list_any-texts text names)
+pub list_any_texts : (text : List ℕ) (names : List (Bor (List ℕ))) → list_any (λ s. bytes_eq text s.now) names ≡ list_any (bytes_eq text) (map (λ s. s.now) names)
+list_any_texts text [] = refl
+list_any_texts text (s ∷ names) = ap (λ b. bytes_eq text s.now || b) (list_any_texts text names)
 
 -- the members have one of these names where the first one has, and the others
 are_named-step : (names : List (Bor (List ℕ))) (e : Entry) (es rest : List Entry) (text : List ℕ) (b : Bool) → es ≡ e ∷ rest → text ≡ string_bytes e.0
     → b ≡ list_any (λ s. bytes_eq text s.now) names → are_named (map (λ s. s.now) names) (members_view es) ≡ (b && are_named (map (λ s. s.now) names) (members_view rest))
 are_named-step names e es rest text b split key is =
     ap (λ xs. are_named (map (λ s. s.now) names) (members_view xs)) split
-    ∙ ap (λ c. c && are_named (map (λ s. s.now) names) (members_view rest)) (sym (is ∙ list_any-texts text names ∙ ap (λ t. list_any (bytes_eq t) (map (λ s. s.now) names)) key))
+    ∙ ap (λ c. c && are_named (map (λ s. s.now) names) (members_view rest)) (sym (is ∙ list_any_texts text names ∙ ap (λ t. list_any (bytes_eq t) (map (λ s. s.now) names)) key))
 
 -- the first member's name is another one
 pub are_named-other : (names : List (Bor (List ℕ))) (e : Entry) (es rest : List Entry) (text : List ℕ) (b : Bool) → es ≡ e ∷ rest → text ≡ string_bytes e.0
@@ -32,22 +33,26 @@ pub are_named-more : (names : List (Bor (List ℕ))) (e : Entry) (es rest : List
 are_named-more names e es rest text b split key is same =
     are_named-step names e es rest text b split key is ∙ ap (λ c. c && are_named (map (λ s. s.now) names) (members_view rest)) same
 
-pub has_no_items-length : (vs : List Value) → has_no_items (items_view vs) ≡ (length vs == 0)
-has_no_items-length [] = refl
-has_no_items-length (v ∷ vs) = grind (arith, nat_tests)
+-- the items of a list are what its values say
+pub items_of_view : (vs : List Value) → items_of (items_view vs) ≡ map view vs
+items_of_view [] = refl
+items_of_view (v ∷ vs) = ap (λ ds. view v ∷ ds) (items_of_view vs)
 
-pub items_len-length : (vs : List Value) → items_len (items_view vs) ≡ length vs
-items_len-length [] = refl
-items_len-length (v ∷ vs) = ap suc (items_len-length vs)
+-- the place of the first value whose data passes
+pub position_view : (p : Data → Bool) (vs : List Value) → position p (map view vs) ≡ position (λ v. p (view v)) vs
+position_view p [] = refl
+position_view p (v ∷ vs) = grind (arith, common_steps, position_view p vs)
 
--- more than one source
-pub are_sources-many : (vs : List Value) → 2 ≤ length vs → are_sources (items_view vs) ≡ false
-are_sources-many [] many = absurd (omega arith)
-are_sources-many (v ∷ []) many = absurd (omega arith)
-are_sources-many (v ∷ w ∷ vs) many = refl
+-- all of a list's items pass where all of its values do
+pub list_all_items : (p : Data → Bool) (vs : List Value) → list_all p (items_of (items_view vs)) ≡ list_all (λ v. p (view v)) vs
+list_all_items p [] = refl
+list_all_items p (v ∷ vs) = ap (λ b. p (view v) && b) (list_all_items p vs)
 
--- no actor, or more than one
-pub is_one_actor-other : (names : List (List ℕ)) (vs : List Value) → (length vs ≡ 1 → ⊥) → is_one_actor names (items_view vs) ≡ false
-is_one_actor-other names [] other = refl
-is_one_actor-other names (v ∷ []) other = absurd (other refl)
-is_one_actor-other names (v ∷ w ∷ vs) other = refl
+-- as many data as values
+pub length_view : (vs : List Value) → length (map view vs) ≡ length vs
+length_view [] = refl
+length_view (v ∷ vs) = ap suc (length_view vs)
+
+pub all_view : (p : Data → Bool) (vs : List Value) → list_all p (map view vs) ≡ list_all (λ v. p (view v)) vs
+all_view p [] = refl
+all_view p (v ∷ vs) = ap (λ b. p (view v) && b) (all_view p vs)

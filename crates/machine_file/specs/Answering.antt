@@ -15,7 +15,8 @@ use Rattle.sleep_model.specs.declared.machine.What.TheVariants.{Device, Syscore,
 use Rattle.phase_table.specs.declared.phase.Phase.{Phase}
 use Rattle.phase_table.specs.declared.phase.Phase.TheVariants as phase
 use Rattle.sleep_model.specs.Answers.{errors, is_for}
-use Rattle.sleep_model.specs.Text.{phase_name, down_word}
+use Rattle.phase_table.specs.Phases.{phase_name}
+use Rattle.sleep_model.specs.Text.{down_word}
 use Rattle.machine_file.specs.Look.{is_number, is_text, text_at}
 use Rattle.machine_file.specs.Members.{may_have, has_text, list_in, number_at}
 use Rattle.machine_file.specs.Places.{first_item, first_later_item}

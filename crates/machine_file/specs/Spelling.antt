@@ -23,7 +23,8 @@ use Rattle.sleep_model.specs.declared.machine.What.{What}
 use Rattle.sleep_model.specs.declared.machine.What.TheVariants as what
 use Rattle.sleep_model.specs.Answers.{error_of_number}
 use Rattle.sleep_model.specs.Runtime.{has_bit, is_async, may_wake}
-use Rattle.sleep_model.specs.Text.{phase_name, down_word, runtime_word, newline, device, source, syscore, notifier, mark}
+use Rattle.phase_table.specs.Phases.{phase_name}
+use Rattle.sleep_model.specs.Text.{down_word, runtime_word, newline, device, source, syscore, notifier, mark}
 use Rattle.machine_file.specs.Form.{Named, row}
 use Rattle.machine_file.specs.Whole.{SpellsWhole, IsSpelled}
 

@@ -1,17 +1,16 @@
 ghost use Rattle.std.specs.Prelude.{◌≡◌};
 ghost use Rattle.machine_file.specs.declared.fault.MachineFault.TheVariants as fault;
-ghost use Rattle.machine_file.specs.Faults.{of_tree, of_link};
 
-use device_links::LinkFault;
-use device_tree::TreeFault;
 use sleep_base::Mem;
 use std::alloc::{AllocError, AllocFailed};
 
 /// Why no machine was read.
-#[derive(Clone, Copy, Debug, PartialEq, Eq)]
+#[derive(Debug, Drop)]
 pub enum MachineFault {
-    /// The bytes spell no machine that may be run today.
-    Refused,
+    /// The bytes break a rule of the format: its number, 1 to 24, and the first place that does.
+    Rule { rule: u8, place: String },
+    /// The machine uses what is not built yet.
+    NotBuilt,
     /// Memory ran out.
     Mem,
 }
@@ -37,31 +36,5 @@ impl From<Mem> for MachineFault {
 
     fn from(_failed: Mem) -> MachineFault {
         MachineFault::Mem
-    }
-}
-
-impl From<TreeFault> for MachineFault {
-    ghost from_gives = { λ f e. e ≡ of_tree f };
-
-    fn from(fault: TreeFault) -> MachineFault {
-        match fault {
-            TreeFault::Mem => MachineFault::Mem,
-            TreeFault::TooMany | TreeFault::NameTaken | TreeFault::NoParent => {
-                MachineFault::Refused
-            }
-        }
-    }
-}
-
-impl From<LinkFault> for MachineFault {
-    ghost from_gives = { λ f e. e ≡ of_link f };
-
-    fn from(fault: LinkFault) -> MachineFault {
-        match fault {
-            LinkFault::Mem => MachineFault::Mem,
-            LinkFault::NoDevice | LinkFault::TooMany | LinkFault::Twice | LinkFault::Cycle(_) => {
-                MachineFault::Refused
-            }
-        }
     }
 }

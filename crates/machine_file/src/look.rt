@@ -1,82 +1,210 @@
 //! Tests of one JSON value, and what of it stands at a name.
 
-ghost use Rattle.std.specs.Prelude.{◌≡◌, map, bytes_eq};
+ghost use Rattle.std.specs.Prelude.{◌≡◌, ◌≤◌, map, bytes_eq};
 ghost use Rattle.std.specs.List.{list_any};
-ghost use Rattle.serde_json.specs.Find.{get};
 ghost use Rattle.serde_json.specs.View.{view, members_view, items_view};
-ghost use Rattle.machine_file.specs.Look.{is_some_and, is_none_or, is_number, is_text, is_false, is_list, is_empty_list, are_named, has_only, text_at, list_at};
-ghost use Rattle.machine_file.specs.Gives.{Gives};
+ghost use Rattle.machine_file.specs.Look.{is_some_and, is_none_or, is_number, is_text, is_list, are_named, has_only, text_of, text_at, list_at};
+ghost use Rattle.machine_file.specs.Members.{must_have, may_have, has_text, list_in, number_at, word_at, truth_at};
+ghost use Rattle.machine_file.specs.Form.{is_string, is_truth, is_within, is_near, is_one_of};
 
-use crate::fault::MachineFault;
 use serde_json::{Map, Value};
 
-// Whether this whole number is at the name.
-pub(crate) fn has_number(value: &Value, name: &str, number: u64) -> bool
-    ensures { result ≡ is_some_and (is_number number) (get name.now (view value.now)) }
+// ---- single values
+
+pub(crate) fn is_string(value: &Value) -> bool
+    ensures { result ≡ is_string (view value.now) }
 {
-    match value.get(name) {
-        Some(found) => found.as_u64() == Some(number),
+    value.as_str().is_some()
+}
+
+fn is_truth(value: &Value) -> bool
+    ensures { result ≡ is_truth (view value.now) }
+{
+    value.as_bool().is_some()
+}
+
+fn is_list(value: &Value) -> bool
+    ensures { result ≡ is_list (view value.now) }
+{
+    value.as_array().is_some()
+}
+
+pub(crate) fn is_number(value: &Value, number: u64) -> bool
+    ensures { result ≡ is_number number (view value.now) }
+{
+    value.as_u64() == Some(number)
+}
+
+pub(crate) fn is_within(value: &Value, least: u64, most: u64) -> bool
+    ensures { result ≡ is_within least most (view value.now) }
+{
+    match value.as_u64() {
+        Some(number) => least <= number && number <= most,
         None => false,
     }
 }
 
-// Whether nothing is at the name, or this whole number.
-pub(crate) fn may_have_number(value: &Value, name: &str, number: u64) -> bool
-    ensures { result ≡ is_none_or (is_number number) (get name.now (view value.now)) }
+fn is_near(value: &Value, most: u64) -> bool
+    ensures { result ≡ is_near most (view value.now) }
 {
-    match value.get(name) {
-        Some(found) => found.as_u64() == Some(number),
-        None => true,
+    match value.as_u64() {
+        Some(number) => number <= most,
+        None => match value.as_i64() {
+            Some(number) => number.unsigned_abs() <= most,
+            None => false,
+        },
     }
 }
 
-// Whether this text is at the name.
-pub(crate) fn has_text(value: &Value, name: &str, text: &str) -> bool
-    ensures { result ≡ is_some_and (is_text text.now) (get name.now (view value.now)) }
+pub(crate) fn is_text(value: &Value, text: &str) -> bool
+    ensures { result ≡ is_text text.now (view value.now) }
 {
-    match value.get(name).and_then(Value::as_str) {
+    match value.as_str() {
         Some(found) => found == text,
         None => false,
     }
 }
 
-// Whether nothing is at the name, or this text.
-pub(crate) fn may_have_text(value: &Value, name: &str, text: &str) -> bool
-    ensures { result ≡ is_none_or (is_text text.now) (get name.now (view value.now)) }
+pub(crate) fn is_one_of(value: &Value, words: &[&str]) -> bool
+    ensures { result ≡ is_one_of (map (λ s. s.now) words.now) (view value.now) }
 {
-    match value.get(name) {
-        Some(found) => found.as_str().is_some_and(|s| s == text),
-        None => true,
-    }
-}
-
-// Whether nothing is at the name, or false.
-pub(crate) fn may_be_false(value: &Value, name: &str) -> bool
-    ensures { result ≡ is_none_or is_false (get name.now (view value.now)) }
-{
-    match value.get(name) {
-        Some(found) => found.as_bool() == Some(false),
-        None => true,
-    }
-}
-
-// Whether nothing is at the name, or the empty list.
-pub(crate) fn may_be_empty(value: &Value, name: &str) -> bool
-    ensures { result ≡ is_none_or is_empty_list (get name.now (view value.now)) }
-{
-    match value.get(name) {
-        Some(found) => is_empty_list(found),
-        None => true,
-    }
-}
-
-fn is_empty_list(value: &Value) -> bool
-    ensures { result ≡ is_empty_list (view value.now) }
-{
-    match value.as_array() {
-        Some(list) => list.is_empty(),
+    match value.as_str() {
+        Some(found) => is_among(found, words),
         None => false,
     }
+}
+
+pub(crate) fn is_among(text: &str, words: &[&str]) -> bool
+    ensures { result ≡ list_any (bytes_eq text.now) (map (λ s. s.now) words.now) }
+{
+    is_any(text, words)
+}
+
+fn is_any(text: &str, words: &[&str]) -> bool
+    ensures { result ≡ list_any (λ s. bytes_eq text.now s.now) words.now }
+{
+    words.iter().any(|word| text == *word)
+}
+
+// ---- what stands at a name
+
+// Whether a text is at the name.
+pub(crate) fn must_be_text(value: &Value, name: &str) -> bool
+    ensures { result ≡ must_have name.now is_string (view value.now) }
+{
+    match value.get(name) {
+        Some(found) => is_string(found),
+        None => false,
+    }
+}
+
+// Whether nothing is at the name, or a text.
+pub(crate) fn may_be_text(value: &Value, name: &str) -> bool
+    ensures { result ≡ may_have name.now is_string (view value.now) }
+{
+    match value.get(name) {
+        Some(found) => is_string(found),
+        None => true,
+    }
+}
+
+// Whether nothing is at the name, or a truth value.
+pub(crate) fn may_be_truth(value: &Value, name: &str) -> bool
+    ensures { result ≡ may_have name.now is_truth (view value.now) }
+{
+    match value.get(name) {
+        Some(found) => is_truth(found),
+        None => true,
+    }
+}
+
+// Whether nothing is at the name, or a list.
+pub(crate) fn may_be_list(value: &Value, name: &str) -> bool
+    ensures { result ≡ may_have name.now is_list (view value.now) }
+{
+    match value.get(name) {
+        Some(found) => is_list(found),
+        None => true,
+    }
+}
+
+// Whether one of these words is at the name.
+pub(crate) fn must_be_one_of(value: &Value, name: &str, words: &[&str]) -> bool
+    ensures { result ≡ must_have name.now (is_one_of (map (λ s. s.now) words.now)) (view value.now) }
+{
+    match value.get(name) {
+        Some(found) => is_one_of(found, words),
+        None => false,
+    }
+}
+
+// Whether nothing is at the name, or one of these words.
+pub(crate) fn may_be_one_of(value: &Value, name: &str, words: &[&str]) -> bool
+    ensures { result ≡ may_have name.now (is_one_of (map (λ s. s.now) words.now)) (view value.now) }
+{
+    match value.get(name) {
+        Some(found) => is_one_of(found, words),
+        None => true,
+    }
+}
+
+// Whether a whole number of this range is at the name.
+pub(crate) fn must_be_within(value: &Value, name: &str, least: u64, most: u64) -> bool
+    ensures { result ≡ must_have name.now (is_within least most) (view value.now) }
+{
+    match value.get(name) {
+        Some(found) => is_within(found, least, most),
+        None => false,
+    }
+}
+
+// Whether nothing is at the name, or a whole number of this range.
+pub(crate) fn may_be_within(value: &Value, name: &str, least: u64, most: u64) -> bool
+    ensures { result ≡ may_have name.now (is_within least most) (view value.now) }
+{
+    match value.get(name) {
+        Some(found) => is_within(found, least, most),
+        None => true,
+    }
+}
+
+// Whether nothing is at the name, or a whole number at most so far from 0.
+pub(crate) fn may_be_near(value: &Value, name: &str, most: u64) -> bool
+    ensures { result ≡ may_have name.now (is_near most) (view value.now) }
+{
+    match value.get(name) {
+        Some(found) => is_near(found, most),
+        None => true,
+    }
+}
+
+// Whether this whole number is at the name.
+pub(crate) fn has_number(value: &Value, name: &str, number: u64) -> bool
+    ensures { result ≡ must_have name.now (is_number number) (view value.now) }
+{
+    match value.get(name) {
+        Some(found) => is_number(found, number),
+        None => false,
+    }
+}
+
+// Whether this text is at the name.
+pub(crate) fn has_text(value: &Value, name: &str, text: &str) -> bool
+    ensures { result ≡ has_text name.now text.now (view value.now) }
+{
+    match value.get(name) {
+        Some(found) => is_text(found, text),
+        None => false,
+    }
+}
+
+// ---- what it says
+
+// The text that it is, or the empty one.
+pub(crate) fn text_of(value: &Value) -> &str
+    ensures { result.now ≡ text_of (view value.now) }
+{
+    value.as_str().unwrap_or("")
 }
 
 // The text at the name, or the empty one.
@@ -86,19 +214,37 @@ pub(crate) fn text_at<'v>(value: &'v Value, name: &str) -> &'v str
     value.get(name).and_then(Value::as_str).unwrap_or("")
 }
 
-// The list at the name, or the empty one. It is refused that something else is there.
-pub(crate) fn list_at<'v>(value: &'v Value, name: &str) -> Result<&'v [Value], MachineFault>
-    ensures { Gives (λ s. items_view s.now) result
-        (is_none_or is_list (get name.now (view value.now))) (list_at name.now (view value.now)) }
+// The whole number at the name.
+pub(crate) fn number_at(value: &Value, name: &str) -> Option<u64>
+    ensures { result ≡ number_at name.now (view value.now) }
 {
-    match value.get(name) {
-        Some(found) => match found.as_array() {
-            Some(list) => Ok(list.as_slice()),
-            None => Err(MachineFault::Refused),
-        },
-        None => Ok(&[]),
+    value.get(name).and_then(Value::as_u64)
+}
+
+// The truth value at the name.
+pub(crate) fn truth_at(value: &Value, name: &str) -> Option<bool>
+    ensures { result ≡ truth_at name.now (view value.now) }
+{
+    value.get(name).and_then(Value::as_bool)
+}
+
+// The list at the name, or the empty one.
+pub(crate) fn list_in<'v>(value: &'v Value, name: &str) -> &'v [Value]
+    ensures { map view result.now ≡ list_in name.now (view value.now) }
+{
+    list_at(value, name)
+}
+
+fn list_at<'v>(value: &'v Value, name: &str) -> &'v [Value]
+    ensures { items_view result.now ≡ list_at name.now (view value.now) }
+{
+    match value.get(name).and_then(Value::as_array) {
+        Some(list) => list.as_slice(),
+        None => &[],
     }
 }
+
+// ---- members
 
 // Whether this is an object that has no members but those of these names.
 pub(crate) fn has_only(value: &Value, names: &[&str]) -> bool
@@ -114,15 +260,9 @@ fn are_named(members: &Map<String, Value>, names: &[&str]) -> bool
     ensures { result ≡ are_named (map (λ s. s.now) names.now) (members_view members.now.entries) }
 {
     for (key, _) in members.iter() {
-        if !is_one_of(key.as_str(), names) {
+        if !is_any(key.as_str(), names) {
             return false;
         }
     }
     true
-}
-
-fn is_one_of(text: &str, names: &[&str]) -> bool
-    ensures { result ≡ list_any (λ s. bytes_eq text.now s.now) names.now }
-{
-    names.iter().any(|name| text == *name)
 }

@@ -1,119 +1,166 @@
-//! A machine as a JSON value spells it.
+//! A machine file as a whole: which rule it breaks, or which machine it spells.
 
-ghost use Rattle.std.specs.Prelude.{◌≡◌, ◌+◌, ◌*◌, length, nat_le};
+ghost use Rattle.std.specs.Prelude.{◌≡◌, [], reverse, option_map, is_some, codes, None, IfOk};
+ghost use Rattle.std.specs.List.{list_all};
 ghost use Rattle.serde_json.specs.View.{view};
-ghost use Rattle.sleep_model.specs.Accepted.{attempts_of};
-ghost use Rattle.machine_file.specs.Gives.{Gives};
-ghost use Rattle.machine_file.specs.Rules.{are_numbers_default, are_lists_empty, has_only_defaults};
-ghost use Rattle.machine_file.specs.Spells.{is_accepted};
-ghost use Rattle.machine_file.specs.Spelled.{machine_of_parts, machine_of};
+ghost use Rattle.sleep_model.specs.Order.{parents_of};
+ghost use Rattle.machine_file.specs.Members.{list_in, word_at};
+ghost use Rattle.machine_file.specs.Places.{first_not_after};
+ghost use Rattle.machine_file.specs.Devices.{closes_no_cycle, whole_devices, whole_links};
+ghost use Rattle.machine_file.specs.Knows.{names_no_mark, has_no_marks};
+ghost use Rattle.machine_file.specs.Knows.{Knows, AreFew};
+ghost use Rattle.machine_file.specs.Kept.{Checks, broken_form, broken_devices, broken_cycle, broken_rest};
+ghost use Rattle.machine_file.specs.Broken.{broken_view};
 
-use crate::devices::devices_in;
-use crate::fault::MachineFault;
-use crate::links::{add_links, links_in};
-use crate::look::{has_number, has_only, may_be_empty, may_have_number};
-use crate::script::{attempts_of, script_in};
-use crate::sources::sources_in;
+use crate::cycles::{Linking, linking_of};
+use crate::known::{Known, known_in};
+use crate::look::list_in;
+use crate::place::{Member, Place, items};
+use crate::rules::{
+    Broken, answer_broken, device_broken, form_broken, operation_broken, thing_broken,
+};
 use serde_json::Value;
-use sleep_model::{Device, Link, ListOf, Machine, Name, Script};
+use sleep_base::Mem;
 use std::alloc::Global;
 
-// The members of a machine file.
-const MEMBERS: [&str; 11] = [
-    "version",
-    "alarm_ms",
-    "cpus",
-    "auto_cycles",
-    "devices",
-    "links",
-    "syscore",
-    "notifiers",
-    "answers",
-    "sources",
-    "actors",
-];
-
-// What an attempt does beside its devices' turns, as steps.
-const STEPS_BESIDE_DEVICES: usize = 50;
-
-// The most device turns and further steps of all attempts.
-const MOST_TURNS: usize = 100_000;
-
-fn are_numbers_default(tree: &Value) -> bool
-    ensures { result ≡ are_numbers_default (view tree.now) }
-{
-    may_have_number(tree, "alarm_ms", 1000)
-        && may_have_number(tree, "cpus", 1)
-        && may_have_number(tree, "auto_cycles", 16)
+/// What came of testing the rules.
+#[derive(Drop)]
+pub(crate) enum Checked<'v> {
+    Broken(Broken),
+    Sound(Known<'v>, Linking),
 }
 
-fn are_lists_empty(tree: &Value) -> bool
-    ensures { result ≡ are_lists_empty (view tree.now) }
+#[tactic(auto, unfolding(crate::specs::Kept::broken_form))]
+fn first_of_form(tree: &Value) -> Option<Broken>
+    ensures { option_map broken_view result ≡ broken_form (view tree.now) }
 {
-    may_be_empty(tree, "syscore")
-        && may_be_empty(tree, "notifiers")
-        && may_be_empty(tree, "answers")
+    form_broken(tree)
 }
 
-fn has_only_defaults(tree: &Value) -> bool
-    ensures { result ≡ has_only_defaults (view tree.now) }
-{
-    has_only(tree, &MEMBERS)
-        && has_number(tree, "version", 1)
-        && are_numbers_default(tree)
-        && are_lists_empty(tree)
-}
-
-// Whether the script's attempts pass over few enough devices, all in all.
-fn has_few_turns(script: &Script, devices: &[Device]) -> bool
-    ensures { result ≡ nat_le (attempts_of script.now * (length devices.now + 50)) 100000 }
-{
-    let turns = devices.len() + STEPS_BESIDE_DEVICES;
-    attempts_of(script).saturating_mul(turns) <= MOST_TURNS
-}
-
-// The machine of these parts, with the defaults of today around them.
-fn machine_of(
+#[tactic(auto, unfolding(crate::specs::Kept::broken_devices))]
+fn first_of_devices<'v>(
     alloc: Global,
-    devices: Vec<Device>,
-    links: Vec<Link>,
-    sources: Vec<Name>,
-    actors: Vec<Script>,
-) -> Machine
-    ensures { result ≡ machine_of_parts devices.items links.items sources.items actors.items }
+    tree: &'v Value,
+    known: &Known<'v>,
+) -> Result<Option<Broken>, Mem>
+    requires { Knows known.now (view tree.now) }
+    ensures { IfOk result (λ b. option_map broken_view b ≡ broken_devices (view tree.now)) }
 {
-    Machine {
-        alarm_ms: 1000,
-        cpus: 1,
-        auto_cycles: 16,
-        devices: ListOf::of_vec(devices),
-        links: ListOf::of_vec(links),
-        syscore: ListOf::of_vec(Vec::new(alloc)),
-        notifiers: ListOf::of_vec(Vec::new(alloc)),
-        sources: ListOf::of_vec(sources),
-        marks: ListOf::of_vec(Vec::new(alloc)),
-        actors: ListOf::of_vec(actors),
-        answers: ListOf::of_vec(Vec::new(alloc)),
+    device_broken(alloc, tree, known)
+}
+
+#[tactic(auto, unfolding(crate::specs::Kept::broken_cycle))]
+fn first_cycle(cycle: Option<usize>, tree: &Value) -> Option<Broken>
+    requires { cycle ≡ first_not_after (closes_no_cycle (view tree.now)) [] 0 (list_in (codes "links") (view tree.now)) }
+    ensures { option_map broken_view result ≡ broken_cycle (view tree.now) }
+{
+    let _ = tree;
+    match cycle {
+        Some(number) => {
+            let place = Place::Item(Member::Links, number);
+            Some(Broken { rule: 12, place })
+        }
+        None => None,
     }
 }
 
-/// The machine that the value spells.
-pub(crate) fn machine_in(alloc: Global, tree: &Value) -> Result<Machine, MachineFault>
-    ensures { Gives (λ m. m) result (is_accepted (view tree.now)) (machine_of (view tree.now)) }
+#[tactic(auto, unfolding(crate::specs::Kept::broken_rest))]
+fn first_of_rest<'v>(
+    alloc: Global,
+    tree: &'v Value,
+    known: &Known<'v>,
+) -> Result<Option<Broken>, Mem>
+    requires { Knows known.now (view tree.now) }
+    ensures { IfOk result (λ b. option_map broken_view b ≡ broken_rest (view tree.now)) }
 {
-    if !has_only_defaults(tree) {
-        return Err(MachineFault::Refused);
+    let thing = thing_broken(alloc, tree, known)?;
+    let answer = answer_broken(alloc, tree, known)?;
+    Ok(thing.or(operation_broken(tree, known)).or(answer))
+}
+
+/// Tests the rules in their order.
+pub(crate) fn check<'v>(alloc: Global, tree: &'v Value) -> Result<Checked<'v>, Mem>
+    ensures { IfOk result (Checks (view tree.now)) }
+{
+    match first_of_form(tree) {
+        Some(broken) => Ok(Checked::Broken(broken)),
+        None => check_devices(alloc, tree),
     }
-    let registered = devices_in(alloc, tree)?;
-    let links = links_in(alloc, tree, &registered)?;
-    let devices = registered.into_devices();
-    add_links(alloc, &devices, &links)?;
-    let sources = sources_in(alloc, tree)?;
-    let script = script_in(alloc, tree, &sources)?;
-    if !has_few_turns(&script, &devices) {
-        return Err(MachineFault::Refused);
+}
+
+fn check_devices<'v>(alloc: Global, tree: &'v Value) -> Result<Checked<'v>, Mem>
+    requires { broken_form (view tree.now) ≡ None }
+    ensures { IfOk result (Checks (view tree.now)) }
+{
+    let known = known_in(alloc, tree)?;
+    match first_of_devices(alloc, tree, &known)? {
+        Some(broken) => Ok(Checked::Broken(broken)),
+        None => check_links(alloc, tree, known),
     }
-    let mut actors = Vec::new(alloc);
-    actors.push(script)?;
-    Ok(machine_of(alloc, devices, links, sources, actors))
+}
+
+fn check_links<'v>(alloc: Global, tree: &'v Value, known: Known<'v>) -> Result<Checked<'v>, Mem>
+    requires form { broken_form (view tree.now) ≡ None }
+    requires devices { broken_devices (view tree.now) ≡ None }
+    requires knows { Knows known (view tree.now) }
+    ensures { IfOk result (Checks (view tree.now)) }
+{
+    let linking = linking_of(alloc, tree, &known)?;
+    match first_cycle(linking.added.cycle, tree) {
+        Some(broken) => Ok(Checked::Broken(broken)),
+        None => check_rest(alloc, tree, known, linking),
+    }
+}
+
+fn check_rest<'v>(
+    alloc: Global,
+    tree: &'v Value,
+    known: Known<'v>,
+    linking: Linking,
+) -> Result<Checked<'v>, Mem>
+    requires form { broken_form (view tree.now) ≡ None }
+    requires devices { broken_devices (view tree.now) ≡ None }
+    requires cycle { broken_cycle (view tree.now) ≡ None }
+    requires knows { Knows known (view tree.now) }
+    requires few { AreFew known }
+    requires links { linking.links.items ≡ whole_links (view tree.now) }
+    requires added { linking.added.links ≡
+        record { parents = parents_of (whole_devices (view tree.now)); links = reverse (whole_links (view tree.now)) } }
+    ensures { IfOk result (Checks (view tree.now)) }
+{
+    match first_of_rest(alloc, tree, &known)? {
+        Some(broken) => Ok(Checked::Broken(broken)),
+        None => Ok(Checked::Sound(known, linking)),
+    }
+}
+
+fn names_mark(operation: &Value) -> bool
+    ensures { result ≡ is_some (word_at (codes "mark") (view operation.now)) }
+{
+    operation.get("mark").and_then(Value::as_str).is_some()
+}
+
+fn has_no_mark(script: &[Value]) -> bool
+    ensures { result ≡ list_all (λ v. names_no_mark (view v)) script.now }
+{
+    script.iter().all(|operation| !names_mark(operation))
+}
+
+fn has_no_marks(actor: &Value) -> bool
+    ensures { result ≡ has_no_marks (view actor.now) }
+{
+    has_no_mark(list_in(actor, "script"))
+}
+
+fn have_no_marks(actors: &[Value]) -> bool
+    ensures { result ≡ list_all (λ v. has_no_marks (view v)) actors.now }
+{
+    actors.iter().all(|actor| has_no_marks(actor))
+}
+
+/// Whether no operation names a mark.
+pub(crate) fn is_markless(tree: &Value) -> bool
+    ensures { result ≡ list_all has_no_marks (list_in (codes "actors") (view tree.now)) }
+{
+    have_no_marks(items(tree, Member::Actors))
 }

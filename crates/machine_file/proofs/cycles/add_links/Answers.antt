@@ -1,0 +1,22 @@
+use Rattle.std.proofs.Common.{◌<◌, length, get_or, refl, subst, Err, arith}
+use Rattle.device_links.specs.Adds.{Adds}
+use Rattle.device_links.specs.declared.fault.LinkFault.{LinkFault}
+use Rattle.std.proofs.lemmas.List.{get_or_default}
+use Rattle.machine_file.specs.Fresh.{no_link}
+use Rattle.machine_file.proofs.Cycling.{is_added, is_cycle}
+use Rattle.machine_file.proofs.cycles.add_links.Goals as goal
+
+pub returns-in-Err-Cycle-clause-cycle : goal.returns-in-Err-Cycle-clause-cycle
+returns-in-Err-Cycle-clause-cycle c =
+    let within : c.loop-i.i < length c.args.links.now = omega arith in
+    let l = get_or c.args.links.now c.loop-i.i no_link in
+    is_cycle c.args.parents.now c.requires.after c.args.links.now c.requires.fresh c.loop-i.i within l (get_or_default c.args.links.now c.loop-i.i no_link l within) refl
+    c.loop-i.added c.in-Err-Cycle.field-0-0 c.loop-i.invariant
+    (subst (λ (f : LinkFault). Adds c.loop-i.added l.supplier l.consumer (Err f)) c.in-Err-Cycle.field-0-is c.in-Err-Cycle.ensures.answer)
+
+pub loop-i-preserved : goal.loop-i-preserved
+loop-i-preserved c =
+    let within : c.loop-i.i < length c.args.links.now = omega arith in
+    let l = get_or c.args.links.now c.loop-i.i no_link in
+    is_added c.args.parents.now c.requires.after c.args.links.now c.requires.fresh c.loop-i.i within l (get_or_default c.args.links.now c.loop-i.i no_link l within) refl
+    c.loop-i.added c.add.new.self c.loop-i.invariant c.in-Ok.ensures.answer c.in-Ok.ensures.ok

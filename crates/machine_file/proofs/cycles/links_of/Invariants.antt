@@ -1,0 +1,8 @@
+use Rattle.std.proofs.Common.{◌≡◌, map, take}
+use Rattle.serde_json.specs.View.{view}
+use Rattle.machine_file.specs.Spelled.{link_of}
+use Rattle.machine_file.specs.Knows.{texts}
+use Rattle.machine_file.proofs.cycles.links_of.Given as goal
+
+abbrev pub invariant-loop-link : goal.invariant-loop-link
+invariant-loop-link l = l.all.items ≡ map (link_of (texts l.names)) (map view (take l.link-index l.links))

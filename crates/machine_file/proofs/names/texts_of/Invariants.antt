@@ -1,0 +1,7 @@
+use Rattle.std.proofs.Common.{◌≡◌, map, take}
+use Rattle.serde_json.specs.View.{view}
+use Rattle.machine_file.specs.Look.{text_of}
+use Rattle.machine_file.proofs.names.texts_of.Given as goal
+
+abbrev pub invariant-loop-value : goal.invariant-loop-value
+invariant-loop-value l = map (λ s. s.now) l.names.items ≡ map text_of (map view (take l.value-index l.list))

@@ -1,0 +1,9 @@
+use Rattle.std.proofs.Common.{◌∙◌, List, ℕ, ap}
+use Rattle.serde_json.specs.View.{view}
+use Rattle.serde_json.specs.Data.{Data}
+use Rattle.machine_file.specs.Places.{first_operation}
+use Rattle.machine_file.specs.Operations.{names_device}
+use Rattle.machine_file.proofs.rules.deviceless_operation.Goals as goal
+
+pub returns : goal.returns
+returns c = c.first_operation.ensures ∙ ap (λ (ns : List (List ℕ)). first_operation (λ (actor : Data). names_device ns) (view c.args.tree.now)) c.requires.devices

@@ -1,0 +1,13 @@
+use Rattle.std.proofs.Common.{◌∙◌, List, ℕ, ap, codes}
+use Rattle.std.specs.List.{list_all}
+use Rattle.serde_json.specs.View.{view}
+use Rattle.serde_json.specs.Data.{Data}
+use Rattle.machine_file.specs.Members.{list_in}
+use Rattle.machine_file.specs.Places.{first_item}
+use Rattle.machine_file.specs.Operations.{names_source}
+use Rattle.machine_file.proofs.rules.sourceless_report.Goals as goal
+
+pub returns : goal.returns
+returns c =
+    c.first_answer.ensures
+    ∙ ap (λ (ns : List (List ℕ)). first_item (codes "answers") (λ (a : Data). list_all (names_source ns) (list_in (codes "reports") a)) (view c.args.tree.now)) c.requires.sources

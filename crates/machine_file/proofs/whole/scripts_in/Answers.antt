@@ -1,0 +1,18 @@
+use Rattle.std.proofs.Common.{◌≡◌, ◌∙◌, [], List, ℕ, sym, ap, map}
+use Rattle.serde_json.specs.View.{view}
+use Rattle.machine_file.specs.Knows.{known_seen, texts}
+use Rattle.machine_file.specs.Names.{devices_named, sources_named}
+use Rattle.machine_file.specs.Operations.{Known, known_of, whole_script}
+use Rattle.machine_file.proofs.whole.scripts_in.Goals as goal
+
+abbrev all_of : List (List ℕ) → List (List ℕ) → List (List ℕ) → Known
+all_of ds ss ms = record { devices = ds; sources = ss; marks = ms }
+
+pub returns : goal.returns
+returns c =
+    let file = view c.args.tree.now in
+    let k = c.args.known.now in
+    let seen : known_seen k ≡ known_of file =
+    ap (λ ds. all_of ds (texts k.sources) []) c.requires.knows.devices ∙ ap (λ ss. all_of (devices_named file) ss []) c.requires.knows.sources
+    ∙ ap (all_of (devices_named file) (sources_named file)) (sym c.requires.markless) in
+    c.in_ok-scripts.ensures ∙ ap (λ (n : Known). map (whole_script n) (map view c.items.result.now)) seen ∙ ap (map (whole_script (known_of file))) c.items.ensures

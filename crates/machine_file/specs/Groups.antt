@@ -1,0 +1,42 @@
+-- The rules of values by what they are about, in the order in which a broken one is named.
+use Rattle.std.specs.Prelude.{List, [], ◌∷◌, codes}
+use Rattle.std.specs.Option.{option_or}
+use Rattle.machine_file.specs.Members.{file_members}
+use Rattle.machine_file.specs.Places.{unless}
+use Rattle.machine_file.specs.Form.{unformed_member, unformed_item}
+use Rattle.machine_file.specs.Names.{misspelled_item, repeated_device, repeated_callback, repeated_source, repeated_actor}
+use Rattle.machine_file.specs.Devices.{orphan, loose_link, repeated_link}
+use Rattle.machine_file.specs.Operations.{unformed_operation, forbidden_operation, sourceless_operation, deviceless_operation}
+use Rattle.machine_file.specs.Answering.{thingless_answer, forbidden_ret, forbidden_reports, sourceless_report, repeated_answer}
+use Rattle.machine_file.specs.Limits.{too_many, too_much}
+use Rattle.machine_file.specs.Rules.{is_version_one}
+use Rattle.machine_file.specs.Look.{has_only}
+use Rattle.machine_file.specs.Whole.{Rule, rule}
+
+-- the rules on form, number and the spelling of names
+abbrev pub form_rules : List Rule
+form_rules =
+    rule 2 (λ d. unless (has_only file_members d) (codes "top"))
+    ∷ rule 3 (λ d. unless (is_version_one d) (codes "version"))
+    ∷ rule 4 unformed_member
+    ∷ rule 5 unformed_item
+    ∷ rule 6 too_many
+    ∷ rule 7 misspelled_item
+    ∷ []
+
+-- the rules on devices and the ends of links
+abbrev pub device_rules : List Rule
+device_rules = rule 8 repeated_device ∷ rule 9 orphan ∷ rule 10 loose_link ∷ rule 11 repeated_link ∷ []
+
+-- the rules on the names of other things
+abbrev pub thing_rules : List Rule
+thing_rules = rule 13 repeated_callback ∷ rule 14 repeated_source ∷ rule 15 repeated_actor ∷ []
+
+-- the rules on operations
+abbrev pub operation_rules : List Rule
+operation_rules =
+    rule 16 unformed_operation ∷ rule 17 forbidden_operation ∷ rule 18 (λ d. option_or (sourceless_operation d) (sourceless_report d)) ∷ rule 19 deviceless_operation ∷ []
+
+-- the rules on answers, and on how much may happen
+abbrev pub answer_rules : List Rule
+answer_rules = rule 20 thingless_answer ∷ rule 21 forbidden_ret ∷ rule 22 forbidden_reports ∷ rule 23 repeated_answer ∷ rule 24 too_much ∷ []

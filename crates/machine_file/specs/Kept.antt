@@ -1,0 +1,47 @@
+-- What came of testing the rules of a file.
+use Rattle.std.specs.Prelude.{◌≡◌, Option, Some, None, reverse}
+use Rattle.std.specs.Option.{option_or, option_map}
+use Rattle.serde_json.specs.Data.{Data}
+use Rattle.sleep_model.specs.Order.{parents_of}
+use Rattle.machine_file.specs.declared.known.Known.{Known}
+use Rattle.machine_file.specs.declared.cycles.Linking.{Linking}
+use Rattle.machine_file.specs.declared.machine.Checked.{Checked}
+use Rattle.machine_file.specs.declared.machine.Checked.TheVariants as checked
+use Rattle.machine_file.specs.Devices.{whole_devices, whole_links, cyclic_link}
+use Rattle.machine_file.specs.Whole.{Broken, first_of, broken_at}
+use Rattle.machine_file.specs.Groups.{form_rules, device_rules, thing_rules, operation_rules, answer_rules}
+use Rattle.machine_file.specs.Knows.{Knows, AreFew}
+use Rattle.machine_file.specs.Broken.{broken_view}
+
+-- the first rule on form that is broken
+unfoldable pub broken_form : Data → Option Broken
+broken_form d = first_of form_rules d
+
+-- the first rule on devices and the ends of links that is broken
+unfoldable pub broken_devices : Data → Option Broken
+broken_devices d = first_of device_rules d
+
+-- the rule on cycles, where it is broken
+unfoldable pub broken_cycle : Data → Option Broken
+broken_cycle d = option_map (broken_at 12) (cyclic_link d)
+
+-- the first rule behind it that is broken
+unfoldable pub broken_rest : Data → Option Broken
+broken_rest d = option_or (option_or (first_of thing_rules d) (first_of operation_rules d)) (first_of answer_rules d)
+
+-- the first rule that is broken
+abbrev pub first_in_order : Data → Option Broken
+first_in_order d = option_or (broken_form d) (option_or (broken_devices d) (option_or (broken_cycle d) (broken_rest d)))
+
+-- no rule is broken, the names are known and few, and the links are added
+pub record IsSound (file : Data) (k : Known) (l : Linking) : Type 0 where
+  pub unbroken : first_in_order file ≡ None
+  pub knows : Knows k file
+  pub few : AreFew k
+  pub links : l.links.items ≡ whole_links file
+  pub added : l.added.links ≡ record { parents = parents_of (whole_devices file); links = reverse (whole_links file) }
+
+-- a rule is broken, or none is
+abbrev pub Checks : Data → Checked → Type 0
+Checks file (checked.Broken b) = first_in_order file ≡ Some (broken_view b)
+Checks file (checked.Sound k l) = IsSound file k l

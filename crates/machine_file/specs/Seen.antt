@@ -1,0 +1,49 @@
+-- By what links and answers are told apart.
+use Rattle.std.specs.Prelude.{ℕ, List, Bool, not, ◌&&◌, bytes_eq, codes, Option}
+use Rattle.serde_json.specs.Data.{Data}
+use Rattle.sleep_model.specs.Answers.{is_for}
+use Rattle.machine_file.specs.declared.pairs.Ends.{Ends}
+use Rattle.machine_file.specs.declared.answers.Given.{Given}
+use Rattle.machine_file.specs.Look.{text_at}
+use Rattle.machine_file.specs.Members.{number_at}
+
+-- the ends of a link
+pub record SeenEnds : Type 0 where
+  pub supplier : List ℕ
+  pub consumer : List ℕ
+
+-- the ends as they are kept
+abbrev pub ends_seen : Ends → SeenEnds
+ends_seen e = record { supplier = e.supplier.now; consumer = e.consumer.now }
+
+-- the ends as they are written
+abbrev pub ends_written : Data → SeenEnds
+ends_written l = record { supplier = text_at (codes "supplier") l; consumer = text_at (codes "consumer") l }
+
+-- its ends differ
+abbrev pub differ : SeenEnds → Bool
+differ e = not (bytes_eq e.supplier e.consumer)
+
+-- the same ends
+abbrev pub same_ends : SeenEnds → SeenEnds → Bool
+same_ends a b = bytes_eq a.supplier b.supplier && bytes_eq a.consumer b.consumer
+
+-- what an answer is of, and for which attempt
+pub record SeenAnswer : Type 0 where
+  pub what : List ℕ
+  pub name : List ℕ
+  pub phase : List ℕ
+  pub attempt : Option ℕ
+
+-- an answer as it is kept
+abbrev pub answer_seen : Given → SeenAnswer
+answer_seen a = record { what = a.what.now; name = a.name.now; phase = a.phase.now; attempt = a.attempt }
+
+-- an answer as it is written
+abbrev pub answer_written : Data → SeenAnswer
+answer_written a =
+    record { what = text_at (codes "what") a; name = text_at (codes "name") a; phase = text_at (codes "phase") a; attempt = number_at (codes "attempt") a }
+
+-- the same answer
+abbrev pub same_answer : SeenAnswer → SeenAnswer → Bool
+same_answer a b = bytes_eq a.what b.what && bytes_eq a.name b.name && bytes_eq a.phase b.phase && is_for a.attempt b.attempt

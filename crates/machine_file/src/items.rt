@@ -1,0 +1,145 @@
+//! The items of the file's lists: their form and their names.
+
+ghost use Rattle.std.specs.Prelude.{◌≡◌, not, position, length, nat_le};
+ghost use Rattle.std.specs.List.{list_all};
+ghost use Rattle.serde_json.specs.View.{view};
+ghost use Rattle.machine_file.specs.Places.{first_not, first_item};
+ghost use Rattle.machine_file.specs.Form.{unformed_item};
+ghost use Rattle.machine_file.specs.Names.{spells_name, names_of_device, names_of_link, own_name, misspelled_item};
+ghost use Rattle.machine_file.specs.Members.{must_have, may_have, list_in};
+ghost use Rattle.machine_file.specs.Rules.{is_name_byte, is_name};
+ghost use Rattle.machine_file.specs.Broken.{member_name, place_of};
+ghost use Rattle.machine_file.specs.Tests.{item_test};
+
+use crate::form::{is_actor_form, is_answer_form, is_device_form, is_link_form, is_notifier_form};
+use crate::look::is_string;
+use crate::place::{Member, Place, items};
+use serde_json::Value;
+
+/// A test of an item of a list.
+#[derive(Clone, Copy)]
+pub(crate) enum ItemTest {
+    DeviceForm,
+    LinkForm,
+    Text,
+    NotifierForm,
+    ActorForm,
+    AnswerForm,
+    DeviceNames,
+    LinkNames,
+    NameText,
+    OwnName,
+}
+
+fn is_name_byte(byte: u8) -> bool
+    ensures { result ≡ is_name_byte byte }
+{
+    matches!(byte, b'a'..=b'z' | b'0'..=b'9' | b'_' | b'.' | b'-')
+}
+
+fn are_name_bytes(bytes: &[u8]) -> bool
+    ensures { result ≡ list_all is_name_byte bytes.now }
+{
+    bytes.iter().all(|byte| is_name_byte(*byte))
+}
+
+/// Whether a text is spelled as names are.
+pub(crate) fn is_name(text: &str) -> bool
+    ensures { result ≡ is_name text.now }
+{
+    1 <= text.len() && text.len() <= 32 && are_name_bytes(text.as_bytes())
+}
+
+/// Whether it is a text that is spelled as names are.
+pub(crate) fn spells_name(value: &Value) -> bool
+    ensures { result ≡ spells_name (view value.now) }
+{
+    match value.as_str() {
+        Some(text) => is_name(text),
+        None => false,
+    }
+}
+
+pub(crate) fn must_be_name(value: &Value, name: &str) -> bool
+    ensures { result ≡ must_have name.now spells_name (view value.now) }
+{
+    match value.get(name) {
+        Some(found) => spells_name(found),
+        None => false,
+    }
+}
+
+fn may_be_name(value: &Value, name: &str) -> bool
+    ensures { result ≡ may_have name.now spells_name (view value.now) }
+{
+    match value.get(name) {
+        Some(found) => spells_name(found),
+        None => true,
+    }
+}
+
+/// Whether an item passes.
+fn passes(test: ItemTest, value: &Value) -> bool
+    ensures { result ≡ item_test test (view value.now) }
+{
+    match test {
+        ItemTest::DeviceForm => is_device_form(value),
+        ItemTest::LinkForm => is_link_form(value),
+        ItemTest::Text => is_string(value),
+        ItemTest::NotifierForm => is_notifier_form(value),
+        ItemTest::ActorForm => is_actor_form(value),
+        ItemTest::AnswerForm => is_answer_form(value),
+        ItemTest::DeviceNames => must_be_name(value, "name") && may_be_name(value, "parent"),
+        ItemTest::LinkNames => must_be_name(value, "supplier") && must_be_name(value, "consumer"),
+        ItemTest::NameText => spells_name(value),
+        ItemTest::OwnName => must_be_name(value, "name"),
+    }
+}
+
+/// The place of the first item of a list that does not pass.
+pub(crate) fn first_item(tree: &Value, list: Member, test: ItemTest) -> Option<Place>
+    ensures { place_of result ≡ first_item (member_name list) (item_test test) (view tree.now) }
+{
+    match first_failing(tree, list, test) {
+        Some(number) => Some(Place::Item(list, number)),
+        None => None,
+    }
+}
+
+fn first_failing(tree: &Value, list: Member, test: ItemTest) -> Option<usize>
+    ensures { result ≡ first_not (item_test test) (list_in (member_name list) (view tree.now)) }
+{
+    first_not(items(tree, list), test)
+}
+
+fn first_not(values: &[Value], test: ItemTest) -> Option<usize>
+    ensures { result ≡ position (λ v. not (item_test test (view v))) values.now }
+{
+    values.iter().position(|value| !passes(test, value))
+}
+
+/// The first item that has not its form.
+pub(crate) fn unformed_item(tree: &Value) -> Option<Place>
+    ensures { place_of result ≡ unformed_item (view tree.now) }
+{
+    first_item(tree, Member::Devices, ItemTest::DeviceForm)
+        .or_else(|| first_item(tree, Member::Links, ItemTest::LinkForm))
+        .or_else(|| first_item(tree, Member::Syscore, ItemTest::Text))
+        .or_else(|| first_item(tree, Member::Notifiers, ItemTest::NotifierForm))
+        .or_else(|| first_item(tree, Member::Sources, ItemTest::Text))
+        .or_else(|| first_item(tree, Member::Actors, ItemTest::ActorForm))
+        .or_else(|| first_item(tree, Member::Answers, ItemTest::AnswerForm))
+}
+
+/// The first item with a name that is misspelled.
+pub(crate) fn misspelled_item(tree: &Value) -> Option<Place>
+    ensures { place_of result ≡ misspelled_item (view tree.now) }
+{
+    first_item(tree, Member::Devices, ItemTest::DeviceNames)
+        .or_else(|| first_item(tree, Member::Links, ItemTest::LinkNames))
+        .or_else(|| first_item(tree, Member::Syscore, ItemTest::NameText))
+        .or_else(|| first_item(tree, Member::Notifiers, ItemTest::OwnName))
+        .or_else(|| first_item(tree, Member::Sources, ItemTest::NameText))
+        .or_else(|| first_item(tree, Member::Actors, ItemTest::OwnName))
+        .or_else(|| first_item(tree, Member::Answers, ItemTest::OwnName))
+}

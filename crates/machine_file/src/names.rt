@@ -1,0 +1,69 @@
+//! The names of things, and where one stands a second time.
+
+ghost use Rattle.std.specs.Prelude.{◌≡◌, ◌∷◌, [], not, map, bytes_eq, codes, IfOk};
+ghost use Rattle.std.specs.List.{list_any};
+ghost use Rattle.serde_json.specs.View.{view};
+ghost use Rattle.machine_file.specs.Look.{text_of};
+ghost use Rattle.machine_file.specs.Rules.{name_of};
+ghost use Rattle.machine_file.specs.Members.{list_in};
+ghost use Rattle.machine_file.specs.Places.{first_not_after};
+ghost use Rattle.machine_file.specs.Names.{names_in, texts_in, is_among_names};
+ghost use Rattle.machine_file.specs.Broken.{member_name};
+
+use crate::look::{text_at, text_of};
+use crate::place::{Member, items};
+use crate::places::Places;
+use serde_json::Value;
+use sleep_base::Mem;
+use std::alloc::Global;
+
+/// The names of a list of objects.
+pub(crate) fn names_in<'v>(
+    alloc: Global,
+    tree: &'v Value,
+    list: Member,
+) -> Result<Vec<&'v str>, Mem>
+    ensures { IfOk result (λ v. map (λ s. s.now) v.items ≡ names_in (member_name list) (view tree.now)) }
+{
+    let names = names_of(alloc, items(tree, list))?;
+    Ok(names)
+}
+
+fn names_of<'v>(alloc: Global, list: &'v [Value]) -> Result<Vec<&'v str>, Mem>
+    ensures { IfOk result (λ v. map (λ s. s.now) v.items ≡ map name_of (map view list.now)) }
+{
+    let mut names = Vec::with_capacity(alloc, list.len())?;
+    for value in list {
+        names.push(text_at(value, "name"))?;
+    }
+    Ok(names)
+}
+
+/// The names of a list of names.
+pub(crate) fn texts_in<'v>(
+    alloc: Global,
+    tree: &'v Value,
+    list: Member,
+) -> Result<Vec<&'v str>, Mem>
+    ensures { IfOk result (λ v. map (λ s. s.now) v.items ≡ texts_in (member_name list) (view tree.now)) }
+{
+    let names = texts_of(alloc, items(tree, list))?;
+    Ok(names)
+}
+
+fn texts_of<'v>(alloc: Global, list: &'v [Value]) -> Result<Vec<&'v str>, Mem>
+    ensures { IfOk result (λ v. map (λ s. s.now) v.items ≡ map text_of (map view list.now)) }
+{
+    let mut names = Vec::with_capacity(alloc, list.len())?;
+    for value in list {
+        names.push(text_of(value))?;
+    }
+    Ok(names)
+}
+
+/// The first name that stands before.
+pub(crate) fn first_repeated(names: &Places<&str>) -> Option<usize>
+    ensures { result ≡ first_not_after (λ before name. not (is_among_names before name)) [] 0 (map (λ s. s.now) names.now) }
+{
+    names.first_repeated()
+}

@@ -1,0 +1,137 @@
+ghost use Rattle.std.specs.Prelude.{◌≡◌, ◌++◌, true, codes, Some, IfOk, IfErr, string_bytes};
+ghost use Rattle.serde_json.specs.View.{view};
+ghost use Rattle.sleep_model.specs.Accepted.{IsAccepted};
+ghost use Rattle.sleep_model.specs.Built.{is_built};
+ghost use Rattle.machine_file.specs.Whole.{machine_in};
+ghost use Rattle.machine_file.specs.Reading.{links_among, ReadsBuilt};
+ghost use Rattle.machine_file.specs.Refusing.{Names, Refuses, RefusesValue};
+ghost use Rattle.machine_file.specs.Places.{item_place};
+ghost use Rattle.machine_file.specs.Kept.{IsSound};
+ghost use Rattle.machine_file.specs.Broken.{broken_view, place_text};
+
+use crate::built::is_built;
+use crate::cycles::Linking;
+use crate::fault::MachineFault;
+use crate::known::Known;
+use crate::machine::{Checked, check};
+use crate::place::Place;
+use crate::rules::Broken;
+use crate::stop::Stop;
+use crate::tree::tree_of;
+use crate::whole::read_of;
+use device_links::Links;
+use serde_json::Value;
+use sleep_model::Machine;
+use std::alloc::{AllocError, Global};
+
+/// A machine that was read, and the links between its devices, added in turn.
+#[derive(Drop)]
+pub struct ReadMachine {
+    pub machine: Machine,
+    pub links: Links,
+}
+
+/// The machine that the bytes of a machine file spell, with its links.
+///
+/// `Rule`: the bytes break a rule of the format; the first broken one, and its first place.
+/// `NotBuilt`: they break none, and the machine uses what is not built yet. `Mem`: memory ran out.
+pub fn read_machine(alloc: Global, bytes: &[u8]) -> Result<ReadMachine, MachineFault>
+    // What is read is what the bytes spell, and may be run today.
+    ensures spells { IfOk result (λ r. machine_in bytes.now ≡ Some r.machine) }
+    ensures built { IfOk result (λ r. is_built r.machine ≡ true) }
+    ensures links { IfOk result (λ r. r.links ≡ links_among r.machine) }
+    // It is a machine that a file may spell.
+    ensures accepted { IfOk result (λ r. IsAccepted r.machine) }
+    // What is refused breaks that rule first, and there.
+    ensures refused { IfErr result (Refuses bytes.now) }
+{
+    match tree_of(alloc, bytes)? {
+        Some(tree) => read_tree(alloc, &tree),
+        None => Err(fault_of(
+            alloc,
+            Broken {
+                rule: 1,
+                place: Place::Json,
+            },
+        )),
+    }
+}
+
+fn read_tree(alloc: Global, tree: &Value) -> Result<ReadMachine, MachineFault>
+    ensures ok { IfOk result (ReadsBuilt (view tree.now)) }
+    ensures err { IfErr result (RefusesValue (view tree.now)) }
+{
+    match check(alloc, tree)? {
+        Checked::Broken(broken) => Err(fault_of(alloc, broken)),
+        Checked::Sound(known, linking) => read_sound(alloc, tree, &known, linking),
+    }
+}
+
+fn read_sound<'v>(
+    alloc: Global,
+    tree: &'v Value,
+    known: &Known<'v>,
+    linking: Linking,
+) -> Result<ReadMachine, MachineFault>
+    requires { IsSound (view tree.now) known.now linking }
+    ensures ok { IfOk result (ReadsBuilt (view tree.now)) }
+    ensures err { IfErr result (RefusesValue (view tree.now)) }
+{
+    match read_of(alloc, tree, known, linking) {
+        Ok(read) => {
+            if is_built(&read.machine) {
+                Ok(read)
+            } else {
+                Err(MachineFault::NotBuilt)
+            }
+        }
+        Err(Stop::Odd) => Err(MachineFault::NotBuilt),
+        Err(Stop::Mem) => Err(MachineFault::Mem),
+    }
+}
+
+/// That a rule is broken, with its place as a text.
+fn fault_of(alloc: Global, broken: Broken) -> MachineFault
+    ensures { Names result (broken_view broken) }
+{
+    match text_of_place(alloc, broken.place) {
+        Ok(place) => MachineFault::Rule {
+            rule: broken.rule,
+            place,
+        },
+        Err(_) => MachineFault::Mem,
+    }
+}
+
+fn text_of_place(alloc: Global, place: Place) -> Result<String, AllocError>
+    ensures { IfOk result (λ s. string_bytes s ≡ place_text place) }
+{
+    match place {
+        Place::Json => String::from_str(alloc, "json"),
+        Place::Top => String::from_str(alloc, "top"),
+        Place::Member(member) => String::from_str(alloc, member.name()),
+        Place::Item(member, number) => text_of_item(alloc, member.name(), number),
+        Place::Operation(actor, number) => {
+            let actor = text_of_item(alloc, "actors", actor)?;
+            let step = text_of_item(alloc, "script", number)?;
+            joined(alloc, actor.as_str(), step.as_str())
+        }
+    }
+}
+
+fn text_of_item(alloc: Global, list: &str, number: usize) -> Result<String, AllocError>
+    ensures { IfOk result (λ s. string_bytes s ≡ item_place list.now number) }
+{
+    let digits = format!(in alloc; "{number}")?;
+    let mut text = String::from_str(alloc, list)?;
+    text.push_str("[")?;
+    text.push_str(digits.as_str())?;
+    text.push_str("]")?;
+    Ok(text)
+}
+
+fn joined(alloc: Global, one: &str, other: &str) -> Result<String, AllocError>
+    ensures { IfOk result (λ s. string_bytes s ≡ one.now ++ codes "." ++ other.now) }
+{
+    format!(in alloc; "{one}.{other}")
+}

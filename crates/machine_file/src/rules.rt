@@ -1,0 +1,190 @@
+//! The rules of a machine file, in the order in which a broken one is named.
+
+ghost use Rattle.std.specs.Prelude.{◌≡◌, option_map, codes, IfOk};
+ghost use Rattle.serde_json.specs.View.{view};
+ghost use Rattle.machine_file.specs.Whole.{broken_at, first_of};
+ghost use Rattle.machine_file.specs.Look.{has_only};
+ghost use Rattle.std.specs.Option.{option_or};
+ghost use Rattle.machine_file.specs.Members.{file_members};
+ghost use Rattle.machine_file.specs.Rules.{is_version_one};
+ghost use Rattle.machine_file.specs.Operations.{sourceless_operation, deviceless_operation};
+ghost use Rattle.machine_file.specs.Answering.{sourceless_report, thingless_answer};
+ghost use Rattle.machine_file.specs.Places.{unless};
+ghost use Rattle.machine_file.specs.Groups.{form_rules, device_rules, thing_rules, operation_rules, answer_rules};
+ghost use Rattle.machine_file.specs.Knows.{Knows};
+ghost use Rattle.machine_file.specs.Broken.{place_of, broken_view};
+
+use crate::answers::{AnswerTest, first_answer, repeated_answer};
+use crate::form::unformed_member;
+use crate::items::{misspelled_item, unformed_item};
+use crate::known::{Known, repeated_actor, repeated_callback, repeated_device, repeated_source};
+use crate::limits::{too_many, too_much};
+use crate::look::{has_number, has_only};
+use crate::operations::{OperationTest, first_operation};
+use crate::pairs::{loose_link, orphan, repeated_link};
+use crate::place::{Member, Place};
+use serde_json::Value;
+use sleep_base::Mem;
+use std::alloc::Global;
+
+// The members of a machine file.
+const MEMBERS: [&str; 11] = [
+    "version",
+    "alarm_ms",
+    "cpus",
+    "auto_cycles",
+    "devices",
+    "links",
+    "syscore",
+    "notifiers",
+    "sources",
+    "actors",
+    "answers",
+];
+
+/// A broken rule's number, and the first place that breaks it.
+#[derive(Clone, Copy)]
+pub(crate) struct Broken {
+    pub(crate) rule: u8,
+    pub(crate) place: Place,
+}
+
+/// The rule of that number, where a place breaks it.
+pub(crate) fn breaks(rule: u8, place: Option<Place>) -> Option<Broken>
+    ensures { option_map broken_view result ≡ option_map (broken_at rule) (place_of place) }
+{
+    match place {
+        Some(place) => Some(Broken { rule, place }),
+        None => None,
+    }
+}
+
+fn top(tree: &Value) -> Option<Place>
+    ensures { place_of result ≡ unless (has_only file_members (view tree.now)) (codes "top") }
+{
+    if has_only(tree, &MEMBERS) {
+        None
+    } else {
+        Some(Place::Top)
+    }
+}
+
+fn version(tree: &Value) -> Option<Place>
+    ensures { place_of result ≡ unless (is_version_one (view tree.now)) (codes "version") }
+{
+    if has_number(tree, "version", 1) {
+        None
+    } else {
+        Some(Place::Member(Member::Version))
+    }
+}
+
+/// The first rule of form, of number and of names that is broken.
+pub(crate) fn form_broken(tree: &Value) -> Option<Broken>
+    ensures { option_map broken_view result ≡ first_of form_rules (view tree.now) }
+{
+    breaks(2, top(tree))
+        .or_else(|| breaks(3, version(tree)))
+        .or_else(|| breaks(4, unformed_member(tree)))
+        .or_else(|| breaks(5, unformed_item(tree)))
+        .or_else(|| breaks(6, too_many(tree)))
+        .or_else(|| breaks(7, misspelled_item(tree)))
+}
+
+/// The first rule of devices and of the ends of links that is broken.
+pub(crate) fn device_broken<'v>(
+    alloc: Global,
+    tree: &'v Value,
+    known: &Known<'v>,
+) -> Result<Option<Broken>, Mem>
+    requires { Knows known.now (view tree.now) }
+    ensures { IfOk result (λ b. option_map broken_view b ≡ first_of device_rules (view tree.now)) }
+{
+    let again = repeated_link(alloc, tree)?;
+    let device = breaks(8, repeated_device(tree, known));
+    let parent = breaks(9, orphan(tree, known));
+    let end = breaks(10, loose_link(tree, known));
+    Ok(device.or(parent).or(end).or(breaks(11, again)))
+}
+
+/// The first rule that tells things apart that is broken.
+pub(crate) fn thing_broken<'v>(
+    alloc: Global,
+    tree: &'v Value,
+    known: &Known<'v>,
+) -> Result<Option<Broken>, Mem>
+    requires { Knows known.now (view tree.now) }
+    ensures { IfOk result (λ b. option_map broken_view b ≡ first_of thing_rules (view tree.now)) }
+{
+    let source = repeated_source(alloc, tree)?;
+    let actor = repeated_actor(alloc, tree)?;
+    let callback = breaks(13, repeated_callback(tree, known));
+    Ok(callback.or(breaks(14, source)).or(breaks(15, actor)))
+}
+
+fn sourceless_operation<'v>(tree: &'v Value, known: &Known<'v>) -> Option<Place>
+    requires { Knows known.now (view tree.now) }
+    ensures { place_of result ≡ sourceless_operation (view tree.now) }
+{
+    first_operation(OperationTest::Source, known, tree)
+}
+
+fn deviceless_operation<'v>(tree: &'v Value, known: &Known<'v>) -> Option<Place>
+    requires { Knows known.now (view tree.now) }
+    ensures { place_of result ≡ deviceless_operation (view tree.now) }
+{
+    first_operation(OperationTest::Device, known, tree)
+}
+
+fn sourceless_report<'v>(tree: &'v Value, known: &Known<'v>) -> Option<Place>
+    requires { Knows known.now (view tree.now) }
+    ensures { place_of result ≡ sourceless_report (view tree.now) }
+{
+    first_answer(AnswerTest::Sources, known, tree)
+}
+
+fn thingless_answer<'v>(tree: &'v Value, known: &Known<'v>) -> Option<Place>
+    requires { Knows known.now (view tree.now) }
+    ensures { place_of result ≡ thingless_answer (view tree.now) }
+{
+    first_answer(AnswerTest::Thing, known, tree)
+}
+
+fn sourceless<'v>(tree: &'v Value, known: &Known<'v>) -> Option<Place>
+    requires { Knows known.now (view tree.now) }
+    ensures { place_of result ≡ option_or (sourceless_operation (view tree.now)) (sourceless_report (view tree.now)) }
+{
+    match sourceless_operation(tree, known) {
+        Some(place) => Some(place),
+        None => sourceless_report(tree, known),
+    }
+}
+
+/// The first rule of operations that is broken.
+pub(crate) fn operation_broken<'v>(tree: &'v Value, known: &Known<'v>) -> Option<Broken>
+    requires { Knows known.now (view tree.now) }
+    ensures { option_map broken_view result ≡ first_of operation_rules (view tree.now) }
+{
+    let form = breaks(16, first_operation(OperationTest::Formed, known, tree));
+    let maker = breaks(17, first_operation(OperationTest::Allowed, known, tree));
+    let source = breaks(18, sourceless(tree, known));
+    let device = breaks(19, deviceless_operation(tree, known));
+    form.or(maker).or(source).or(device)
+}
+
+/// The first rule of answers, or of how much may happen, that is broken.
+pub(crate) fn answer_broken<'v>(
+    alloc: Global,
+    tree: &'v Value,
+    known: &Known<'v>,
+) -> Result<Option<Broken>, Mem>
+    requires { Knows known.now (view tree.now) }
+    ensures { IfOk result (λ b. option_map broken_view b ≡ first_of answer_rules (view tree.now)) }
+{
+    let again = breaks(23, repeated_answer(alloc, tree)?);
+    let thing = breaks(20, thingless_answer(tree, known));
+    let ret = breaks(21, first_answer(AnswerTest::Ret, known, tree));
+    let reports = breaks(22, first_answer(AnswerTest::Reports, known, tree));
+    let much = breaks(24, too_much(tree));
+    Ok(thing.or(ret).or(reports).or(again).or(much))
+}

@@ -1,0 +1,38 @@
+//! Names and texts of a machine, from the texts of its file.
+
+ghost use Rattle.std.specs.Prelude.{◌≡◌, IfOk};
+ghost use Rattle.machine_file.specs.Knows.{texts};
+
+use crate::stop::Stop;
+use sleep_base::Mem;
+use sleep_model::{Name, Text};
+use std::alloc::Global;
+
+/// The name that a text spells.
+pub(crate) fn name_of_text(text: &str) -> Result<Name, Stop>
+    ensures { IfOk result (λ n. n ≡ text.now) }
+{
+    match Name::of_bytes(text.as_bytes()) {
+        Some(name) => Ok(name),
+        None => Err(Stop::Odd),
+    }
+}
+
+/// The names that texts spell.
+pub(crate) fn names_of_texts(alloc: Global, all: &[&str]) -> Result<Vec<Name>, Stop>
+    ensures { IfOk result (λ v. v.items ≡ texts all.now) }
+{
+    let mut names = Vec::with_capacity(alloc, all.len())?;
+    for text in all {
+        names.push(name_of_text(text)?)?;
+    }
+    Ok(names)
+}
+
+/// A text that is written to a file.
+pub(crate) fn text_from(alloc: Global, text: &str) -> Result<Text, Mem>
+    ensures { IfOk result (λ t. t ≡ text.now) }
+{
+    let bytes = Vec::from_slice(alloc, text.as_bytes())?;
+    Ok(Text::of_vec(bytes))
+}
