@@ -81,7 +81,8 @@ moved_last devices order = filter (λ d. not (is_among devices d)) order ++ last
 -- the order after these links, the newest first: each moved its consumer, and all that hangs below it by the links up to this one, to the end (device_link_add)
 abbrev pub order_by : List (Option ℕ) → List Link → List ℕ
 order_by parents [] = range_with_len 0 (length parents)
-order_by parents (l ∷ earlier) = moved_last (moved (length parents) (hanging parents (l ∷ earlier)) l.consumer) (order_by parents earlier)
+order_by parents (l ∷ earlier) =
+    moved_last (moved (length parents) (hanging parents (l ∷ earlier)) l.consumer) (order_by parents earlier)
 
 -- the devices in the order of their registration, moved by the links in turn (dpm_list)
 abbrev pub order : Machine → List ℕ
