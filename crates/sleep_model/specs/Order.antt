@@ -54,7 +54,7 @@ abbrev pub parent_of : Option (Option ℕ) → List ℕ
 parent_of None = []
 parent_of (Some p) = option_to_list p
 
--- the devices that d hangs below by these links: its parent, and its suppliers (device_links_check_suppliers)
+-- the devices that d hangs below by these links: its parent, and its suppliers (dpm_wait_for_superior)
 abbrev pub holding : List (Option ℕ) → List Link → ℕ → List ℕ
 holding parents links d = parent_of (slice_get parents d) ++ suppliers_of d links
 
