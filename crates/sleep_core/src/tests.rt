@@ -1,11 +1,9 @@
 //! The calls of the core, each once, with ample memory.
 
-ghost use Rattle.std.specs.Prelude.{◌≡◌, ◌<◌, [], ◌∷◌, true, None, Some, length, IfOk};
-ghost use Rattle.sleep_model.specs.Accepted.{IsAccepted};
-ghost use Rattle.sleep_model.specs.Built.{is_built};
-ghost use Rattle.sleep_model.specs.Order.{parents_of};
+ghost use Rattle.std.specs.Prelude.{◌≡◌, ◌<◌, [], length, IfOk};
 ghost use Rattle.sleep_model.specs.Word.{position};
 ghost use Rattle.sleep_core.specs.Histories.{last_stamp};
+ghost use Rattle.sleep_core.specs.Samples.{sample, sample_devices, sample_steps};
 
 use crate::{Core, CoreTurn, Events, PlainEvents};
 use bitflags::Flags;
@@ -19,20 +17,41 @@ use std::alloc::Global;
 use std::sync::Wait;
 use std::test::Fail;
 
-// The device p, its child c, a source, and a task that reads, saves, reports an event or none, and writes mem.
-fn machine(alloc: Global, event: bool) -> Result<Machine, Fail>
-    ensures accepted { IfOk result (λ m. IsAccepted m) }
-    ensures built { IfOk result (λ m. is_built m ≡ true) }
-    ensures parents { IfOk result (λ m. parents_of m.devices ≡ None ∷ Some 0 ∷ []) }
-    ensures links { IfOk result (λ m. m.links ≡ []) }
+// The steps of the task: a read, a save, an event or none, and a write of mem.
+fn steps(alloc: Global, event: bool) -> Result<Vec<Step>, Fail>
+    ensures { IfOk result (λ v. v.items ≡ sample_steps event) }
 {
-    let name = Name::of_bytes(b"p").ok_or("no name")?;
-    let flags = DeviceFlags::from_bits_retain(0);
+    let mut steps = Vec::new(alloc);
+    steps.push(Step {
+        op: Op::Read,
+        times: 1,
+    })?;
+    steps.push(Step {
+        op: Op::Save { count: None },
+        times: 1,
+    })?;
+    if event {
+        let op = Op::Event {
+            source: 0,
+            ms: 0,
+            hard: false,
+        };
+        steps.push(Step { op, times: 1 })?;
+    }
     let text = ListOf::of_vec(Vec::from_slice(alloc, b"mem")?);
     let op = Op::State {
         text,
         if_saved: false,
     };
+    steps.push(Step { op, times: 1 })?;
+    Ok(steps)
+}
+
+// A device and its child.
+fn devices(alloc: Global, name: Name) -> Result<Vec<Device>, Fail>
+    ensures { IfOk result (λ v. v.items ≡ sample_devices name) }
+{
+    let flags = DeviceFlags::from_bits_retain(0);
     let parent = Device {
         name,
         parent: None,
@@ -43,39 +62,24 @@ fn machine(alloc: Global, event: bool) -> Result<Machine, Fail>
         parent: Some(0),
         flags,
     };
-    let read = Step {
-        op: Op::Read,
-        times: 1,
-    };
-    let save = Step {
-        op: Op::Save { count: None },
-        times: 1,
-    };
-    let state = Step { op, times: 1 };
-    let report = Step {
-        op: Op::Event {
-            source: 0,
-            ms: 0,
-            hard: false,
-        },
-        times: 1,
-    };
-    let steps = if event {
-        Vec::from_array(alloc, [read, save, report, state])?
-    } else {
-        Vec::from_array(alloc, [read, save, state])?
-    };
+    Ok(Vec::from_array(alloc, [parent, child])?)
+}
+
+// Two devices, a source, and a task that reports an event or none before it writes mem.
+fn machine(alloc: Global, name: Name, event: bool) -> Result<Machine, Fail>
+    ensures { IfOk result (λ m. m ≡ sample name event) }
+{
     let task = Script {
         name,
         kind: TaskKind::User,
         repeat: 1,
-        steps: ListOf::of_vec(steps),
+        steps: ListOf::of_vec(steps(alloc, event)?),
     };
     Ok(Machine {
         alarm_ms: 1000,
         cpus: 1,
         auto_cycles: 16,
-        devices: ListOf::of_vec(Vec::from_array(alloc, [parent, child])?),
+        devices: ListOf::of_vec(devices(alloc, name)?),
         links: ListOf::of_vec(Vec::new(alloc)),
         syscore: ListOf::of_vec(Vec::new(alloc)),
         notifiers: ListOf::of_vec(Vec::new(alloc)),
@@ -118,14 +122,18 @@ fn drive<R: Wait, E: Events>(
     }
 }
 
-// The core of a machine with two devices, of which the first is the other's parent.
-fn core_of<'m>(alloc: Global, machine: &'m Machine) -> Result<Core<'m>, Fail>
-    requires accepted { IsAccepted machine.now }
-    requires built { is_built machine.now ≡ true }
-    requires parents { parents_of machine.now.devices ≡ None ∷ Some 0 ∷ [] }
-    requires links { machine.now.links ≡ [] }
+// The core of that machine.
+#[tactic(auto, using(crate::proofs::Sampled::sample_accepted, crate::proofs::Sampled::sample_built))]
+fn core_of<'m>(
+    alloc: Global,
+    machine: &'m Machine,
+    name: Name,
+    event: bool,
+) -> Result<Core<'m>, Fail>
+    requires { machine.now ≡ sample name event }
     ensures { IfOk result (λ c. c ≡ record { machine = machine.now; past = [] }) }
 {
+    let _ = (name, event);
     let links = Links::new(alloc, &[None, Some(0)])?;
     Ok(Core::new(alloc, machine, links)?)
 }
@@ -134,8 +142,9 @@ fn core_of<'m>(alloc: Global, machine: &'m Machine) -> Result<Core<'m>, Fail>
 #[test]
 fn sleeps_till_the_alarm(rt: HostRuntime) -> Result<(), Fail> {
     let alloc = rt.alloc();
-    let machine = machine(alloc, false)?;
-    let mut core = core_of(alloc, &machine)?;
+    let name = Name::of_bytes(b"p").ok_or("no name")?;
+    let machine = machine(alloc, name, false)?;
+    let mut core = core_of(alloc, &machine, name, false)?;
     let mut events = PlainEvents::new();
     let start = Stamp { pos: 0, tick: 0 };
     let (asleep, turn) = drive(&rt, &mut core, &mut events, 0, start, 60)?;
@@ -163,8 +172,9 @@ fn sleeps_till_the_alarm(rt: HostRuntime) -> Result<(), Fail> {
 #[test]
 fn an_event_ends_the_attempt(rt: HostRuntime) -> Result<(), Fail> {
     let alloc = rt.alloc();
-    let machine = machine(alloc, true)?;
-    let mut core = core_of(alloc, &machine)?;
+    let name = Name::of_bytes(b"p").ok_or("no name")?;
+    let machine = machine(alloc, name, true)?;
+    let mut core = core_of(alloc, &machine, name, true)?;
     let mut events = PlainEvents::new();
     let start = Stamp { pos: 0, tick: 0 };
     let (saved, turn) = drive(&rt, &mut core, &mut events, 0, start, 10)?;
@@ -201,8 +211,9 @@ fn an_event_ends_the_attempt(rt: HostRuntime) -> Result<(), Fail> {
 #[test]
 fn neighbours(rt: HostRuntime) -> Result<(), Fail> {
     let alloc = rt.alloc();
-    let machine = machine(alloc, false)?;
-    let core = core_of(alloc, &machine)?;
+    let name = Name::of_bytes(b"p").ok_or("no name")?;
+    let machine = machine(alloc, name, false)?;
+    let core = core_of(alloc, &machine, name, false)?;
     assert_eq!(rt; (core.below(0), core.above(1)), (&[1u32][..], &[0u32][..]));
     Ok(())
 }
@@ -242,8 +253,9 @@ impl Events for Passing {
 #[test]
 fn read_waits_for_an_event(rt: HostRuntime) -> Result<(), Fail> {
     let alloc = rt.alloc();
-    let machine = machine(alloc, false)?;
-    let mut core = core_of(alloc, &machine)?;
+    let name = Name::of_bytes(b"p").ok_or("no name")?;
+    let machine = machine(alloc, name, false)?;
+    let mut core = core_of(alloc, &machine, name, false)?;
     let now = EventNow {
         inpr: 1,
         count: 0,
