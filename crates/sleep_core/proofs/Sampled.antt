@@ -1,5 +1,5 @@
 -- The machine of the tests may be run.
-use Rattle.std.proofs.Common.{◌≡◌, ℕ, Bool, true, false, List, [], ◌∷◌, Some, None, ◌∙◌, refl, sym, ap, subst, arith}
+use Rattle.std.proofs.Common.{◌≡◌, ◌<◌, ℕ, Bool, true, false, List, [], ◌∷◌, length, Some, None, ◌∙◌, refl, sym, ap, subst, arith}
 use Rattle.sleep_model.specs.declared.machine.Machine.{Machine}
 use Rattle.sleep_model.specs.Accepted.{IsAccepted}
 use Rattle.sleep_model.specs.Built.{is_built}
@@ -59,3 +59,15 @@ built name false = refl
 -- it uses only what is built
 pub sample_built : (m : Machine) (name : List ℕ) (event : Bool) → m ≡ sample name event → is_built m ≡ true
 sample_built m name event e = ap is_built e ∙ built name event
+
+-- its devices are a parent and its child
+pub sample_parents : (m : Machine) (name : List ℕ) (event : Bool) → m ≡ sample name event → parents_of m.devices ≡ None ∷ Some 0 ∷ []
+sample_parents m name event e = ap (λ (x : Machine). parents_of x.devices) e
+
+-- it has no links
+pub sample_links : (m : Machine) (name : List ℕ) (event : Bool) → m ≡ sample name event → m.links ≡ []
+sample_links m name event e = ap (λ (x : Machine). x.links) e
+
+-- it has a task
+pub sample_actors : (m : Machine) (name : List ℕ) (event : Bool) → m ≡ sample name event → 0 < length m.actors
+sample_actors m name event e = subst (λ (x : Machine). 0 < length x.actors) (sym e) (omega arith)

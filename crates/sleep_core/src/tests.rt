@@ -1,6 +1,9 @@
 //! The calls of the core, each once, with ample memory.
 
-ghost use Rattle.std.specs.Prelude.{◌≡◌, ◌<◌, [], length, IfOk};
+ghost use Rattle.std.specs.Prelude.{◌≡◌, ◌<◌, [], ◌∷◌, true, None, Some, length, IfOk};
+ghost use Rattle.sleep_model.specs.Accepted.{IsAccepted};
+ghost use Rattle.sleep_model.specs.Built.{is_built};
+ghost use Rattle.sleep_model.specs.Order.{parents_of};
 ghost use Rattle.sleep_model.specs.Word.{position};
 ghost use Rattle.sleep_core.specs.Histories.{last_stamp};
 ghost use Rattle.sleep_core.specs.Samples.{sample, sample_devices, sample_steps};
@@ -66,7 +69,7 @@ fn devices(alloc: Global, name: Name) -> Result<Vec<Device>, Fail>
 }
 
 // Two devices, a source, and a task that reports an event or none before it writes mem.
-fn machine(alloc: Global, name: Name, event: bool) -> Result<Machine, Fail>
+fn sample(alloc: Global, name: Name, event: bool) -> Result<Machine, Fail>
     ensures { IfOk result (λ m. m ≡ sample name event) }
 {
     let task = Script {
@@ -88,6 +91,18 @@ fn machine(alloc: Global, name: Name, event: bool) -> Result<Machine, Fail>
         actors: ListOf::of_vec(Vec::from_array(alloc, [task])?),
         answers: ListOf::of_vec(Vec::new(alloc)),
     })
+}
+
+// That machine, of which tests need to know only that it may be run.
+#[tactic(auto, using(crate::proofs::Sampled::sample_accepted, crate::proofs::Sampled::sample_built, crate::proofs::Sampled::sample_parents, crate::proofs::Sampled::sample_links, crate::proofs::Sampled::sample_actors))]
+fn machine(alloc: Global, name: Name, event: bool) -> Result<Machine, Fail>
+    ensures accepted { IfOk result (λ m. IsAccepted m) }
+    ensures built { IfOk result (λ m. is_built m ≡ true) }
+    ensures parents { IfOk result (λ m. parents_of m.devices ≡ None ∷ Some 0 ∷ []) }
+    ensures links { IfOk result (λ m. m.links ≡ []) }
+    ensures actors { IfOk result (λ m. 0 < length m.actors) }
+{
+    sample(alloc, name, event)
 }
 
 const TASK: Actor = Actor::Script(0);
@@ -122,18 +137,14 @@ fn drive<R: Wait, E: Events>(
     }
 }
 
-// The core of that machine.
-#[tactic(auto, using(crate::proofs::Sampled::sample_accepted, crate::proofs::Sampled::sample_built))]
-fn core_of<'m>(
-    alloc: Global,
-    machine: &'m Machine,
-    name: Name,
-    event: bool,
-) -> Result<Core<'m>, Fail>
-    requires { machine.now ≡ sample name event }
-    ensures { IfOk result (λ c. c ≡ record { machine = machine.now; past = [] }) }
+// The core of such a machine.
+fn core_of<'m>(alloc: Global, machine: &'m Machine) -> Result<Core<'m>, Fail>
+    requires accepted { IsAccepted machine.now }
+    requires built { is_built machine.now ≡ true }
+    requires parents { parents_of machine.now.devices ≡ None ∷ Some 0 ∷ [] }
+    requires links { machine.now.links ≡ [] }
+    ensures { IfOk result (λ c. (c.machine ≡ machine.now) × (c.past ≡ [])) }
 {
-    let _ = (name, event);
     let links = Links::new(alloc, &[None, Some(0)])?;
     Ok(Core::new(alloc, machine, links)?)
 }
@@ -144,7 +155,7 @@ fn sleeps_till_the_alarm(rt: HostRuntime) -> Result<(), Fail> {
     let alloc = rt.alloc();
     let name = Name::of_bytes(b"p").ok_or("no name")?;
     let machine = machine(alloc, name, false)?;
-    let mut core = core_of(alloc, &machine, name, false)?;
+    let mut core = core_of(alloc, &machine)?;
     let mut events = PlainEvents::new();
     let start = Stamp { pos: 0, tick: 0 };
     let (asleep, turn) = drive(&rt, &mut core, &mut events, 0, start, 60)?;
@@ -174,7 +185,7 @@ fn an_event_ends_the_attempt(rt: HostRuntime) -> Result<(), Fail> {
     let alloc = rt.alloc();
     let name = Name::of_bytes(b"p").ok_or("no name")?;
     let machine = machine(alloc, name, true)?;
-    let mut core = core_of(alloc, &machine, name, true)?;
+    let mut core = core_of(alloc, &machine)?;
     let mut events = PlainEvents::new();
     let start = Stamp { pos: 0, tick: 0 };
     let (saved, turn) = drive(&rt, &mut core, &mut events, 0, start, 10)?;
@@ -213,7 +224,7 @@ fn neighbours(rt: HostRuntime) -> Result<(), Fail> {
     let alloc = rt.alloc();
     let name = Name::of_bytes(b"p").ok_or("no name")?;
     let machine = machine(alloc, name, false)?;
-    let core = core_of(alloc, &machine, name, false)?;
+    let core = core_of(alloc, &machine)?;
     assert_eq!(rt; (core.below(0), core.above(1)), (&[1u32][..], &[0u32][..]));
     Ok(())
 }
@@ -255,7 +266,7 @@ fn read_waits_for_an_event(rt: HostRuntime) -> Result<(), Fail> {
     let alloc = rt.alloc();
     let name = Name::of_bytes(b"p").ok_or("no name")?;
     let machine = machine(alloc, name, false)?;
-    let mut core = core_of(alloc, &machine, name, false)?;
+    let mut core = core_of(alloc, &machine)?;
     let now = EventNow {
         inpr: 1,
         count: 0,
