@@ -1,6 +1,8 @@
 //! Files that are accepted, and the machines that they spell.
 
-ghost use Rattle.worked_logs.specs.Worked as worked;
+ghost use Rattle.worked_logs.specs.Attempts.{parent_and_child_machine, event_after_save_machine};
+ghost use Rattle.worked_logs.specs.Counts.{event_before_save_machine};
+ghost use Rattle.worked_logs.specs.Devices.{two_links_machine, direct_complete_machine};
 ghost use Rattle.machine_file.specs.Spelling.{ReadsBack};
 ghost use Rattle.file_laws.specs.Files.{Spells};
 ghost use Rattle.file_laws.specs.Worked.{bare, full};
@@ -15,11 +17,12 @@ pub fn defaults_are_spelled()
 /// Machines of which there are worked logs.
 #[tactic(auto, unfolding(crate::proofs::Reading::reading))]
 pub fn worked_machines_are_spelled()
-    ensures calm { Spells "{'version':1,'devices':[{'name':'p'},{'name':'c','parent':'p'}],'sources':['lid'],'actors':[{'name':'w','kind':'user','script':[{'op':'read'},{'op':'save'},{'op':'state','text':'mem'}]}]}" worked.calm_machine }
-    ensures after_save { Spells "{'version':1,'devices':[{'name':'p'},{'name':'c','parent':'p'}],'sources':['lid'],'actors':[{'name':'w','kind':'user','script':[{'op':'read'},{'op':'save'},{'op':'event','source':'lid'},{'op':'state','text':'mem'}]}]}" worked.after_save_machine }
-    ensures before_save { Spells "{'version':1,'sources':['lid'],'actors':[{'name':'w','kind':'user','script':[{'op':'read'},{'op':'event','source':'lid'},{'op':'save'},{'op':'state','text':'mem'}]}]}" worked.before_save_machine }
-    ensures linked { Spells "{'version':1,'devices':[{'name':'bus'},{'name':'usb','parent':'bus'},{'name':'cam','parent':'usb'},{'name':'gpio'},{'name':'clk'}],'links':[{'supplier':'gpio','consumer':'usb'},{'supplier':'clk','consumer':'gpio'}],'actors':[{'name':'w','kind':'user','script':[{'op':'state','text':'mem'}]}]}" worked.linked_machine }
-    ensures back { ReadsBack worked.linked_machine }
+    ensures parent_and_child { Spells "{'version':1,'devices':[{'name':'p'},{'name':'c','parent':'p'}],'sources':['lid'],'actors':[{'name':'w','kind':'user','script':[{'op':'read'},{'op':'save'},{'op':'state','text':'mem'}]}]}" parent_and_child_machine }
+    ensures event_after_save { Spells "{'version':1,'devices':[{'name':'p'},{'name':'c','parent':'p'}],'sources':['lid'],'actors':[{'name':'w','kind':'user','script':[{'op':'read'},{'op':'save'},{'op':'event','source':'lid'},{'op':'state','text':'mem'}]}]}" event_after_save_machine }
+    ensures event_before_save { Spells "{'version':1,'sources':['lid'],'actors':[{'name':'w','kind':'user','script':[{'op':'read'},{'op':'post','mark':'a'},{'op':'wait','mark':'b'},{'op':'save'},{'op':'state','text':'mem','if_saved':true}]},{'name':'k','kind':'irq','script':[{'op':'wait','mark':'a'},{'op':'event','source':'lid'},{'op':'post','mark':'b'}]}]}" event_before_save_machine }
+    ensures two_links { Spells "{'version':1,'devices':[{'name':'bus'},{'name':'usb','parent':'bus'},{'name':'cam','parent':'usb'},{'name':'gpio'},{'name':'clk'}],'links':[{'supplier':'gpio','consumer':'usb'},{'supplier':'clk','consumer':'gpio'}],'actors':[{'name':'w','kind':'user','script':[{'op':'state','text':'mem'}]}]}" two_links_machine }
+    ensures direct_complete { Spells "{'version':1,'devices':[{'name':'hub','runtime':'suspended'},{'name':'port','parent':'hub','runtime':'suspended'},{'name':'key','parent':'port','runtime':'suspended'}],'answers':[{'what':'device','name':'hub','phase':'prepare','ret':1},{'what':'device','name':'port','phase':'prepare','ret':1},{'what':'device','name':'key','phase':'prepare','ret':1}],'actors':[{'name':'w','kind':'user','script':[{'op':'state','text':'mem'}]}]}" direct_complete_machine }
+    ensures back { ReadsBack two_links_machine }
 {}
 
 /// A machine that has something of each.

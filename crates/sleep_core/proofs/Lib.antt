@@ -6,3 +6,4 @@ mod Propers
 mod Seated
 mod Turning
 mod Walks
+pub mod Sampled

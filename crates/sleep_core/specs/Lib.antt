@@ -8,3 +8,4 @@ pub mod Seen
 pub mod Stages
 pub mod Steps
 pub mod Turned
+pub mod Samples

@@ -24,12 +24,12 @@ part (Some xs) None bytes bs e taken = absurd taken
 part (Some xs) (Some ys) bytes bs e taken = let all : xs ≡ bytes = cc in omega (arith, ap length all, ap length taken, length-append bs ys)
 
 pub completes : (words : List (List ℕ)) (old new : Streams) (ending : Ending) → Ended words old new ending → Completes words old new (status_of ending)
-completes words old new Ran h = λ form bytes told fits m spells read out. inl (inl refl)
-completes words old new Stuck h = λ form bytes told fits m spells read out. inl (inr refl)
+completes words old new Ran h = λ form bytes told fits m spells read out. inl refl
+completes words old new Stuck h = λ form bytes told fits m spells read out. inr (inl refl)
 completes words old new NoForm h = λ form bytes told fits m spells read out. absurd (h.0 form)
 completes words old new TooLong h = λ form bytes told fits m spells read out. absurd (omega (arith, h.1.0.2, part old.left new.left bytes h.1.0.0 told h.1.0.1, fits))
 completes words old new Refused h = λ form bytes told fits m spells read out.
     absurd (h.1.0.2 m (subst (λ (bs : List ℕ). Spells bs m) (sym (whole old.left new.left bytes h.1.0.0 told h.1.0.1.taken h.1.0.1.at_end)) spells))
 completes words old new ReadFault h = λ form bytes told fits m spells read out. absurd (rose_not old.read_faults new.read_faults h.1.0 read)
 completes words old new WriteFault h = λ form bytes told fits m spells read out. absurd (rose_not old.out_faults new.out_faults h.1.0 out)
-completes words old new NoMemory h = λ form bytes told fits m spells read out. inr refl
+completes words old new NoMemory h = λ form bytes told fits m spells read out. inr (inr refl)

@@ -113,7 +113,7 @@ FileEnded old new Refused = ((bytes : List ℕ) × ReadWhole old new bytes × ((
 -- a read failed
 FileEnded old new ReadFault = Rose old.read_faults new.read_faults × KeepsOut old new
 -- a write failed, after a front of the log's text
-FileEnded old new WriteFault = Rose old.out_faults new.out_faults × ((front back : List ℕ) (stuck : Bool) × RanFile old new (front ++ back) stuck × Appends old.out new.out front)
+FileEnded old new WriteFault = Rose old.out_faults new.out_faults × ((front back : List ℕ) × (stuck : Bool) × RanFile old new (front ++ back) stuck × Appends old.out new.out front)
 FileEnded old new NoMemory = KeepsOut old new
 
 -- what an ending means: the words are of no form, exactly where nothing was read or written; or they are, and a file was run

@@ -3,6 +3,8 @@
 
 mod ending;
 #[cfg(test)]
+mod logs;
+#[cfg(test)]
 mod tests;
 mod top;
 

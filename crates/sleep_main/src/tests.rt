@@ -1,148 +1,15 @@
+use crate::logs::{
+    ASYNCHRONOUS, ASYNCHRONOUS_LOG, CALLBACK_FAILS, CALLBACK_FAILS_LOG, CYCLIC, DIRECT, DIRECT_LOG,
+    EVENT_AFTER_SAVE, EVENT_AFTER_SAVE_LOG, EVENT_BEFORE_SAVE, EVENT_BEFORE_SAVE_LOG,
+    EVENT_WITHOUT_DEVICES, EVENT_WITHOUT_DEVICES_LOG, LINKED, LINKED_LOG, NOTIFIER_FAILS,
+    NOTIFIER_FAILS_LOG, SMALL, SMALL_LOG, SYSCORE_FAILS, SYSCORE_FAILS_LOG,
+};
 use crate::top::run_words;
 use sleep_base::{MemSink, MemSource};
 use std::alloc::{AllocError, Global};
 use std::process::Abort;
 use std::sync::Wait;
 use std::test::Fail;
-
-/// A parent and its child, one source, and a task that reads the count, saves it and writes mem.
-const SMALL: &str =
-    r#"{"version": 1, "devices": [{"name": "p"}, {"name": "c", "parent": "p"}], "sources": ["lid"], "actors": [{"name": "w", "kind": "user", "script": [{"op": "read"}, {"op": "save"}, {"op": "state", "text": "mem"}]}]}"#;
-
-/// What the program writes for it.
-const SMALL_LOG: &str = "\
-0 0/0/0 task:w read 0\n\
-0 0/0/0 task:w save 0 ok\n\
-0 0/0/0 task:w attempt 1 guarded 0\n\
-0 0/0/0 task:w begin suspend c\n\
-0 0/0/0 task:w end suspend c 0\n\
-0 0/0/0 task:w begin suspend p\n\
-0 0/0/0 task:w end suspend p 0\n\
-0 0/0/0 task:w done suspend 0\n\
-0 0/0/0 task:w enter\n\
-1000 0/0/0 time jump\n\
-1000 0/0/0 task:w wake alarm\n\
-1000 0/0/0 task:w begin resume p\n\
-1000 0/0/0 task:w end resume p 0\n\
-1000 0/0/0 task:w begin resume c\n\
-1000 0/0/0 task:w end resume c 0\n\
-1000 0/0/0 task:w done resume 0\n\
-1000 0/0/0 task:w clear\n\
-1000 0/0/0 task:w over 1 0\n\
-1000 0/0/0 task:w exit\n\
-source lid 0 0 0 0 0 0 0\n\
-source autosleep 0 0 0 0 0 0 0\n\
-finished\n";
-
-/// The lid reports an event after the count was saved: the child is not suspended.
-const EVENT_AFTER_SAVE: &str =
-    r#"{"version": 1, "devices": [{"name": "p"}, {"name": "c", "parent": "p"}], "sources": ["lid"], "actors": [{"name": "w", "kind": "user", "script": [{"op": "read"}, {"op": "save"}, {"op": "event", "source": "lid"}, {"op": "state", "text": "mem"}]}]}"#;
-
-/// What the program writes for it.
-const EVENT_AFTER_SAVE_LOG: &str = "\
-0 0/0/0 task:w read 0\n\
-0 0/0/0 task:w save 0 ok\n\
-0 0/0/0 task:w event lid 0 soft\n\
-0 0/0/0 task:w start lid\n\
-0 1/0/0 task:w finish lid\n\
-0 0/1/0 task:w attempt 1 guarded 0\n\
-0 0/1/0 task:w skip suspend c pending\n\
-0 0/1/0 task:w done suspend EBUSY\n\
-0 0/1/0 task:w done resume 0\n\
-0 0/1/0 task:w clear\n\
-0 0/1/0 task:w over 1 EBUSY\n\
-0 0/1/0 task:w exit\n\
-source lid 1 1 0 0 0 0 0\n\
-source autosleep 0 0 0 0 0 0 0\n\
-finished\n";
-
-/// An event between the read and the save: the save fails, and a plain attempt sleeps.
-const EVENT_BEFORE_SAVE: &str =
-    r#"{"version": 1, "sources": ["lid"], "actors": [{"name": "w", "kind": "user", "script": [{"op": "read"}, {"op": "event", "source": "lid"}, {"op": "save"}, {"op": "state", "text": "mem"}]}]}"#;
-
-/// What the program writes for it.
-const EVENT_BEFORE_SAVE_LOG: &str = "\
-0 0/0/0 task:w read 0\n\
-0 0/0/0 task:w event lid 0 soft\n\
-0 0/0/0 task:w start lid\n\
-0 1/0/0 task:w finish lid\n\
-0 0/1/0 task:w save 0 EINVAL\n\
-0 0/1/0 task:w attempt 1 plain\n\
-0 0/1/0 task:w done suspend 0\n\
-0 0/1/0 task:w enter\n\
-1000 0/1/0 time jump\n\
-1000 0/1/0 task:w wake alarm\n\
-1000 0/1/0 task:w done resume 0\n\
-1000 0/1/0 task:w clear\n\
-1000 0/1/0 task:w over 1 0\n\
-1000 0/1/0 task:w exit\n\
-source lid 1 1 0 0 0 0 0\n\
-source autosleep 0 0 0 0 0 0 0\n\
-finished\n";
-
-/// An event after the save, and no devices: the machine does not enter sleep.
-const EVENT_WITHOUT_DEVICES: &str =
-    r#"{"version": 1, "sources": ["lid"], "actors": [{"name": "w", "kind": "user", "script": [{"op": "read"}, {"op": "save"}, {"op": "event", "source": "lid"}, {"op": "state", "text": "mem"}]}]}"#;
-
-/// What the program writes for it.
-const EVENT_WITHOUT_DEVICES_LOG: &str = "\
-0 0/0/0 task:w read 0\n\
-0 0/0/0 task:w save 0 ok\n\
-0 0/0/0 task:w event lid 0 soft\n\
-0 0/0/0 task:w start lid\n\
-0 1/0/0 task:w finish lid\n\
-0 0/1/0 task:w attempt 1 guarded 0\n\
-0 0/1/0 task:w done suspend 0\n\
-0 0/1/0 task:w enter EBUSY\n\
-0 0/1/0 task:w done resume 0\n\
-0 0/1/0 task:w clear\n\
-0 0/1/0 task:w over 1 EBUSY\n\
-0 0/1/0 task:w exit\n\
-source lid 1 1 0 0 0 0 0\n\
-source autosleep 0 0 0 0 0 0 0\n\
-finished\n";
-
-/// A camera on a bus, whose port needs a line that needs a clock: consumers suspend before suppliers.
-const LINKED: &str =
-    r#"{"version": 1, "devices": [{"name": "bus"}, {"name": "usb", "parent": "bus"}, {"name": "cam", "parent": "usb"}, {"name": "gpio"}, {"name": "clk"}], "links": [{"supplier": "gpio", "consumer": "usb"}, {"supplier": "clk", "consumer": "gpio"}], "actors": [{"name": "w", "kind": "user", "script": [{"op": "state", "text": "mem"}]}]}"#;
-
-/// What the program writes for it.
-const LINKED_LOG: &str = "\
-0 0/0/0 task:w attempt 1 plain\n\
-0 0/0/0 task:w begin suspend cam\n\
-0 0/0/0 task:w end suspend cam 0\n\
-0 0/0/0 task:w begin suspend usb\n\
-0 0/0/0 task:w end suspend usb 0\n\
-0 0/0/0 task:w begin suspend gpio\n\
-0 0/0/0 task:w end suspend gpio 0\n\
-0 0/0/0 task:w begin suspend clk\n\
-0 0/0/0 task:w end suspend clk 0\n\
-0 0/0/0 task:w begin suspend bus\n\
-0 0/0/0 task:w end suspend bus 0\n\
-0 0/0/0 task:w done suspend 0\n\
-0 0/0/0 task:w enter\n\
-1000 0/0/0 time jump\n\
-1000 0/0/0 task:w wake alarm\n\
-1000 0/0/0 task:w begin resume bus\n\
-1000 0/0/0 task:w end resume bus 0\n\
-1000 0/0/0 task:w begin resume clk\n\
-1000 0/0/0 task:w end resume clk 0\n\
-1000 0/0/0 task:w begin resume gpio\n\
-1000 0/0/0 task:w end resume gpio 0\n\
-1000 0/0/0 task:w begin resume usb\n\
-1000 0/0/0 task:w end resume usb 0\n\
-1000 0/0/0 task:w begin resume cam\n\
-1000 0/0/0 task:w end resume cam 0\n\
-1000 0/0/0 task:w done resume 0\n\
-1000 0/0/0 task:w clear\n\
-1000 0/0/0 task:w over 1 0\n\
-1000 0/0/0 task:w exit\n\
-source autosleep 0 0 0 0 0 0 0\n\
-finished\n";
-
-/// The same with a third link, by which the clock needs the camera.
-const CYCLIC: &str =
-    r#"{"version": 1, "devices": [{"name": "bus"}, {"name": "usb", "parent": "bus"}, {"name": "cam", "parent": "usb"}, {"name": "gpio"}, {"name": "clk"}], "links": [{"supplier": "gpio", "consumer": "usb"}, {"supplier": "clk", "consumer": "gpio"}, {"supplier": "cam", "consumer": "clk"}], "actors": [{"name": "w", "kind": "user", "script": [{"op": "state", "text": "mem"}]}]}"#;
 
 /// The words of the one form.
 const RUN: [&str; 4] = ["sleep", "run", "--workers", "1"];
@@ -228,7 +95,8 @@ fn expect<R: Wait + Abort>(
 }
 
 /// An attempt of a parent and its child, in which the child suspends first and the parent resumes
-/// first; events before, between and after the steps that lead to an attempt; and devices with links.
+/// first; events before, between and after the steps that lead to an attempt; devices with links, and
+/// asynchronous ones; devices that are left alone; and failures with their way back.
 #[test]
 fn machines_give_their_logs(rt: HostRuntime) -> Result<(), Fail> {
     for (file, log) in [
@@ -237,6 +105,11 @@ fn machines_give_their_logs(rt: HostRuntime) -> Result<(), Fail> {
         (EVENT_BEFORE_SAVE, EVENT_BEFORE_SAVE_LOG),
         (EVENT_WITHOUT_DEVICES, EVENT_WITHOUT_DEVICES_LOG),
         (LINKED, LINKED_LOG),
+        (ASYNCHRONOUS, ASYNCHRONOUS_LOG),
+        (DIRECT, DIRECT_LOG),
+        (NOTIFIER_FAILS, NOTIFIER_FAILS_LOG),
+        (SYSCORE_FAILS, SYSCORE_FAILS_LOG),
+        (CALLBACK_FAILS, CALLBACK_FAILS_LOG),
     ] {
         expect(&rt, rt.alloc(), file, 0, log, "")?;
     }
@@ -304,32 +177,107 @@ fn diamonds_file(alloc: Global, names: &[String]) -> Result<String, AllocError> 
     Ok(file)
 }
 
-/// A hundred diamonds, one below the other: what hangs below doubles with each, and the devices suspend
-/// and resume in the order of their registration all the same.
+/// Lines in front of the devices', between a phase and the next, and behind them all.
+const DOWN: [(&str, &str); 3] = [
+    (
+        "suspend",
+        "0 0/0/0 task:w done suspend 0\n0 0/0/0 task:w platform prepare 0\n",
+    ),
+    ("late", "0 0/0/0 task:w done late 0\n"),
+    (
+        "noirq",
+        "0 0/0/0 task:w done noirq 0\n0 0/0/0 task:w platform prepare_late 0\n",
+    ),
+];
+
+const UP: [(&str, &str); 3] = [
+    ("resume_noirq", "1000 0/0/0 task:w done resume_noirq 0\n"),
+    (
+        "early",
+        "1000 0/0/0 task:w done early 0\n1000 0/0/0 task:w platform finish\n",
+    ),
+    ("resume", "1000 0/0/0 task:w done resume 0\n"),
+];
+
+const FRONT: &str = "\
+0 0/0/0 task:w attempt 1 plain\n\
+0 0/0/0 task:w freeze user\n\
+0 0/0/0 task:w froze user 0\n\
+0 0/0/0 task:w freeze kernel\n\
+0 0/0/0 task:w froze kernel 0\n\
+0 0/0/0 task:w platform begin 0\n";
+
+const SLEEP: &str = "\
+0 0/0/0 task:w irqs off\n\
+0 0/0/0 task:w syscore check 0\n\
+0 0/0/0 task:w enter\n\
+1000 0/0/0 time jump\n\
+1000 0/0/0 task:w wake alarm\n\
+1000 0/0/0 task:w irqs on\n\
+1000 0/0/0 task:w platform wake\n";
+
+const BACK: &str = "\
+1000 0/0/0 task:w done complete 0\n\
+1000 0/0/0 task:w platform end\n\
+1000 0/0/0 task:w clear\n\
+1000 0/0/0 task:w thaw all\n\
+1000 0/0/0 task:w over 1 0\n\
+1000 0/0/0 task:w exit\n\
+source autosleep 0 0 0 0 0 0 0\n\
+finished\n";
+
+/// The lines of a device's callback at that time.
+fn callback(
+    alloc: Global,
+    log: &mut String,
+    at: &str,
+    phase: &str,
+    name: &str,
+) -> Result<(), AllocError> {
+    let head = format!(in alloc; "{at} 0/0/0 task:w")?;
+    let head = head.as_str();
+    log.push_str(format!(in alloc;
+        "{head} begin {phase} {name}\n{head} end {phase} {name} 0\n"
+    )?.as_str())
+}
+
+/// The log of the diamonds.
+fn diamonds_log(alloc: Global, names: &[String]) -> Result<String, AllocError> {
+    let mut log = String::from_str(alloc, FRONT)?;
+    for name in names {
+        let name = name.as_str();
+        log.push_str(format!(in alloc; "0 0/0/0 task:w prepare {name} 0\n")?.as_str())?;
+    }
+    log.push_str("0 0/0/0 task:w done prepare 0\n")?;
+    for (phase, behind) in DOWN {
+        for name in names.iter().rev() {
+            callback(alloc, &mut log, "0", phase, name.as_str())?;
+        }
+        log.push_str(behind)?;
+    }
+    log.push_str(SLEEP)?;
+    for (phase, behind) in UP {
+        for name in names {
+            callback(alloc, &mut log, "1000", phase, name.as_str())?;
+        }
+        log.push_str(behind)?;
+    }
+    for name in names.iter().rev() {
+        let name = name.as_str();
+        log.push_str(format!(in alloc; "1000 0/0/0 task:w complete {name}\n")?.as_str())?;
+    }
+    log.push_str(BACK)?;
+    Ok(log)
+}
+
+/// A hundred diamonds, one below the other: what hangs below doubles with each, and the devices go down
+/// and come up in the order of their registration all the same.
 #[test]
 fn diamonds_keep_their_order(rt: HostRuntime) -> Result<(), Fail> {
     let alloc = rt.alloc();
     let names = diamonds(alloc)?;
     let file = diamonds_file(alloc, &names)?;
-    let mut log = String::from_str(alloc, "0 0/0/0 task:w attempt 1 plain\n")?;
-    for name in names.iter().rev() {
-        let name = name.as_str();
-        log.push_str(format!(in alloc;
-            "0 0/0/0 task:w begin suspend {name}\n0 0/0/0 task:w end suspend {name} 0\n"
-        )?.as_str())?;
-    }
-    log.push_str(
-        "0 0/0/0 task:w done suspend 0\n0 0/0/0 task:w enter\n1000 0/0/0 time jump\n1000 0/0/0 task:w wake alarm\n",
-    )?;
-    for name in &names {
-        let name = name.as_str();
-        log.push_str(format!(in alloc;
-            "1000 0/0/0 task:w begin resume {name}\n1000 0/0/0 task:w end resume {name} 0\n"
-        )?.as_str())?;
-    }
-    log.push_str(
-        "1000 0/0/0 task:w done resume 0\n1000 0/0/0 task:w clear\n1000 0/0/0 task:w over 1 0\n1000 0/0/0 task:w exit\nsource autosleep 0 0 0 0 0 0 0\nfinished\n",
-    )?;
+    let log = diamonds_log(alloc, &names)?;
     expect(&rt, alloc, file.as_str(), 0, log.as_str(), "")
 }
 

@@ -140,8 +140,8 @@ fn say<K: ByteSink>(err: &mut K, text: &str)
 ///
 /// - 0: the log was written, of a run in which nothing was left to do. 6: of one in which nobody went on.
 /// - 2: exactly where the words are others; nothing is read or written.
-/// - 3: exactly where the input has more than 16,777,216 bytes or spells no machine that may be
-///   run today.
+/// - 3: the input has more than 16,777,216 bytes or spells no machine that may be run today. Such an input
+///   may give 4 or 8 instead, and nothing else.
 /// - 4: a read failed. 5: a write failed, after a front of the log's text.
 /// - 8: there was no memory.
 ///

@@ -70,7 +70,8 @@ AreReports m (r ∷ rs) = (r.source < length m.sources) × AreReports m rs
 abbrev pub AreAnswers : Machine → List Answer → Type 0
 AreAnswers m [] = Unit {0}
 AreAnswers m (a ∷ rest) =
-    IsThing m a.what × (is_ret_of a.what a.ret ≡ true) × (length a.reports ≤ 16) × AreReports m a.reports × AreAnswers m rest
+    IsThing m a.what × (is_ret_of a.what a.ret ≡ true) × (length a.reports ≤ 16) × AreReports m a.reports
+    × AreAnswers m rest
 
 -- ---- the machine
 

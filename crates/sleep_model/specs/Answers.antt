@@ -36,7 +36,8 @@ is_for _ _ = false
 -- the answer of a thing for that attempt, or for any
 abbrev pub answer_for : What → Option ℕ → List Answer → Option Answer
 answer_for what attempt [] = None
-answer_for what attempt (a ∷ rest) = if is_thing a.what what && is_for a.attempt attempt then Some a else answer_for what attempt rest
+answer_for what attempt (a ∷ rest) =
+    if is_thing a.what what && is_for a.attempt attempt then Some a else answer_for what attempt rest
 
 -- an answer of its own stands before the one for any attempt
 abbrev pub own_or : Option Answer → Option Answer → Option Answer

@@ -87,7 +87,9 @@ sleeps_now past = is_some (sleep_of past)
 
 -- a sleeping machine wakes by a step of the word, else by the alarm (suspend_enter, pm_wakeup_pending; the alarm is own)
 abbrev pub wakes_due : Machine → List Entry → EventNow → Sleep → Due
-wakes_due m past now s = if nat_lt s.pos (position now) then Makes (kind.Wake true) else if nat_le (s.since + m.alarm_ms) (time_of past) then Makes (kind.Wake false) else Waits why.Asleep
+wakes_due m past now s =
+    if nat_lt s.pos (position now) then Makes (kind.Wake true)
+    else if nat_le (s.since + m.alarm_ms) (time_of past) then Makes (kind.Wake false) else Waits why.Asleep
 
 -- the entering: not where a wakeup is pending (suspend_enter)
 abbrev pub enter_due : Machine → List Entry → EventNow → Option Sleep → Due
@@ -138,7 +140,8 @@ cpu_kind false k = kind.CpuOff k
 
 -- what the maker makes at a stage, if that has anything left (enter_state, suspend_devices_and_enter, suspend_enter)
 abbrev pub stage_due : Machine → List Entry → EventNow → Stage → Due
-stage_due m past now stage.Notifies = if_left (λ x. kind.NotifyPrepare x (answered m past (what.Notifier x))) (next_called m past)
+stage_due m past now stage.Notifies =
+    if_left (λ x. kind.NotifyPrepare x (answered m past (what.Notifier x))) (next_called m past)
 stage_due m past now (stage.Freezes g) = freeze_due m past now g (freeze_since past)
 stage_due m past now (stage.Asks step) = Makes (kind.PlatformDo step (answered m past (what.Platform step)))
 stage_due m past now stage.Prepares = prepare_due m past (phase_failed past) (next_prepared m past)
@@ -146,7 +149,8 @@ stage_due m past now (stage.Downs p) = down_due m past now p (callback past)
 stage_due m past now stage.StopsCpus = if_left (cpu_kind (pending past now)) (next_cpu_off m past)
 stage_due m past now stage.StopsIrqs = Makes (kind.Irqs false)
 stage_due m past now stage.Checks = Makes (kind.SyscoreCheck (busy_error (pending past now)))
-stage_due m past now stage.StopsSyscore = if_left (λ x. kind.SyscoreSuspend x (answered m past (what.Syscore x))) (next_stopped m past)
+stage_due m past now stage.StopsSyscore =
+    if_left (λ x. kind.SyscoreSuspend x (answered m past (what.Syscore x))) (next_stopped m past)
 stage_due m past now stage.Enters = enter_due m past now (sleep_of past)
 stage_due m past now stage.StartsSyscore = if_left kind.SyscoreResume (next_started m past)
 stage_due m past now stage.StartsIrqs = Makes (kind.Irqs true)

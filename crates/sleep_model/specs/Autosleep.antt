@@ -96,15 +96,18 @@ abbrev pub work_due : Machine → List Entry → EventNow → Work → Due
 work_due m past now Resting = if may_run m past then Makes kind.AutoRun else Waits why.NoWork
 work_due m past now Reading = if now.inpr == 0 then Makes (kind.Read (visible now)) else Waits why.InProgress
 work_due m past now (Saving c) = if is_none (holder past) then Makes (auto_save now c) else Waits why.LockHeld
-work_due m past now (Attempting c) = if is_on past then Makes (kind.Attempt (attempts past + 1) (in_force past)) else Makes kind.AutoOff
+work_due m past now (Attempting c) =
+    if is_on past then Makes (kind.Attempt (attempts past + 1) (in_force past)) else Makes kind.AutoOff
 work_due m past now (Looking c) = Makes (kind.AutoAfter (seen_count now))
 work_due m past now (Napping None) = Makes (kind.SleepD (time_of past + 500))
-work_due m past now (Napping (Some until)) = if nat_le until (time_of past) then Makes kind.Slept else Waits (why.Until until)
+work_due m past now (Napping (Some until)) =
+    if nat_le until (time_of past) then Makes kind.Slept else Waits (why.Until until)
 work_due m past now Closing = if is_on past then Makes kind.AutoAgain else Makes kind.AutoOff
 
 -- the work outside its own attempts: nothing while the machine sleeps, and nothing once all tasks have exited and no attempt is open (try_to_suspend; its end is own)
 abbrev pub auto_due : Machine → List Entry → EventNow → Bool → Bool → Due
-auto_due m past now asleep over = if asleep then Waits why.Asleep else if over then Waits why.NoWork else work_due m past now (work past)
+auto_due m past now asleep over =
+    if asleep then Waits why.Asleep else if over then Waits why.NoWork else work_due m past now (work past)
 
 -- until when the work naps, if it does (schedule_timeout_uninterruptible)
 abbrev pub naps_until : Work → Option ℕ

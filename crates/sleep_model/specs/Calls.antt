@@ -94,7 +94,8 @@ abbrev pub calls_of : Machine → Actor → List Entry → List Kind
 calls_of m who [] = calls_of_turn m who 0
 calls_of m who (e ∷ past) =
     if is_same e.actor who
-    then calls_of m who past ++ report_calls m (attempts past) e.kind ++ calls_behind m who (ends_turn e.kind) (turns_ended who past + 1)
+    then calls_of m who past ++ report_calls m (attempts past) e.kind
+    ++ calls_behind m who (ends_turn e.kind) (turns_ended who past + 1)
     else calls_of m who past
 
 -- how many calls an actor has to have made before its next entry of the journal (own)

@@ -17,7 +17,8 @@ use Rattle.sleep_model.specs.Steps.{seat_due}
 
 -- script i at its own steps (own)
 abbrev pub script_due : Machine → List Entry → EventNow → ℕ → Due
-script_due m past now i = seat_due m past now (freezing m i past) (slice_get m.actors i) (seat_at (seats (length m.actors) past) i)
+script_due m past now i =
+    seat_due m past now (freezing m i past) (slice_get m.actors i) (seat_at (seats (length m.actors) past) i)
 
 -- every script has made its exit (do_exit)
 abbrev pub all_gone : Machine → List Entry → Bool

@@ -357,7 +357,8 @@ is_device_entry d (Inside p) k = is_of_inside d p k
 
 -- an entry of an actor outside attempts of its own is of its own steps, once and in order (own)
 abbrev pub is_in_order : Machine → List Entry → Actor → Kind → Bool
-is_in_order m past (actor.Script i) k = is_step_entry (steps_of (slice_get m.actors i)) (seat_at (seats (length m.actors) past) i) k
+is_in_order m past (actor.Script i) k =
+    is_step_entry (steps_of (slice_get m.actors i)) (seat_at (seats (length m.actors) past) i) k
 is_in_order m past actor.Auto k = is_work_entry (work past) k
 is_in_order m past (actor.Dev d) k = is_device_entry d (async_work m past d) k
 is_in_order m past _ k = false

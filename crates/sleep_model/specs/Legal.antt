@@ -120,7 +120,9 @@ pending_sleep asleep f (Some s) seat = if f.frozen || (asleep && not (is_line s.
 abbrev pub next_sleep : Machine → List Entry → ℕ → Option ℕ
 next_sleep m past zero = None
 next_sleep m past (suc n) =
-    sooner (pending_sleep (sleeps_now past) (freezing m n past) (slice_get m.actors n) (seat_at (seats (length m.actors) past) n))
+    sooner
+    (pending_sleep (sleeps_now past) (freezing m n past) (slice_get m.actors n)
+    (seat_at (seats (length m.actors) past) n))
     (next_sleep m past n)
 
 -- the end of the autosleep work's nap, where it is pending (own)

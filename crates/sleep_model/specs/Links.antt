@@ -31,11 +31,13 @@ IsPath hang (x ∷ xs) from to = (x ≡ from) × LeadsTo hang x xs to
 -- the link stands among these
 abbrev pub is_linked : List Link → ℕ → ℕ → Bool
 is_linked [] supplier consumer = false
-is_linked (l ∷ ls) supplier consumer = ((l.supplier == supplier) && (l.consumer == consumer)) || is_linked ls supplier consumer
+is_linked (l ∷ ls) supplier consumer =
+    ((l.supplier == supplier) && (l.consumer == consumer)) || is_linked ls supplier consumer
 
 -- links, the newest first, as they may be added in turn: between registered devices, none twice, and none whose supplier hangs below its consumer (device_link_add)
 abbrev pub AreLinks : List (Option ℕ) → List Link → Type 0
 AreLinks parents [] = Unit {0}
 AreLinks parents (l ∷ earlier) =
     (l.supplier < length parents) × (l.consumer < length parents) × (is_linked earlier l.supplier l.consumer ≡ false)
-    × (is_among (moved (length parents) (hanging parents earlier) l.consumer) l.supplier ≡ false) × AreLinks parents earlier
+    × (is_among (moved (length parents) (hanging parents earlier) l.consumer) l.supplier ≡ false)
+    × AreLinks parents earlier

@@ -88,7 +88,8 @@ position_behind e = e.stamp.pos + step_number e
 -- ticks rise and positions never fall, and rise after a step, behind that entry
 abbrev pub rises_behind : JournalEntry → List JournalEntry → Bool
 rises_behind e [] = true
-rises_behind e (next ∷ rest) = nat_lt e.stamp.tick next.stamp.tick && nat_le (position_behind e) next.stamp.pos && rises_behind next rest
+rises_behind e (next ∷ rest) =
+    nat_lt e.stamp.tick next.stamp.tick && nat_le (position_behind e) next.stamp.pos && rises_behind next rest
 
 -- so along a whole list
 abbrev pub rises : List JournalEntry → Bool
@@ -110,7 +111,9 @@ is_word a b = (a.inpr == b.inpr) && (a.count == b.count) && (a.hard == b.hard)
 -- each entry carries the word of its place, which its stamp counts, and each step moves it
 abbrev pub is_chained : EventNow → List JournalEntry → Bool
 is_chained word [] = true
-is_chained word (e ∷ rest) = is_word e.entry.now word && (e.stamp.pos == position word) && is_chained (after_step (word_step e.entry.kind) word) rest
+is_chained word (e ∷ rest) =
+    is_word e.entry.now word && (e.stamp.pos == position word)
+    && is_chained (after_step (word_step e.entry.kind) word) rest
 
 -- the entry is a jump of time
 abbrev pub is_jump : Part → Bool
@@ -119,12 +122,17 @@ is_jump _ = false
 
 -- an entry that is no jump has the present time, and a tick behind the last jump's; a jump raises the time, and stands behind all ticks before it
 abbrev pub fits_time : ℕ → ℕ → ℕ → JournalEntry → Bool
-fits_time time jumped last e = if is_jump (part_of e.entry.kind) then nat_lt time e.entry.time && nat_lt last e.stamp.tick else (e.entry.time == time) && nat_lt jumped e.stamp.tick
+fits_time time jumped last e =
+    if is_jump (part_of e.entry.kind) then nat_lt time e.entry.time && nat_lt last e.stamp.tick
+    else (e.entry.time == time) && nat_lt jumped e.stamp.tick
 
 -- so for all entries, after the last jump's time and tick, and the greatest tick so far
 abbrev pub is_timed : ℕ → ℕ → ℕ → List JournalEntry → Bool
 is_timed time jumped last [] = true
-is_timed time jumped last (e ∷ rest) = fits_time time jumped last e && is_timed e.entry.time (if is_jump (part_of e.entry.kind) then e.stamp.tick else jumped) (max last e.stamp.tick) rest
+is_timed time jumped last (e ∷ rest) =
+    fits_time time jumped last e
+    && is_timed e.entry.time (if is_jump (part_of e.entry.kind) then e.stamp.tick else jumped)
+    (max last e.stamp.tick) rest
 
 -- the first n of a kind
 abbrev pub numbered : (ℕ → Actor) → ℕ → List Actor
@@ -133,7 +141,9 @@ numbered make (suc n) = numbered make n ++ (make n ∷ [])
 
 -- all actors of a machine (own)
 abbrev pub actors_of : Machine → List Actor
-actors_of m = numbered actor.Script (length m.actors) ++ (actor.Auto ∷ []) ++ numbered actor.Dev (length m.devices) ++ numbered actor.Timer (length m.sources + 1) ++ (actor.Time ∷ [])
+actors_of m =
+    numbered actor.Script (length m.actors) ++ (actor.Auto ∷ []) ++ numbered actor.Dev (length m.devices)
+    ++ numbered actor.Timer (length m.sources + 1) ++ (actor.Time ∷ [])
 
 -- a journal and the sources' histories fit together (own)
 pub record IsFit (m : Machine) (journal : List JournalEntry) (histories : List (List SourceEntry)) : Type 0 where

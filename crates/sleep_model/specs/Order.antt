@@ -54,7 +54,7 @@ abbrev pub parent_of : Option (Option ℕ) → List ℕ
 parent_of None = []
 parent_of (Some p) = option_to_list p
 
--- the devices that d hangs below by these links: its parent, and its suppliers (device_links_check_suppliers)
+-- the devices that d hangs below by these links: its parent, and its suppliers (dpm_wait_for_superior)
 abbrev pub holding : List (Option ℕ) → List Link → ℕ → List ℕ
 holding parents links d = parent_of (slice_get parents d) ++ suppliers_of d links
 
@@ -81,7 +81,8 @@ moved_last devices order = filter (λ d. not (is_among devices d)) order ++ last
 -- the order after these links, the newest first: each moved its consumer, and all that hangs below it by the links up to this one, to the end (device_link_add)
 abbrev pub order_by : List (Option ℕ) → List Link → List ℕ
 order_by parents [] = range_with_len 0 (length parents)
-order_by parents (l ∷ earlier) = moved_last (moved (length parents) (hanging parents (l ∷ earlier)) l.consumer) (order_by parents earlier)
+order_by parents (l ∷ earlier) =
+    moved_last (moved (length parents) (hanging parents (l ∷ earlier)) l.consumer) (order_by parents earlier)
 
 -- the devices in the order of their registration, moved by the links in turn (dpm_list)
 abbrev pub order : Machine → List ℕ

@@ -50,7 +50,9 @@ is_autosleep _ = false
 
 -- how many attempts may be begun: one a write to the state, and one a run of the autosleep work where autosleep is written (own)
 abbrev pub most_attempts : Machine → ℕ
-most_attempts m = count_by is_state (all_operations m.actors) + (if count_by is_autosleep (all_operations m.actors) == 0 then 0 else m.auto_cycles)
+most_attempts m =
+    count_by is_state (all_operations m.actors)
+    + (if count_by is_autosleep (all_operations m.actors) == 0 then 0 else m.auto_cycles)
 
 -- the places on source s of an answer's reports (own)
 abbrev pub report_places : ℕ → Answer → ℕ
@@ -68,4 +70,6 @@ stands_in a answers n (Some k) = one_if (nat_le 1 k && nat_le k n)
 
 -- the places on source s that a machine's calls may need (own)
 abbrev pub places : Machine → ℕ → ℕ
-places m s = sum (map (op_places (length m.sources) s) (all_operations m.actors)) + sum (map (λ a. stands_in a m.answers (most_attempts m) a.attempt * report_places s a) m.answers)
+places m s =
+    sum (map (op_places (length m.sources) s) (all_operations m.actors))
+    + sum (map (λ a. stands_in a m.answers (most_attempts m) a.attempt * report_places s a) m.answers)

@@ -46,7 +46,15 @@ seat_part _ = Stays
 
 -- a script at its first step
 abbrev pub first_seat : Seat
-first_seat = record { done = 0; turns = 0; waits = false; last_read = None; saved = false; until = None; exited = false }
+first_seat = record {
+  done = 0;
+  turns = 0;
+  waits = false;
+  last_read = None;
+  saved = false;
+  until = None;
+  exited = false;
+}
 
 -- the step under way has ended: the next one has not begun
 abbrev pub next_step : Seat → Seat

@@ -72,7 +72,8 @@ finishing (Some since) = step.Finish ∷ []
 abbrev pub makes : SourceCall → Option ℕ → List WordKind
 makes call.Awake since = starting since
 makes call.Relax since = finishing since
-makes (call.Event ms hard) since = starting since ++ (if hard then step.Hard ∷ [] else []) ++ (if ms == 0 then step.Finish ∷ [] else [])
+makes (call.Event ms hard) since =
+    starting since ++ (if hard then step.Hard ∷ [] else []) ++ (if ms == 0 then step.Finish ∷ [] else [])
 makes call.Expire since = finishing since
 
 -- the steps behind the first

@@ -29,7 +29,9 @@ use Rattle.sleep_model.specs.Scripts.{entry_steps}
 
 -- a read answers the count where no event is in progress, else it says once that it waits, and gives up where it is asked to freeze (pm_get_wakeup_count)
 abbrev pub read_due : EventNow → Bool → Bool → Due
-read_due now waits asked = if now.inpr == 0 then Makes (kind.Read (visible now)) else (if waits then (if asked then Makes kind.ReadIntr else Waits why.InProgress) else Makes kind.ReadWait)
+read_due now waits asked =
+    if now.inpr == 0 then Makes (kind.Read (visible now))
+    else (if waits then (if asked then Makes kind.ReadIntr else Waits why.InProgress) else Makes kind.ReadWait)
 
 -- a save is ok exactly where its number is the count and no event is in progress (pm_save_wakeup_count)
 abbrev pub save_due : EventNow → ℕ → Due
@@ -42,16 +44,22 @@ lock_due waits asked says gives_up = if waits then (if asked then gives_up else 
 -- a write to wakeup_count (wakeup_count_store)
 abbrev pub count_due : Bool → Bool → Bool → Bool → EventNow → ℕ → Due
 count_due held on waits asked now c =
-    if held then lock_due waits asked (Makes (kind.SaveWait c)) (Makes (kind.SaveErr c EINTR)) else (if on then Makes (kind.SaveErr c EBUSY) else save_due now c)
+    if held then lock_due waits asked (Makes (kind.SaveWait c)) (Makes (kind.SaveErr c EINTR))
+    else (if on then Makes (kind.SaveErr c EBUSY) else save_due now c)
 
 -- a write of that text to the state, whose attempt would be that (state_store)
 abbrev pub state_due : Bool → Bool → Bool → Bool → Bool → Kind → Due
 state_due held on waits asked mem attempt =
-    if held then lock_due waits asked (Makes kind.StateWait) (Makes (kind.StateErr EINTR)) else (if on then Makes (kind.StateErr EBUSY) else (if mem then Makes attempt else Makes (kind.StateErr EINVAL)))
+    if held then lock_due waits asked (Makes kind.StateWait) (Makes (kind.StateErr EINTR))
+    else (if on then Makes (kind.StateErr EBUSY) else (if mem then Makes attempt else Makes (kind.StateErr EINVAL)))
 
 -- a write of that text to autosleep, which waits for the lock and is not interrupted (autosleep_store, pm_autosleep_set_state)
 abbrev pub autosleep_due : Bool → Bool → Bool → Bool → Due
-autosleep_due held begun mem off = if mem || off then (if begun then Makes kind.AutoDone else (if held then Waits why.LockHeld else Makes (kind.AutoSet (if mem then Mem else Off)))) else Makes kind.AutoBad
+autosleep_due held begun mem off =
+    if mem || off
+    then (if begun then Makes kind.AutoDone
+    else (if held then Waits why.LockHeld else Makes (kind.AutoSet (if mem then Mem else Off))))
+    else Makes kind.AutoBad
 
 -- a sleep up to that time ends where it has come (schedule_timeout)
 abbrev pub slept_due : Option ℕ → ℕ → Due
@@ -83,7 +91,8 @@ step_due m past now seat asked (Some (op.Save count)) =
     count_due (is_some (holder past)) (is_on past) seat.waits asked now (saved_number count seat.last_read)
 step_due m past now seat asked (Some (op.State text if_saved)) =
     unless_unsaved if_saved seat.saved
-    (state_due (is_some (holder past)) (is_on past) seat.waits asked (is_mem text) (kind.Attempt (attempts past + 1) (in_force past)))
+    (state_due (is_some (holder past)) (is_on past) seat.waits asked (is_mem text)
+    (kind.Attempt (attempts past + 1) (in_force past)))
 step_due m past now seat asked (Some (op.Autosleep text)) =
     autosleep_due (is_some (holder past)) seat.waits (is_mem text) (is_off text)
 step_due m past now seat asked (Some (op.Sleep ms)) = sleep_due kind.Sleep ms seat (time_of past)

@@ -167,7 +167,13 @@ up_word up.End = codes "end"
 
 -- the name of the error with that number
 abbrev pub error_text : ℕ → List ℕ
-error_text n = if n == 4 then codes "EINTR" else (if n == 5 then codes "EIO" else (if n == 11 then codes "EAGAIN" else (if n == 13 then codes "EACCES" else (if n == 16 then codes "EBUSY" else (if n == 19 then codes "ENODEV" else codes "EINVAL")))))
+error_text n =
+    if n == 4 then codes "EINTR"
+    else (if n == 5 then codes "EIO"
+    else (if n == 11 then codes "EAGAIN"
+    else (if n == 13 then codes "EACCES"
+    else (if n == 16 then codes "EBUSY"
+    else (if n == 19 then codes "ENODEV" else codes "EINVAL")))))
 
 -- what prepare answered: 0, 1, or an error's name
 abbrev pub prepare_text : ℤ → List ℕ
@@ -248,7 +254,8 @@ step_body m kind.Pass = codes "pass"
 step_body m (kind.Post x) = codes "post " ++ mark m x
 step_body m (kind.Got x) = codes "got " ++ mark m x
 step_body m kind.Exit = codes "exit"
-step_body m (kind.RuntimeAsk d to r) = codes "runtime " ++ device m d ++ space ++ runtime_word to ++ space ++ answer_text r
+step_body m (kind.RuntimeAsk d to r) =
+    codes "runtime " ++ device m d ++ space ++ runtime_word to ++ space ++ answer_text r
 step_body m k = auto_body m k
 
 -- what an entry says
@@ -274,7 +281,8 @@ word_text now = decimal now.inpr ++ codes "/" ++ decimal now.count ++ codes "/" 
 
 -- the line of an entry
 abbrev pub entry_line : Machine → Entry → List ℕ
-entry_line m e = decimal e.time ++ space ++ word_text e.now ++ space ++ actor_text m e.actor ++ space ++ body m e.kind ++ newline
+entry_line m e =
+    decimal e.time ++ space ++ word_text e.now ++ space ++ actor_text m e.actor ++ space ++ body m e.kind ++ newline
 
 -- a source's counts, each after a space
 abbrev pub counts_text : Stats → List ℕ
@@ -282,7 +290,9 @@ counts_text s = space ++ decimal s.active_count ++ space ++ decimal s.event_coun
 
 -- a source's times in ms, each after a space
 abbrev pub times_text : Stats → List ℕ
-times_text s = space ++ decimal s.active_time ++ space ++ decimal s.total_time ++ space ++ decimal s.max_time ++ space ++ decimal s.last_time
+times_text s =
+    space ++ decimal s.active_time ++ space ++ decimal s.total_time ++ space ++ decimal s.max_time ++ space
+    ++ decimal s.last_time
 
 -- the line of a source
 abbrev pub source_line : List ℕ → Stats → List ℕ
