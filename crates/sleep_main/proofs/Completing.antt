@@ -3,9 +3,11 @@ use Rattle.std.proofs.Common.{◌≡◌, ◌≤◌, ◌++◌, ◌∙◌, inl, in
 use Rattle.std.proofs.lemmas.List.{length-append, append-nil}
 use Rattle.std.specs.Io.KnownBytes.{Consumes, IsAtEnd}
 use Rattle.sleep_base.specs.Faults.{Rose}
+use Rattle.sleep_model.specs.declared.machine.Machine.{Machine}
+use Rattle.machine_file.specs.Whole.{machine_in}
 use Rattle.sleep_main.specs.declared.ending.Ending.{Ending}
-use Rattle.sleep_main.specs.declared.ending.Ending.TheVariants.{Ran, Stuck, NoForm, TooLong, Refused, ReadFault, WriteFault, NoMemory}
-use Rattle.sleep_main.specs.Endings.{Streams, NoFault, Completes, Ended, Spells, status_of}
+use Rattle.sleep_main.specs.declared.ending.Ending.TheVariants.{Ran, Stuck, NoForm, TooLong, Refused, NotBuilt, ReadFault, WriteFault, NoMemory}
+use Rattle.sleep_main.specs.Endings.{Streams, NoFault, Completes, Ended, status_of}
 
 -- a count that rose is no count that stayed
 rose_not : (before now : ℕ) → Rose before now → NoFault before now → ⊥
@@ -29,7 +31,8 @@ completes words old new Stuck h = λ form bytes told fits m spells read out. inr
 completes words old new NoForm h = λ form bytes told fits m spells read out. absurd (h.0 form)
 completes words old new TooLong h = λ form bytes told fits m spells read out. absurd (omega (arith, h.1.0.2, part old.left new.left bytes h.1.0.0 told h.1.0.1, fits))
 completes words old new Refused h = λ form bytes told fits m spells read out.
-    absurd (h.1.0.2 m (subst (λ (bs : List ℕ). Spells bs m) (sym (whole old.left new.left bytes h.1.0.0 told h.1.0.1.taken h.1.0.1.at_end)) spells))
+    absurd (h.1.0.2 m (subst (λ (bs : List ℕ). machine_in bs ≡ Some m) (sym (whole old.left new.left bytes h.1.0.0 told h.1.0.1.taken h.1.0.1.at_end)) spells))
+completes words old new NotBuilt h = λ form bytes told fits m spells read out. inr (inr (inl refl))
 completes words old new ReadFault h = λ form bytes told fits m spells read out. absurd (rose_not old.read_faults new.read_faults h.1.0 read)
 completes words old new WriteFault h = λ form bytes told fits m spells read out. absurd (rose_not old.out_faults new.out_faults h.1.0 out)
-completes words old new NoMemory h = λ form bytes told fits m spells read out. inr (inr refl)
+completes words old new NoMemory h = λ form bytes told fits m spells read out. inr (inr (inr refl))

@@ -1,5 +1,5 @@
 -- How the program ends: its status, its text on standard error, and what it has read and written.
-use Rattle.std.specs.Prelude.{◌≡◌, ◌≤◌, ◌<◌, ◌-◌, ◌^◌, ◌⊎◌, ℕ, Bool, true, false, List, [], ◌∷◌, ◌++◌, length, codes, Option, Some, Result, Ok, Err}
+use Rattle.std.specs.Prelude.{◌≡◌, ◌≤◌, ◌<◌, ◌-◌, ◌^◌, ◌⊎◌, ℕ, Bool, true, false, List, [], ◌∷◌, ◌++◌, length, codes, Option, Some, None, Result, Ok, Err}
 use Rattle.std.specs.Io.KnownBytes.{Consumes, Appends, IsAtEnd}
 use Rattle.sleep_base.specs.Faults.{Rose}
 use Rattle.sleep_base.specs.Whole.{Took}
@@ -10,12 +10,12 @@ use Rattle.sleep_model.specs.declared.machine.Machine.{Machine}
 use Rattle.sleep_model.specs.Built.{is_built}
 use Rattle.sleep_model.specs.Legal.{IsFinishedLog, IsStuckLog}
 use Rattle.sleep_model.specs.Text.{text}
-use Rattle.machine_file.specs.Whole.{machine_in}
+use Rattle.machine_file.specs.Whole.{machine_in, broken_in}
 use Rattle.sleep_main.specs.declared.ending.Ending.{Ending}
 use Rattle.sleep_main.specs.declared.top.LogText.{LogText}
 use Rattle.sleep_main.specs.declared.top.TextFault.{TextFault}
 use Rattle.sleep_main.specs.declared.top.TextFault.TheVariants as fault
-use Rattle.sleep_main.specs.declared.ending.Ending.TheVariants.{Ran, Stuck, NoForm, TooLong, Refused, ReadFault, WriteFault, NoMemory}
+use Rattle.sleep_main.specs.declared.ending.Ending.TheVariants.{Ran, Stuck, NoForm, TooLong, Refused, NotBuilt, ReadFault, WriteFault, NoMemory}
 use Rattle.sleep_run.specs.Runs.{IsRun}
 
 -- the program's status
@@ -24,6 +24,7 @@ status_of Ran = 0
 status_of NoForm = 2
 status_of TooLong = 3
 status_of Refused = 3
+status_of NotBuilt = 3
 status_of ReadFault = 4
 status_of WriteFault = 5
 status_of Stuck = 6
@@ -40,6 +41,7 @@ text_of Stuck = []
 text_of NoForm = line (codes "usage: run --workers 1")
 text_of TooLong = line (codes "machine: longer than 16777216 bytes")
 text_of Refused = line (codes "machine: refused")
+text_of NotBuilt = line (codes "machine: refused")
 text_of ReadFault = line (codes "read fault")
 text_of WriteFault = line (codes "write fault")
 text_of NoMemory = line (codes "want of memory")
@@ -86,10 +88,15 @@ pub record IsLogOf (bytes said : List ℕ) (stuck : Bool) : Type 0 where
   pub ends : EndsAs machine log stuck
   pub is_text : said ≡ text machine log
 
--- the bytes give the text of a log, or spell no machine that may be run
+-- the bytes spell no machine
+abbrev pub SpellNone : List ℕ → Type 0
+SpellNone bytes = (m : Machine) → ¬ (machine_in bytes ≡ Some m)
+
+-- the bytes give the text of a log, or spell no machine, or break no rule
 abbrev pub GivesLog : List ℕ → Result LogText TextFault → Type 0
 GivesLog bytes (Ok said) = IsLogOf bytes said.text.items said.stuck
-GivesLog bytes (Err fault.Refused) = (m : Machine) → ¬ Spells bytes m
+GivesLog bytes (Err fault.Refused) = SpellNone bytes
+GivesLog bytes (Err fault.NotBuilt) = broken_in bytes ≡ None
 GivesLog bytes (Err fault.Mem) = Unit {0}
 
 -- the whole input was a machine file, and the text is that of its log
@@ -109,7 +116,9 @@ FileEnded old new NoForm = ⊥
 -- more than 16,777,216 bytes came
 FileEnded old new TooLong = Took old.left new.left (λ n. 16777216 < n) × KeepsOut old new
 -- the bytes spell no machine
-FileEnded old new Refused = ((bytes : List ℕ) × ReadWhole old new bytes × ((m : Machine) → ¬ Spells bytes m)) × KeepsOut old new
+FileEnded old new Refused = ((bytes : List ℕ) × ReadWhole old new bytes × SpellNone bytes) × KeepsOut old new
+-- the bytes break no rule, and the machine uses what is not built
+FileEnded old new NotBuilt = ((bytes : List ℕ) × ReadWhole old new bytes × (broken_in bytes ≡ None)) × KeepsOut old new
 -- a read failed
 FileEnded old new ReadFault = Rose old.read_faults new.read_faults × KeepsOut old new
 -- a write failed, after a front of the log's text
@@ -129,8 +138,8 @@ Says old new before now said = Appends old new said ⊎ ((front back : List ℕ)
 abbrev pub NoFault : ℕ → ℕ → Type 0
 NoFault before now = (now ≡ before) × (now < 2 ^ 64 - 1)
 
--- completeness: words of the form, an input that spells a machine, and no fault counted give a log, of a run that is finished or stuck, or want of memory
+-- completeness: words of the form, an input that spells a machine, and no fault counted give a log, of a run that is finished or stuck, or use what is not built, or want of memory
 abbrev pub Completes : List (List ℕ) → Streams → Streams → ℕ → Type 0
 Completes words old new status =
-    IsForm words → (bytes : List ℕ) → old.left ≡ Some bytes → length bytes ≤ 16777216 → (m : Machine) → Spells bytes m → NoFault old.read_faults new.read_faults → NoFault old.out_faults new.out_faults
-    → (status ≡ status_of Ran) ⊎ (status ≡ status_of Stuck) ⊎ (status ≡ status_of NoMemory)
+    IsForm words → (bytes : List ℕ) → old.left ≡ Some bytes → length bytes ≤ 16777216 → (m : Machine) → machine_in bytes ≡ Some m → NoFault old.read_faults new.read_faults → NoFault old.out_faults new.out_faults
+    → (status ≡ status_of Ran) ⊎ (status ≡ status_of Stuck) ⊎ (status ≡ status_of NotBuilt) ⊎ (status ≡ status_of NoMemory)

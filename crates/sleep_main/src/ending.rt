@@ -14,6 +14,8 @@ pub enum Ending {
     TooLong,
     /// The input spells no machine.
     Refused,
+    /// The input spells a machine that uses what is not built yet.
+    NotBuilt,
     /// A read failed.
     ReadFault,
     /// A write of the log failed.
@@ -30,7 +32,7 @@ impl Ending {
         match self {
             Ending::Ran => 0,
             Ending::NoForm => 2,
-            Ending::TooLong | Ending::Refused => 3,
+            Ending::TooLong | Ending::Refused | Ending::NotBuilt => 3,
             Ending::ReadFault => 4,
             Ending::WriteFault => 5,
             Ending::Stuck => 6,
@@ -46,7 +48,7 @@ impl Ending {
             Ending::Ran | Ending::Stuck => "",
             Ending::NoForm => "usage: run --workers 1\n",
             Ending::TooLong => "machine: longer than 16777216 bytes\n",
-            Ending::Refused => "machine: refused\n",
+            Ending::Refused | Ending::NotBuilt => "machine: refused\n",
             Ending::ReadFault => "read fault\n",
             Ending::WriteFault => "write fault\n",
             Ending::NoMemory => "want of memory\n",

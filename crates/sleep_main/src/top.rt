@@ -41,8 +41,10 @@ struct LogText {
 /// Why there is no text.
 #[derive(Clone, Copy)]
 enum TextFault {
-    /// The bytes spell no machine that may be run.
+    /// The bytes spell no machine.
     Refused,
+    /// The machine uses what is not built yet.
+    NotBuilt,
     /// There was no memory.
     Mem,
 }
@@ -54,15 +56,15 @@ fn is_stuck(end: &LogEnd) -> bool
     matches!(end, LogEnd::Stuck(_))
 }
 
-/// The text of the log of the machine that the bytes spell. `Refused` where they spell none that may be
-/// run, `Mem` where there is no memory.
+/// The text of the log of the machine that the bytes spell. `Refused` where they spell none, `NotBuilt`
+/// where it uses what is not built yet, `Mem` where there is no memory.
 fn log_of_bytes<R: Wait>(rt: &R, alloc: Global, bytes: &[u8]) -> Result<LogText, TextFault>
     ensures { GivesLog bytes.now result }
 {
     let ReadMachine { machine, links } = match read_machine(alloc, bytes) {
         Ok(read) => read,
         Err(MachineFault::Rule { .. }) => return Err(TextFault::Refused),
-        Err(MachineFault::NotBuilt) => return Err(TextFault::Refused),
+        Err(MachineFault::NotBuilt) => return Err(TextFault::NotBuilt),
         Err(MachineFault::Mem) => return Err(TextFault::Mem),
     };
     match run_machine(rt, alloc, &machine, links) {
@@ -98,6 +100,7 @@ fn run_file<R: Wait, S: ByteSource, K: ByteSink>(
     let log = match log_of_bytes(rt, alloc, &bytes) {
         Ok(log) => log,
         Err(TextFault::Refused) => return Ending::Refused,
+        Err(TextFault::NotBuilt) => return Ending::NotBuilt,
         Err(TextFault::Mem) => return Ending::NoMemory,
     };
     match write_all(out, &log.text) {
@@ -145,7 +148,8 @@ fn say<K: ByteSink>(err: &mut K, text: &str)
 /// - 4: a read failed. 5: a write failed, after a front of the log's text.
 /// - 8: there was no memory.
 ///
-/// At 2, 3, 4 and 8 nothing is written to `out`. An input that spells a machine gives 0, 6 or 8, where
+/// At 2, 3, 4 and 8 nothing is written to `out`. An input that spells a machine gives 0, 6 or 8, or 3
+/// where it uses what is not built, where
 /// no fault is counted.
 pub fn run_words<R: Wait, S: ByteSource, K: ByteSink>(
     rt: &R,

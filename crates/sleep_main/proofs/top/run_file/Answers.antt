@@ -1,14 +1,20 @@
-use Rattle.std.proofs.Common.{◌∙◌, List, ℕ, Bool, refl, sym, subst, Err}
-use Rattle.sleep_model.specs.declared.machine.Machine.{Machine}
+use Rattle.std.proofs.Common.{◌≡◌, ◌∙◌, List, ℕ, None, refl, sym, subst, Err}
+use Rattle.machine_file.specs.Whole.{broken_in}
 use Rattle.sleep_main.specs.declared.top.TextFault.{TextFault}
-use Rattle.sleep_main.specs.Endings.{GivesLog, IsLogOf, Spells}
+use Rattle.sleep_main.specs.Endings.{GivesLog, IsLogOf, SpellNone}
 use Rattle.sleep_main.proofs.top.run_file.Goals as goal
 
 pub returns-in-Err-Refused : goal.returns-in-Err-Refused
 returns-in-Err-Refused g c =
     let read = c.in-Ok.ensures.bytes in
-    let none : (m : Machine) → ¬ Spells c.deref.result.now m = subst (λ (f : TextFault). GivesLog c.deref.result.now (Err f)) c.in-Err-Refused.field-0-is c.in-Err-Refused.ensures in
-    ((c.in-Ok.bytes.items, record { taken = read.0; at_end = read.1; fits = read.2 }, subst (λ (bs : List ℕ). (m : Machine) → ¬ Spells bs m) c.deref.ensures.value none), refl)
+    let none : SpellNone c.deref.result.now = subst (λ (f : TextFault). GivesLog c.deref.result.now (Err f)) c.in-Err-Refused.field-0-is c.in-Err-Refused.ensures in
+    ((c.in-Ok.bytes.items, record { taken = read.0; at_end = read.1; fits = read.2 }, subst SpellNone c.deref.ensures.value none), refl)
+
+pub returns-in-Err-NotBuilt : goal.returns-in-Err-NotBuilt
+returns-in-Err-NotBuilt g c =
+    let read = c.in-Ok.ensures.bytes in
+    let none : broken_in c.deref.result.now ≡ None = subst (λ (f : TextFault). GivesLog c.deref.result.now (Err f)) c.in-Err-NotBuilt.field-0-is c.in-Err-NotBuilt.ensures in
+    ((c.in-Ok.bytes.items, record { taken = read.0; at_end = read.1; fits = read.2 }, subst (λ (bs : List ℕ). broken_in bs ≡ None) c.deref.ensures.value none), refl)
 
 pub returns : goal.returns
 returns g c =
