@@ -6,4 +6,3 @@ mod Propers
 mod Seated
 mod Turning
 mod Walks
-pub mod Sampled

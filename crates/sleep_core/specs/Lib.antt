@@ -8,4 +8,3 @@ pub mod Seen
 pub mod Stages
 pub mod Steps
 pub mod Turned
-pub mod Samples
