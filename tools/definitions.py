@@ -28,7 +28,7 @@ stage of an attempt follows an entry, `Laws` and `GuardedSleep` what every legal
 it is printed.
 
 The definitions are whole: all stages of an attempt, asynchronous devices, direct-complete, the freezer,
-autosleep, timers, any number of scripts. `is_built` alone says what of it a machine file may use today.
+autosleep, timers, any number of scripts.
 
 `tools/definitions.py` writes this page.
 """
@@ -40,7 +40,6 @@ SECTIONS = [
     ("sleep_model", "What callbacks answer", "`include/linux/pm.h`", ["Answers"]),
     ("sleep_model", "The saved count and pending wakeups", "`drivers/base/power/wakeup.c`", ["Guard"]),
     ("sleep_model", "The machine that a file may spell", "`drivers/base/core.c`", ["Accepted"]),
-    ("sleep_model", "What of it may be used today", "own", ["Built"]),
     ("sleep_model", "Scripts", "own", ["Scripts", "Seats", "Calls", "Marks"]),
     ("sleep_model", "The freezer", "`kernel/power/process.c`, `kernel/freezer.c`", ["Freezer"]),
     ("sleep_model", "The autosleep lock", "`kernel/power/autosleep.c`", ["Lock"]),
@@ -60,12 +59,15 @@ SECTIONS = [
     ("sleep_laws", "What the laws are proved of", "own", ["Laws", "Ends"]),
     ("sleep_model", "The one log of separate histories", "own", ["Merge"]),
     ("sleep_model", "Which logs can be written, and how many places a source needs", "own", ["Fits", "Places"]),
+    ("source_room", "What a source's history keeps to", "own", ["Room"]),
     ("sleep_model", "The text of a log", "own", ["NameBytes", "Text"]),
     ("sleep_base", "The outside", "`include/uapi/asm-generic/errno-base.h`, for errors; the rest is own", ["Errno", "Faults", "Calls", "Streams", "Whole"]),
     ("device_rows", "Rows of device numbers", "own", ["Table"]),
     ("device_tree", "The tree of devices", "`drivers/base/core.c`, `drivers/base/power/runtime.c`", ["Kept", "Refusal", "Requests"]),
     ("device_links", "Links of devices", "`drivers/base/core.c`", ["Adds", "Kept", "Linked", "Walks"]),
     ("wakeup_guard", "A saved count and its test", "`drivers/base/power/wakeup.c`", ["Guarded"]),
+    ("event_word", "What looks at the word and steps on it say", "`drivers/base/power/wakeup.c`", ["Looks", "Steps"]),
+    ("wakeup_source", "A wakeup source, its calls and what is counted of it", "`drivers/base/power/wakeup.c`", ["SourceStates", "Called", "Told", "Tallies", "Books", "BookFields"]),
     ("async_board", "Where devices stand, as the code keeps it", "`drivers/base/power/main.c`", ["Boards", "AtPlaces", "BoardFields", "Walks", "Picks", "Cursors", "Counts"]),
     ("phase_prepare", "Prepare and complete, over a board", "`drivers/base/power/main.c`", ["Prepares", "AtPlaces"]),
     ("phase_suspend", "The three phases down, over a board", "`drivers/base/power/main.c`", ["Downs", "Spanned", "AtPlaces"]),
@@ -76,12 +78,12 @@ SECTIONS = [
     ("sleep_state", "What the core keeps of each part, each as one value", "own", ["Places", "Fronts", "Paths", "DeviceStates", "TaskStates", "Autosleeps"]),
     ("script_plan", "A script's turns, counted once", "own", ["Plans", "PlanFields"]),
     ("attempt_room", "How many entries an attempt may need", "own", ["Room"]),
-    ("sleep_core", "The core", "own", ["Cores", "Turned", "Looks", "Histories", "HistoryFields", "CoreFields", "Numbered", "Seen", "Stages", "Steps"]),
+    ("sleep_core", "The core", "own", ["Cores", "Turned", "Histories", "HistoryFields", "CoreFields", "Numbered", "Seen", "Stages", "Steps"]),
     ("machine_file", "Accepted bytes: the first broken rule, and the machine that is spelled", "`include/linux/pm.h`, `drivers/base/core.c`; most is own", ["Whole", "Members", "Places", "Form", "Names", "Devices", "Operations", "Answering", "Limits", "Tree", "Look", "Rules", "Spelled"]),
-    ("machine_file", "What the reader answers", "own", ["Refusing", "Reading", "Broken"]),
+    ("machine_file", "What the reader answers", "own", ["Refusing", "Reading", "Broken", "Fitting"]),
     ("machine_file", "How a machine is written, and generated machines", "own", ["Spelling", "Generated"]),
     ("machine_file", "The words of the command line", "own", ["Words"]),
-    ("sleep_run", "A whole run", "own", ["Runs", "RunFields", "Meters"]),
+    ("sleep_run", "A whole run", "own", ["Runs", "RunFields", "Tries", "Waits", "Called", "Firsts", "JobsOf"]),
     ("sleep_main", "How the program ends", "own", ["Endings"]),
 ]
 

@@ -3,7 +3,7 @@ use crate::number::error_of_number;
 use crate::places::places_of;
 use indexmap::IndexMap;
 use sleep_base::{Errno, Mem};
-use sleep_model::{Answer, What};
+use sleep_model::{Answer, Report, What};
 use std::alloc::Global;
 use std::marker::Model;
 
@@ -32,7 +32,7 @@ impl<'a> Model for AnswerBook<'a> {
 impl<'a> AnswerBook<'a> {
     ghost use Rattle.std.specs.Prelude.{◌≡◌, ◌<◌, ◌^◌, length, IfOk};
     ghost use Rattle.std.specs.Option.{option_copied};
-    ghost use Rattle.sleep_model.specs.Answers.{answer_for, answer_error, answer_number};
+    ghost use Rattle.sleep_model.specs.Answers.{answer_for, answer_error, answer_number, answer_reports};
     ghost use Rattle.answer_book.specs.Book.{answer_among};
 
     /// The index of these answers. Of two of one thing and attempt the first counts. `Mem` if there
@@ -83,6 +83,16 @@ impl<'a> AnswerBook<'a> {
         match self.answer(what, attempt) {
             Some(answer) => answer.ret,
             None => 0,
+        }
+    }
+
+    /// What a thing reports in an attempt, in order: calls on sources. Nothing where the machine gives no answer.
+    pub fn reports(&self, what: What, attempt: u32) -> &'a [Report]
+        ensures { result.now ≡ answer_reports (answer_among self.now what attempt) }
+    {
+        match self.answer(what, attempt) {
+            Some(answer) => answer.reports.as_slice(),
+            None => &[],
         }
     }
 }

@@ -1,7 +1,11 @@
 pub mod Calling
-pub mod Events
+pub mod Calls
+pub mod Fitting
 pub mod Growing
 pub mod Histories
 pub mod Idling
 pub mod Journals
 pub mod Planning
+pub mod Room
+pub mod Sourced
+pub mod Timely

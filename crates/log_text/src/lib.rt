@@ -9,6 +9,7 @@ mod words;
 mod writer;
 
 pub use log::write_log;
+pub use names::source_name;
 
 #[cfg(test)]
 mod tests;

@@ -34,7 +34,7 @@ abbrev pub KeepsAll : List Rule → Data → Type 0
 KeepsAll [] d = Unit {0}
 KeepsAll (r ∷ rest) d = (r.broken d ≡ None) × KeepsAll rest d
 
-keeps_all : (rs : List Rule) (d : Data) → first_of rs d ≡ None → KeepsAll rs d
+pub keeps_all : (rs : List Rule) (d : Data) → first_of rs d ≡ None → KeepsAll rs d
 keeps_all [] d h = tt
 keeps_all (r ∷ rest) d h =
     let both = none_or (option_map (broken_at r.number) (r.broken d)) (first_of rest d) h in (none_mapped (broken_at r.number) (r.broken d) both.0, keeps_all rest d both.1)
@@ -42,7 +42,7 @@ keeps_all (r ∷ rest) d h =
 -- ---- rows of tables
 
 -- each row passes
-abbrev AllPass : {A : Type 0} → (Named A → Bool) → List (Named A) → Type 0
+abbrev pub AllPass : {A : Type 0} → (Named A → Bool) → List (Named A) → Type 0
 AllPass test [] = Unit {0}
 AllPass test (r ∷ rest) = (test r ≡ true) × AllPass test rest
 
@@ -54,7 +54,7 @@ row_case : {A : Type 0} (test : Named A → Bool) (r : Named A) (rest : List (Na
 row_case test r rest true e h = (e, sym (found_cons test r rest true e) ∙ h)
 row_case test r rest false e h = absurd (let f : Some r.name ≡ None = sym (found_cons test r rest false e) ∙ h in cc)
 
-all_pass : {A : Type 0} (test : Named A → Bool) (rows : List (Named A)) → first_row test rows ≡ None → AllPass test rows
+pub all_pass : {A : Type 0} (test : Named A → Bool) (rows : List (Named A)) → first_row test rows ≡ None → AllPass test rows
 all_pass test [] h = tt
 all_pass test (r ∷ rest) h = let both = row_case test r rest (test r) refl h in (both.0, all_pass test rest both.1)
 

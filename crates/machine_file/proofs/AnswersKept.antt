@@ -17,22 +17,25 @@ use Rattle.sleep_model.specs.declared.machine.Machine.{Machine}
 use Rattle.sleep_model.specs.declared.machine.PlatDo.{PlatDo}
 use Rattle.sleep_model.specs.declared.machine.What.{What}
 use Rattle.sleep_model.specs.declared.machine.What.TheVariants.{Device, Syscore, Notifier, Platform}
-use Rattle.sleep_model.specs.Accepted.{AreAnswers, AreReports, IsThing, is_one_allowed, is_ret_of}
+use Rattle.sleep_model.specs.declared.machine.SourceCall.TheVariants as call
+use Rattle.sleep_model.specs.Accepted.{AreAnswers, AreReports, IsReport, IsThing, is_one_allowed, is_ret_of}
 use Rattle.sleep_model.specs.Answers.{errors}
 use Rattle.sleep_model.specs.Text.{down_word}
 use Rattle.machine_file.specs.Look.{is_some_and, is_none_or, is_number, is_text, has_only}
-use Rattle.machine_file.specs.Members.{must_have, may_have, has_text, items_of, list_in, answer_members}
+use Rattle.machine_file.specs.Members.{must_have, may_have, has_text, items_of, list_in, number_at, answer_members, report_members}
 use Rattle.machine_file.specs.Places.{item_place, first_item}
-use Rattle.machine_file.specs.Form.{Named, row, first_in_lists, item_forms, unformed_item, is_string, is_one_of, is_within, is_ret_form, is_plain_report, is_event_report, is_report_form, are_reports, is_answer_form, answerers, phases}
+use Rattle.machine_file.specs.Form.{Named, row, first_in_lists, item_forms, unformed_item, is_string, is_one_of, is_within, is_time, is_truth, is_ret_form, is_plain_report, is_event_report, is_report_form, are_reports, is_answer_form, answerers, phases}
 use Rattle.machine_file.specs.Names.{is_among_names, names_in, texts_in, devices_named, sources_named}
 use Rattle.machine_file.specs.Rules.{name_of}
 use Rattle.machine_file.specs.Spelled.{place_among}
 use Rattle.machine_file.specs.Devices.{whole_device}
-use Rattle.machine_file.specs.Operations.{names_source}
-use Rattle.machine_file.specs.Answering.{thingless_answer, forbidden_ret, forbidden_reports, sourceless_report, names_thing, names_of_kind, has_its_phase, is_of_device, is_of_prepare, is_ret_allowed, common_errors, may_report, thing_of, phase_of, step_of, answering_phases, platform_steps, whole_report, whole_answer}
+use Rattle.machine_file.specs.Operations.{names_source, ms_of, says}
+use Rattle.machine_file.specs.Answering.{thingless_answer, forbidden_ret, forbidden_reports, sourceless_report, names_thing, names_of_kind, has_its_phase, is_of_device, is_of_prepare, is_ret_allowed, common_errors, may_report, thing_of, phase_of, step_of, answering_phases, platform_steps, call_of, whole_report, whole_answer}
 use Rattle.machine_file.specs.Whole.{whole_machine, whole_notifier}
+use Rattle.machine_file.proofs.Fitted.{absent}
 use Rattle.machine_file.proofs.Freshly.{all_pass, place_within}
 use Rattle.machine_file.proofs.LinksKept.{none_of}
+use Rattle.machine_file.proofs.ScriptsKept.{number_in, or_most}
 
 -- ---- the form of the items
 
@@ -74,7 +77,7 @@ thing_case m false false false devices syscore notifiers others name p s c k l e
 -- ---- numbers
 
 -- a text is no number
-text_no_number : (test : List ℕ → Bool) (r : Data) → is_some_and test (as_str r) ≡ true → option_and_then as_u64 (as_number r) ≡ None
+pub text_no_number : (test : List ℕ → Bool) (r : Data) → is_some_and test (as_str r) ≡ true → option_and_then as_u64 (as_number r) ≡ None
 text_no_number test null e = refl
 text_no_number test (boolean b) e = refl
 text_no_number test (number n) e = absurd (false≢true e)
@@ -145,7 +148,7 @@ few_case : (b : Bool) (n : ℕ) → nat_le n (if b then 16 else 0) ≡ true → 
 few_case true n e = leb-true n 16 e
 few_case false n e = let z = leb-true n 0 e in omega arith
 
-reports_formed : (o : Option Data) → is_none_or are_reports o ≡ true → list_all is_report_form (items_of (unwrap_or (option_and_then as_array o) no_items)) ≡ true
+pub reports_formed : (o : Option Data) → is_none_or are_reports o ≡ true → list_all is_report_form (items_of (unwrap_or (option_and_then as_array o) no_items)) ≡ true
 reports_formed None e = refl
 reports_formed (Some null) e = absurd (false≢true e)
 reports_formed (Some (boolean b)) e = absurd (false≢true e)
@@ -164,6 +167,33 @@ source_case sources (Some (string s)) e h = place_within sources s h
 source_case sources (Some (array ds)) e h = absurd (false≢true e)
 source_case sources (Some (object ms)) e h = absurd (false≢true e)
 
+-- the event of a report ends within a day
+report_ms : (r : Data) → is_report_form r ≡ true → ms_of r ≤ 86400000
+report_ms r e = by (or_cases (is_plain_report r) (is_event_report r) (and_parts (must_have (codes "source") is_string r) (is_plain_report r || is_event_report r) e).1)
+  where
+    none_ms : (o : Option Data) → o ≡ None → unwrap_or (option_and_then as_u64 (option_and_then as_number o)) 0 ≤ 86400000
+    none_ms None e = omega arith
+    none_ms (Some v) e = absurd (cc)
+
+    by : ((is_plain_report r ≡ true) ⊎ (is_event_report r ≡ true)) → ms_of r ≤ 86400000
+    by (inl h) =
+        none_ms (get (codes "ms") r) (absent (codes "call" ∷ codes "source" ∷ []) (codes "ms") r
+        (and_parts (has_only (codes "call" ∷ codes "source" ∷ []) r) (must_have (codes "call") (is_one_of (codes "awake" ∷ codes "relax" ∷ [])) r) h).0 refl)
+    by (inr h) =
+        let front = has_only report_members r && has_text (codes "call") (codes "event") r in
+        let ms = may_have (codes "ms") (is_time 0) r in
+        or_most 0 86400000 0 (number_at (codes "ms") r)
+        (number_in 0 86400000 (get (codes "ms") r) (and_parts front ms (and_parts (front && ms) (may_have (codes "hard") is_truth r) h).0).1) (omega arith)
+
+-- the call of a report is one that a callback may make
+report_call : (r : Data) → ms_of r ≤ 86400000 → IsReport (call_of r)
+report_call r e = by (has_text (codes "call") (codes "awake") r) (has_text (codes "call") (codes "relax") r) (says (codes "hard") r)
+  where
+    by : (awake relax hard : Bool) → IsReport (if awake then call.Awake else if relax then call.Relax else call.Event (ms_of r) hard)
+    by true relax hard = tt
+    by false true hard = tt
+    by false false hard = e
+
 -- each report is of a source that is there
 are_reports_kept : (m : Machine) (sources : List (List ℕ)) (rs : List Data) → length sources ≡ length m.sources → list_all is_report_form rs ≡ true →
     list_all (names_source sources) rs ≡ true → AreReports m (map (whole_report sources) rs)
@@ -173,7 +203,7 @@ are_reports_kept m sources (r ∷ rs) c e h =
     let named = and_parts (names_source sources r) (list_all (names_source sources) rs) h in
     let source = (and_parts (must_have (codes "source") is_string r) (is_plain_report r || is_event_report r) form.0).0 in
     let within = source_case sources (get (codes "source") r) source named.0 in
-    (omega (arith, c, within), are_reports_kept m sources rs c form.1 named.1)
+    (omega (arith, c, within), report_call r (report_ms r form.0), are_reports_kept m sources rs c form.1 named.1)
 
 -- ---- answers
 

@@ -4,20 +4,17 @@ use Rattle.std.specs.Option.{option_or, option_map}
 use Rattle.serde_json.specs.Data.{Data}
 use Rattle.machine_file.specs.Whole.{Rule, rule, first_of, first_broken, broken_at}
 use Rattle.machine_file.specs.Groups.{form_rules, device_rules, thing_rules, operation_rules, answer_rules}
-use Rattle.machine_file.specs.Members.{list_in, word_at, file_members}
+use Rattle.machine_file.specs.Members.{list_in, file_members}
 use Rattle.machine_file.specs.Devices.{cyclic_link, closes_no_cycle, orphan, loose_link, repeated_link}
 use Rattle.machine_file.specs.Joined.{AreJoined}
 use Rattle.machine_file.specs.Kept.{broken_form, broken_devices, broken_cycle, broken_rest, first_in_order}
 use Rattle.machine_file.specs.declared.known.Known.{Known}
-use Rattle.machine_file.specs.Knows.{Knows, AreFew, texts, names_no_mark, has_no_marks}
+use Rattle.machine_file.specs.Knows.{Knows, AreFew, texts}
 use Rattle.machine_file.specs.Form.{Named, row, first_row, unformed_member, unformed_item}
 use Rattle.machine_file.specs.Limits.{too_many, most_items}
 use Rattle.machine_file.specs.Rules.{name_of, is_version_one}
 use Rattle.machine_file.specs.Names.{repeated_device}
-use Rattle.machine_file.specs.Operations.{marks_of}
 use Rattle.machine_file.specs.Places.{unless, item_place, first_not_after}
-use Rattle.std.specs.List.{list_all, flat_map, cons_option}
-use Rattle.std.proofs.lemmas.Bool.{and_parts}
 use Rattle.machine_file.specs.Look.{text_of, has_only}
 use Rattle.std.proofs.lemmas.Bool.{leb-true}
 use Rattle.std.proofs.lemmas.List.{length-map}
@@ -123,23 +120,3 @@ few_known k d h e =
 pub no_cycle : (d : Data) → broken_cycle d ≡ None → first_not_after (closes_no_cycle d) [] 0 (list_in (codes "links") d) ≡ None
 unfolding broken_cycle
 no_cycle d e = none_left (item_place (codes "links")) _ (none_left (broken_at 12) (cyclic_link d) e)
-
-no_mark : (o : Option (List ℕ)) → not (is_some o) ≡ true → o ≡ None
-no_mark None e = refl
-no_mark (Some m) e = cc
-
-cons_none : (o : Option (List ℕ)) (xs : List (List ℕ)) → o ≡ None → xs ≡ [] → cons_option o xs ≡ []
-cons_none o xs e f = rw (e, f) refl
-
-script_marks : (os : List Data) → list_all names_no_mark os ≡ true → marks_of os ≡ []
-script_marks [] e = refl
-script_marks (o ∷ os) e =
-    let both = and_parts (names_no_mark o) (list_all names_no_mark os) e in
-    cons_none (word_at (codes "mark") o) (marks_of os) (no_mark (word_at (codes "mark") o) both.0) (script_marks os both.1)
-
--- a file without marks
-pub no_marks : (actors : List Data) → list_all has_no_marks actors ≡ true → flat_map (λ a. marks_of (list_in (codes "script") a)) actors ≡ []
-no_marks [] e = refl
-no_marks (a ∷ rest) e =
-    let both = and_parts (has_no_marks a) (list_all has_no_marks rest) e in
-    rw (script_marks (list_in (codes "script") a) both.0, no_marks rest both.1) refl

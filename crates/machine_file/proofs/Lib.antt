@@ -11,4 +11,9 @@ pub mod ScriptsKept
 pub mod LinksKept
 pub mod AnswersKept
 pub mod Accepted
+pub mod Each
+pub mod Fitted
+pub mod FittedFile
+pub mod Marked
+pub mod Worded
 pub mod Machined

@@ -74,7 +74,7 @@ in_range least most None e = tt
 in_range least most (Some n) e = let both = and_parts (nat_le least n) (nat_le n most) e in (leb-true least n both.0, leb-true n most both.1)
 
 -- a number that may be given, where it is
-number_in : (least most : ℕ) (o : Option Data) → is_none_or (is_within least most) o ≡ true →
+pub number_in : (least most : ℕ) (o : Option Data) → is_none_or (is_within least most) o ≡ true →
     IfSome (option_and_then as_u64 (option_and_then as_number o)) (λ n. (least ≤ n) × (n ≤ most))
 number_in least most None e = tt
 number_in least most (Some d) e = in_range least most (option_and_then as_u64 (as_number d)) e
@@ -87,7 +87,7 @@ or_least : (least most n : ℕ) (o : Option ℕ) → IfSome o (λ k. (least ≤ 
 or_least least most n None h k = k
 or_least least most n (Some x) h k = h.0
 
-or_most : (least most n : ℕ) (o : Option ℕ) → IfSome o (λ k. (least ≤ k) × (k ≤ most)) → n ≤ most → unwrap_or o n ≤ most
+pub or_most : (least most n : ℕ) (o : Option ℕ) → IfSome o (λ k. (least ≤ k) × (k ≤ most)) → n ≤ most → unwrap_or o n ≤ most
 or_most least most n None h k = k
 or_most least most n (Some x) h k = h.1
 
@@ -470,7 +470,7 @@ text_apart : (w : Option (List ℕ)) (a b : List ℕ) → is_some_and (λ s. byt
 text_apart None a b e = absurd (false≢true e)
 text_apart (Some s) a b e = ap (λ x. bytes_eq x b) ((bytes_decides s a).0 e)
 
-member_apart : (o : Option Data) (a b : List ℕ) → is_some_and (is_text a) o ≡ true → is_some_and (is_text b) o ≡ bytes_eq a b
+pub member_apart : (o : Option Data) (a b : List ℕ) → is_some_and (is_text a) o ≡ true → is_some_and (is_text b) o ≡ bytes_eq a b
 member_apart None a b e = absurd (false≢true e)
 member_apart (Some d) a b e = text_apart (as_str d) a b e
 
@@ -550,6 +550,13 @@ rule_holds : (b : Bool) (place : List ℕ) (o : Option (List ℕ)) → option_or
 rule_holds true place o e = refl
 rule_holds false place o e = cc
 
+-- a file has at most 200000 steps
+pub steps_few : (d : Data) → too_much d ≡ None → all_steps (λ o. true) d ≤ 200000
+steps_few d e =
+    let few = rule_holds (are_steps_few d) (codes "actors") (unless (are_reports_few d) (codes "answers")) e in
+    leb-true (all_steps (λ o. true) d) 200000
+    (and_parts (nat_le (all_steps (λ o. true) d) 200000) (nat_le (most_written d * (length (list_in (codes "devices") d) + 50)) 100000) few).0
+
 -- at most 200000 operations are made, and at most 100000 turns, of devices and 50 others, over all attempts
 pub steps_kept : (d : Data) → too_much d ≡ None →
     (length (all_operations (whole_machine d).actors) ≤ 200000) × (most_attempts (whole_machine d) * (length (whole_machine d).devices + 50) ≤ 100000)
@@ -558,7 +565,7 @@ steps_kept d e =
     let devices = list_in (codes "devices") d in
     let few = rule_holds (are_steps_few d) (codes "actors") (unless (are_reports_few d) (codes "answers")) e in
     let both = and_parts (nat_le (all_steps (λ o. true) d) 200000) (nat_le (most_written d * (length devices + 50)) 100000) few in
-    let steps = leb-true (all_steps (λ o. true) d) 200000 both.0 in
+    let steps = steps_few d e in
     let turns = leb-true (most_written d * (length devices + 50)) 100000 both.1 in
     let made_so : length (all_operations (map (whole_script (known_of d)) actors)) ≡ all_steps (λ o. true) d =
     length_count (all_operations (map (whole_script (known_of d)) actors)) ∙ count_scripts (known_of d) (λ x. true) (λ o. true) (λ o. refl) actors in

@@ -25,5 +25,7 @@ pub mod Fresh
 pub mod Joined
 pub mod Groups
 pub mod Kept
+pub mod Marks
+pub mod Fitting
 pub mod Reading
 pub mod Refusing

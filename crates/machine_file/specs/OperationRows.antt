@@ -1,13 +1,18 @@
 -- The rows of the table of operations, and the tests of operations, by name.
-use Rattle.std.specs.Prelude.{Bool, codes, [], ◌∷◌}
+use Rattle.std.specs.Prelude.{ℕ, List, Bool, codes, [], ◌∷◌, bytes_eq, Option}
+use Rattle.std.specs.List.{find}
 use Rattle.serde_json.specs.Data.{Data}
+use Rattle.sleep_model.specs.declared.machine.Op.{Op}
+use Rattle.sleep_model.specs.declared.machine.Op.TheVariants.{Read, Save, State, Autosleep, Sleep, SleepD, FreezePoint, Post, Wait, Runtime, Awake, Relax, Event}
 use Rattle.machine_file.specs.declared.operations.Word.{Word}
 use Rattle.machine_file.specs.declared.operations.Word.TheVariants as word
 use Rattle.machine_file.specs.declared.operations.OperationTest.{OperationTest}
 use Rattle.machine_file.specs.declared.operations.OperationTest.TheVariants as test
 use Rattle.machine_file.specs.declared.known.Known.{Known}
 use Rattle.machine_file.specs.Knows.{texts}
-use Rattle.machine_file.specs.Operations.{Operation, operation, users, tasks, everyone, plain, has_count, is_state_form, has_short_text, has_length, has_mark, is_runtime_form, has_source, is_event_form, is_formed, is_allowed, names_source, names_device}
+use Rattle.machine_file.specs.Look.{text_at}
+use Rattle.machine_file.specs.Members.{has_text, number_at}
+use Rattle.machine_file.specs.Operations.{Known as Names, ms_of, says, thing_at, Operation, operation, operations, users, tasks, everyone, plain, has_count, is_state_form, has_short_text, has_length, has_mark, is_runtime_form, has_source, is_event_form, is_formed, is_allowed, names_source, names_device}
 
 -- the row of a word
 abbrev pub op_row : Word → Operation
@@ -24,6 +29,26 @@ op_row word.Runtime = operation (codes "runtime") (codes "device" ∷ codes "to"
 op_row word.Awake = operation (codes "awake") (codes "source" ∷ []) has_source everyone
 op_row word.Relax = operation (codes "relax") (codes "source" ∷ []) has_source everyone
 op_row word.Event = operation (codes "event") (codes "source" ∷ codes "ms" ∷ codes "hard" ∷ []) is_event_form everyone
+
+-- the row of the word that a text is, if it is of the table
+abbrev pub row_named : List ℕ → Option Operation
+row_named text = find (λ r. bytes_eq text r.word) operations
+
+-- what an operation with that word spells
+abbrev pub op_spelled : Word → Names → Data → Op
+op_spelled word.Read names o = Read
+op_spelled word.Save names o = Save (number_at (codes "count") o)
+op_spelled word.State names o = State (text_at (codes "text") o) (says (codes "if_saved") o)
+op_spelled word.Autosleep names o = Autosleep (text_at (codes "text") o)
+op_spelled word.Sleep names o = Sleep (ms_of o)
+op_spelled word.SleepD names o = SleepD (ms_of o)
+op_spelled word.FreezePoint names o = FreezePoint
+op_spelled word.Post names o = Post (thing_at (codes "mark") names.marks o)
+op_spelled word.Wait names o = Wait (thing_at (codes "mark") names.marks o)
+op_spelled word.Runtime names o = Runtime (thing_at (codes "device") names.devices o) (has_text (codes "to") (codes "suspended") o)
+op_spelled word.Awake names o = Awake (thing_at (codes "source") names.sources o)
+op_spelled word.Relax names o = Relax (thing_at (codes "source") names.sources o)
+op_spelled word.Event names o = Event (thing_at (codes "source") names.sources o) (ms_of o) (says (codes "hard") o)
 
 -- a test of an operation beside its actor
 abbrev pub operation_test : OperationTest → Known → Data → Data → Bool

@@ -1,5 +1,5 @@
 -- What is read of a file.
-use Rattle.std.specs.Prelude.{◌≡◌, true, None, reverse}
+use Rattle.std.specs.Prelude.{◌≡◌, None, reverse}
 use Rattle.serde_json.specs.Data.{Data}
 use Rattle.sleep_model.specs.declared.machine.Machine.{Machine}
 use Rattle.sleep_model.specs.Order.{parents_of}
@@ -7,19 +7,13 @@ use Rattle.device_links.specs.Linked.{Linked}
 use Rattle.machine_file.specs.declared.reading.ReadMachine.{ReadMachine}
 use Rattle.machine_file.specs.Whole.{whole_machine}
 use Rattle.machine_file.specs.Kept.{first_in_order}
-use Rattle.sleep_model.specs.Built.{is_built}
 
 -- a machine's links, by the parents of its devices, the newest first
 abbrev pub links_among : Machine → Linked
 links_among m = record { parents = parents_of m.devices; links = reverse m.links }
 
--- the machine that a value spells, and its links
+-- the machine that a value spells, which breaks no rule, and its links
 pub record Reads (file : Data) (r : ReadMachine) : Type 0 where
+  pub unbroken : first_in_order file ≡ None
   pub machine : r.machine ≡ whole_machine file
   pub links : r.links ≡ links_among r.machine
-
--- that machine, which keeps the rules and uses only what is built
-pub record ReadsBuilt (file : Data) (r : ReadMachine) : Type 0 where
-  pub unbroken : first_in_order file ≡ None
-  pub reads : Reads file r
-  pub built : is_built r.machine ≡ true

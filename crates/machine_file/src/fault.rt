@@ -9,8 +9,6 @@ use std::alloc::{AllocError, AllocFailed};
 pub enum MachineFault {
     /// The bytes break a rule of the format: its number, 1 to 24, and the first place that does.
     Rule { rule: u8, place: String },
-    /// The machine uses what is not built yet.
-    NotBuilt,
     /// Memory ran out.
     Mem,
 }

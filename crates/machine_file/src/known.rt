@@ -11,6 +11,7 @@ ghost use Rattle.machine_file.specs.Names.{names_in, texts_in, is_among_names, r
 ghost use Rattle.machine_file.specs.Knows.{Knows, texts};
 ghost use Rattle.machine_file.specs.Broken.{member_name, place_of};
 
+use crate::marks::marks_in;
 use crate::names::{first_repeated, names_in, texts_in};
 use crate::place::{Member, Place};
 use crate::places::Places;
@@ -25,6 +26,8 @@ pub(crate) struct Known<'v> {
     pub(crate) syscore: Places<&'v str>,
     pub(crate) notifiers: Places<&'v str>,
     pub(crate) sources: Places<&'v str>,
+    /// The marks of scripts, in the order of their first use.
+    pub(crate) marks: Places<&'v str>,
 }
 
 /// The names of the things of a file.
@@ -35,11 +38,13 @@ pub(crate) fn known_in<'v>(alloc: Global, tree: &'v Value) -> Result<Known<'v>, 
     let syscore = Places::new(alloc, texts_in(alloc, tree, Member::Syscore)?)?;
     let notifiers = Places::new(alloc, names_in(alloc, tree, Member::Notifiers)?)?;
     let sources = Places::new(alloc, texts_in(alloc, tree, Member::Sources)?)?;
+    let marks = Places::new(alloc, marks_in(alloc, tree)?)?;
     Ok(Known {
         devices,
         syscore,
         notifiers,
         sources,
+        marks,
     })
 }
 

@@ -2,7 +2,6 @@
 #![tactic(auto)]
 
 mod answers;
-mod built;
 mod cycles;
 mod fault;
 mod form;
@@ -11,6 +10,7 @@ mod known;
 mod limits;
 mod look;
 mod machine;
+mod marks;
 mod names;
 mod operations;
 mod pairs;
@@ -20,7 +20,6 @@ mod reading;
 mod replies;
 mod rules;
 mod scripts;
-mod stop;
 #[cfg(test)]
 mod tests;
 mod texts;

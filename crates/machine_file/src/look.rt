@@ -1,6 +1,6 @@
 //! Tests of one JSON value, and what of it stands at a name.
 
-ghost use Rattle.std.specs.Prelude.{◌≡◌, ◌≤◌, map, bytes_eq};
+ghost use Rattle.std.specs.Prelude.{◌≡◌, ◌≤◌, map, bytes_eq, option_copied};
 ghost use Rattle.std.specs.List.{list_any};
 ghost use Rattle.serde_json.specs.View.{view, members_view, items_view};
 ghost use Rattle.machine_file.specs.Look.{is_some_and, is_none_or, is_number, is_text, is_list, are_named, has_only, text_of, text_at, list_at};
@@ -212,6 +212,13 @@ pub(crate) fn text_at<'v>(value: &'v Value, name: &str) -> &'v str
     ensures { result.now ≡ text_at name.now (view value.now) }
 {
     value.get(name).and_then(Value::as_str).unwrap_or("")
+}
+
+// The text at the name, where there is one.
+pub(crate) fn word_at<'v>(value: &'v Value, name: &str) -> Option<&'v str>
+    ensures { option_copied result ≡ word_at name.now (view value.now) }
+{
+    value.get(name).and_then(Value::as_str)
 }
 
 // The whole number at the name.

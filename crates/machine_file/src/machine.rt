@@ -1,21 +1,18 @@
 //! A machine file as a whole: which rule it breaks, or which machine it spells.
 
-ghost use Rattle.std.specs.Prelude.{◌≡◌, [], reverse, option_map, is_some, codes, None, IfOk};
-ghost use Rattle.std.specs.List.{list_all};
+ghost use Rattle.std.specs.Prelude.{◌≡◌, [], reverse, option_map, codes, None, IfOk};
 ghost use Rattle.serde_json.specs.View.{view};
 ghost use Rattle.sleep_model.specs.Order.{parents_of};
-ghost use Rattle.machine_file.specs.Members.{list_in, word_at};
+ghost use Rattle.machine_file.specs.Members.{list_in};
 ghost use Rattle.machine_file.specs.Places.{first_not_after};
 ghost use Rattle.machine_file.specs.Devices.{closes_no_cycle, whole_devices, whole_links};
-ghost use Rattle.machine_file.specs.Knows.{names_no_mark, has_no_marks};
 ghost use Rattle.machine_file.specs.Knows.{Knows, AreFew};
 ghost use Rattle.machine_file.specs.Kept.{Checks, broken_form, broken_devices, broken_cycle, broken_rest};
 ghost use Rattle.machine_file.specs.Broken.{broken_view};
 
 use crate::cycles::{Linking, linking_of};
 use crate::known::{Known, known_in};
-use crate::look::list_in;
-use crate::place::{Member, Place, items};
+use crate::place::{Member, Place};
 use crate::rules::{
     Broken, answer_broken, device_broken, form_broken, operation_broken, thing_broken,
 };
@@ -132,35 +129,4 @@ fn check_rest<'v>(
         Some(broken) => Ok(Checked::Broken(broken)),
         None => Ok(Checked::Sound(known, linking)),
     }
-}
-
-fn names_mark(operation: &Value) -> bool
-    ensures { result ≡ is_some (word_at (codes "mark") (view operation.now)) }
-{
-    operation.get("mark").and_then(Value::as_str).is_some()
-}
-
-fn has_no_mark(script: &[Value]) -> bool
-    ensures { result ≡ list_all (λ v. names_no_mark (view v)) script.now }
-{
-    script.iter().all(|operation| !names_mark(operation))
-}
-
-fn has_no_marks(actor: &Value) -> bool
-    ensures { result ≡ has_no_marks (view actor.now) }
-{
-    has_no_mark(list_in(actor, "script"))
-}
-
-fn have_no_marks(actors: &[Value]) -> bool
-    ensures { result ≡ list_all (λ v. has_no_marks (view v)) actors.now }
-{
-    actors.iter().all(|actor| has_no_marks(actor))
-}
-
-/// Whether no operation names a mark.
-pub(crate) fn is_markless(tree: &Value) -> bool
-    ensures { result ≡ list_all has_no_marks (list_in (codes "actors") (view tree.now)) }
-{
-    have_no_marks(items(tree, Member::Actors))
 }

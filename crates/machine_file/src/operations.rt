@@ -8,7 +8,7 @@ ghost use Rattle.machine_file.specs.Members.{must_have, may_have, list_in, word_
 ghost use Rattle.machine_file.specs.Places.{first_not, first_operation, first_operation_of};
 ghost use Rattle.machine_file.specs.Names.{is_among_names};
 ghost use Rattle.machine_file.specs.Operations.{is_formed, is_allowed, has_count, has_short_text, is_state_form, has_length, has_mark, is_runtime_form, has_source, is_event_form, row_of, fits_row, names_source, names_device, unformed_operation, forbidden_operation, sourceless_operation, deviceless_operation};
-ghost use Rattle.machine_file.specs.OperationRows.{op_row, operation_test};
+ghost use Rattle.machine_file.specs.OperationRows.{op_row, row_named, operation_test};
 ghost use Rattle.machine_file.specs.Knows.{Knows, texts};
 ghost use Rattle.machine_file.specs.Broken.{place_of};
 
@@ -16,8 +16,8 @@ use crate::form::{DAY, STATUSES};
 use crate::items::must_be_name;
 use crate::known::{Known, contains};
 use crate::look::{
-    has_only, has_text, is_among, list_in, may_be_truth, may_be_within, must_be_one_of,
-    must_be_text, must_be_within, text_at,
+    has_only, is_among, list_in, may_be_truth, may_be_within, must_be_one_of, must_be_text,
+    must_be_within, text_at, word_at,
 };
 use crate::place::{Member, Place, items};
 use crate::places::Places;
@@ -50,50 +50,59 @@ pub(crate) enum OperationTest {
     Device,
 }
 
+fn word_named(text: &str) -> Option<Word>
+    ensures { option_map op_row result ≡ row_named text.now }
+{
+    if text == "read" {
+        return Some(Word::Read);
+    }
+    if text == "save" {
+        return Some(Word::Save);
+    }
+    if text == "state" {
+        return Some(Word::State);
+    }
+    if text == "autosleep" {
+        return Some(Word::Autosleep);
+    }
+    if text == "sleep" {
+        return Some(Word::Sleep);
+    }
+    if text == "sleep_d" {
+        return Some(Word::SleepD);
+    }
+    if text == "freeze_point" {
+        return Some(Word::FreezePoint);
+    }
+    if text == "post" {
+        return Some(Word::Post);
+    }
+    if text == "wait" {
+        return Some(Word::Wait);
+    }
+    if text == "runtime" {
+        return Some(Word::Runtime);
+    }
+    if text == "awake" {
+        return Some(Word::Awake);
+    }
+    if text == "relax" {
+        return Some(Word::Relax);
+    }
+    if text == "event" {
+        return Some(Word::Event);
+    }
+    None
+}
+
 /// The word of an operation, where it is of the table.
 pub(crate) fn word_of(operation: &Value) -> Option<Word>
     ensures { option_map op_row result ≡ row_of (view operation.now) }
 {
-    if has_text(operation, "op", "read") {
-        return Some(Word::Read);
+    match word_at(operation, "op") {
+        Some(text) => word_named(text),
+        None => None,
     }
-    if has_text(operation, "op", "save") {
-        return Some(Word::Save);
-    }
-    if has_text(operation, "op", "state") {
-        return Some(Word::State);
-    }
-    if has_text(operation, "op", "autosleep") {
-        return Some(Word::Autosleep);
-    }
-    if has_text(operation, "op", "sleep") {
-        return Some(Word::Sleep);
-    }
-    if has_text(operation, "op", "sleep_d") {
-        return Some(Word::SleepD);
-    }
-    if has_text(operation, "op", "freeze_point") {
-        return Some(Word::FreezePoint);
-    }
-    if has_text(operation, "op", "post") {
-        return Some(Word::Post);
-    }
-    if has_text(operation, "op", "wait") {
-        return Some(Word::Wait);
-    }
-    if has_text(operation, "op", "runtime") {
-        return Some(Word::Runtime);
-    }
-    if has_text(operation, "op", "awake") {
-        return Some(Word::Awake);
-    }
-    if has_text(operation, "op", "relax") {
-        return Some(Word::Relax);
-    }
-    if has_text(operation, "op", "event") {
-        return Some(Word::Event);
-    }
-    None
 }
 
 // Whether the operation has no members but those of its word.

@@ -1,22 +1,16 @@
-ghost use Rattle.std.specs.Prelude.{◌≡◌, ◌++◌, true, codes, Some, IfOk, IfErr, string_bytes};
+ghost use Rattle.std.specs.Prelude.{◌≡◌, ◌++◌, codes, Some, IfOk, IfErr, string_bytes};
 ghost use Rattle.serde_json.specs.View.{view};
 ghost use Rattle.sleep_model.specs.Accepted.{IsAccepted};
-ghost use Rattle.sleep_model.specs.Built.{is_built};
 ghost use Rattle.machine_file.specs.Whole.{machine_in};
-ghost use Rattle.machine_file.specs.Reading.{links_among, ReadsBuilt};
+ghost use Rattle.machine_file.specs.Reading.{links_among, Reads};
 ghost use Rattle.machine_file.specs.Refusing.{Names, Refuses, RefusesValue};
 ghost use Rattle.machine_file.specs.Places.{item_place};
-ghost use Rattle.machine_file.specs.Kept.{IsSound};
 ghost use Rattle.machine_file.specs.Broken.{broken_view, place_text};
 
-use crate::built::is_built;
-use crate::cycles::Linking;
 use crate::fault::MachineFault;
-use crate::known::Known;
 use crate::machine::{Checked, check};
 use crate::place::Place;
 use crate::rules::Broken;
-use crate::stop::Stop;
 use crate::tree::tree_of;
 use crate::whole::read_of;
 use device_links::Links;
@@ -34,11 +28,10 @@ pub struct ReadMachine {
 /// The machine that the bytes of a machine file spell, with its links.
 ///
 /// `Rule`: the bytes break a rule of the format; the first broken one, and its first place.
-/// `NotBuilt`: they break none, and the machine uses what is not built yet. `Mem`: memory ran out.
+/// `Mem`: memory ran out.
 pub fn read_machine(alloc: Global, bytes: &[u8]) -> Result<ReadMachine, MachineFault>
-    // What is read is what the bytes spell, and may be run today.
+    // What is read is what the bytes spell.
     ensures spells { IfOk result (λ r. machine_in bytes.now ≡ Some r.machine) }
-    ensures built { IfOk result (λ r. is_built r.machine ≡ true) }
     ensures links { IfOk result (λ r. r.links ≡ links_among r.machine) }
     // It is a machine that a file may spell.
     ensures accepted { IfOk result (λ r. IsAccepted r.machine) }
@@ -58,35 +51,15 @@ pub fn read_machine(alloc: Global, bytes: &[u8]) -> Result<ReadMachine, MachineF
 }
 
 fn read_tree(alloc: Global, tree: &Value) -> Result<ReadMachine, MachineFault>
-    ensures ok { IfOk result (ReadsBuilt (view tree.now)) }
+    ensures ok { IfOk result (Reads (view tree.now)) }
     ensures err { IfErr result (RefusesValue (view tree.now)) }
 {
     match check(alloc, tree)? {
         Checked::Broken(broken) => Err(fault_of(alloc, broken)),
-        Checked::Sound(known, linking) => read_sound(alloc, tree, &known, linking),
-    }
-}
-
-fn read_sound<'v>(
-    alloc: Global,
-    tree: &'v Value,
-    known: &Known<'v>,
-    linking: Linking,
-) -> Result<ReadMachine, MachineFault>
-    requires { IsSound (view tree.now) known.now linking }
-    ensures ok { IfOk result (ReadsBuilt (view tree.now)) }
-    ensures err { IfErr result (RefusesValue (view tree.now)) }
-{
-    match read_of(alloc, tree, known, linking) {
-        Ok(read) => {
-            if is_built(&read.machine) {
-                Ok(read)
-            } else {
-                Err(MachineFault::NotBuilt)
-            }
-        }
-        Err(Stop::Odd) => Err(MachineFault::NotBuilt),
-        Err(Stop::Mem) => Err(MachineFault::Mem),
+        Checked::Sound(known, linking) => match read_of(alloc, tree, &known, linking) {
+            Ok(read) => Ok(read),
+            Err(_) => Err(MachineFault::Mem),
+        },
     }
 }
 

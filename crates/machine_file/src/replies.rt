@@ -1,22 +1,22 @@
 //! The answers that a file spells.
 
-ghost use Rattle.std.specs.Prelude.{◌≡◌, ◌≤◌, map, length, codes, unwrap_or, find, pos, neg_ℤ, IfOk};
+ghost use Rattle.std.specs.Prelude.{◌≡◌, ◌≤◌, All, map, length, codes, unwrap_or, find, pos, neg_ℤ, IfOk};
 ghost use Rattle.serde_json.specs.View.{view};
 ghost use Rattle.machine_file.specs.Members.{has_text, number_at};
 ghost use Rattle.machine_file.specs.Answering.{phase_of, step_of, ret_of, call_of, whole_report};
 ghost use Rattle.machine_file.specs.AnswerTests.{thing_seen, answer_made};
 ghost use Rattle.sleep_base.specs.Errno.{name_of, number_of};
 ghost use Rattle.sleep_model.specs.Answers.{errors};
+ghost use Rattle.machine_file.specs.Fitting.{FitsAt, HasPlainRet, FitsAnswer};
 ghost use Rattle.machine_file.specs.Knows.{texts, AreFew};
 
 use crate::answers::is_of_device;
 use crate::known::Known;
-use crate::look::{has_text, list_in};
+use crate::look::{has_text, list_in, number_at};
 use crate::places::Places;
-use crate::scripts::{ms_of, says, small_at, small_or, thing_at};
-use crate::stop::Stop;
+use crate::scripts::{ms_of, says, small_at, thing_at};
 use serde_json::Value;
-use sleep_base::Errno;
+use sleep_base::{Errno, Mem};
 use sleep_model::{Answer, ListOf, Phase, PlatDo, Report, SourceCall, What};
 use std::alloc::Global;
 
@@ -111,74 +111,79 @@ fn below_zero(error: Errno) -> i32
     -i32::from(error.number())
 }
 
-fn plain_ret(answer: &Value) -> Result<i32, Stop>
-    ensures { IfOk result (λ r. r ≡ pos (unwrap_or (number_at (codes "ret") (view answer.now)) 0)) }
+fn plain_ret(answer: &Value) -> i32
+    requires { HasPlainRet (view answer.now) }
+    ensures { result ≡ pos (unwrap_or (number_at (codes "ret") (view answer.now)) 0) }
 {
-    let number = small_or(answer, "ret", 0)?;
-    match i32::try_from(number) {
-        Ok(number) => Ok(number),
-        Err(_) => Err(Stop::Odd),
+    match number_at(answer, "ret") {
+        Some(number) => number as i32,
+        None => 0,
     }
 }
 
-fn ret_of(answer: &Value) -> Result<i32, Stop>
-    ensures { IfOk result (λ r. r ≡ ret_of (view answer.now)) }
+fn ret_of(answer: &Value) -> i32
+    requires { HasPlainRet (view answer.now) }
+    ensures { result ≡ ret_of (view answer.now) }
 {
     match error_of(answer) {
-        Some(error) => Ok(below_zero(error)),
+        Some(error) => below_zero(error),
         None => plain_ret(answer),
     }
 }
 
-fn call_of(report: &Value) -> Result<SourceCall, Stop>
-    ensures { IfOk result (λ c. c ≡ call_of (view report.now)) }
+fn call_of(report: &Value) -> SourceCall
+    requires { FitsAt (codes "ms") (view report.now) }
+    ensures { result ≡ call_of (view report.now) }
 {
     if has_text(report, "call", "awake") {
-        return Ok(SourceCall::Awake);
+        return SourceCall::Awake;
     }
     if has_text(report, "call", "relax") {
-        return Ok(SourceCall::Relax);
+        return SourceCall::Relax;
     }
-    let ms = ms_of(report)?;
-    let hard = says(report, "hard");
-    Ok(SourceCall::Event { ms, hard })
+    SourceCall::Event {
+        ms: ms_of(report),
+        hard: says(report, "hard"),
+    }
 }
 
-fn report_of<'v>(report: &'v Value, sources: &Places<&'v str>) -> Result<Report, Stop>
-    requires { length sources.now ≤ 1000 }
-    ensures { IfOk result (λ r. r ≡ whole_report (texts sources.now) (view report.now)) }
+fn report_of<'v>(report: &'v Value, sources: &Places<&'v str>) -> Report
+    requires few { length sources.now ≤ 1000 }
+    requires fits { FitsAt (codes "ms") (view report.now) }
+    ensures { result ≡ whole_report (texts sources.now) (view report.now) }
 {
-    let source = thing_at(report, "source", sources);
-    let call = call_of(report)?;
-    Ok(Report { source, call })
+    Report {
+        source: thing_at(report, "source", sources),
+        call: call_of(report),
+    }
 }
 
 fn reports_of<'v>(
     alloc: Global,
     reports: &'v [Value],
     sources: &Places<&'v str>,
-) -> Result<Vec<Report>, Stop>
-    requires { length sources.now ≤ 1000 }
+) -> Result<Vec<Report>, Mem>
+    requires few { length sources.now ≤ 1000 }
+    requires fit { All (FitsAt (codes "ms")) (map view reports.now) }
     ensures { IfOk result (λ v. v.items ≡ map (whole_report (texts sources.now)) (map view reports.now)) }
 {
     let mut all = Vec::with_capacity(alloc, reports.len())?;
     for report in reports {
-        all.push(report_of(report, sources)?)?;
+        all.push(report_of(report, sources))?;
     }
     Ok(all)
 }
 
-fn answer_of<'v>(alloc: Global, answer: &'v Value, known: &Known<'v>) -> Result<Answer, Stop>
-    requires { AreFew known.now }
+fn answer_of<'v>(alloc: Global, answer: &'v Value, known: &Known<'v>) -> Result<Answer, Mem>
+    requires few { AreFew known.now }
+    requires fits { FitsAnswer (view answer.now) }
     ensures { IfOk result (λ a. a ≡ answer_made known.now (view answer.now)) }
 {
-    let attempt = small_at(answer, "attempt")?;
-    let ret = ret_of(answer)?;
     let reports = reports_of(alloc, list_in(answer, "reports"), &known.sources)?;
     Ok(Answer {
         what: thing_of(answer, known),
-        attempt,
-        ret,
+        attempt: small_at(answer, "attempt"),
+        ret: ret_of(answer),
         reports: ListOf::of_vec(reports),
     })
 }
@@ -188,8 +193,9 @@ pub(crate) fn answers_of<'v>(
     alloc: Global,
     answers: &'v [Value],
     known: &Known<'v>,
-) -> Result<Vec<Answer>, Stop>
-    requires { AreFew known.now }
+) -> Result<Vec<Answer>, Mem>
+    requires few { AreFew known.now }
+    requires fit { All FitsAnswer (map view answers.now) }
     ensures { IfOk result (λ v. v.items ≡ map (answer_made known.now) (map view answers.now)) }
 {
     let mut all = Vec::with_capacity(alloc, answers.len())?;

@@ -1,6 +1,6 @@
 use crate::{MachineFault, ReadMachine, read_machine};
 use bitflags::Flags;
-use sleep_model::{Op, Phase, What};
+use sleep_model::{Op, Phase, SourceCall, What};
 use std::alloc::{AllocError, Global};
 use std::process::Abort;
 use std::test::Fail;
@@ -23,7 +23,6 @@ fn rule_of(read: &Result<ReadMachine, MachineFault>) -> u8 {
 fn place_of(read: &Result<ReadMachine, MachineFault>) -> &str {
     match read {
         Err(MachineFault::Rule { place, .. }) => place.as_str(),
-        Err(MachineFault::NotBuilt) => "not built",
         Err(MachineFault::Mem) => "no memory",
         Ok(_) => "",
     }
@@ -58,6 +57,11 @@ fn files_that_are_none(rt: HostRuntime) {
 fn members_that_break_a_rule(rt: HostRuntime) -> Result<(), Fail> {
     for (more, rule, place) in [
         (r#","devices":[{"name":"a"},{"name":1}]"#, 5u8, "devices[1]"),
+        (
+            r#","syscore":["t","t","t","t","t","t","t","t","t","t","t","t","t","t","t","t","t","t","t","t","t","t","t","t","t","t","t","t","t","t","t","t","t"]"#,
+            6,
+            "syscore",
+        ),
         (r#","devices":[{"name":"A"}]"#, 7, "devices[0]"),
         (r#","devices":[{"name":"a"},{"name":"a"}]"#, 8, "devices[1]"),
         (
@@ -134,11 +138,10 @@ fn operations_that_break_a_rule(rt: HostRuntime) -> Result<(), Fail> {
         (
             r#"{"op":"state","text":"mem","times":2000},{"op":"read"}"#,
             0,
-            "not built",
+            "",
         ),
         (r#"{"op":"state","text":"mem","times":2001}"#, 24, "actors"),
-        (r#"{"op":"post","mark":"m"}"#, 0, "not built"),
-        (r#"{"op":"save","count":7}"#, 0, "not built"),
+        (r#"{"op":"post","mark":"M"}"#, 16, "actors[0].script[0]"),
     ] {
         let text = file(rt.alloc(), "", operations)?;
         expect(&rt, rt.alloc(), text.as_str(), rule, place);
@@ -146,7 +149,26 @@ fn operations_that_break_a_rule(rt: HostRuntime) -> Result<(), Fail> {
     Ok(())
 }
 
-// A machine with everything that is built.
+/// An operation that its maker may not make, which is tested behind the form of all.
+#[test]
+fn makers_that_break_a_rule(rt: HostRuntime) {
+    for (text, rule, place) in [
+        (
+            r#"{"version":1,"actors":[{"name":"l","kind":"irq","script":[{"op":"sleep","ms":1},{"op":"read"}]}]}"#,
+            17u8,
+            "actors[0].script[1]",
+        ),
+        (
+            r#"{"version":1,"actors":[{"name":"l","kind":"irq","script":[{"op":"read"},{"op":"fly"}]}]}"#,
+            16,
+            "actors[0].script[1]",
+        ),
+    ] {
+        expect(&rt, rt.alloc(), text, rule, place);
+    }
+}
+
+// A machine with something of each list.
 fn machine(alloc: Global) -> Result<ReadMachine, Fail> {
     let more = r#","alarm_ms":7,"cpus":4,"auto_cycles":3,
         "devices":[{"name":"bus"},{"name":"usb","parent":"bus","async":true,"runtime":"suspended"},{"name":"clk","wakeup":true}],
@@ -246,5 +268,73 @@ fn operations_are_read(rt: HostRuntime) -> Result<(), Fail> {
             }
         )
     );
+    Ok(())
+}
+
+// Two writers that share marks, and a callback that reports.
+fn shared(alloc: Global) -> Result<ReadMachine, Fail> {
+    let text = r#"{"version":1,"devices":[{"name":"nic"}],"sources":["lan","lid"],
+        "actors":[
+            {"name":"w","kind":"user","script":[{"op":"wait","mark":"b"},{"op":"state","text":"mem","if_saved":true,"times":3}]},
+            {"name":"v","kind":"user","script":[{"op":"autosleep","text":"mem"},{"op":"sleep","ms":20},{"op":"post","mark":"a"},{"op":"post","mark":"b"}]}],
+        "answers":[{"what":"device","name":"nic","phase":"late","reports":[{"call":"event","source":"lid","ms":9,"hard":true},{"call":"relax","source":"lan"}]}]}"#;
+    Ok(read_machine(alloc, text.as_bytes())?)
+}
+
+/// Marks stand in the order of their first use, and are named by their numbers.
+#[test]
+fn marks_are_read(rt: HostRuntime) -> Result<(), Fail> {
+    let read = shared(rt.alloc())?;
+    let [first, second] = read.machine.marks.as_slice() else {
+        return Err(Fail::from("two marks"));
+    };
+    assert_eq!(rt; first.bytes(), b"b".as_slice());
+    assert_eq!(rt; second.bytes(), b"a".as_slice());
+    let [_, other] = read.machine.actors.as_slice() else {
+        return Err(Fail::from("two actors"));
+    };
+    let [_, sleep, one, two] = other.steps.as_slice() else {
+        return Err(Fail::from("four steps"));
+    };
+    assert!(rt; matches!(&sleep.op, Op::Sleep { ms: 20 }));
+    assert!(rt; matches!(&one.op, Op::Post { mark: 1 }));
+    assert!(rt; matches!(&two.op, Op::Post { mark: 0 }));
+    Ok(())
+}
+
+/// Each of two writers has its own script.
+#[test]
+fn writers_are_read(rt: HostRuntime) -> Result<(), Fail> {
+    let read = shared(rt.alloc())?;
+    let [one, other] = read.machine.actors.as_slice() else {
+        return Err(Fail::from("two actors"));
+    };
+    let [wait, state] = one.steps.as_slice() else {
+        return Err(Fail::from("two steps"));
+    };
+    assert!(rt; matches!(&wait.op, Op::Wait { mark: 0 }));
+    assert!(rt; matches!(&state.op, Op::State { if_saved: true, .. }));
+    assert_eq!(rt; state.times, 3);
+    let [autosleep, ..] = other.steps.as_slice() else {
+        return Err(Fail::from("a step"));
+    };
+    assert!(rt; matches!(&autosleep.op, Op::Autosleep { .. }));
+    Ok(())
+}
+
+/// Reports are read, in their order.
+#[test]
+fn reports_are_read(rt: HostRuntime) -> Result<(), Fail> {
+    let read = shared(rt.alloc())?;
+    let [answer] = read.machine.answers.as_slice() else {
+        return Err(Fail::from("one answer"));
+    };
+    let [event, relax] = answer.reports.as_slice() else {
+        return Err(Fail::from("two reports"));
+    };
+    assert_eq!(rt; event.source, 1);
+    assert!(rt; matches!(&event.call, SourceCall::Event { ms: 9, hard: true }));
+    assert_eq!(rt; relax.source, 0);
+    assert!(rt; matches!(&relax.call, SourceCall::Relax));
     Ok(())
 }

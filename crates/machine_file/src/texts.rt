@@ -1,30 +1,32 @@
 //! Names and texts of a machine, from the texts of its file.
 
-ghost use Rattle.std.specs.Prelude.{◌≡◌, IfOk};
+ghost use Rattle.std.specs.Prelude.{◌≡◌, All, IfOk};
 ghost use Rattle.machine_file.specs.Knows.{texts};
+ghost use Rattle.machine_file.specs.Fitting.{IsShort};
 
-use crate::stop::Stop;
 use sleep_base::Mem;
 use sleep_model::{Name, Text};
 use std::alloc::Global;
 
 /// The name that a text spells.
-pub(crate) fn name_of_text(text: &str) -> Result<Name, Stop>
-    ensures { IfOk result (λ n. n ≡ text.now) }
+pub(crate) fn name_of_text(text: &str) -> Name
+    requires { IsShort text.now }
+    ensures { result ≡ text.now }
 {
     match Name::of_bytes(text.as_bytes()) {
-        Some(name) => Ok(name),
-        None => Err(Stop::Odd),
+        Some(name) => name,
+        None => unreachable!(),
     }
 }
 
 /// The names that texts spell.
-pub(crate) fn names_of_texts(alloc: Global, all: &[&str]) -> Result<Vec<Name>, Stop>
+pub(crate) fn names_of_texts(alloc: Global, all: &[&str]) -> Result<Vec<Name>, Mem>
+    requires { All IsShort (texts all.now) }
     ensures { IfOk result (λ v. v.items ≡ texts all.now) }
 {
     let mut names = Vec::with_capacity(alloc, all.len())?;
     for text in all {
-        names.push(name_of_text(text)?)?;
+        names.push(name_of_text(text))?;
     }
     Ok(names)
 }

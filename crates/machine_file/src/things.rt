@@ -1,21 +1,24 @@
 //! The devices and the notifiers that a file spells.
 
-ghost use Rattle.std.specs.Prelude.{◌≡◌, ◌≤◌, ◌+◌, map, length, unwrap_or, codes, IfOk, false, pos, option_and_then};
+ghost use Rattle.std.specs.Prelude.{◌≡◌, ◌≤◌, All, Some, map, length, codes, IfOk, option_and_then, true};
 ghost use Rattle.serde_json.specs.View.{view};
-ghost use Rattle.machine_file.specs.Members.{list_in, truth_at, has_text};
+ghost use Rattle.serde_json.specs.Find.{as_number, as_integer};
+ghost use Rattle.machine_file.specs.Members.{may_have};
+ghost use Rattle.machine_file.specs.Form.{is_near};
 ghost use Rattle.machine_file.specs.Devices.{bit, flags_of, whole_device, whole_devices};
 ghost use Rattle.machine_file.specs.Whole.{priority_of, whole_notifier};
-ghost use Rattle.machine_file.specs.Knows.{Knows, texts};
+ghost use Rattle.machine_file.specs.Fitting.{HasShortName, FitsNotifier};
+ghost use Rattle.machine_file.specs.Knows.{texts};
 
 use crate::cycles::parent_of;
 use crate::known::Known;
 use crate::look::{has_text, text_at, truth_at};
 use crate::place::{Member, items};
 use crate::places::Places;
-use crate::stop::Stop;
 use crate::texts::name_of_text;
 use bitflags::Flags;
 use serde_json::Value;
+use sleep_base::Mem;
 use sleep_model::{Device, DeviceFlags, Notifier};
 use std::alloc::Global;
 
@@ -34,60 +37,73 @@ fn flags_of(device: &Value) -> DeviceFlags
     DeviceFlags::from_bits_retain(flag(asynchronous, 1) + flag(wakeup, 2) + flag(suspended, 4))
 }
 
-fn device_of<'v>(device: &'v Value, names: &Places<&'v str>) -> Result<Device, Stop>
-    requires { length names.now ≤ 1000 }
-    ensures { IfOk result (λ d. d ≡ whole_device (texts names.now) (view device.now)) }
+fn device_of<'v>(device: &'v Value, names: &Places<&'v str>) -> Device
+    requires few { length names.now ≤ 1000 }
+    requires fits { HasShortName (view device.now) }
+    ensures { result ≡ whole_device (texts names.now) (view device.now) }
 {
-    let name = name_of_text(text_at(device, "name"))?;
-    Ok(Device {
-        name,
+    Device {
+        name: name_of_text(text_at(device, "name")),
         parent: parent_of(device, names),
         flags: flags_of(device),
-    })
+    }
 }
 
 pub(crate) fn devices_of<'v>(
     alloc: Global,
     devices: &'v [Value],
     names: &Places<&'v str>,
-) -> Result<Vec<Device>, Stop>
-    requires { length names.now ≤ 1000 }
+) -> Result<Vec<Device>, Mem>
+    requires few { length names.now ≤ 1000 }
+    requires fit { All HasShortName (map view devices.now) }
     ensures { IfOk result (λ v. v.items ≡ map (whole_device (texts names.now)) (map view devices.now)) }
 {
     let mut all = Vec::with_capacity(alloc, devices.len())?;
     for device in devices {
-        all.push(device_of(device, names)?)?;
+        all.push(device_of(device, names))?;
     }
     Ok(all)
 }
 
-fn priority_of(notifier: &Value) -> Result<i32, Stop>
-    ensures { IfOk result (λ p. p ≡ priority_of (view notifier.now)) }
+// A number from -1000 to 1000.
+fn near_of(value: &Value) -> i32
+    requires { is_near 1000 (view value.now) ≡ true }
+    ensures { option_and_then as_integer (as_number (view value.now)) ≡ Some result }
 {
-    match notifier.get("priority") {
-        Some(value) => match value.as_i64() {
-            Some(number) => i32::try_from(number).map_err(|_| Stop::Odd),
-            None => Err(Stop::Odd),
-        },
-        None => Ok(0),
+    match value.as_i64() {
+        Some(number) => number as i32,
+        None => unreachable!(),
     }
 }
 
-fn notifier_of(notifier: &Value) -> Result<Notifier, Stop>
-    ensures { IfOk result (λ n. n ≡ whole_notifier (view notifier.now)) }
+fn priority_of(notifier: &Value) -> i32
+    requires { may_have (codes "priority") (is_near 1000) (view notifier.now) ≡ true }
+    ensures { result ≡ priority_of (view notifier.now) }
 {
-    let name = name_of_text(text_at(notifier, "name"))?;
-    let priority = priority_of(notifier)?;
-    Ok(Notifier { name, priority })
+    match notifier.get("priority") {
+        Some(value) => near_of(value),
+        None => 0,
+    }
+}
+
+fn notifier_of(notifier: &Value) -> Notifier
+    requires { FitsNotifier (view notifier.now) }
+    ensures { result ≡ whole_notifier (view notifier.now) }
+{
+    Notifier {
+        name: name_of_text(text_at(notifier, "name")),
+        priority: priority_of(notifier),
+    }
 }
 
 /// The notifiers that these values spell.
-pub(crate) fn notifiers_of(alloc: Global, notifiers: &[Value]) -> Result<Vec<Notifier>, Stop>
+pub(crate) fn notifiers_of(alloc: Global, notifiers: &[Value]) -> Result<Vec<Notifier>, Mem>
+    requires { All FitsNotifier (map view notifiers.now) }
     ensures { IfOk result (λ v. v.items ≡ map whole_notifier (map view notifiers.now)) }
 {
     let mut all = Vec::with_capacity(alloc, notifiers.len())?;
     for notifier in notifiers {
-        all.push(notifier_of(notifier)?)?;
+        all.push(notifier_of(notifier))?;
     }
     Ok(all)
 }

@@ -1,15 +1,15 @@
 //! The machine that a file spells, where it keeps the rules.
 
-ghost use Rattle.std.specs.Prelude.{◌≡◌, [], map, codes, unwrap_or, IfOk};
-ghost use Rattle.std.specs.List.{list_all};
+ghost use Rattle.std.specs.Prelude.{◌≡◌, map, codes, IfOk};
 ghost use Rattle.serde_json.specs.View.{view};
-ghost use Rattle.machine_file.specs.Members.{list_in, number_at};
+ghost use Rattle.machine_file.specs.Members.{list_in};
 ghost use Rattle.machine_file.specs.Names.{texts_in, sources_named};
 ghost use Rattle.machine_file.specs.Devices.{whole_devices, whole_links};
 ghost use Rattle.machine_file.specs.Operations.{whole_marks, whole_scripts};
 ghost use Rattle.machine_file.specs.Answering.{whole_answers};
 ghost use Rattle.machine_file.specs.Whole.{whole_notifier, whole_machine};
-ghost use Rattle.machine_file.specs.Knows.{Knows, AreFew, texts};
+ghost use Rattle.machine_file.specs.Knows.{Knows, AreFew};
+ghost use Rattle.machine_file.specs.Fitting.{FitsFile};
 ghost use Rattle.machine_file.specs.Kept.{IsSound};
 ghost use Rattle.machine_file.specs.Reading.{Reads};
 
@@ -17,28 +17,29 @@ use crate::ReadMachine;
 use crate::cycles::{Added, Linking};
 use crate::known::Known;
 use crate::look::number_at;
-use crate::machine::is_markless;
 use crate::place::{Member, items};
 use crate::replies::answers_of;
 use crate::scripts::{scripts_of, small_or};
-use crate::stop::Stop;
 use crate::texts::names_of_texts;
 use crate::things::{devices_of, notifiers_of};
 use serde_json::Value;
+use sleep_base::Mem;
 use sleep_model::{Answer, Device, Link, ListOf, Machine, Name, Notifier, Script};
 use std::alloc::Global;
 
-fn devices_in<'v>(alloc: Global, tree: &'v Value, known: &Known<'v>) -> Result<Vec<Device>, Stop>
+fn devices_in<'v>(alloc: Global, tree: &'v Value, known: &Known<'v>) -> Result<Vec<Device>, Mem>
     requires knows { Knows known.now (view tree.now) }
     requires few { AreFew known.now }
+    requires fits { FitsFile (view tree.now) }
     ensures { IfOk result (λ v. v.items ≡ whole_devices (view tree.now)) }
 {
     let devices = devices_of(alloc, items(tree, Member::Devices), &known.devices)?;
     Ok(devices)
 }
 
-fn syscore_in<'v>(alloc: Global, tree: &'v Value, known: &Known<'v>) -> Result<Vec<Name>, Stop>
-    requires { Knows known.now (view tree.now) }
+fn syscore_in<'v>(alloc: Global, tree: &'v Value, known: &Known<'v>) -> Result<Vec<Name>, Mem>
+    requires knows { Knows known.now (view tree.now) }
+    requires fits { FitsFile (view tree.now) }
     ensures { IfOk result (λ v. v.items ≡ texts_in (codes "syscore") (view tree.now)) }
 {
     let _ = tree;
@@ -46,15 +47,17 @@ fn syscore_in<'v>(alloc: Global, tree: &'v Value, known: &Known<'v>) -> Result<V
     Ok(names)
 }
 
-fn notifiers_in(alloc: Global, tree: &Value) -> Result<Vec<Notifier>, Stop>
+fn notifiers_in(alloc: Global, tree: &Value) -> Result<Vec<Notifier>, Mem>
+    requires { FitsFile (view tree.now) }
     ensures { IfOk result (λ v. v.items ≡ map whole_notifier (list_in (codes "notifiers") (view tree.now))) }
 {
     let notifiers = notifiers_of(alloc, items(tree, Member::Notifiers))?;
     Ok(notifiers)
 }
 
-fn sources_in<'v>(alloc: Global, tree: &'v Value, known: &Known<'v>) -> Result<Vec<Name>, Stop>
-    requires { Knows known.now (view tree.now) }
+fn sources_in<'v>(alloc: Global, tree: &'v Value, known: &Known<'v>) -> Result<Vec<Name>, Mem>
+    requires knows { Knows known.now (view tree.now) }
+    requires fits { FitsFile (view tree.now) }
     ensures { IfOk result (λ v. v.items ≡ sources_named (view tree.now)) }
 {
     let _ = tree;
@@ -62,19 +65,30 @@ fn sources_in<'v>(alloc: Global, tree: &'v Value, known: &Known<'v>) -> Result<V
     Ok(names)
 }
 
-fn scripts_in<'v>(alloc: Global, tree: &'v Value, known: &Known<'v>) -> Result<Vec<Script>, Stop>
+fn marks_of<'v>(alloc: Global, tree: &'v Value, known: &Known<'v>) -> Result<Vec<Name>, Mem>
+    requires knows { Knows known.now (view tree.now) }
+    requires fits { FitsFile (view tree.now) }
+    ensures { IfOk result (λ v. v.items ≡ whole_marks (view tree.now)) }
+{
+    let _ = tree;
+    let names = names_of_texts(alloc, known.marks.keys())?;
+    Ok(names)
+}
+
+fn scripts_in<'v>(alloc: Global, tree: &'v Value, known: &Known<'v>) -> Result<Vec<Script>, Mem>
     requires knows { Knows known.now (view tree.now) }
     requires few { AreFew known.now }
-    requires markless { whole_marks (view tree.now) ≡ [] }
+    requires fits { FitsFile (view tree.now) }
     ensures { IfOk result (λ v. v.items ≡ whole_scripts (view tree.now)) }
 {
     let scripts = scripts_of(alloc, items(tree, Member::Actors), known)?;
     Ok(scripts)
 }
 
-fn answers_in<'v>(alloc: Global, tree: &'v Value, known: &Known<'v>) -> Result<Vec<Answer>, Stop>
+fn answers_in<'v>(alloc: Global, tree: &'v Value, known: &Known<'v>) -> Result<Vec<Answer>, Mem>
     requires knows { Knows known.now (view tree.now) }
     requires few { AreFew known.now }
+    requires fits { FitsFile (view tree.now) }
     ensures { IfOk result (λ v. v.items ≡ whole_answers (view tree.now)) }
 {
     let answers = answers_of(alloc, items(tree, Member::Answers), known)?;
@@ -87,33 +101,30 @@ fn machine_of<'v>(
     tree: &'v Value,
     known: &Known<'v>,
     links: Vec<Link>,
-) -> Result<Machine, Stop>
+) -> Result<Machine, Mem>
     requires knows { Knows known.now (view tree.now) }
     requires few { AreFew known.now }
     requires links { links.items ≡ whole_links (view tree.now) }
+    requires fits { FitsFile (view tree.now) }
     ensures { IfOk result (λ m. m ≡ whole_machine (view tree.now)) }
 {
-    if !is_markless(tree) {
-        return Err(Stop::Odd);
-    }
-    let cpus = small_or(tree, "cpus", 1)?;
-    let auto_cycles = small_or(tree, "auto_cycles", 16)?;
     let devices = devices_in(alloc, tree, known)?;
     let syscore = syscore_in(alloc, tree, known)?;
     let notifiers = notifiers_in(alloc, tree)?;
     let sources = sources_in(alloc, tree, known)?;
+    let marks = marks_of(alloc, tree, known)?;
     let actors = scripts_in(alloc, tree, known)?;
     let answers = answers_in(alloc, tree, known)?;
     Ok(Machine {
         alarm_ms: number_at(tree, "alarm_ms").unwrap_or(1000),
-        cpus,
-        auto_cycles,
+        cpus: small_or(tree, "cpus", 1),
+        auto_cycles: small_or(tree, "auto_cycles", 16),
         devices: ListOf::of_vec(devices),
         links: ListOf::of_vec(links),
         syscore: ListOf::of_vec(syscore),
         notifiers: ListOf::of_vec(notifiers),
         sources: ListOf::of_vec(sources),
-        marks: ListOf::of_vec(Vec::new(alloc)),
+        marks: ListOf::of_vec(marks),
         actors: ListOf::of_vec(actors),
         answers: ListOf::of_vec(answers),
     })
@@ -125,7 +136,7 @@ pub(crate) fn read_of<'v>(
     tree: &'v Value,
     known: &Known<'v>,
     linking: Linking,
-) -> Result<ReadMachine, Stop>
+) -> Result<ReadMachine, Mem>
     requires { IsSound (view tree.now) known.now linking }
     ensures { IfOk result (λ r. Reads (view tree.now) r) }
 {

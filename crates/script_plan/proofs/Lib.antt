@@ -1,1 +1,2 @@
+mod CallsPlanned
 mod Planned

@@ -9,7 +9,7 @@ use Rattle.sleep_model.specs.declared.machine.Script.{Script}
 use Rattle.sleep_model.specs.declared.machine.Step.{Step}
 use Rattle.sleep_model.specs.Scripts.{times_over, operations, makes_entry, entry_steps, pieces_of, pieces, autosleep_pieces}
 use Rattle.sleep_model.specs.Tasks.{is_mem, is_off}
-use Rattle.script_plan.specs.Plans.{round_from, expanded, op_at, ops_of, entry_places, one_or_two, turns_of_autosleep, turns_from, calls_after, calls_before}
+use Rattle.script_plan.specs.Plans.{round_from, expanded, op_at, ops_of, entry_places, one_or_two, turns_of_autosleep, turns_from, calls_after, count_or, calls_before}
 
 -- ---- the operations
 
@@ -79,20 +79,15 @@ places_few s n few = omega (arith, few, sym (length-map (expanded s) (op_at s.st
 
 -- ---- the calls
 
--- the number with that place, or else the last
-abbrev pub turn_or : Option ℕ → ℕ → ℕ
-turn_or None last = last
-turn_or (Some calls) last = calls
-
 -- the calls before a turn of these operations, where so many were made before
-calls_are : (source : ℕ) (ops : List Op) (n k : ℕ) → turn_or (slice_get (turns_from n ops) k) (calls_after n ops) ≡ n + calls_before (flat_map (pieces_of source) ops) k
+calls_are : (source : ℕ) (ops : List Op) (n k : ℕ) → count_or (slice_get (turns_from n ops) k) (calls_after n ops) ≡ n + calls_before (flat_map (pieces_of source) ops) k
 calls_are source [] n k = omega arith
 calls_are source (op.Awake s ∷ ops) n k = calls_are source ops (n + 1) k ∙ omega arith
 calls_are source (op.Relax s ∷ ops) n k = calls_are source ops (n + 1) k ∙ omega arith
 calls_are source (op.Event s ms hard ∷ ops) n k = calls_are source ops (n + 1) k ∙ omega arith
 calls_are source (op.Autosleep text ∷ ops) n k = by_case (λ j b. calls_are source ops (n + b) j) (is_mem text || is_off text) k
   where
-    by_case : ((j b : ℕ) → turn_or (slice_get (turns_from (n + b) ops) j) (calls_after (n + b) ops) ≡ n + b + calls_before (flat_map (pieces_of source) ops) j) → (good : Bool) (k : ℕ) → turn_or (slice_get (turns_of_autosleep n good ++ turns_from (n + one_or_two false good) ops) k) (calls_after (n + one_or_two false good) ops) ≡ n + calls_before (autosleep_pieces source good ++ flat_map (pieces_of source) ops) k
+    by_case : ((j b : ℕ) → count_or (slice_get (turns_from (n + b) ops) j) (calls_after (n + b) ops) ≡ n + b + calls_before (flat_map (pieces_of source) ops) j) → (good : Bool) (k : ℕ) → count_or (slice_get (turns_of_autosleep n good ++ turns_from (n + one_or_two false good) ops) k) (calls_after (n + one_or_two false good) ops) ≡ n + calls_before (autosleep_pieces source good ++ flat_map (pieces_of source) ops) k
     by_case rest true zero = omega arith
     by_case rest true (suc zero) = omega arith
     by_case rest true (suc (suc k)) = rest k 2 ∙ omega arith
@@ -102,8 +97,8 @@ calls_are source (_ ∷ ops) n zero = omega arith
 calls_are source (_ ∷ ops) n (suc k) = calls_are source ops (n + 0) k ∙ omega arith
 
 -- the calls before a turn of a script
-pub planned_calls : (source : ℕ) (s : Script) (k : ℕ) → turn_or (slice_get (turns_from 0 (ops_of s.steps (expanded s))) k) (calls_after 0 (ops_of s.steps (expanded s))) ≡ calls_before (pieces source s) k
-planned_calls source s k = subst (λ ops. turn_or (slice_get (turns_from 0 (ops_of s.steps (expanded s))) k) (calls_after 0 (ops_of s.steps (expanded s))) ≡ calls_before (flat_map (pieces_of source) ops) k) (ops_are s) (calls_are source (ops_of s.steps (expanded s)) 0 k ∙ omega arith)
+pub planned_calls : (source : ℕ) (s : Script) (k : ℕ) → count_or (slice_get (turns_from 0 (ops_of s.steps (expanded s))) k) (calls_after 0 (ops_of s.steps (expanded s))) ≡ calls_before (pieces source s) k
+planned_calls source s k = subst (λ ops. count_or (slice_get (turns_from 0 (ops_of s.steps (expanded s))) k) (calls_after 0 (ops_of s.steps (expanded s))) ≡ calls_before (flat_map (pieces_of source) ops) k) (ops_are s) (calls_are source (ops_of s.steps (expanded s)) 0 k ∙ omega arith)
 
 -- ---- what is read
 
@@ -123,12 +118,7 @@ pub no_operation : (s : Script) (ys : List ℕ) (k : ℕ) → ys ≡ entry_place
 no_operation s ys k same past =
     ap (λ zs. slice_get zs k) (entry_steps_are s) ∙ (slice_get-map (op_at s.steps) (entry_places s.steps (expanded s)) k ∙ ap (option_map (op_at s.steps)) (none_at (entry_places s.steps (expanded s)) ys k same past))
 
--- the calls before a turn that are read
-pub calls_some : (source : ℕ) (s : Script) (ys : List ℕ) (k n : ℕ) → ys ≡ turns_from 0 (ops_of s.steps (expanded s)) → k < length ys → n ≡ slice_index_or ys k n → n ≡ calls_before (pieces source s) k
-calls_some source s ys k n same within read =
-    sym (ap (λ o. turn_or o (calls_after 0 (ops_of s.steps (expanded s)))) (some_at (turns_from 0 (ops_of s.steps (expanded s))) ys k n same within read)) ∙ planned_calls source s k
-
--- behind the last turn all calls are made
-pub calls_none : (source : ℕ) (s : Script) (ys : List ℕ) (k n : ℕ) → ys ≡ turns_from 0 (ops_of s.steps (expanded s)) → length ys ≤ k → n ≡ calls_after 0 (ops_of s.steps (expanded s)) → n ≡ calls_before (pieces source s) k
-calls_none source s ys k n same past are =
-    are ∙ (sym (ap (λ o. turn_or o (calls_after 0 (ops_of s.steps (expanded s)))) (none_at (turns_from 0 (ops_of s.steps (expanded s))) ys k same past)) ∙ planned_calls source s k)
+-- the calls before a turn, as they are counted
+pub counted_calls : (source : ℕ) (s : Script) (ys : List ℕ) (k n last : ℕ) → ys ≡ turns_from 0 (ops_of s.steps (expanded s)) → last ≡ calls_after 0 (ops_of s.steps (expanded s)) → n ≡ count_or (slice_get ys k) last → n ≡ calls_before (pieces source s) k
+counted_calls source s ys k n last turns all are =
+    are ∙ (ap (λ (zs : List ℕ). count_or (slice_get zs k) last) turns ∙ (ap (count_or (slice_get (turns_from 0 (ops_of s.steps (expanded s))) k)) all ∙ planned_calls source s k))

@@ -1,2 +1,4 @@
+pub mod CallPlanFields
+pub mod CallPlans
 pub mod PlanFields
 pub mod Plans

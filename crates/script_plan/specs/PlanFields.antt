@@ -12,8 +12,8 @@ planned p = p.script.now
 pub record IsPlan (p : Inside) : Type 0 where
   pub entry_places_are : p.entry_places.items ≡ entry_places p.script.now.steps (expanded p.script.now)
   pub within : All (λ at. at < length p.script.now.steps) p.entry_places.items
-  pub turns_are : p.calls.before_turns.items ≡ turns_from 0 (ops_of p.script.now.steps (expanded p.script.now))
-  pub calls_are : p.calls.all ≡ calls_after 0 (ops_of p.script.now.steps (expanded p.script.now))
+  pub turns_are : p.counts.before_turns.items ≡ turns_from 0 (ops_of p.script.now.steps (expanded p.script.now))
+  pub calls_are : p.counts.all ≡ calls_after 0 (ops_of p.script.now.steps (expanded p.script.now))
 
 -- the fields are counted from the script's steps
 abbrev pub keeps : Inside → Type 0

@@ -70,6 +70,11 @@ abbrev pub calls_after : ℕ → List Op → ℕ
 calls_after before [] = before
 calls_after before (op ∷ ops) = calls_after (before + calls_in op) ops
 
+-- the number that was found, or else the last (own)
+abbrev pub count_or : Option ℕ → ℕ → ℕ
+count_or None last = last
+count_or (Some calls) last = calls
+
 -- how many calls stand before the turn with number k, from 0, or before the end
 abbrev pub calls_before : List Piece → ℕ → ℕ
 calls_before [] k = 0

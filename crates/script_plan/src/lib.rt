@@ -2,9 +2,11 @@
 //! once.
 #![tactic(auto)]
 
+mod call_plan;
 mod expand;
 mod plan;
 #[cfg(test)]
 mod tests;
 
+pub use call_plan::CallPlan;
 pub use plan::Plan;

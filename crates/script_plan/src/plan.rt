@@ -17,7 +17,7 @@ fn makes_entry(op: &Op) -> bool
 }
 
 /// The operation at that place.
-fn op_at(steps: &[Step], at: usize) -> &Op
+pub(crate) fn op_at(steps: &[Step], at: usize) -> &Op
     requires { at < length steps.now }
     ensures { result.now ≡ op_at steps.now at }
 {
@@ -68,13 +68,28 @@ fn push_turns(turns: &mut Vec<u32>, before: u32, op: &Op) -> Result<(), Mem>
 
 /// How many calls stand before each turn of a script, and how many it makes in all.
 #[derive(Drop)]
-struct Calls {
+pub(crate) struct Counts {
     before_turns: Vec<u32>,
     all: u32,
 }
 
+impl Counts {
+    ghost use Rattle.std.specs.Prelude.{slice_get};
+    ghost use Rattle.script_plan.specs.Plans.{count_or};
+
+    /// How many calls stand before the turn with that number, or before the end behind the last.
+    pub(crate) fn before_turn(&self, turn: usize) -> u32
+        ensures { result ≡ count_or (slice_get self.now.before_turns.items turn) self.now.all }
+    {
+        match self.before_turns.get(turn) {
+            Some(calls) => *calls,
+            None => self.all,
+        }
+    }
+}
+
 /// The calls before each turn of the operations at these places.
-fn count_calls(alloc: Global, steps: &[Step], places: &[usize]) -> Result<Calls, Mem>
+pub(crate) fn count_calls(alloc: Global, steps: &[Step], places: &[usize]) -> Result<Counts, Mem>
     requires few { length places.now < 2 ^ 30 }
     requires within { All (λ at. at < length steps.now) places.now }
     ensures turns { IfOk result (λ c. c.before_turns.items ≡ turns_from 0 (ops_of steps.now places.now)) }
@@ -87,7 +102,7 @@ fn count_calls(alloc: Global, steps: &[Step], places: &[usize]) -> Result<Calls,
         push_turns(&mut before_turns, all, op)?;
         all += calls_in(op);
     }
-    Ok(Calls { before_turns, all })
+    Ok(Counts { before_turns, all })
 }
 
 /// A script whose steps are counted once, so that each turn finds its own at once.
@@ -95,7 +110,7 @@ fn count_calls(alloc: Global, steps: &[Step], places: &[usize]) -> Result<Calls,
 pub struct Plan<'m> {
     script: &'m Script,
     entry_places: Vec<usize>,
-    calls: Calls,
+    counts: Counts,
 }
 
 impl<'m> Model for Plan<'m> {
@@ -125,7 +140,7 @@ impl<'m> Plan<'m> {
         Ok(Plan {
             script,
             entry_places: entry_places(alloc, steps, &places)?,
-            calls: count_calls(alloc, steps, &places)?,
+            counts: count_calls(alloc, steps, &places)?,
         })
     }
 
@@ -142,9 +157,6 @@ impl<'m> Plan<'m> {
     pub fn calls_before(&self, turn: usize) -> u32
         ensures { (source : ℕ) → result ≡ calls_before (pieces source self.now) turn }
     {
-        match self.calls.before_turns.get(turn) {
-            Some(calls) => *calls,
-            None => self.calls.all,
-        }
+        self.counts.before_turn(turn)
     }
 }

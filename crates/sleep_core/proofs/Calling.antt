@@ -1,6 +1,5 @@
 -- The calls of a script by the turns that it has ended.
-use Rattle.std.proofs.Common.{◌≡◌, ◌∙◌, ◌<◌, ◌+◌, ◌==◌, ◌&&◌, ◌||◌, ◌++◌, ◌⊎◌, inl, inr, ℕ, zero, suc, Bool, true, false, List, [], ◌∷◌, length, replicate, slice_get, slice_index_or, slice_set, refl, sym, ap, subst, length-append, arith}
-use Rattle.std.proofs.lemmas.Bool.{true≢false}
+use Rattle.std.proofs.Common.{◌≡◌, ◌∙◌, ◌<◌, ◌+◌, ◌==◌, ◌&&◌, ◌||◌, ◌++◌, ◌⊎◌, inl, inr, ℕ, zero, suc, Bool, true, false, List, [], ◌∷◌, length, replicate, slice_get, slice_index_or, slice_set, refl, sym, ap, ap₂, subst, length-append, arith}
 use Rattle.std.proofs.lemmas.Bool.Decides.{nat_tests}
 use Rattle.sleep_model.specs.declared.entry.Actor.{Actor}
 use Rattle.sleep_model.specs.declared.entry.Actor.TheVariants as actor
@@ -9,16 +8,16 @@ use Rattle.sleep_model.specs.declared.entry.Kind.{Kind}
 use Rattle.sleep_model.specs.declared.entry.Kind.TheVariants as kind
 use Rattle.sleep_model.specs.declared.machine.Machine.{Machine}
 use Rattle.sleep_model.specs.declared.place.Seat.{Seat}
-use Rattle.std.specs.Prelude.{nat_le}
-use Rattle.std.specs.List.{list_all}
-use Rattle.sleep_model.specs.Built.{is_built, is_built_script, is_silent}
 use Rattle.sleep_model.specs.Calls.{calls_at, calls_due, ends_step, ends_turn, is_setting, one_more, pieces_if, pieces_in, turns_ended}
 use Rattle.sleep_model.specs.Path.{is_same}
 use Rattle.sleep_model.specs.declared.machine.Script.{Script}
 use Rattle.sleep_model.specs.Scripts.{Piece, Calls, Turns, pieces}
 use Rattle.sleep_model.specs.Seats.{SeatPart, Waits, Sets, Sleeps, Reads, Saves, Steps, Exits, Stays, first_seat, seat_at, seat_part, seat_after, seats_after, seats}
 use Rattle.script_plan.specs.Plans.{calls_before}
-use Rattle.log_grows.proofs.Planning.{AreSilent, calls_until, calls_are, no_calls}
+use Rattle.log_grows.proofs.Planning.{calls_until, calls_counted}
+use Rattle.sleep_core.specs.Cores.{IsActor}
+use Rattle.sleep_core.specs.Reports.{reported_by, counts_of}
+use Rattle.sleep_core.proofs.Reporting.{reported_is}
 use Rattle.sleep_core.proofs.Seated.{seats_len, first_seats}
 
 -- ---- a script's place counts the turns that it has ended
@@ -101,35 +100,21 @@ until_before : (ps : List Piece) (k : ℕ) → length (calls_until ps k) ≡ cal
 until_before ps zero = before_first ps
 until_before ps (suc k) = length-append (calls_until ps k) (calls_at ps (suc k)) ∙ (ap (λ n. n + length (calls_at ps (suc k))) (until_before ps k) ∙ before_next ps k)
 
--- a script has to have made the calls that stand before its turn
-script_calls : (m : Machine) → AreSilent m → (i : ℕ) (past : List Entry) → i < length m.actors
-    → calls_before (pieces_in m i) (seat_at (seats (length m.actors) past) i).turns ≡ calls_due m (actor.Script i) past
-script_calls m silent i past l =
-    ap (calls_before (pieces_in m i)) (turns_are (length m.actors) i past l)
-    ∙ (sym (until_before (pieces_in m i) (turns_ended (actor.Script i) past)) ∙ ap length (sym (calls_are m silent i past)))
+-- a script has to have made the calls that stand before its turn, and what its callbacks have reported
+pub script_calls_due : (m : Machine) (i : ℕ) (past : List Entry) (calls reported : ℕ) → i < length m.actors
+    → calls ≡ calls_before (pieces_in m i) (seat_at (seats (length m.actors) past) i).turns → reported ≡ reported_by (actor.Script i) (counts_of m past) → calls + reported ≡ calls_due m (actor.Script i) past
+script_calls_due m i past calls reported l by_turn by_report =
+    let turns = turns_ended (actor.Script i) past in
+    let here : calls ≡ length (calls_until (pieces_in m i) turns) = by_turn ∙ (ap (calls_before (pieces_in m i)) (turns_are (length m.actors) i past l) ∙ sym (until_before (pieces_in m i) turns)) in
+    ap₂ (λ a b. a + b) here (by_report ∙ reported_is m past (actor.Script i) l) ∙ sym (calls_counted m (actor.Script i) past)
 
--- ---- machines that are built
-
-last_of : (a b : Bool) → (a && b) ≡ true → b ≡ true
-last_of true b h = h
-last_of false b h = absurd (true≢false (sym h))
-
--- no callback of theirs reports anything
-silent : (m : Machine) → is_built m ≡ true → AreSilent m
-silent m h = last_of (nat_le (length m.sources) 1 && is_built_script m.actors) (list_all (λ a. is_silent a.reports) m.answers) h
-
--- so a script has to have made the calls that stand before its turn
-pub script_calls_due : (m : Machine) (i : ℕ) (past : List Entry) (calls : ℕ) → is_built m ≡ true → i < length m.actors
-    → calls ≡ calls_before (pieces_in m i) (seat_at (seats (length m.actors) past) i).turns → calls ≡ calls_due m (actor.Script i) past
-script_calls_due m i past calls built l e = e ∙ script_calls m (silent m built) i past l
-
--- and nobody else makes any
-pub no_calls_due : (m : Machine) (past : List Entry) (who : Actor) → is_built m ≡ true → ((i : ℕ) → who ≡ actor.Script i → ⊥) → 0 ≡ calls_due m who past
-no_calls_due m past (actor.Script i) built not = absurd (not i refl)
-no_calls_due m past actor.Auto built not = ap length (sym (no_calls m (silent m built) actor.Auto refl past))
-no_calls_due m past (actor.Dev d) built not = ap length (sym (no_calls m (silent m built) (actor.Dev d) refl past))
-no_calls_due m past (actor.Timer s) built not = ap length (sym (no_calls m (silent m built) (actor.Timer s) refl past))
-no_calls_due m past actor.Time built not = ap length (sym (no_calls m (silent m built) actor.Time refl past))
+-- and another actor what its callbacks have reported
+pub other_calls_due : (m : Machine) (past : List Entry) (who : Actor) (reported : ℕ) → IsActor m who → ((i : ℕ) → who ≡ actor.Script i → ⊥) → reported ≡ reported_by who (counts_of m past) → reported ≡ calls_due m who past
+other_calls_due m past (actor.Script i) reported is not by_report = absurd (not i refl)
+other_calls_due m past actor.Auto reported is not by_report = omega (arith, by_report, reported_is m past actor.Auto is, calls_counted m actor.Auto past)
+other_calls_due m past (actor.Dev d) reported is not by_report = omega (arith, by_report, reported_is m past (actor.Dev d) is, calls_counted m (actor.Dev d) past)
+other_calls_due m past (actor.Timer s) reported is not by_report = absurd is
+other_calls_due m past actor.Time reported is not by_report = absurd is
 
 pieces_here : (source i : ℕ) (ss : List Script) (s : Script) → i < length ss → s ≡ slice_index_or ss i s → pieces source s ≡ pieces_if source (slice_get ss i)
 pieces_here source i [] s l e = absurd (omega (arith, l))

@@ -1,8 +1,9 @@
 pub mod Calling
 mod Counted
 mod Frozen
-mod Looking
 mod Propers
+mod Reporting
+mod Sampled
 mod Seated
 mod Turning
 mod Walks

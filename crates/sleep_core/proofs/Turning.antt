@@ -14,7 +14,6 @@ use Rattle.sleep_model.specs.declared.place.Stage.{Stage}
 use Rattle.sleep_model.specs.declared.word.EventNow.{EventNow}
 use Rattle.sleep_model.specs.declared.word.Stamp.{Stamp}
 use Rattle.sleep_model.specs.Accepted.{IsAccepted}
-use Rattle.sleep_model.specs.Built.{is_built}
 use Rattle.sleep_model.specs.Attempt.{freeze_since, freeze_since_after, sleep_of, sleep_after, unless_busy}
 use Rattle.sleep_model.specs.Devices.{is_device}
 use Rattle.sleep_model.specs.Due.{due}
@@ -174,7 +173,6 @@ core_more h reserved new j own core is makes at leaves own_is has new_is =
     let early : j.entry.time ≤ 2 ^ 63 = subst (λ t. t ≤ 2 ^ 63) (sym at) core.early in
     subst IsCore (sym here) (record {
       accepted = core.accepted;
-      built = core.built;
       legal = legal_more m past core.legal j.entry is makes at;
       room = omega (arith, suffices.rest);
       few = leaves.attempts;
@@ -220,7 +218,6 @@ core_jumped h reserved new s t now core machine past room later small new_is =
     let here : new ≡ kept = new_is ∙ (ap (λ (x : Machine). record { machine = x; past = j ∷ reserved.past; room = reserved.room - 1 }) machine ∙ ap (λ (xs : List JournalEntry). record { machine = h.machine; past = j ∷ xs; room = reserved.room - 1 }) past) in
     subst IsCore (sym here) (record {
       accepted = core.accepted;
-      built = core.built;
       legal = ((refl, later), core.legal);
       room = omega (arith, jump_needs_nothing h.machine (entries h.past) core.legal t now, core.room, room);
       few = core.few;
@@ -232,10 +229,9 @@ core_jumped h reserved new s t now core machine past room later small new_is =
 -- ---- the beginning
 
 -- the core before its first entry
-pub core_empty : (m : Machine) → IsAccepted m → is_built m ≡ true → IsCore (record { machine = m; past = []; room = 0 })
-core_empty m accepted built = record {
+pub core_empty : (m : Machine) → IsAccepted m → IsCore (record { machine = m; past = []; room = 0 })
+core_empty m accepted = record {
   accepted = accepted;
-  built = built;
   legal = tt;
   room = omega (arith, none_needed m [] tt refl);
   few = omega arith;

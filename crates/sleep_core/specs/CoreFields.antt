@@ -1,10 +1,9 @@
 -- What the core keeps: a legal journal, with room for what its open attempt needs.
-use Rattle.std.specs.Prelude.{◌≡◌, ◌≤◌, ◌<◌, ◌+◌, ◌^◌, ℕ, true, length, map, Option, Some, None}
+use Rattle.std.specs.Prelude.{◌≡◌, ◌≤◌, ◌<◌, ◌+◌, ◌^◌, ℕ, length, map, Option, Some, None}
 use Rattle.sleep_model.specs.declared.machine.Machine.{Machine}
 use Rattle.sleep_model.specs.declared.place.Sleep.{Sleep}
 use Rattle.sleep_model.specs.Accepted.{IsAccepted}
 use Rattle.sleep_model.specs.Attempt.{freeze_since, sleep_of}
-use Rattle.sleep_model.specs.Built.{is_built}
 use Rattle.sleep_model.specs.Legal.{JournalPart}
 use Rattle.sleep_model.specs.Numbers.{time_of}
 use Rattle.sleep_model.specs.Path.{attempts}
@@ -14,6 +13,7 @@ use Rattle.sleep_state.specs.Places.{entries}
 use Rattle.sleep_core.specs.declared.state.Core.TheInside.{Inside}
 use Rattle.sleep_core.specs.Cores.{CoreState}
 use Rattle.sleep_core.specs.Histories.{Kept}
+use Rattle.sleep_core.specs.Reports.{counts_of}
 
 -- a machine that sleeps does so since an early moment
 abbrev pub SleptEarly : Option Sleep → Type 0
@@ -28,7 +28,6 @@ FrozeEarly (Some since) = since ≤ 2 ^ 63
 -- the history is a legal journal of an accepted machine, with room for what its open attempt needs, and its numbers stay small
 pub record IsCore (h : Kept) : Type 0 where
   pub accepted : IsAccepted h.machine
-  pub built : is_built h.machine ≡ true
   pub legal : JournalPart h.machine (entries h.past)
   pub room : needed h.machine (entries h.past) ≤ h.room
   pub few : attempts (entries h.past) + 1 < 2 ^ 32
@@ -40,12 +39,13 @@ pub record IsCore (h : Kept) : Type 0 where
 abbrev pub state : Inside → CoreState
 state c = record { machine = c.history.machine; past = c.history.past }
 
--- what holds of a core between calls: it has each script's plan and the machine's answers, and keeps its history
+-- what holds of a core between calls: it has each script's plan and the machine's answers, keeps its history, and counts the reports of callbacks
 pub record IsWhole (c : Inside) : Type 0 where
   pub core : IsCore c.history
   pub plans_are : c.plans.items ≡ c.history.machine.actors
   pub answers_are : c.answers ≡ c.history.machine.answers
   pub wakeup_is : c.wakeup ≡ map may_wake c.history.machine.devices
+  pub reports_are : c.reports ≡ counts_of c.history.machine (entries c.history.past)
 
 -- what holds of a core between calls
 abbrev pub keeps : Inside → Type 0

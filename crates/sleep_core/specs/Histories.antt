@@ -76,6 +76,7 @@ board_of m past = record {
 -- where each script stands
 abbrev pub tasks_of : Machine → List Entry → TaskState
 tasks_of m past = record {
+  scripts = m.actors;
   seats = seats (length m.actors) past;
   freezings = freezings m.actors past;
   marks = raised (length m.marks) past;

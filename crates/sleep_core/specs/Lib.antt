@@ -2,8 +2,10 @@ pub mod CoreFields
 pub mod Cores
 pub mod Histories
 pub mod HistoryFields
-pub mod Looks
 pub mod Numbered
+pub mod ReportFields
+pub mod Reports
+pub mod Samples
 pub mod Seen
 pub mod Stages
 pub mod Steps

@@ -11,6 +11,7 @@ ghost use Rattle.sleep_model.specs.Notifiers.{next_called, next_posted, next_cpu
 ghost use Rattle.sleep_model.specs.Table.{stage_of, behind};
 ghost use Rattle.sleep_state.specs.Places.{entries};
 ghost use Rattle.sleep_core.specs.Stages.{IsProper};
+ghost use Rattle.sleep_core.specs.Steps.{froze_end};
 
 use crate::state::Core;
 use sleep_base::Errno;
@@ -36,25 +37,32 @@ impl<'m> Core<'m> {
         }
     }
 
-    /// A freeze of a group that goes on since that time.
+    /// How a freeze of a group ends that does not wait any longer: with all frozen, else too late or not.
+    fn froze_end(&self, group: Group, late: bool) -> FrozeEnd
+        ensures { result ≡ froze_end late (left self.now.machine group (entries self.now.past)) }
+    {
+        let left = self.left(group);
+        let count = left.count;
+        match left.first {
+            None => FrozeEnd::AllFrozen,
+            Some(first) if late => FrozeEnd::Timeout { left: count, first },
+            Some(first) => FrozeEnd::Wakeup { left: count, first },
+        }
+    }
+
+    /// A freeze of a group that goes on since that time. The tasks that it waits for are counted already,
+    /// and looked for only at its end.
     fn froze_due(&self, now: EventNow, group: Group, since: u64) -> Due
         requires { since ≤ 2 ^ 63 }
         ensures { result ≡ froze_due (entries self.now.past) now group since (left self.now.machine group (entries self.now.past)) }
     {
-        let left = self.left(group);
-        let Some(first) = left.first else {
-            return Due::Makes(Kind::Froze(group, FrozeEnd::AllFrozen));
-        };
-        let left = left.count;
-        if since + 20000 <= self.now() {
-            Due::Makes(Kind::Froze(group, FrozeEnd::Timeout { left, first }))
-        } else if self.pending(now) {
-            Due::Makes(Kind::Froze(group, FrozeEnd::Wakeup { left, first }))
+        let left = self.left_count(group);
+        let until = since + 20000;
+        let late = until <= self.now();
+        if left > 0 && !late && !self.pending(now) {
+            Due::Waits(Why::Tasks { left, until })
         } else {
-            Due::Waits(Why::Tasks {
-                left,
-                until: since + 20000,
-            })
+            Due::Makes(Kind::Froze(group, self.froze_end(group, late)))
         }
     }
 

@@ -23,7 +23,7 @@ impl<'m> Core<'m> {
     }
 
     /// What is due of an actor that sees this word.
-    pub(crate) fn due(&self, who: Actor, now: EventNow) -> Due
+    pub fn due(&self, who: Actor, now: EventNow) -> Due
         requires { IsActor self.now.machine who }
         ensures { result ≡ due self.now.machine (entries self.now.past) who now }
     {

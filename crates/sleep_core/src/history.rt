@@ -21,11 +21,11 @@ pub struct History<'m> {
     journal: Journal,
     last: Stamp,
     time: u64,
-    guard: Guard<16>,
+    guard: Guard<24>,
     path: Path,
     devices: Devices,
     board: Board,
-    tasks: Tasks,
+    tasks: Tasks<'m>,
     autosleep: Autosleep,
     platform: Platform,
     syscore: Syscore,
@@ -89,7 +89,7 @@ impl<'m> History<'m> {
             path: Path::new(),
             devices: Devices::new(alloc, devices)?,
             board,
-            tasks: Tasks::new(alloc, machine.actors.len(), machine.marks.len())?,
+            tasks: Tasks::new(alloc, machine.actors.as_slice(), machine.marks.len())?,
             autosleep: Autosleep::new(),
             platform: Platform::new(alloc, machine)?,
             syscore: Syscore::new(alloc, machine.syscore.len() as u32)?,
@@ -113,7 +113,7 @@ impl<'m> History<'m> {
         self.path.note(kind, actor, pos(now), time);
         self.devices.note(kind, actor);
         self.board.note(kind);
-        self.tasks.note(self.machine.actors.as_slice(), actor, kind);
+        self.tasks.note(actor, kind);
         self.autosleep.note(kind, actor);
         self.platform.note(kind);
         self.syscore.note(kind);
@@ -196,7 +196,7 @@ impl<'m> History<'m> {
     }
 
     /// The saved count, and the hard events that are forgotten.
-    pub fn guard(&self) -> &Guard<16>
+    pub fn guard(&self) -> &Guard<24>
         ensures { result.now ≡ guard_of (entries self.now.past) }
     {
         &self.guard
@@ -224,7 +224,7 @@ impl<'m> History<'m> {
     }
 
     /// Where each script stands.
-    pub fn tasks(&self) -> &Tasks
+    pub fn tasks(&self) -> &Tasks<'m>
         ensures { result.now ≡ tasks_of self.now.machine (entries self.now.past) }
     {
         &self.tasks

@@ -5,17 +5,18 @@ mod attempt;
 mod auto;
 mod clock;
 mod due;
-mod events;
 mod history;
 mod outside;
 mod pending;
 mod phases;
+mod reports;
 mod start;
 mod state;
 mod steps;
 mod tasks;
+#[cfg(test)]
+mod tests;
 mod turns;
 
-pub use events::{Events, PlainEvents};
 pub use state::Core;
 pub use turns::{CoreFault, CoreTurn};

@@ -63,17 +63,17 @@ impl<'m> Core<'m> {
         self.plans[script as usize].calls_before(seat.turns)
     }
 
-    /// How many calls on sources the actor has to have made before its next entry of the journal
-    /// (`pm_wakeup_event`, `pm_stay_awake`, `pm_relax`).
-    pub fn calls_due(&self, who: Actor) -> u32
+    /// How many calls on sources the actor has to have made before its next entry of the journal: those of
+    /// a script's own steps, and what its callbacks have reported (`pm_wakeup_event`, `pm_stay_awake`,
+    /// `pm_relax`).
+    pub fn calls_due(&self, who: Actor) -> u64
         requires { IsActor self.now.machine who }
         ensures { result ≡ calls_due self.now.machine who (entries self.now.past) }
     {
-        // A look at the field makes the invariant known here: no callback reports anything.
-        let _ = &self.history;
+        let reported = self.reports.of(who);
         match who {
-            Actor::Script(script) => self.script_calls_due(script),
-            _ => 0,
+            Actor::Script(script) => self.script_calls_due(script) as u64 + reported,
+            _ => reported,
         }
     }
 
@@ -86,7 +86,7 @@ impl<'m> Core<'m> {
             || is_made (due self.now.machine (entries self.now.past) who now)) }
     {
         let _ = time;
-        calls < self.calls_due(who) || matches!(self.due(who, now), Due::Makes(_))
+        (calls as u64) < self.calls_due(who) || matches!(self.due(who, now), Due::Makes(_))
     }
 
     /// The time of the last jump in ms, else 0.

@@ -5,6 +5,7 @@ ghost use Rattle.sleep_model.specs.Places.{all_operations};
 ghost use Rattle.sleep_model.specs.Runtime.{may_wake};
 
 use crate::history::History;
+use crate::reports::Reports;
 use crate::state::Core;
 use answer_book::AnswerBook;
 use device_links::Links;
@@ -38,27 +39,27 @@ fn wakeup_of(alloc: Global, devices: &[Device]) -> Result<Flags, Mem>
 }
 
 impl<'m> Core<'m> {
-    ghost use Rattle.std.specs.Prelude.{◌≡◌, [], true, reverse, IfOk};
+    ghost use Rattle.std.specs.Prelude.{◌≡◌, [], reverse, IfOk};
     ghost use Rattle.sleep_model.specs.Accepted.{IsAccepted};
-    ghost use Rattle.sleep_model.specs.Built.{is_built};
     ghost use Rattle.sleep_model.specs.Order.{parents_of};
 
     /// The core of a machine whose links these are, with nothing done yet. `Mem` where there is no memory.
     pub fn new(alloc: Global, machine: &'m Machine, links: Links) -> Result<Core<'m>, Mem>
         requires accepted { IsAccepted machine.now }
-        requires built { is_built machine.now ≡ true }
         requires links { links ≡ record { parents = parents_of machine.now.devices; links = reverse machine.now.links } }
         ensures { IfOk result (λ c. c ≡ record { machine = machine.now; past = [] }) }
     {
         let plans = plans_of(alloc, machine.actors.as_slice())?;
         let answers = AnswerBook::new(alloc, machine.answers.as_slice())?;
         let wakeup = wakeup_of(alloc, machine.devices.as_slice())?;
+        let reports = Reports::new(alloc, machine.actors.len(), machine.devices.len())?;
         let history = History::new(alloc, machine, links)?;
         Ok(Core {
             history,
             plans,
             answers,
             wakeup,
+            reports,
         })
     }
 }

@@ -1,4 +1,5 @@
 use crate::history::History;
+use crate::reports::Reports;
 use answer_book::AnswerBook;
 use async_board::Board;
 use device_rows::Flags;
@@ -17,6 +18,8 @@ pub struct Core<'m> {
     pub(crate) answers: AnswerBook<'m>,
     // Which devices may wake the machine.
     pub(crate) wakeup: Flags,
+    // The calls on sources that callbacks have reported.
+    pub(crate) reports: Reports,
 }
 
 impl<'m> Model for Core<'m> {
@@ -153,13 +156,18 @@ impl<'m> Core<'m> {
         self.history.path().stage()
     }
 
+    /// How many tasks a freeze of the group still waits for.
+    pub(crate) fn left_count(&self, group: Group) -> u32
+        ensures { result ≡ length (left self.now.machine group (entries self.now.past)) }
+    {
+        self.history.tasks().left_count(group)
+    }
+
     /// The tasks that a freeze of the group still waits for.
     pub(crate) fn left(&self, group: Group) -> Left
         ensures { IsLeft result (left self.now.machine group (entries self.now.past)) }
     {
-        self.history
-            .tasks()
-            .left(self.machine().actors.as_slice(), group)
+        self.history.tasks().left(group)
     }
 
     /// How long a sleep lasts that no event ends, in ms.

@@ -11,11 +11,11 @@ use sleep_base::Errno;
 use sleep_model::{Due, EventNow, Kind, Op, Seat, State, TaskKind, Why};
 use sleep_state::is_autosleep_text;
 
-/// The count that user space sees: the registered events modulo 65,536 (`pm_get_wakeup_count`).
+/// The count that user space sees: the registered events modulo 16,777,216 (`pm_get_wakeup_count`).
 pub(crate) fn visible(now: EventNow) -> u32
     ensures { result ≡ visible now }
 {
-    now.count % 65536
+    now.count % 16777216
 }
 
 /// A read of the count of events (`pm_get_wakeup_count`).

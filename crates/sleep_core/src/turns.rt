@@ -4,7 +4,7 @@ ghost use Rattle.std.specs.Prelude.{◌≡◌, ◌≤◌, ◌<◌, ◌+◌, ◌^
 ghost use Rattle.std.specs.Bool.{OnTrue, OnFalse};
 ghost use Rattle.sleep_model.specs.declared.place.Due.TheVariants.{Makes};
 ghost use Rattle.sleep_model.specs.declared.word.EventNow.{EventNow};
-ghost use Rattle.sleep_model.specs.Calls.{calls_due};
+ghost use Rattle.sleep_model.specs.Calls.{calls_due, report_calls};
 ghost use Rattle.sleep_model.specs.Devices.{is_device};
 ghost use Rattle.sleep_model.specs.Due.{due};
 ghost use Rattle.sleep_model.specs.Legal.{JournalPart};
@@ -17,14 +17,14 @@ ghost use Rattle.sleep_model.specs.Word.{position};
 ghost use Rattle.sleep_state.specs.Places.{entries};
 ghost use Rattle.sleep_core.specs.Cores.{IsActor, with_entry, next_stamp, jump_entry};
 ghost use Rattle.sleep_core.specs.Histories.{last_stamp};
-ghost use Rattle.sleep_core.specs.Looks.{IsTold, GrewTo};
+ghost use Rattle.event_word.specs.Looks.{IsTold, GrewTo};
 ghost use Rattle.sleep_core.specs.Numbered.{Leaves, IsCounted};
 ghost use Rattle.sleep_core.specs.Turned.{AfterTurn};
 
-use crate::events::{Events, look_from};
 use crate::state::Core;
+use event_word::{Events, look_from};
 use sleep_base::Mem;
-use sleep_model::{Actor, Due, Entry, EventNow, JournalEntry, Kind, Stamp, Why, pos};
+use sleep_model::{Actor, Due, Entry, EventNow, JournalEntry, Kind, Stamp, What, Why, pos};
 use std::sync::Wait;
 
 /// What a turn did.
@@ -121,11 +121,25 @@ impl<'m> Core<'m> {
         self.is_maker(who) || is_device(who)
     }
 
+    /// How many calls on sources the callback reports that an entry begins.
+    fn reports_in(&self, kind: Kind) -> u32
+        ensures { result ≡ length (report_calls self.now.machine (attempts (entries self.now.past)) kind) }
+    {
+        match kind {
+            Kind::Begin(phase, device) => {
+                let what = What::Device(device, phase);
+                self.answers.reports(what, self.attempts()).len() as u32
+            }
+            _ => 0,
+        }
+    }
+
     /// Makes the entry that is due. `Mem` where there is no memory for it, or no number; never for the maker
     /// of the open attempt, nor for a device.
     fn make(&mut self, who: Actor, now: EventNow, kind: Kind, stamp: Stamp) -> Result<(), CoreFault>
         requires actor { IsActor self.old.machine who }
         requires due { due self.old.machine (entries self.old.past) who now ≡ Makes kind }
+        requires calls { calls_due self.old.machine who (entries self.old.past) < 2 ^ 32 }
         ensures ok { OnOk result (self.new ≡ with_entry self.old (record {
           stamp = stamp;
           entry = record { time = time_of (entries self.old.past); now = now; actor = who; kind = kind };
@@ -136,6 +150,7 @@ impl<'m> Core<'m> {
         if !self.leaves(kind) {
             return Err(CoreFault::Mem);
         }
+        let reports = self.reports_in(kind);
         match self.history.make_room(own, kind) {
             Ok(()) => {}
             Err(_) => return Err(CoreFault::Mem),
@@ -149,6 +164,7 @@ impl<'m> Core<'m> {
             kind,
         };
         self.history.append(JournalEntry { stamp, entry });
+        self.reports.add(who, reports);
         Ok(())
     }
 
@@ -160,7 +176,8 @@ impl<'m> Core<'m> {
         word: EventNow,
         floor: Stamp,
     ) -> Result<CoreTurn, CoreFault>
-        requires { IsActor self.old.machine who }
+        requires actor { IsActor self.old.machine who }
+        requires calls { calls_due self.old.machine who (entries self.old.past) < 2 ^ 32 }
         ensures { AfterTurn self.old self.new who word floor result }
     {
         match self.due(who, word) {
@@ -205,6 +222,8 @@ impl<'m> Core<'m> {
         ensures turn { (word : EventNow) × IsTold (E.tells events.old) word × GrewTo word (E.looked events.old) (E.looked events.new)
             × (floor.pos ≤ position word) × AfterTurn self.old self.new who word floor result }
         ensures tells { E.tells events.new ≡ E.tells events.old }
+        ensures made { E.made events.new ≡ E.made events.old }
+        ensures can { E.can events.new ≡ E.can events.old }
         ensures root { E.root events.new ≡ E.root events.old }
         ensures floor { (last_stamp self.new.past).pos ≤ E.floor events.new }
         ensures legal { JournalPart self.new.machine (entries self.new.past) }

@@ -20,6 +20,7 @@ use Rattle.sleep_model.specs.Path.{is_same}
 use Rattle.sleep_model.specs.Sources.{history, is_of, since, since_after, owed, IsNext}
 use Rattle.sleep_model.specs.Word.{visible}
 use Rattle.sleep_laws.proofs.Activity.{Runs, AllRun, runs_step, active, active_same, active_more, active_some, active_less, same_number}
+use Rattle.sleep_laws.proofs.Few.{count_rises}
 use Rattle.sleep_laws.proofs.Resting.{SoundIf, ForceRests, AnswerRests, answer_later, force_later, force_found, save_rests, unseen, Unseen}
 
 -- ---- what an entry of the journal says of the word
@@ -85,13 +86,13 @@ pub record IsGuarded (past : List Entry) : Type 0 where
 
 -- ---- the steps that sources make on the word
 
-finish_runs : (on : Bool) (steps : List WordKind) → Runs on steps → IsNext step.Finish steps → on ≡ true
+pub finish_runs : (on : Bool) (steps : List WordKind) → Runs on steps → IsNext step.Finish steps → on ≡ true
 finish_runs on [] h n = absurd n
 finish_runs on (step.Start ∷ steps) h n = absurd (cc)
 finish_runs on (step.Finish ∷ steps) h n = h.0
 finish_runs on (step.Hard ∷ steps) h n = h.0
 
-hard_runs : (on : Bool) (steps : List WordKind) → Runs on steps → IsNext step.Hard steps → on ≡ true
+pub hard_runs : (on : Bool) (steps : List WordKind) → Runs on steps → IsNext step.Hard steps → on ≡ true
 hard_runs on [] h n = absurd n
 hard_runs on (step.Start ∷ steps) h n = absurd (cc)
 hard_runs on (step.Finish ∷ steps) h n = h.0
@@ -105,21 +106,21 @@ since_own : (e : Entry) (past : List Entry) (s : ℕ) → is_of s (part_of e.kin
 since_own e past s is = ap (λ b. since (cond b (e ∷ history s past) (history s past))) is
 
 -- an entry that begins and finishes no event leaves each as it was
-since_same : (e : Entry) (past : List Entry) → ((o : Option ℕ) → since_after (part_of e.kind) e.time o ≡ o) → (s : ℕ) → since_of (e ∷ past) s ≡ since_of past s
+pub since_same : (e : Entry) (past : List Entry) → ((o : Option ℕ) → since_after (part_of e.kind) e.time o ≡ o) → (s : ℕ) → since_of (e ∷ past) s ≡ since_of past s
 since_same e past keeps s = by_own (is_of s (part_of e.kind)) refl
   where
     by_own : (b : Bool) → is_of s (part_of e.kind) ≡ b → since_of (e ∷ past) s ≡ since_of past s
     by_own true is = since_own e past s is ∙ keeps (since_of past s)
     by_own false is = since_other e past s is
 
-moves_other : (e : Entry) (past : List Entry) (t : ℕ) (w : WordKind) → part_of e.kind ≡ Moves t w → (s : ℕ) → s ≢ t → since_of (e ∷ past) s ≡ since_of past s
+pub moves_other : (e : Entry) (past : List Entry) (t : ℕ) (w : WordKind) → part_of e.kind ≡ Moves t w → (s : ℕ) → s ≢ t → since_of (e ∷ past) s ≡ since_of past s
 moves_other e past t w is s other = since_other e past s (ap (is_of s) is ∙ apart (t == s) refl)
   where
     apart : (b : Bool) → (t == s) ≡ b → (t == s) ≡ false
     apart true e = let same : t ≡ s = grind (arith, nat_tests) in absurd (other (sym same))
     apart false e = e
 
-moves_own : (e : Entry) (past : List Entry) (t : ℕ) (w : WordKind) → part_of e.kind ≡ Moves t w → since_of (e ∷ past) t ≡ since_after (Moves t w) e.time (since_of past t)
+pub moves_own : (e : Entry) (past : List Entry) (t : ℕ) (w : WordKind) → part_of e.kind ≡ Moves t w → since_of (e ∷ past) t ≡ since_after (Moves t w) e.time (since_of past t)
 moves_own e past t w is = since_own e past t (ap (is_of t) is ∙ same_number t) ∙ ap (λ (p : Part). since_after p e.time (since_of past t)) is
 
 -- a source that has an event in progress leaves the word with one
@@ -272,36 +273,38 @@ guarded_step past h time now a (kind.Hard s) word own says = hard_kept past h ti
 guarded_step past h time now a k word own says = journal_kept past h time now word a k tt says
 
 -- an attempt that enters saw nothing
-enters_unseen : (past : List Entry) → IsGuarded past → (now : EventNow) → now ≡ numbers past → (k : Kind) → Says (journal past) now k → EntersUnseen past k
-enters_unseen past h now word (kind.Enter false) says =
+enters_unseen : (past : List Entry) → IsGuarded past → (numbers past).count < 16777216 → (now : EventNow) → now ≡ numbers past → (k : Kind) → Says (journal past) now k → EntersUnseen past k
+enters_unseen past h few now word (kind.Enter false) says =
     let held : in_force past ≡ guard_of past = force_journal past ∙ (says.held ∙ sym (guard_journal past)) in
     let calm : count_pending (in_force past) (numbers past) ≡ false = ap (λ (w : EventNow). count_pending (in_force past) w) (sym word) ∙ (ap (λ (f : Option ℕ). count_pending f now) (force_journal past) ∙ says.calm) in
-    subst (SawNothing past) held (saw (in_force past) (unseen (in_force past) (steps_since past) (numbers past) h.force calm))
+    subst (SawNothing past) held (saw (in_force past) (unseen (in_force past) (steps_since past) (numbers past) h.force calm few))
   where
     saw : (f : Option ℕ) → Unseen f (steps_since past) (numbers past) → SawNothing past f
     saw None u = tt
     saw (Some c) u = u
-enters_unseen past h now word (kind.Enter true) says = tt
-enters_unseen past h now word _ says = tt
+enters_unseen past h few now word (kind.Enter true) says = tt
+enters_unseen past h few now word _ says = tt
 
-guarded_and_sleep : (past : List Entry) → SourcePart past → Placed past → AllSay (journal past) → IsGuarded past × GuardedSleep past
-guarded_and_sleep [] own placed said = (record { force = tt; answers = λ who. tt; runs = λ s. tt; counts = λ n. omega (arith, none_active n) }, tt)
+guarded_and_sleep : (past : List Entry) → SourcePart past → Placed past → AllSay (journal past) → (numbers past).count < 16777216 → IsGuarded past × GuardedSleep past
+guarded_and_sleep [] own placed said few = (record { force = tt; answers = λ who. tt; runs = λ s. tt; counts = λ n. omega (arith, none_active n) }, tt)
   where
     none_active : (n : ℕ) → active n (λ s. None) ≡ 0
     none_active zero = refl
     none_active (suc n) = omega (arith, none_active n)
-guarded_and_sleep (e ∷ past) own placed said = by_kind e.time e.now e.actor e.kind own.0 placed.0 said (λ s. guarded_and_sleep past own.1 placed.2 s)
+guarded_and_sleep (e ∷ past) own placed said few =
+    let before : (numbers past).count < 16777216 = omega (arith, few, count_rises e past) in
+    by_kind e.time e.now e.actor e.kind own.0 placed.0 said before (λ s. guarded_and_sleep past own.1 placed.2 s before)
   where
-    by_kind : (time : ℕ) (now : EventNow) (a : Actor) (k : Kind) → OwnStep past (record { time = time; now = now; actor = a; kind = k }) (part_of k) → now ≡ numbers past → AllSay (journal (record { time = time; now = now; actor = a; kind = k } ∷ past)) → (AllSay (journal past) → IsGuarded past × GuardedSleep past) → IsGuarded (record { time = time; now = now; actor = a; kind = k } ∷ past) × GuardedSleep (record { time = time; now = now; actor = a; kind = k } ∷ past)
-    by_kind time now a (kind.Awake s) own word said rest = let r = rest said in (guarded_step past r.0 time now a (kind.Awake s) word own tt, (tt, r.1))
-    by_kind time now a (kind.Relax s) own word said rest = let r = rest said in (guarded_step past r.0 time now a (kind.Relax s) word own tt, (tt, r.1))
-    by_kind time now a (kind.Event s ms hard) own word said rest = let r = rest said in (guarded_step past r.0 time now a (kind.Event s ms hard) word own tt, (tt, r.1))
-    by_kind time now a (kind.Expire s) own word said rest = let r = rest said in (guarded_step past r.0 time now a (kind.Expire s) word own tt, (tt, r.1))
-    by_kind time now a (kind.Start s) own word said rest = let r = rest said in (guarded_step past r.0 time now a (kind.Start s) word own tt, (tt, r.1))
-    by_kind time now a (kind.Finish s) own word said rest = let r = rest said in (guarded_step past r.0 time now a (kind.Finish s) word own tt, (tt, r.1))
-    by_kind time now a (kind.Hard s) own word said rest = let r = rest said in (guarded_step past r.0 time now a (kind.Hard s) word own tt, (tt, r.1))
-    by_kind time now a k own word said rest = let r = rest said.1 in (guarded_step past r.0 time now a k word own said.0, (enters_unseen past r.0 now word k said.0, r.1))
+    by_kind : (time : ℕ) (now : EventNow) (a : Actor) (k : Kind) → OwnStep past (record { time = time; now = now; actor = a; kind = k }) (part_of k) → now ≡ numbers past → AllSay (journal (record { time = time; now = now; actor = a; kind = k } ∷ past)) → (numbers past).count < 16777216 → (AllSay (journal past) → IsGuarded past × GuardedSleep past) → IsGuarded (record { time = time; now = now; actor = a; kind = k } ∷ past) × GuardedSleep (record { time = time; now = now; actor = a; kind = k } ∷ past)
+    by_kind time now a (kind.Awake s) own word said few rest = let r = rest said in (guarded_step past r.0 time now a (kind.Awake s) word own tt, (tt, r.1))
+    by_kind time now a (kind.Relax s) own word said few rest = let r = rest said in (guarded_step past r.0 time now a (kind.Relax s) word own tt, (tt, r.1))
+    by_kind time now a (kind.Event s ms hard) own word said few rest = let r = rest said in (guarded_step past r.0 time now a (kind.Event s ms hard) word own tt, (tt, r.1))
+    by_kind time now a (kind.Expire s) own word said few rest = let r = rest said in (guarded_step past r.0 time now a (kind.Expire s) word own tt, (tt, r.1))
+    by_kind time now a (kind.Start s) own word said few rest = let r = rest said in (guarded_step past r.0 time now a (kind.Start s) word own tt, (tt, r.1))
+    by_kind time now a (kind.Finish s) own word said few rest = let r = rest said in (guarded_step past r.0 time now a (kind.Finish s) word own tt, (tt, r.1))
+    by_kind time now a (kind.Hard s) own word said few rest = let r = rest said in (guarded_step past r.0 time now a (kind.Hard s) word own tt, (tt, r.1))
+    by_kind time now a k own word said few rest = let r = rest said.1 in (guarded_step past r.0 time now a k word own said.0, (enters_unseen past r.0 few now word k said.0, r.1))
 
 -- attempts under a saved count enter only where nothing came since, in each list whose journal says what is so
-pub guarded_of : (past : List Entry) → SourcePart past → Placed past → AllSay (journal past) → GuardedSleep past
-guarded_of past own placed said = (guarded_and_sleep past own placed said).1
+pub guarded_of : (past : List Entry) → SourcePart past → Placed past → AllSay (journal past) → (numbers past).count < 16777216 → GuardedSleep past
+guarded_of past own placed said few = (guarded_and_sleep past own placed said few).1

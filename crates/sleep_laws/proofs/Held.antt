@@ -1,5 +1,5 @@
 -- The count that guards an attempt stays in force until the attempt enters or fails, since the maker holds the lock meanwhile.
-use Rattle.std.proofs.Common.{◌≡◌, ◌∙◌, ℕ, Bool, true, false, ◌==◌, ◌||◌, nat_lt, List, [], ◌∷◌, Option, Some, None, refl, sym, subst, cond}
+use Rattle.std.proofs.Common.{◌≡◌, ◌≤◌, ◌∙◌, ℕ, Bool, true, false, ◌==◌, ◌||◌, nat_lt, List, [], ◌∷◌, length, Option, Some, None, refl, sym, subst, cond}
 use Rattle.std.proofs.lemmas.Bool.{eqb-true}
 use Rattle.sleep_base.specs.declared.errno.Errno.{Errno}
 use Rattle.sleep_base.specs.declared.errno.Errno.TheVariants.{EBUSY}
@@ -26,6 +26,7 @@ use Rattle.sleep_model.specs.Path.{maker}
 use Rattle.sleep_model.specs.Table.{stage_of, stage_after}
 use Rattle.sleep_model.specs.Word.{visible}
 use Rattle.sleep_laws.proofs.DevicesStand.{given_stage}
+use Rattle.sleep_laws.proofs.Few.{few_registered}
 use Rattle.sleep_laws.proofs.Guarding.{Shows, Says, AllSay, guarded_of}
 use Rattle.sleep_laws.proofs.Holding.{HolderOf, StageMaker, held as lock}
 use Rattle.sleep_laws.proofs.Made.{Down, Made, Comes, AtOnce, PastNotifiers, PastCpus, PastParts, PastPartsUp, PastCpusUp, PastPosts, StepMade, TaskMade, WorkMade, DeviceMade, EntryMade, ByMaker, ByTask, ByWork, ByDevice, ByTime}
@@ -232,6 +233,9 @@ pub all_say : (m : Machine) (past : List Entry) → JournalPart m past → AllSa
 all_say m [] h = tt
 all_say m (e ∷ past) h = (entry_says m past e.now e.actor e.kind (held_at m past h.1) (entry_made m past e h), all_say m past h.1)
 
--- attempts under a saved count enter only where nothing came since, in each legal list of entries of each machine
-pub guarded_sleep : (m : Machine) (past : List Entry) → IsLegal m past → GuardedSleep past
-guarded_sleep m past h = guarded_of past h.sources h.placed (all_say m (journal past) h.journal)
+-- attempts under a saved count enter only where nothing came since, in each legal list of entries of each machine that has not too many sources
+pub guarded_sleep : (m : Machine) → length m.sources ≤ 255 → (past : List Entry) → IsLegal m past → GuardedSleep past
+guarded_sleep m sources past h = guarded_of past h.sources h.placed (all_say m (journal past) h.journal) (few_registered m sources past h)
+
+pub guarded_sleeps : (m : Machine) (past : List Entry) → IsLegal m past → length m.sources ≤ 255 → GuardedSleep past
+guarded_sleeps m past h sources = guarded_sleep m sources past h

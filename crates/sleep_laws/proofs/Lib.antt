@@ -4,6 +4,7 @@ pub mod Boards
 pub mod Closing
 pub mod DevicesStand
 pub mod Ending
+pub mod Few
 pub mod Flags
 pub mod Guarding
 pub mod Held
@@ -16,6 +17,7 @@ pub mod MakingOwn
 pub mod Moods
 pub mod Owing
 pub mod Passing
+pub mod Progress
 pub mod Ranks
 pub mod Reaching
 pub mod Resting

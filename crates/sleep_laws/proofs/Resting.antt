@@ -5,7 +5,7 @@ use Rattle.sleep_model.specs.declared.word.EventNow.{EventNow}
 use Rattle.sleep_model.specs.declared.word.WordKind.{WordKind}
 use Rattle.sleep_model.specs.declared.word.WordKind.TheVariants as step
 use Rattle.sleep_model.specs.Guard.{count_pending, force_after, has_changed, Finds}
-use Rattle.sleep_model.specs.Laws.{Answered, later_answer, with_step, rests_on, finishes}
+use Rattle.sleep_model.specs.Laws.{Answered, later_answer, with_step, rests_on}
 use Rattle.sleep_model.specs.Numbers.{after_step}
 use Rattle.sleep_model.specs.Word.{visible}
 
@@ -82,6 +82,12 @@ save_rests c now (Some a) e q h = by_count (a.count == c) refl
 
 -- ---- nothing was seen
 
+-- how many of the steps are finishes: registered events
+abbrev finishes : List WordKind → ℕ
+finishes [] = 0
+finishes (step.Finish ∷ steps) = finishes steps + 1
+finishes (step ∷ steps) = finishes steps
+
 count_now : (steps : List WordKind) (word : EventNow) → (advance steps word).count ≡ word.count + finishes steps
 count_now [] word = omega arith
 count_now (step.Start ∷ steps) word = count_now steps word
@@ -95,13 +101,13 @@ still_none (step.Start ∷ steps) word f h q = absurd (omega (arith, q))
 still_none (step.Finish ∷ steps) word f h q = absurd (omega (arith, f))
 still_none (step.Hard ∷ steps) word f h q = absurd (omega (arith, q, h.0))
 
-same_turn : (a f : ℕ) → (a + f) % 65536 ≡ a % 65536 → f < 65536 → f ≡ 0
+same_turn : (a f : ℕ) → (a + f) % 16777216 ≡ a % 16777216 → f < 16777216 → f ≡ 0
 same_turn a f e l = omega (arith, e, l)
 
-nothing_since : (c : ℕ) (steps : List WordKind) (now : EventNow) → Rests c steps now → visible now ≡ c → now.inpr ≡ 0 → finishes steps < 65536 → steps ≡ []
+nothing_since : (c : ℕ) (steps : List WordKind) (now : EventNow) → Rests c steps now → visible now ≡ c → now.inpr ≡ 0 → now.count < 16777216 → steps ≡ []
 nothing_since c steps now h seen quiet few =
     let count : now.count ≡ h.word.count + finishes steps = ap (λ (w : EventNow). w.count) h.since ∙ count_now steps h.word in
-    let none : finishes steps ≡ 0 = same_turn h.word.count (finishes steps) (ap (λ n. n % 65536) (sym count) ∙ (seen ∙ sym h.seen)) few in
+    let none : finishes steps ≡ 0 = same_turn h.word.count (finishes steps) (ap (λ n. n % 16777216) (sym count) ∙ (seen ∙ sym h.seen)) (omega (arith, count, few)) in
     still_none steps h.word none h.sound (ap (λ (w : EventNow). w.inpr) (sym h.since) ∙ quiet)
 
 not_changed : (now : EventNow) (c : ℕ) → has_changed now c ≡ false → (visible now ≡ c) × (now.inpr ≡ 0)
@@ -115,8 +121,8 @@ not_changed now c e = by_tests (visible now == c) (nat_lt 0 now.inpr) refl refl 
 -- the steps that a count in force saw, and the events in progress: none, where no test finds it changed
 abbrev pub Unseen : Option ℕ → List WordKind → EventNow → Type 0
 Unseen None steps now = Unit {0}
-Unseen (Some c) steps now = finishes steps < 65536 → (steps ≡ []) × (now.inpr ≡ 0)
+Unseen (Some c) steps now = (steps ≡ []) × (now.inpr ≡ 0)
 
-pub unseen : (f : Option ℕ) (steps : List WordKind) (now : EventNow) → ForceRests f steps now → count_pending f now ≡ false → Unseen f steps now
-unseen None steps now h calm = tt
-unseen (Some c) steps now h calm = λ few. let s = not_changed now c calm in (nothing_since c steps now h s.0 s.1 few, s.1)
+pub unseen : (f : Option ℕ) (steps : List WordKind) (now : EventNow) → ForceRests f steps now → count_pending f now ≡ false → now.count < 16777216 → Unseen f steps now
+unseen None steps now h calm few = tt
+unseen (Some c) steps now h calm few = let s = not_changed now c calm in (nothing_since c steps now h s.0 s.1 few, s.1)

@@ -1,12 +1,14 @@
 //! The law of the saved count, over every legal list of entries.
 
+ghost use Rattle.std.specs.Prelude.{◌≤◌, length};
 ghost use Rattle.sleep_model.specs.Laws.{GuardedSleep};
 ghost use Rattle.sleep_laws.specs.Laws.{HoldsOfAll};
 
 /// An attempt under a saved count enters only where no step of the word stands since that count was
-/// read, and no event is in progress, if fewer than 65,536 events were registered meanwhile
+/// read, and no event is in progress, on each machine of at most 255 sources: those cannot register
+/// so many events that the count which user space sees comes round
 /// (`drivers/base/power/wakeup.c`, `pm_save_wakeup_count`, `pm_wakeup_pending`).
-#[tactic(auto, using(crate::proofs::Held::guarded_sleep))]
+#[tactic(auto, using(crate::proofs::Held::guarded_sleeps))]
 pub fn guarded_sleep()
-    ensures { HoldsOfAll (λ m. GuardedSleep) }
+    ensures { HoldsOfAll (λ m past. length m.sources ≤ 255 → GuardedSleep past) }
 {}

@@ -5,8 +5,9 @@ use Rattle.std.specs.Io.KnownBytes.{Consumes, IsAtEnd}
 use Rattle.sleep_base.specs.Faults.{Rose}
 use Rattle.sleep_model.specs.declared.machine.Machine.{Machine}
 use Rattle.machine_file.specs.Whole.{machine_in}
+use Rattle.sleep_run.specs.Runs.{IsFull}
 use Rattle.sleep_main.specs.declared.ending.Ending.{Ending}
-use Rattle.sleep_main.specs.declared.ending.Ending.TheVariants.{Ran, Stuck, NoForm, TooLong, Refused, NotBuilt, ReadFault, WriteFault, NoMemory}
+use Rattle.sleep_main.specs.declared.ending.Ending.TheVariants.{Ran, Stuck, NoForm, TooLong, Refused, ReadFault, WriteFault, SourceFull, NoMemory}
 use Rattle.sleep_main.specs.Endings.{Streams, NoFault, Completes, Ended, status_of}
 
 -- a count that rose is no count that stayed
@@ -25,14 +26,21 @@ part None new bytes bs e taken = absurd (cc)
 part (Some xs) None bytes bs e taken = absurd taken
 part (Some xs) (Some ys) bytes bs e taken = let all : xs ≡ bytes = cc in omega (arith, ap length all, ap length taken, length-append bs ys)
 
+one_machine : (x y : Machine) → Some x ≡ Some y → x ≡ y
+one_machine x y e = cc
+
 pub completes : (words : List (List ℕ)) (old new : Streams) (ending : Ending) → Ended words old new ending → Completes words old new (status_of ending)
-completes words old new Ran h = λ form bytes told fits m spells read out. inl refl
-completes words old new Stuck h = λ form bytes told fits m spells read out. inr (inl refl)
-completes words old new NoForm h = λ form bytes told fits m spells read out. absurd (h.0 form)
-completes words old new TooLong h = λ form bytes told fits m spells read out. absurd (omega (arith, h.1.0.2, part old.left new.left bytes h.1.0.0 told h.1.0.1, fits))
-completes words old new Refused h = λ form bytes told fits m spells read out.
+completes words old new Ran h = λ form bytes told fits m spells none read out. inl refl
+completes words old new Stuck h = λ form bytes told fits m spells none read out. inr (inl refl)
+completes words old new NoForm h = λ form bytes told fits m spells none read out. absurd (h.0 form)
+completes words old new TooLong h = λ form bytes told fits m spells none read out. absurd (omega (arith, h.1.0.2, part old.left new.left bytes h.1.0.0 told h.1.0.1, fits))
+completes words old new Refused h = λ form bytes told fits m spells none read out.
     absurd (h.1.0.2 m (subst (λ (bs : List ℕ). machine_in bs ≡ Some m) (sym (whole old.left new.left bytes h.1.0.0 told h.1.0.1.taken h.1.0.1.at_end)) spells))
-completes words old new NotBuilt h = λ form bytes told fits m spells read out. inr (inr (inl refl))
-completes words old new ReadFault h = λ form bytes told fits m spells read out. absurd (rose_not old.read_faults new.read_faults h.1.0 read)
-completes words old new WriteFault h = λ form bytes told fits m spells read out. absurd (rose_not old.out_faults new.out_faults h.1.0 out)
-completes words old new NoMemory h = λ form bytes told fits m spells read out. inr (inr (inr refl))
+completes words old new ReadFault h = λ form bytes told fits m spells none read out. absurd (rose_not old.read_faults new.read_faults h.1.0 read)
+completes words old new WriteFault h = λ form bytes told fits m spells none read out. absurd (rose_not old.out_faults new.out_faults h.1.0 out)
+completes words old new (SourceFull name) h = λ form bytes told fits m spells none read out.
+    (let all : h.1.0.0 ≡ bytes = whole old.left new.left bytes h.1.0.0 told h.1.0.1.taken h.1.0.1.at_end in
+    let f = h.1.0.2 in
+    let same : f.machine ≡ m = one_machine f.machine m (sym f.spells ∙ (ap machine_in all ∙ spells)) in
+    absurd (none f.number (subst (λ (x : Machine). IsFull x f.number) same f.full)))
+completes words old new NoMemory h = λ form bytes told fits m spells none read out. inr (inr refl)

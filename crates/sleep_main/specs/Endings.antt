@@ -7,16 +7,15 @@ use Rattle.sleep_model.specs.declared.log.Log.{Log}
 use Rattle.sleep_model.specs.declared.log.LogEnd.{LogEnd}
 use Rattle.sleep_model.specs.declared.log.LogEnd.TheVariants as end
 use Rattle.sleep_model.specs.declared.machine.Machine.{Machine}
-use Rattle.sleep_model.specs.Built.{is_built}
 use Rattle.sleep_model.specs.Legal.{IsFinishedLog, IsStuckLog}
-use Rattle.sleep_model.specs.Text.{text}
-use Rattle.machine_file.specs.Whole.{machine_in, broken_in}
+use Rattle.sleep_model.specs.Text.{text, source}
+use Rattle.machine_file.specs.Whole.{machine_in}
 use Rattle.sleep_main.specs.declared.ending.Ending.{Ending}
 use Rattle.sleep_main.specs.declared.top.LogText.{LogText}
 use Rattle.sleep_main.specs.declared.top.TextFault.{TextFault}
 use Rattle.sleep_main.specs.declared.top.TextFault.TheVariants as fault
-use Rattle.sleep_main.specs.declared.ending.Ending.TheVariants.{Ran, Stuck, NoForm, TooLong, Refused, NotBuilt, ReadFault, WriteFault, NoMemory}
-use Rattle.sleep_run.specs.Runs.{IsRun}
+use Rattle.sleep_main.specs.declared.ending.Ending.TheVariants.{Ran, Stuck, NoForm, TooLong, Refused, ReadFault, WriteFault, SourceFull, NoMemory}
+use Rattle.sleep_run.specs.Runs.{IsRun, IsFull}
 
 -- the program's status
 abbrev pub status_of : Ending → ℕ
@@ -24,10 +23,10 @@ status_of Ran = 0
 status_of NoForm = 2
 status_of TooLong = 3
 status_of Refused = 3
-status_of NotBuilt = 3
 status_of ReadFault = 4
 status_of WriteFault = 5
 status_of Stuck = 6
+status_of (SourceFull name) = 7
 status_of NoMemory = 8
 
 -- a line of standard error
@@ -41,10 +40,25 @@ text_of Stuck = []
 text_of NoForm = line (codes "usage: run --workers 1")
 text_of TooLong = line (codes "machine: longer than 16777216 bytes")
 text_of Refused = line (codes "machine: refused")
-text_of NotBuilt = line (codes "machine: refused")
 text_of ReadFault = line (codes "read fault")
 text_of WriteFault = line (codes "write fault")
+text_of (SourceFull name) = line (codes "source full: " ++ name)
 text_of NoMemory = line (codes "want of memory")
+
+-- what it says before the name of a source
+abbrev pub head_of : Ending → List ℕ
+head_of (SourceFull name) = codes "source full: "
+head_of ending = text_of ending
+
+-- the name of a source, where it says one
+abbrev pub name_of : Ending → List ℕ
+name_of (SourceFull name) = name
+name_of ending = []
+
+-- what it says behind the name
+abbrev pub tail_of : Ending → List ℕ
+tail_of (SourceFull name) = line []
+tail_of ending = []
 
 -- the words are a name, and then `run --workers 1`
 abbrev pub IsForm : List (List ℕ) → Type 0
@@ -64,11 +78,6 @@ pub record ReadWhole (old new : Streams) (bytes : List ℕ) : Type 0 where
   pub at_end : IsAtEnd new.left
   pub fits : length bytes ≤ 16777216
 
--- the bytes are accepted, and spell this machine, which uses only what is built
-pub record Spells (bytes : List ℕ) (m : Machine) : Type 0 where
-  pub spelled : machine_in bytes ≡ Some m
-  pub built : is_built m ≡ true
-
 -- the run was stuck
 abbrev pub is_stuck : LogEnd → Bool
 is_stuck end.Finished = false
@@ -83,7 +92,7 @@ EndsAs m log true = IsStuckLog m log
 pub record IsLogOf (bytes said : List ℕ) (stuck : Bool) : Type 0 where
   pub machine : Machine
   pub log : Log
-  pub spells : Spells bytes machine
+  pub spells : machine_in bytes ≡ Some machine
   pub run : IsRun machine log
   pub ends : EndsAs machine log stuck
   pub is_text : said ≡ text machine log
@@ -92,11 +101,25 @@ pub record IsLogOf (bytes said : List ℕ) (stuck : Bool) : Type 0 where
 abbrev pub SpellNone : List ℕ → Type 0
 SpellNone bytes = (m : Machine) → ¬ (machine_in bytes ≡ Some m)
 
--- the bytes give the text of a log, or spell no machine, or break no rule
+-- the bytes spell a machine, and a source of that name has no place for a call
+pub record FillsSource (bytes name : List ℕ) : Type 0 where
+  pub machine : Machine
+  pub number : ℕ
+  pub spells : machine_in bytes ≡ Some machine
+  pub full : IsFull machine number
+  pub named : name ≡ source machine number
+
+-- the fault names that source of the machine, or memory ran out
+abbrev pub IsFullNamed : Machine → ℕ → TextFault → Type 0
+IsFullNamed m s (fault.SourceFull name) = name ≡ source m s
+IsFullNamed m s fault.Mem = Unit {0}
+IsFullNamed m s fault.Refused = ⊥
+
+-- the bytes give the text of a log, or spell no machine, or a machine that fills a source
 abbrev pub GivesLog : List ℕ → Result LogText TextFault → Type 0
 GivesLog bytes (Ok said) = IsLogOf bytes said.text.items said.stuck
 GivesLog bytes (Err fault.Refused) = SpellNone bytes
-GivesLog bytes (Err fault.NotBuilt) = broken_in bytes ≡ None
+GivesLog bytes (Err (fault.SourceFull name)) = FillsSource bytes name
 GivesLog bytes (Err fault.Mem) = Unit {0}
 
 -- the whole input was a machine file, and the text is that of its log
@@ -117,12 +140,12 @@ FileEnded old new NoForm = ⊥
 FileEnded old new TooLong = Took old.left new.left (λ n. 16777216 < n) × KeepsOut old new
 -- the bytes spell no machine
 FileEnded old new Refused = ((bytes : List ℕ) × ReadWhole old new bytes × SpellNone bytes) × KeepsOut old new
--- the bytes break no rule, and the machine uses what is not built
-FileEnded old new NotBuilt = ((bytes : List ℕ) × ReadWhole old new bytes × (broken_in bytes ≡ None)) × KeepsOut old new
 -- a read failed
 FileEnded old new ReadFault = Rose old.read_faults new.read_faults × KeepsOut old new
 -- a write failed, after a front of the log's text
 FileEnded old new WriteFault = Rose old.out_faults new.out_faults × ((front back : List ℕ) × (stuck : Bool) × RanFile old new (front ++ back) stuck × Appends old.out new.out front)
+-- the history of that source has no place for a call
+FileEnded old new (SourceFull name) = ((bytes : List ℕ) × ReadWhole old new bytes × FillsSource bytes name) × KeepsOut old new
 FileEnded old new NoMemory = KeepsOut old new
 
 -- what an ending means: the words are of no form, exactly where nothing was read or written; or they are, and a file was run
@@ -138,8 +161,12 @@ Says old new before now said = Appends old new said ⊎ ((front back : List ℕ)
 abbrev pub NoFault : ℕ → ℕ → Type 0
 NoFault before now = (now ≡ before) × (now < 2 ^ 64 - 1)
 
--- completeness: words of the form, an input that spells a machine, and no fault counted give a log, of a run that is finished or stuck, or use what is not built, or want of memory
+-- no source of the machine can be filled
+abbrev pub FillsNone : Machine → Type 0
+FillsNone m = (s : ℕ) → ¬ (IsFull m s)
+
+-- completeness: words of the form, an input that spells a machine none of whose sources can be filled, and no fault counted give a log, of a run that is finished or stuck, or want of memory
 abbrev pub Completes : List (List ℕ) → Streams → Streams → ℕ → Type 0
 Completes words old new status =
-    IsForm words → (bytes : List ℕ) → old.left ≡ Some bytes → length bytes ≤ 16777216 → (m : Machine) → machine_in bytes ≡ Some m → NoFault old.read_faults new.read_faults → NoFault old.out_faults new.out_faults
-    → (status ≡ status_of Ran) ⊎ (status ≡ status_of Stuck) ⊎ (status ≡ status_of NotBuilt) ⊎ (status ≡ status_of NoMemory)
+    IsForm words → (bytes : List ℕ) → old.left ≡ Some bytes → length bytes ≤ 16777216 → (m : Machine) → machine_in bytes ≡ Some m → FillsNone m → NoFault old.read_faults new.read_faults → NoFault old.out_faults new.out_faults
+    → (status ≡ status_of Ran) ⊎ (status ≡ status_of Stuck) ⊎ (status ≡ status_of NoMemory)

@@ -9,12 +9,12 @@ mod tests;
 mod top;
 
 use ending::Ending;
-use sleep_base::{StdSink, StdSource, write_all};
+use sleep_base::{StdSink, StdSource};
 use std::alloc::{AllocError, Global};
 use std::env;
 use std::io::ErrorKind;
 use std::process::ExitCode;
-use top::run_words;
+use top::{run_words, say};
 
 /// The words of the command line. Words that are no text count as none; an error is want of memory.
 fn words_of(rt: &HostRuntime, alloc: Global) -> Result<Vec<String>, AllocError> {
@@ -33,7 +33,7 @@ fn main(rt: HostRuntime) -> ExitCode {
     let status = match words_of(&rt, alloc) {
         Ok(words) => run_words(&rt, alloc, &words, &mut input, &mut out, &mut err),
         Err(_) => {
-            let _ = write_all(&mut err, Ending::NoMemory.text().as_bytes());
+            say(&mut err, Ending::NoMemory);
             Ending::NoMemory.status()
         }
     };

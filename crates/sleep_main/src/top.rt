@@ -1,12 +1,13 @@
-ghost use Rattle.std.specs.Prelude.{◌≡◌, ◌↔◌, ℕ, IsTrue, codes, map, string_bytes};
+ghost use Rattle.std.specs.Prelude.{◌≡◌, ◌≤◌, ◌++◌, ◌↔◌, ℕ, IsTrue, codes, map, string_bytes};
+ghost use Rattle.sleep_base.specs.Whole.{WriteAll};
 ghost use Rattle.sleep_main.specs.declared.ending.Ending.{Ending};
-ghost use Rattle.sleep_main.specs.Endings.{IsForm, GivesLog, FileEnded, Ended, Completes, Says, is_stuck, status_of, text_of};
+ghost use Rattle.sleep_main.specs.Endings.{IsForm, GivesLog, IsFullNamed, FileEnded, Ended, Completes, Says, is_stuck, status_of, text_of};
 
 use crate::ending::Ending;
-use log_text::write_log;
+use log_text::{source_name, write_log};
 use machine_file::{MachineFault, ReadMachine, read_machine};
-use sleep_base::{ByteSink, ByteSource, ReadStop, read_all, write_all};
-use sleep_model::LogEnd;
+use sleep_base::{ByteSink, ByteSource, Failed, ReadStop, read_all, write_all};
+use sleep_model::{LogEnd, Machine, Name};
 use sleep_run::{RunFault, run_machine};
 use std::alloc::Global;
 use std::sync::Wait;
@@ -43,8 +44,8 @@ struct LogText {
 enum TextFault {
     /// The bytes spell no machine.
     Refused,
-    /// The machine uses what is not built yet.
-    NotBuilt,
+    /// The source of that name has no place for a call.
+    SourceFull(Name),
     /// There was no memory.
     Mem,
 }
@@ -56,15 +57,24 @@ fn is_stuck(end: &LogEnd) -> bool
     matches!(end, LogEnd::Stuck(_))
 }
 
-/// The text of the log of the machine that the bytes spell. `Refused` where they spell none, `NotBuilt`
-/// where it uses what is not built yet, `Mem` where there is no memory.
+/// That a source has no place for a call, by its name.
+fn full(machine: &Machine, source: u32) -> TextFault
+    ensures { IsFullNamed machine.now source result }
+{
+    match Name::of_bytes(source_name(machine, source)) {
+        Some(name) => TextFault::SourceFull(name),
+        None => TextFault::Mem,
+    }
+}
+
+/// The text of the log of the machine that the bytes spell. `Refused` where they spell none, `SourceFull`
+/// where a source's history has no place for a call, `Mem` where there is no memory.
 fn log_of_bytes<R: Wait>(rt: &R, alloc: Global, bytes: &[u8]) -> Result<LogText, TextFault>
     ensures { GivesLog bytes.now result }
 {
     let ReadMachine { machine, links } = match read_machine(alloc, bytes) {
         Ok(read) => read,
         Err(MachineFault::Rule { .. }) => return Err(TextFault::Refused),
-        Err(MachineFault::NotBuilt) => return Err(TextFault::NotBuilt),
         Err(MachineFault::Mem) => return Err(TextFault::Mem),
     };
     match run_machine(rt, alloc, &machine, links) {
@@ -75,6 +85,7 @@ fn log_of_bytes<R: Wait>(rt: &R, alloc: Global, bytes: &[u8]) -> Result<LogText,
             }
             Err(_) => Err(TextFault::Mem),
         },
+        Err(RunFault::SourceFull(source)) => Err(full(&machine, source)),
         Err(RunFault::Mem) => Err(TextFault::Mem),
     }
 }
@@ -100,7 +111,7 @@ fn run_file<R: Wait, S: ByteSource, K: ByteSink>(
     let log = match log_of_bytes(rt, alloc, &bytes) {
         Ok(log) => log,
         Err(TextFault::Refused) => return Ending::Refused,
-        Err(TextFault::NotBuilt) => return Ending::NotBuilt,
+        Err(TextFault::SourceFull(name)) => return Ending::SourceFull(name),
         Err(TextFault::Mem) => return Ending::NoMemory,
     };
     match write_all(out, &log.text) {
@@ -130,11 +141,30 @@ fn do_words<R: Wait, S: ByteSource, K: ByteSink>(
     }
 }
 
-/// Says a text on a stream, as far as the stream takes it.
-fn say<K: ByteSink>(err: &mut K, text: &str)
-    ensures { Says (K.written err.old) (K.written err.new) (K.faults err.old) (K.faults err.new) text.now }
+/// Writes one piece behind the other. `Failed` at the first write that fails: a front of both was written.
+#[tactic(auto, using(crate::proofs::Saying::one_failed, crate::proofs::Saying::both_written))]
+fn write_both<K: ByteSink>(sink: &mut K, one: &[u8], other: &[u8]) -> Result<(), Failed>
+    ensures bytes { WriteAll (K.written sink.old) (K.written sink.new) (K.faults sink.old) (K.faults sink.new) (one.now ++ other.now) result }
+    ensures faults { K.faults sink.old ≤ K.faults sink.new }
 {
-    let _ = write_all(err, text.as_bytes());
+    write_all(sink, one)?;
+    write_all(sink, other)
+}
+
+/// Writes what an ending says, piece by piece, without memory.
+#[tactic(auto, using(crate::proofs::Saying::one_failed, crate::proofs::Saying::both_written, crate::proofs::Saying::text_parts))]
+fn write_ending<K: ByteSink>(sink: &mut K, ending: Ending) -> Result<(), Failed>
+    ensures { WriteAll (K.written sink.old) (K.written sink.new) (K.faults sink.old) (K.faults sink.new) (text_of ending) result }
+{
+    write_both(sink, ending.head().as_bytes(), ending.name())?;
+    write_all(sink, ending.tail().as_bytes())
+}
+
+/// Says on a stream how the program ends, as far as the stream takes it.
+pub fn say<K: ByteSink>(err: &mut K, ending: Ending)
+    ensures { Says (K.written err.old) (K.written err.new) (K.faults err.old) (K.faults err.new) (text_of ending) }
+{
+    let _ = write_ending(err, ending);
 }
 
 /// The whole program: `run --workers 1` reads a machine file from `input`, runs the machine, and
@@ -143,14 +173,14 @@ fn say<K: ByteSink>(err: &mut K, text: &str)
 ///
 /// - 0: the log was written, of a run in which nothing was left to do. 6: of one in which nobody went on.
 /// - 2: exactly where the words are others; nothing is read or written.
-/// - 3: the input has more than 16,777,216 bytes or spells no machine that may be run today. Such an input
-///   may give 4 or 8 instead, and nothing else.
+/// - 3: the input has more than 16,777,216 bytes or spells no machine. Such an input may give 4 or 8
+///   instead, and nothing else.
 /// - 4: a read failed. 5: a write failed, after a front of the log's text.
+/// - 7: the history of a wakeup source has no place left for a call.
 /// - 8: there was no memory.
 ///
-/// At 2, 3, 4 and 8 nothing is written to `out`. An input that spells a machine gives 0, 6 or 8, or 3
-/// where it uses what is not built, where
-/// no fault is counted.
+/// At 2, 3, 4, 7 and 8 nothing is written to `out`. An input that spells a machine none of whose sources
+/// can be filled gives 0, 6 or 8, where no fault is counted.
 pub fn run_words<R: Wait, S: ByteSource, K: ByteSink>(
     rt: &R,
     alloc: Global,
@@ -171,6 +201,6 @@ pub fn run_words<R: Wait, S: ByteSource, K: ByteSink>(
         result }
 {
     let ending = do_words(rt, alloc, words, input, out);
-    say(err, ending.text());
+    say(err, ending);
     ending.status()
 }

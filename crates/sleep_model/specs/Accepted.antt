@@ -6,6 +6,8 @@ use Rattle.sleep_model.specs.declared.machine.Op.{Op}
 use Rattle.sleep_model.specs.declared.machine.Op.TheVariants as op
 use Rattle.sleep_model.specs.declared.machine.Report.{Report}
 use Rattle.sleep_model.specs.declared.machine.Script.{Script}
+use Rattle.sleep_model.specs.declared.machine.SourceCall.{SourceCall}
+use Rattle.sleep_model.specs.declared.machine.SourceCall.TheVariants as call
 use Rattle.sleep_model.specs.declared.machine.Step.{Step}
 use Rattle.sleep_model.specs.declared.machine.What.{What}
 use Rattle.sleep_model.specs.declared.machine.What.TheVariants as what
@@ -61,10 +63,16 @@ IsThing m (what.Syscore x) = x < length m.syscore
 IsThing m (what.Notifier x) = x < length m.notifiers
 IsThing m (what.Platform step) = Unit {0}
 
--- each of these reports is of a source that is there
+-- a report is a call of its maker's, and an event's length is at most a day, in ms
+abbrev pub IsReport : SourceCall → Type 0
+IsReport call.Expire = ⊥
+IsReport (call.Event ms hard) = ms ≤ 86400000
+IsReport _ = Unit {0}
+
+-- each of these reports is of a source that is there, and may be made
 abbrev pub AreReports : Machine → List Report → Type 0
 AreReports m [] = Unit {0}
-AreReports m (r ∷ rs) = (r.source < length m.sources) × AreReports m rs
+AreReports m (r ∷ rs) = (r.source < length m.sources) × IsReport r.call × AreReports m rs
 
 -- each of these answers is of a thing that is there, and may be given; its reports are of sources that are there
 abbrev pub AreAnswers : Machine → List Answer → Type 0

@@ -1,10 +1,9 @@
 -- What a reader believes of a legal log, each law at each entry, from the entries before it.
-use Rattle.std.specs.Prelude.{◌≡◌, ◌<◌, ◌+◌, ℕ, ℤ, pos, negsuc, Bool, true, false, not, ◌==◌, ◌&&◌, ◌||◌, List, [], ◌∷◌, length, map, replicate, if◌then◌else◌, Option, Some, None, is_none, slice_get}
+use Rattle.std.specs.Prelude.{◌≡◌, ◌+◌, ℕ, ℤ, pos, negsuc, Bool, true, false, not, ◌==◌, ◌&&◌, ◌||◌, List, [], ◌∷◌, length, map, replicate, if◌then◌else◌, Option, Some, None, is_none, slice_get}
 use Rattle.std.specs.List.{list_all}
 use Rattle.sleep_base.specs.declared.errno.Errno.{Errno}
 use Rattle.sleep_model.specs.declared.word.EventNow.{EventNow}
 use Rattle.sleep_model.specs.declared.word.WordKind.{WordKind}
-use Rattle.sleep_model.specs.declared.word.WordKind.TheVariants as step
 use Rattle.sleep_model.specs.declared.entry.Actor.{Actor}
 use Rattle.sleep_model.specs.declared.entry.Actor.TheVariants as actor
 use Rattle.sleep_model.specs.declared.entry.Entry.{Entry}
@@ -440,16 +439,10 @@ abbrev pub steps_since : List Entry → List WordKind
 steps_since [] = []
 steps_since (e ∷ past) = steps_after e.kind (answer_of e.actor past) (steps_since past)
 
--- how many of the steps are finishes: registered events
-abbrev pub finishes : List WordKind → ℕ
-finishes [] = 0
-finishes (step.Finish ∷ steps) = finishes steps + 1
-finishes (step ∷ steps) = finishes steps
-
--- under that count no step of the word stands since it was read, and no event is in progress, if fewer events were registered meanwhile than the visible count tells apart (pm_wakeup_pending)
+-- under that count no step of the word stands since it was read, and no event is in progress (pm_wakeup_pending)
 abbrev pub SawNothing : List Entry → Option ℕ → Type 0
 SawNothing past None = Unit {0}
-SawNothing past (Some c) = finishes (steps_since past) < 65536 → (steps_since past ≡ []) × ((numbers past).inpr ≡ 0)
+SawNothing past (Some c) = (steps_since past ≡ []) × ((numbers past).inpr ≡ 0)
 
 -- an attempt under a saved count enters only where nothing came since (pm_save_wakeup_count, pm_wakeup_pending)
 abbrev pub EntersUnseen : List Entry → Kind → Type 0

@@ -1,6 +1,6 @@
 -- Legal logs, in three parts: the journal's entries, the sources' entries, and what ties them together.
-use Rattle.std.specs.Prelude.{◌≡◌, ◌<◌, ◌+◌, ℕ, zero, suc, Bool, true, false, not, ◌&&◌, ◌||◌, nat_lt, List, [], ◌∷◌, length, map, min, reverse, if◌then◌else◌, Option, Some, None, is_none, slice_get}
-use Rattle.std.specs.List.{range_with_len}
+use Rattle.std.specs.Prelude.{◌≡◌, ◌<◌, ◌+◌, ℕ, zero, suc, Bool, true, false, not, ◌&&◌, ◌||◌, nat_lt, nat_le, List, [], ◌∷◌, length, map, min, reverse, if◌then◌else◌, Option, Some, None, is_none, slice_get}
+use Rattle.std.specs.List.{range_with_len, list_all}
 use Rattle.sleep_model.specs.declared.word.EventNow.{EventNow}
 use Rattle.sleep_model.specs.declared.entry.Actor.{Actor}
 use Rattle.sleep_model.specs.declared.entry.Actor.TheVariants as actor
@@ -26,7 +26,7 @@ use Rattle.sleep_model.specs.Numbers.{numbers, time_of}
 use Rattle.sleep_model.specs.Parts.{Part, OfJournal, Notes, Moves, OfTime, part_of, journal}
 use Rattle.sleep_model.specs.Path.{maker, is_same}
 use Rattle.sleep_model.specs.Seats.{seats, seat_at}
-use Rattle.sleep_model.specs.Sources.{is_of, history, expiry, has_expired, SourceStep, stats_at}
+use Rattle.sleep_model.specs.Sources.{is_of, history, most_entries, expiry, has_expired, SourceStep, stats_at}
 use Rattle.sleep_model.specs.Tasks.{is_line}
 
 -- ---- the journal part
@@ -54,6 +54,21 @@ OwnStep past e _ = Unit {0}
 abbrev pub SourcePart : List Entry → Type 0
 SourcePart [] = Unit {0}
 SourcePart (e ∷ past) = OwnStep past e (part_of e.kind) × SourcePart past
+
+-- the entry is of a source of the machine, if it is a source's (wakeup_sources)
+abbrev pub is_there : Machine → Part → Bool
+is_there m (Notes s call) = nat_le s (length m.sources)
+is_there m (Moves s step) = nat_le s (length m.sources)
+is_there m _ = true
+
+-- the history of a source has its places (own)
+abbrev pub is_short : List Entry → ℕ → Bool
+is_short past s = nat_le (length (history s past)) most_entries
+
+-- the machine's sources alone have entries, and each has no more than its history has places for (own)
+pub record HistoriesFit (m : Machine) (past : List Entry) : Type 0 where
+  pub there : list_all (λ e. is_there m (part_of e.kind)) past ≡ true
+  pub short : list_all (is_short past) (range_with_len 0 (length m.sources + 1)) ≡ true
 
 -- ---- who is enabled, by the journal, the sources' histories and the word
 
@@ -187,6 +202,7 @@ Placed (e ∷ past) = (e.now ≡ numbers past) × IsOnTime past e.time (part_of 
 pub record IsLegal (m : Machine) (past : List Entry) : Type 0 where
   pub journal : JournalPart m (journal past)
   pub sources : SourcePart past
+  pub histories : HistoriesFit m past
   pub placed : Placed past
   pub joint : JointPart m past
 

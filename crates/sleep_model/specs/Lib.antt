@@ -2,7 +2,6 @@ pub mod Accepted
 pub mod Answers
 pub mod Attempt
 pub mod Autosleep
-pub mod Built
 pub mod Calls
 pub mod Devices
 pub mod Due

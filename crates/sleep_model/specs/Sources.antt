@@ -21,6 +21,10 @@ is_of s _ = false
 abbrev pub history : ℕ → List Entry → List Entry
 history s past = filter (λ e. is_of s (part_of e.kind)) past
 
+-- how many entries a history has at most (own)
+abbrev pub most_entries : ℕ
+most_entries = 60000
+
 -- ---- its expiry
 
 -- the later of a moment and one that may stand

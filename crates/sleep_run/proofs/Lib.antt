@@ -1,4 +1,5 @@
-pub mod Meters
+pub mod JobsKept
 pub mod Resting
 pub mod Running
-pub mod Writers
+pub mod SourcesKept
+pub mod Whole

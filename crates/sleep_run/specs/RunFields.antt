@@ -9,4 +9,4 @@ state r = record { machine = r.machine.now; past = reverse r.entries.items }
 
 -- what holds of a run between turns
 abbrev pub keeps : Inside → Type 0
-keeps r = IsRunning r.machine.now (reverse r.entries.items) r.core r.events r.calls.items r.made r.meters.items r.floor
+keeps r = IsRunning r.machine.now (reverse r.entries.items) r.core r.events r.sources.items r.jobs r.floor

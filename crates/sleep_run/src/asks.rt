@@ -1,71 +1,69 @@
 ghost use Rattle.std.specs.Prelude.{◌<◌, IfSome};
 
 use sleep_base::Mem;
-use sleep_model::{Device, DeviceFlags};
 use std::alloc::Global;
 
-/// Asynchronous devices that are to be asked, by number. Which they are is no part of what is promised:
-/// one that was left out is found before time jumps.
+/// A set of numbers below a bound, gone through in order: who is to be asked. Which numbers are in it is no
+/// part of what is promised: one that was left out is found before time jumps.
 #[derive(Drop)]
 pub(crate) struct Asks {
     words: Vec<u64>,
-    /// The asynchronous devices.
-    beside: Vec<u64>,
 }
 
 impl Asks {
-    /// None of these devices is to be asked.
-    pub(crate) fn new(alloc: Global, devices: &[Device]) -> Result<Self, Mem> {
-        let words = vec![in alloc; 0; devices.len() / 64 + 1]?;
-        let mut beside = vec![in alloc; 0; devices.len() / 64 + 1]?;
-        for (at, device) in devices.iter().enumerate() {
-            if device.flags.has(DeviceFlags::ASYNC)
-                && let Some(word) = beside.get_mut(at / 64)
-            {
-                *word |= 1 << (at % 64);
-            }
-        }
-        Ok(Asks { words, beside })
+    /// No number, of so many.
+    pub(crate) fn new(alloc: Global, many: usize) -> Result<Self, Mem> {
+        let words = vec![in alloc; 0; many / 64 + 1]?;
+        Ok(Asks { words })
     }
 
-    /// The device is to be asked, if it is asynchronous.
-    pub(crate) fn insert(&mut self, device: u32) {
-        let at = (device / 64) as usize;
-        if let Some(word) = self.words.get_mut(at)
-            && let Some(beside) = self.beside.get(at)
-        {
-            *word |= *beside & (1 << (device % 64));
+    /// The number is in it.
+    pub(crate) fn insert(&mut self, number: u32) {
+        if let Some(word) = self.words.get_mut((number / 64) as usize) {
+            *word |= 1 << (number % 64);
         }
     }
 
-    /// The device is not to be asked.
-    pub(crate) fn remove(&mut self, device: u32) {
-        if let Some(word) = self.words.get_mut((device / 64) as usize) {
-            *word &= !(1 << (device % 64));
+    /// The number is not in it.
+    pub(crate) fn remove(&mut self, number: u32) {
+        if let Some(word) = self.words.get_mut((number / 64) as usize) {
+            *word &= !(1 << (number % 64));
         }
     }
 
-    /// All asynchronous devices are to be asked.
-    pub(crate) fn fill(&mut self) {
-        for at in 0..self.words.len() {
-            if let Some(word) = self.words.get_mut(at)
-                && let Some(beside) = self.beside.get(at)
-            {
-                *word = *beside;
-            }
+    /// All that are in the other are in it.
+    pub(crate) fn add(&mut self, other: &Asks) {
+        for (word, more) in self.words.iter_mut().zip(other.words.iter()) {
+            *word |= *more;
         }
     }
 
-    /// The first that is to be asked from a number on, of so many devices.
-    pub(crate) fn next(&self, from: u32, devices: u32) -> Option<u32>
-        ensures { IfSome result (λ d. d < devices) }
+    /// All that are in the other go over into it.
+    pub(crate) fn take(&mut self, other: &mut Asks) {
+        for (word, more) in self.words.iter_mut().zip(other.words.iter_mut()) {
+            *word |= *more;
+            *more = 0;
+        }
+    }
+
+    /// Whether the number is in it.
+    pub(crate) fn has(&self, number: u32) -> bool {
+        match self.words.get((number / 64) as usize) {
+            Some(word) => *word & (1 << (number % 64)) != 0,
+            None => false,
+        }
+    }
+
+    /// The first from a number on that is in it, of so many.
+    pub(crate) fn next(&self, from: u32, many: u32) -> Option<u32>
+        ensures { IfSome result (λ n. n < many) }
     {
         let mut mask = u64::MAX << (from % 64);
-        for at in from / 64..devices / 64 + 1 {
+        for at in from / 64..many / 64 + 1 {
             let left = *self.words.get(at as usize)? & mask;
             if left != 0 {
-                let device = at * 64 + left.trailing_zeros();
-                return if device < devices { Some(device) } else { None };
+                let number = at * 64 + left.trailing_zeros();
+                return if number < many { Some(number) } else { None };
             }
             mask = u64::MAX;
         }

@@ -2,11 +2,13 @@
 #![tactic(auto)]
 
 mod asks;
+mod calls;
+mod jobs;
 mod looks;
-mod meter;
 mod rest;
 mod rounds;
 mod run;
+mod waiters;
 
 pub use rounds::run_machine;
 pub use run::{RunEnd, RunFault};

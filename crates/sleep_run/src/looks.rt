@@ -1,20 +1,34 @@
-//! What a run's core and its word say of all entries so far.
+//! What a run's core, its sources and its word say of all entries so far.
 
-use crate::run::{Run, WRITER};
-use sleep_core::Events;
+
+ghost use Rattle.std.specs.Prelude.{◌≡◌};
+ghost use Rattle.sleep_model.specs.Legal.{sooner};
+
+use crate::run::Run;
+use event_word::Events;
 use sleep_model::{Actor, EventNow};
 
+/// The lesser of two moments, where there are any.
+fn sooner(one: Option<u64>, other: Option<u64>) -> Option<u64>
+    ensures { result ≡ sooner one other }
+{
+    match (one, other) {
+        (None, other) => other,
+        (one, None) => one,
+        (Some(one), Some(other)) => Some(one.min(other)),
+    }
+}
+
 impl<'m> Run<'m> {
-    ghost use Rattle.std.specs.Prelude.{◌≡◌, ◌≤◌, ◌<◌, ◌^◌, ◌&&◌, true, None, is_none};
-    ghost use Rattle.sleep_model.specs.Calls.{calls_due};
+    ghost use Rattle.std.specs.Prelude.{◌≡◌, ◌≤◌, ◌<◌, ◌+◌, ◌^◌, ◌&&◌, true, None, is_none, length};
     ghost use Rattle.sleep_model.specs.Due.{all_gone};
-    ghost use Rattle.sleep_model.specs.Legal.{is_enabled, next_time};
+    ghost use Rattle.sleep_model.specs.Legal.{is_enabled, next_time, next_expiry};
     ghost use Rattle.sleep_model.specs.Numbers.{numbers, time_of};
     ghost use Rattle.sleep_model.specs.Parts.{journal};
     ghost use Rattle.sleep_model.specs.Path.{maker};
-    ghost use Rattle.sleep_model.specs.Sources.{history};
+    ghost use Rattle.sleep_model.specs.Sources.{history, expiry, has_expired};
     ghost use Rattle.sleep_core.specs.Cores.{IsActor};
-    ghost use Rattle.sleep_run.specs.Runs.{calls_made, is_resting, writer};
+    ghost use Rattle.sleep_run.specs.Runs.{is_resting};
 
     /// The event word.
     pub(crate) fn word(&self) -> EventNow
@@ -32,31 +46,12 @@ impl<'m> Run<'m> {
         self.core.time()
     }
 
-    /// How many calls on sources an actor has made: the writer alone makes some.
-    pub(crate) fn calls_made(&self, who: Actor) -> u32
-        ensures { result ≡ calls_made self.now.machine self.now.past who }
-    {
-        if who == WRITER { self.made } else { 0 }
-    }
-
-    /// How many it has to have made before its next entry of the journal.
-    pub(crate) fn calls_due(&self, who: Actor) -> u32
-        requires { IsActor self.now.machine who }
-        ensures is { result ≡ calls_due self.now.machine who (journal self.now.past) }
-        // No actor has made more.
-        ensures fits { calls_made self.now.machine self.now.past who ≤ result }
-        // The writer alone may have made fewer.
-        ensures own { calls_made self.now.machine self.now.past who < result → who ≡ writer }
-    {
-        self.core.calls_due(who)
-    }
-
     /// Whether an actor can make something that sees this word.
     pub(crate) fn is_enabled(&self, who: Actor, word: EventNow) -> bool
         requires { IsActor self.now.machine who }
         ensures { result ≡ is_enabled self.now.machine (journal self.now.past) (λ s. history s self.now.past) word who }
     {
-        let calls = self.calls_made(who);
+        let calls = self.jobs.calls(who);
         self.core.enabled(who, calls, word, self.core.time())
     }
 
@@ -67,12 +62,51 @@ impl<'m> Run<'m> {
         self.core.whole()
     }
 
+    /// When the event in progress of a source ends by itself, in ms, if it does.
+    pub(crate) fn due_at(&self, source: u32) -> Option<u64>
+        requires { source ≤ length self.now.machine.sources }
+        ensures { result ≡ expiry (history source self.now.past) }
+    {
+        self.sources[source as usize].due()
+    }
+
+    /// Whether the event in progress of a source is to end now.
+    pub(crate) fn has_expired(&self, source: u32) -> bool
+        requires { source ≤ length self.now.machine.sources }
+        ensures { result ≡ has_expired (expiry (history source self.now.past)) (time_of self.now.past) }
+    {
+        match self.due_at(source) {
+            Some(at) => at <= self.time(),
+            None => false,
+        }
+    }
+
+    /// How many sources there are, `autosleep` among them.
+    pub(crate) fn sources(&self) -> u32
+        ensures { result ≡ length self.now.machine.sources + 1 }
+    {
+        // A look at the field makes the invariant known here: the machine has few sources.
+        let _ = &self.sources;
+        self.machine.sources.len() as u32 + 1
+    }
+
+    /// The least expiry of the sources.
+    fn next_expiry(&self) -> Option<u64>
+        ensures { result ≡ next_expiry (length self.now.machine.sources + 1) (λ s. history s self.now.past) }
+    {
+        let mut next = None;
+        for source in 0..self.sources() {
+            next = sooner(self.due_at(source), next);
+        }
+        next
+    }
+
     /// The next pending moment in ms, where there is one.
     pub(crate) fn next_time(&self) -> Option<u64>
         ensures is { result ≡ next_time self.now.machine (journal self.now.past) (λ s. history s self.now.past) }
         // Where nobody can make anything and no moment is pending no attempt is open.
         ensures closed { result ≡ None → is_resting self.now.machine self.now.past ≡ true → maker (journal self.now.past) ≡ None }
     {
-        self.core.next_time()
+        sooner(self.core.next_time(), self.next_expiry())
     }
 }

@@ -1,18 +1,18 @@
 //! What comes after a round that did nothing: a jump of time, or the end.
 
-ghost use Rattle.std.specs.Prelude.{◌≡◌, ◌<◌, ◌+◌, ◌^◌, map, IfOk, All};
-ghost use Rattle.sleep_model.specs.Sources.{run_time};
-ghost use Rattle.sleep_run.specs.Meters.{stats_at};
-ghost use Rattle.sleep_run.specs.Runs.{waits_if};
 
-use crate::meter::Meter;
-use crate::run::{Run, RunFault, WRITER, append, wait_unless};
-use sleep_core::{CoreTurn, Events};
-use sleep_model::{
-    Actor, Entry, EntryList, EventNow, Kind, ListOf, Log, LogEnd, Stats, Waiting, Why,
-};
+ghost use Rattle.std.specs.Prelude.{◌≡◌, ◌≤◌, ◌<◌, ◌^◌, ◌++◌, length, IfOk, OnOk, All};
+ghost use Rattle.sleep_run.specs.Waits.{waits_of, all_stats};
+ghost use Rattle.wakeup_source.specs.SourceStates.{bare, latest};
+
+use crate::calls::append;
+use crate::run::{Run, RunFault, wait_unless};
+use event_word::Events;
+use sleep_base::Mem;
+use sleep_model::{Actor, Due, Entry, EntryList, EventNow, Kind, ListOf, Log, LogEnd, Stats, Waiting};
 use std::alloc::{AllocError, Global};
 use std::sync::Wait;
+use wakeup_source::WakeSource;
 
 /// The greatest moment of a run, in ms. A run that comes past it waits for ever.
 const LAST_MOMENT: u64 = 1 << 63;
@@ -29,26 +29,29 @@ pub(crate) enum Rest {
 }
 
 /// The statistics of the sources at that moment.
-fn stats_of(alloc: Global, meters: &[Meter], at: u64) -> Result<Vec<Stats>, AllocError>
-    requires { All (λ m. m.total + run_time m.since at < 2 ^ 64) meters.now }
-    ensures { IfOk result (λ v. v.items ≡ map (λ m. stats_at m at) meters.now) }
+fn stats_of(alloc: Global, sources: &[WakeSource<60000>], at: u64) -> Result<Vec<Stats>, AllocError>
+    requires time { All (λ s. latest (bare s.past) ≤ at) sources.now }
+    requires small { at ≤ 2 ^ 63 }
+    ensures { IfOk result (λ v. v.items ≡ all_stats sources.now at) }
 {
-    let mut stats = Vec::new(alloc);
-    for meter in meters {
-        stats.push(meter.stats(at))?;
+    let mut stats = Vec::with_capacity(alloc, sources.len())?;
+    for source in sources {
+        stats.push(source.stats(at))?;
     }
     Ok(stats)
 }
 
-/// Who waits, and why, where that is why the writer does.
-fn waiting_of(alloc: Global, why: Option<Why>) -> Result<Vec<Waiting>, AllocError>
-    ensures { IfOk result (λ v. v.items ≡ waits_if why) }
+/// A script that waits is put behind the others.
+fn push_waiting(those: &mut Vec<Waiting>, script: u32, due: Due) -> Result<(), AllocError>
+    ensures { OnOk result (those.new.items ≡ those.old.items ++ waits_of script due) }
 {
-    let mut those = Vec::new(alloc);
-    if let Some(why) = why {
-        those.push(Waiting { actor: WRITER, why })?;
+    if let Due::Waits(why) = due {
+        those.push(Waiting {
+            actor: Actor::Script(script),
+            why,
+        })?;
     }
-    Ok(those)
+    Ok(())
 }
 
 impl<'m> Run<'m> {
@@ -82,13 +85,15 @@ impl<'m> Run<'m> {
         none
     }
 
-    /// Whether no timer of a source is to make anything: no event lasts today.
+    /// Whether no timer of a source is to make anything.
     fn rest_timers(&self) -> bool
-        ensures { result ≡ none_expires (length self.now.machine.sources + 1) (λ s. history s self.now.past) (time_of (journal self.now.past)) }
+        ensures { result ≡ none_expires (length self.now.machine.sources + 1) (λ s. history s self.now.past) (time_of self.now.past) }
     {
-        // A look at the field makes the invariant known here: all sources are quiet.
-        let _ = &self.meters;
-        true
+        let mut none = true;
+        for source in 0..self.sources() {
+            none = !self.has_expired(source) & none;
+        }
+        none
     }
 
     /// Whether nobody can make anything.
@@ -97,10 +102,10 @@ impl<'m> Run<'m> {
     {
         let word = self.word();
         let by_script = self.rest_scripts(word);
-        let by_work = !self.is_enabled(Actor::Auto, word);
+        let works = self.is_enabled(Actor::Auto, word);
         let by_device = self.rest_devices(word);
         let by_timer = self.rest_timers();
-        by_script & by_work & by_device & by_timer
+        by_script & !works & by_device & by_timer
     }
 
     /// Time jumps to the next pending moment, where nobody can make anything.
@@ -123,6 +128,7 @@ impl<'m> Run<'m> {
                 kind: Kind::Jump,
             },
         );
+        self.waiters.stir_time();
         Ok(())
     }
 
@@ -132,8 +138,7 @@ impl<'m> Run<'m> {
         ensures after { AfterRest self.old self.new result }
     {
         if !self.is_resting() {
-            self.asks.fill();
-            self.auto = true;
+            self.waiters.stir_all();
             return Ok(Rest::GoesOn);
         }
         if self.is_whole() {
@@ -149,34 +154,27 @@ impl<'m> Run<'m> {
         }
     }
 
-    /// Why the writer waits, where nobody goes on.
-    fn writer_waits<R: Wait>(&mut self, rt: &R) -> Result<Option<Why>, RunFault>
-        requires { IsStuckAfter self.old.machine self.old.past }
-        ensures same { OnOk result (self.new ≡ self.old) }
-        ensures waiting { IfOk result (λ why. waiting self.old.machine (journal self.old.past) (numbers self.old.past) ≡ waits_if why) }
+    /// The scripts that wait, and for what, where nobody goes on.
+    fn waiting(&self, alloc: Global) -> Result<Vec<Waiting>, AllocError>
+        requires { IsStuckAfter self.now.machine self.now.past }
+        ensures { IfOk result (λ v. v.items ≡ waiting self.now.machine (journal self.now.past) (numbers self.now.past)) }
     {
-        let calls = self.calls_made(WRITER);
-        let time = self.core.time();
-        let turn = self
-            .core
-            .turn(rt, &mut self.events, WRITER, calls, self.floor, time)?;
-        match turn {
-            CoreTurn::NotYet(why) => Ok(Some(why)),
-            CoreTurn::Done => Ok(None),
-            CoreTurn::Did { .. } => unreachable!(),
+        let word = self.word();
+        let mut those = Vec::new(alloc);
+        for script in 0..self.machine.actors.len() as u32 {
+            push_waiting(&mut those, script, self.core.due(Actor::Script(script), word))?;
         }
+        Ok(those)
     }
 
     /// How a run that is over ended.
-    fn end<R: Wait>(&mut self, rt: &R, alloc: Global, rest: Rest) -> Result<LogEnd, RunFault>
-        requires { AfterAll self.old (Ok rest) }
-        ensures same { OnOk result (self.new ≡ self.old) }
-        ensures end { IfOk result (λ end. EndsSo self.old end) }
+    fn end(&self, alloc: Global, rest: Rest) -> Result<LogEnd, AllocError>
+        requires { AfterAll self.now (Ok rest) }
+        ensures { IfOk result (λ end. EndsSo self.now end) }
     {
         match rest {
             Rest::Stuck => {
-                let why = self.writer_waits(rt)?;
-                let those = waiting_of(alloc, why)?;
+                let those = self.waiting(alloc)?;
                 Ok(LogEnd::Stuck(ListOf::of_vec(those)))
             }
             _ => Ok(LogEnd::Finished),
@@ -184,17 +182,12 @@ impl<'m> Run<'m> {
     }
 
     /// The log of a run that is over.
-    pub(crate) fn into_log<R: Wait>(
-        mut self,
-        rt: &R,
-        alloc: Global,
-        rest: Rest,
-    ) -> Result<Log, RunFault>
+    pub(crate) fn into_log(self, alloc: Global, rest: Rest) -> Result<Log, Mem>
         requires { AfterAll self (Ok rest) }
         ensures { IfOk result (λ log. IsRun self.entry.machine log) }
     {
-        let end = self.end(rt, alloc, rest)?;
-        let stats = stats_of(alloc, &self.meters, self.time())?;
+        let end = self.end(alloc, rest)?;
+        let stats = stats_of(alloc, &self.sources, self.time())?;
         let Run { entries, .. } = self;
         Ok(Log {
             entries: EntryList::of_vec(entries),

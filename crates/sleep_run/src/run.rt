@@ -1,18 +1,23 @@
-ghost use Rattle.std.specs.Prelude.{◌≡◌, ◌<◌, ◌+◌, ◌∷◌, true, reverse, IfOk, vec_len, vec_capacity};
-ghost use Rattle.sleep_run.specs.Runs.{events_of, writer};
+//! A run of a machine, turn by turn.
 
-use crate::asks::Asks;
-use crate::meter::Meter;
+
+ghost use Rattle.std.specs.Prelude.{◌≡◌, ◌≤◌, ◌<◌, ◌+◌, zero, suc, true, length, IfOk};
+ghost use Rattle.sleep_run.specs.declared.run.RunFault.TheVariants as fault;
+ghost use Rattle.sleep_run.specs.Firsts.{first_sources, run_fault};
+
+use crate::calls::{append, make_whole};
+use crate::jobs::Jobs;
+use crate::waiters::Waiters;
+use answer_book::AnswerBook;
 use device_links::Links;
+use event_word::{Events, PlainEvents};
 use sleep_base::Mem;
-use sleep_core::{Core, CoreFault, CoreTurn, Events, PlainEvents};
-use sleep_model::{Actor, Entry, EventNow, Kind, Log, Machine, Op, Script, Stamp, pos};
+use sleep_core::{Core, CoreFault, CoreTurn};
+use sleep_model::{Actor, Entry, Kind, Log, Machine, SourceCall, Stamp, Why};
 use std::alloc::{AllocError, Global};
 use std::marker::Model;
 use std::sync::Wait;
-
-/// The one script of a machine today.
-pub(crate) const WRITER: Actor = Actor::Script(0);
+use wakeup_source::{CallBy, SourceFault, WakeSource};
 
 /// What a whole run gives.
 #[derive(Drop)]
@@ -23,26 +28,45 @@ pub struct RunEnd {
 /// Why a run gives nothing.
 #[derive(Clone, Copy, Debug, PartialEq, Eq)]
 pub enum RunFault {
+    /// The history of that source has no place left for a call.
+    SourceFull(u32),
     /// There was no memory.
     Mem,
 }
 
 impl From<AllocError> for RunFault {
+    ghost from_gives = { λ _ e. e ≡ fault.Mem };
+
     fn from(_: AllocError) -> Self {
         RunFault::Mem
     }
 }
 
 impl From<Mem> for RunFault {
+    ghost from_gives = { λ _ e. e ≡ fault.Mem };
+
     fn from(_: Mem) -> Self {
         RunFault::Mem
     }
 }
 
 impl From<CoreFault> for RunFault {
+    ghost from_gives = { λ _ e. e ≡ fault.Mem };
+
     fn from(_: CoreFault) -> Self {
         RunFault::Mem
     }
+}
+
+/// What came of an actor's try.
+#[derive(Clone, Copy)]
+pub(crate) enum Tried {
+    /// It made entries.
+    Made,
+    /// It waits, for that.
+    Waits(Why),
+    /// It has nothing to do any more.
+    Gone,
 }
 
 /// A run of a machine, as far as it has come.
@@ -53,17 +77,12 @@ pub(crate) struct Run<'m> {
     pub(crate) events: PlainEvents,
     /// All entries, the sources' too, in the order in which they were made.
     pub(crate) entries: Vec<Entry>,
-    /// The sources of the writer's events, in order, and how many of them it has reported.
-    pub(crate) calls: Vec<u32>,
-    pub(crate) made: u32,
-    /// What is counted of each source, `autosleep` last.
-    pub(crate) meters: Vec<Meter>,
+    /// The wakeup sources, `autosleep` last.
+    pub(crate) sources: Vec<WakeSource<60000>>,
+    pub(crate) jobs: Jobs<'m>,
     /// The last stamp that anybody made.
     pub(crate) floor: Stamp,
-    /// The devices that may have something to do.
-    pub(crate) asks: Asks,
-    /// Whether autosleep was ever set: its work has nothing to do before.
-    pub(crate) auto: bool,
+    pub(crate) waiters: Waiters,
 }
 
 impl<'m> Model for Run<'m> {
@@ -89,151 +108,170 @@ pub(crate) fn wait_unless<R: Wait>(rt: &R, holds: bool)
     unreachable!()
 }
 
-/// The sources of the events that a script reports, in order.
-fn events_of(alloc: Global, script: &Script) -> Result<Vec<u32>, AllocError>
-    ensures { IfOk result (λ v. v.items ≡ events_of script.now.steps) }
+/// So many sources, none of which was ever called.
+fn sources_of(alloc: Global, many: u32) -> Result<Vec<WakeSource<60000>>, AllocError>
+    ensures { IfOk result (λ v. v.items ≡ first_sources many) }
 {
-    let mut sources = Vec::new(alloc);
-    for step in script.steps.as_slice() {
-        if let Op::Event { source, .. } = &step.op {
-            sources.push(*source)?;
-        }
+    let mut sources = Vec::with_capacity(alloc, many as usize)?;
+    for source in 0..many {
+        sources.push(WakeSource::new(alloc, source))?;
     }
     Ok(sources)
 }
 
-/// An entry of the writer.
-fn by_writer(time: u64, now: EventNow, kind: Kind) -> Entry
-    ensures { result ≡ record { time = time; now = now; actor = writer; kind = kind } }
+/// Why a call on that source was refused.
+fn fault_of(fault: SourceFault, source: u32) -> RunFault
+    ensures { result ≡ run_fault fault source }
 {
-    Entry {
-        time,
-        now,
-        actor: WRITER,
-        kind,
+    match fault {
+        SourceFault::Full => RunFault::SourceFull(source),
+        SourceFault::Mem => RunFault::Mem,
     }
 }
 
-/// After an entry: the devices that may have something to do by it. One may that is given out, and one that waits for a
-/// device right below it on the way down, or right above it on the way up.
-fn wake(core: &Core<'_>, asks: &mut Asks, kind: Kind) {
-    match kind {
-        Kind::Schedule(_, device) => asks.insert(device),
-        Kind::End(phase, device, _) | Kind::Skip(phase, device, _) => {
-            let waiting = if phase.is_down() {
-                core.above(device)
-            } else {
-                core.below(device)
-            };
-            for other in waiting {
-                asks.insert(*other);
-            }
-        }
-        _ => {}
-    }
-}
-
-/// Appends an entry where there is room for it.
-pub(crate) fn append(entries: &mut Vec<Entry>, entry: Entry)
-    requires { vec_len entries.old < vec_capacity entries.old }
-    ensures { reverse entries.new.items ≡ entry ∷ reverse entries.old.items }
-{
-    if entries.push(entry).is_err() {
-        unreachable!()
+/// After an entry: the devices that may have something to do by it. One may that waits for a device right below
+/// it on the way down, or right above it on the way up.
+fn stir_devices(core: &Core<'_>, waiters: &mut Waiters, kind: Kind) {
+    let (Kind::End(phase, device, _) | Kind::Skip(phase, device, _)) = kind else {
+        return;
+    };
+    let waiting = if phase.is_down() {
+        core.above(device)
+    } else {
+        core.below(device)
+    };
+    for other in waiting {
+        waiters.stir_device(*other);
     }
 }
 
 impl<'m> Run<'m> {
-    ghost use Rattle.std.specs.Prelude.{◌≡◌, ◌<◌, [], true, length, reverse, IfOk, OnOk};
+    ghost use Rattle.std.specs.Prelude.{◌≡◌, ◌≤◌, ◌<◌, [], true, length, reverse, IfOk, OnOk, IfErr};
+    ghost use Rattle.sleep_model.specs.declared.entry.Actor.TheVariants.{Timer};
+    ghost use Rattle.sleep_model.specs.declared.machine.SourceCall.TheVariants.{Expire};
     ghost use Rattle.sleep_model.specs.Accepted.{IsAccepted};
-    ghost use Rattle.sleep_model.specs.Built.{is_built};
-    ghost use Rattle.sleep_model.specs.Calls.{calls_due};
+    ghost use Rattle.sleep_model.specs.Calls.{calls_due, calls_of, note};
+    ghost use Rattle.sleep_model.specs.Numbers.{time_of};
     ghost use Rattle.sleep_model.specs.Order.{parents_of};
     ghost use Rattle.sleep_model.specs.Parts.{journal};
+    ghost use Rattle.sleep_model.specs.Sources.{history, expiry, has_expired};
     ghost use Rattle.sleep_core.specs.Cores.{IsActor};
-    ghost use Rattle.sleep_run.specs.Runs.{calls_made, writer, AfterTry};
+    ghost use Rattle.sleep_run.specs.Runs.{calls_made, Fails};
+    ghost use Rattle.sleep_run.specs.Tries.{AfterAsking};
+    ghost use Rattle.sleep_run.specs.Firsts.{CallsNext};
 
     /// A run in which nothing is done yet.
-    pub(crate) fn new(alloc: Global, machine: &'m Machine, links: Links) -> Result<Self, RunFault>
+    pub(crate) fn new(
+        alloc: Global,
+        machine: &'m Machine,
+        book: &'m AnswerBook<'m>,
+        links: Links,
+    ) -> Result<Self, Mem>
         requires accepted { IsAccepted machine.now }
-        requires built { is_built machine.now ≡ true }
+        requires book { book.now ≡ machine.now.answers }
         requires links { links ≡ record { parents = parents_of machine.now.devices; links = reverse machine.now.links } }
         ensures { IfOk result (λ run. run ≡ record { machine = machine.now; past = [] }) }
     {
         let core = Core::new(alloc, machine, links)?;
-        let calls = events_of(alloc, &machine.actors.as_slice()[0])?;
-        let meters = vec![in alloc; Meter::new(); machine.sources.len() + 1]?;
-        let asks = Asks::new(alloc, machine.devices.as_slice())?;
+        let sources = sources_of(alloc, machine.sources.len() as u32 + 1)?;
+        let jobs = Jobs::new(alloc, machine, book)?;
+        let waiters = Waiters::new(alloc, machine.actors.len(), machine.devices.as_slice())?;
+        let events = PlainEvents::new();
+        let entries = Vec::new(alloc);
         Ok(Run {
             machine,
             core,
-            events: PlainEvents::new(),
-            entries: Vec::new(alloc),
-            calls,
-            made: 0,
-            meters,
+            events,
+            entries,
+            sources,
+            jobs,
             floor: Stamp { pos: 0, tick: 0 },
-            asks,
-            auto: false,
+            waiters,
         })
     }
 
-    /// The writer reports its next event as a whole: the note, the start and the finish.
-    pub(crate) fn report<R: Wait>(&mut self, rt: &R) -> Result<(), RunFault>
-        requires { calls_made self.old.machine self.old.past writer < calls_due self.old.machine writer (journal self.old.past) }
+    /// An actor makes the call on a source that is next, as a whole: its note, and all steps that it makes.
+    pub(crate) fn call<R: Wait>(
+        &mut self,
+        rt: &R,
+        who: Actor,
+        source: u32,
+        call: SourceCall,
+    ) -> Result<(), RunFault>
+        requires actor { IsActor self.old.machine who }
+        requires next { CallsNext self.old.machine self.old.past who source call }
         ensures machine { self.new.machine ≡ self.old.machine }
         ensures made { OnOk result (length self.old.past < length self.new.past) }
+        ensures fault { IfErr result (Fails self.old.machine) }
     {
-        wait_unless(rt, self.floor.tick < u64::MAX - 3);
-        let source = self.calls[self.made as usize];
-        let time = self.core.time();
-        let mut events = self.events;
-        let before = events.start();
-        let during = events.finish();
-        let note = Kind::Event {
-            source,
-            ms: 0,
-            hard: false,
+        let by = CallBy {
+            actor: who,
+            floor: self.floor,
+            now: self.core.time(),
         };
-        self.entries.extend_from_slice(&[
-            by_writer(time, before, note),
-            by_writer(time, before, Kind::Start(source)),
-            by_writer(time, during, Kind::Finish(source)),
-        ])?;
-        let meter = self.meters[source as usize].note();
-        self.meters[source as usize] = meter.start(time).finish(time);
-        self.events = events;
-        self.made += 1;
-        self.floor = Stamp {
-            pos: pos(events.look()),
-            tick: self.floor.tick + 3,
+        let one = &mut self.sources[source as usize];
+        match make_whole(rt, one, &mut self.events, &mut self.entries, by, call) {
+            Ok(stamp) => {
+                self.floor = stamp;
+                self.jobs.told_call(who, stamp);
+                self.waiters.stir_word();
+                Ok(())
+            }
+            Err(fault) => Err(fault_of(fault, source)),
+        }
+    }
+
+    /// The timer of a source ends the event in progress, whose moment has come.
+    pub(crate) fn expire<R: Wait>(&mut self, rt: &R, source: u32) -> Result<(), RunFault>
+        requires there { source ≤ length self.old.machine.sources }
+        requires due { has_expired (expiry (history source self.old.past)) (time_of self.old.past) ≡ true }
+        ensures machine { self.new.machine ≡ self.old.machine }
+        ensures made { OnOk result (length self.old.past < length self.new.past) }
+        ensures fault { IfErr result (Fails self.old.machine) }
+    {
+        let by = CallBy {
+            actor: Actor::Timer(source),
+            floor: self.floor,
+            now: self.core.time(),
         };
-        Ok(())
+        let one = &mut self.sources[source as usize];
+        match make_whole(rt, one, &mut self.events, &mut self.entries, by, SourceCall::Expire) {
+            Ok(stamp) => {
+                self.floor = stamp;
+                self.waiters.stir_word();
+                Ok(())
+            }
+            Err(fault) => Err(fault_of(fault, source)),
+        }
     }
 
     /// After an entry: who may have something to do by it.
     fn heed(&mut self, kind: Kind)
         ensures { self.new ≡ self.old }
     {
-        self.auto = self.auto || matches!(kind, Kind::AutoSet(_));
-        wake(&self.core, &mut self.asks, kind);
+        self.waiters.stir(kind);
+        stir_devices(&self.core, &mut self.waiters, kind);
     }
 
-    /// A turn of an actor that has made its calls: whether it made an entry.
-    pub(crate) fn turn<R: Wait>(&mut self, rt: &R, who: Actor) -> Result<bool, RunFault>
+    /// A turn of an actor that has made its calls. What it made stands behind all entries.
+    pub(crate) fn turn<R: Wait>(&mut self, rt: &R, who: Actor) -> Result<Tried, RunFault>
         requires actor { IsActor self.old.machine who }
         requires calls { calls_made self.old.machine self.old.past who ≡ calls_due self.old.machine who (journal self.old.past) }
         ensures machine { self.new.machine ≡ self.old.machine }
-        ensures after { AfterTry self.old self.new result }
+        ensures after { AfterAsking self.old self.new result }
     {
-        let calls = self.calls_made(who);
+        let calls = self.jobs.calls(who);
         self.entries.reserve(1)?;
         let time = self.core.time();
         let turn = self
             .core
             .turn(rt, &mut self.events, who, calls, self.floor, time)?;
         match turn {
-            CoreTurn::Did { stamp, kind, .. } => {
+            CoreTurn::Did {
+                stamp,
+                kind,
+                attempt,
+            } => {
                 let now = self.events.look();
                 append(
                     &mut self.entries,
@@ -245,10 +283,12 @@ impl<'m> Run<'m> {
                     },
                 );
                 self.floor = stamp;
+                self.jobs.told_turn(who, stamp, kind, attempt);
                 self.heed(kind);
-                Ok(true)
+                Ok(Tried::Made)
             }
-            CoreTurn::NotYet(_) | CoreTurn::Done => Ok(false),
+            CoreTurn::NotYet(why) => Ok(Tried::Waits(why)),
+            CoreTurn::Done => Ok(Tried::Gone),
         }
     }
 }

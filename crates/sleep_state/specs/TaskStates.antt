@@ -7,20 +7,26 @@ use Rattle.sleep_model.specs.declared.entry.Kind.TheVariants as kind
 use Rattle.sleep_model.specs.declared.machine.Script.{Script}
 use Rattle.sleep_model.specs.declared.place.Freezing.{Freezing}
 use Rattle.sleep_model.specs.declared.place.Seat.{Seat}
-use Rattle.sleep_state.specs.declared.tasks.Left.{Left}
+use Rattle.sleep_state.specs.declared.left.Left.{Left}
 use Rattle.sleep_model.specs.Freezer.{unasked, freezings_after}
 use Rattle.sleep_model.specs.Marks.{mark_at, marks_after}
 use Rattle.sleep_model.specs.Seats.{first_seat, seat_at, seat_part, seats_after}
 
--- where each script stands, what the freezer has come to with it, and each mark's number
+-- the scripts, where each stands, what the freezer has come to with it, and each mark's number
 pub record TaskState : Type 0 where
+  pub scripts : List Script
   pub seats : List Seat
   pub freezings : List Freezing
   pub marks : List ℕ
 
--- so many scripts at their first steps, asked for nothing, and so many marks that are not raised
-abbrev pub at_first : ℕ → ℕ → TaskState
-at_first scripts marks = record { seats = replicate scripts first_seat; freezings = replicate scripts unasked; marks = replicate marks 0 }
+-- these scripts at their first steps, asked for nothing, and so many marks that are not raised
+abbrev pub at_first : List Script → ℕ → TaskState
+at_first scripts marks = record {
+  scripts = scripts;
+  seats = replicate (length scripts) first_seat;
+  freezings = replicate (length scripts) unasked;
+  marks = replicate marks 0;
+}
 
 -- a script has made few steps and turns
 pub record IsSmallSeat (s : Seat) : Type 0 where
@@ -37,11 +43,12 @@ abbrev pub MarksAreSmall : Kind → List ℕ → Type 0
 MarksAreSmall (kind.Post mark) marks = mark_at marks mark + 1 < 2 ^ 32
 MarksAreSmall _ marks = Unit {0}
 
--- what an entry of that actor does to the tasks of these scripts (freeze_task, thaw_processes)
-abbrev pub tasks_after : List Script → Actor → Kind → TaskState → TaskState
-tasks_after scripts who kind before = record {
+-- what an entry of that actor does to the tasks (freeze_task, thaw_processes)
+abbrev pub tasks_after : Actor → Kind → TaskState → TaskState
+tasks_after who kind before = record {
+  scripts = before.scripts;
   seats = seats_after who (seat_part kind) before.seats;
-  freezings = freezings_after scripts who kind before.freezings;
+  freezings = freezings_after before.scripts who kind before.freezings;
   marks = marks_after kind before.marks;
 }
 

@@ -4,6 +4,7 @@
 mod autosleep;
 mod devices;
 mod journal;
+mod left;
 mod path;
 mod tasks;
 #[cfg(test)]
@@ -13,6 +14,7 @@ mod texts;
 pub use autosleep::{Autosleep, is_actor, is_same};
 pub use devices::Devices;
 pub use journal::Journal;
+pub use left::Left;
 pub use path::{Path, behind};
-pub use tasks::{Left, Tasks};
+pub use tasks::Tasks;
 pub use texts::{is_autosleep_text, is_mem, is_off};

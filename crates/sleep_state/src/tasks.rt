@@ -1,29 +1,37 @@
 ghost use Rattle.std.specs.Prelude.{◌≡◌, ◌<◌, ◌≤◌, ◌+◌, ◌-◌, ◌^◌, length};
-ghost use Rattle.sleep_model.specs.Freezer.{unasked, is_in, is_task, asked_by, all_asked, let_go, all_let_go, put_frozen, freezings_after, keeps_waiting};
+ghost use Rattle.sleep_model.specs.Freezer.{unasked, is_in, is_task, asked_by, all_asked, let_go, all_let_go, put_frozen, freezings_after};
 ghost use Rattle.sleep_model.specs.Marks.{marks_after};
 ghost use Rattle.sleep_model.specs.Seats.{first_seat, seat_part, next_step, seat_after, seats_after};
-ghost use Rattle.sleep_state.specs.TaskStates.{SeatIsSmall, MarksAreSmall, first_or};
+ghost use Rattle.sleep_state.specs.TaskStates.{SeatIsSmall, MarksAreSmall};
 
+use crate::left::{Left, LeftCounts, counts_after, left_among, waits_among};
 use sleep_base::Mem;
 use sleep_model::{Actor, Freezing, Group, Kind, Script, Seat, TaskKind, Thaw};
 use std::alloc::Global;
 use std::marker::Model;
 
-/// Where each script stands, what the freezer has come to with it, and the marks by which scripts wait
-/// for one another (`kernel/freezer.c`).
+/// Where each script of a machine stands, what the freezer has come to with it, and the marks by which
+/// scripts wait for one another (`kernel/freezer.c`). The tasks that a freeze waits for are counted, so
+/// that their number is known at once.
 #[derive(Drop)]
-pub struct Tasks {
+pub struct Tasks<'m> {
+    scripts: &'m [Script],
     seats: Vec<Seat>,
     freezings: Vec<Freezing>,
     marks: Vec<u32>,
+    left: LeftCounts,
 }
 
-impl Model for Tasks {
+impl<'m> Model for Tasks<'m> {
     ghost use Rattle.sleep_state.specs.TaskStates.{TaskState};
 
     ghost Value = { TaskState };
 
-    ghost view = { λ t. record { seats = t.seats.items; freezings = t.freezings.items; marks = t.marks.items } };
+    ghost use Rattle.sleep_state.specs.TaskFields.{tasks, AreCounted};
+
+    ghost view = { tasks };
+
+    ghost invariant = { AreCounted };
 }
 
 /// A script at its first step.
@@ -154,7 +162,7 @@ fn move_marks(marks: &mut Vec<u32>, kind: Kind)
 }
 
 /// Whether a freeze of the group asks tasks of that kind.
-fn is_in(group: Group, kind: TaskKind) -> bool
+pub(crate) fn is_in(group: Group, kind: TaskKind) -> bool
     ensures { result ≡ is_in group kind }
 {
     matches!(
@@ -249,67 +257,46 @@ fn move_freezings(freezings: &mut Vec<Freezing>, scripts: &[Script], who: Actor,
     }
 }
 
-/// The tasks that a freeze still waits for: how many they are, and the first in the order of the file.
-#[derive(Clone, Copy)]
-pub struct Left {
-    pub count: u32,
-    pub first: Option<u32>,
-}
-
-/// Whether a task keeps the freeze of its group waiting (`try_to_freeze_tasks`).
-fn keeps_waiting(group: Group, kind: TaskKind, freezing: Freezing, seat: Seat) -> bool
-    ensures { result ≡ keeps_waiting group kind freezing seat }
-{
-    is_in(group, kind) && freezing.asked && !freezing.frozen && !seat.exited
-}
-
-impl Left {
-    /// One task more is left, behind the others.
-    fn and(self, task: u32) -> Left
-        requires { self.count < 2 ^ 32 - 1 }
-        ensures count { result.count ≡ self.count + 1 }
-        ensures first { result.first ≡ first_or self.first task }
-    {
-        let first = match self.first {
-            None => Some(task),
-            first => first,
-        };
-        Left {
-            count: self.count + 1,
-            first,
-        }
-    }
-}
-
-impl Tasks {
+impl<'m> Tasks<'m> {
     ghost use Rattle.std.specs.Prelude.{◌≡◌, ◌<◌, ◌^◌, IfOk, length};
     ghost use Rattle.sleep_model.specs.Freezer.{freezing_at, left_from};
     ghost use Rattle.sleep_model.specs.Marks.{mark_at};
     ghost use Rattle.sleep_model.specs.Seats.{seat_at, all_exited};
     ghost use Rattle.sleep_state.specs.TaskStates.{SeatIsSmall, MarksAreSmall, tasks_after, at_first, IsLeft};
 
-    /// So many scripts at their first steps, and so many marks. `Mem` where there is no memory.
-    pub fn new(alloc: Global, scripts: usize, marks: usize) -> Result<Self, Mem>
-        ensures { IfOk result (λ t. t ≡ at_first scripts marks) }
+    /// These scripts at their first steps, and so many marks. `Mem` where there is no memory.
+    pub fn new(alloc: Global, scripts: &'m [Script], marks: usize) -> Result<Self, Mem>
+        requires { length scripts.now < 2 ^ 31 }
+        ensures { IfOk result (λ t. t ≡ at_first scripts.now marks) }
     {
         Ok(Tasks {
-            seats: vec![in alloc; first_seat(); scripts]?,
-            freezings: vec![in alloc; unasked(); scripts]?,
+            scripts,
+            seats: vec![in alloc; first_seat(); scripts.len()]?,
+            freezings: vec![in alloc; unasked(); scripts.len()]?,
             marks: vec![in alloc; 0; marks]?,
+            left: LeftCounts { user: 0, kernel: 0 },
         })
     }
 
-    /// What an entry of that actor does to the tasks of a machine with these scripts.
-    pub fn note(&mut self, scripts: &[Script], who: Actor, kind: Kind)
-        requires all { length self.old.freezings ≡ length scripts.now }
-        requires few { length scripts.now < 2 ^ 32 }
+    /// What an entry of that actor does to the tasks.
+    pub fn note(&mut self, who: Actor, kind: Kind)
         requires seat { SeatIsSmall who self.old.seats }
         requires marks { MarksAreSmall kind self.old.marks }
-        ensures { self.new ≡ tasks_after scripts.now who kind self.old }
+        ensures { self.new ≡ tasks_after who kind self.old }
     {
+        let waited = waits_among(self.scripts, &self.freezings, &self.seats, who);
         move_seat(&mut self.seats, who, kind);
-        move_freezings(&mut self.freezings, scripts, who, kind);
+        move_freezings(&mut self.freezings, self.scripts, who, kind);
         move_marks(&mut self.marks, kind);
+        self.left = counts_after(
+            self.scripts,
+            &self.freezings,
+            &self.seats,
+            who,
+            kind,
+            self.left,
+            waited,
+        );
     }
 
     /// Where that script stands.
@@ -349,23 +336,19 @@ impl Tasks {
         self.seats.iter().all(|seat| seat.exited)
     }
 
-    /// The tasks that a freeze of the group still waits for, where these are the scripts
-    /// (`try_to_freeze_tasks`).
-    pub fn left(&self, scripts: &[Script], group: Group) -> Left
-        requires seats { length self.now.seats ≡ length scripts.now }
-        requires freezings { length self.now.freezings ≡ length scripts.now }
-        requires few { length scripts.now < 2 ^ 32 }
-        ensures { IsLeft result (left_from group 0 scripts.now self.now.freezings self.now.seats) }
+    /// How many tasks a freeze of the group still waits for (`try_to_freeze_tasks`, `todo`). It is
+    /// counted already.
+    pub fn left_count(&self, group: Group) -> u32
+        ensures { result ≡ length (left_from group 0 self.now.scripts self.now.freezings self.now.seats) }
     {
-        let mut left = Left {
-            count: 0,
-            first: None,
-        };
-        for (i, script) in scripts.iter().enumerate() {
-            if keeps_waiting(group, script.kind, self.freezings[i], self.seats[i]) {
-                left = left.and(i as u32);
-            }
-        }
-        left
+        self.left.of(group)
+    }
+
+    /// The tasks that a freeze of the group still waits for, found by going through all
+    /// (`try_to_freeze_tasks`).
+    pub fn left(&self, group: Group) -> Left
+        ensures { IsLeft result (left_from group 0 self.now.scripts self.now.freezings self.now.seats) }
+    {
+        left_among(self.scripts, &self.freezings, &self.seats, group)
     }
 }

@@ -194,19 +194,20 @@ fn a_freeze_asks_its_group(rt: HostRuntime) -> Result<(), Fail> {
     ] {
         scripts.push(script(alloc, kind)?)?;
     }
-    let mut tasks = Tasks::new(alloc, 5, 0)?;
+    let mut tasks = Tasks::new(alloc, scripts.as_slice(), 0)?;
     assert!(rt; scripts.len() == 5);
-    assert_eq!(rt; tasks.left(scripts.as_slice(), Group::User).count, 0);
-    tasks.note(scripts.as_slice(), TASK, Kind::Freeze(Group::User));
+    assert_eq!(rt; tasks.left(Group::User).count, 0);
+    tasks.note(TASK, Kind::Freeze(Group::User));
     for (i, asked) in [(0, false), (1, true), (2, false), (3, false), (4, true)] {
         assert_eq!(rt; tasks.freezing(i).asked, asked, "task {i}");
     }
-    let left = tasks.left(scripts.as_slice(), Group::User);
+    let left = tasks.left(Group::User);
     assert_eq!(rt; (left.count, left.first), (2, Some(1)));
-    tasks.note(scripts.as_slice(), TASK, Kind::Thaw(Thaw::All));
+    assert_eq!(rt; tasks.left_count(Group::User), 2);
+    tasks.note(TASK, Kind::Thaw(Thaw::All));
     assert!(rt; tasks.freezing(1) == unasked);
-    let mut frozen = Tasks::new(alloc, 5, 0)?;
-    frozen.note(scripts.as_slice(), Actor::Script(1), Kind::Frozen);
+    let mut frozen = Tasks::new(alloc, scripts.as_slice(), 0)?;
+    frozen.note(Actor::Script(1), Kind::Frozen);
     assert!(rt; frozen.freezing(1).frozen && !frozen.freezing(4).frozen);
     Ok(())
 }
@@ -345,18 +346,18 @@ fn a_script_moves_on(rt: HostRuntime) -> Result<(), Fail> {
     let mut scripts = Vec::new(alloc);
     scripts.push(script(alloc, TaskKind::User)?)?;
     assert!(rt; scripts.len() == 1);
-    let mut tasks = Tasks::new(alloc, 1, 1)?;
-    tasks.note(scripts.as_slice(), TASK, Kind::ReadWait);
+    let mut tasks = Tasks::new(alloc, scripts.as_slice(), 1)?;
+    tasks.note(TASK, Kind::ReadWait);
     assert!(rt; tasks.seat(0).waits);
-    tasks.note(scripts.as_slice(), TASK, Kind::Read(3));
+    tasks.note(TASK, Kind::Read(3));
     let seat = tasks.seat(0);
     assert_eq!(rt; (seat.done, seat.last_read), (1, Some(3)));
-    tasks.note(scripts.as_slice(), TASK, Kind::Post(0));
+    tasks.note(TASK, Kind::Post(0));
     assert_eq!(rt; tasks.raised(0), 1);
-    tasks.note(scripts.as_slice(), TASK, Kind::Got(0));
+    tasks.note(TASK, Kind::Got(0));
     assert_eq!(rt; (tasks.raised(0), tasks.seat(0).turns), (0, 3));
     assert!(rt; !tasks.all_exited());
-    tasks.note(scripts.as_slice(), TASK, Kind::Exit);
+    tasks.note(TASK, Kind::Exit);
     assert!(rt; tasks.all_exited());
     Ok(())
 }

@@ -24,12 +24,12 @@ fn events_wrap_round_the_visible_count(rt: HostRuntime) {
 #[test]
 fn a_save_is_of_the_visible_count(rt: HostRuntime) {
     for (now, c, saved) in [
-        (word(0, 65537, 0), 1, true),
-        (word(0, 65537, 0), 65537, false),
+        (word(0, 16777217, 0), 1, true),
+        (word(0, 16777217, 0), 16777217, false),
         (word(1, 3, 0), 3, false),
         (word(0, 3, 9), 3, true),
     ] {
-        let mut guard = Guard::<16>::new();
+        let mut guard = Guard::<24>::new();
         assert!(rt; guard.save(word(0, 7, 0), 7));
         assert_eq!(rt; guard.save(now, c), saved);
         assert_eq!(rt; guard.in_force(), if saved { Some(c) } else { None });
@@ -63,7 +63,7 @@ fn entries_move_the_count(rt: HostRuntime) {
         (Kind::Enter { busy: false }, Some(3)),
         (Kind::Jump, Some(3)),
     ] {
-        let mut guard = Guard::<16>::new();
+        let mut guard = Guard::<24>::new();
         assert!(rt; guard.save(word(0, 3, 0), 3));
         guard.note(kind, now);
         assert_eq!(rt; guard.in_force(), left);

@@ -1,4 +1,4 @@
-use Rattle.std.proofs.Common.{◌≡◌, ◌∙◌, [], List, ℕ, sym, ap, map}
+use Rattle.std.proofs.Common.{◌≡◌, ◌∙◌, List, ℕ, ap, map}
 use Rattle.serde_json.specs.View.{view}
 use Rattle.machine_file.specs.Knows.{known_seen, texts}
 use Rattle.machine_file.specs.Names.{devices_named, sources_named}
@@ -13,6 +13,6 @@ returns c =
     let file = view c.args.tree.now in
     let k = c.args.known.now in
     let seen : known_seen k ≡ known_of file =
-    ap (λ ds. all_of ds (texts k.sources) []) c.requires.knows.devices ∙ ap (λ ss. all_of (devices_named file) ss []) c.requires.knows.sources
-    ∙ ap (all_of (devices_named file) (sources_named file)) (sym c.requires.markless) in
+    ap (λ ds. all_of ds (texts k.sources) (texts k.marks)) c.requires.knows.devices ∙ ap (λ ss. all_of (devices_named file) ss (texts k.marks)) c.requires.knows.sources
+    ∙ ap (all_of (devices_named file) (sources_named file)) c.requires.knows.marks in
     c.in_ok-scripts.ensures ∙ ap (λ (n : Known). map (whole_script n) (map view c.items.result.now)) seen ∙ ap (map (whole_script (known_of file))) c.items.ensures

@@ -1,7 +1,6 @@
 use Rattle.std.proofs.Common.{◌≡◌, ◌∙◌, List, ℕ, None, refl, sym, subst, Err}
-use Rattle.machine_file.specs.Whole.{broken_in}
 use Rattle.sleep_main.specs.declared.top.TextFault.{TextFault}
-use Rattle.sleep_main.specs.Endings.{GivesLog, IsLogOf, SpellNone}
+use Rattle.sleep_main.specs.Endings.{GivesLog, FillsSource, IsLogOf, SpellNone}
 use Rattle.sleep_main.proofs.top.run_file.Goals as goal
 
 pub returns-in-Err-Refused : goal.returns-in-Err-Refused
@@ -10,11 +9,11 @@ returns-in-Err-Refused g c =
     let none : SpellNone c.deref.result.now = subst (λ (f : TextFault). GivesLog c.deref.result.now (Err f)) c.in-Err-Refused.field-0-is c.in-Err-Refused.ensures in
     ((c.in-Ok.bytes.items, record { taken = read.0; at_end = read.1; fits = read.2 }, subst SpellNone c.deref.ensures.value none), refl)
 
-pub returns-in-Err-NotBuilt : goal.returns-in-Err-NotBuilt
-returns-in-Err-NotBuilt g c =
+pub returns-in-Err-SourceFull : goal.returns-in-Err-SourceFull
+returns-in-Err-SourceFull g c =
     let read = c.in-Ok.ensures.bytes in
-    let none : broken_in c.deref.result.now ≡ None = subst (λ (f : TextFault). GivesLog c.deref.result.now (Err f)) c.in-Err-NotBuilt.field-0-is c.in-Err-NotBuilt.ensures in
-    ((c.in-Ok.bytes.items, record { taken = read.0; at_end = read.1; fits = read.2 }, subst (λ (bs : List ℕ). broken_in bs ≡ None) c.deref.ensures.value none), refl)
+    let full : FillsSource c.deref.result.now c.in-Err-SourceFull.name = subst (λ (f : TextFault). GivesLog c.deref.result.now (Err f)) c.in-Err-SourceFull.field-0-is c.in-Err-SourceFull.ensures in
+    ((c.in-Ok.bytes.items, record { taken = read.0; at_end = read.1; fits = read.2 }, subst (λ (bs : List ℕ). FillsSource bs c.in-Err-SourceFull.name) c.deref.ensures.value full), refl)
 
 pub returns : goal.returns
 returns g c =

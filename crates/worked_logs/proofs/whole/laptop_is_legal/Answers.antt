@@ -10,6 +10,7 @@ returns-clause-legal c = record {
   legal = record {
     journal = journal_part laptop_machine (journal (reverse laptop_entries)) refl;
     sources = source_part (reverse laptop_entries) refl;
+    histories = record { there = refl; short = refl };
     placed = placed (reverse laptop_entries) refl;
     joint = laptop_fits;
   };

@@ -1,4 +1,4 @@
-use Rattle.std.proofs.Common.{◌≡◌, ◌∙◌, List, ◌∷◌, length, refl, sym, ap, subst}
+use Rattle.std.proofs.Common.{◌≡◌, ◌∙◌, ◌∷◌, refl, ap}
 use Rattle.sleep_model.specs.declared.entry.JournalEntry.{JournalEntry}
 use Rattle.sleep_model.specs.Numbers.{time_after}
 use Rattle.sleep_model.specs.Word.{position}
@@ -6,21 +6,15 @@ use Rattle.sleep_state.specs.Autosleeps.{autosleep_after}
 use Rattle.sleep_state.specs.DeviceStates.{devices_after}
 use Rattle.sleep_state.specs.Paths.{path_after}
 use Rattle.sleep_state.specs.Places.{entries}
-use Rattle.sleep_state.specs.TaskStates.{TaskState, tasks_after}
+use Rattle.sleep_state.specs.TaskStates.{tasks_after}
 use Rattle.async_board.specs.Boards.{board_after}
 use Rattle.platform_steps.specs.Steps.{steps_after}
 use Rattle.syscore_ops.specs.Parts.{parts_after}
 use Rattle.wakeup_guard.specs.Guarded.{guarded_after}
 use Rattle.sleep_core.specs.HistoryFields.{IsHistory}
-use Rattle.sleep_model.specs.declared.machine.Script.{Script}
 use Rattle.sleep_core.specs.Histories.{guard_of}
-use Rattle.sleep_core.proofs.Counted.{guarded_16}
-use Rattle.sleep_core.proofs.Frozen.{freezings_len}
+use Rattle.sleep_core.proofs.Counted.{guarded_24}
 use Rattle.sleep_core.proofs.history.History.append.Goals as goal
-
-pub note-requires-5-clause-all : goal.note-requires-5-clause-all
-note-requires-5-clause-all c =
-    ap (λ (t : TaskState). length t.freezings) c.self.invariant.tasks_is ∙ (freezings_len c.self.inside.machine.now.actors (entries c.self.inside.journal.past) ∙ sym (ap length c.as_slice.ensures))
 
 pub invariant_of-self : goal.invariant_of-self
 invariant_of-self c =
@@ -31,11 +25,11 @@ invariant_of-self c =
       small = i.small;
       last_is = refl;
       time_is = c.time_after-self-inside.ensures ∙ ap (time_after e.kind e.time) i.time_is;
-      guard_is = c.note.ensures ∙ (ap (guarded_after 16 e.kind e.now) i.guard_is ∙ guarded_16 e.kind e.now (guard_of (entries c.self.inside.journal.past)));
+      guard_is = c.note.ensures ∙ (ap (guarded_after 24 e.kind e.now) i.guard_is ∙ guarded_24 e.kind e.now (guard_of (entries c.self.inside.journal.past)));
       path_is = c.note-2.ensures ∙ (ap (λ p. path_after e.kind e.actor p e.time c.self.inside.path) c.pos.ensures ∙ ap (path_after e.kind e.actor (position e.now) e.time) i.path_is);
       devices_is = c.note-3.ensures ∙ ap (devices_after e.kind e.actor) i.devices_is;
       board_is = c.note-4.ensures ∙ ap (board_after e.kind) i.board_is;
-      tasks_is = c.note-5.ensures ∙ (ap (λ (ss : List Script). tasks_after ss e.actor e.kind c.self.inside.tasks) c.as_slice.ensures ∙ ap (tasks_after c.self.inside.machine.now.actors e.actor e.kind) i.tasks_is);
+      tasks_is = c.note-5.ensures ∙ ap (tasks_after e.actor e.kind) i.tasks_is;
       autosleep_is = c.note-6.ensures ∙ ap (autosleep_after e.kind e.actor) i.autosleep_is;
       platform_is = c.note-7.ensures ∙ ap (steps_after e.kind) i.platform_is;
       syscore_is = c.note-8.ensures ∙ ap (parts_after e.kind) i.syscore_is;

@@ -1,5 +1,6 @@
 use Rattle.std.proofs.Common.{◌≡◌, ◌∙◌, ◌<◌, ◌+◌, ◌*◌, ◌^◌, ℕ, false, List, [], length, map, replicate, reverse, refl, sym, ap, arith}
 use Rattle.sleep_model.specs.declared.machine.Device.{Device}
+use Rattle.sleep_model.specs.declared.machine.Script.{Script}
 use Rattle.sleep_model.specs.declared.place.Freezing.{Freezing}
 use Rattle.sleep_model.specs.Freezer.{unasked}
 use Rattle.sleep_model.specs.Order.{parents_of}
@@ -31,9 +32,9 @@ invariant_of-result-2 c =
       devices_is = c.in_ok-new.ensures ∙ (ap undisturbed c.as_slice-devices.ensures ∙ sym (ap (λ (j : Places). devices_of m (entries j.past)) empty));
       board_is = c.board.view_is ∙ (c.in_ok-board.ensures ∙ (ap (λ (l : Linked). first_board l.parents l.links (map is_async c.as_slice-devices.result.now)) c.requires.links
           ∙ (ap (λ (ds : List Device). first_board (parents_of m.devices) (reverse m.links) (map is_async ds)) c.as_slice-devices.ensures ∙ (board_first m ∙ sym (ap (λ (j : Places). board_of m (entries j.past)) empty)))));
-      tasks_is = c.in_ok-new-2.ensures ∙ (ap (λ n. at_first n c.len-2.result) c.len.ensures ∙ (ap (at_first (length m.actors)) c.len-2.ensures
-          ∙ (ap (λ (fs : List Freezing). record { seats = replicate (length m.actors) first_seat; freezings = fs; marks = replicate (length m.marks) 0 }) (sym (none_asked m.actors)) ∙ sym (ap (λ (j : Places). tasks_of m (entries j.past)) empty))));
+      tasks_is = c.in_ok-new-2.ensures ∙ (ap (λ (ss : List Script). at_first ss c.len.result) c.as_slice.ensures ∙ (ap (at_first m.actors) c.len.ensures
+          ∙ (ap (λ (fs : List Freezing). record { scripts = m.actors; seats = replicate (length m.actors) first_seat; freezings = fs; marks = replicate (length m.marks) 0 }) (sym (none_asked m.actors)) ∙ sym (ap (λ (j : Places). tasks_of m (entries j.past)) empty))));
       autosleep_is = c.new-6.ensures ∙ sym (ap (λ (j : Places). autosleep_of (entries j.past)) empty);
       platform_is = c.in_ok-new-3.ensures ∙ sym (ap (λ (j : Places). steps_of m (entries j.past)) empty);
-      syscore_is = c.in_ok-new-4.ensures ∙ (ap (λ n. record { n = n; flags = replicate n false }) c.len-3.ensures ∙ sym (ap (λ (j : Places). parts_of m (entries j.past)) empty));
+      syscore_is = c.in_ok-new-4.ensures ∙ (ap (λ n. record { n = n; flags = replicate n false }) c.len-2.ensures ∙ sym (ap (λ (j : Places). parts_of m (entries j.past)) empty));
     }

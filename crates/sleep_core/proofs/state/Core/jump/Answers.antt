@@ -7,6 +7,7 @@ use Rattle.sleep_state.specs.Autosleeps.{AutosleepState}
 use Rattle.sleep_state.specs.Places.{entries}
 use Rattle.sleep_core.specs.Cores.{CoreState}
 use Rattle.sleep_core.specs.Histories.{Kept}
+use Rattle.sleep_core.proofs.Reporting.{counts_more}
 use Rattle.sleep_core.proofs.Turning.{admits_jump, core_jumped}
 use Rattle.sleep_core.proofs.state.Core.jump.Goals as goal
 
@@ -28,4 +29,5 @@ invariant_of-self-2 c =
       plans_are = c.self.invariant.plans_are ∙ ap (λ (m : Machine). m.actors) (sym same);
       answers_are = c.self.invariant.answers_are ∙ ap (λ (m : Machine). m.answers) (sym same);
       wakeup_is = c.self.invariant.wakeup_is ∙ ap (λ (m : Machine). map may_wake m.devices) (sym same);
+      reports_are = c.self.invariant.reports_are ∙ sym (counts_more h c.reserve.new.self c.append.new.self _ c.in_ok-reserve.ensures.machine c.in_ok-reserve.ensures.past c.append.ensures);
     }

@@ -1,4 +1,4 @@
-use Rattle.std.proofs.Common.{◌≡◌, ◌∙◌, ◌||◌, List, map, ap, refl, sym, subst, arith}
+use Rattle.std.proofs.Common.{◌≡◌, ◌∙◌, ◌<◌, ◌^◌, ◌||◌, List, length, map, ap, ap₂, refl, sym, subst, arith}
 use Rattle.sleep_model.specs.declared.entry.JournalEntry.{JournalEntry}
 use Rattle.sleep_model.specs.declared.place.Due.TheVariants.{Makes}
 use Rattle.sleep_model.specs.declared.machine.Machine.{Machine}
@@ -7,10 +7,13 @@ use Rattle.sleep_core.specs.Histories.{Kept}
 use Rattle.sleep_model.specs.Devices.{is_device}
 use Rattle.sleep_model.specs.Due.{due}
 use Rattle.sleep_model.specs.Numbers.{time_of}
-use Rattle.sleep_model.specs.Path.{is_actor, maker}
+use Rattle.sleep_model.specs.Calls.{calls_due, report_calls}
+use Rattle.sleep_model.specs.Path.{attempts, is_actor, maker}
 use Rattle.sleep_state.specs.Places.{entries}
 use Rattle.sleep_core.specs.Cores.{CoreState, IsActor}
 use Rattle.sleep_core.specs.Numbered.{Leaves}
+use Rattle.sleep_core.specs.Reports.{reported_by, counts_after, counts_of}
+use Rattle.sleep_core.proofs.Reporting.{reported_few, counts_more}
 use Rattle.sleep_core.proofs.Turning.{counted_outside, admits_more, core_more}
 use Rattle.sleep_core.proofs.state.Core.make.Goals as goal
 
@@ -28,6 +31,14 @@ append-requires c =
     (subst (λ (s : CoreState). c.is_own-own.result ≡ (is_actor c.args.who (maker (entries s.past)) || is_device c.args.who)) (sym c.self.view_is) c.is_own-own.ensures)
     c.in-Ok.ensures.ok (omega (arith, c.len-made.ensures.len, c.len-made.ensures.small))
 
+pub add-requires : goal.add-requires
+add-requires c =
+    let h = c.self.inside.history in
+    subst (λ r. reported_by c.args.who r < 2 ^ 32) (sym c.self.invariant.reports_are)
+    (reported_few h.machine (entries h.past) c.args.who
+    (subst (λ (s : CoreState). IsActor s.machine c.args.who) (sym c.self.view_is) c.requires.actor)
+    (subst (λ (s : CoreState). calls_due s.machine c.args.who (entries s.past) < 2 ^ 32) (sym c.self.view_is) c.requires.calls))
+
 pub invariant_of-self-2 : goal.invariant_of-self-2
 invariant_of-self-2 c =
     let h = c.self.inside.history in
@@ -44,4 +55,10 @@ invariant_of-self-2 c =
       plans_are = c.self.invariant.plans_are ∙ ap (λ (m : Machine). m.actors) (sym same);
       answers_are = c.self.invariant.answers_are ∙ ap (λ (m : Machine). m.answers) (sym same);
       wakeup_is = c.self.invariant.wakeup_is ∙ ap (λ (m : Machine). map may_wake m.devices) (sym same);
+      reports_are =
+          c.add.ensures
+          ∙ (ap₂ (λ n r. counts_after c.args.who n r)
+          (subst (λ (s : CoreState). c.reports_in-reports.result ≡ length (report_calls s.machine (attempts (entries s.past)) c.args.kind)) (sym c.self.view_is) c.reports_in-reports.ensures)
+          c.self.invariant.reports_are
+          ∙ sym (counts_more h c.make_room.new.self c.append.new.self (record { stamp = c.args.stamp; entry = record { time = c.time.result; now = c.args.now; actor = c.args.who; kind = c.args.kind } }) has.machine has.past c.append.ensures));
     }

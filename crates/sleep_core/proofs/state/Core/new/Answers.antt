@@ -1,9 +1,11 @@
-use Rattle.std.proofs.Common.{◌≡◌, ◌∙◌, [], map, ap, sym, subst, arith}
+use Rattle.std.proofs.Common.{◌≡◌, ◌∙◌, [], length, map, ap, ap₂, sym, subst, arith}
 use Rattle.sleep_model.specs.declared.machine.Machine.{Machine}
 use Rattle.sleep_model.specs.declared.machine.Device.{Device}
 use Rattle.sleep_model.specs.Runtime.{may_wake}
 use Rattle.sleep_core.specs.CoreFields.{IsCore}
 use Rattle.sleep_core.specs.Histories.{Kept}
+use Rattle.sleep_core.specs.Reports.{none_reported, counts_of}
+use Rattle.sleep_state.specs.Places.{entries}
 use Rattle.sleep_core.proofs.Turning.{core_empty}
 use Rattle.sleep_core.proofs.state.Core.new.Goals as goal
 
@@ -12,8 +14,9 @@ invariant_of-result c =
     let m = c.args.machine.now in
     let empty : c.in_ok-history.history ≡ record { machine = m; past = []; room = 0 } = c.in_ok-history.ensures in
     record {
-      core = subst IsCore (sym empty) (core_empty m c.requires.accepted c.requires.built);
+      core = subst IsCore (sym empty) (core_empty m c.requires.accepted);
       plans_are = c.in_ok-plans.ensures ∙ (c.as_slice.ensures ∙ sym (ap (λ (h : Kept). h.machine.actors) empty));
       answers_are = c.in_ok-answers.ensures ∙ (c.as_slice-2.ensures ∙ sym (ap (λ (h : Kept). h.machine.answers) empty));
+      reports_are = c.in_ok-reports.ensures ∙ (ap₂ (λ n k. none_reported n k) c.len.ensures c.len-2.ensures ∙ sym (ap (λ (h : Kept). counts_of h.machine (entries h.past)) empty));
       wakeup_is = c.in_ok-wakeup.ensures ∙ (ap (map may_wake) c.as_slice-3.ensures ∙ sym (ap (λ (h : Kept). map may_wake h.machine.devices) empty));
     }

@@ -1,4 +1,5 @@
-use Rattle.std.proofs.Common.{◌≡◌, ◌<◌, ◌∙◌, ℕ, List, ◌∷◌, reverse, sym, ap, subst}
+use Rattle.std.proofs.Common.{◌≡◌, ◌<◌, ◌++◌, ◌∙◌, ℕ, List, [], ◌∷◌, reverse, sym, ap, subst}
+use Rattle.std.proofs.lemmas.List.{reverse-append}
 use Rattle.sleep_model.specs.declared.entry.Actor.TheVariants as actor
 use Rattle.sleep_model.specs.declared.entry.Entry.{Entry}
 use Rattle.sleep_model.specs.declared.entry.Kind.TheVariants as kind
@@ -15,7 +16,7 @@ pub jump-requires-clause-later : goal.jump-requires-clause-later
 jump-requires-clause-later g c =
     let r = c.self.inside in
     let later : time_of (reverse r.entries.items) < c.args.to = subst (λ (s : RunState). time_of s.past < c.args.to) (sym c.self.view_is) c.requires.later in
-    subst (λ (t : ℕ). t < c.args.to) (sym (time_joint r.machine.now (reverse r.entries.items) r.core r.events r.calls.items r.made r.meters.items r.floor c.self.invariant)) later
+    subst (λ (t : ℕ). t < c.args.to) (sym (time_joint r.machine.now (reverse r.entries.items) r.core r.events r.sources.items r.jobs r.floor c.self.invariant)) later
 
 pub invariant_of-self-2 : goal.invariant_of-self-2
 invariant_of-self-2 g c =
@@ -25,10 +26,11 @@ invariant_of-self-2 g c =
     let later : time_of past < c.args.to = subst (λ (s : RunState). time_of s.past < c.args.to) (sym c.self.view_is) c.requires.later in
     let may : JumpStep m (journal past) (λ s. history s past) (numbers past) c.args.to =
     subst (λ (s : RunState). JumpStep s.machine (journal s.past) (λ t. history t s.past) (numbers s.past) c.args.to) (sym c.self.view_is) c.requires.least in
-    let all : reverse c.append.new.entries.items ≡ record { time = c.args.to; now = c.look-now.result; actor = actor.Time; kind = kind.Jump } ∷ past =
-    c.append.ensures ∙ ap (λ (xs : List Entry). record { time = c.args.to; now = c.look-now.result; actor = actor.Time; kind = kind.Jump } ∷ reverse xs) c.in_ok-reserve.ensures.items in
+    let x : Entry = record { time = c.args.to; now = c.look-now.result; actor = actor.Time; kind = kind.Jump } in
+    let all : reverse c.append.new.entries.items ≡ x ∷ past =
+    ap reverse c.append.ensures.items ∙ (reverse-append c.reserve.new.self.items (x ∷ []) ∙ ap (λ (xs : List Entry). x ∷ reverse xs) c.in_ok-reserve.ensures.items) in
     let word : c.look-now.new.self ≡ r.events = told_same c.look-now.new.self r.events c.look-now.ensures.tells in
-    subst (λ (w : EventNow). IsRunning m (reverse c.append.new.entries.items) c.jump.new.self w r.calls.items r.made r.meters.items c.in_ok-self-inside.field-0) (sym word)
-    (subst (λ (xs : List Entry). IsRunning m xs c.jump.new.self r.events r.calls.items r.made r.meters.items c.in_ok-self-inside.field-0) (sym all)
-    (running_jump m past r.core c.jump.new.self r.events c.look-now.result r.calls.items r.made r.meters.items r.floor c.in_ok-self-inside.field-0 c.args.to c.self.invariant may later
+    subst (λ (w : EventNow). IsRunning m (reverse c.append.new.entries.items) c.jump.new.self w r.sources.items r.jobs c.in_ok-self-inside.field-0) (sym word)
+    (subst (λ (xs : List Entry). IsRunning m xs c.jump.new.self r.events r.sources.items r.jobs c.in_ok-self-inside.field-0) (sym all)
+    (running_jump m past r.core r.events r.sources.items r.jobs r.floor c.self.invariant c.jump.new.self c.look-now.result c.in_ok-self-inside.field-0 c.args.to may later
     c.look-now.ensures.told c.in_ok-self-inside.ensures.ok.1 c.in_ok-self-inside.ensures.ok.0))

@@ -8,4 +8,4 @@ pub returns-clause-is : goal.returns-clause-is
 returns-clause-is c =
     let r = c.self.inside in
     subst (λ (s : RunState). c.time.result ≡ time_of s.past) c.self.view_is
-    (c.time.ensures.time ∙ time_joint r.machine.now (reverse r.entries.items) r.core r.events r.calls.items r.made r.meters.items r.floor c.self.invariant)
+    (c.time.ensures.time ∙ time_joint r.machine.now (reverse r.entries.items) r.core r.events r.sources.items r.jobs r.floor c.self.invariant)

@@ -1,0 +1,85 @@
+-- Operations by their words.
+use Rattle.std.proofs.Common.{◌≡◌, ◌∙◌, ℕ, Bool, true, false, cond, List, [], ◌∷◌, map, find, bytes_eq, codes, unwrap_or, option_and_then, option_map, Option, Some, None, refl, sym, ap}
+use Rattle.std.proofs.lemmas.Bool.{false≢true}
+use Rattle.serde_json.specs.Data.{Data}
+use Rattle.serde_json.specs.Find.{get, as_str}
+use Rattle.sleep_model.specs.declared.machine.Op.{Op}
+use Rattle.sleep_model.specs.declared.machine.Op.TheVariants.{Read}
+use Rattle.machine_file.specs.declared.operations.Word.{Word}
+use Rattle.machine_file.specs.declared.operations.Word.TheVariants as word
+use Rattle.machine_file.specs.Look.{is_some_and, is_text}
+use Rattle.machine_file.specs.Members.{has_text, word_at}
+use Rattle.machine_file.specs.Operations.{Known, Operation, operations, row_of, spelled_op, whole_op}
+use Rattle.machine_file.specs.OperationRows.{op_row, row_named, op_spelled}
+use Rattle.machine_file.proofs.ScriptsKept.{member_apart}
+
+-- the row of an operation is that of the text at its word
+pub by_text : (o : Data) → option_and_then row_named (word_at (codes "op") o) ≡ row_of o
+by_text o = at_member (get (codes "op") o)
+  where
+    text : (s : Option (List ℕ)) → option_and_then row_named s ≡ find (λ (r : Operation). is_some_and (λ t. bytes_eq t r.word) s) operations
+    text None = refl
+    text (Some s) = refl
+
+    at_member : (d : Option Data) → option_and_then row_named (option_and_then as_str d) ≡ find (λ (r : Operation). is_some_and (is_text r.word) d) operations
+    at_member None = refl
+    at_member (Some d) = text (as_str d)
+
+-- what is found passes
+passes : {X : Type 0} (p : X → Bool) (x : X) (xs : List X) → find p xs ≡ Some x → p x ≡ true
+passes p x [] e = cc
+passes p x (y ∷ ys) e = by (p y) refl e (passes p x ys)
+  where
+    by : (b : Bool) → p y ≡ b → cond b (Some y) (find p ys) ≡ Some x → (find p ys ≡ Some x → p x ≡ true) → p x ≡ true
+    by true h f rest = let same : y ≡ x = cc in sym (ap p same) ∙ h
+    by false h f rest = rest f
+
+-- a search by what is seen of each
+find_seen : {X Y : Type 0} (t : Y → Bool) (f : X → Y) (xs : List X) → option_map f (find (λ x. t (f x)) xs) ≡ find t (map f xs)
+find_seen t f [] = refl
+find_seen t f (x ∷ xs) = by (t (f x)) ∙ ap (cond (t (f x)) (Some (f x))) (find_seen t f xs)
+  where
+    by : (b : Bool) → option_map f (cond b (Some x) (find (λ y. t (f y)) xs)) ≡ cond b (Some (f x)) (option_map f (find (λ y. t (f y)) xs))
+    by true = refl
+    by false = refl
+
+-- a search by a test that is the same
+find_same : {X : Type 0} (p q : X → Bool) (xs : List X) → ((x : X) → p x ≡ q x) → find p xs ≡ find q xs
+find_same p q [] e = refl
+find_same p q (x ∷ xs) e = ap (λ b. cond b (Some x) (find p xs)) (e x) ∙ ap (cond (q x) (Some x)) (find_same p q xs e)
+
+module _ (names : Known) (o : Data) where
+  found : (w : Word) → unwrap_or (option_map (λ q. q.1) (find (λ q. bytes_eq (op_row w).word q.0) (spelled_op names o))) Read ≡ op_spelled w names o
+  found word.Read = refl
+  found word.Save = refl
+  found word.State = refl
+  found word.Autosleep = refl
+  found word.Sleep = refl
+  found word.SleepD = refl
+  found word.FreezePoint = refl
+  found word.Post = refl
+  found word.Wait = refl
+  found word.Runtime = refl
+  found word.Awake = refl
+  found word.Relax = refl
+  found word.Event = refl
+
+  -- an operation of the table is what its word spells
+  pub by_word : (w : Word) → Some (op_row w) ≡ row_of o → op_spelled w names o ≡ whole_op names o
+  by_word w e =
+      let there : has_text (codes "op") (op_row w).word o ≡ true = passes (λ r. has_text (codes "op") r.word o) (op_row w) operations (sym e) in
+      sym (ap (λ (q : Option (List ℕ × Op)). unwrap_or (option_map (λ x. x.1) q) Read)
+      (find_same (λ q. has_text (codes "op") q.0 o) (λ q. bytes_eq (op_row w).word q.0) (spelled_op names o) (λ q. member_apart (get (codes "op") o) (op_row w).word q.0 there))
+      ∙ found w)
+
+  no_op : (q : Option (List ℕ × Op)) → option_map (λ x. x.0) q ≡ None → Read ≡ unwrap_or (option_map (λ x. x.1) q) Read
+  no_op None e = refl
+  no_op (Some x) e = cc
+
+  -- one that is not is read as the first
+  pub by_no_word : None ≡ row_of o → Read ≡ whole_op names o
+  by_no_word e =
+      let none : option_map (λ (r : Operation). r.word) (row_of o) ≡ None = ap (option_map (λ (r : Operation). r.word)) (sym e) in
+      no_op (find (λ q. has_text (codes "op") q.0 o) (spelled_op names o))
+      (find_seen (λ s. has_text (codes "op") s o) (λ (q : List ℕ × Op). q.0) (spelled_op names o)
+      ∙ sym (find_seen (λ s. has_text (codes "op") s o) (λ (r : Operation). r.word) operations) ∙ none)

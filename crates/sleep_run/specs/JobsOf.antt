@@ -1,0 +1,44 @@
+-- The jobs of a machine's actors, together.
+use Rattle.std.specs.Prelude.{◌<◌, ℕ, zero, suc, List, [], ◌∷◌, ◌++◌, length, slice_set, slice_index_or}
+use Rattle.sleep_model.specs.declared.entry.Actor.{Actor}
+use Rattle.sleep_model.specs.declared.entry.Actor.TheVariants as actor
+use Rattle.sleep_model.specs.declared.machine.Machine.{Machine}
+use Rattle.sleep_script.specs.Jobs.{JobState, first_job}
+
+-- the jobs of the scripts, of the autosleep work, and of the devices, by number
+pub record JobsState : Type 0 where
+  pub scripts : List JobState
+  pub auto : JobState
+  pub devices : List JobState
+
+-- an actor's job
+abbrev pub job_at : JobsState → Actor → JobState
+job_at jobs (actor.Script i) = slice_index_or jobs.scripts i jobs.auto
+job_at jobs (actor.Dev d) = slice_index_or jobs.devices d jobs.auto
+job_at jobs _ = jobs.auto
+
+-- the actor has a job
+abbrev pub HasJob : JobsState → Actor → Type 0
+HasJob jobs (actor.Script i) = i < length jobs.scripts
+HasJob jobs actor.Auto = Unit {0}
+HasJob jobs (actor.Dev d) = d < length jobs.devices
+HasJob jobs _ = ⊥
+
+-- another job of an actor in place of the one before
+abbrev pub with_job : JobsState → Actor → JobState → JobsState
+with_job jobs (actor.Script i) job = record jobs { scripts = slice_set jobs.scripts i job }
+with_job jobs (actor.Dev d) job = record jobs { devices = slice_set jobs.devices d job }
+with_job jobs _ job = record jobs { auto = job }
+
+-- the jobs of the first n actors of a kind, before anything was done
+abbrev pub first_jobs_of : Machine → (ℕ → Actor) → ℕ → List JobState
+first_jobs_of m kind zero = []
+first_jobs_of m kind (suc n) = first_jobs_of m kind n ++ first_job m (kind n) ∷ []
+
+-- all jobs, before anything was done
+abbrev pub first_jobs : Machine → JobsState
+first_jobs m = record {
+  scripts = first_jobs_of m actor.Script (length m.actors);
+  auto = first_job m actor.Auto;
+  devices = first_jobs_of m actor.Dev (length m.devices);
+}

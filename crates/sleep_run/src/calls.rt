@@ -1,0 +1,98 @@
+//! Calls on sources, each as a whole.
+
+ghost use Rattle.std.specs.Prelude.{◌≡◌, ◌≤◌, ◌<◌, ◌+◌, ◌^◌, ◌++◌, ◌∷◌, [], true, length, reverse, map, drop, vec_len, vec_capacity, OnOk, OnErr, IfOk, Err};
+ghost use Rattle.wakeup_source.specs.declared.fault.SourceFault.TheVariants as SourceFault;
+ghost use Rattle.sleep_model.specs.Sources.{makes, since, most_entries};
+ghost use Rattle.event_word.specs.Steps.{has_places};
+ghost use Rattle.wakeup_source.specs.SourceStates.{bare, latest};
+ghost use Rattle.wakeup_source.specs.Told.{source_call, word_after, MayCall};
+ghost use Rattle.sleep_run.specs.Called.{IsMade};
+
+use event_word::PlainEvents;
+use sleep_model::{Entry, SourceCall, SourceEntry, Stamp};
+use std::sync::Wait;
+use wakeup_source::{CallBy, SourceFault, WakeSource};
+
+/// A call on a source.
+fn make<R: Wait>(
+    rt: &R,
+    source: &mut WakeSource<60000>,
+    events: &mut PlainEvents,
+    by: CallBy,
+    call: SourceCall,
+) -> Result<Stamp, SourceFault>
+    requires time { latest (bare source.old.past) ≤ by.now }
+    requires small { by.now ≤ 2 ^ 63 }
+    requires can { has_places events.old (makes call (since (bare source.old.past))) ≡ true }
+    requires may { MayCall call (bare source.old.past) by.now }
+    ensures made { IfOk result (IsMade by call events.old events.new source.old source.new) }
+    ensures room { OnOk result (length source.old.past + 4 ≤ most_entries) }
+    ensures full { result ≡ Err SourceFault.Full → most_entries < length source.old.past + 4 }
+    ensures err { OnErr result ((source.new ≡ source.old) × (events.new ≡ events.old)) }
+{
+    match call {
+        SourceCall::Awake => source.stay_awake(rt, events, by),
+        SourceCall::Relax => source.relax(rt, events, by),
+        SourceCall::Event { ms, hard } => source.event(rt, events, by, ms, hard),
+        SourceCall::Expire => match source.expire(rt, events, by)? {
+            Some(stamp) => Ok(stamp),
+            None => unreachable!(),
+        },
+    }
+}
+
+/// Appends an entry where there is room for it.
+pub(crate) fn append(entries: &mut Vec<Entry>, entry: Entry)
+    requires { vec_len entries.old < vec_capacity entries.old }
+    ensures items { entries.new.items ≡ entries.old.items ++ entry ∷ [] }
+    ensures room { vec_capacity entries.old ≤ vec_capacity entries.new }
+{
+    if entries.push(entry).is_err() {
+        unreachable!()
+    }
+}
+
+/// What stands behind so many entries.
+fn behind(history: &[SourceEntry], many: usize) -> &[SourceEntry]
+    requires { many ≤ length history.now }
+    ensures { result.now ≡ drop many history.now }
+{
+    &history[many..]
+}
+
+/// Appends entries of a source without their stamps, where there is room for them.
+fn append_all(entries: &mut Vec<Entry>, made: &[SourceEntry])
+    requires { vec_len entries.old + length made.now ≤ vec_capacity entries.old }
+    ensures { entries.new.items ≡ entries.old.items ++ map (λ e. e.entry) made.now }
+{
+    for one in made {
+        append(entries, one.entry);
+    }
+}
+
+/// A whole call on a source, whose entries go behind all others. After an error nothing has changed.
+pub(crate) fn make_whole<R: Wait>(
+    rt: &R,
+    source: &mut WakeSource<60000>,
+    events: &mut PlainEvents,
+    entries: &mut Vec<Entry>,
+    by: CallBy,
+    call: SourceCall,
+) -> Result<Stamp, SourceFault>
+    requires time { latest (bare source.old.past) ≤ by.now }
+    requires small { by.now ≤ 2 ^ 63 }
+    requires can { has_places events.old (makes call (since (bare source.old.past))) ≡ true }
+    requires may { MayCall call (bare source.old.past) by.now }
+    ensures made { IfOk result (IsMade by call events.old events.new source.old source.new) }
+    ensures entries { OnOk result (reverse entries.new.items
+        ≡ source_call source.old.id call by.actor by.now events.old (bare source.old.past) ++ reverse entries.old.items) }
+    ensures room { OnOk result (length source.old.past + 4 ≤ most_entries) }
+    ensures full { result ≡ Err SourceFault.Full → most_entries < length source.old.past + 4 }
+    ensures err { OnErr result ((source.new ≡ source.old) × (events.new ≡ events.old) × (entries.new.items ≡ entries.old.items)) }
+{
+    entries.reserve(4)?;
+    let before = source.history().len();
+    let stamp = make(rt, source, events, by, call)?;
+    append_all(entries, behind(source.history(), before));
+    Ok(stamp)
+}

@@ -1,0 +1,135 @@
+//! The jobs of all actors that the core has turns for.
+
+ghost use Rattle.std.specs.Prelude.{◌≡◌, ◌≤◌, ◌<◌, ◌+◌, ◌^◌, [], length, map, IfOk};
+ghost use Rattle.sleep_model.specs.declared.entry.Actor.TheVariants.{Script, Dev};
+ghost use Rattle.sleep_model.specs.Accepted.{IsAccepted};
+ghost use Rattle.sleep_script.specs.Jobs.{IsWanted, first_job, after_turn, after_call};
+ghost use Rattle.sleep_run.specs.JobsOf.{job_at, HasJob, with_job, first_jobs_of, first_jobs};
+
+use answer_book::AnswerBook;
+use sleep_base::Mem;
+use sleep_model::{Actor, Kind, Machine, Stamp, Want};
+use sleep_script::{AutoJob, DeviceJob, ScriptJob};
+use std::alloc::Global;
+use std::marker::Model;
+
+/// The jobs of the scripts, the autosleep work and the devices, by number.
+#[derive(Drop)]
+pub(crate) struct Jobs<'m> {
+    scripts: Vec<ScriptJob<'m>>,
+    auto: AutoJob<'m>,
+    devices: Vec<DeviceJob<'m>>,
+}
+
+impl<'m> Model for Jobs<'m> {
+    ghost use Rattle.sleep_run.specs.JobsOf.{JobsState};
+
+    ghost Value = { JobsState };
+
+    ghost view = { λ j. record { scripts = j.scripts.items; auto = j.auto; devices = j.devices.items } };
+}
+
+/// The jobs of a machine's scripts.
+fn script_jobs<'m>(
+    alloc: Global,
+    machine: &'m Machine,
+    book: &'m AnswerBook<'m>,
+) -> Result<Vec<ScriptJob<'m>>, Mem>
+    requires accepted { IsAccepted machine.now }
+    requires book { book.now ≡ machine.now.answers }
+    ensures { IfOk result (λ v. v.items ≡ first_jobs_of machine.now Script (length machine.now.actors)) }
+{
+    let mut jobs = Vec::with_capacity(alloc, machine.actors.len())?;
+    for script in 0..machine.actors.len() as u32 {
+        jobs.push(ScriptJob::new(alloc, machine, book, script)?)?;
+    }
+    Ok(jobs)
+}
+
+/// The jobs of a machine's devices.
+fn device_jobs<'m>(
+    alloc: Global,
+    machine: &'m Machine,
+    book: &'m AnswerBook<'m>,
+) -> Result<Vec<DeviceJob<'m>>, Mem>
+    requires accepted { IsAccepted machine.now }
+    requires book { book.now ≡ machine.now.answers }
+    ensures { IfOk result (λ v. v.items ≡ first_jobs_of machine.now Dev (length machine.now.devices)) }
+{
+    let mut jobs = Vec::with_capacity(alloc, machine.devices.len())?;
+    for device in 0..machine.devices.len() as u32 {
+        jobs.push(DeviceJob::new(machine, book, device))?;
+    }
+    Ok(jobs)
+}
+
+impl<'m> Jobs<'m> {
+    /// The jobs of a machine, before anything was done. `Mem` where there is no memory.
+    pub(crate) fn new(
+        alloc: Global,
+        machine: &'m Machine,
+        book: &'m AnswerBook<'m>,
+    ) -> Result<Self, Mem>
+        requires accepted { IsAccepted machine.now }
+        requires book { book.now ≡ machine.now.answers }
+        ensures { IfOk result (λ jobs. jobs ≡ first_jobs machine.now) }
+    {
+        Ok(Jobs {
+            scripts: script_jobs(alloc, machine, book)?,
+            auto: AutoJob::new(machine, book),
+            devices: device_jobs(alloc, machine, book)?,
+        })
+    }
+
+    /// What an actor does next: the call on a source that is next, else a turn of the core.
+    pub(crate) fn next(&self, who: Actor) -> Want
+        requires { HasJob self.now who }
+        ensures { IsWanted (job_at self.now who) result }
+    {
+        match who {
+            Actor::Script(script) => self.scripts[script as usize].next(),
+            Actor::Dev(device) => self.devices[device as usize].next(),
+            _ => self.auto.next(),
+        }
+    }
+
+    /// How many calls on sources an actor has made.
+    pub(crate) fn calls(&self, who: Actor) -> u32
+        requires { HasJob self.now who }
+        ensures { result ≡ (job_at self.now who).calls }
+    {
+        match who {
+            Actor::Script(script) => self.scripts[script as usize].calls(),
+            Actor::Dev(device) => self.devices[device as usize].calls(),
+            _ => self.auto.calls(),
+        }
+    }
+
+    /// An actor made an entry of the journal, with that stamp, where `attempt` attempts were begun.
+    pub(crate) fn told_turn(&mut self, who: Actor, stamp: Stamp, kind: Kind, attempt: u32)
+        requires job { HasJob self.old who }
+        requires made { (job_at self.old who).pending ≡ [] }
+        requires few { (job_at self.old who).turns < 2 ^ 63 }
+        ensures { self.new ≡ with_job self.old who (after_turn stamp kind attempt (job_at self.old who)) }
+    {
+        match who {
+            Actor::Script(script) => self.scripts[script as usize].told_turn(stamp, kind, attempt),
+            Actor::Dev(device) => self.devices[device as usize].told_turn(stamp, kind, attempt),
+            _ => self.auto.told_turn(stamp, kind, attempt),
+        }
+    }
+
+    /// An actor made the call that was next, and knows that stamp.
+    pub(crate) fn told_call(&mut self, who: Actor, stamp: Stamp)
+        requires job { HasJob self.old who }
+        requires left { 0 < length (job_at self.old who).pending }
+        requires few { (job_at self.old who).calls + 1 < 2 ^ 32 }
+        ensures { self.new ≡ with_job self.old who (after_call stamp (job_at self.old who)) }
+    {
+        match who {
+            Actor::Script(script) => self.scripts[script as usize].told_source(stamp),
+            Actor::Dev(device) => self.devices[device as usize].told_source(stamp),
+            _ => self.auto.told_source(stamp),
+        }
+    }
+}

@@ -1,0 +1,170 @@
+ghost use Rattle.std.specs.Prelude.{◌<◌, IfSome};
+
+use crate::asks::Asks;
+use sleep_base::Mem;
+use sleep_model::{Device, DeviceFlags, Kind, Why};
+use std::alloc::Global;
+
+/// Who may have something to do, and so is asked in a round: scripts, the autosleep work, asynchronous
+/// devices, timers. Whoever waits is asked again once something may have ended the wait: an entry, a step of
+/// the event word, a jump of time. None of this is part of what is promised: whoever was left out is found
+/// before time jumps.
+#[derive(Drop)]
+pub(crate) struct Waiters {
+    scripts: Asks,
+    /// Scripts that wait for events to end, for a wakeup, for the machine to wake, or as makers of an attempt
+    /// for a device or a task.
+    for_word: Asks,
+    for_mark: Asks,
+    for_lock: Asks,
+    /// Scripts that sleep, or are frozen.
+    for_long: Asks,
+    auto: bool,
+    devices: Asks,
+    /// The asynchronous devices.
+    beside: Asks,
+    timers: bool,
+}
+
+/// The asynchronous ones among these devices.
+fn beside_of(alloc: Global, devices: &[Device]) -> Result<Asks, Mem> {
+    let mut beside = Asks::new(alloc, devices.len())?;
+    for (at, device) in devices.iter().enumerate() {
+        if device.flags.has(DeviceFlags::ASYNC) {
+            beside.insert(at as u32);
+        }
+    }
+    Ok(beside)
+}
+
+impl Waiters {
+    /// Nobody waits: each of so many scripts is to be asked, and the work.
+    pub(crate) fn new(alloc: Global, scripts: usize, devices: &[Device]) -> Result<Self, Mem> {
+        let mut all = Asks::new(alloc, scripts)?;
+        for script in 0..scripts {
+            all.insert(script as u32);
+        }
+        Ok(Waiters {
+            scripts: all,
+            for_word: Asks::new(alloc, scripts)?,
+            for_mark: Asks::new(alloc, scripts)?,
+            for_lock: Asks::new(alloc, scripts)?,
+            for_long: Asks::new(alloc, scripts)?,
+            auto: true,
+            devices: Asks::new(alloc, devices.len())?,
+            beside: beside_of(alloc, devices)?,
+            timers: false,
+        })
+    }
+
+    /// The first script from a number on that is to be asked, of so many.
+    pub(crate) fn next_script(&self, from: u32, many: u32) -> Option<u32>
+        ensures { IfSome result (λ n. n < many) }
+    {
+        self.scripts.next(from, many)
+    }
+
+    /// The first device from a number on that is to be asked, of so many.
+    pub(crate) fn next_device(&self, from: u32, many: u32) -> Option<u32>
+        ensures { IfSome result (λ n. n < many) }
+    {
+        self.devices.next(from, many)
+    }
+
+    /// Whether the autosleep work is to be asked.
+    pub(crate) fn asks_auto(&self) -> bool {
+        self.auto
+    }
+
+    /// Whether the timers are to be asked.
+    pub(crate) fn asks_timers(&self) -> bool {
+        self.timers
+    }
+
+    /// The script waits, for that.
+    pub(crate) fn script_waits(&mut self, script: u32, why: Why) {
+        self.scripts.remove(script);
+        match why {
+            Why::Mark(_) => self.for_mark.insert(script),
+            Why::LockHeld => self.for_lock.insert(script),
+            Why::Until(_) | Why::Frozen => self.for_long.insert(script),
+            _ => self.for_word.insert(script),
+        }
+    }
+
+    /// The script has exited.
+    pub(crate) fn script_is_gone(&mut self, script: u32) {
+        self.scripts.remove(script);
+    }
+
+    /// The autosleep work waits.
+    pub(crate) fn auto_waits(&mut self) {
+        self.auto = false;
+    }
+
+    /// The device waits, or has nothing to do.
+    pub(crate) fn device_waits(&mut self, device: u32) {
+        self.devices.remove(device);
+    }
+
+    /// No timer is due.
+    pub(crate) fn timers_wait(&mut self) {
+        self.timers = false;
+    }
+
+    /// A device may have something to do, if it is asynchronous.
+    pub(crate) fn stir_device(&mut self, device: u32) {
+        if self.beside.has(device) {
+            self.devices.insert(device);
+        }
+    }
+
+    /// The word made a step, or a device or a task has come further.
+    pub(crate) fn stir_word(&mut self) {
+        self.scripts.take(&mut self.for_word);
+        self.auto = true;
+    }
+
+    /// A mark was raised.
+    fn stir_marks(&mut self) {
+        self.scripts.take(&mut self.for_mark);
+    }
+
+    /// The autosleep lock was let go, or the work is queued.
+    fn stir_lock(&mut self) {
+        self.scripts.take(&mut self.for_lock);
+        self.auto = true;
+    }
+
+    /// Whatever may have ended: tasks are asked to freeze or let go, the machine wakes.
+    fn stir_scripts(&mut self) {
+        self.stir_word();
+        self.stir_marks();
+        self.stir_lock();
+        self.scripts.take(&mut self.for_long);
+    }
+
+    /// After an entry: scripts and the work, as far as it may have ended their waits.
+    pub(crate) fn stir(&mut self, kind: Kind) {
+        match kind {
+            Kind::Post(_) => self.stir_marks(),
+            Kind::Over { .. } | Kind::AutoDone | Kind::AutoOff => self.stir_lock(),
+            Kind::Freeze(_) | Kind::Thaw(_) | Kind::Wake { .. } => self.stir_scripts(),
+            Kind::Frozen | Kind::Exit | Kind::End(..) | Kind::Skip(..) => self.stir_word(),
+            Kind::Schedule(_, device) => self.stir_device(device),
+            _ => {}
+        }
+    }
+
+    /// Time has jumped: everybody is to be asked but devices, which wait for no moment.
+    pub(crate) fn stir_time(&mut self) {
+        self.stir_scripts();
+        self.timers = true;
+    }
+
+    /// Everybody is to be asked.
+    pub(crate) fn stir_all(&mut self) {
+        self.stir_time();
+        self.devices.add(&self.beside);
+    }
+}

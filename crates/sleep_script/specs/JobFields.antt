@@ -1,0 +1,40 @@
+-- What the fields of a job are.
+use Rattle.std.specs.Prelude.{◌≡◌, ℕ, List, [], ◌++◌, drop, map, Option, Some, None}
+use Rattle.sleep_model.specs.declared.entry.Actor.{Actor}
+use Rattle.sleep_model.specs.declared.entry.Kind.{Kind}
+use Rattle.sleep_model.specs.declared.machine.Machine.{Machine}
+use Rattle.sleep_model.specs.Calls.{calls_at, calls_of_turn}
+use Rattle.sleep_model.specs.Scripts.{pieces}
+use Rattle.script_plan.specs.CallPlans.{ScriptCalls, noted}
+use Rattle.sleep_script.specs.declared.job.Job.TheInside.{Inside}
+use Rattle.sleep_script.specs.Jobs.{JobState}
+
+-- the calls right before a turn, by a plan; without one there are none (own)
+abbrev pub planned_at : Option ScriptCalls → ℕ → List Kind
+planned_at None k = []
+planned_at (Some plan) k = calls_at (pieces plan.source plan.script) k
+
+-- the plan gives the calls before each of the actor's turns (own)
+abbrev pub IsPlanOf : Option ScriptCalls → Machine → Actor → Type 0
+IsPlanOf plan m who = (k : ℕ) → planned_at plan k ≡ calls_of_turn m who k
+
+-- due are the reports that are left, then the calls before the next turn that are left (own)
+abbrev pub state : Inside → JobState
+state j = record {
+  machine = j.machine.now;
+  who = j.who;
+  turns = j.turns;
+  pending = map noted j.reports.now ++ drop j.made (calls_of_turn j.machine.now j.who j.turns);
+  calls = j.calls;
+  exited = j.exited;
+  floor = j.floor;
+}
+
+-- the book has the machine's answers, and the plan the actor's calls (own)
+pub record IsJob (j : Inside) : Type 0 where
+  pub answers_are : j.book.now ≡ j.machine.now.answers
+  pub plan_is : IsPlanOf j.plan j.machine.now j.who
+
+-- the book has the machine's answers, and the plan the actor's calls (own)
+abbrev pub keeps : Inside → Type 0
+keeps j = IsJob j

@@ -1,0 +1,2 @@
+pub mod JobFields
+pub mod Jobs

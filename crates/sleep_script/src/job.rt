@@ -1,0 +1,222 @@
+//! What an actor that takes turns of the core knows of itself.
+
+ghost use Rattle.std.specs.Prelude.{◌≡◌, ◌<◌, ◌^◌, drop, map, slice_get};
+ghost use Rattle.answer_book.specs.Book.{answer_among};
+ghost use Rattle.sleep_model.specs.Answers.{answer_reports};
+ghost use Rattle.sleep_model.specs.Calls.{one_more};
+ghost use Rattle.sleep_script.specs.Jobs.{later, made_after, reports_among};
+
+use crate::kinds::{ends_turn, is_exit};
+use answer_book::AnswerBook;
+use script_plan::CallPlan;
+use sleep_model::{Actor, Kind, Machine, Report, Stamp, Want, What};
+use std::marker::Model;
+
+/// The reports of the callback that an entry begins in that attempt (`pm_wakeup_event` in a callback).
+fn reports_of<'m>(book: &AnswerBook<'m>, kind: Kind, attempt: u32) -> &'m [Report]
+    ensures { result.now ≡ reports_among book.now attempt kind }
+{
+    match kind {
+        Kind::Begin(phase, device) => book.reports(What::Device(device, phase), attempt),
+        _ => &[],
+    }
+}
+
+/// The reports behind the first.
+fn rest_of(reports: &[Report]) -> &[Report]
+    ensures { result.now ≡ drop 1 reports.now }
+{
+    if reports.is_empty() {
+        reports
+    } else {
+        &reports[1..]
+    }
+}
+
+/// The call with that number, where there is one.
+fn call_at(calls: &[Report], number: usize) -> Option<Report>
+    ensures { result ≡ slice_get calls.now number }
+{
+    calls.get(number).copied()
+}
+
+/// One turn more, where it has ended.
+fn one_more(ends: bool, turns: usize) -> usize
+    requires { turns < 2 ^ 63 }
+    ensures { result ≡ one_more ends turns }
+{
+    if ends { turns + 1 } else { turns }
+}
+
+/// How many calls before the next turn were made: none, where the turn before it has just ended.
+fn made_after(ends: bool, made: usize) -> usize
+    ensures { result ≡ made_after ends made }
+{
+    if ends { 0 } else { made }
+}
+
+/// The greater of two positions, and of two ticks.
+pub(crate) fn later(one: Stamp, other: Stamp) -> Stamp
+    ensures { result ≡ later one other }
+{
+    Stamp {
+        pos: one.pos.max(other.pos),
+        tick: one.tick.max(other.tick),
+    }
+}
+
+/// The job of an actor that takes turns of the core.
+#[derive(Drop)]
+pub(crate) struct Job<'m> {
+    machine: &'m Machine,
+    who: Actor,
+    book: &'m AnswerBook<'m>,
+    /// A script's own calls.
+    plan: Option<CallPlan<'m>>,
+    /// The turns of its own steps that have ended.
+    turns: usize,
+    /// How many of the plan's calls right before its next turn were made.
+    made: usize,
+    /// The reports that its callback still has to make.
+    reports: &'m [Report],
+    calls: u32,
+    exited: bool,
+    floor: Stamp,
+}
+
+impl<'m> Model for Job<'m> {
+    ghost use Rattle.sleep_script.specs.Jobs.{JobState};
+
+    ghost Value = { JobState };
+
+    ghost use Rattle.sleep_script.specs.JobFields.{state, keeps};
+
+    ghost view = { state };
+
+    ghost invariant = { keeps };
+}
+
+impl<'m> Job<'m> {
+    ghost use Rattle.std.specs.Prelude.{◌≡◌, ◌+◌, ◌<◌, ◌^◌, [], drop, length, map, slice_get};
+    ghost use Rattle.std.specs.Option.{option_map};
+    ghost use Rattle.script_plan.specs.CallPlans.{noted};
+    ghost use Rattle.sleep_model.specs.Calls.{calls_of_turn};
+    ghost use Rattle.sleep_script.specs.JobFields.{IsPlanOf};
+    ghost use Rattle.sleep_script.specs.Jobs.{IsWanted, first_job, after_turn, after_call, raised};
+
+    /// The job of an actor before its first entry, with the plan of its own calls.
+    pub(crate) fn new(
+        machine: &'m Machine,
+        who: Actor,
+        book: &'m AnswerBook<'m>,
+        plan: Option<CallPlan<'m>>,
+    ) -> Self
+        requires book { book.now ≡ machine.now.answers }
+        requires plan { IsPlanOf plan machine.now who }
+        ensures { result ≡ first_job machine.now who }
+    {
+        Job {
+            machine,
+            who,
+            book,
+            plan,
+            turns: 0,
+            made: 0,
+            reports: &[],
+            calls: 0,
+            exited: false,
+            floor: Stamp { pos: 0, tick: 0 },
+        }
+    }
+
+    /// The calls of its own steps right before its next turn.
+    fn own_calls(&self) -> &[Report]
+        ensures { map noted result.now ≡ calls_of_turn self.now.machine self.now.who self.now.turns }
+    {
+        match &self.plan {
+            Some(plan) => plan.calls_at(self.turns),
+            None => &[],
+        }
+    }
+
+    /// The next call that it has to make before its next entry of the journal.
+    fn next_call(&self) -> Option<Report>
+        ensures { option_map noted result ≡ slice_get self.now.pending 0 }
+    {
+        match self.reports.first() {
+            Some(report) => Some(*report),
+            None => call_at(self.own_calls(), self.made),
+        }
+    }
+
+    /// What its actor does next.
+    pub(crate) fn next(&self) -> Want
+        ensures { IsWanted self.now result }
+    {
+        match self.next_call() {
+            Some(call) => Want::Source(call.source, call.call),
+            None if self.exited => Want::Nothing,
+            None => Want::Core,
+        }
+    }
+
+    /// Its actor made an entry of the journal.
+    pub(crate) fn told_turn(&mut self, stamp: Stamp, kind: Kind, attempt: u32)
+        requires made { self.old.pending ≡ [] }
+        requires few { self.old.turns < 2 ^ 63 }
+        ensures { self.new ≡ after_turn stamp kind attempt self.old }
+    {
+        let ends = ends_turn(kind);
+        self.made = made_after(ends, self.made);
+        self.turns = one_more(ends, self.turns);
+        self.reports = reports_of(self.book, kind, attempt);
+        self.exited = is_exit(kind) | self.exited;
+        self.floor = stamp;
+    }
+
+    /// The call that was next is made.
+    fn pass_call(&mut self)
+        requires { 0 < length self.old.pending }
+        ensures { self.new ≡ record self.old { pending = drop 1 self.old.pending } }
+    {
+        if self.reports.is_empty() {
+            // A turn has fewer than 2^63 calls before it.
+            let _calls = self.own_calls().len();
+            self.made += 1;
+        } else {
+            self.reports = rest_of(self.reports);
+        }
+    }
+
+    /// Its actor made the call that was next.
+    pub(crate) fn told_source(&mut self, stamp: Stamp)
+        requires left { 0 < length self.old.pending }
+        requires few { self.old.calls + 1 < 2 ^ 32 }
+        ensures { self.new ≡ after_call stamp self.old }
+    {
+        self.pass_call();
+        self.calls += 1;
+        self.floor = stamp;
+    }
+
+    /// What its actor last knew.
+    pub(crate) fn floor(&self) -> Stamp
+        ensures { result ≡ self.now.floor }
+    {
+        self.floor
+    }
+
+    /// Its actor knows at least that.
+    pub(crate) fn raise(&mut self, floor: Stamp)
+        ensures { self.new ≡ raised floor self.old }
+    {
+        self.floor = later(floor, self.floor);
+    }
+
+    /// How many calls on sources its actor has made.
+    pub(crate) fn calls(&self) -> u32
+        ensures { result ≡ self.now.calls }
+    {
+        self.calls
+    }
+}

@@ -1,0 +1,75 @@
+-- The stage of a device that is given out on the way up.
+use Rattle.std.proofs.Common.{◌≡◌, ◌∙◌, ℕ, Bool, true, List, Option, Some, None, refl, ap, subst}
+use Rattle.sleep_model.specs.declared.entry.Entry.{Entry}
+use Rattle.sleep_model.specs.declared.machine.Machine.{Machine}
+use Rattle.sleep_model.specs.declared.machine.PlatDo.{PlatDo}
+use Rattle.sleep_model.specs.declared.machine.PlatDo.TheVariants as down
+use Rattle.sleep_model.specs.declared.machine.PlatUndo.{PlatUndo}
+use Rattle.sleep_model.specs.declared.machine.PlatUndo.TheVariants as undo
+use Rattle.sleep_model.specs.declared.place.Stage.{Stage}
+use Rattle.sleep_model.specs.declared.place.Stage.TheVariants as stage
+use Rattle.sleep_model.specs.declared.place.Stand.{Stand}
+use Rattle.sleep_model.specs.declared.place.Stand.TheVariants as stand
+use Rattle.phase_table.specs.declared.phase.Phase.{Phase}
+use Rattle.phase_table.specs.declared.phase.Phase.TheVariants as phase
+use Rattle.phase_table.specs.Phases.{mirror}
+use Rattle.sleep_model.specs.Devices.{stand_in}
+use Rattle.sleep_model.specs.Legal.{JournalPart}
+use Rattle.sleep_model.specs.Table.{stage_of}
+use Rattle.sleep_laws.proofs.Boards.{at_is, mirror_down}
+use Rattle.sleep_laws.proofs.Made.{Up, InResume, InEarly, InResumeNoirq}
+use Rattle.sleep_laws.proofs.Moods.{mood, mood_if, in_down, in_up, allows}
+use Rattle.sleep_laws.proofs.Passing.{standing}
+use Rattle.sleep_laws.proofs.Standing.{errs, Standing}
+use Rattle.sleep_laws.proofs.Turning.{never}
+
+in_ups : (p q : Phase) (e : Bool) → Up q → allows (in_up p (mirror q)) e stand.Rescheduled ≡ true → stage.Ups p ≡ stage.Ups q
+in_ups phase.Resume _ e InResume h = refl
+in_ups phase.Early _ e InEarly h = refl
+in_ups phase.ResumeNoirq _ e InResumeNoirq h = refl
+in_ups _ _ e InResume h = never h
+in_ups _ _ e InEarly h = never h
+in_ups _ _ e InResumeNoirq h = never h
+
+in_downs : (p q : Phase) (e : Bool) → Up q → allows (in_down p (mirror q)) e stand.Rescheduled ≡ true → ⊥
+in_downs phase.Suspend _ e InResume h = never h
+in_downs phase.Suspend _ e InEarly h = never h
+in_downs phase.Suspend _ e InResumeNoirq h = never h
+in_downs phase.Late _ e InResume h = never h
+in_downs phase.Late _ e InEarly h = never h
+in_downs phase.Late _ e InResumeNoirq h = never h
+in_downs phase.Noirq _ e InResume h = never h
+in_downs phase.Noirq _ e InEarly h = never h
+in_downs phase.Noirq _ e InResumeNoirq h = never h
+in_downs _ _ e i h = never h
+
+in_asks : (a : PlatDo) (q : Phase) (e : Bool) → Up q → allows (mood (stage.Asks a) (mirror q)) e stand.Rescheduled ≡ true → ⊥
+in_asks down.Begin _ e i h = never h
+in_asks down.Prepare _ e InResume h = never h
+in_asks down.Prepare _ e InEarly h = never h
+in_asks down.Prepare _ e InResumeNoirq h = never h
+in_asks down.PrepareLate _ e i h = never h
+
+in_tells : (a : PlatUndo) (q : Phase) (e : Bool) → Up q → allows (mood (stage.Tells a) (mirror q)) e stand.Rescheduled ≡ true → ⊥
+in_tells undo.Recover _ e InResume h = never h
+in_tells undo.Recover _ e InEarly h = never h
+in_tells undo.Recover _ e InResumeNoirq h = never h
+in_tells undo.Finish _ e InResume h = never h
+in_tells undo.Finish _ e InEarly h = never h
+in_tells undo.Finish _ e InResumeNoirq h = never h
+in_tells undo.Wake _ e i h = never h
+in_tells undo.End _ e i h = never h
+
+rescheduled_at : (st : Option Stage) (q : Phase) (e : Bool) → Up q → allows (mood_if st (mirror q)) e stand.Rescheduled ≡ true → st ≡ Some (stage.Ups q)
+rescheduled_at (Some (stage.Ups p)) q e i h = ap Some (in_ups p q e i h)
+rescheduled_at (Some (stage.Downs p)) q e i h = absurd (in_downs p q e i h)
+rescheduled_at (Some (stage.Asks a)) q e i h = absurd (in_asks a q e i h)
+rescheduled_at (Some (stage.Tells a)) q e i h = absurd (in_tells a q e i h)
+rescheduled_at None q e i h = never h
+rescheduled_at (Some _) q e i h = never h
+
+-- a device that was given out on the way up stands in its phase
+pub risen_stage : (m : Machine) (past : List Entry) → JournalPart m past → (p : Phase) (d : ℕ) → Up p → stand_in m past (mirror p) d ≡ stand.Rescheduled → stage_of past ≡ Some (stage.Ups p)
+risen_stage m past h p d i e =
+    let s : Standing m past (stage_of past) = standing m past h in
+    rescheduled_at (stage_of past) p (errs past) i (subst (λ (x : Stand). allows (mood_if (stage_of past) (mirror p)) (errs past) x ≡ true) (at_is m past (mirror p) d (mirror_down p i) ∙ e) ((s.0 d).allowed (mirror p) (mirror_down p i)))

@@ -1,0 +1,67 @@
+-- What a call on a source does, by what its bump tells.
+use Rattle.std.specs.Prelude.{◌≡◌, ◌≤◌, ◌+◌, ◌++◌, ℕ, Bool, true, List, [], ◌∷◌, Option}
+use Rattle.sleep_model.specs.declared.machine.SourceCall.{SourceCall}
+use Rattle.sleep_model.specs.declared.word.EventNow.{EventNow}
+use Rattle.sleep_model.specs.declared.word.WordKind.{WordKind}
+use Rattle.sleep_model.specs.Sources.{makes, since}
+use Rattle.sleep_model.specs.Word.{position}
+use Rattle.event_word.specs.Looks.{IsTold, GrewTo}
+use Rattle.event_word.specs.Steps.{MadeStep, told_after, made_after}
+use Rattle.wakeup_source.specs.declared.call_by.CallBy.{CallBy}
+use Rattle.wakeup_source.specs.SourceStates.{SourceState, bare, with_note, with_step}
+
+-- what a bump tells, and the source that it is a bump of
+pub record Scene : Type 0 where
+  pub told : Option EventNow
+  pub made : Option (List MadeStep)
+  pub looked : Option (List EventNow)
+  pub floor : ℕ
+  pub source : SourceState
+
+-- a bump and a source
+abbrev pub scene : Option EventNow → Option (List MadeStep) → Option (List EventNow) → ℕ → SourceState → Scene
+scene told made looked floor source =
+    record { told = told; made = made; looked = looked; floor = floor; source = source }
+
+-- after a step with that word before it
+abbrev pub after_step : CallBy → WordKind → EventNow → Scene → Scene
+after_step by step before s = record {
+  told = told_after step s.told;
+  made = made_after step before s.made;
+  looked = s.looked;
+  floor = position before + 1;
+  source = with_step by step before s.source;
+}
+
+-- these steps are made one after another, each at a word that is told where the word is told, and no position falls
+abbrev pub Steps : CallBy → List WordKind → Scene → Scene → Type 0
+Steps by [] old new = new ≡ old
+Steps by (step ∷ rest) old new =
+    (before : EventNow) × IsTold old.told before × (old.floor ≤ position before)
+    × Steps by rest (after_step by step before old) new
+
+-- after the note of a call that saw that word
+abbrev pub after_note : CallBy → SourceCall → EventNow → Option (List EventNow) → Scene → Scene
+after_note by call seen looked s = record {
+  told = s.told;
+  made = s.made;
+  looked = looked;
+  floor = position seen;
+  source = with_note by call seen s.source;
+}
+
+-- a note is made, of a word that was looked at and that is at least what bump, caller and source last knew
+abbrev pub Notes : CallBy → SourceCall → Scene → Scene → Type 0
+Notes by call old new =
+    (seen : EventNow) × IsTold old.told seen × GrewTo seen old.looked new.looked
+    × (old.floor ≤ position seen) × (by.floor.pos ≤ position seen) × (old.source.floor.pos ≤ position seen)
+    × (new ≡ after_note by call seen new.looked old)
+
+-- a whole call: its note, and the steps that it makes
+abbrev pub Calls : CallBy → SourceCall → Scene → Scene → Type 0
+Calls by call old new =
+    (noted : Scene) × Notes by call old noted × Steps by (makes call (since (bare old.source.past))) noted new
+
+-- what could be made behind these steps can be made once they are made
+abbrev pub CanGoOnAll : List WordKind → (List WordKind → Bool) → (List WordKind → Bool) → Type 0
+CanGoOnAll steps old new = (rest : List WordKind) → old (steps ++ rest) ≡ true → new rest ≡ true

@@ -1,0 +1,20 @@
+//! Wakeup sources: their calls, what is counted of them, and their histories
+//! (`drivers/base/power/wakeup.c`).
+#![tactic(auto)]
+
+mod book;
+mod call_by;
+mod fault;
+mod kinds;
+mod line;
+mod places;
+mod source;
+mod steps;
+mod tally;
+#[cfg(test)]
+mod tests;
+
+pub use call_by::CallBy;
+pub use fault::SourceFault;
+pub use line::stats_line;
+pub use source::WakeSource;

@@ -1,0 +1,215 @@
+use crate::book::Book;
+use crate::call_by::CallBy;
+use crate::fault::SourceFault;
+use event_word::Bump;
+use sleep_model::{SourceCall, SourceEntry, Stamp, Stats};
+use std::alloc::Global;
+use std::marker::Model;
+use std::sync::Wait;
+
+/// A wakeup source with a history of at most `CAP` entries (`include/linux/pm_wakeup.h`,
+/// `struct wakeup_source`). Contracts see its number, its entries, the newest first, and what it last knew.
+#[derive(Drop)]
+pub struct WakeSource<const CAP: usize> {
+    book: Book,
+}
+
+impl<const CAP: usize> Model for WakeSource<CAP> {
+    ghost use Rattle.wakeup_source.specs.SourceStates.{SourceState, IsSource};
+
+    ghost Value = { SourceState };
+
+    ghost view = { λ s. s.book.source };
+
+    ghost invariant = { λ s. IsSource CAP s.book.source };
+}
+
+impl<const CAP: usize> WakeSource<CAP> {
+    ghost use Rattle.std.specs.Prelude.{◌≡◌, ◌≤◌, ◌<◌, ◌+◌, ◌^◌, ◌↔◌, true, false, Some, None, Ok, Err, length, reverse, OnOk, OnErr, IfOk, IfSome};
+    ghost use Rattle.sleep_model.specs.declared.machine.SourceCall.TheVariants.{Awake, Relax, Event, Expire};
+    ghost use Rattle.sleep_model.specs.Sources.{makes, since, expiry, has_expired, stats_at};
+    ghost use Rattle.wakeup_source.specs.Called.{scene, Calls, CanGoOnAll};
+    ghost use Rattle.wakeup_source.specs.SourceStates.{new_source, bare, latest, later_stamp, IsSettled};
+    ghost use Rattle.wakeup_source.specs.Told.{IsToldCall, AreOwnSteps, OnDone};
+
+    /// The source with that number, never called. `CAP` is at most 60,000.
+    pub fn new(alloc: Global, id: u32) -> Self
+        requires { CAP ≤ 60000 }
+        ensures { result ≡ new_source id }
+    {
+        WakeSource {
+            book: Book::new(alloc, id),
+        }
+    }
+
+    /// An event that lasts until it is ended by hand (`__pm_stay_awake`). Answers what the caller then knows.
+    /// `Full` where fewer than four places are left, `Mem` where there is no memory: nothing has changed then.
+    pub fn stay_awake<R: Wait, B: Bump>(
+        &mut self,
+        rt: &R,
+        events: &mut B,
+        by: CallBy,
+    ) -> Result<Stamp, SourceFault>
+        requires time { latest (bare self.old.past) ≤ by.now }
+        requires small { by.now ≤ 2 ^ 63 }
+        requires can { B.can events.old (makes Awake (since (bare self.old.past))) ≡ true }
+        ensures calls { OnOk result (Calls by Awake
+            (scene (B.tells events.old) (B.made events.old) (B.looked events.old) (B.floor events.old) self.old)
+            (scene (B.tells events.new) (B.made events.new) (B.looked events.new) (B.floor events.new) self.new)) }
+        ensures told { OnOk result (IsToldCall by Awake (B.tells events.old) (B.tells events.new) self.old self.new) }
+        ensures made { OnOk result (AreOwnSteps (B.made events.old) (B.made events.new) self.old self.new) }
+        ensures stamp { IfOk result (λ stamp. stamp ≡ self.new.floor) }
+        ensures full { (result ≡ Err SourceFault.Full) ↔ (CAP < length self.old.past + 4) }
+        ensures err { OnErr result ((self.new ≡ self.old) × (events.new ≡ events.old)) }
+        ensures time { latest (bare self.new.past) ≤ by.now }
+        ensures settled { IsSettled self.new }
+        ensures can { OnOk result (CanGoOnAll (makes Awake (since (bare self.old.past)))
+            (B.can events.old) (B.can events.new)) }
+        ensures root { B.root events.new ≡ B.root events.old }
+    {
+        self.book.make_room(rt, by, CAP)?;
+        self.book.look(rt, events, by, SourceCall::Awake);
+        self.book.start_unless_active(events, by);
+        Ok(self.book.floor())
+    }
+
+    /// The end of the event in progress, if one is (`__pm_relax`). Answers and refuses as `stay_awake`.
+    pub fn relax<R: Wait, B: Bump>(
+        &mut self,
+        rt: &R,
+        events: &mut B,
+        by: CallBy,
+    ) -> Result<Stamp, SourceFault>
+        requires time { latest (bare self.old.past) ≤ by.now }
+        requires small { by.now ≤ 2 ^ 63 }
+        requires can { B.can events.old (makes Relax (since (bare self.old.past))) ≡ true }
+        ensures calls { OnOk result (Calls by Relax
+            (scene (B.tells events.old) (B.made events.old) (B.looked events.old) (B.floor events.old) self.old)
+            (scene (B.tells events.new) (B.made events.new) (B.looked events.new) (B.floor events.new) self.new)) }
+        ensures told { OnOk result (IsToldCall by Relax (B.tells events.old) (B.tells events.new) self.old self.new) }
+        ensures made { OnOk result (AreOwnSteps (B.made events.old) (B.made events.new) self.old self.new) }
+        ensures stamp { IfOk result (λ stamp. stamp ≡ self.new.floor) }
+        ensures full { (result ≡ Err SourceFault.Full) ↔ (CAP < length self.old.past + 4) }
+        ensures err { OnErr result ((self.new ≡ self.old) × (events.new ≡ events.old)) }
+        ensures time { latest (bare self.new.past) ≤ by.now }
+        ensures settled { IsSettled self.new }
+        ensures can { OnOk result (CanGoOnAll (makes Relax (since (bare self.old.past)))
+            (B.can events.old) (B.can events.new)) }
+        ensures root { B.root events.new ≡ B.root events.old }
+    {
+        self.book.make_room(rt, by, CAP)?;
+        self.book.look(rt, events, by, SourceCall::Relax);
+        let active = self.book.is_active();
+        self.book.finish_if(events, by, active);
+        Ok(self.book.floor())
+    }
+
+    /// An event of `ms` milliseconds, a hard one or not (`pm_wakeup_ws_event`): one without length ends at once, one
+    /// that stands longer is not cut. Answers and refuses as `stay_awake`.
+    pub fn event<R: Wait, B: Bump>(
+        &mut self,
+        rt: &R,
+        events: &mut B,
+        by: CallBy,
+        ms: u32,
+        hard: bool,
+    ) -> Result<Stamp, SourceFault>
+        requires time { latest (bare self.old.past) ≤ by.now }
+        requires small { by.now ≤ 2 ^ 63 }
+        requires can { B.can events.old (makes (Event ms hard) (since (bare self.old.past))) ≡ true }
+        ensures calls { OnOk result (Calls by (Event ms hard)
+            (scene (B.tells events.old) (B.made events.old) (B.looked events.old) (B.floor events.old) self.old)
+            (scene (B.tells events.new) (B.made events.new) (B.looked events.new) (B.floor events.new) self.new)) }
+        ensures told { OnOk result (IsToldCall by (Event ms hard)
+            (B.tells events.old) (B.tells events.new) self.old self.new) }
+        ensures made { OnOk result (AreOwnSteps (B.made events.old) (B.made events.new) self.old self.new) }
+        ensures stamp { IfOk result (λ stamp. stamp ≡ self.new.floor) }
+        ensures full { (result ≡ Err SourceFault.Full) ↔ (CAP < length self.old.past + 4) }
+        ensures err { OnErr result ((self.new ≡ self.old) × (events.new ≡ events.old)) }
+        ensures time { latest (bare self.new.past) ≤ by.now }
+        ensures settled { IsSettled self.new }
+        ensures can { OnOk result (CanGoOnAll (makes (Event ms hard) (since (bare self.old.past)))
+            (B.can events.old) (B.can events.new)) }
+        ensures root { B.root events.new ≡ B.root events.old }
+    {
+        let call = SourceCall::Event { ms, hard };
+        self.book.make_room(rt, by, CAP)?;
+        self.book.look(rt, events, by, call);
+        self.book.start_unless_active(events, by);
+        self.book.hard_if(events, by, hard);
+        self.book.finish_if(events, by, ms == 0);
+        Ok(self.book.floor())
+    }
+
+    /// The end of the event in progress where its moment has come (`pm_wakeup_timer_fn`). `None` where it has not,
+    /// which is tested first. Else answers and refuses as `stay_awake`.
+    pub fn expire<R: Wait, B: Bump>(
+        &mut self,
+        rt: &R,
+        events: &mut B,
+        by: CallBy,
+    ) -> Result<Option<Stamp>, SourceFault>
+        requires time { latest (bare self.old.past) ≤ by.now }
+        requires small { by.now ≤ 2 ^ 63 }
+        requires can { B.can events.old (makes Expire (since (bare self.old.past))) ≡ true }
+        ensures calls { OnDone result (Calls by Expire
+            (scene (B.tells events.old) (B.made events.old) (B.looked events.old) (B.floor events.old) self.old)
+            (scene (B.tells events.new) (B.made events.new) (B.looked events.new) (B.floor events.new) self.new)) }
+        ensures told { OnDone result (IsToldCall by Expire
+            (B.tells events.old) (B.tells events.new) self.old self.new) }
+        ensures made { OnDone result (AreOwnSteps (B.made events.old) (B.made events.new) self.old self.new) }
+        ensures stamp { IfOk result (λ answer. IfSome answer (λ stamp. stamp ≡ self.new.floor)) }
+        ensures none { (result ≡ Ok None) ↔ (has_expired (expiry (bare self.old.past)) by.now ≡ false) }
+        ensures rests { result ≡ Ok None → (self.new ≡ self.old) × (events.new ≡ events.old) }
+        ensures full { (result ≡ Err SourceFault.Full)
+            ↔ ((has_expired (expiry (bare self.old.past)) by.now ≡ true) × (CAP < length self.old.past + 4)) }
+        ensures err { OnErr result ((self.new ≡ self.old) × (events.new ≡ events.old)) }
+        ensures time { latest (bare self.new.past) ≤ by.now }
+        ensures settled { IsSettled self.new }
+        ensures can { OnDone result (CanGoOnAll (makes Expire (since (bare self.old.past)))
+            (B.can events.old) (B.can events.new)) }
+        ensures root { B.root events.new ≡ B.root events.old }
+    {
+        if !self.book.has_expired(by.now) {
+            return Ok(None);
+        }
+        self.book.make_room(rt, by, CAP)?;
+        self.book.look(rt, events, by, SourceCall::Expire);
+        let active = self.book.is_active();
+        self.book.finish_if(events, by, active);
+        Ok(Some(self.book.floor()))
+    }
+
+    /// When the event in progress ends by itself, in ms, if it does (`ws->timer_expires`).
+    pub fn due(&self) -> Option<u64>
+        ensures due { result ≡ expiry (bare self.now.past) }
+        ensures settled { IsSettled self.now }
+    {
+        self.book.expiry()
+    }
+
+    /// The statistics at that moment, not before the last entry's (`print_wakeup_source_stats`).
+    pub fn stats(&self, now: u64) -> Stats
+        requires time { latest (bare self.now.past) ≤ now }
+        requires small { now ≤ 2 ^ 63 }
+        ensures { result ≡ stats_at (bare self.now.past) now }
+    {
+        self.book.stats(now)
+    }
+
+    /// The entries, the oldest first.
+    pub fn history(&self) -> &[SourceEntry]
+        ensures entries { reverse result.now ≡ self.now.past }
+        ensures places { length self.now.past ≤ CAP }
+    {
+        self.book.as_slice()
+    }
+
+    /// Raises what the source last knew, number by number: its next entry's tick is above.
+    pub fn raise(&mut self, floor: Stamp)
+        ensures raised { self.new ≡ record self.old { floor = later_stamp self.old.floor floor } }
+        ensures settled { IsSettled self.new }
+    {
+        self.book.raise(floor);
+    }
+}

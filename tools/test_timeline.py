@@ -1,0 +1,225 @@
+#!/usr/bin/env python3
+"""Tries tools/timeline.py: what stands on its pages, and what it refuses.
+
+usage: tools/test_timeline.py
+
+The logs are the worked ones, and those that tools/second.py and tools/interleaved.py write of random machines.
+"""
+
+import collections
+import html.parser
+import json
+import pathlib
+import random
+import re
+import subprocess
+import sys
+import unittest
+
+import interleaved
+import second
+import try_definitions
+from timeline import machine, page, reading, story
+
+TOOLS = pathlib.Path(__file__).resolve().parent
+WORKED = sorted((TOOLS / "worked").glob("*.log"))
+LATER = sorted((TOOLS.parent / "examples" / "later").glob("*.json"))
+SEED, MACHINES = 7, 60
+# The lines of an event and of the test that found it, or that it woke, as one reads them in the log.
+FOUND = {
+    "event_stops_a_device": ("found", 26, 29),
+    "event_after_save": ("found", 3, 15),
+    "event_stops_a_processor": ("found", 30, 33),
+    "event_wakes": ("woke", 21, 24),
+    "freeze_times_out": ("found", 10, 15),
+    "hard_event": ("found", 6, 22),
+}
+# After so many turns of a line comes an event, between the core's test and the last one, or a read and its save.
+RARE = [
+    (15, [{"op": "read"}, {"op": "save"}, {"op": "state", "text": "mem"}]),
+    (5, [{"op": "autosleep", "text": "mem"}, {"op": "sleep", "ms": 10}, {"op": "autosleep", "text": "off"}]),
+]
+# In the log of asynchronous_child, the lines of an end and of what waited for it: by parent and child, and by the walk.
+WAITED = [(12, 13), (19, 20), (25, 26), (39, 40), (45, 46), (52, 53)]
+WALK_WAITED = [(41, 42), (47, 48), (54, 55)]
+
+
+class Elements(html.parser.HTMLParser):
+    """The elements of a page that stand for entries, live and kept apart in folded parts."""
+
+    def __init__(self, text):
+        super().__init__()
+        self.live, self.kept, self.lines = collections.Counter(), [], {}
+        self.numbers, self.is_title, self.is_kept = None, False, False
+        self.parts = collections.Counter()
+        self.feed(text)
+        self.close()
+        self.folded = [Elements(kept) for kept in self.kept]
+
+    def handle_starttag(self, tag, attributes):
+        given = dict(attributes)
+        self.parts[tag] += 1
+        if "data-n" in given:
+            self.numbers = [int(number) for number in given["data-n"].split()]
+            self.live.update(self.numbers)
+        self.is_title = tag == "title"
+        self.is_kept = tag == "script" and given.get("type") == "text/plain"
+
+    def handle_endtag(self, tag):
+        self.is_title = self.is_kept = False
+        self.numbers = None if tag == "rect" else self.numbers
+
+    def handle_data(self, text):
+        if self.is_kept:
+            self.kept.append(text)
+        elif self.is_title and self.numbers is not None:
+            self.lines.update(zip(self.numbers, text.split("\n"), strict=True))
+
+    def all(self):
+        return sum((part.live for part in self.folded), self.live)
+
+    def told(self):
+        found = dict(self.lines)
+        for part in self.folded:
+            found |= part.lines
+        return found
+
+
+def draw(text, tree=None):
+    """The page of a log, with its machine if given."""
+    log = reading.read_log(text.encode())
+    devices = machine.devices_seen(log) if tree is None else machine.read_machine(json.dumps(tree), log)
+    return page.page(story.Story(log, devices))
+
+
+def with_late_event(posts, script):
+    """A machine with a task, and a line that reports an event after some turns."""
+    line = [{"op": "post", "mark": "x", "times": posts}, {"op": "event", "source": "lid"}]
+    actors = [{"name": "w", "kind": "user", "script": script}, {"name": "k", "kind": "irq", "script": line}]
+    return {"version": 1, "sources": ["lid"], "actors": actors}
+
+
+def machines_with_logs():
+    """Worked, shown and random machines, with their logs."""
+    for path in WORKED:
+        yield path.stem, json.loads(path.with_suffix(".json").read_text()), path.read_text()
+    for path in LATER:
+        tree = json.loads(path.read_text())
+        yield path.stem, tree, second.Run(tree).run()[0]
+    for posts, script in RARE:
+        tree = with_late_event(posts, script)
+        yield f"event after {posts} posts", tree, second.Run(tree).run()[0]
+    maker = try_definitions.Maker(SEED)
+    for number in range(MACHINES):
+        tree = maker.machine()
+        yield f"machine {number}", tree, second.Run(tree).run()[0]
+        yield f"merged {number}", tree, interleaved.Interleaved(tree, number).run()[0]
+
+
+class Pages(unittest.TestCase):
+    def check(self, name, text, drawn):
+        entries = [line for line in text.split("\n") if line[:1].isdigit()]
+        elements = Elements(drawn)
+        self.assertEqual(elements.all(), collections.Counter(range(1, len(entries) + 1)), name)
+        self.assertEqual(elements.told(), dict(enumerate(entries, 1)), name)
+
+    def test_every_entry_stands_once_and_every_kind_does(self):
+        kinds = set()
+        for name, tree, text in machines_with_logs():
+            self.check(name, text, draw(text, tree))
+            self.check(name, text, draw(text))
+            kinds |= {entry.kind for entry in reading.read_log(text.encode()).entries}
+        self.assertEqual(kinds, {kind for forms in reading.SAYS.values() for kind in forms})
+
+    def test_events_are_joined_to_tests(self):
+        for name, (what, event, test) in FOUND.items():
+            log = reading.read_log((TOOLS / "worked" / f"{name}.log").read_bytes())
+            told = story.Story(log, machine.devices_seen(log))
+            made = [(join.what, join.tail + 1, join.head + 1) for join in told.joins if join.what in ("found", "woke")]
+            self.assertEqual(made, [(what, event, test)], name)
+
+    def test_waits_are_shown(self):
+        path = TOOLS / "worked" / "asynchronous_child.log"
+        text, tree = path.read_text(), json.loads(path.with_suffix(".json").read_text())
+        for given, waited in ((tree, WAITED + WALK_WAITED), (None, WALK_WAITED)):
+            lines = re.findall(r'"join waits".*?waited for \w+: line (\d+) to line (\d+)<', draw(text, given))
+            self.assertEqual(sorted((int(end), int(begin)) for end, begin in lines), sorted(waited))
+
+    def test_tables(self):
+        path = TOOLS / "worked" / "event_stops_a_device.log"
+        drawn = draw(path.read_text())
+        cells = [re.findall("<td>(.*?)</td>", row) for row in re.findall("<tr>(<td>.*?)</tr>", drawn)]
+        failed = ["dpm_suspend", "skip suspend disk pending (line 29)", "event lid from irq:k (line 26)"]
+        self.assertEqual(cells[0][2:8], ["task:w", "guarded by count 0", "EBUSY", *failed])
+        self.assertEqual(cells[1][3:9], ["plain", "entered, 0", "", "", "", "0 to 1000 ms, woken by the alarm"])
+        self.assertEqual(cells[2], ["lid", "1", "1", "0", "0", "0", "0", "0"])
+
+    def test_folded_parts_hold_no_elements(self):
+        text = (TOOLS / "worked" / "event_stops_a_device.log").read_text()
+        elements = Elements(draw(text))
+        self.assertEqual((len(elements.live), len(elements.folded)), (0, 2))
+        alone = Elements(draw((TOOLS / "worked" / "laptop.log").read_text()))
+        self.assertEqual((len(alone.live), len(alone.folded)), (1143, 0))
+
+
+class Refusals(unittest.TestCase):
+    def refused(self, text, tree=None):
+        with self.assertRaises(reading.Refused) as caught:
+            draw(text, tree)
+        return int(re.match(r"line (\d+): ", str(caught.exception))[1])
+
+    def test_a_log_that_is_cut_off(self):
+        for name in ("smallest_attempt", "event_wakes", "stuck_mark"):
+            text = (TOOLS / "worked" / f"{name}.log").read_text()
+            for length in range(1, len(text)):
+                cut = text[:length]
+                self.assertEqual(self.refused(cut), cut.count("\n") + 1, (name, length))
+
+    def test_a_line_that_is_none(self):
+        lines = (TOOLS / "worked" / "laptop.log").read_text().split("\n")[:-1]
+        dice = random.Random(SEED)
+        for wrong in ("", "x", "0 0/0/0 task:w reed 0", "00 0/0/0 task:w exit", "0 0/0/0 dev:w exit", "finished", " "):
+            place = dice.randrange(len(lines) - 4)
+            self.assertEqual(self.refused("\n".join([*lines[:place], wrong, *lines[place:]]) + "\n"), place + 1, wrong)
+        self.assertEqual(self.refused("\n".join([*lines, "finished"]) + "\n"), len(lines) + 1)
+
+    def test_entries_that_have_no_beginning(self):
+        end = "source autosleep 0 0 0 0 0 0 0\nfinished\n"
+        for said in ("over 1 0", "clear", "end suspend d 0", "finish autosleep"):
+            self.assertEqual(self.refused(f"0 0/0/0 task:w {said}\n0 0/0/0 task:w exit\n{end}"), 1, said)
+
+    def test_a_log_of_another_machine(self):
+        text = (TOOLS / "worked" / "event_wakes.log").read_text()
+        self.assertEqual(self.refused(text, {"version": 1}), 1)
+        with self.assertRaises(machine.NoMachine):
+            draw(text, [])
+
+    def test_a_script_whose_end_is_cut_off(self):
+        waits = [{"name": name, "kind": "user", "script": [{"op": "wait", "mark": "a"}]} for name in "wv"]
+        tree = {"version": 1, "actors": waits}
+        text = second.Run(tree).run()[0]
+        draw(text, tree)
+        self.assertEqual(self.refused(text[:text.rindex("stuck")], tree), text.count("\n"))
+
+    def run_it(self, *words, given=b""):
+        done = subprocess.run([sys.executable, TOOLS / "timeline.py", *words], input=given, capture_output=True)
+        return done.returncode, done.stdout.decode(), done.stderr.decode()
+
+    def test_the_command(self):
+        log = WORKED[0].read_bytes()
+        status, drawn, told = self.run_it(WORKED[0], "--machine", WORKED[0].with_suffix(".json"))
+        self.assertEqual((status, told), (0, ""))
+        self.assertIn("</html>", drawn)
+        self.assertEqual(self.run_it(given=log)[0], 0)
+        status, drawn, told = self.run_it(given=log[:-20])
+        self.assertEqual((status, drawn), (1, ""))
+        self.assertRegex(told, r"^standard input: line \d+: the log is cut off")
+        self.assertEqual(self.run_it("--machine", WORKED[0], WORKED[0])[0], 1)
+        self.assertEqual(self.run_it(TOOLS / "none.log")[0], 1)
+        status, drawn, told = self.run_it()
+        self.assertEqual((status, told), (0, ""))
+        self.assertEqual(Elements(drawn).parts["svg"], 0)
+
+
+if __name__ == "__main__":
+    unittest.main()
