@@ -3,7 +3,6 @@ mod Counted
 mod Frozen
 mod Propers
 mod Reporting
-mod Sampled
 mod Seated
 mod Turning
 mod Walks

@@ -5,7 +5,6 @@ pub mod HistoryFields
 pub mod Numbered
 pub mod ReportFields
 pub mod Reports
-pub mod Samples
 pub mod Seen
 pub mod Stages
 pub mod Steps

@@ -14,8 +14,6 @@ mod start;
 mod state;
 mod steps;
 mod tasks;
-#[cfg(test)]
-mod tests;
 mod turns;
 
 pub use state::Core;

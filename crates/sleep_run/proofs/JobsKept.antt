@@ -135,7 +135,7 @@ jobs_first m = record {
   scripts = first_len m actor.Script (length m.actors);
   devices = first_len m actor.Dev (length m.devices);
   each = λ who a. subst (λ (n : ℕ). IsJobOf m who [] n (job_at (first_jobs m) who)) (sym (none_made (length m.sources + 1) who))
-  (subst (IsJobOf m who [] 0) (sym (job_first m who a)) (first_is_job m who));
+      (subst (IsJobOf m who [] 0) (sym (job_first m who a)) (first_is_job m who));
 }
 
 -- ---- an entry of the journal

@@ -76,7 +76,7 @@ pub sources_first : (m : Machine) → AreSources m [] (first_sources (length m.s
 sources_first m = record {
   count = first_count (length m.sources + 1);
   each = λ s none l. (let is = first_at (length m.sources + 1) s none (omega (arith, l, first_count (length m.sources + 1))) in
-  record { number = ap (λ (x : SourceState). x.id) is; entries = ap (λ (x : SourceState). bare x.past) is });
+      record { number = ap (λ (x : SourceState). x.id) is; entries = ap (λ (x : SourceState). bare x.past) is });
 }
 
 -- ---- entries
@@ -124,9 +124,9 @@ made_source : (s : ℕ) (c : SourceCall) (by : CallBy) (past : List Entry) (word
 made_source s c by past word later old new stamp h made = record {
   number = made.number ∙ h.number;
   entries =
-    made.entries ∙ (ap (λ i. source_call i c by.actor by.now word (bare old.past) ++ bare old.past) h.number
-    ∙ (ap (λ own. source_call s c by.actor by.now word own ++ own) h.entries
-    ∙ (call_told s c by.actor by.now word (history s past) (history s past) ∙ sym (call_history (steps_of s c past) past by.now word by.actor s c))));
+      made.entries ∙ (ap (λ i. source_call i c by.actor by.now word (bare old.past) ++ bare old.past) h.number
+      ∙ (ap (λ own. source_call s c by.actor by.now word own ++ own) h.entries
+      ∙ (call_told s c by.actor by.now word (history s past) (history s past) ∙ sym (call_history (steps_of s c past) past by.now word by.actor s c))));
 }
 
 -- and the others have theirs

@@ -48,8 +48,7 @@ pub tail_is : (before now p0 p1 : List SourceEntry) (more : List Entry) → reve
 tail_is before now p0 p1 more old new added =
     let all : map unstamped now ≡ map unstamped before ++ reverse more =
     bare_history now p1 new ∙ (ap reverse added ∙ (reverse-append more (bare p0) ∙ ap (λ xs. xs ++ reverse more) (sym (bare_history before p0 old)))) in
-    let count : length before ≡ length (map unstamped before) = sym (length-map before unstamped) in
-    (
+    let count : length before ≡ length (map unstamped before) = sym (length-map before unstamped) in (
       omega (arith, length-map now unstamped, ap length all, length-append (map unstamped before) (reverse more), length-reverse more, count),
       ap reverse (drop_map (length before) now ∙ (ap (drop (length before)) all ∙ (ap (λ n. drop n (map unstamped before ++ reverse more)) count ∙ drop-append_seam (map unstamped before) (reverse more)))) ∙ reverse_twice more,
     )

@@ -1,6 +1,5 @@
 //! What a run's core, its sources and its word say of all entries so far.
 
-
 ghost use Rattle.std.specs.Prelude.{◌≡◌};
 ghost use Rattle.sleep_model.specs.Legal.{sooner};
 

@@ -1,6 +1,5 @@
 //! What comes after a round that did nothing: a jump of time, or the end.
 
-
 ghost use Rattle.std.specs.Prelude.{◌≡◌, ◌≤◌, ◌<◌, ◌^◌, ◌++◌, length, IfOk, OnOk, All};
 ghost use Rattle.sleep_run.specs.Waits.{waits_of, all_stats};
 ghost use Rattle.wakeup_source.specs.SourceStates.{bare, latest};
@@ -9,7 +8,9 @@ use crate::calls::append;
 use crate::run::{Run, RunFault, wait_unless};
 use event_word::Events;
 use sleep_base::Mem;
-use sleep_model::{Actor, Due, Entry, EntryList, EventNow, Kind, ListOf, Log, LogEnd, Stats, Waiting};
+use sleep_model::{
+    Actor, Due, Entry, EntryList, EventNow, Kind, ListOf, Log, LogEnd, Stats, Waiting,
+};
 use std::alloc::{AllocError, Global};
 use std::sync::Wait;
 use wakeup_source::WakeSource;
@@ -162,7 +163,11 @@ impl<'m> Run<'m> {
         let word = self.word();
         let mut those = Vec::new(alloc);
         for script in 0..self.machine.actors.len() as u32 {
-            push_waiting(&mut those, script, self.core.due(Actor::Script(script), word))?;
+            push_waiting(
+                &mut those,
+                script,
+                self.core.due(Actor::Script(script), word),
+            )?;
         }
         Ok(those)
     }

@@ -1,6 +1,5 @@
 //! Rounds over the actors, and a whole run.
 
-
 ghost use Rattle.std.specs.Prelude.{◌≡◌, true, reverse, IfOk, IfErr};
 ghost use Rattle.sleep_model.specs.Accepted.{IsAccepted};
 ghost use Rattle.sleep_model.specs.Order.{parents_of};

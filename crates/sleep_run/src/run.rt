@@ -1,6 +1,5 @@
 //! A run of a machine, turn by turn.
 
-
 ghost use Rattle.std.specs.Prelude.{◌≡◌, ◌≤◌, ◌<◌, ◌+◌, zero, suc, true, length, IfOk};
 ghost use Rattle.sleep_run.specs.declared.run.RunFault.TheVariants as fault;
 ghost use Rattle.sleep_run.specs.Firsts.{first_sources, run_fault};
@@ -235,7 +234,14 @@ impl<'m> Run<'m> {
             now: self.core.time(),
         };
         let one = &mut self.sources[source as usize];
-        match make_whole(rt, one, &mut self.events, &mut self.entries, by, SourceCall::Expire) {
+        match make_whole(
+            rt,
+            one,
+            &mut self.events,
+            &mut self.entries,
+            by,
+            SourceCall::Expire,
+        ) {
             Ok(stamp) => {
                 self.floor = stamp;
                 self.waiters.stir_word();

@@ -68,8 +68,13 @@ told_turn-requires-clause-made g c =
 pub told_turn-requires-clause-few : goal.told_turn-requires-clause-few
 told_turn-requires-clause-few g c =
     let r = c.self.inside in
-    omega (arith, few_turns r.machine.now (reverse r.entries.items) r.core r.events r.sources.items r.jobs r.floor c.self.invariant c.args.who (actor r c.args.self.now c.self.view_is c.args.who c.requires.actor),
-    length-reverse r.entries.items, r.entries.small, r.entries.ok)
+    omega (
+      arith,
+      few_turns r.machine.now (reverse r.entries.items) r.core r.events r.sources.items r.jobs r.floor c.self.invariant c.args.who (actor r c.args.self.now c.self.view_is c.args.who c.requires.actor),
+      length-reverse r.entries.items,
+      r.entries.small,
+      r.entries.ok,
+    )
 
 pub invariant_of-self-in-Did : goal.invariant_of-self-in-Did
 invariant_of-self-in-Did g c =
