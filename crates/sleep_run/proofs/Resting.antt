@@ -78,6 +78,15 @@ run_of m items stats (Stuck those) acc legal over counted =
     let ends : (IsFinishedLog m log) ⊎ (IsStuckLog m log) = inr (record { says = ap Stuck over.1; stuck = over.0 }) in
     record { legal = whole; over = ends; laws = laws_of_legal m (reverse items) legal; guarded = guarded_sleep m acc.sources (reverse items) legal; closed = ends_closed m acc log whole ends }
 
+-- the log of a run that is over
+pub run_is : (run : RunState) (items : List Entry) (stats : List Stats) (end : LogEnd) (log : Log) → IsAccepted run.machine → IsLegal run.machine run.past → reverse items ≡ run.past → stats ≡ stats_of run.machine run.past
+    → EndsSo run end → log ≡ record { entries = items; stats = stats; end = end } → IsRun run.machine log
+run_is run items stats end log acc legal all counted over is =
+    subst (λ (l : Log). IsRun run.machine l) (sym is)
+    (run_of run.machine items stats end acc (subst (λ (past : List Entry). IsLegal run.machine past) (sym all) legal)
+    (subst (λ (past : List Entry). EndsSo (record { machine = run.machine; past = past }) end) (sym all) over)
+    (counted ∙ ap (λ (past : List Entry). stats_of run.machine past) (sym all)))
+
 -- ---- who waits
 
 put_by : (b : Bool) (i : ℕ) (d : Due) (rest : List Waiting) → (b ≡ true → d ≡ Gone) → put_waiting b i d rest ≡ waits_of i d ++ rest
@@ -108,7 +117,7 @@ pub seats_len : (n : ℕ) (past : List Entry) → length (seats n past) ≡ n
 seats_len n [] = length-replicate n first_seat
 seats_len n (e ∷ past) = seats_step_len e.actor (seat_part e.kind) (seats n past) ∙ seats_len n past
 
-drop_seat : (xs : List Seat) (i : ℕ) → i < length xs → drop i xs ≡ seat_at xs i ∷ drop (i + 1) xs
+drop_seat : (xs : List Seat) (i : ℕ) → i < length xs → drop i xs ≡ seat_at xs i ∷ drop (suc i) xs
 drop_seat [] i l = absurd (omega arith)
 drop_seat (x ∷ xs) zero l = refl
 drop_seat (x ∷ xs) (suc i) l = drop_seat xs i (omega (arith, l))
@@ -120,7 +129,7 @@ waits_more m past now i closed l =
     let seat = seat_at (seats (length m.actors) past) i in
     let further : suc i ≡ i + 1 = omega arith in
     ap (waiting_from m past now i) (drop_seat (seats (length m.actors) past) i (omega (arith, l, seats_len (length m.actors) past)))
-    ∙ (ap (λ k. put_waiting seat.exited i (due m past (actor.Script i) now) (waiting_from m past now k (drop (i + 1) (seats (length m.actors) past)))) further
+    ∙ (ap (λ k. put_waiting seat.exited i (due m past (actor.Script i) now) (waiting_from m past now k (drop k (seats (length m.actors) past)))) further
     ∙ put_by seat.exited i (due m past (actor.Script i) now) (waiting_from m past now (i + 1) (drop (i + 1) (seats (length m.actors) past))) (exited_gone m past now i closed))
 
 -- nobody stands behind the last

@@ -55,14 +55,25 @@ fn push_waiting(those: &mut Vec<Waiting>, script: u32, due: Due) -> Result<(), A
     Ok(())
 }
 
+/// The log of these entries.
+fn log_of(entries: Vec<Entry>, stats: Vec<Stats>, end: LogEnd) -> Log
+    ensures { result ≡ record { entries = entries.items; stats = stats.items; end = end } }
+{
+    Log {
+        entries: EntryList::of_vec(entries),
+        stats: ListOf::of_vec(stats),
+        end,
+    }
+}
+
 impl<'m> Run<'m> {
-    ghost use Rattle.std.specs.Prelude.{◌≡◌, ◌<◌, ◌+◌, length, Ok, IfOk, OnOk};
+    ghost use Rattle.std.specs.Prelude.{◌≡◌, ◌<◌, ◌+◌, length, reverse, Ok, IfOk, OnOk, IfErr};
     ghost use Rattle.sleep_model.specs.declared.entry.Actor.TheVariants.{Script, Dev};
-    ghost use Rattle.sleep_model.specs.Legal.{JumpStep, IsStuckAfter, none_enabled, none_expires, waiting};
+    ghost use Rattle.sleep_model.specs.Legal.{JumpStep, IsStuckAfter, none_enabled, none_expires, stats_of, waiting};
     ghost use Rattle.sleep_model.specs.Numbers.{numbers, time_of};
     ghost use Rattle.sleep_model.specs.Parts.{journal};
     ghost use Rattle.sleep_model.specs.Sources.{history};
-    ghost use Rattle.sleep_run.specs.Runs.{is_resting, AfterRest, AfterAll, EndsSo, IsRun};
+    ghost use Rattle.sleep_run.specs.Runs.{is_resting, AfterRest, AfterAll, EndsSo, Fails, IsRun};
 
     /// Whether no script can make anything that sees this word.
     fn rest_scripts(&self, word: EventNow) -> bool
@@ -115,6 +126,7 @@ impl<'m> Run<'m> {
         requires later { time_of self.old.past < to }
         ensures machine { self.new.machine ≡ self.old.machine }
         ensures made { OnOk result (length self.old.past < length self.new.past) }
+        ensures fault { IfErr result (Fails self.old.machine) }
     {
         wait_unless(rt, to <= LAST_MOMENT && self.floor.tick < u64::MAX);
         self.entries.reserve(1)?;
@@ -186,18 +198,29 @@ impl<'m> Run<'m> {
         }
     }
 
+    /// The statistics of all sources now.
+    fn stats(&self, alloc: Global) -> Result<Vec<Stats>, AllocError>
+        ensures { IfOk result (λ v. v.items ≡ stats_of self.now.machine self.now.past) }
+    {
+        let stats = stats_of(alloc, &self.sources, self.time())?;
+        Ok(stats)
+    }
+
+    /// All entries, in the order in which they were made.
+    fn into_entries(self) -> Vec<Entry>
+        ensures { reverse result.items ≡ self.entry.past }
+    {
+        let Run { entries, .. } = self;
+        entries
+    }
+
     /// The log of a run that is over.
     pub(crate) fn into_log(self, alloc: Global, rest: Rest) -> Result<Log, Mem>
         requires { AfterAll self (Ok rest) }
         ensures { IfOk result (λ log. IsRun self.entry.machine log) }
     {
         let end = self.end(alloc, rest)?;
-        let stats = stats_of(alloc, &self.sources, self.time())?;
-        let Run { entries, .. } = self;
-        Ok(Log {
-            entries: EntryList::of_vec(entries),
-            stats: ListOf::of_vec(stats),
-            end,
-        })
+        let stats = self.stats(alloc)?;
+        Ok(log_of(self.into_entries(), stats, end))
     }
 }
