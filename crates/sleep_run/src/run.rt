@@ -2,6 +2,7 @@
 
 ghost use Rattle.std.specs.Prelude.{◌≡◌, ◌≤◌, ◌<◌, ◌+◌, zero, suc, true, length, IfOk};
 ghost use Rattle.sleep_run.specs.declared.run.RunFault.TheVariants as fault;
+ghost use Rattle.sleep_model.specs.Accepted.{IsAccepted};
 ghost use Rattle.sleep_run.specs.Firsts.{first_sources, run_fault};
 
 use crate::calls::{append, make_whole};
@@ -118,6 +119,22 @@ fn sources_of(alloc: Global, many: u32) -> Result<Vec<WakeSource<60000>>, AllocE
     Ok(sources)
 }
 
+/// The sources of a machine, `autosleep` last, none of which was ever called.
+fn all_sources(alloc: Global, machine: &Machine) -> Result<Vec<WakeSource<60000>>, AllocError>
+    requires { IsAccepted machine.now }
+    ensures { IfOk result (λ v. v.items ≡ first_sources (length machine.now.sources + 1)) }
+{
+    let sources = sources_of(alloc, machine.sources.len() as u32 + 1)?;
+    Ok(sources)
+}
+
+/// Everybody is to be asked.
+fn all_waiters(alloc: Global, machine: &Machine) -> Result<Waiters, Mem>
+    requires { IsAccepted machine.now }
+{
+    Waiters::new(alloc, machine.actors.len(), machine.devices.as_slice())
+}
+
 /// Why a call on that source was refused.
 fn fault_of(fault: SourceFault, source: u32) -> RunFault
     ensures { result ≡ run_fault fault source }
@@ -172,9 +189,9 @@ impl<'m> Run<'m> {
         ensures { IfOk result (λ run. run ≡ record { machine = machine.now; past = [] }) }
     {
         let core = Core::new(alloc, machine, links)?;
-        let sources = sources_of(alloc, machine.sources.len() as u32 + 1)?;
+        let sources = all_sources(alloc, machine)?;
         let jobs = Jobs::new(alloc, machine, book)?;
-        let waiters = Waiters::new(alloc, machine.actors.len(), machine.devices.as_slice())?;
+        let waiters = all_waiters(alloc, machine)?;
         let events = PlainEvents::new();
         let entries = Vec::new(alloc);
         Ok(Run {

@@ -1,4 +1,4 @@
-ghost use Rattle.std.specs.Prelude.{◌<◌, IfSome};
+ghost use Rattle.std.specs.Prelude.{◌<◌, ◌^◌, length, IfSome};
 
 use crate::asks::Asks;
 use sleep_base::Mem;
@@ -27,7 +27,9 @@ pub(crate) struct Waiters {
 }
 
 /// The asynchronous ones among these devices.
-fn beside_of(alloc: Global, devices: &[Device]) -> Result<Asks, Mem> {
+fn beside_of(alloc: Global, devices: &[Device]) -> Result<Asks, Mem>
+    requires { length devices.now < 2 ^ 32 }
+{
     let mut beside = Asks::new(alloc, devices.len())?;
     for (at, device) in devices.iter().enumerate() {
         if device.flags.has(DeviceFlags::ASYNC) {
@@ -39,7 +41,10 @@ fn beside_of(alloc: Global, devices: &[Device]) -> Result<Asks, Mem> {
 
 impl Waiters {
     /// Nobody waits: each of so many scripts is to be asked, and the work.
-    pub(crate) fn new(alloc: Global, scripts: usize, devices: &[Device]) -> Result<Self, Mem> {
+    pub(crate) fn new(alloc: Global, scripts: usize, devices: &[Device]) -> Result<Self, Mem>
+        requires scripts { scripts < 2 ^ 32 }
+        requires devices { length devices.now < 2 ^ 32 }
+    {
         let mut all = Asks::new(alloc, scripts)?;
         for script in 0..scripts {
             all.insert(script as u32);
