@@ -162,7 +162,7 @@ fn stir_devices(core: &Core<'_>, waiters: &mut Waiters, kind: Kind) {
 }
 
 impl<'m> Run<'m> {
-    ghost use Rattle.std.specs.Prelude.{◌≡◌, ◌≤◌, ◌<◌, [], true, length, reverse, IfOk, OnOk, IfErr};
+    ghost use Rattle.std.specs.Prelude.{◌≡◌, ◌≤◌, ◌<◌, ◌+◌, [], true, length, reverse, IfOk, OnOk, IfErr};
     ghost use Rattle.sleep_model.specs.declared.entry.Actor.TheVariants.{Timer};
     ghost use Rattle.sleep_model.specs.declared.machine.SourceCall.TheVariants.{Expire};
     ghost use Rattle.sleep_model.specs.Accepted.{IsAccepted};
@@ -174,7 +174,36 @@ impl<'m> Run<'m> {
     ghost use Rattle.sleep_core.specs.Cores.{IsActor};
     ghost use Rattle.sleep_run.specs.Runs.{calls_made, Fails};
     ghost use Rattle.sleep_run.specs.Tries.{AfterAsking};
-    ghost use Rattle.sleep_run.specs.Firsts.{CallsNext};
+    ghost use Rattle.sleep_run.specs.Firsts.{CallsNext, first_sources};
+    ghost use Rattle.sleep_run.specs.JobsOf.{first_jobs};
+
+    /// A run of these parts, in which nothing is done yet.
+    fn of_parts(
+        machine: &'m Machine,
+        core: Core<'m>,
+        sources: Vec<WakeSource<60000>>,
+        jobs: Jobs<'m>,
+        waiters: Waiters,
+        entries: Vec<Entry>,
+    ) -> Self
+        requires accepted { IsAccepted machine.now }
+        requires core { core ≡ record { machine = machine.now; past = [] } }
+        requires sources { sources.items ≡ first_sources (length machine.now.sources + 1) }
+        requires jobs { jobs ≡ first_jobs machine.now }
+        requires entries { entries.items ≡ [] }
+        ensures { result ≡ record { machine = machine.now; past = [] } }
+    {
+        Run {
+            machine,
+            core,
+            events: PlainEvents::new(),
+            entries,
+            sources,
+            jobs,
+            floor: Stamp { pos: 0, tick: 0 },
+            waiters,
+        }
+    }
 
     /// A run in which nothing is done yet.
     pub(crate) fn new(
@@ -188,22 +217,12 @@ impl<'m> Run<'m> {
         requires links { links ≡ record { parents = parents_of machine.now.devices; links = reverse machine.now.links } }
         ensures { IfOk result (λ run. run ≡ record { machine = machine.now; past = [] }) }
     {
-        let core = Core::new(alloc, machine, links)?;
         let sources = all_sources(alloc, machine)?;
         let jobs = Jobs::new(alloc, machine, book)?;
         let waiters = all_waiters(alloc, machine)?;
-        let events = PlainEvents::new();
+        let core = Core::new(alloc, machine, links)?;
         let entries = Vec::new(alloc);
-        Ok(Run {
-            machine,
-            core,
-            events,
-            entries,
-            sources,
-            jobs,
-            floor: Stamp { pos: 0, tick: 0 },
-            waiters,
-        })
+        Ok(Run::of_parts(machine, core, sources, jobs, waiters, entries))
     }
 
     /// An actor makes the call on a source that is next, as a whole: its note, and all steps that it makes.
