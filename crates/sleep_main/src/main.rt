@@ -3,7 +3,7 @@
 
 mod ending;
 #[cfg(test)]
-mod logs;
+mod rows;
 #[cfg(test)]
 mod tests;
 mod top;

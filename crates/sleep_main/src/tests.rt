@@ -1,9 +1,4 @@
-use crate::logs::{
-    ASYNCHRONOUS, ASYNCHRONOUS_LOG, CALLBACK_FAILS, CALLBACK_FAILS_LOG, CYCLIC, DIRECT, DIRECT_LOG,
-    EVENT_AFTER_SAVE, EVENT_AFTER_SAVE_LOG, EVENT_BEFORE_SAVE, EVENT_BEFORE_SAVE_LOG,
-    EVENT_WITHOUT_DEVICES, EVENT_WITHOUT_DEVICES_LOG, LINKED, LINKED_LOG, NOTIFIER_FAILS,
-    NOTIFIER_FAILS_LOG, SMALL, SMALL_LOG, SYSCORE_FAILS, SYSCORE_FAILS_LOG,
-};
+use crate::rows::{attempts, devices, diamonds, events, failures, freezer, laptop, sources, sysfs};
 use crate::top::run_words;
 use sleep_base::{MemSink, MemSource};
 use std::alloc::{AllocError, Global};
@@ -94,180 +89,153 @@ fn expect<R: Wait + Abort>(
     Ok(())
 }
 
-/// An attempt of a parent and its child, in which the child suspends first and the parent resumes
-/// first; events before, between and after the steps that lead to an attempt; devices with links, and
-/// asynchronous ones; devices that are left alone; and failures with their way back.
+/// Attempts that sleep: a child suspends before its parent, and resumes behind it.
 #[test]
-fn machines_give_their_logs(rt: HostRuntime) -> Result<(), Fail> {
-    for (file, log) in [
-        (SMALL, SMALL_LOG),
-        (EVENT_AFTER_SAVE, EVENT_AFTER_SAVE_LOG),
-        (EVENT_BEFORE_SAVE, EVENT_BEFORE_SAVE_LOG),
-        (EVENT_WITHOUT_DEVICES, EVENT_WITHOUT_DEVICES_LOG),
-        (LINKED, LINKED_LOG),
-        (ASYNCHRONOUS, ASYNCHRONOUS_LOG),
-        (DIRECT, DIRECT_LOG),
-        (NOTIFIER_FAILS, NOTIFIER_FAILS_LOG),
-        (SYSCORE_FAILS, SYSCORE_FAILS_LOG),
-        (CALLBACK_FAILS, CALLBACK_FAILS_LOG),
-    ] {
-        expect(&rt, rt.alloc(), file, 0, log, "")?;
+fn attempts_go_down_and_come_up(rt: HostRuntime) -> Result<(), Fail> {
+    for (file, status, log) in attempts::MACHINES {
+        expect(&rt, rt.alloc(), file, status, log, "")?;
     }
     Ok(())
 }
 
-/// What may not be used today, and what no machine file is.
+/// Events between the steps that lead to an attempt, in its middle and while the machine sleeps: whichever test
+/// comes first finds them.
+#[test]
+fn events_end_attempts(rt: HostRuntime) -> Result<(), Fail> {
+    for (file, status, log) in events::MACHINES {
+        expect(&rt, rt.alloc(), file, status, log, "")?;
+    }
+    Ok(())
+}
+
+/// A failure at each place of an attempt: what was done before it is undone, and no more.
+#[test]
+fn failures_turn_back(rt: HostRuntime) -> Result<(), Fail> {
+    for (file, status, log) in failures::MACHINES {
+        expect(&rt, rt.alloc(), file, status, log, "")?;
+    }
+    Ok(())
+}
+
+/// Devices with suppliers, asynchronous ones, and some that are left alone.
+#[test]
+fn devices_keep_their_order(rt: HostRuntime) -> Result<(), Fail> {
+    for (file, status, log) in devices::MACHINES {
+        expect(&rt, rt.alloc(), file, status, log, "")?;
+    }
+    Ok(())
+}
+
+/// Tasks that freeze, and that do not in time; waits that the freezer interrupts, and waits without an end.
+#[test]
+fn tasks_freeze(rt: HostRuntime) -> Result<(), Fail> {
+    for (file, status, log) in freezer::MACHINES {
+        expect(&rt, rt.alloc(), file, status, log, "")?;
+    }
+    Ok(())
+}
+
+/// Events with a time, and a read that waits for the end of one.
+#[test]
+fn sources_report(rt: HostRuntime) -> Result<(), Fail> {
+    for (file, status, log) in sources::MACHINES {
+        expect(&rt, rt.alloc(), file, status, log, "")?;
+    }
+    Ok(())
+}
+
+/// What is written to state, wakeup_count and autosleep, and the work of autosleep.
+#[test]
+fn texts_are_answered(rt: HostRuntime) -> Result<(), Fail> {
+    for (file, status, log) in sysfs::MACHINES {
+        expect(&rt, rt.alloc(), file, status, log, "")?;
+    }
+    Ok(())
+}
+
+/// A laptop that its keys wake twice, and its alarm once.
+#[test]
+fn a_laptop_sleeps_three_times(rt: HostRuntime) -> Result<(), Fail> {
+    let alloc = rt.alloc();
+    let file = laptop::laptop_file(alloc)?;
+    let log = laptop::laptop_log(alloc)?;
+    expect(&rt, alloc, file.as_str(), 0, log.as_str(), "")
+}
+
+/// A source whose history has no place left for a call: no log is written, and the source is named.
+#[test]
+fn full_sources_are_told(rt: HostRuntime) -> Result<(), Fail> {
+    for (file, said) in [
+        (sources::FULL, "source full: a\n"),
+        (sources::SECOND_FULL, "source full: lan\n"),
+        (sources::AUTOSLEEP_FULL, "source full: autosleep\n"),
+    ] {
+        expect(&rt, rt.alloc(), file, 7, "", said)?;
+    }
+    Ok(())
+}
+
+/// Calls that could fill a source and do not, since none of them makes a step.
+#[test]
+fn a_source_with_room_is_not_full(rt: HostRuntime) -> Result<(), Fail> {
+    let alloc = rt.alloc();
+    let mut log = String::new(alloc);
+    for _ in 0..30_000u32 {
+        log.push_str("0 0/0/0 task:w relax a\n")?;
+    }
+    log.push_str(sources::RELAXED_END)?;
+    expect(&rt, alloc, sources::RELAXED, 0, log.as_str(), "")
+}
+
+/// Files that break a rule: for each rule one at least.
 #[test]
 fn other_files_are_refused(rt: HostRuntime) -> Result<(), Fail> {
     for file in [
-        r#"{"version": 1, "actors": [{"name": "w", "kind": "user", "script": [{"op": "sleep", "ms": 5}]}]}"#,
-        r#"{"version": 1, "sources": ["lid"], "actors": [{"name": "w", "kind": "user", "script": [{"op": "event", "source": "door"}]}]}"#,
-        CYCLIC,
+        // No JSON.
+        r#""#,
         r#"not json"#,
-        r#"{"version":1}"#,
-        r#"{"version":1,"actors":[{"name":"w","kind":"user"},{"name":"v","kind":"user"}]}"#,
-        r#"{"version":1,"devices":[{"name":"a","parent":"b"},{"name":"b"}],"actors":[{"name":"w","kind":"user"}]}"#,
+        r#"{"version":1"#,
+        // No object of the known members.
+        r#"[]"#,
         r#"{"version":1,"colour":"red","actors":[{"name":"w","kind":"user"}]}"#,
+        // No version, or another one.
+        r#"{}"#,
+        r#"{"version":2}"#,
+        // A number out of its range, and a device without a name.
+        r#"{"version":1,"cpus":65}"#,
+        r#"{"version":1,"devices":[{"name":"a"},{"parent":"a"}]}"#,
+        // Too many syscore steps.
+        r#"{"version":1,"syscore":["a","b","c","d","e","f","g","h","i","j","k","l","m","n","o","p","q","r","s","t","u","v","w","x","y","z","0","1","2","3","4","5","6"]}"#,
+        // A capital letter in a name.
+        r#"{"version":1,"sources":["Lid"]}"#,
+        // Names that stand twice, and one that is taken.
+        r#"{"version":1,"devices":[{"name":"a"},{"name":"a"}]}"#,
+        r#"{"version":1,"syscore":["t","t"]}"#,
+        r#"{"version":1,"sources":["autosleep"]}"#,
+        r#"{"version":1,"actors":[{"name":"w","kind":"user"},{"name":"w","kind":"irq"}]}"#,
+        // A parent behind its child.
+        r#"{"version":1,"devices":[{"name":"a","parent":"b"},{"name":"b"}],"actors":[{"name":"w","kind":"user"}]}"#,
+        // A link to nothing, to itself, and in a circle.
+        r#"{"version":1,"devices":[{"name":"a"}],"links":[{"supplier":"a","consumer":"b"}]}"#,
+        r#"{"version":1,"devices":[{"name":"a"}],"links":[{"supplier":"a","consumer":"a"}]}"#,
+        devices::CYCLIC,
+        // An operation that is none, and one of tasks alone.
+        r#"{"version":1,"actors":[{"name":"w","kind":"user","script":[{"op":"fly"}]}]}"#,
+        r#"{"version":1,"actors":[{"name":"k","kind":"irq","script":[{"op":"read"}]}]}"#,
+        // A source and a device that are not there.
+        r#"{"version": 1, "sources": ["lid"], "actors": [{"name": "w", "kind": "user", "script": [{"op": "event", "source": "door"}]}]}"#,
+        r#"{"version":1,"actors":[{"name":"w","kind":"user","script":[{"op":"runtime","device":"d","to":"active"}]}]}"#,
+        // Answers for nothing, of a wrong number, with reports out of place, and twice.
+        r#"{"version":1,"answers":[{"what":"syscore","name":"t"}]}"#,
+        r#"{"version":1,"syscore":["t"],"answers":[{"what":"syscore","name":"t","ret":1}]}"#,
+        r#"{"version":1,"sources":["s"],"syscore":["t"],"answers":[{"what":"syscore","name":"t","reports":[{"call":"awake","source":"s"}]}]}"#,
+        r#"{"version":1,"syscore":["t"],"answers":[{"what":"syscore","name":"t"},{"what":"syscore","name":"t"}]}"#,
+        // Too many attempts.
+        r#"{"version":1,"actors":[{"name":"w","kind":"user","script":[{"op":"state","text":"mem","times":2001}]}]}"#,
     ] {
         expect(&rt, rt.alloc(), file, 3, "", "machine: refused\n")?;
     }
     Ok(())
-}
-
-/// The devices of a hundred diamonds, one below the other, in the order of their registration.
-fn diamonds(alloc: Global) -> Result<Vec<String>, AllocError> {
-    let mut names = Vec::new(alloc);
-    for i in 0..100u32 {
-        for letter in ["a", "b", "c"] {
-            names.push(format!(in alloc; "{letter}{i}")?)?;
-        }
-    }
-    names.push(String::from_str(alloc, "a100")?)?;
-    Ok(names)
-}
-
-/// Their machine file: a supplies b and c, and these supply the next a; the last diamond comes first.
-fn diamonds_file(alloc: Global, names: &[String]) -> Result<String, AllocError> {
-    let mut file = String::from_str(alloc, r#"{"version": 1, "devices": ["#)?;
-    let mut comma = "";
-    for name in names {
-        let name = name.as_str();
-        file.push_str(format!(in alloc; "{comma}{{\"name\": \"{name}\"}}")?.as_str())?;
-        comma = ",";
-    }
-    file.push_str(r#"], "links": ["#)?;
-    comma = "";
-    for i in (0..100u32).rev() {
-        let next = i + 1;
-        for (from, to, over) in [
-            ("b", "a", next),
-            ("c", "a", next),
-            ("a", "b", i),
-            ("a", "c", i),
-        ] {
-            file.push_str(format!(in alloc;
-                "{comma}{{\"supplier\": \"{from}{i}\", \"consumer\": \"{to}{over}\"}}"
-            )?.as_str())?;
-            comma = ",";
-        }
-    }
-    file.push_str(
-        r#"], "actors": [{"name": "w", "kind": "user", "script": [{"op": "state", "text": "mem"}]}]}"#,
-    )?;
-    Ok(file)
-}
-
-/// Lines in front of the devices', between a phase and the next, and behind them all.
-const DOWN: [(&str, &str); 3] = [
-    (
-        "suspend",
-        "0 0/0/0 task:w done suspend 0\n0 0/0/0 task:w platform prepare 0\n",
-    ),
-    ("late", "0 0/0/0 task:w done late 0\n"),
-    (
-        "noirq",
-        "0 0/0/0 task:w done noirq 0\n0 0/0/0 task:w platform prepare_late 0\n",
-    ),
-];
-
-const UP: [(&str, &str); 3] = [
-    ("resume_noirq", "1000 0/0/0 task:w done resume_noirq 0\n"),
-    (
-        "early",
-        "1000 0/0/0 task:w done early 0\n1000 0/0/0 task:w platform finish\n",
-    ),
-    ("resume", "1000 0/0/0 task:w done resume 0\n"),
-];
-
-const FRONT: &str = "\
-0 0/0/0 task:w attempt 1 plain\n\
-0 0/0/0 task:w freeze user\n\
-0 0/0/0 task:w froze user 0\n\
-0 0/0/0 task:w freeze kernel\n\
-0 0/0/0 task:w froze kernel 0\n\
-0 0/0/0 task:w platform begin 0\n";
-
-const SLEEP: &str = "\
-0 0/0/0 task:w irqs off\n\
-0 0/0/0 task:w syscore check 0\n\
-0 0/0/0 task:w enter\n\
-1000 0/0/0 time jump\n\
-1000 0/0/0 task:w wake alarm\n\
-1000 0/0/0 task:w irqs on\n\
-1000 0/0/0 task:w platform wake\n";
-
-const BACK: &str = "\
-1000 0/0/0 task:w done complete 0\n\
-1000 0/0/0 task:w platform end\n\
-1000 0/0/0 task:w clear\n\
-1000 0/0/0 task:w thaw all\n\
-1000 0/0/0 task:w over 1 0\n\
-1000 0/0/0 task:w exit\n\
-source autosleep 0 0 0 0 0 0 0\n\
-finished\n";
-
-/// The lines of a device's callback at that time.
-fn callback(
-    alloc: Global,
-    log: &mut String,
-    at: &str,
-    phase: &str,
-    name: &str,
-) -> Result<(), AllocError> {
-    let head = format!(in alloc; "{at} 0/0/0 task:w")?;
-    let head = head.as_str();
-    log.push_str(format!(in alloc;
-        "{head} begin {phase} {name}\n{head} end {phase} {name} 0\n"
-    )?.as_str())
-}
-
-/// The log of the diamonds.
-fn diamonds_log(alloc: Global, names: &[String]) -> Result<String, AllocError> {
-    let mut log = String::from_str(alloc, FRONT)?;
-    for name in names {
-        let name = name.as_str();
-        log.push_str(format!(in alloc; "0 0/0/0 task:w prepare {name} 0\n")?.as_str())?;
-    }
-    log.push_str("0 0/0/0 task:w done prepare 0\n")?;
-    for (phase, behind) in DOWN {
-        for name in names.iter().rev() {
-            callback(alloc, &mut log, "0", phase, name.as_str())?;
-        }
-        log.push_str(behind)?;
-    }
-    log.push_str(SLEEP)?;
-    for (phase, behind) in UP {
-        for name in names {
-            callback(alloc, &mut log, "1000", phase, name.as_str())?;
-        }
-        log.push_str(behind)?;
-    }
-    for name in names.iter().rev() {
-        let name = name.as_str();
-        log.push_str(format!(in alloc; "1000 0/0/0 task:w complete {name}\n")?.as_str())?;
-    }
-    log.push_str(BACK)?;
-    Ok(log)
 }
 
 /// A hundred diamonds, one below the other: what hangs below doubles with each, and the devices go down
@@ -275,9 +243,9 @@ fn diamonds_log(alloc: Global, names: &[String]) -> Result<String, AllocError> {
 #[test]
 fn diamonds_keep_their_order(rt: HostRuntime) -> Result<(), Fail> {
     let alloc = rt.alloc();
-    let names = diamonds(alloc)?;
-    let file = diamonds_file(alloc, &names)?;
-    let log = diamonds_log(alloc, &names)?;
+    let names = diamonds::diamond_names(alloc)?;
+    let file = diamonds::diamonds_file(alloc, &names)?;
+    let log = diamonds::diamonds_log(alloc, &names)?;
     expect(&rt, alloc, file.as_str(), 0, log.as_str(), "")
 }
 
@@ -294,7 +262,7 @@ fn other_words_are_refused(rt: HostRuntime) -> Result<(), Fail> {
         &["sleep", "--help"],
     ];
     for words in forms {
-        let bytes = SMALL.as_bytes().to_vec(rt.alloc())?;
+        let bytes = attempts::SMALL.as_bytes().to_vec(rt.alloc())?;
         let count = bytes.len();
         let given = given(&rt, rt.alloc(), words, bytes, &GOOD)?;
         assert_eq!(rt; given.status, 2);
@@ -320,16 +288,16 @@ fn too_long_an_input_is_refused(rt: HostRuntime) -> Result<(), Fail> {
 #[test]
 fn a_failing_read_is_told(rt: HostRuntime) -> Result<(), Fail> {
     for chunk in [1usize, 64] {
-        let calls = SMALL.len() / chunk + 2;
+        let calls = attempts::SMALL.len() / chunk + 2;
         for call in 1..=calls as u64 {
             let streams = Streams {
                 read_chunk: chunk,
                 read_fails: &[call],
                 ..GOOD
             };
-            let bytes = SMALL.as_bytes().to_vec(rt.alloc())?;
+            let bytes = attempts::SMALL.as_bytes().to_vec(rt.alloc())?;
             let given = given(&rt, rt.alloc(), &RUN, bytes, &streams)?;
-            let comes = call as usize <= SMALL.len().div_ceil(chunk) + 1;
+            let comes = call as usize <= attempts::SMALL.len().div_ceil(chunk) + 1;
             assert_eq!(rt;
                 given.status,
                 if comes { 4 } else { 0 },
@@ -346,19 +314,21 @@ fn a_failing_read_is_told(rt: HostRuntime) -> Result<(), Fail> {
 /// A write that fails, at each call in turn: what came before it stands.
 #[test]
 fn a_failing_write_is_told(rt: HostRuntime) -> Result<(), Fail> {
-    let calls = SMALL_LOG.len().div_ceil(100);
+    let calls = attempts::SMALL_LOG.len().div_ceil(100);
     for call in 1..=calls {
         let streams = Streams {
             write_chunk: 100,
             write_fails: &[call as u64],
             ..GOOD
         };
-        let bytes = SMALL.as_bytes().to_vec(rt.alloc())?;
+        let bytes = attempts::SMALL.as_bytes().to_vec(rt.alloc())?;
         let given = given(&rt, rt.alloc(), &RUN, bytes, &streams)?;
         assert_eq!(rt; given.status, 5, "call {call}");
-        let front = (call - 1).saturating_mul(100).min(SMALL_LOG.len());
+        let front = (call - 1)
+            .saturating_mul(100)
+            .min(attempts::SMALL_LOG.len());
         assert!(rt;
-            given.out.as_slice() == &SMALL_LOG.as_bytes()[..front],
+            given.out.as_slice() == &attempts::SMALL_LOG.as_bytes()[..front],
             "call {call}"
         );
         assert!(rt; given.err.as_slice() == b"write fault\n".as_slice());
@@ -373,7 +343,7 @@ fn a_failing_error_stream_changes_nothing(rt: HostRuntime) -> Result<(), Fail> {
         error_fails: &[1],
         ..GOOD
     };
-    for (file, status, out) in [(SMALL, 0, SMALL_LOG), ("{}", 3, "")] {
+    for (file, status, out) in [(attempts::SMALL, 0, attempts::SMALL_LOG), ("{}", 3, "")] {
         let bytes = file.as_bytes().to_vec(rt.alloc())?;
         let given = given(&rt, rt.alloc(), &RUN, bytes, &streams)?;
         assert_eq!(rt; given.status, status);

@@ -1,0 +1,536 @@
+//! Wakeup events before, in and after an attempt.
+
+/// The machines, the status that each gives, and its log.
+pub(crate) const MACHINES: [(&str, u8, &str); 10] = [
+    (EVENT_AFTER_SAVE, 0, EVENT_AFTER_SAVE_LOG),
+    (EVENT_BEFORE_SAVE, 0, EVENT_BEFORE_SAVE_LOG),
+    (EVENT_WITHOUT_DEVICES, 0, EVENT_WITHOUT_DEVICES_LOG),
+    (LINE_REPORTS_BEFORE_SAVE, 0, LINE_REPORTS_BEFORE_SAVE_LOG),
+    (EVENT_STOPS_A_DEVICE, 0, EVENT_STOPS_A_DEVICE_LOG),
+    (EVENT_STOPS_A_PROCESSOR, 0, EVENT_STOPS_A_PROCESSOR_LOG),
+    (EVENT_IN_PROGRESS, 0, EVENT_IN_PROGRESS_LOG),
+    (HARD_EVENT, 0, HARD_EVENT_LOG),
+    (CALLBACK_REPORTS, 0, CALLBACK_REPORTS_LOG),
+    (EVENT_WAKES, 0, EVENT_WAKES_LOG),
+];
+
+/// The lid reports an event after the count was saved: the child is not suspended.
+const EVENT_AFTER_SAVE: &str =
+    r#"{"version": 1, "devices": [{"name": "p"}, {"name": "c", "parent": "p"}], "sources": ["lid"], "actors": [{"name": "w", "kind": "user", "script": [{"op": "read"}, {"op": "save"}, {"op": "event", "source": "lid"}, {"op": "state", "text": "mem"}]}]}"#;
+
+/// What the program writes for it.
+const EVENT_AFTER_SAVE_LOG: &str = "\
+0 0/0/0 task:w read 0
+0 0/0/0 task:w save 0 ok
+0 0/0/0 task:w event lid 0 soft
+0 0/0/0 task:w start lid
+0 1/0/0 task:w finish lid
+0 0/1/0 task:w attempt 1 guarded 0
+0 0/1/0 task:w freeze user
+0 0/1/0 task:w froze user 0
+0 0/1/0 task:w freeze kernel
+0 0/1/0 task:w froze kernel 0
+0 0/1/0 task:w platform begin 0
+0 0/1/0 task:w prepare p 0
+0 0/1/0 task:w prepare c 0
+0 0/1/0 task:w done prepare 0
+0 0/1/0 task:w skip suspend c pending
+0 0/1/0 task:w done suspend EBUSY
+0 0/1/0 task:w platform recover
+0 0/1/0 task:w done resume 0
+0 0/1/0 task:w complete c
+0 0/1/0 task:w complete p
+0 0/1/0 task:w done complete 0
+0 0/1/0 task:w platform end
+0 0/1/0 task:w clear
+0 0/1/0 task:w thaw all
+0 0/1/0 task:w over 1 EBUSY
+0 0/1/0 task:w exit
+source lid 1 1 0 0 0 0 0
+source autosleep 0 0 0 0 0 0 0
+finished
+";
+
+/// An event between the read and the save: the save fails, and a plain attempt sleeps.
+const EVENT_BEFORE_SAVE: &str =
+    r#"{"version": 1, "sources": ["lid"], "actors": [{"name": "w", "kind": "user", "script": [{"op": "read"}, {"op": "event", "source": "lid"}, {"op": "save"}, {"op": "state", "text": "mem"}]}]}"#;
+
+/// What the program writes for it.
+const EVENT_BEFORE_SAVE_LOG: &str = "\
+0 0/0/0 task:w read 0
+0 0/0/0 task:w event lid 0 soft
+0 0/0/0 task:w start lid
+0 1/0/0 task:w finish lid
+0 0/1/0 task:w save 0 EINVAL
+0 0/1/0 task:w attempt 1 plain
+0 0/1/0 task:w freeze user
+0 0/1/0 task:w froze user 0
+0 0/1/0 task:w freeze kernel
+0 0/1/0 task:w froze kernel 0
+0 0/1/0 task:w platform begin 0
+0 0/1/0 task:w done prepare 0
+0 0/1/0 task:w done suspend 0
+0 0/1/0 task:w platform prepare 0
+0 0/1/0 task:w done late 0
+0 0/1/0 task:w done noirq 0
+0 0/1/0 task:w platform prepare_late 0
+0 0/1/0 task:w irqs off
+0 0/1/0 task:w syscore check 0
+0 0/1/0 task:w enter
+1000 0/1/0 time jump
+1000 0/1/0 task:w wake alarm
+1000 0/1/0 task:w irqs on
+1000 0/1/0 task:w platform wake
+1000 0/1/0 task:w done resume_noirq 0
+1000 0/1/0 task:w done early 0
+1000 0/1/0 task:w platform finish
+1000 0/1/0 task:w done resume 0
+1000 0/1/0 task:w done complete 0
+1000 0/1/0 task:w platform end
+1000 0/1/0 task:w clear
+1000 0/1/0 task:w thaw all
+1000 0/1/0 task:w over 1 0
+1000 0/1/0 task:w exit
+source lid 1 1 0 0 0 0 0
+source autosleep 0 0 0 0 0 0 0
+finished
+";
+
+/// An event after the save, and no devices: the machine does not enter sleep.
+const EVENT_WITHOUT_DEVICES: &str =
+    r#"{"version": 1, "sources": ["lid"], "actors": [{"name": "w", "kind": "user", "script": [{"op": "read"}, {"op": "save"}, {"op": "event", "source": "lid"}, {"op": "state", "text": "mem"}]}]}"#;
+
+/// What the program writes for it.
+const EVENT_WITHOUT_DEVICES_LOG: &str = "\
+0 0/0/0 task:w read 0
+0 0/0/0 task:w save 0 ok
+0 0/0/0 task:w event lid 0 soft
+0 0/0/0 task:w start lid
+0 1/0/0 task:w finish lid
+0 0/1/0 task:w attempt 1 guarded 0
+0 0/1/0 task:w freeze user
+0 0/1/0 task:w froze user 0
+0 0/1/0 task:w freeze kernel
+0 0/1/0 task:w froze kernel 0
+0 0/1/0 task:w platform begin 0
+0 0/1/0 task:w done prepare 0
+0 0/1/0 task:w done suspend 0
+0 0/1/0 task:w platform prepare 0
+0 0/1/0 task:w done late 0
+0 0/1/0 task:w done noirq 0
+0 0/1/0 task:w platform prepare_late 0
+0 0/1/0 task:w irqs off
+0 0/1/0 task:w syscore check EBUSY
+0 0/1/0 task:w irqs on
+0 0/1/0 task:w platform wake
+0 0/1/0 task:w done resume_noirq 0
+0 0/1/0 task:w done early 0
+0 0/1/0 task:w platform finish
+0 0/1/0 task:w done resume 0
+0 0/1/0 task:w done complete 0
+0 0/1/0 task:w platform end
+0 0/1/0 task:w clear
+0 0/1/0 task:w thaw all
+0 0/1/0 task:w over 1 EBUSY
+0 0/1/0 task:w exit
+source lid 1 1 0 0 0 0 0
+source autosleep 0 0 0 0 0 0 0
+finished
+";
+
+/// An interrupt line reports between the read and the save: the save fails, and mem is not written.
+const LINE_REPORTS_BEFORE_SAVE: &str =
+    r#"{"version": 1, "sources": ["lid"], "actors": [{"name": "w", "kind": "user", "script": [{"op": "read"}, {"op": "post", "mark": "a"}, {"op": "wait", "mark": "b"}, {"op": "save"}, {"op": "state", "text": "mem", "if_saved": true}]}, {"name": "k", "kind": "irq", "script": [{"op": "wait", "mark": "a"}, {"op": "event", "source": "lid"}, {"op": "post", "mark": "b"}]}]}"#;
+
+/// What the program writes for it.
+const LINE_REPORTS_BEFORE_SAVE_LOG: &str = "\
+0 0/0/0 task:w read 0
+0 0/0/0 task:w post a
+0 0/0/0 irq:k got a
+0 0/0/0 irq:k event lid 0 soft
+0 0/0/0 irq:k start lid
+0 1/0/0 irq:k finish lid
+0 0/1/0 irq:k post b
+0 0/1/0 task:w got b
+0 0/1/0 irq:k exit
+0 0/1/0 task:w save 0 EINVAL
+0 0/1/0 task:w state unsaved
+0 0/1/0 task:w exit
+source lid 1 1 0 0 0 0 0
+source autosleep 0 0 0 0 0 0 0
+finished
+";
+
+/// An event while the first of two devices suspends: the second is skipped, and a second attempt sleeps.
+const EVENT_STOPS_A_DEVICE: &str =
+    r#"{"version": 1, "devices": [{"name": "disk"}, {"name": "net"}], "sources": ["lid"], "actors": [{"name": "w", "kind": "user", "script": [{"op": "read"}, {"op": "save"}, {"op": "post", "mark": "a"}, {"op": "state", "text": "mem"}, {"op": "state", "text": "mem"}]}, {"name": "k", "kind": "irq", "script": [{"op": "wait", "mark": "a"}, {"op": "post", "mark": "x", "times": 10}, {"op": "event", "source": "lid"}]}]}"#;
+
+/// What the program writes for it.
+const EVENT_STOPS_A_DEVICE_LOG: &str = "\
+0 0/0/0 task:w read 0
+0 0/0/0 task:w save 0 ok
+0 0/0/0 task:w post a
+0 0/0/0 irq:k got a
+0 0/0/0 task:w attempt 1 guarded 0
+0 0/0/0 irq:k post x
+0 0/0/0 task:w freeze user
+0 0/0/0 irq:k post x
+0 0/0/0 task:w froze user 0
+0 0/0/0 irq:k post x
+0 0/0/0 task:w freeze kernel
+0 0/0/0 irq:k post x
+0 0/0/0 task:w froze kernel 0
+0 0/0/0 irq:k post x
+0 0/0/0 task:w platform begin 0
+0 0/0/0 irq:k post x
+0 0/0/0 task:w prepare disk 0
+0 0/0/0 irq:k post x
+0 0/0/0 task:w prepare net 0
+0 0/0/0 irq:k post x
+0 0/0/0 task:w done prepare 0
+0 0/0/0 irq:k post x
+0 0/0/0 task:w begin suspend net
+0 0/0/0 irq:k post x
+0 0/0/0 task:w end suspend net 0
+0 0/0/0 irq:k event lid 0 soft
+0 0/0/0 irq:k start lid
+0 1/0/0 irq:k finish lid
+0 0/1/0 task:w skip suspend disk pending
+0 0/1/0 irq:k exit
+0 0/1/0 task:w done suspend EBUSY
+0 0/1/0 task:w platform recover
+0 0/1/0 task:w begin resume net
+0 0/1/0 task:w end resume net 0
+0 0/1/0 task:w done resume 0
+0 0/1/0 task:w complete net
+0 0/1/0 task:w complete disk
+0 0/1/0 task:w done complete 0
+0 0/1/0 task:w platform end
+0 0/1/0 task:w clear
+0 0/1/0 task:w thaw all
+0 0/1/0 task:w over 1 EBUSY
+0 0/1/0 task:w attempt 2 plain
+0 0/1/0 task:w freeze user
+0 0/1/0 task:w froze user 0
+0 0/1/0 task:w freeze kernel
+0 0/1/0 task:w froze kernel 0
+0 0/1/0 task:w platform begin 0
+0 0/1/0 task:w prepare disk 0
+0 0/1/0 task:w prepare net 0
+0 0/1/0 task:w done prepare 0
+0 0/1/0 task:w begin suspend net
+0 0/1/0 task:w end suspend net 0
+0 0/1/0 task:w begin suspend disk
+0 0/1/0 task:w end suspend disk 0
+0 0/1/0 task:w done suspend 0
+0 0/1/0 task:w platform prepare 0
+0 0/1/0 task:w begin late net
+0 0/1/0 task:w end late net 0
+0 0/1/0 task:w begin late disk
+0 0/1/0 task:w end late disk 0
+0 0/1/0 task:w done late 0
+0 0/1/0 task:w begin noirq net
+0 0/1/0 task:w end noirq net 0
+0 0/1/0 task:w begin noirq disk
+0 0/1/0 task:w end noirq disk 0
+0 0/1/0 task:w done noirq 0
+0 0/1/0 task:w platform prepare_late 0
+0 0/1/0 task:w irqs off
+0 0/1/0 task:w syscore check 0
+0 0/1/0 task:w enter
+1000 0/1/0 time jump
+1000 0/1/0 task:w wake alarm
+1000 0/1/0 task:w irqs on
+1000 0/1/0 task:w platform wake
+1000 0/1/0 task:w begin resume_noirq disk
+1000 0/1/0 task:w end resume_noirq disk 0
+1000 0/1/0 task:w begin resume_noirq net
+1000 0/1/0 task:w end resume_noirq net 0
+1000 0/1/0 task:w done resume_noirq 0
+1000 0/1/0 task:w begin early disk
+1000 0/1/0 task:w end early disk 0
+1000 0/1/0 task:w begin early net
+1000 0/1/0 task:w end early net 0
+1000 0/1/0 task:w done early 0
+1000 0/1/0 task:w platform finish
+1000 0/1/0 task:w begin resume disk
+1000 0/1/0 task:w end resume disk 0
+1000 0/1/0 task:w begin resume net
+1000 0/1/0 task:w end resume net 0
+1000 0/1/0 task:w done resume 0
+1000 0/1/0 task:w complete net
+1000 0/1/0 task:w complete disk
+1000 0/1/0 task:w done complete 0
+1000 0/1/0 task:w platform end
+1000 0/1/0 task:w clear
+1000 0/1/0 task:w thaw all
+1000 0/1/0 task:w over 2 0
+1000 0/1/0 task:w exit
+source lid 1 1 0 0 0 0 0
+source autosleep 0 0 0 0 0 0 0
+finished
+";
+
+/// An event after one of three processors has gone off: the next one stays on.
+const EVENT_STOPS_A_PROCESSOR: &str =
+    r#"{"version": 1, "cpus": 3, "sources": ["lid"], "actors": [{"name": "w", "kind": "user", "script": [{"op": "read"}, {"op": "save"}, {"op": "post", "mark": "a"}, {"op": "state", "text": "mem"}]}, {"name": "k", "kind": "irq", "script": [{"op": "wait", "mark": "a"}, {"op": "post", "mark": "x", "times": 12}, {"op": "event", "source": "lid"}]}]}"#;
+
+/// What the program writes for it.
+const EVENT_STOPS_A_PROCESSOR_LOG: &str = "\
+0 0/0/0 task:w read 0
+0 0/0/0 task:w save 0 ok
+0 0/0/0 task:w post a
+0 0/0/0 irq:k got a
+0 0/0/0 task:w attempt 1 guarded 0
+0 0/0/0 irq:k post x
+0 0/0/0 task:w freeze user
+0 0/0/0 irq:k post x
+0 0/0/0 task:w froze user 0
+0 0/0/0 irq:k post x
+0 0/0/0 task:w freeze kernel
+0 0/0/0 irq:k post x
+0 0/0/0 task:w froze kernel 0
+0 0/0/0 irq:k post x
+0 0/0/0 task:w platform begin 0
+0 0/0/0 irq:k post x
+0 0/0/0 task:w done prepare 0
+0 0/0/0 irq:k post x
+0 0/0/0 task:w done suspend 0
+0 0/0/0 irq:k post x
+0 0/0/0 task:w platform prepare 0
+0 0/0/0 irq:k post x
+0 0/0/0 task:w done late 0
+0 0/0/0 irq:k post x
+0 0/0/0 task:w done noirq 0
+0 0/0/0 irq:k post x
+0 0/0/0 task:w platform prepare_late 0
+0 0/0/0 irq:k post x
+0 0/0/0 task:w cpu off 1
+0 0/0/0 irq:k event lid 0 soft
+0 0/0/0 irq:k start lid
+0 1/0/0 irq:k finish lid
+0 0/1/0 task:w cpu EBUSY 2
+0 0/1/0 irq:k exit
+0 0/1/0 task:w cpu on 1
+0 0/1/0 task:w platform wake
+0 0/1/0 task:w done resume_noirq 0
+0 0/1/0 task:w done early 0
+0 0/1/0 task:w platform finish
+0 0/1/0 task:w done resume 0
+0 0/1/0 task:w done complete 0
+0 0/1/0 task:w platform end
+0 0/1/0 task:w clear
+0 0/1/0 task:w thaw all
+0 0/1/0 task:w over 1 EBUSY
+0 0/1/0 task:w exit
+source lid 1 1 0 0 0 0 0
+source autosleep 0 0 0 0 0 0 0
+finished
+";
+
+/// A second event of a source that stays active: it is counted, and the attempt is given up.
+const EVENT_IN_PROGRESS: &str =
+    r#"{"version": 1, "sources": ["lid"], "actors": [{"name": "w", "kind": "user", "script": [{"op": "read"}, {"op": "save"}, {"op": "post", "mark": "a"}, {"op": "state", "text": "mem"}]}, {"name": "k", "kind": "irq", "script": [{"op": "wait", "mark": "a"}, {"op": "awake", "source": "lid"}, {"op": "awake", "source": "lid"}]}]}"#;
+
+/// What the program writes for it.
+const EVENT_IN_PROGRESS_LOG: &str = "\
+0 0/0/0 task:w read 0
+0 0/0/0 task:w save 0 ok
+0 0/0/0 task:w post a
+0 0/0/0 irq:k got a
+0 0/0/0 task:w attempt 1 guarded 0
+0 0/0/0 irq:k awake lid
+0 0/0/0 irq:k start lid
+0 1/0/0 task:w freeze user
+0 1/0/0 irq:k awake lid
+0 1/0/0 task:w froze user 0
+0 1/0/0 irq:k exit
+0 1/0/0 task:w freeze kernel
+0 1/0/0 task:w froze kernel 0
+0 1/0/0 task:w platform begin 0
+0 1/0/0 task:w done prepare 0
+0 1/0/0 task:w done suspend 0
+0 1/0/0 task:w platform prepare 0
+0 1/0/0 task:w done late 0
+0 1/0/0 task:w done noirq 0
+0 1/0/0 task:w platform prepare_late 0
+0 1/0/0 task:w irqs off
+0 1/0/0 task:w syscore check EBUSY
+0 1/0/0 task:w irqs on
+0 1/0/0 task:w platform wake
+0 1/0/0 task:w done resume_noirq 0
+0 1/0/0 task:w done early 0
+0 1/0/0 task:w platform finish
+0 1/0/0 task:w done resume 0
+0 1/0/0 task:w done complete 0
+0 1/0/0 task:w platform end
+0 1/0/0 task:w clear
+0 1/0/0 task:w thaw all
+0 1/0/0 task:w over 1 EBUSY
+0 1/0/0 task:w exit
+source lid 1 2 0 0 0 0 0
+source autosleep 0 0 0 0 0 0 0
+finished
+";
+
+/// A hard event ends an attempt without a saved count; the next attempt forgets it and sleeps.
+const HARD_EVENT: &str =
+    r#"{"version": 1, "sources": ["lid"], "actors": [{"name": "w", "kind": "user", "script": [{"op": "post", "mark": "a"}, {"op": "state", "text": "mem"}, {"op": "state", "text": "mem"}]}, {"name": "k", "kind": "irq", "script": [{"op": "wait", "mark": "a"}, {"op": "post", "mark": "x"}, {"op": "event", "source": "lid", "hard": true}]}]}"#;
+
+/// What the program writes for it.
+const HARD_EVENT_LOG: &str = "\
+0 0/0/0 task:w post a
+0 0/0/0 irq:k got a
+0 0/0/0 task:w attempt 1 plain
+0 0/0/0 irq:k post x
+0 0/0/0 task:w freeze user
+0 0/0/0 irq:k event lid 0 hard
+0 0/0/0 irq:k start lid
+0 1/0/0 irq:k hard lid
+0 1/0/1 irq:k finish lid
+0 0/1/1 task:w froze user 0
+0 0/1/1 irq:k exit
+0 0/1/1 task:w freeze kernel
+0 0/1/1 task:w froze kernel 0
+0 0/1/1 task:w platform begin 0
+0 0/1/1 task:w done prepare 0
+0 0/1/1 task:w done suspend 0
+0 0/1/1 task:w platform prepare 0
+0 0/1/1 task:w done late 0
+0 0/1/1 task:w done noirq 0
+0 0/1/1 task:w platform prepare_late 0
+0 0/1/1 task:w irqs off
+0 0/1/1 task:w syscore check EBUSY
+0 0/1/1 task:w irqs on
+0 0/1/1 task:w platform wake
+0 0/1/1 task:w done resume_noirq 0
+0 0/1/1 task:w done early 0
+0 0/1/1 task:w platform finish
+0 0/1/1 task:w done resume 0
+0 0/1/1 task:w done complete 0
+0 0/1/1 task:w platform end
+0 0/1/1 task:w clear
+0 0/1/1 task:w thaw all
+0 0/1/1 task:w over 1 EBUSY
+0 0/1/1 task:w attempt 2 plain
+0 0/1/1 task:w freeze user
+0 0/1/1 task:w froze user 0
+0 0/1/1 task:w freeze kernel
+0 0/1/1 task:w froze kernel 0
+0 0/1/1 task:w platform begin 0
+0 0/1/1 task:w done prepare 0
+0 0/1/1 task:w done suspend 0
+0 0/1/1 task:w platform prepare 0
+0 0/1/1 task:w done late 0
+0 0/1/1 task:w done noirq 0
+0 0/1/1 task:w platform prepare_late 0
+0 0/1/1 task:w irqs off
+0 0/1/1 task:w syscore check 0
+0 0/1/1 task:w enter
+1000 0/1/1 time jump
+1000 0/1/1 task:w wake alarm
+1000 0/1/1 task:w irqs on
+1000 0/1/1 task:w platform wake
+1000 0/1/1 task:w done resume_noirq 0
+1000 0/1/1 task:w done early 0
+1000 0/1/1 task:w platform finish
+1000 0/1/1 task:w done resume 0
+1000 0/1/1 task:w done complete 0
+1000 0/1/1 task:w platform end
+1000 0/1/1 task:w clear
+1000 0/1/1 task:w thaw all
+1000 0/1/1 task:w over 2 0
+1000 0/1/1 task:w exit
+source lid 1 1 0 0 0 0 0
+source autosleep 0 0 0 0 0 0 0
+finished
+";
+
+/// The suspend callback of a device reports an event: its parent is skipped.
+const CALLBACK_REPORTS: &str =
+    r#"{"version": 1, "devices": [{"name": "pci"}, {"name": "nic", "parent": "pci"}], "sources": ["lan"], "answers": [{"what": "device", "name": "nic", "phase": "suspend", "reports": [{"call": "event", "source": "lan"}]}], "actors": [{"name": "w", "kind": "user", "script": [{"op": "read"}, {"op": "save"}, {"op": "state", "text": "mem"}]}]}"#;
+
+/// What the program writes for it.
+const CALLBACK_REPORTS_LOG: &str = "\
+0 0/0/0 task:w read 0
+0 0/0/0 task:w save 0 ok
+0 0/0/0 task:w attempt 1 guarded 0
+0 0/0/0 task:w freeze user
+0 0/0/0 task:w froze user 0
+0 0/0/0 task:w freeze kernel
+0 0/0/0 task:w froze kernel 0
+0 0/0/0 task:w platform begin 0
+0 0/0/0 task:w prepare pci 0
+0 0/0/0 task:w prepare nic 0
+0 0/0/0 task:w done prepare 0
+0 0/0/0 task:w begin suspend nic
+0 0/0/0 task:w event lan 0 soft
+0 0/0/0 task:w start lan
+0 1/0/0 task:w finish lan
+0 0/1/0 task:w end suspend nic 0
+0 0/1/0 task:w skip suspend pci pending
+0 0/1/0 task:w done suspend EBUSY
+0 0/1/0 task:w platform recover
+0 0/1/0 task:w begin resume nic
+0 0/1/0 task:w end resume nic 0
+0 0/1/0 task:w done resume 0
+0 0/1/0 task:w complete nic
+0 0/1/0 task:w complete pci
+0 0/1/0 task:w done complete 0
+0 0/1/0 task:w platform end
+0 0/1/0 task:w clear
+0 0/1/0 task:w thaw all
+0 0/1/0 task:w over 1 EBUSY
+0 0/1/0 task:w exit
+source lan 1 1 0 0 0 0 0
+source autosleep 0 0 0 0 0 0 0
+finished
+";
+
+/// An interrupt line wakes the sleeping machine before its alarm.
+const EVENT_WAKES: &str =
+    r#"{"version": 1, "sources": ["lid"], "actors": [{"name": "w", "kind": "user", "script": [{"op": "read"}, {"op": "save"}, {"op": "state", "text": "mem"}]}, {"name": "k", "kind": "irq", "script": [{"op": "sleep", "ms": 400}, {"op": "event", "source": "lid"}]}]}"#;
+
+/// What the program writes for it.
+const EVENT_WAKES_LOG: &str = "\
+0 0/0/0 task:w read 0
+0 0/0/0 irq:k sleep 400
+0 0/0/0 task:w save 0 ok
+0 0/0/0 task:w attempt 1 guarded 0
+0 0/0/0 task:w freeze user
+0 0/0/0 task:w froze user 0
+0 0/0/0 task:w freeze kernel
+0 0/0/0 task:w froze kernel 0
+0 0/0/0 task:w platform begin 0
+0 0/0/0 task:w done prepare 0
+0 0/0/0 task:w done suspend 0
+0 0/0/0 task:w platform prepare 0
+0 0/0/0 task:w done late 0
+0 0/0/0 task:w done noirq 0
+0 0/0/0 task:w platform prepare_late 0
+0 0/0/0 task:w irqs off
+0 0/0/0 task:w syscore check 0
+0 0/0/0 task:w enter
+400 0/0/0 time jump
+400 0/0/0 irq:k slept
+400 0/0/0 irq:k event lid 0 soft
+400 0/0/0 irq:k start lid
+400 1/0/0 irq:k finish lid
+400 0/1/0 task:w wake event
+400 0/1/0 irq:k exit
+400 0/1/0 task:w irqs on
+400 0/1/0 task:w platform wake
+400 0/1/0 task:w done resume_noirq 0
+400 0/1/0 task:w done early 0
+400 0/1/0 task:w platform finish
+400 0/1/0 task:w done resume 0
+400 0/1/0 task:w done complete 0
+400 0/1/0 task:w platform end
+400 0/1/0 task:w clear
+400 0/1/0 task:w thaw all
+400 0/1/0 task:w over 1 0
+400 0/1/0 task:w exit
+source lid 1 1 0 0 0 0 400
+source autosleep 0 0 0 0 0 0 0
+finished
+";

@@ -1,0 +1,249 @@
+//! Attempts in which a callback, a notifier, a syscore step or the platform fails.
+
+/// The machines, the status that each gives, and its log.
+pub(crate) const MACHINES: [(&str, u8, &str); 7] = [
+    (PREPARE_FAILS, 0, PREPARE_FAILS_LOG),
+    (CALLBACK_FAILS, 0, CALLBACK_FAILS_LOG),
+    (ASYNCHRONOUS_FAILS, 0, ASYNCHRONOUS_FAILS_LOG),
+    (NOTIFIER_FAILS, 0, NOTIFIER_FAILS_LOG),
+    (SYSCORE_FAILS, 0, SYSCORE_FAILS_LOG),
+    (BEGIN_FAILS, 0, BEGIN_FAILS_LOG),
+    (PREPARE_LATE_FAILS, 0, PREPARE_LATE_FAILS_LOG),
+];
+
+/// The middle one of three generations fails to prepare: nothing suspends, and what was prepared completes.
+const PREPARE_FAILS: &str =
+    r#"{"version": 1, "devices": [{"name": "p"}, {"name": "c", "parent": "p"}, {"name": "g", "parent": "c"}], "answers": [{"what": "device", "name": "c", "phase": "prepare", "ret": "ENODEV"}], "actors": [{"name": "w", "kind": "user", "script": [{"op": "state", "text": "mem"}]}]}"#;
+
+/// What the program writes for it.
+const PREPARE_FAILS_LOG: &str = "\
+0 0/0/0 task:w attempt 1 plain
+0 0/0/0 task:w freeze user
+0 0/0/0 task:w froze user 0
+0 0/0/0 task:w freeze kernel
+0 0/0/0 task:w froze kernel 0
+0 0/0/0 task:w platform begin 0
+0 0/0/0 task:w prepare p 0
+0 0/0/0 task:w prepare c ENODEV
+0 0/0/0 task:w done prepare ENODEV
+0 0/0/0 task:w platform recover
+0 0/0/0 task:w done resume 0
+0 0/0/0 task:w complete p
+0 0/0/0 task:w done complete 0
+0 0/0/0 task:w platform end
+0 0/0/0 task:w clear
+0 0/0/0 task:w thaw all
+0 0/0/0 task:w over 1 ENODEV
+0 0/0/0 task:w exit
+source autosleep 0 0 0 0 0 0 0
+finished
+";
+
+/// The middle one of three generations fails in noirq: what went down comes up.
+const CALLBACK_FAILS: &str =
+    r#"{"version": 1, "devices": [{"name": "p"}, {"name": "c", "parent": "p"}, {"name": "g", "parent": "c"}], "actors": [{"name": "w", "kind": "user", "script": [{"op": "state", "text": "mem"}]}], "answers": [{"what": "device", "name": "c", "phase": "noirq", "ret": "EIO"}]}"#;
+
+/// What the program writes for it.
+const CALLBACK_FAILS_LOG: &str = "\
+0 0/0/0 task:w attempt 1 plain
+0 0/0/0 task:w freeze user
+0 0/0/0 task:w froze user 0
+0 0/0/0 task:w freeze kernel
+0 0/0/0 task:w froze kernel 0
+0 0/0/0 task:w platform begin 0
+0 0/0/0 task:w prepare p 0
+0 0/0/0 task:w prepare c 0
+0 0/0/0 task:w prepare g 0
+0 0/0/0 task:w done prepare 0
+0 0/0/0 task:w begin suspend g
+0 0/0/0 task:w end suspend g 0
+0 0/0/0 task:w begin suspend c
+0 0/0/0 task:w end suspend c 0
+0 0/0/0 task:w begin suspend p
+0 0/0/0 task:w end suspend p 0
+0 0/0/0 task:w done suspend 0
+0 0/0/0 task:w platform prepare 0
+0 0/0/0 task:w begin late g
+0 0/0/0 task:w end late g 0
+0 0/0/0 task:w begin late c
+0 0/0/0 task:w end late c 0
+0 0/0/0 task:w begin late p
+0 0/0/0 task:w end late p 0
+0 0/0/0 task:w done late 0
+0 0/0/0 task:w begin noirq g
+0 0/0/0 task:w end noirq g 0
+0 0/0/0 task:w begin noirq c
+0 0/0/0 task:w end noirq c EIO
+0 0/0/0 task:w done noirq EIO
+0 0/0/0 task:w begin resume_noirq g
+0 0/0/0 task:w end resume_noirq g 0
+0 0/0/0 task:w done resume_noirq 0
+0 0/0/0 task:w begin early p
+0 0/0/0 task:w end early p 0
+0 0/0/0 task:w begin early c
+0 0/0/0 task:w end early c 0
+0 0/0/0 task:w begin early g
+0 0/0/0 task:w end early g 0
+0 0/0/0 task:w done early 0
+0 0/0/0 task:w platform finish
+0 0/0/0 task:w begin resume p
+0 0/0/0 task:w end resume p 0
+0 0/0/0 task:w begin resume c
+0 0/0/0 task:w end resume c 0
+0 0/0/0 task:w begin resume g
+0 0/0/0 task:w end resume g 0
+0 0/0/0 task:w done resume 0
+0 0/0/0 task:w complete g
+0 0/0/0 task:w complete c
+0 0/0/0 task:w complete p
+0 0/0/0 task:w done complete 0
+0 0/0/0 task:w platform end
+0 0/0/0 task:w clear
+0 0/0/0 task:w thaw all
+0 0/0/0 task:w over 1 EIO
+0 0/0/0 task:w exit
+source autosleep 0 0 0 0 0 0 0
+finished
+";
+
+/// An asynchronous child fails to suspend: its parent is not taken.
+const ASYNCHRONOUS_FAILS: &str =
+    r#"{"version": 1, "devices": [{"name": "p"}, {"name": "c", "parent": "p", "async": true}], "actors": [{"name": "w", "kind": "user", "script": [{"op": "state", "text": "mem"}]}], "answers": [{"what": "device", "name": "c", "phase": "suspend", "ret": "EIO"}]}"#;
+
+/// What the program writes for it.
+const ASYNCHRONOUS_FAILS_LOG: &str = "\
+0 0/0/0 task:w attempt 1 plain
+0 0/0/0 task:w freeze user
+0 0/0/0 task:w froze user 0
+0 0/0/0 task:w freeze kernel
+0 0/0/0 task:w froze kernel 0
+0 0/0/0 task:w platform begin 0
+0 0/0/0 task:w prepare p 0
+0 0/0/0 task:w prepare c 0
+0 0/0/0 task:w done prepare 0
+0 0/0/0 task:w schedule suspend c
+0 0/0/0 dev:c begin suspend c
+0 0/0/0 dev:c end suspend c EIO
+0 0/0/0 task:w done suspend EIO
+0 0/0/0 task:w platform recover
+0 0/0/0 task:w done resume 0
+0 0/0/0 task:w complete c
+0 0/0/0 task:w complete p
+0 0/0/0 task:w done complete 0
+0 0/0/0 task:w platform end
+0 0/0/0 task:w clear
+0 0/0/0 task:w thaw all
+0 0/0/0 task:w over 1 EIO
+0 0/0/0 task:w exit
+source autosleep 0 0 0 0 0 0 0
+finished
+";
+
+/// A notifier fails: the one before it is told, and nothing is frozen.
+const NOTIFIER_FAILS: &str =
+    r#"{"version": 1, "notifiers": [{"name": "n1"}, {"name": "n2", "priority": 10}], "answers": [{"what": "notifier", "name": "n1", "ret": "EIO"}], "actors": [{"name": "w", "kind": "user", "script": [{"op": "state", "text": "mem"}]}]}"#;
+
+/// What the program writes for it.
+const NOTIFIER_FAILS_LOG: &str = "\
+0 0/0/0 task:w attempt 1 plain
+0 0/0/0 task:w notify n2 prepare 0
+0 0/0/0 task:w notify n1 prepare EIO
+0 0/0/0 task:w notify n2 post
+0 0/0/0 task:w over 1 EIO
+0 0/0/0 task:w exit
+source autosleep 0 0 0 0 0 0 0
+finished
+";
+
+/// The second of three steps of the core fails: the one before it resumes.
+const SYSCORE_FAILS: &str =
+    r#"{"version": 1, "syscore": ["t1", "t2", "t3"], "answers": [{"what": "syscore", "name": "t2", "ret": "EIO"}], "actors": [{"name": "w", "kind": "user", "script": [{"op": "state", "text": "mem"}]}]}"#;
+
+/// What the program writes for it.
+const SYSCORE_FAILS_LOG: &str = "\
+0 0/0/0 task:w attempt 1 plain
+0 0/0/0 task:w freeze user
+0 0/0/0 task:w froze user 0
+0 0/0/0 task:w freeze kernel
+0 0/0/0 task:w froze kernel 0
+0 0/0/0 task:w platform begin 0
+0 0/0/0 task:w done prepare 0
+0 0/0/0 task:w done suspend 0
+0 0/0/0 task:w platform prepare 0
+0 0/0/0 task:w done late 0
+0 0/0/0 task:w done noirq 0
+0 0/0/0 task:w platform prepare_late 0
+0 0/0/0 task:w irqs off
+0 0/0/0 task:w syscore check 0
+0 0/0/0 task:w syscore suspend t3 0
+0 0/0/0 task:w syscore suspend t2 EIO
+0 0/0/0 task:w syscore resume t3
+0 0/0/0 task:w irqs on
+0 0/0/0 task:w platform wake
+0 0/0/0 task:w done resume_noirq 0
+0 0/0/0 task:w done early 0
+0 0/0/0 task:w platform finish
+0 0/0/0 task:w done resume 0
+0 0/0/0 task:w done complete 0
+0 0/0/0 task:w platform end
+0 0/0/0 task:w clear
+0 0/0/0 task:w thaw all
+0 0/0/0 task:w over 1 EIO
+0 0/0/0 task:w exit
+source autosleep 0 0 0 0 0 0 0
+finished
+";
+
+/// The platform fails to begin: it is ended, and no device is prepared.
+const BEGIN_FAILS: &str =
+    r#"{"version": 1, "answers": [{"what": "platform", "name": "begin", "ret": "EIO"}], "actors": [{"name": "w", "kind": "user", "script": [{"op": "state", "text": "mem"}]}]}"#;
+
+/// What the program writes for it.
+const BEGIN_FAILS_LOG: &str = "\
+0 0/0/0 task:w attempt 1 plain
+0 0/0/0 task:w freeze user
+0 0/0/0 task:w froze user 0
+0 0/0/0 task:w freeze kernel
+0 0/0/0 task:w froze kernel 0
+0 0/0/0 task:w platform begin EIO
+0 0/0/0 task:w platform end
+0 0/0/0 task:w clear
+0 0/0/0 task:w thaw all
+0 0/0/0 task:w over 1 EIO
+0 0/0/0 task:w exit
+source autosleep 0 0 0 0 0 0 0
+finished
+";
+
+/// The platform fails in its last preparation: no interrupt is turned off.
+const PREPARE_LATE_FAILS: &str =
+    r#"{"version": 1, "answers": [{"what": "platform", "name": "prepare_late", "ret": "EIO"}], "actors": [{"name": "w", "kind": "user", "script": [{"op": "state", "text": "mem"}]}]}"#;
+
+/// What the program writes for it.
+const PREPARE_LATE_FAILS_LOG: &str = "\
+0 0/0/0 task:w attempt 1 plain
+0 0/0/0 task:w freeze user
+0 0/0/0 task:w froze user 0
+0 0/0/0 task:w freeze kernel
+0 0/0/0 task:w froze kernel 0
+0 0/0/0 task:w platform begin 0
+0 0/0/0 task:w done prepare 0
+0 0/0/0 task:w done suspend 0
+0 0/0/0 task:w platform prepare 0
+0 0/0/0 task:w done late 0
+0 0/0/0 task:w done noirq 0
+0 0/0/0 task:w platform prepare_late EIO
+0 0/0/0 task:w platform wake
+0 0/0/0 task:w done resume_noirq 0
+0 0/0/0 task:w done early 0
+0 0/0/0 task:w platform finish
+0 0/0/0 task:w done resume 0
+0 0/0/0 task:w done complete 0
+0 0/0/0 task:w platform end
+0 0/0/0 task:w clear
+0 0/0/0 task:w thaw all
+0 0/0/0 task:w over 1 EIO
+0 0/0/0 task:w exit
+source autosleep 0 0 0 0 0 0 0
+finished
+";
