@@ -1,12 +1,10 @@
 -- Turns, calls and jumps keep what a run keeps.
-use Rattle.std.proofs.Common.{◌≡◌, ◌≤◌, ◌<◌, ◌+◌, ◌++◌, ◌∙◌, ℕ, Bool, true, not, ◌&&◌, ◌==◌, ◌||◌, nat_lt, nat_le, List, [], ◌∷◌, length, reverse, Option, Some, None, slice_get, slice_set, slice_index_or, zero, suc, ◌^◌, length-drop, cond, false, refl, sym, ap, ap₂, subst, arith}
-use Rattle.std.proofs.lemmas.Bool.Decides.{nat_tests}
+use Rattle.std.proofs.Common.{◌≡◌, ◌≤◌, ◌<◌, ◌+◌, ◌++◌, ◌∙◌, ℕ, Bool, true, not, ◌&&◌, ◌||◌, nat_lt, List, [], ◌∷◌, length, reverse, Option, Some, slice_get, slice_set, slice_index_or, zero, suc, ◌^◌, length-drop, cond, false, refl, sym, ap, ap₂, subst, arith}
 use Rattle.sleep_model.specs.declared.entry.Actor.{Actor}
 use Rattle.sleep_model.specs.declared.entry.Actor.TheVariants as actor
 use Rattle.sleep_model.specs.declared.entry.Entry.{Entry}
 use Rattle.sleep_model.specs.declared.entry.Kind.{Kind}
 use Rattle.sleep_model.specs.declared.entry.Kind.TheVariants as kind
-use Rattle.sleep_model.specs.declared.log.Want.TheVariants as want
 use Rattle.sleep_model.specs.declared.machine.Machine.{Machine}
 use Rattle.sleep_model.specs.declared.machine.SourceCall.{SourceCall}
 use Rattle.sleep_model.specs.declared.machine.SourceCall.TheVariants as call
@@ -14,22 +12,21 @@ use Rattle.sleep_model.specs.declared.place.Due.TheVariants.{Makes}
 use Rattle.sleep_model.specs.declared.word.EventNow.{EventNow}
 use Rattle.sleep_model.specs.declared.word.Stamp.{Stamp}
 use Rattle.sleep_model.specs.Accepted.{IsAccepted}
-use Rattle.sleep_model.specs.Calls.{calls_of, calls_due, note, made}
+use Rattle.sleep_model.specs.Calls.{calls_of, calls_due, note}
 use Rattle.sleep_model.specs.Due.{due}
 use Rattle.sleep_model.specs.Legal.{JumpStep, IsOwnCall, is_made, is_enabled, none_enabled, next_time, journal_time, next_expiry, sooner}
 use Rattle.sleep_model.specs.Numbers.{numbers, time_of}
 use Rattle.sleep_model.specs.Parts.{Notes, OfJournal, part_of, is_kept, journal}
-use Rattle.sleep_model.specs.Path.{attempts, is_same}
+use Rattle.sleep_model.specs.Path.{attempts}
 use Rattle.sleep_model.specs.Sources.{history, is_of, most_entries, since, makes, expiry, has_expired, SourceStep}
 use Rattle.sleep_model.specs.Word.{position}
 use Rattle.sleep_state.specs.Places.{entries}
 use Rattle.sleep_core.specs.Cores.{CoreState, IsActor, with_entry, made_entry, jump_entry, next_stamp}
 use Rattle.sleep_core.specs.Histories.{last_stamp}
-use Rattle.sleep_laws.proofs.Few.{few_moves}
-use Rattle.sleep_script.specs.Jobs.{JobState, IsWanted, after_turn, after_call, IsJobOf}
+use Rattle.sleep_script.specs.Jobs.{JobState, after_turn, after_call, IsJobOf}
 use Rattle.sleep_script.proofs.Following.{own_entry, all_made, turns_few}
 use Rattle.event_word.specs.Steps.{has_places}
-use Rattle.log_grows.specs.Whole.{with_call, steps_of, OweNone}
+use Rattle.log_grows.specs.Whole.{with_call, steps_of}
 use Rattle.log_grows.proofs.Calls.{CanCall, call_legal, call_owes_none, call_journal, call_word, moved, same_actor}
 use Rattle.log_grows.proofs.Growing.{first_legal, entry_legal, jump_legal}
 use Rattle.log_grows.proofs.Histories.{none_owed, still_owe_none}
@@ -44,9 +41,9 @@ use Rattle.wakeup_source.specs.SourceStates.{SourceState, bare, latest}
 use Rattle.wakeup_source.specs.Told.{word_after, MayCall, source_call}
 use Rattle.sleep_run.specs.Called.{IsMade}
 use Rattle.sleep_run.specs.Firsts.{first_sources, CallsNext}
-use Rattle.sleep_run.specs.JobsOf.{JobsState, job_at, HasJob, with_job, first_jobs}
+use Rattle.sleep_run.specs.JobsOf.{JobsState, job_at, with_job, first_jobs}
 use Rattle.sleep_run.specs.Runs.{calls_made, IsSourceOf, AreSources, AreJobs, IsRunning, IsFull}
-use Rattle.sleep_run.proofs.JobsKept.{has_job, jobs_first, jobs_entry, jobs_jump, jobs_call, jobs_expire}
+use Rattle.sleep_run.proofs.JobsKept.{jobs_first, jobs_entry, jobs_jump, jobs_call, jobs_expire}
 use Rattle.sleep_run.proofs.SourcesKept.{sources_first, sources_kept, sources_called, call_told, word_moved, word_further}
 
 -- a word that is told is kept

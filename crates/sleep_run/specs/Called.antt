@@ -1,5 +1,5 @@
 -- A whole call on a source of a run.
-use Rattle.std.specs.Prelude.{◌≡◌, ◌<◌, ◌++◌, List}
+use Rattle.std.specs.Prelude.{◌≡◌, ◌<◌, ◌++◌}
 use Rattle.sleep_model.specs.declared.machine.SourceCall.{SourceCall}
 use Rattle.sleep_model.specs.declared.word.EventNow.{EventNow}
 use Rattle.sleep_model.specs.declared.word.Stamp.{Stamp}

@@ -1,4 +1,4 @@
-use Rattle.std.proofs.Common.{◌≡◌, ◌≤◌, ap, length, arith}
+use Rattle.std.proofs.Common.{◌≤◌, ap, length, arith}
 use Rattle.sleep_model.specs.declared.entry.Entry.{Entry}
 use Rattle.wakeup_source.specs.SourceStates.{bare}
 use Rattle.wakeup_source.specs.Told.{source_call}

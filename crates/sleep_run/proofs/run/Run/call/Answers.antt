@@ -1,4 +1,4 @@
-use Rattle.std.proofs.Common.{◌≡◌, ◌<◌, ◌≤◌, ◌+◌, ◌++◌, ◌∙◌, ℕ, List, length, reverse, slice_set, refl, sym, ap, subst, arith, Err}
+use Rattle.std.proofs.Common.{◌≡◌, ◌≤◌, ◌∙◌, ℕ, List, length, reverse, slice_set, refl, sym, ap, subst, arith, Err}
 use Rattle.sleep_model.specs.declared.entry.Actor.{Actor}
 use Rattle.sleep_model.specs.declared.entry.Entry.{Entry}
 use Rattle.sleep_model.specs.declared.machine.SourceCall.{SourceCall}

@@ -1,4 +1,4 @@
-use Rattle.std.proofs.Common.{◌≡◌, ◌<◌, ◌≤◌, ◌+◌, ◌∙◌, ℕ, true, List, length, reverse, refl, sym, ap, subst, Err}
+use Rattle.std.proofs.Common.{◌≡◌, ◌≤◌, ◌∙◌, ℕ, true, length, reverse, refl, sym, ap, subst, Err}
 use Rattle.sleep_model.specs.declared.entry.Actor.TheVariants as actor
 use Rattle.sleep_model.specs.declared.machine.SourceCall.TheVariants as call
 use Rattle.sleep_model.specs.Numbers.{time_of}
@@ -6,13 +6,12 @@ use Rattle.sleep_model.specs.Sources.{history, expiry, has_expired}
 use Rattle.wakeup_source.specs.declared.call_by.CallBy.{CallBy}
 use Rattle.wakeup_source.specs.declared.fault.SourceFault.{SourceFault}
 use Rattle.wakeup_source.specs.declared.fault.SourceFault.TheVariants as source
-use Rattle.wakeup_source.specs.SourceStates.{bare}
 use Rattle.sleep_run.specs.declared.run.Run.TheInside.{Inside}
 use Rattle.sleep_run.specs.declared.run.RunFault.{RunFault}
 use Rattle.sleep_run.specs.Firsts.{run_fault}
-use Rattle.sleep_run.specs.RunFields.{state, keeps}
+use Rattle.sleep_run.specs.RunFields.{state}
 use Rattle.sleep_run.specs.Runs.{RunState, Fails, IsFull}
-use Rattle.sleep_run.proofs.Running.{CanMake, time_joint, can_make, running_expire, is_full}
+use Rattle.sleep_run.proofs.Running.{time_joint, can_make, running_expire, is_full}
 use Rattle.sleep_run.proofs.SourcesKept.{bare_count}
 use Rattle.sleep_run.proofs.run.Run.expire.Goals as goal
 

@@ -2,12 +2,8 @@ use Rattle.std.proofs.Common.{◌≡◌, ◌∙◌, reverse, sym, subst}
 use Rattle.sleep_model.specs.Legal.{is_enabled}
 use Rattle.sleep_model.specs.Parts.{journal}
 use Rattle.sleep_model.specs.Sources.{history}
-use Rattle.sleep_model.specs.Numbers.{time_of}
 use Rattle.sleep_core.specs.Cores.{IsActor}
-use Rattle.sleep_run.specs.declared.run.Run.TheInside.{Inside}
-use Rattle.sleep_run.specs.RunFields.{state, keeps}
 use Rattle.sleep_run.specs.Runs.{RunState}
-use Rattle.sleep_run.proofs.JobsKept.{has_job}
 use Rattle.sleep_run.proofs.Running.{enabled_is}
 use Rattle.sleep_run.proofs.run.Run.is_enabled.Goals as goal
 

@@ -1,4 +1,4 @@
-use Rattle.std.proofs.Common.{◌≡◌, ◌∙◌, ◌+◌, ◌&&◌, Bool, not, length, sym, ap, ap₂}
+use Rattle.std.proofs.Common.{◌∙◌, ◌+◌, ◌&&◌, Bool, not, length, sym, ap, ap₂}
 use Rattle.sleep_model.specs.declared.entry.Actor.TheVariants as actor
 use Rattle.sleep_model.specs.Legal.{none_enabled, none_expires, is_enabled}
 use Rattle.sleep_model.specs.Parts.{journal}

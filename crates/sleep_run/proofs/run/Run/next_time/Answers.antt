@@ -1,9 +1,8 @@
 use Rattle.std.proofs.Common.{◌≡◌, ◌+◌, ◌∙◌, true, None, length, reverse, refl, sym, subst}
-use Rattle.sleep_model.specs.Legal.{next_time, next_expiry, sooner, journal_time}
+use Rattle.sleep_model.specs.Legal.{next_time, next_expiry, sooner}
 use Rattle.sleep_model.specs.Parts.{journal}
 use Rattle.sleep_model.specs.Path.{maker}
 use Rattle.sleep_model.specs.Sources.{history}
-use Rattle.sleep_state.specs.Places.{entries}
 use Rattle.sleep_run.specs.Runs.{RunState, is_resting}
 use Rattle.sleep_run.proofs.Resting.{closes}
 use Rattle.sleep_run.proofs.Running.{next_joint}

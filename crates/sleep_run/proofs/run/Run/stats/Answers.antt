@@ -1,4 +1,4 @@
-use Rattle.std.proofs.Common.{◌≡◌, ◌∙◌, List, reverse, sym, ap, subst}
+use Rattle.std.proofs.Common.{◌∙◌, List, reverse, sym, ap, subst}
 use Rattle.sleep_model.specs.Legal.{stats_of}
 use Rattle.sleep_model.specs.Numbers.{time_of}
 use Rattle.wakeup_source.specs.SourceStates.{SourceState}

@@ -1,4 +1,4 @@
-use Rattle.std.proofs.Common.{◌≡◌, ◌≤◌, ◌<◌, ◌++◌, ◌∙◌, ℕ, List, [], ◌∷◌, length, reverse, Ok, Err, refl, sym, ap, subst, arith}
+use Rattle.std.proofs.Common.{◌≡◌, ◌∙◌, List, [], ◌∷◌, reverse, Ok, refl, sym, ap, subst, arith}
 use Rattle.std.proofs.lemmas.List.{reverse-append, length-reverse}
 use Rattle.sleep_model.specs.declared.entry.Actor.{Actor}
 use Rattle.sleep_model.specs.declared.entry.Entry.{Entry}
@@ -9,14 +9,12 @@ use Rattle.sleep_model.specs.Calls.{calls_due}
 use Rattle.sleep_model.specs.Due.{due}
 use Rattle.sleep_model.specs.Parts.{journal}
 use Rattle.sleep_core.specs.declared.turns.CoreTurn.{CoreTurn}
-use Rattle.sleep_core.specs.declared.turns.CoreTurn.TheVariants as turn
-use Rattle.sleep_core.specs.declared.turns.CoreFault.{CoreFault}
-use Rattle.sleep_core.specs.Cores.{CoreState, IsActor, with_entry, made_entry, next_stamp}
+use Rattle.sleep_core.specs.Cores.{IsActor, with_entry, made_entry, next_stamp}
 use Rattle.sleep_core.specs.Turned.{AfterTurn}
 use Rattle.sleep_state.specs.Places.{entries}
 use Rattle.sleep_run.specs.declared.run.Run.TheInside.{Inside}
 use Rattle.sleep_run.specs.JobsOf.{JobsState}
-use Rattle.sleep_run.specs.RunFields.{state, keeps}
+use Rattle.sleep_run.specs.RunFields.{state}
 use Rattle.sleep_run.specs.Runs.{RunState, IsRunning, calls_made}
 use Rattle.sleep_run.proofs.JobsKept.{has_job}
 use Rattle.sleep_run.proofs.Running.{running_entry, running_same, calls_joint, none_left, few_turns, time_joint, told_same}

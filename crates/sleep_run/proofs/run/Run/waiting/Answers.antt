@@ -1,22 +1,18 @@
-use Rattle.std.proofs.Common.{◌≡◌, ◌≤◌, ◌<◌, ◌+◌, ◌++◌, ◌∙◌, ℕ, List, [], None, length, reverse, drop, refl, sym, ap, subst, arith}
+use Rattle.std.proofs.Common.{◌≡◌, ◌+◌, ◌++◌, ◌∙◌, ℕ, List, None, length, reverse, refl, sym, ap, subst, arith}
 use Rattle.std.proofs.lemmas.List.{append-nil}
 use Rattle.sleep_model.specs.declared.entry.Actor.TheVariants as actor
 use Rattle.sleep_model.specs.declared.entry.Entry.{Entry}
-use Rattle.sleep_model.specs.declared.log.Waiting.{Waiting}
 use Rattle.sleep_model.specs.declared.machine.Machine.{Machine}
 use Rattle.sleep_model.specs.declared.place.Due.{Due}
 use Rattle.sleep_model.specs.declared.word.EventNow.{EventNow}
 use Rattle.sleep_model.specs.Due.{due}
-use Rattle.sleep_model.specs.Legal.{IsStuckAfter, waiting, waiting_from}
-use Rattle.sleep_model.specs.Numbers.{numbers}
+use Rattle.sleep_model.specs.Legal.{IsStuckAfter, waiting}
 use Rattle.sleep_model.specs.Parts.{journal}
 use Rattle.sleep_model.specs.Path.{maker}
-use Rattle.sleep_model.specs.Seats.{seats}
 use Rattle.sleep_state.specs.Places.{entries}
 use Rattle.sleep_run.specs.declared.run.Run.TheInside.{Inside}
 use Rattle.sleep_run.specs.RunFields.{state, keeps}
 use Rattle.sleep_run.specs.Runs.{RunState}
-use Rattle.sleep_run.specs.Waits.{waits_of}
 use Rattle.sleep_run.proofs.Resting.{closes, waits_go_on, waits_none}
 use Rattle.sleep_run.proofs.Running.{joint}
 use Rattle.sleep_run.proofs.run.Run.waiting.Goals as goal
