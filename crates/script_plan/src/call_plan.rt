@@ -8,7 +8,7 @@ use crate::expand::expand;
 use crate::plan::{Counts, count_calls, op_at};
 use sleep_base::Mem;
 use sleep_model::{Op, Report, Script, SourceCall, Step};
-use sleep_state::is_autosleep_text;
+use sleep_sysfs::is_autosleep_text;
 use std::alloc::Global;
 use std::marker::Model;
 

@@ -5,7 +5,7 @@ ghost use Rattle.script_plan.specs.Plans.{expanded, op_of, op_at, entry_places, 
 use crate::expand::expand;
 use sleep_base::Mem;
 use sleep_model::{Op, Script, Step};
-use sleep_state::is_autosleep_text;
+use sleep_sysfs::is_autosleep_text;
 use std::alloc::Global;
 use std::marker::Model;
 

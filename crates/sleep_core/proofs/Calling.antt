@@ -1,5 +1,5 @@
 -- The calls of a script by the turns that it has ended.
-use Rattle.std.proofs.Common.{◌≡◌, ◌∙◌, ◌<◌, ◌+◌, ◌==◌, ◌&&◌, ◌||◌, ◌++◌, ◌⊎◌, inl, inr, ℕ, zero, suc, Bool, true, false, List, [], ◌∷◌, length, replicate, slice_get, slice_index_or, slice_set, refl, sym, ap, ap₂, subst, length-append, arith}
+use Rattle.std.proofs.Common.{◌≡◌, ◌∙◌, ◌<◌, ◌+◌, ◌==◌, ◌&&◌, ℕ, zero, suc, Bool, true, false, List, [], ◌∷◌, length, slice_get, slice_index_or, slice_set, refl, sym, ap, ap₂, subst, length-append, arith}
 use Rattle.std.proofs.lemmas.Bool.Decides.{nat_tests}
 use Rattle.sleep_model.specs.declared.entry.Actor.{Actor}
 use Rattle.sleep_model.specs.declared.entry.Actor.TheVariants as actor
@@ -8,11 +8,11 @@ use Rattle.sleep_model.specs.declared.entry.Kind.{Kind}
 use Rattle.sleep_model.specs.declared.entry.Kind.TheVariants as kind
 use Rattle.sleep_model.specs.declared.machine.Machine.{Machine}
 use Rattle.sleep_model.specs.declared.place.Seat.{Seat}
-use Rattle.sleep_model.specs.Calls.{calls_at, calls_due, ends_step, ends_turn, is_setting, one_more, pieces_if, pieces_in, turns_ended}
+use Rattle.sleep_model.specs.Calls.{calls_at, calls_due, ends_turn, one_more, pieces_if, pieces_in, turns_ended}
 use Rattle.sleep_model.specs.Path.{is_same}
 use Rattle.sleep_model.specs.declared.machine.Script.{Script}
 use Rattle.sleep_model.specs.Scripts.{Piece, Calls, Turns, pieces}
-use Rattle.sleep_model.specs.Seats.{SeatPart, Waits, Sets, Sleeps, Reads, Saves, Steps, Exits, Stays, first_seat, seat_at, seat_part, seat_after, seats_after, seats}
+use Rattle.sleep_model.specs.Seats.{seat_at, seat_part, seat_after, seats_after, seats}
 use Rattle.script_plan.specs.Plans.{calls_before}
 use Rattle.log_grows.proofs.Planning.{calls_until, calls_counted}
 use Rattle.sleep_core.specs.Cores.{IsActor}

@@ -6,3 +6,4 @@ mod Reporting
 mod Seated
 mod Turning
 mod Walks
+mod Working

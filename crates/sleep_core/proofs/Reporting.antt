@@ -1,6 +1,6 @@
 -- The counts of reports are those of each actor's callbacks.
-use Rattle.std.proofs.Common.{◌≡◌, ◌∙◌, ◌≤◌, ◌<◌, ◌+◌, ◌^◌, ◌==◌, ◌&&◌, ℕ, zero, suc, Bool, true, false, List, [], ◌∷◌, length, map, replicate, slice_index, slice_set, Option, Some, None, refl, sym, ap, cond, if◌then◌else◌, subst, arith}
-use Rattle.std.proofs.lemmas.List.{length-set, length-replicate, length-map}
+use Rattle.std.proofs.Common.{◌≡◌, ◌∙◌, ◌≤◌, ◌<◌, ◌+◌, ◌^◌, ◌==◌, ◌&&◌, ℕ, zero, suc, Bool, true, false, List, [], ◌∷◌, length, replicate, slice_index, Option, Some, None, refl, ap, cond, arith}
+use Rattle.std.proofs.lemmas.List.{length-set, length-replicate}
 use Rattle.std.proofs.lemmas.Bool.Decides.{nat_tests}
 use Rattle.sleep_model.specs.declared.entry.Actor.{Actor}
 use Rattle.sleep_model.specs.declared.entry.Actor.TheVariants as actor
@@ -11,13 +11,13 @@ use Rattle.sleep_model.specs.declared.machine.Machine.{Machine}
 use Rattle.sleep_model.specs.declared.machine.What.{What}
 use Rattle.sleep_model.specs.Accepted.{AreAnswers}
 use Rattle.sleep_model.specs.Answers.{answer_for, answer_reports, own_or, is_thing, is_for}
-use Rattle.sleep_model.specs.Calls.{calls_due, report_calls, turns_ended}
+use Rattle.sleep_model.specs.Calls.{calls_due, report_calls}
 use Rattle.sleep_model.specs.Path.{attempts, is_same}
-use Rattle.log_grows.proofs.Planning.{reports_made, calls_by_turn, calls_counted}
+use Rattle.log_grows.proofs.Planning.{reports_made, calls_counted}
 use Rattle.sleep_state.specs.Places.{entries}
 use Rattle.sleep_core.specs.Cores.{IsActor}
 use Rattle.sleep_core.specs.Histories.{Kept, after_entry}
-use Rattle.sleep_core.specs.Reports.{ReportCounts, none_reported, reported_by, grown_at, counts_after, counts_of}
+use Rattle.sleep_core.specs.Reports.{ReportCounts, reported_by, grown_at, counts_after, counts_of}
 
 -- ---- a number that grows
 

@@ -1,17 +1,16 @@
 -- What the phases of devices look at in the core is what stands at its place.
-use Rattle.std.proofs.Common.{◌≡◌, ◌∙◌, ◌⊎◌, inl, inr, ℕ, true, false, length, map, refl, sym, ap, subst}
+use Rattle.std.proofs.Common.{◌≡◌, ◌∙◌, ◌⊎◌, inl, inr, true, false, length, map, sym, ap}
 use Rattle.std.proofs.lemmas.Bool.{false≢true}
 use Rattle.phase_table.specs.declared.phase.Phase.{Phase}
 use Rattle.phase_table.specs.Phases.{is_down, is_up}
 use Rattle.sleep_model.specs.declared.word.EventNow.{EventNow}
 use Rattle.sleep_model.specs.Devices.{phase_failed, own_error, willing}
-use Rattle.sleep_model.specs.Guard.{pending}
 use Rattle.sleep_model.specs.Runtime.{may_wake, statuses}
 use Rattle.async_board.specs.AtPlaces.{board_at}
 use Rattle.phase_suspend.specs.declared.down.Down.{Down}
 use Rattle.phase_suspend.specs.declared.down.DownEnv.{DownEnv}
 use Rattle.phase_suspend.specs.AtPlaces.{down_at}
-use Rattle.phase_suspend.specs.Downs.{DownState, down_state}
+use Rattle.phase_suspend.specs.Downs.{down_state}
 use Rattle.sleep_state.specs.Places.{entries}
 use Rattle.sleep_core.specs.Cores.{CoreState}
 use Rattle.sleep_core.specs.Seen.{AreSeen}

@@ -1,6 +1,5 @@
 -- What the core keeps: a legal journal, with room for what its open attempt needs.
-use Rattle.std.specs.Prelude.{◌≡◌, ◌≤◌, ◌<◌, ◌+◌, ◌^◌, ℕ, length, map, Option, Some, None}
-use Rattle.sleep_model.specs.declared.machine.Machine.{Machine}
+use Rattle.std.specs.Prelude.{◌≡◌, ◌≤◌, ◌<◌, ◌+◌, ◌^◌, ℕ, map, Option, Some, None}
 use Rattle.sleep_model.specs.declared.place.Sleep.{Sleep}
 use Rattle.sleep_model.specs.Accepted.{IsAccepted}
 use Rattle.sleep_model.specs.Attempt.{freeze_since, sleep_of}

@@ -25,7 +25,7 @@ use Rattle.sleep_model.specs.Table.{stage_of}
 use Rattle.attempt_room.specs.Room.{enough}
 use Rattle.async_board.specs.Boards.{BoardState}
 use Rattle.platform_steps.specs.Steps.{Steps}
-use Rattle.sleep_state.specs.Autosleeps.{AutosleepState}
+use Rattle.autosleep_loop.specs.Autosleeps.{AutosleepState}
 use Rattle.sleep_state.specs.DeviceStates.{DeviceState}
 use Rattle.sleep_state.specs.Paths.{PathState}
 use Rattle.sleep_state.specs.Places.{entries}

@@ -4,11 +4,12 @@ ghost use Rattle.async_board.specs.Boards.{first_board};
 
 use crate::clock::time_after;
 use async_board::Board;
+use autosleep_loop::Autosleep;
 use device_links::Links;
 use platform_steps::Platform;
 use sleep_base::Mem;
 use sleep_model::{Device, DeviceFlags, Entry, JournalEntry, Kind, Machine, Stamp, pos};
-use sleep_state::{Autosleep, Devices, Journal, Path, Tasks};
+use sleep_state::{Devices, Journal, Path, Tasks};
 use std::alloc::{AllocError, Global};
 use std::marker::Model;
 use syscore_ops::Syscore;

@@ -9,7 +9,6 @@ ghost use Rattle.sleep_core.specs.Steps.{sleep_end};
 
 use crate::state::Core;
 use crate::steps::is_line;
-use sleep_model::Work;
 
 /// The lesser of two moments, where there are any.
 fn sooner(one: Option<u64>, other: Option<u64>) -> Option<u64>
@@ -19,16 +18,6 @@ fn sooner(one: Option<u64>, other: Option<u64>) -> Option<u64>
         (None, other) => other,
         (one, None) => one,
         (Some(one), Some(other)) => Some(one.min(other)),
-    }
-}
-
-/// Until when the work naps, if it does.
-fn naps_until(work: Work) -> Option<u64>
-    ensures { result ≡ naps_until work }
-{
-    match work {
-        Work::Napping(until) => until,
-        _ => None,
     }
 }
 
@@ -60,7 +49,7 @@ impl<'m> Core<'m> {
         if self.is_asleep() {
             None
         } else {
-            naps_until(self.history.autosleep().work())
+            self.history.autosleep().naps_until()
         }
     }
 

@@ -2,6 +2,7 @@ use crate::history::History;
 use crate::reports::Reports;
 use answer_book::AnswerBook;
 use async_board::Board;
+use autosleep_loop::is_actor;
 use device_rows::Flags;
 use script_plan::Plan;
 use sleep_base::Errno;
@@ -94,7 +95,7 @@ impl<'m> Core<'m> {
     pub(crate) fn is_maker(&self, who: Actor) -> bool
         ensures { result ≡ is_actor who (maker (entries self.now.past)) }
     {
-        sleep_state::is_actor(who, self.history.path().maker())
+        is_actor(who, self.history.path().maker())
     }
 
     /// Whether the machine sleeps.

@@ -1,128 +1,12 @@
-//! What a task does next at its operation, as far as the operation, its place and the word tell
-//! (`kernel/power/main.c`).
+//! What a task does next where it sleeps or waits for a mark, and where it freezes.
 
-ghost use Rattle.std.specs.Prelude.{◌≡◌, ◌≤◌, ◌<◌, ◌+◌, ◌^◌, ◌||◌, option_copied};
-ghost use Rattle.sleep_model.specs.Steps.{read_due, save_due, lock_due, count_due, state_due, autosleep_due, slept_due, mark_due, saved_number, unless_unsaved, sleep_due};
-ghost use Rattle.sleep_model.specs.Tasks.{is_line, is_user, freezes_at};
-ghost use Rattle.sleep_model.specs.Word.{visible};
+ghost use Rattle.std.specs.Prelude.{◌≡◌, ◌≤◌, ◌^◌, option_copied};
+ghost use Rattle.sleep_model.specs.Steps.{slept_due, mark_due, sleep_due};
+ghost use Rattle.sleep_model.specs.Tasks.{is_line, freezes_at};
 ghost use Rattle.sleep_model.specs.declared.entry.Kind.TheVariants.{Sleep, SleepD};
 
-use sleep_base::Errno;
-use sleep_model::{Due, EventNow, Kind, Op, Seat, State, TaskKind, Why};
-use sleep_state::is_autosleep_text;
-
-/// The count that user space sees: the registered events modulo 16,777,216 (`pm_get_wakeup_count`).
-pub(crate) fn visible(now: EventNow) -> u32
-    ensures { result ≡ visible now }
-{
-    now.count % 16777216
-}
-
-/// A read of the count of events (`pm_get_wakeup_count`).
-pub(crate) fn read_due(now: EventNow, waits: bool, asked: bool) -> Due
-    ensures { result ≡ read_due now waits asked }
-{
-    if now.inpr == 0 {
-        Due::Makes(Kind::Read(visible(now)))
-    } else if !waits {
-        Due::Makes(Kind::ReadWait)
-    } else if asked {
-        Due::Makes(Kind::ReadIntr)
-    } else {
-        Due::Waits(Why::InProgress)
-    }
-}
-
-/// A save of that number, with the lock free and autosleep off (`pm_save_wakeup_count`).
-fn save_due(now: EventNow, count: u32) -> Due
-    ensures { result ≡ save_due now count }
-{
-    if visible(now) == count && now.inpr == 0 {
-        Due::Makes(Kind::Saved(count))
-    } else {
-        Due::Makes(Kind::SaveErr(count, Errno::EINVAL))
-    }
-}
-
-/// Where another holds the autosleep lock: a write says once that it waits, and gives up where it is
-/// asked to freeze (`pm_autosleep_lock`).
-fn lock_due(waits: bool, asked: bool, says: Due, gives_up: Due) -> Due
-    ensures { result ≡ lock_due waits asked says gives_up }
-{
-    if !waits {
-        says
-    } else if asked {
-        gives_up
-    } else {
-        Due::Waits(Why::LockHeld)
-    }
-}
-
-/// A write of that number to the count of events (`wakeup_count_store`).
-pub(crate) fn count_due(
-    held: bool,
-    on: bool,
-    waits: bool,
-    asked: bool,
-    now: EventNow,
-    count: u32,
-) -> Due
-    ensures { result ≡ count_due held on waits asked now count }
-{
-    if held {
-        let says = Due::Makes(Kind::SaveWait(count));
-        lock_due(
-            waits,
-            asked,
-            says,
-            Due::Makes(Kind::SaveErr(count, Errno::EINTR)),
-        )
-    } else if on {
-        Due::Makes(Kind::SaveErr(count, Errno::EBUSY))
-    } else {
-        save_due(now, count)
-    }
-}
-
-/// A write to the state, whose text is `mem` or not, and whose attempt would be that (`state_store`).
-pub(crate) fn state_due(
-    held: bool,
-    on: bool,
-    waits: bool,
-    asked: bool,
-    mem: bool,
-    attempt: Kind,
-) -> Due
-    ensures { result ≡ state_due held on waits asked mem attempt }
-{
-    if held {
-        let says = Due::Makes(Kind::StateWait);
-        lock_due(waits, asked, says, Due::Makes(Kind::StateErr(Errno::EINTR)))
-    } else if on {
-        Due::Makes(Kind::StateErr(Errno::EBUSY))
-    } else if mem {
-        Due::Makes(attempt)
-    } else {
-        Due::Makes(Kind::StateErr(Errno::EINVAL))
-    }
-}
-
-/// A write to autosleep, whose text is `mem`, or is `off` (`autosleep_store`).
-pub(crate) fn autosleep_due(held: bool, begun: bool, mem: bool, off: bool) -> Due
-    ensures { result ≡ autosleep_due held begun mem off }
-{
-    if !(mem || off) {
-        Due::Makes(Kind::AutoBad)
-    } else if begun {
-        Due::Makes(Kind::AutoDone)
-    } else if held {
-        Due::Waits(Why::LockHeld)
-    } else if mem {
-        Due::Makes(Kind::AutoSet(State::Mem))
-    } else {
-        Due::Makes(Kind::AutoSet(State::Off))
-    }
-}
+use sleep_model::{Due, Kind, Op, Seat, TaskKind, Why};
+use sleep_sysfs::is_autosleep_text;
 
 /// A sleep up to that time in ms, now.
 fn slept_due(until: Option<u64>, time: u64) -> Due
@@ -167,16 +51,6 @@ pub(crate) fn mark_due(mark: u32, raised: u32) -> Due
         Due::Makes(Kind::Got(mark))
     } else {
         Due::Waits(Why::Mark(mark))
-    }
-}
-
-/// The number that a save writes: the given one, else the one that was last read, else 0.
-pub(crate) fn saved_number(count: Option<u32>, last_read: Option<u32>) -> u32
-    ensures { result ≡ saved_number count last_read }
-{
-    match count {
-        Some(count) => count,
-        None => last_read.unwrap_or(0),
     }
 }
 

@@ -11,7 +11,9 @@ ghost use Rattle.sleep_core.specs.Steps.{next_attempt};
 use crate::state::Core;
 use crate::steps;
 use sleep_model::{Due, EventNow, Freezing, Kind, Op, Seat, TaskKind, Why};
-use sleep_state::{is_mem, is_off};
+use sleep_sysfs::{
+    is_mem, is_off, read_count, saved_number, write_autosleep, write_count, write_state,
+};
 
 impl<'m> Core<'m> {
     /// The entry that begins an attempt now.
@@ -31,9 +33,8 @@ impl<'m> Core<'m> {
         if if_saved && !seat.saved {
             return Due::Makes(Kind::StateUnsaved);
         }
-        let held = self.is_held();
-        steps::state_due(
-            held,
+        write_state(
+            self.is_held(),
             self.is_on(),
             seat.waits,
             asked,
@@ -50,15 +51,15 @@ impl<'m> Core<'m> {
             return Due::Makes(Kind::Exit);
         };
         match op {
-            Op::Read => steps::read_due(now, seat.waits, asked),
+            Op::Read => read_count(now, seat.waits, asked),
             Op::Save { count } => {
-                let number = steps::saved_number(*count, seat.last_read);
-                steps::count_due(self.is_held(), self.is_on(), seat.waits, asked, now, number)
+                let number = saved_number(*count, seat.last_read);
+                write_count(self.is_held(), self.is_on(), seat.waits, asked, now, number)
             }
             Op::State { text, if_saved } => self.state_due(seat, asked, text.as_slice(), *if_saved),
             Op::Autosleep { text } => {
                 let text = text.as_slice();
-                steps::autosleep_due(self.is_held(), seat.waits, is_mem(text), is_off(text))
+                write_autosleep(self.is_held(), seat.waits, is_mem(text), is_off(text))
             }
             Op::Sleep { ms } => steps::sleep_due(*ms, seat, self.now()),
             Op::SleepD { ms } => steps::sleep_d_due(*ms, seat, self.now()),

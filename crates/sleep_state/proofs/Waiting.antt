@@ -1,5 +1,5 @@
 -- How many tasks a freeze waits for, as the tasks move one by one.
-use Rattle.std.proofs.Common.{◌≡◌, ◌≤◌, ◌+◌, ℕ, zero, suc, Bool, true, false, List, [], ◌∷◌, length, replicate, cond, if◌then◌else◌, slice_get, slice_set, refl, sym, ap, subst, arith}
+use Rattle.std.proofs.Common.{◌≡◌, ◌≤◌, ◌+◌, ℕ, zero, suc, Bool, true, false, List, [], ◌∷◌, length, replicate, cond, slice_get, slice_set, refl, ap, subst, arith}
 use Rattle.std.proofs.lemmas.List.{length-set}
 use Rattle.sleep_model.specs.declared.entry.Actor.{Actor}
 use Rattle.sleep_model.specs.declared.entry.Actor.TheVariants as actor
@@ -11,7 +11,7 @@ use Rattle.sleep_model.specs.declared.entry.Thaw.{Thaw}
 use Rattle.sleep_model.specs.declared.machine.Script.{Script}
 use Rattle.sleep_model.specs.declared.place.Freezing.{Freezing}
 use Rattle.sleep_model.specs.declared.place.Seat.{Seat}
-use Rattle.sleep_model.specs.Freezer.{unasked, freezing_at, all_asked, all_let_go, put_frozen, freezings_after, keeps_waiting, left_from}
+use Rattle.sleep_model.specs.Freezer.{unasked, freezing_at, all_let_go, put_frozen, freezings_after, keeps_waiting, left_from}
 use Rattle.sleep_model.specs.Seats.{SeatPart, first_seat, seat_at, seat_after, seat_part, seats_after}
 use Rattle.sleep_state.specs.Waits.{as_count, left_counts, waits_in, waits_of, wait_groups, IsOfOne, IsMoved, AreMoved}
 use Rattle.sleep_state.proofs.Counting.{asked_len}

@@ -1,4 +1,3 @@
-pub mod Autosleeps
 pub mod DeviceStates
 pub mod Fronts
 pub mod Paths

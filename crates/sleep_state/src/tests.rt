@@ -2,8 +2,7 @@ use super::*;
 use sleep_base::Errno;
 use sleep_model::{
     Actor, Device, DeviceFlags, Entry, EventNow, Freezing, FrozeEnd, Group, JournalEntry, Kind,
-    ListOf, Name, Phase, PlatDo, PlatUndo, Script, SkipCause, Stage, Stamp, State, TaskKind, Thaw,
-    Work,
+    ListOf, Name, Phase, PlatDo, PlatUndo, Script, SkipCause, Stage, Stamp, TaskKind, Thaw,
 };
 use std::alloc::Global;
 use std::test::Fail;
@@ -194,8 +193,8 @@ fn a_freeze_asks_its_group(rt: HostRuntime) -> Result<(), Fail> {
     ] {
         scripts.push(script(alloc, kind)?)?;
     }
-    let mut tasks = Tasks::new(alloc, scripts.as_slice(), 0)?;
     assert!(rt; scripts.len() == 5);
+    let mut tasks = Tasks::new(alloc, scripts.as_slice(), 0)?;
     assert_eq!(rt; tasks.left(Group::User).count, 0);
     tasks.note(TASK, Kind::Freeze(Group::User));
     for (i, asked) in [(0, false), (1, true), (2, false), (3, false), (4, true)] {
@@ -209,32 +208,6 @@ fn a_freeze_asks_its_group(rt: HostRuntime) -> Result<(), Fail> {
     let mut frozen = Tasks::new(alloc, scripts.as_slice(), 0)?;
     frozen.note(Actor::Script(1), Kind::Frozen);
     assert!(rt; frozen.freezing(1).frozen && !frozen.freezing(4).frozen);
-    Ok(())
-}
-
-/// Autosleep that is set queues its work, which runs, and looks at the count after its attempt.
-#[test]
-fn the_work_goes_round(rt: HostRuntime) -> Result<(), Fail> {
-    let mut auto = Autosleep::new();
-    auto.note(Kind::AutoSet(State::Mem), TASK);
-    assert_eq!(rt; auto.holder(), Some(TASK));
-    assert!(rt; auto.is_on() && !auto.is_queued());
-    auto.note(Kind::AutoDone, TASK);
-    assert_eq!(rt; auto.holder(), None);
-    assert!(rt; auto.is_queued());
-    auto.note(Kind::AutoRun, Actor::Auto);
-    assert_eq!(rt; auto.runs(), 1);
-    assert!(rt; !auto.is_queued());
-    auto.note(Kind::Read(5), Actor::Auto);
-    auto.note(Kind::AutoSaved(5), Actor::Auto);
-    assert!(rt; matches!(auto.work(), Work::Attempting(5)));
-    auto.note(Kind::Over { n: 1, r: None }, Actor::Auto);
-    auto.note(Kind::AutoAfter(Some(5)), Actor::Auto);
-    assert!(rt; matches!(auto.work(), Work::Napping(None)));
-    auto.note(Kind::SleepD(500), Actor::Auto);
-    auto.note(Kind::Slept, Actor::Auto);
-    auto.note(Kind::AutoAgain, Actor::Auto);
-    assert!(rt; matches!(auto.work(), Work::Resting) && auto.is_queued());
     Ok(())
 }
 
@@ -317,26 +290,6 @@ fn a_journal_keeps_its_entries(rt: HostRuntime) -> Result<(), Fail> {
         assert_eq!(rt; entries[at].entry.time, time);
     }
     Ok(())
-}
-
-/// A state is read up to its newline, and `off` with one newline at most.
-#[test]
-fn texts_end_at_a_newline(rt: HostRuntime) {
-    let rows = [
-        ("mem", true, false),
-        ("mem\n", true, false),
-        ("mem\ndisk", true, false),
-        ("mem ", false, false),
-        ("", false, false),
-        ("off", false, true),
-        ("off\n", false, true),
-        ("off\noff", false, false),
-    ];
-    for (text, mem, off) in rows {
-        assert_eq!(rt; is_mem(text.as_bytes()), mem, "at {text}");
-        assert_eq!(rt; is_off(text.as_bytes()), off, "at {text}");
-        assert_eq!(rt; is_autosleep_text(text.as_bytes()), mem || off, "at {text}");
-    }
 }
 
 /// A script's own entries move its place; a post raises a mark, and a wait that ends lowers it.

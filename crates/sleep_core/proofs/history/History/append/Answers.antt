@@ -1,8 +1,7 @@
-use Rattle.std.proofs.Common.{◌≡◌, ◌∙◌, ◌∷◌, refl, ap}
-use Rattle.sleep_model.specs.declared.entry.JournalEntry.{JournalEntry}
+use Rattle.std.proofs.Common.{◌∙◌, refl, ap}
 use Rattle.sleep_model.specs.Numbers.{time_after}
 use Rattle.sleep_model.specs.Word.{position}
-use Rattle.sleep_state.specs.Autosleeps.{autosleep_after}
+use Rattle.autosleep_loop.specs.Autosleeps.{autosleep_after}
 use Rattle.sleep_state.specs.DeviceStates.{devices_after}
 use Rattle.sleep_state.specs.Paths.{path_after}
 use Rattle.sleep_state.specs.Places.{entries}
@@ -11,7 +10,6 @@ use Rattle.async_board.specs.Boards.{board_after}
 use Rattle.platform_steps.specs.Steps.{steps_after}
 use Rattle.syscore_ops.specs.Parts.{parts_after}
 use Rattle.wakeup_guard.specs.Guarded.{guarded_after}
-use Rattle.sleep_core.specs.HistoryFields.{IsHistory}
 use Rattle.sleep_core.specs.Histories.{guard_of}
 use Rattle.sleep_core.proofs.Counted.{guarded_24}
 use Rattle.sleep_core.proofs.history.History.append.Goals as goal

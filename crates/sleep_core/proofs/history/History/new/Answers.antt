@@ -1,8 +1,7 @@
-use Rattle.std.proofs.Common.{◌≡◌, ◌∙◌, ◌<◌, ◌+◌, ◌*◌, ◌^◌, ℕ, false, List, [], length, map, replicate, reverse, refl, sym, ap, arith}
+use Rattle.std.proofs.Common.{◌≡◌, ◌∙◌, false, List, [], length, map, replicate, reverse, sym, ap, arith}
 use Rattle.sleep_model.specs.declared.machine.Device.{Device}
 use Rattle.sleep_model.specs.declared.machine.Script.{Script}
 use Rattle.sleep_model.specs.declared.place.Freezing.{Freezing}
-use Rattle.sleep_model.specs.Freezer.{unasked}
 use Rattle.sleep_model.specs.Order.{parents_of}
 use Rattle.sleep_model.specs.Runtime.{is_async}
 use Rattle.sleep_model.specs.Seats.{first_seat}

@@ -1,4 +1,4 @@
-use Rattle.std.proofs.Common.{◌∙◌, ap, sym, ◌≡◌}
+use Rattle.std.proofs.Common.{◌∙◌, ap, sym}
 use Rattle.sleep_state.specs.Places.{entries}
 use Rattle.phase_resume.specs.Ups.{given_up_on}
 use Rattle.phase_resume.proofs.Following.{follows}

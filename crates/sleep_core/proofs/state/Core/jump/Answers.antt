@@ -1,9 +1,8 @@
-use Rattle.std.proofs.Common.{◌≡◌, ◌∙◌, ◌<◌, ◌^◌, map, ap, sym, subst, arith}
+use Rattle.std.proofs.Common.{◌≡◌, ◌∙◌, ◌<◌, map, ap, sym, subst, arith}
 use Rattle.sleep_model.specs.declared.machine.Machine.{Machine}
-use Rattle.sleep_model.specs.Autosleep.{runs}
 use Rattle.sleep_model.specs.Numbers.{time_of}
 use Rattle.sleep_model.specs.Runtime.{may_wake}
-use Rattle.sleep_state.specs.Autosleeps.{AutosleepState}
+use Rattle.autosleep_loop.specs.Autosleeps.{AutosleepState}
 use Rattle.sleep_state.specs.Places.{entries}
 use Rattle.sleep_core.specs.Cores.{CoreState}
 use Rattle.sleep_core.specs.Histories.{Kept}

@@ -12,7 +12,7 @@ use Rattle.sleep_model.specs.Path.{attempts, is_actor, maker}
 use Rattle.sleep_state.specs.Places.{entries}
 use Rattle.sleep_core.specs.Cores.{CoreState, IsActor}
 use Rattle.sleep_core.specs.Numbered.{Leaves}
-use Rattle.sleep_core.specs.Reports.{reported_by, counts_after, counts_of}
+use Rattle.sleep_core.specs.Reports.{reported_by, counts_after}
 use Rattle.sleep_core.proofs.Reporting.{reported_few, counts_more}
 use Rattle.sleep_core.proofs.Turning.{counted_outside, admits_more, core_more}
 use Rattle.sleep_core.proofs.state.Core.make.Goals as goal

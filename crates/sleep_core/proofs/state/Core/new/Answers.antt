@@ -1,6 +1,4 @@
-use Rattle.std.proofs.Common.{◌≡◌, ◌∙◌, [], length, map, ap, ap₂, sym, subst, arith}
-use Rattle.sleep_model.specs.declared.machine.Machine.{Machine}
-use Rattle.sleep_model.specs.declared.machine.Device.{Device}
+use Rattle.std.proofs.Common.{◌≡◌, ◌∙◌, [], map, ap, ap₂, sym, subst}
 use Rattle.sleep_model.specs.Runtime.{may_wake}
 use Rattle.sleep_core.specs.CoreFields.{IsCore}
 use Rattle.sleep_core.specs.Histories.{Kept}

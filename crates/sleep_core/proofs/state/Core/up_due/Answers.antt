@@ -1,4 +1,4 @@
-use Rattle.std.proofs.Common.{◌∙◌, ap, sym, ◌≡◌, Option, None}
+use Rattle.std.proofs.Common.{◌∙◌, ap, sym}
 use Rattle.sleep_model.specs.Devices.{up_due}
 use Rattle.sleep_state.specs.Places.{entries}
 use Rattle.phase_resume.specs.Ups.{walk_due_on}

@@ -1,4 +1,4 @@
-use Rattle.std.proofs.Common.{◌∙◌, ap, ◌≡◌}
+use Rattle.std.proofs.Common.{◌∙◌, ap}
 use Rattle.sleep_state.specs.Places.{entries}
 use Rattle.phase_suspend.specs.Downs.{walk_due_on}
 use Rattle.phase_suspend.proofs.Following.{follows}

@@ -9,15 +9,15 @@ use std::marker::Model;
 /// The autosleep lock, its setting, and the autosleep work (`kernel/power/autosleep.c`).
 #[derive(Drop)]
 pub struct Autosleep {
-    holder: Option<Actor>,
-    on: bool,
-    work: Work,
-    queued: bool,
-    runs: u32,
+    pub(crate) holder: Option<Actor>,
+    pub(crate) on: bool,
+    pub(crate) work: Work,
+    pub(crate) queued: bool,
+    pub(crate) runs: u32,
 }
 
 impl Model for Autosleep {
-    ghost use Rattle.sleep_state.specs.Autosleeps.{AutosleepState};
+    ghost use Rattle.autosleep_loop.specs.Autosleeps.{AutosleepState};
 
     ghost Value = { AutosleepState };
 
@@ -25,7 +25,7 @@ impl Model for Autosleep {
 }
 
 /// Whether both are the same actor.
-pub fn is_same(one: Actor, other: Actor) -> bool
+fn is_same(one: Actor, other: Actor) -> bool
     ensures { result ≡ is_same one other }
 {
     match (one, other) {
@@ -158,7 +158,7 @@ fn runs_after(kind: Kind, before: u32) -> u32
 impl Autosleep {
     ghost use Rattle.std.specs.Prelude.{◌≡◌, ◌<◌, ◌^◌};
     ghost use Rattle.sleep_model.specs.Autosleep.{runs_after};
-    ghost use Rattle.sleep_state.specs.Autosleeps.{autosleep_after, resting};
+    ghost use Rattle.autosleep_loop.specs.Autosleeps.{autosleep_after, resting};
 
     /// Nobody holds the lock, autosleep is off, and the work rests.
     pub fn new() -> Self

@@ -1,0 +1,10 @@
+//! Autosleep: its lock, its setting, and the work that puts the machine to sleep whenever no event is in progress
+//! (`kernel/power/autosleep.c`).
+#![tactic(auto)]
+
+mod autosleep;
+mod due;
+#[cfg(test)]
+mod tests;
+
+pub use autosleep::{Autosleep, is_actor};

@@ -1,0 +1,82 @@
+//! The count of events, as user space reads and saves it (`wakeup_count_show`, `wakeup_count_store`).
+
+ghost use Rattle.std.specs.Prelude.{◌≡◌};
+ghost use Rattle.sleep_model.specs.Steps.{read_due, save_due, lock_due, count_due, saved_number};
+ghost use Rattle.sleep_model.specs.Word.{visible};
+
+use sleep_base::Errno;
+use sleep_model::{Due, EventNow, Kind, Why};
+
+/// The count that user space sees: the registered events modulo 16,777,216 (`pm_get_wakeup_count`).
+pub fn visible(now: EventNow) -> u32
+    ensures { result ≡ visible now }
+{
+    now.count % 16777216
+}
+
+/// A read of the count by a task that waits for it already or not, and is asked to freeze or not: it answers
+/// where no event is in progress (`pm_get_wakeup_count`).
+pub fn read_count(now: EventNow, waits: bool, asked: bool) -> Due
+    ensures { result ≡ read_due now waits asked }
+{
+    if now.inpr == 0 {
+        Due::Makes(Kind::Read(visible(now)))
+    } else if !waits {
+        Due::Makes(Kind::ReadWait)
+    } else if asked {
+        Due::Makes(Kind::ReadIntr)
+    } else {
+        Due::Waits(Why::InProgress)
+    }
+}
+
+/// A save of that number, with the lock free and autosleep off (`pm_save_wakeup_count`).
+fn save(now: EventNow, count: u32) -> Due
+    ensures { result ≡ save_due now count }
+{
+    if visible(now) == count && now.inpr == 0 {
+        Due::Makes(Kind::Saved(count))
+    } else {
+        Due::Makes(Kind::SaveErr(count, Errno::EINVAL))
+    }
+}
+
+/// Where another holds the autosleep lock: a write says once that it waits, and gives up where it is
+/// asked to freeze (`pm_autosleep_lock`).
+pub(crate) fn wait_for_lock(waits: bool, asked: bool, says: Due, gives_up: Due) -> Due
+    ensures { result ≡ lock_due waits asked says gives_up }
+{
+    if !waits {
+        says
+    } else if asked {
+        gives_up
+    } else {
+        Due::Waits(Why::LockHeld)
+    }
+}
+
+/// A write of that number to the count, with the lock held by another or not, autosleep on or not, by a task that
+/// waits already or not, and is asked to freeze or not (`wakeup_count_store`).
+pub fn write_count(held: bool, on: bool, waits: bool, asked: bool, now: EventNow, count: u32) -> Due
+    ensures { result ≡ count_due held on waits asked now count }
+{
+    if held {
+        let says = Due::Makes(Kind::SaveWait(count));
+        let gives_up = Due::Makes(Kind::SaveErr(count, Errno::EINTR));
+        wait_for_lock(waits, asked, says, gives_up)
+    } else if on {
+        Due::Makes(Kind::SaveErr(count, Errno::EBUSY))
+    } else {
+        save(now, count)
+    }
+}
+
+/// The number that a save writes: the given one, else the one that was last read, else 0.
+pub fn saved_number(count: Option<u32>, last_read: Option<u32>) -> u32
+    ensures { result ≡ saved_number count last_read }
+{
+    match count {
+        Some(count) => count,
+        None => last_read.unwrap_or(0),
+    }
+}

@@ -1,0 +1,13 @@
+//! What reads of and writes to the files of sleep answer: `wakeup_count`, `state` and `autosleep`
+//! (`kernel/power/main.c`).
+#![tactic(auto)]
+
+mod count;
+mod state;
+#[cfg(test)]
+mod tests;
+mod texts;
+
+pub use count::{read_count, saved_number, visible, write_count};
+pub use state::{write_autosleep, write_state};
+pub use texts::{decode_state, is_autosleep_text, is_mem, is_off};
