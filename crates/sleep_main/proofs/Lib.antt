@@ -1,2 +1,3 @@
 pub mod Completing
+mod Filling
 pub mod Saying

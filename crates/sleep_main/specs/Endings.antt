@@ -12,8 +12,6 @@ use Rattle.sleep_model.specs.Text.{text, source}
 use Rattle.machine_file.specs.Whole.{machine_in}
 use Rattle.sleep_main.specs.declared.ending.Ending.{Ending}
 use Rattle.sleep_main.specs.declared.top.LogText.{LogText}
-use Rattle.sleep_main.specs.declared.top.TextFault.{TextFault}
-use Rattle.sleep_main.specs.declared.top.TextFault.TheVariants as fault
 use Rattle.sleep_main.specs.declared.ending.Ending.TheVariants.{Ran, Stuck, NoForm, TooLong, Refused, ReadFault, WriteFault, SourceFull, NoMemory}
 use Rattle.sleep_run.specs.Runs.{IsRun, IsFull}
 
@@ -109,18 +107,23 @@ pub record FillsSource (bytes name : List ℕ) : Type 0 where
   pub full : IsFull machine number
   pub named : name ≡ source machine number
 
--- the fault names that source of the machine, or memory ran out
-abbrev pub IsFullNamed : Machine → ℕ → TextFault → Type 0
-IsFullNamed m s (fault.SourceFull name) = name ≡ source m s
-IsFullNamed m s fault.Mem = Unit {0}
-IsFullNamed m s fault.Refused = ⊥
+-- the ending names that source of the machine, or memory ran out
+abbrev pub IsFullNamed : Machine → ℕ → Ending → Type 0
+IsFullNamed m s (SourceFull name) = name ≡ source m s
+IsFullNamed m s NoMemory = Unit {0}
+IsFullNamed m s _ = ⊥
 
--- the bytes give the text of a log, or spell no machine, or a machine that fills a source
-abbrev pub GivesLog : List ℕ → Result LogText TextFault → Type 0
+-- how the program ends where the bytes give no text: they spell no machine, or one that fills a source, or memory ran out
+abbrev pub EndsWithout : List ℕ → Ending → Type 0
+EndsWithout bytes Refused = SpellNone bytes
+EndsWithout bytes (SourceFull name) = FillsSource bytes name
+EndsWithout bytes NoMemory = Unit {0}
+EndsWithout bytes _ = ⊥
+
+-- the bytes give the text of a log, or there is none
+abbrev pub GivesLog : List ℕ → Result LogText Ending → Type 0
 GivesLog bytes (Ok said) = IsLogOf bytes said.text.items said.stuck
-GivesLog bytes (Err fault.Refused) = SpellNone bytes
-GivesLog bytes (Err (fault.SourceFull name)) = FillsSource bytes name
-GivesLog bytes (Err fault.Mem) = Unit {0}
+GivesLog bytes (Err ending) = EndsWithout bytes ending
 
 -- the whole input was a machine file, and the text is that of its log
 abbrev pub RanFile : Streams → Streams → List ℕ → Bool → Type 0

@@ -28,8 +28,8 @@ pub enum Ending {
 
 impl Ending {
     /// The program's status.
-    pub fn status(self) -> u8
-        ensures { result ≡ status_of self }
+    pub fn status(&self) -> u8
+        ensures { result ≡ status_of self.now }
     {
         match self {
             Ending::Ran => 0,
@@ -44,8 +44,8 @@ impl Ending {
     }
 
     /// What the program says on standard error, before the name of a source.
-    pub fn head(self) -> &'static str
-        ensures { result.now ≡ head_of self }
+    pub fn head(&self) -> &'static str
+        ensures { result.now ≡ head_of self.now }
     {
         match self {
             Ending::Ran | Ending::Stuck => "",
@@ -70,8 +70,8 @@ impl Ending {
     }
 
     /// What it says behind the name.
-    pub fn tail(self) -> &'static str
-        ensures { result.now ≡ tail_of self }
+    pub fn tail(&self) -> &'static str
+        ensures { result.now ≡ tail_of self.now }
     {
         match self {
             Ending::SourceFull(_) => "\n",

@@ -33,7 +33,7 @@ fn main(rt: HostRuntime) -> ExitCode {
     let status = match words_of(&rt, alloc) {
         Ok(words) => run_words(&rt, alloc, &words, &mut input, &mut out, &mut err),
         Err(_) => {
-            say(&mut err, Ending::NoMemory);
+            say(&mut err, &Ending::NoMemory);
             Ending::NoMemory.status()
         }
     };

@@ -39,17 +39,6 @@ struct LogText {
     stuck: bool,
 }
 
-/// Why there is no text.
-#[derive(Clone, Copy)]
-enum TextFault {
-    /// The bytes spell no machine.
-    Refused,
-    /// The source of that name has no place for a call.
-    SourceFull(Name),
-    /// There was no memory.
-    Mem,
-}
-
 /// Whether the run was stuck.
 fn is_stuck(end: &LogEnd) -> bool
     ensures { result ≡ is_stuck end.now }
@@ -58,24 +47,24 @@ fn is_stuck(end: &LogEnd) -> bool
 }
 
 /// That a source has no place for a call, by its name.
-fn full(machine: &Machine, source: u32) -> TextFault
+fn full(machine: &Machine, source: u32) -> Ending
     ensures { IsFullNamed machine.now source result }
 {
     match Name::of_bytes(source_name(machine, source)) {
-        Some(name) => TextFault::SourceFull(name),
-        None => TextFault::Mem,
+        Some(name) => Ending::SourceFull(name),
+        None => Ending::NoMemory,
     }
 }
 
-/// The text of the log of the machine that the bytes spell. `Refused` where they spell none, `SourceFull`
-/// where a source's history has no place for a call, `Mem` where there is no memory.
-fn log_of_bytes<R: Wait>(rt: &R, alloc: Global, bytes: &[u8]) -> Result<LogText, TextFault>
+/// The text of the log of the machine that the bytes spell, or how the program ends without one: `Refused` where
+/// they spell none, `SourceFull` where a source's history has no place for a call, `NoMemory` where there is no memory.
+fn log_of_bytes<R: Wait>(rt: &R, alloc: Global, bytes: &[u8]) -> Result<LogText, Ending>
     ensures { GivesLog bytes.now result }
 {
     let ReadMachine { machine, links } = match read_machine(alloc, bytes) {
         Ok(read) => read,
-        Err(MachineFault::Rule { .. }) => return Err(TextFault::Refused),
-        Err(MachineFault::Mem) => return Err(TextFault::Mem),
+        Err(MachineFault::Rule { .. }) => return Err(Ending::Refused),
+        Err(MachineFault::Mem) => return Err(Ending::NoMemory),
     };
     match run_machine(rt, alloc, &machine, links) {
         Ok(run) => match write_log(alloc, &machine, &run.log) {
@@ -83,14 +72,15 @@ fn log_of_bytes<R: Wait>(rt: &R, alloc: Global, bytes: &[u8]) -> Result<LogText,
                 let stuck = is_stuck(&run.log.end);
                 Ok(LogText { text, stuck })
             }
-            Err(_) => Err(TextFault::Mem),
+            Err(_) => Err(Ending::NoMemory),
         },
         Err(RunFault::SourceFull(source)) => Err(full(&machine, source)),
-        Err(RunFault::Mem) => Err(TextFault::Mem),
+        Err(RunFault::Mem) => Err(Ending::NoMemory),
     }
 }
 
 /// Reads a machine file, runs the machine, and writes its log.
+#[tactic(auto, using(crate::proofs::Filling::ended_without))]
 fn run_file<R: Wait, S: ByteSource, K: ByteSink>(
     rt: &R,
     alloc: Global,
@@ -110,9 +100,7 @@ fn run_file<R: Wait, S: ByteSource, K: ByteSink>(
     };
     let log = match log_of_bytes(rt, alloc, &bytes) {
         Ok(log) => log,
-        Err(TextFault::Refused) => return Ending::Refused,
-        Err(TextFault::SourceFull(name)) => return Ending::SourceFull(name),
-        Err(TextFault::Mem) => return Ending::NoMemory,
+        Err(ending) => return ending,
     };
     match write_all(out, &log.text) {
         Ok(()) if log.stuck => Ending::Stuck,
@@ -151,18 +139,32 @@ fn write_both<K: ByteSink>(sink: &mut K, one: &[u8], other: &[u8]) -> Result<(),
     write_all(sink, other)
 }
 
-/// Writes what an ending says, piece by piece, without memory.
-#[tactic(auto, using(crate::proofs::Saying::one_failed, crate::proofs::Saying::both_written, crate::proofs::Saying::text_parts))]
-fn write_ending<K: ByteSink>(sink: &mut K, ending: Ending) -> Result<(), Failed>
-    ensures { WriteAll (K.written sink.old) (K.written sink.new) (K.faults sink.old) (K.faults sink.new) (text_of ending) result }
+/// Writes three pieces, one behind the other. `Failed` at the first write that fails: a front of all was written.
+#[tactic(auto, using(crate::proofs::Saying::one_failed, crate::proofs::Saying::both_written))]
+fn write_three<K: ByteSink>(
+    sink: &mut K,
+    one: &[u8],
+    other: &[u8],
+    third: &[u8],
+) -> Result<(), Failed>
+    ensures { WriteAll (K.written sink.old) (K.written sink.new) (K.faults sink.old) (K.faults sink.new) ((one.now ++ other.now) ++ third.now) result }
 {
-    write_both(sink, ending.head().as_bytes(), ending.name())?;
-    write_all(sink, ending.tail().as_bytes())
+    write_both(sink, one, other)?;
+    write_all(sink, third)
+}
+
+/// Writes what an ending says, piece by piece, without memory.
+fn write_ending<K: ByteSink>(sink: &mut K, ending: &Ending) -> Result<(), Failed>
+    ensures { WriteAll (K.written sink.old) (K.written sink.new) (K.faults sink.old) (K.faults sink.new) (text_of ending.now) result }
+{
+    let head = ending.head().as_bytes();
+    let tail = ending.tail().as_bytes();
+    write_three(sink, head, ending.name(), tail)
 }
 
 /// Says on a stream how the program ends, as far as the stream takes it.
-pub fn say<K: ByteSink>(err: &mut K, ending: Ending)
-    ensures { Says (K.written err.old) (K.written err.new) (K.faults err.old) (K.faults err.new) (text_of ending) }
+pub fn say<K: ByteSink>(err: &mut K, ending: &Ending)
+    ensures { Says (K.written err.old) (K.written err.new) (K.faults err.old) (K.faults err.new) (text_of ending.now) }
 {
     let _ = write_ending(err, ending);
 }
@@ -201,6 +203,6 @@ pub fn run_words<R: Wait, S: ByteSource, K: ByteSink>(
         result }
 {
     let ending = do_words(rt, alloc, words, input, out);
-    say(err, ending);
+    say(err, &ending);
     ending.status()
 }

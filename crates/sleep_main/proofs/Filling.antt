@@ -1,0 +1,32 @@
+-- What an ending without a log means.
+use Rattle.std.proofs.Common.{◌≡◌, ℕ, List, Some}
+use Rattle.sleep_model.specs.declared.machine.Machine.{Machine}
+use Rattle.machine_file.specs.Whole.{machine_in}
+use Rattle.sleep_run.specs.Runs.{IsFull}
+use Rattle.sleep_main.specs.declared.ending.Ending.{Ending}
+use Rattle.sleep_main.specs.declared.ending.Ending.TheVariants.{Ran, Stuck, NoForm, TooLong, Refused, ReadFault, WriteFault, SourceFull, NoMemory}
+use Rattle.sleep_main.specs.Endings.{Streams, ReadWhole, KeepsOut, IsFullNamed, EndsWithout, FileEnded}
+
+-- a source that is full is named
+pub fills : (bytes : List ℕ) (m : Machine) (s : ℕ) (ending : Ending) → machine_in bytes ≡ Some m → IsFull m s → IsFullNamed m s ending → EndsWithout bytes ending
+fills bytes m s (SourceFull name) spells full named = record { machine = m; number = s; spells = spells; full = full; named = named }
+fills bytes m s NoMemory spells full named = tt
+fills bytes m s Ran spells full named = named
+fills bytes m s Stuck spells full named = named
+fills bytes m s NoForm spells full named = named
+fills bytes m s TooLong spells full named = named
+fills bytes m s Refused spells full named = absurd named
+fills bytes m s ReadFault spells full named = named
+fills bytes m s WriteFault spells full named = named
+
+-- a whole input that gives no text ends the program so
+pub ended_without : (old new : Streams) (bytes : List ℕ) (ending : Ending) → ReadWhole old new bytes → KeepsOut old new → EndsWithout bytes ending → FileEnded old new ending
+ended_without old new bytes Refused read out h = ((bytes, read, h), out)
+ended_without old new bytes (SourceFull name) read out h = ((bytes, read, h), out)
+ended_without old new bytes NoMemory read out h = out
+ended_without old new bytes Ran read out h = absurd h
+ended_without old new bytes Stuck read out h = absurd h
+ended_without old new bytes NoForm read out h = h
+ended_without old new bytes TooLong read out h = absurd h
+ended_without old new bytes ReadFault read out h = absurd h
+ended_without old new bytes WriteFault read out h = absurd h
