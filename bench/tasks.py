@@ -1,0 +1,59 @@
+#!/usr/bin/env python3
+"""Counts and ratios of whole runs in which tasks sleep and wakeup sources report.
+
+usage: tasks.py [PROGRAM]
+
+For each machine: the entries of its log, the program's processor time for each entry (the best of some runs), and
+that time over the one of the attempt in the first row, so that "as fast as an attempt's entries" reads 1. Rows:
+
+  attempts      ten devices, 1,600 attempts
+  hard events   one source, 14,999 hard events by one operation
+  timed events  one source, 14,999 events of 5 ms, each with its expiry and a jump
+  in step       256 tasks, 199,936 sleeps that all end at the same moments
+  apart         the same sleeps, of different lengths: a jump of time for nearly each, and each jump is a pass
+                over the tasks
+"""
+
+import sys
+
+from attempts import PROGRAM, timed
+from machine import machine
+
+
+def one_source(step):
+    """A task that makes the step, on one source."""
+    return {"version": 1, "sources": ["lid"], "actors": [{"name": "w", "kind": "irq", **step}]}
+
+
+def sleepers(length):
+    """256 tasks of all kinds, each with 781 sleeps of a length in ms."""
+    kinds = ("user", "kthread", "nofreeze", "irq")
+    actors = [
+        {"name": f"t{i}", "kind": kinds[i % 4], "script": [{"op": "sleep", "ms": length(i), "times": 781}]}
+        for i in range(256)
+    ]
+    return {"version": 1, "actors": actors}
+
+
+def main():
+    program = sys.argv[1] if len(sys.argv) > 1 else PROGRAM
+    hard = {"op": "event", "source": "lid", "hard": True, "times": 14999}
+    timed_event = [{"op": "event", "source": "lid", "ms": 5}, {"op": "sleep", "ms": 10}]
+    rows = [
+        ("attempts", machine(10, 1600)),
+        ("hard events", one_source({"script": [hard]})),
+        ("timed events", one_source({"script": timed_event, "repeat": 14999})),
+        ("in step", sleepers(lambda i: 7)),
+        ("apart", sleepers(lambda i: 1009 + 37 * i)),
+    ]
+    print(f"{'machine':>14} {'entries':>9} {'ns/entry':>9} {'ratio':>6}")
+    first = None
+    for name, built in rows:
+        seconds, entries = timed(program, built)
+        each = seconds / entries * 1e9
+        first = first or each
+        print(f"{name:>14} {entries:>9} {each:>9.0f} {each / first:>6.2f}")
+
+
+if __name__ == "__main__":
+    main()
