@@ -34,6 +34,7 @@ use Rattle.sleep_laws.proofs.Lawful.{laws_of_legal}
 use Rattle.log_grows.proofs.Timely.{newest, newest_timely}
 use Rattle.wakeup_source.specs.SourceStates.{SourceState, bare, latest}
 use Rattle.sleep_run.specs.Waits.{waits_of, all_stats}
+use Rattle.sleep_run.proofs.SourcesKept.{latest_is}
 use Rattle.sleep_run.specs.Runs.{IsSourceOf, AreSources, RunState, AfterTry, is_resting, EndsSo, IsRun}
 
 -- ---- tries
@@ -157,10 +158,6 @@ stats_from past (x ∷ xs) a (suc n) at l h =
 -- the statistics of the sources are those of the log
 pub stats_are : (m : Machine) (past : List Entry) (xs : List SourceState) → AreSources m past xs → all_stats xs (time_of past) ≡ stats_of m past
 stats_are m past xs h = stats_from past xs 0 (length m.sources + 1) (time_of past) h.count (λ s none l. (let there : s ≡ 0 + s = omega arith in subst (λ (t : ℕ). IsSourceOf t past (slice_index_or xs s none)) there (h.each s none l)))
-
-latest_is : (own : List Entry) → latest own ≡ newest own
-latest_is [] = refl
-latest_is (e ∷ own) = refl
 
 -- no source has an entry that is later than now
 pub sources_timely : (m : Machine) (past : List Entry) (xs : List SourceState) → IsLegal m past → AreSources m past xs → (at s : ℕ) (none : SourceState) → at ≡ time_of past → s < length xs → latest (bare (slice_index_or xs s none).past) ≤ at

@@ -44,7 +44,7 @@ use Rattle.sleep_run.specs.Firsts.{first_sources, CallsNext}
 use Rattle.sleep_run.specs.JobsOf.{JobsState, job_at, with_job, first_jobs}
 use Rattle.sleep_run.specs.Runs.{calls_made, IsSourceOf, AreSources, AreJobs, IsRunning, IsFull}
 use Rattle.sleep_run.proofs.JobsKept.{jobs_first, jobs_entry, jobs_jump, jobs_call, jobs_expire}
-use Rattle.sleep_run.proofs.SourcesKept.{sources_first, sources_kept, sources_called, call_told, word_moved, word_further}
+use Rattle.sleep_run.proofs.SourcesKept.{latest_is, sources_first, sources_kept, sources_called, call_told, word_moved, word_further}
 
 -- a word that is told is kept
 pub told_same : (one other : EventNow) → Some one ≡ Some other → one ≡ other
@@ -177,10 +177,6 @@ module _ (m : Machine) (past : List Entry) (core : CoreState) (word : EventNow) 
     pub here : IsSourceOf s past old
     pub timely : latest (bare old.past) ≤ at
     pub room : has_places word (makes c (since (bare old.past))) ≡ true
-
-  latest_is : (own : List Entry) → latest own ≡ newest own
-  latest_is [] = refl
-  latest_is (e ∷ own) = refl
 
   pub can_make : (s : ℕ) (c : SourceCall) (old : SourceState) (at : ℕ) → s ≤ length m.sources → old ≡ slice_index_or sources s old → at ≡ time_of past → CanMake s c old at
   can_make s c old at there is now =

@@ -18,12 +18,18 @@ use Rattle.sleep_model.specs.Word.{position}
 use Rattle.log_grows.specs.Whole.{moves, entry_by, with_steps, with_call, steps_of}
 use Rattle.log_grows.proofs.Calls.{moved, call_history, call_elsewhere}
 use Rattle.log_grows.proofs.Histories.{history_other}
+use Rattle.log_grows.proofs.Timely.{newest}
 use Rattle.wakeup_source.specs.declared.call_by.CallBy.{CallBy}
-use Rattle.wakeup_source.specs.SourceStates.{SourceState, bare, new_source, step_entry, note_entry}
+use Rattle.wakeup_source.specs.SourceStates.{SourceState, bare, latest, new_source, step_entry, note_entry}
 use Rattle.wakeup_source.specs.Told.{source_call, after_steps, word_after}
 use Rattle.sleep_run.specs.Called.{IsMade}
 use Rattle.sleep_run.specs.Firsts.{first_sources}
 use Rattle.sleep_run.specs.Runs.{IsSourceOf, AreSources}
+
+-- the time of the last entry, said twice
+pub latest_is : (own : List Entry) → latest own ≡ newest own
+latest_is [] = refl
+latest_is (e ∷ own) = refl
 
 -- ---- lists
 
