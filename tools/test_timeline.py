@@ -43,6 +43,96 @@ RARE = [
 WAITED = [(12, 13), (19, 20), (25, 26), (39, 40), (45, 46), (52, 53)]
 WALK_WAITED = [(41, 42), (47, 48), (54, 55)]
 
+# A machine whose tasks add and change links, and a log of it: an attempt that the clock ends as it fails to suspend.
+LINKED = {
+    "version": 2,
+    "devices": [{"name": "codec", "async": True}, {"name": "clock", "async": True}, {"name": "fan"}],
+    "links": [{"supplier": "clock", "consumer": "fan", "state": "dormant"}],
+    "actors": [
+        {"name": "udev", "kind": "user", "script": [
+            {"op": "link", "supplier": "clock", "consumer": "codec"},
+            {"op": "link", "supplier": "codec", "consumer": "clock"},
+            {"op": "link_state", "supplier": "clock", "consumer": "codec", "to": "dormant"},
+            {"op": "link_state", "supplier": "clock", "consumer": "codec", "to": "active"},
+            {"op": "link_state", "supplier": "fan", "consumer": "codec", "to": "active"},
+            {"op": "state", "text": "mem"},
+        ]},
+        {"name": "probe", "kind": "nofreeze", "script": [
+            {"op": "link", "supplier": "fan", "consumer": "codec"},
+            {"op": "link_state", "supplier": "clock", "consumer": "codec", "to": "dormant"},
+        ]},
+    ],
+    "answers": [{"what": "device", "name": "clock", "phase": "suspend", "ret": "EIO"}],
+}
+LINKED_LOG = """\
+0 0/0/0 task:udev link clock codec 0
+0 0/0/0 task:udev link codec clock EINVAL
+0 0/0/0 task:udev link_state clock codec dormant 0
+0 0/0/0 task:udev link_state clock codec active 0
+0 0/0/0 task:udev link_state fan codec active ENODEV
+0 0/0/0 task:udev attempt 1 plain
+0 0/0/0 task:probe link fan codec EBUSY
+0 0/0/0 task:udev freeze user
+0 0/0/0 task:probe link_state clock codec dormant EBUSY
+0 0/0/0 task:udev froze user 0
+0 0/0/0 task:probe exit
+0 0/0/0 task:udev freeze kernel
+0 0/0/0 task:udev froze kernel 0
+0 0/0/0 task:udev platform begin 0
+0 0/0/0 task:udev prepare clock 0
+0 0/0/0 task:udev prepare fan 0
+0 0/0/0 task:udev prepare codec 0
+0 0/0/0 task:udev done prepare 0
+0 0/0/0 task:udev schedule suspend codec
+0 0/0/0 task:udev begin suspend fan
+0 0/0/0 task:udev end suspend fan 0
+0 0/0/0 task:udev schedule suspend clock
+0 0/0/0 dev:codec begin suspend codec
+0 0/0/0 dev:codec end suspend codec 0
+0 0/0/0 dev:clock begin suspend clock
+0 0/0/0 dev:clock end suspend clock EIO
+0 0/0/0 task:udev done suspend EIO
+0 0/0/0 task:udev platform recover
+0 0/0/0 task:udev schedule resume codec
+0 0/0/0 task:udev begin resume fan
+0 0/0/0 dev:codec begin resume codec
+0 0/0/0 task:udev end resume fan 0
+0 0/0/0 dev:codec end resume codec 0
+0 0/0/0 task:udev done resume 0
+0 0/0/0 task:udev complete codec
+0 0/0/0 task:udev complete fan
+0 0/0/0 task:udev complete clock
+0 0/0/0 task:udev done complete 0
+0 0/0/0 task:udev platform end
+0 0/0/0 task:udev clear
+0 0/0/0 task:udev thaw all
+0 0/0/0 task:udev over 1 EIO
+0 0/0/0 task:udev exit
+source autosleep 0 0 0 0 0 0 0
+finished
+"""
+# What joins the devices of each link that it adds, changes, or asks for in vain.
+LINKS_JOINED = [
+    ("link", "supplier clock, consumer codec: line 1"),
+    ("refused", "supplier codec, consumer clock, EINVAL: line 2"),
+    ("dormant", "supplier clock, consumer codec: line 3"),
+    ("link", "supplier clock, consumer codec: line 4"),
+    ("refused", "supplier fan, consumer codec, ENODEV: line 5"),
+    ("refused", "supplier fan, consumer codec, EBUSY: line 7"),
+    ("refused", "supplier clock, consumer codec, EBUSY: line 9"),
+]
+LINKS_MARKED = [
+    "link", "link bad", "link_dormant", "link_active", "link_active bad", "link bad", "link_dormant bad",
+]
+NO_LINKS = [
+    "task:udev link clock codec", "task:udev link clock 0", "task:udev link clock codec 1",
+    "task:udev link clock codec active 0", "task:udev link clock codec EPERM", "task:udev link clock Codec 0",
+    "task:udev link  clock codec 0", "task:udev link clock codec 0 ", "task:udev link_state clock codec 0",
+    "task:udev link_state clock codec dormant", "task:udev link_state clock codec suspended 0",
+    "task:udev link_state clock dormant 0", "task:udev links clock codec 0", "irq:k link clock codec 0",
+    "auto link clock codec 0", "dev:codec link_state clock codec active 0", "timer:lid link clock codec 0",
+]
+
 
 class Elements(html.parser.HTMLParser):
     """The elements of a page that stand for entries, live and kept apart in folded parts."""
@@ -103,6 +193,7 @@ def machines_with_logs():
     """Worked, shown and random machines, with their logs."""
     for path in WORKED:
         yield path.stem, json.loads(path.with_suffix(".json").read_text()), path.read_text()
+    yield "links", LINKED, LINKED_LOG
     for path in LATER:
         tree = json.loads(path.read_text())
         yield path.stem, tree, second.Run(tree).run()[0]
@@ -145,6 +236,26 @@ class Pages(unittest.TestCase):
             lines = re.findall(r'"join waits".*?waited for \w+: line (\d+) to line (\d+)<', draw(text, given))
             self.assertEqual(sorted((int(end), int(begin)) for end, begin in lines), sorted(waited))
 
+    def test_links_are_joined(self):
+        for tree in (LINKED, None):
+            drawn = draw(LINKED_LOG, tree)
+            joined = re.findall('"join (link|dormant|refused)" [^>]*><title>(.*?)</title>', drawn)
+            self.assertEqual(joined, LINKS_JOINED)
+            self.assertEqual(re.findall('"mark (link.*?)"', drawn), LINKS_MARKED)
+
+    def test_links_move_devices_and_make_them_wait(self):
+        def lanes_and_waits(text):
+            drawn = draw(text, LINKED)
+            lanes = re.findall(r'"name device" [^>]*>(\w+)<', drawn)
+            return lanes, re.findall(r'"join waits".*?(clock waited for \w+): line', drawn)
+
+        moved, lines = ["clock", "fan", "codec"], LINKED_LOG.split("\n")
+        self.assertEqual(lanes_and_waits(LINKED_LOG), (moved, ["clock waited for codec"]))
+        dormant = LINKED_LOG.replace("codec active 0", "codec dormant 0")
+        self.assertEqual(lanes_and_waits(dormant), (moved, []))
+        later = "\n".join([*lines[5:42], lines[0], *lines[42:]])
+        self.assertEqual(lanes_and_waits(later), (["codec", "clock", "fan"], []))
+
     def test_tables(self):
         path = TOOLS / "worked" / "event_stops_a_device.log"
         drawn = draw(path.read_text())
@@ -183,6 +294,13 @@ class Refusals(unittest.TestCase):
             self.assertEqual(self.refused("\n".join([*lines[:place], wrong, *lines[place:]]) + "\n"), place + 1, wrong)
         self.assertEqual(self.refused("\n".join([*lines, "finished"]) + "\n"), len(lines) + 1)
 
+    def test_a_line_that_is_no_link(self):
+        lines = LINKED_LOG.split("\n")
+        for wrong in NO_LINKS:
+            for place in (3, 8):
+                text = "\n".join([*lines[:place], f"0 0/0/0 {wrong}", *lines[place:]])
+                self.assertEqual(self.refused(text), place + 1, wrong)
+
     def test_entries_that_have_no_beginning(self):
         end = "source autosleep 0 0 0 0 0 0 0\nfinished\n"
         for said in ("over 1 0", "clear", "end suspend d 0", "finish autosleep"):
@@ -191,6 +309,8 @@ class Refusals(unittest.TestCase):
     def test_a_log_of_another_machine(self):
         text = (TOOLS / "worked" / "event_wakes.log").read_text()
         self.assertEqual(self.refused(text, {"version": 1}), 1)
+        self.assertEqual(self.refused(LINKED_LOG.replace("link fan codec", "link fan rotor"), LINKED), 7)
+        self.assertEqual(self.refused(LINKED_LOG.replace("state fan codec", "state rotor codec"), LINKED), 5)
         with self.assertRaises(machine.NoMachine):
             draw(text, [])
 

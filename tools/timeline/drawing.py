@@ -4,7 +4,7 @@ import bisect
 import html
 
 from . import reading
-from .joins import DOWN, lane_of
+from .joins import DOWN, LINKS, lane_of
 from .story import error_of, phase_of, stage_of
 
 WIDTH = 1600  # For so many pixels the widths of columns are chosen.
@@ -22,9 +22,9 @@ LETTERS = {
     "read": "R", "read_wait": "r", "read_interrupted": "R!", "save_ok": "S", "save_wait": "s", "save_error": "S!",
     "state_wait": "w", "state_error": "W!", "state_unsaved": "W!", "autosleep_set": "A", "autosleep_done": "a",
     "autosleep_error": "A!", "sleep": "Z", "sleep_d": "Z", "slept": "z", "pass": "p", "post": ">", "got": "<",
-    "frozen": "F", "exit": "X", "runtime": "P", "awake": "K", "relax": "k", "event": "E", "expire": "T",
-    "start": "[", "finish": "]", "hard": "H", "auto_run": "Q", "auto_read": "R", "auto_saved": "S",
-    "auto_unsaved": "S!", "auto_after": "L", "auto_again": "Q", "auto_off": "O",
+    "frozen": "F", "exit": "X", "runtime": "P", "link": "+", "link_active": "^", "link_dormant": "v", "awake": "K",
+    "relax": "k", "event": "E", "expire": "T", "start": "[", "finish": "]", "hard": "H", "auto_run": "Q",
+    "auto_read": "R", "auto_saved": "S", "auto_unsaved": "S!", "auto_after": "L", "auto_again": "Q", "auto_off": "O",
 }
 SPAN_WORDS = {
     "frozen": "frozen", "alone": "left alone", "active": "active", "making": "the attempt", "told": "told",
@@ -47,6 +47,7 @@ def words_of(entry):
     form = reading.SAYS[sort_of(entry)][entry.kind]
     words = [word for word in form.split(" ") if word[0] != "<"]
     words = words[1:] if words[0] == "autosleep" and len(words) > 1 else words
+    words = ["link", *words[1:]] if words[0] == "link_state" else words
     shown = (entry[field] for field in ("error", "state", "status", "answer") if entry[field] not in (None, "0"))
     return " ".join([*words, *shown])
 
@@ -114,10 +115,10 @@ class Columns:
 class Lanes:
     """The lanes of a section from above to below: where each stands, and how high it is."""
 
-    def __init__(self, lanes, story, top):
+    def __init__(self, lanes, order, story, top):
         self.story, self.places, self.labels = story, {}, []
         by_sort = {sort: [lane for lane in lanes if lane[0] == sort] for sort in SORTS}
-        known = {("device", device): at for at, device in enumerate(story.devices.order)}
+        known = {("device", device): at for at, device in enumerate(order)}
         by_sort["device"].sort(key=known.get)
         by_sort["core"].reverse()
         sources = list(story.log.sources)
@@ -160,7 +161,8 @@ class Picture:
         self.head = 14 + int(longest * LETTER * 0.72)
         self.verdicts, self.verdict_rows = self.find_verdicts()
         top = self.head + TIME_ROW + (STAGE_ROW if self.stages else 0) + STAGE_ROW * self.verdict_rows
-        self.lanes = Lanes(self.find_lanes(), story, top + 3)
+        order = story.devices.order_at(section.attempt.first if section.attempt else section.end)
+        self.lanes = Lanes(self.find_lanes(), order, story, top + 3)
         self.back, self.middle, self.between, self.front = [], [], [], []
 
     def find_lanes(self):
@@ -378,6 +380,8 @@ class Picture:
 
     def draw_joins(self):
         for join in self.joins:
+            if self.story.entries[join.head].kind in LINKS:
+                self.draw_asker(join)
             x1, x2 = self.columns.middle(join.tail), self.columns.middle(join.head)
             y1, y2 = self.lanes.middle(join.source), self.lanes.middle(join.target)
             if join.what in VERDICTS:  # From the edge of one box to the edge of the other.
@@ -392,6 +396,13 @@ class Picture:
             at, target = self.columns.middle(join.head), self.lanes.places[join.target][0]
             self.back.append(self.line("drop", at, y, at, target + 2))
             self.front.append(self.text("verdict", x, y, words))
+
+    def draw_asker(self, join):
+        """A line from the task that asks for a link to the nearer one of its devices."""
+        entry, x = self.story.entries[join.head], self.columns.middle(join.head)
+        y = max(self.lanes.middle(join.source), self.lanes.middle(join.target))
+        title = f"{entry.actor} asks: line {entry.line}"
+        self.between.append(self.line("join calls", x, self.lanes.middle(lane_of(entry)), x, y, title))
 
 
 def pictures(story):

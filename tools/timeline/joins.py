@@ -11,6 +11,7 @@ NOTES = ("awake", "relax", "event", "expire")
 STEPS = ("start", "finish", "hard")
 FOUND = ("cpu_busy", "enter_busy")  # Kinds that always say that a wakeup was found.
 ATTEMPT = ("attempt", "")
+LINKS = {"link": "link", "link_active": "link", "link_dormant": "dormant"}  # What joins the devices of a link.
 
 # What joins the entry `tail` in the lane `source` with the entry `head` in the lane `target`.
 Join = collections.namedtuple("Join", "what tail source head target text")
@@ -40,7 +41,7 @@ def is_walk(entry):
 
 
 class Callers:
-    """From where each call on a source is made, and which call each step of the event word belongs to."""
+    """From where sources and devices are called, and which call each step of the event word belongs to."""
 
     def __init__(self):
         self.callbacks, self.calls, self.joins = {}, {}, []
@@ -55,6 +56,8 @@ class Callers:
             self.callbacks.pop(actor, None)
         elif kind == "runtime":
             self.join(place, ("actor", actor), ("device", entry["device"]), f"{actor} asks")
+        elif kind in LINKS:
+            self.link(place, entry)
         elif kind in NOTES:
             self.calls[actor, entry["source"]] = place
             if kind != "expire":
@@ -66,6 +69,13 @@ class Callers:
                 self.join(place, lane, ("source", entry["source"]), f"{lane[1]} reports")
         elif kind in STEPS:
             self.notes[place] = self.calls.get((actor, entry["source"]), place)
+
+    def link(self, place, entry):
+        """Joins the supplier of a link with its consumer."""
+        supplier, consumer, answer = entry["supplier"], entry["consumer"], entry["answer"]
+        what, told = LINKS[entry.kind], f"supplier {supplier}, consumer {consumer}"
+        what, told = (what, told) if answer == "0" else ("refused", f"{told}, {answer}")
+        self.joins.append(Join(what, place, ("device", supplier), place, ("device", consumer), told))
 
     def join(self, place, source, target, text):
         self.joins.append(Join("calls", place, source, place, target, text))

@@ -16,9 +16,10 @@ ATTEMPT_HEADS = ["attempt", "lines", "made by", "guard", "answer", "failed in", 
                  "asleep", "errors on the way up"]
 SHORT = [
     "r R read waits, is over", "s S save", "w W state", "A a autosleep is set, the call is over", "Z sleeps", "z slept",
-    "p freeze point passed", "&gt; post", "&lt; got", "P runtime status", "F frozen", "X exit", "K awake", "k relax",
-    "E event", "[ start", "H hard", "] finish", "T expired", "Q the autosleep work runs, or is queued again",
-    "L it looks at the count again", "O it is off", "! an error",
+    "p freeze point passed", "&gt; post", "&lt; got", "P runtime status", "F frozen", "X exit",
+    "+ a link is added", "^ v it becomes active, dormant", "K awake", "k relax", "E event", "[ start", "H hard",
+    "] finish", "T expired", "Q the autosleep work runs, or is queued again", "L it looks at the count again",
+    "O it is off", "! an error",
 ]
 SHOWN = 3  # So many errors of the way up stand in the table.
 ZOOMS = (1, 2, 4, 8, 16, 32, 64)
@@ -150,8 +151,9 @@ def legend():
     ]
     lines = [
         ("join found", "the event that a test found"), ("join waits", "to the device that was waited for"),
-        ("join calls", "a call on a source or for a status"), ("join left", "the task that did not freeze"),
-        ("jump", "time jumps"),
+        ("join calls", "a call on a source, for a status or on a link"), ("join left", "the task that did not freeze"),
+        ("join link", "from supplier to consumer: a link is added, or active again"),
+        ("join dormant", "it becomes dormant"), ("join refused", "it is refused"), ("jump", "time jumps"),
     ]
     drawn = [Picture.rect(kind, 0, 2, 100, 10) for kind, _ in items]
     drawn += [Picture.line(kind, 0, 7, 100, 7) for kind, _ in lines]

@@ -26,7 +26,7 @@ FIELDS = {
     "seen": f"busy|{NUMBER}",
 }
 FIELDS |= dict.fromkeys(["count", "until", "ms", "number", "cpu", "left"], NUMBER)
-FIELDS |= dict.fromkeys(["device", "source", "notifier", "core", "mark", "task"], NAME)
+FIELDS |= dict.fromkeys(["device", "supplier", "consumer", "source", "notifier", "core", "mark", "task"], NAME)
 
 CALLS = {
     "awake": "awake <source>",
@@ -54,6 +54,9 @@ TASK_STEPS = LINE_STEPS | {
     "sleep_d": "sleep_d <until>",
     "pass": "pass",
     "runtime": "runtime <device> <status> <answer>",
+    "link": "link <supplier> <consumer> <answer>",
+    "link_active": "link_state <supplier> <consumer> active <answer>",
+    "link_dormant": "link_state <supplier> <consumer> dormant <answer>",
 }
 CALLBACKS = {
     "begin": "begin <phase> <device>",

@@ -186,7 +186,7 @@ class Story:
             self.attempt = Attempt(place, entry)
         elif entry.kind in ATTEMPT_STEPS and self.attempt is None:
             raise Refused(entry.line, f"no attempt is open: {entry.text}")
-        for part in (self.spans, self.callers, self.walks, self.tests):
+        for part in (self.spans, self.callers, self.walks, self.tests, self.devices):
             part.see(place, entry)
         if entry["task"] is not None:
             lane = ("actor", f"task:{entry['task']}")
