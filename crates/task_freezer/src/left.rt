@@ -1,12 +1,11 @@
 //! The tasks that a freeze waits for, and how many they are (`kernel/power/process.c`).
 
 ghost use Rattle.std.specs.Prelude.{◌≡◌, ◌≤◌, ◌<◌, ◌+◌, ◌-◌, ◌^◌, length};
-ghost use Rattle.sleep_model.specs.Freezer.{keeps_waiting, left_from};
-ghost use Rattle.sleep_state.specs.TaskStates.{IsLeft, first_or};
-ghost use Rattle.sleep_state.specs.Waits.{as_count, count_in, left_counts, wait_groups, waits_in, waits_of, IsOfOne, AreMoved};
+ghost use Rattle.task_freezer.specs.Freezers.{waits_for, left_by, IsLeft, first_or};
+ghost use Rattle.task_freezer.specs.Waits.{as_count, count_in, left_counts, wait_groups, waits_in, waits_of, IsOfOne, AreMoved};
 
-use crate::tasks::is_in;
-use sleep_model::{Actor, Freezing, Group, Kind, Script, Seat, TaskKind};
+use crate::asking::is_in;
+use sleep_model::{Actor, Freezing, Group, Kind, Script, TaskKind};
 
 /// The tasks that a freeze still waits for: how many they are, and the first in the order of the file.
 #[derive(Clone, Copy)]
@@ -16,10 +15,10 @@ pub struct Left {
 }
 
 /// Whether a task keeps the freeze of its group waiting (`try_to_freeze_tasks`).
-fn keeps_waiting(group: Group, kind: TaskKind, freezing: Freezing, seat: Seat) -> bool
-    ensures { result ≡ keeps_waiting group kind freezing seat }
+fn waits_for(group: Group, kind: TaskKind, freezing: Freezing, gone: bool) -> bool
+    ensures { result ≡ waits_for group kind freezing gone }
 {
-    is_in(group, kind) && freezing.asked && !freezing.frozen && !seat.exited
+    is_in(group, kind) && freezing.asked && !freezing.frozen && !gone
 }
 
 impl Left {
@@ -44,20 +43,20 @@ impl Left {
 pub(crate) fn left_among(
     scripts: &[Script],
     freezings: &[Freezing],
-    seats: &[Seat],
+    gone: &[bool],
     group: Group,
 ) -> Left
-    requires seats { length seats.now ≡ length scripts.now }
+    requires gone { length gone.now ≡ length scripts.now }
     requires freezings { length freezings.now ≡ length scripts.now }
     requires few { length scripts.now < 2 ^ 32 }
-    ensures { IsLeft result (left_from group 0 scripts.now freezings.now seats.now) }
+    ensures { IsLeft result (left_by group 0 scripts.now freezings.now gone.now) }
 {
     let mut left = Left {
         count: 0,
         first: None,
     };
     for (i, script) in scripts.iter().enumerate() {
-        if keeps_waiting(group, script.kind, freezings[i], seats[i]) {
+        if waits_for(group, script.kind, freezings[i], gone[i]) {
             left = left.and(i as u32);
         }
     }
@@ -94,19 +93,19 @@ pub(crate) struct WaitGroups {
 fn waits_in(
     scripts: &[Script],
     freezings: &[Freezing],
-    seats: &[Seat],
+    gone: &[bool],
     group: Group,
     who: Actor,
 ) -> bool
-    requires seats { length seats.now ≡ length scripts.now }
+    requires gone { length gone.now ≡ length scripts.now }
     requires freezings { length freezings.now ≡ length scripts.now }
-    ensures { result ≡ waits_of group who scripts.now freezings.now seats.now }
+    ensures { result ≡ waits_of group who scripts.now freezings.now gone.now }
 {
     let Actor::Script(i) = who else {
         return false;
     };
     match scripts.get(i as usize) {
-        Some(script) => keeps_waiting(group, script.kind, freezings[i as usize], seats[i as usize]),
+        Some(script) => waits_for(group, script.kind, freezings[i as usize], gone[i as usize]),
         None => false,
     }
 }
@@ -115,16 +114,16 @@ fn waits_in(
 pub(crate) fn waits_among(
     scripts: &[Script],
     freezings: &[Freezing],
-    seats: &[Seat],
+    gone: &[bool],
     who: Actor,
 ) -> WaitGroups
-    requires seats { length seats.now ≡ length scripts.now }
+    requires gone { length gone.now ≡ length scripts.now }
     requires freezings { length freezings.now ≡ length scripts.now }
-    ensures { result ≡ wait_groups who scripts.now freezings.now seats.now }
+    ensures { result ≡ wait_groups who scripts.now freezings.now gone.now }
 {
     WaitGroups {
-        user: waits_in(scripts, freezings, seats, Group::User, who),
-        kernel: waits_in(scripts, freezings, seats, Group::Kernel, who),
+        user: waits_in(scripts, freezings, gone, Group::User, who),
+        kernel: waits_in(scripts, freezings, gone, Group::Kernel, who),
     }
 }
 
@@ -142,27 +141,27 @@ fn moved(count: u32, waited: bool, waits: bool) -> u32
 pub(crate) fn counts_after(
     scripts: &[Script],
     freezings: &[Freezing],
-    seats: &[Seat],
+    gone: &[bool],
     who: Actor,
     kind: Kind,
     before: LeftCounts,
     waited: WaitGroups,
 ) -> LeftCounts
-    requires seats { length seats.now ≡ length scripts.now }
+    requires gone { length gone.now ≡ length scripts.now }
     requires freezings { length freezings.now ≡ length scripts.now }
     requires few { length scripts.now < 2 ^ 31 }
     requires user_few { before.user ≤ length scripts.now }
     requires kernel_few { before.kernel ≤ length scripts.now }
-    requires moved { IsOfOne kind → AreMoved who scripts.now freezings.now seats.now before waited }
-    ensures { result ≡ left_counts scripts.now freezings.now seats.now }
+    requires moved { IsOfOne kind → AreMoved who scripts.now freezings.now gone.now before waited }
+    ensures { result ≡ left_counts scripts.now freezings.now gone.now }
 {
     match kind {
         Kind::Freeze(_) | Kind::Thaw(_) => LeftCounts {
-            user: left_among(scripts, freezings, seats, Group::User).count,
-            kernel: left_among(scripts, freezings, seats, Group::Kernel).count,
+            user: left_among(scripts, freezings, gone, Group::User).count,
+            kernel: left_among(scripts, freezings, gone, Group::Kernel).count,
         },
         _ => {
-            let waits = waits_among(scripts, freezings, seats, who);
+            let waits = waits_among(scripts, freezings, gone, who);
             LeftCounts {
                 user: moved(before.user, waited.user, waits.user),
                 kernel: moved(before.kernel, waited.kernel, waits.kernel),

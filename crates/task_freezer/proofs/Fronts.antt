@@ -6,7 +6,7 @@ use Rattle.sleep_model.specs.declared.entry.Thaw.{Thaw}
 use Rattle.sleep_model.specs.declared.machine.Script.{Script}
 use Rattle.sleep_model.specs.declared.place.Freezing.{Freezing}
 use Rattle.sleep_model.specs.Freezer.{asked_by, all_asked, let_go, all_let_go}
-use Rattle.sleep_state.specs.Fronts.{asked_front, front_let_go}
+use Rattle.task_freezer.specs.Fronts.{asked_front, front_let_go}
 
 asked_next : (k : ℕ) (g : Group) (who : Actor) (i j : ℕ) (ss : List Script) (fs : List Freezing) (d : Script) (e : Freezing) → j ≡ i + k → length fs ≡ length ss → k < length ss → slice_set (asked_front k g who i ss fs) k (asked_by g who j (slice_index_or ss k d).kind (slice_index_or (asked_front k g who i ss fs) k e)) ≡ asked_front (suc k) g who i ss fs
 asked_next k g who i j [] fs d e at all within = absurd (omega arith)
