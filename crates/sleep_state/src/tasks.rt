@@ -1,4 +1,4 @@
-ghost use Rattle.std.specs.Prelude.{◌≡◌, ◌<◌, ◌≤◌, ◌+◌, ◌-◌, ◌^◌, length};
+ghost use Rattle.std.specs.Prelude.{◌≡◌, ◌<◌, ◌^◌};
 ghost use Rattle.sleep_model.specs.Marks.{marks_after};
 ghost use Rattle.sleep_model.specs.Seats.{first_seat, seat_part, next_step, seat_after, seats_after};
 ghost use Rattle.sleep_state.specs.TaskStates.{SeatIsSmall, MarksAreSmall};

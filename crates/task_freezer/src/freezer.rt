@@ -1,6 +1,3 @@
-ghost use Rattle.std.specs.Prelude.{◌≡◌, ◌<◌, ◌≤◌, ◌^◌, length};
-ghost use Rattle.sleep_model.specs.Freezer.{unasked, freezings_after};
-
 use crate::asking::{move_freezings, move_gone, unasked};
 use crate::left::{Left, LeftCounts, counts_after, left_among, waits_among};
 use sleep_base::Mem;
