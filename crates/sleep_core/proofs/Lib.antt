@@ -1,6 +1,6 @@
 pub mod Calling
 mod Counted
-mod Frozen
+mod Freezing
 mod Propers
 mod Reporting
 mod Seated

@@ -7,6 +7,7 @@ use Rattle.sleep_model.specs.declared.entry.Actor.{Actor}
 use Rattle.sleep_model.specs.declared.entry.Kind.{Kind}
 use Rattle.sleep_model.specs.declared.entry.Kind.TheVariants as kind
 use Rattle.sleep_model.specs.declared.machine.Machine.{Machine}
+use Rattle.sleep_model.specs.declared.place.Seat.{Seat}
 use Rattle.sleep_model.specs.declared.word.Stamp.{Stamp}
 use Rattle.sleep_model.specs.Attempt.{failed, freeze_since, sleep_of}
 use Rattle.sleep_model.specs.Autosleep.{work, is_queued, runs, runs_after}
@@ -31,6 +32,7 @@ use Rattle.sleep_state.specs.Paths.{PathState}
 use Rattle.sleep_state.specs.Places.{entries}
 use Rattle.sleep_state.specs.TaskStates.{TaskState, SeatIsSmall, MarksAreSmall}
 use Rattle.syscore_ops.specs.Parts.{Parts}
+use Rattle.task_freezer.specs.Freezers.{FreezerState}
 use Rattle.wakeup_guard.specs.Guarded.{Guarded}
 
 -- ---- what is read from the entries, the newest first
@@ -75,11 +77,18 @@ board_of m past = record {
 
 -- where each script stands
 abbrev pub tasks_of : Machine → List Entry → TaskState
-tasks_of m past = record {
+tasks_of m past = record { seats = seats (length m.actors) past; marks = raised (length m.marks) past }
+
+-- which of the scripts that stand so have exited
+abbrev pub exits : List Seat → List Bool
+exits seats = map (λ s. s.exited) seats
+
+-- what the freezer has come to with each script
+abbrev pub freezer_of : Machine → List Entry → FreezerState
+freezer_of m past = record {
   scripts = m.actors;
-  seats = seats (length m.actors) past;
   freezings = freezings m.actors past;
-  marks = raised (length m.marks) past;
+  gone = exits (seats (length m.actors) past);
 }
 
 -- the autosleep lock, its setting, and the work

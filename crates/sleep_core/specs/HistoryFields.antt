@@ -4,7 +4,7 @@ use Rattle.sleep_model.specs.Numbers.{time_of}
 use Rattle.attempt_room.specs.Room.{enough}
 use Rattle.sleep_state.specs.Places.{entries}
 use Rattle.sleep_core.specs.declared.history.History.TheInside.{Inside}
-use Rattle.sleep_core.specs.Histories.{Kept, last_stamp, guard_of, path_of, devices_of, board_of, tasks_of, autosleep_of, steps_of, parts_of}
+use Rattle.sleep_core.specs.Histories.{Kept, last_stamp, guard_of, path_of, devices_of, board_of, tasks_of, freezer_of, autosleep_of, steps_of, parts_of}
 
 -- the history as contracts see it
 abbrev pub kept : Inside → Kept
@@ -21,6 +21,7 @@ pub record IsHistory (h : Inside) : Type 0 where
   pub devices_is : h.devices ≡ devices_of h.machine.now (entries h.journal.past)
   pub board_is : h.board ≡ board_of h.machine.now (entries h.journal.past)
   pub tasks_is : h.tasks ≡ tasks_of h.machine.now (entries h.journal.past)
+  pub freezer_is : h.freezer ≡ freezer_of h.machine.now (entries h.journal.past)
   pub autosleep_is : h.autosleep ≡ autosleep_of (entries h.journal.past)
   pub platform_is : h.platform ≡ steps_of h.machine.now (entries h.journal.past)
   pub syscore_is : h.syscore ≡ parts_of h.machine.now (entries h.journal.past)

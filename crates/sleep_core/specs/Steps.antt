@@ -1,5 +1,5 @@
 -- Words for what a task makes.
-use Rattle.std.specs.Prelude.{◌≡◌, ◌+◌, ℕ, Bool, List, [], ◌∷◌, length, if◌then◌else◌, slice_get, Option, Some, None}
+use Rattle.std.specs.Prelude.{◌≡◌, ◌+◌, ℕ, List, [], ◌∷◌, length, slice_get, Option, Some, None}
 use Rattle.sleep_model.specs.declared.entry.Entry.{Entry}
 use Rattle.sleep_model.specs.declared.entry.FrozeEnd.{FrozeEnd}
 use Rattle.sleep_model.specs.declared.entry.FrozeEnd.TheVariants as froze
@@ -19,11 +19,10 @@ use Rattle.sleep_model.specs.Path.{attempts}
 abbrev pub next_attempt : List Entry → Kind
 next_attempt past = kind.Attempt (attempts past + 1) (in_force past)
 
--- how a freeze ends that waits for these tasks, as its time is over, or else as a wakeup is pending (try_to_freeze_tasks)
-abbrev pub froze_end : Bool → List ℕ → FrozeEnd
-froze_end late [] = froze.AllFrozen
-froze_end late (x ∷ rest) =
-    if late then froze.Timeout (length (x ∷ rest)) x else froze.Wakeup (length (x ∷ rest)) x
+-- how a freeze ends that waits for these tasks, where a wakeup breaks it off (try_to_freeze_tasks)
+abbrev pub woken_end : List ℕ → FrozeEnd
+woken_end [] = froze.AllFrozen
+woken_end (x ∷ rest) = froze.Wakeup (length (x ∷ rest)) x
 
 -- the kind of that script
 abbrev pub IsKindOf : Option Script → TaskKind → Type 0

@@ -11,12 +11,13 @@ ghost use Rattle.sleep_model.specs.Notifiers.{next_called, next_posted, next_cpu
 ghost use Rattle.sleep_model.specs.Table.{stage_of, behind};
 ghost use Rattle.sleep_state.specs.Places.{entries};
 ghost use Rattle.sleep_core.specs.Stages.{IsProper};
-ghost use Rattle.sleep_core.specs.Steps.{froze_end};
+ghost use Rattle.sleep_core.specs.Steps.{woken_end};
 
 use crate::state::Core;
 use sleep_base::Errno;
 use sleep_model::{Due, EventNow, FrozeEnd, Group, Kind, PlatDo, Sleep, Stage, What, Why, pos};
 use sleep_state::behind;
+use task_freezer::Round;
 
 /// EBUSY where a wakeup is pending.
 fn busy_error(busy: bool) -> Option<Errno>
@@ -37,16 +38,17 @@ impl<'m> Core<'m> {
         }
     }
 
-    /// How a freeze of a group ends that does not wait any longer: with all frozen, else too late or not.
-    fn froze_end(&self, group: Group, late: bool) -> FrozeEnd
-        ensures { result ≡ froze_end late (left self.now.machine group (entries self.now.past)) }
+    /// How a freeze of a group ends that a wakeup breaks off.
+    fn woken_end(&self, group: Group) -> FrozeEnd
+        ensures { result ≡ woken_end (left self.now.machine group (entries self.now.past)) }
     {
         let left = self.left(group);
-        let count = left.count;
         match left.first {
             None => FrozeEnd::AllFrozen,
-            Some(first) if late => FrozeEnd::Timeout { left: count, first },
-            Some(first) => FrozeEnd::Wakeup { left: count, first },
+            Some(first) => FrozeEnd::Wakeup {
+                left: left.count,
+                first,
+            },
         }
     }
 
@@ -56,13 +58,18 @@ impl<'m> Core<'m> {
         requires { since ≤ 2 ^ 63 }
         ensures { result ≡ froze_due (entries self.now.past) now group since (left self.now.machine group (entries self.now.past)) }
     {
-        let left = self.left_count(group);
-        let until = since + 20000;
-        let late = until <= self.now();
-        if left > 0 && !late && !self.pending(now) {
-            Due::Waits(Why::Tasks { left, until })
-        } else {
-            Due::Makes(Kind::Froze(group, self.froze_end(group, late)))
+        match self.round(group, since) {
+            Round::AllFrozen => Due::Makes(Kind::Froze(group, FrozeEnd::AllFrozen)),
+            Round::Late { left, first } => {
+                Due::Makes(Kind::Froze(group, FrozeEnd::Timeout { left, first }))
+            }
+            Round::Again { left, until } => {
+                if self.pending(now) {
+                    Due::Makes(Kind::Froze(group, self.woken_end(group)))
+                } else {
+                    Due::Waits(Why::Tasks { left, until })
+                }
+            }
         }
     }
 

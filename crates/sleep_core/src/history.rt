@@ -13,6 +13,7 @@ use sleep_state::{Devices, Journal, Path, Tasks};
 use std::alloc::{AllocError, Global};
 use std::marker::Model;
 use syscore_ops::Syscore;
+use task_freezer::Freezer;
 use wakeup_guard::Guard;
 
 /// The journal of a machine, and what the definitions read from it, kept up to date entry by entry.
@@ -26,7 +27,8 @@ pub struct History<'m> {
     path: Path,
     devices: Devices,
     board: Board,
-    tasks: Tasks<'m>,
+    tasks: Tasks,
+    freezer: Freezer<'m>,
     autosleep: Autosleep,
     platform: Platform,
     syscore: Syscore,
@@ -71,7 +73,7 @@ impl<'m> History<'m> {
     ghost use Rattle.sleep_model.specs.Accepted.{IsAccepted};
     ghost use Rattle.sleep_model.specs.Order.{parents_of};
     ghost use Rattle.sleep_state.specs.Places.{entries};
-    ghost use Rattle.sleep_core.specs.Histories.{Admits, after_entry, places_for, HasRoom, last_stamp, guard_of, path_of, devices_of, board_of, tasks_of, autosleep_of, steps_of, parts_of};
+    ghost use Rattle.sleep_core.specs.Histories.{Admits, after_entry, places_for, HasRoom, last_stamp, guard_of, path_of, devices_of, board_of, tasks_of, freezer_of, autosleep_of, steps_of, parts_of};
 
     /// The empty journal of a machine, whose links these are. `Mem` where there is no memory.
     pub fn new(alloc: Global, machine: &'m Machine, links: Links) -> Result<Self, Mem>
@@ -90,7 +92,8 @@ impl<'m> History<'m> {
             path: Path::new(),
             devices: Devices::new(alloc, devices)?,
             board,
-            tasks: Tasks::new(alloc, machine.actors.as_slice(), machine.marks.len())?,
+            tasks: Tasks::new(alloc, machine.actors.len(), machine.marks.len())?,
+            freezer: Freezer::new(alloc, machine.actors.as_slice())?,
             autosleep: Autosleep::new(),
             platform: Platform::new(alloc, machine)?,
             syscore: Syscore::new(alloc, machine.syscore.len() as u32)?,
@@ -115,6 +118,7 @@ impl<'m> History<'m> {
         self.devices.note(kind, actor);
         self.board.note(kind);
         self.tasks.note(actor, kind);
+        self.freezer.note(actor, kind);
         self.autosleep.note(kind, actor);
         self.platform.note(kind);
         self.syscore.note(kind);
@@ -225,10 +229,17 @@ impl<'m> History<'m> {
     }
 
     /// Where each script stands.
-    pub fn tasks(&self) -> &Tasks<'m>
+    pub fn tasks(&self) -> &Tasks
         ensures { result.now ≡ tasks_of self.now.machine (entries self.now.past) }
     {
         &self.tasks
+    }
+
+    /// What the freezer has come to with each script.
+    pub fn freezer(&self) -> &Freezer<'m>
+        ensures { result.now ≡ freezer_of self.now.machine (entries self.now.past) }
+    {
+        &self.freezer
     }
 
     /// The autosleep lock, its setting, and the work.

@@ -58,11 +58,11 @@ impl<'m> Core<'m> {
         requires { script < length self.now.machine.actors }
         ensures { result ≡ sleep_end self.now.machine (entries self.now.past) script }
     {
-        let tasks = self.history.tasks();
-        if tasks.freezing(script).frozen || (self.is_asleep() && !is_line(self.kind_of(script))) {
+        let freezing = self.history.freezer().freezing(script);
+        if freezing.frozen || (self.is_asleep() && !is_line(self.kind_of(script))) {
             None
         } else {
-            tasks.seat(script).until
+            self.history.tasks().seat(script).until
         }
     }
 

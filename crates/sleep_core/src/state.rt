@@ -7,8 +7,8 @@ use device_rows::Flags;
 use script_plan::Plan;
 use sleep_base::Errno;
 use sleep_model::{Actor, Callback, EventNow, Group, Machine, Sleep, Stage, TaskKind, What};
-use sleep_state::Left;
 use std::marker::Model;
+use task_freezer::{Left, Round};
 
 /// The core of system sleep for one machine: what each actor may do next, and the journal of what it did
 /// (`kernel/power/suspend.c`, `drivers/base/power/main.c`).
@@ -47,7 +47,7 @@ impl<'m> Core<'m> {
     ghost use Rattle.sleep_core.specs.Steps.{IsKindOf};
     ghost use Rattle.sleep_model.specs.Notifiers.{next_called, next_stopped};
     ghost use Rattle.sleep_model.specs.Table.{stage_of};
-    ghost use Rattle.sleep_state.specs.TaskStates.{IsLeft};
+    ghost use Rattle.task_freezer.specs.Freezers.{IsLeft, round_of};
     ghost use Rattle.sleep_core.specs.Stages.{IsProper};
     ghost use Rattle.async_board.specs.AtPlaces.{board_at};
     ghost use Rattle.sleep_model.specs.Numbers.{time_of};
@@ -157,18 +157,21 @@ impl<'m> Core<'m> {
         self.history.path().stage()
     }
 
-    /// How many tasks a freeze of the group still waits for.
-    pub(crate) fn left_count(&self, group: Group) -> u32
-        ensures { result ≡ length (left self.now.machine group (entries self.now.past)) }
+    /// How a freeze of the group stands that goes on since then.
+    #[tactic(auto, using(crate::proofs::Freezing::left_is))]
+    pub(crate) fn round(&self, group: Group, since: u64) -> Round
+        requires { since ≤ 2 ^ 63 }
+        ensures { result ≡ round_of since (time_of (entries self.now.past)) (left self.now.machine group (entries self.now.past)) }
     {
-        self.history.tasks().left_count(group)
+        self.history.freezer().round(group, since, self.now())
     }
 
     /// The tasks that a freeze of the group still waits for.
+    #[tactic(auto, using(crate::proofs::Freezing::left_is))]
     pub(crate) fn left(&self, group: Group) -> Left
         ensures { IsLeft result (left self.now.machine group (entries self.now.past)) }
     {
-        self.history.tasks().left(group)
+        self.history.freezer().left(group)
     }
 
     /// How long a sleep lasts that no event ends, in ms.

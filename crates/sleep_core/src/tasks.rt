@@ -105,12 +105,12 @@ impl<'m> Core<'m> {
         requires { script < length self.now.machine.actors }
         ensures { result ≡ script_due self.now.machine (entries self.now.past) now script }
     {
-        let tasks = self.history.tasks();
-        let seat = tasks.seat(script);
+        let seat = self.history.tasks().seat(script);
         if seat.exited {
             return Due::Gone;
         }
+        let freezing = self.history.freezer().freezing(script);
         let op = self.plans[script as usize].operation(seat.done);
-        self.task_due(now, tasks.freezing(script), self.kind_of(script), seat, op)
+        self.task_due(now, freezing, self.kind_of(script), seat, op)
     }
 }

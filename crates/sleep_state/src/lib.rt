@@ -3,7 +3,6 @@
 
 mod devices;
 mod journal;
-mod left;
 mod path;
 mod tasks;
 #[cfg(test)]
@@ -11,6 +10,5 @@ mod tests;
 
 pub use devices::Devices;
 pub use journal::Journal;
-pub use left::Left;
 pub use path::{Path, behind};
 pub use tasks::Tasks;

@@ -1,8 +1,8 @@
 use super::*;
 use sleep_base::Errno;
 use sleep_model::{
-    Actor, Device, DeviceFlags, Entry, EventNow, Freezing, FrozeEnd, Group, JournalEntry, Kind,
-    ListOf, Name, Phase, PlatDo, PlatUndo, Script, SkipCause, Stage, Stamp, TaskKind, Thaw,
+    Actor, Device, DeviceFlags, Entry, EventNow, FrozeEnd, Group, JournalEntry, Kind, Name, Phase,
+    PlatDo, PlatUndo, SkipCause, Stage, Stamp, Thaw,
 };
 use std::alloc::Global;
 use std::test::Fail;
@@ -163,54 +163,6 @@ fn a_freeze_has_its_time(rt: HostRuntime) -> Result<(), Fail> {
     Ok(())
 }
 
-/// A script of that kind, which has no steps.
-fn script(alloc: Global, kind: TaskKind) -> Result<Script, Fail> {
-    Ok(Script {
-        name: Name::of_bytes(b"w").ok_or("a name")?,
-        kind,
-        repeat: 1,
-        steps: ListOf::of_vec(Vec::new(alloc)),
-    })
-}
-
-/// A freeze asks the tasks of its group but its maker, waits for each of them, and a thaw lets
-/// them go; a task freezes alone.
-#[test]
-#[tactic(auto, using(crate::proofs::Counting::asked_len))]
-fn a_freeze_asks_its_group(rt: HostRuntime) -> Result<(), Fail> {
-    let alloc = rt.alloc();
-    let unasked = Freezing {
-        asked: false,
-        frozen: false,
-    };
-    let mut scripts = Vec::new(alloc);
-    for kind in [
-        TaskKind::User,
-        TaskKind::User,
-        TaskKind::Kthread,
-        TaskKind::NoFreeze,
-        TaskKind::User,
-    ] {
-        scripts.push(script(alloc, kind)?)?;
-    }
-    assert!(rt; scripts.len() == 5);
-    let mut tasks = Tasks::new(alloc, scripts.as_slice(), 0)?;
-    assert_eq!(rt; tasks.left(Group::User).count, 0);
-    tasks.note(TASK, Kind::Freeze(Group::User));
-    for (i, asked) in [(0, false), (1, true), (2, false), (3, false), (4, true)] {
-        assert_eq!(rt; tasks.freezing(i).asked, asked, "task {i}");
-    }
-    let left = tasks.left(Group::User);
-    assert_eq!(rt; (left.count, left.first), (2, Some(1)));
-    assert_eq!(rt; tasks.left_count(Group::User), 2);
-    tasks.note(TASK, Kind::Thaw(Thaw::All));
-    assert!(rt; tasks.freezing(1) == unasked);
-    let mut frozen = Tasks::new(alloc, scripts.as_slice(), 0)?;
-    frozen.note(Actor::Script(1), Kind::Frozen);
-    assert!(rt; frozen.freezing(1).frozen && !frozen.freezing(4).frozen);
-    Ok(())
-}
-
 /// Two devices, of which the second is runtime suspended at first.
 fn two_devices(alloc: Global) -> Result<Vec<Device>, Fail> {
     let name = Name::of_bytes(b"d").ok_or("a name")?;
@@ -295,11 +247,7 @@ fn a_journal_keeps_its_entries(rt: HostRuntime) -> Result<(), Fail> {
 /// A script's own entries move its place; a post raises a mark, and a wait that ends lowers it.
 #[test]
 fn a_script_moves_on(rt: HostRuntime) -> Result<(), Fail> {
-    let alloc = rt.alloc();
-    let mut scripts = Vec::new(alloc);
-    scripts.push(script(alloc, TaskKind::User)?)?;
-    assert!(rt; scripts.len() == 1);
-    let mut tasks = Tasks::new(alloc, scripts.as_slice(), 1)?;
+    let mut tasks = Tasks::new(rt.alloc(), 1, 1)?;
     tasks.note(TASK, Kind::ReadWait);
     assert!(rt; tasks.seat(0).waits);
     tasks.note(TASK, Kind::Read(3));

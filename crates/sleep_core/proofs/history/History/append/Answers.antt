@@ -9,9 +9,11 @@ use Rattle.sleep_state.specs.TaskStates.{tasks_after}
 use Rattle.async_board.specs.Boards.{board_after}
 use Rattle.platform_steps.specs.Steps.{steps_after}
 use Rattle.syscore_ops.specs.Parts.{parts_after}
+use Rattle.task_freezer.specs.Freezers.{freezer_after}
 use Rattle.wakeup_guard.specs.Guarded.{guarded_after}
 use Rattle.sleep_core.specs.Histories.{guard_of}
 use Rattle.sleep_core.proofs.Counted.{guarded_24}
+use Rattle.sleep_core.proofs.Freezing.{freezer_moves}
 use Rattle.sleep_core.proofs.history.History.append.Goals as goal
 
 pub invariant_of-self : goal.invariant_of-self
@@ -28,7 +30,8 @@ invariant_of-self c =
       devices_is = c.note-3.ensures ∙ ap (devices_after e.kind e.actor) i.devices_is;
       board_is = c.note-4.ensures ∙ ap (board_after e.kind) i.board_is;
       tasks_is = c.note-5.ensures ∙ ap (tasks_after e.actor e.kind) i.tasks_is;
-      autosleep_is = c.note-6.ensures ∙ ap (autosleep_after e.kind e.actor) i.autosleep_is;
-      platform_is = c.note-7.ensures ∙ ap (steps_after e.kind) i.platform_is;
-      syscore_is = c.note-8.ensures ∙ ap (parts_after e.kind) i.syscore_is;
+      freezer_is = c.note-6.ensures ∙ (ap (freezer_after e.actor e.kind) i.freezer_is ∙ freezer_moves c.self.inside.machine.now e (entries c.self.inside.journal.past));
+      autosleep_is = c.note-7.ensures ∙ ap (autosleep_after e.kind e.actor) i.autosleep_is;
+      platform_is = c.note-8.ensures ∙ ap (steps_after e.kind) i.platform_is;
+      syscore_is = c.note-9.ensures ∙ ap (parts_after e.kind) i.syscore_is;
     })

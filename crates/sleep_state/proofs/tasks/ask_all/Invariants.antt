@@ -1,6 +1,0 @@
-use Rattle.std.proofs.Common.{◌≡◌}
-use Rattle.sleep_state.specs.Fronts.{asked_front}
-use Rattle.sleep_state.proofs.tasks.ask_all.Given as goal
-
-abbrev pub invariant-loop-i : goal.invariant-loop-i
-invariant-loop-i l = l.freezings.items ≡ asked_front l.i l.group l.who 0 l.scripts l.fn.freezings.items

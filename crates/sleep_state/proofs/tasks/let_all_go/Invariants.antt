@@ -1,6 +1,0 @@
-use Rattle.std.proofs.Common.{◌≡◌}
-use Rattle.sleep_state.specs.Fronts.{front_let_go}
-use Rattle.sleep_state.proofs.tasks.let_all_go.Given as goal
-
-abbrev pub invariant-loop-i : goal.invariant-loop-i
-invariant-loop-i l = l.freezings.items ≡ front_let_go l.i l.those l.scripts l.fn.freezings.items

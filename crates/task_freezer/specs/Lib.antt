@@ -1,0 +1,4 @@
+pub mod FreezerFields
+pub mod Freezers
+pub mod Fronts
+pub mod Waits

@@ -1,0 +1,12 @@
+//! The freezer of tasks: whom a freeze asks, who froze, for whom it still waits, and how it stands at a moment
+//! (`kernel/power/process.c`, `kernel/freezer.c`).
+#![tactic(auto)]
+
+mod asking;
+mod freezer;
+mod left;
+#[cfg(test)]
+mod tests;
+
+pub use freezer::{Freezer, Round};
+pub use left::Left;
