@@ -79,7 +79,7 @@ def main():
     table(program, "tree", [row for devices, attempts in MOST for row in both(devices, attempts)])
     table(program, "links", both(1000, 95, links=4000))
     table(program, "attempts", [(f"{times} attempts", machine(10, times)) for times in (16, 160, 1600)])
-    table(program, "events", [(f"{times} events", machine(10, times, "event")) for times in (2_000, 20_000, 199_000)])
+    table(program, "events", [(f"{times} events", machine(10, times, "event")) for times in (200, 2_000, 19_999)])
     table(program, "give-up", [(f"{devices} devices", machine(devices, times, "give-up")) for devices, times in MOST])
 
 

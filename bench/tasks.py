@@ -38,11 +38,11 @@ def sleepers(length):
 def main():
     program = sys.argv[1] if len(sys.argv) > 1 else PROGRAM
     hard = {"op": "event", "source": "lid", "hard": True, "times": 14999}
-    timed_event = [{"op": "event", "source": "lid", "ms": 5}, {"op": "sleep", "ms": 10}]
+    timed_events = [{"op": "event", "source": "lid", "ms": 5}, {"op": "sleep", "ms": 10}] * 14999
     rows = [
         ("attempts", machine(10, 1600)),
         ("hard events", one_source({"script": [hard]})),
-        ("timed events", one_source({"script": timed_event, "repeat": 14999})),
+        ("timed events", one_source({"script": timed_events})),
         ("in step", sleepers(lambda i: 7)),
         ("apart", sleepers(lambda i: 1009 + 37 * i)),
     ]

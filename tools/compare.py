@@ -7,9 +7,9 @@ Most files are nearly right: one value exchanged, one byte changed, a member wit
 beside it. Status, standard output and standard error have to agree to the byte. Ends with status 1
 and writes the first file that differs to standard error where they don't.
 
-What is accepted is written down a second time in tools/try_rules.py, what a run is in tools/second.py, and what
-may be used today below. None of them shares anything with the program, its definitions or its libraries but
-the rules in docs/FORMATS.md and docs/BEHAVIOUR.md.
+What is accepted is written down a second time in tools/try_rules.py, and what a run is in tools/second.py. Neither
+shares anything with the program, its definitions or its libraries but the rules in docs/FORMATS.md and
+docs/BEHAVIOUR.md.
 """
 
 import json
@@ -38,39 +38,18 @@ def no_constant(_):
     raise ValueError
 
 
-def is_built_operation(found):
-    built = {
-        "read": True,
-        "save": "count" not in found,
-        "state": found.get("text") == "mem" and not found.get("if_saved", False),
-        "event": found.get("ms", 0) == 0 and not found.get("hard", False),
-        "runtime": True,
-    }
-    return found.get("times", 1) == 1 and built.get(found["op"], False)
-
-
-def is_built(tree):
-    """The machine uses only what may be used today."""
-    actors = tree.get("actors", [])
-    return (
-        len(tree.get("sources", [])) <= 1
-        and len(actors) == 1
-        and actors[0]["kind"] == "user"
-        and actors[0].get("repeat", 1) == 1
-        and all(map(is_built_operation, actors[0].get("script", [])))
-        and not any(answer.get("reports") for answer in tree.get("answers", []))
-    )
-
-
 def expected(text):
     """The status, the output and what is said on standard error."""
     try:
         tree = json.loads(text.decode("utf-8"), parse_int=whole, parse_constant=no_constant)
     except (ValueError, RecursionError):
         return REFUSED
-    if try_rules.first_broken(tree) is not None or not is_built(tree):
+    if try_rules.first_broken(tree) is not None:
         return REFUSED
-    log, stuck = second.Run(tree).run()
+    try:
+        log, stuck = second.Run(tree).run()
+    except second.SourceFull as full:
+        return 7, b"", f"source full: {full}\n".encode()
     return (6 if stuck else 0), log.encode(), b""
 
 
@@ -78,14 +57,6 @@ def expected(text):
 
 WRONG = [None, 0, 1, -1, 1.0, 1.5, True, False, "", [], {}, "x", [1], 2**64, "mem", "user"]
 OPTIONAL = {"times": 1, "if_saved": False, "ms": 0, "hard": False}
-# What scripts are put together from: each operation alone, and the ways to sleep under a saved count.
-PIECES = [piece.split() for piece in (
-    "read", "save", "state", "event", "runtime", "read save", "read save state", "state", "runtime state",
-    "read save event state", "read event save state", "event read save state",
-)]
-# So many events that the count comes round, or that three operations beside them fill a script, or overfill it.
-VISIBLE = second.VISIBLE
-MANY = [VISIBLE - 1, VISIBLE, VISIBLE + 1, 2 * VISIBLE, 199_997, 199_998]
 # What no operation may have, or not this one, with the right values between.
 BESIDE = {
     "op": ["event", "Event", "events", "read", "activate", "sleep", "post", None],
@@ -98,11 +69,15 @@ BESIDE = {
     "count": [0],
     "name": ["lid"],
 }
-# What is not built yet, beside a machine that is.
-LATER = [
-    ("auto_cycles", 0), ("alarm_ms", 0), ("cpus", 65), ("sources", ["a", "b"]), ("actors", []),
-    ("actors", [{"name": "k", "kind": "irq"}]), ("actors", [{"name": "w", "kind": "user", "repeat": 2}]),
-    ("actors", [{"name": "w", "kind": "user", "script": [{"op": "sleep", "ms": 1}]}]),
+# Members of a machine at the ends of what they may be, and past them.
+ENDS = [
+    ("auto_cycles", 0), ("auto_cycles", 1), ("alarm_ms", 0), ("alarm_ms", 86_400_000), ("cpus", 64), ("cpus", 65),
+    ("sources", ["a", "a"]), ("actors", []), ("actors", [{"name": "k", "kind": "irq"}]),
+]
+# Ways to fill a source, or nearly.
+FILLING = [
+    {"op": "event", "times": 20_000}, {"op": "event", "times": 19_999}, {"op": "event", "hard": True, "times": 15_000},
+    {"op": "awake", "times": 60_000}, {"op": "relax", "times": 59_996}, {"op": "relax", "times": 59_997},
 ]
 # Other spellings of a member. Some spell the same, since of equal members the last counts.
 SPELLINGS = {
@@ -122,48 +97,15 @@ class Files(Maker):
             return self.pick(NAMES)
         return "".join(self.pick("abcz09_.-") for _ in range(self.dice.randint(2, 5)))
 
-    def built_operation(self, name, source, devices):
-        operation = {"op": name} | self.maybe(0.05, "times", lambda: 1)
-        if name == "state":
-            operation |= {"text": "mem"} | self.maybe(0.05, "if_saved", lambda: False)
-        if name == "event":
-            operation |= {"source": source}
-            operation |= self.maybe(0.05, "ms", lambda: 0) | self.maybe(0.05, "hard", lambda: False)
-        if name == "runtime":
-            operation |= {"device": self.pick(devices)["name"], "to": self.pick(["active", "suspended"])}
-        return operation
+    DEVICES = [0, 1, 2, 3, 6, 12]
 
-    def built_script(self, source, devices):
-        """Operations. Events are of the source; where there is none, they are rare and wrong."""
-        names = [name for _ in range(self.pick([0, 1, 3, 6, 10])) for name in self.pick(PIECES)]
-        names = [name for name in names if name != "event" or source is not None or self.often(0.02)]
-        names = [name for name in names if name != "runtime" or devices]
-        script = [self.built_operation(name, source or "s9", devices) for name in names]
-        if source is not None and self.often(0.005):
-            script = self.long_sleep(source) + script
-        return script
-
-    def long_sleep(self, source):
-        """A way to sleep, with many events before or after the save."""
-        script = [{"op": "read"}, {"op": "save"}, {"op": "state", "text": "mem"}]
-        place = self.pick([1, 2])
-        script[place:place] = [{"op": "event", "source": source}] * self.pick(MANY)
-        return script
-
-    def built_machine(self):
-        """A machine that may be used today, with names of its own."""
-        tree = {"version": 1} | self.maybe(0.3, "alarm_ms", lambda: self.pick([1, 1000, 86_400_000]))
-        tree |= self.maybe(0.4, "cpus", lambda: self.dice.randint(1, 5)) | self.maybe(0.05, "auto_cycles", lambda: 16)
-        devices = [self.device(number) for number in range(self.pick([0, 1, 2, 3, 6, 12]))]
-        tree |= {"devices": devices, "links": self.links(devices) + self.links(devices)[:1]}
-        tree |= self.maybe(0.3, "syscore", lambda: ["t0", "t1", "t2"][: self.dice.randint(0, 3)])
-        priorities = [self.pick([0, 0, 5, -5]) for _ in range(self.pick([0, 0, 0, 1, 2, 3]))]
-        tree |= {"notifiers": [{"name": f"n{at}", "priority": priority} for at, priority in enumerate(priorities)]}
-        tree["answers"] = list(self.answers(tree))
-        source = "s0" if self.often(0.7) else None
-        tree |= {} if source is None else {"sources": [source]}
-        tree["actors"] = [{"name": self.name(), "kind": "user", "script": self.built_script(source, devices)}]
-        shorts = [f"{letter}{number}" for letter in "dtns" for number in range(12)]
+    def machine_of_names(self):
+        """A machine with names of its own; now and then one that fills a source."""
+        tree = self.machine()
+        if tree["sources"] and self.often(0.005):
+            source = self.pick(tree["sources"])
+            self.pick(tree["actors"]).setdefault("script", []).append(self.pick(FILLING) | {"source": source})
+        shorts = [f"{letter}{number}" for letter in "adtns" for number in range(12)]
         return self.renamed(tree, {short: self.name() + short for short in shorts if self.often(0.5)})
 
     def renamed(self, value, names):
@@ -213,13 +155,13 @@ class Files(Maker):
         return text.replace(member, name + b" " + self.pick(SPELLINGS[member]))
 
     def text(self):
-        tree = self.built_machine()
-        script = tree["actors"][0]["script"]
+        tree = self.machine_of_names()
+        script = self.pick(tree["actors"])["script"]
         if script and self.often(0.1):
             member = self.pick(list(BESIDE))
             self.pick(script)[member] = self.pick(BESIDE[member])
         if self.often(0.05):
-            member, value = self.pick(LATER)
+            member, value = self.pick(ENDS)
             tree[member] = value
         if self.often(0.2):
             self.spoil(tree)
@@ -244,7 +186,7 @@ def main():
         if (done.returncode, done.stdout, done.stderr) != expected(text):
             sys.stderr.buffer.write(text)
             sys.exit(1)
-        ran += done.returncode in (0, 6)
+        ran += done.returncode != 3
     print(f"{sys.argv[2]} files agree, {ran} of them run, the rest refused")
 
 

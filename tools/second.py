@@ -5,13 +5,15 @@ usage: tools/second.py < MACHINE > LOG
 
 It shares nothing with the program or its definitions but the rules, and is written the other way round:
 flags and counters that change, and a coroutine for each job, whose `yield` ends a turn and tells whether
-it did something. The file has to be one that is accepted. Ends with status 6 where the run is stuck.
+it did something. The file has to be one that is accepted. Ends with status 6 where the run is stuck, and with 7
+and no log where a source has no room for a call.
 """
 
 import json
 import sys
 
-VISIBLE = 65_536  # The count that a task sees starts again at 0 here.
+VISIBLE = 16_777_216  # The count that a task sees starts again at 0 here.
+MOST_ENTRIES = 60_000  # So many entries a source has room for, and four of them a call needs.
 FREEZE_MS = 20_000  # So long a freeze waits.
 NAP_MS = 500  # So long the autosleep work naps where its attempt saw no event.
 DOWN = {"suspend": "resume", "late": "early", "noirq": "resume_noirq"}
@@ -19,11 +21,16 @@ UP = {up: down for down, up in DOWN.items()}
 TESTED = ("suspend", "late")  # Phases whose callbacks are preceded by a test for wakeup.
 
 
+class SourceFull(Exception):
+    """A source has no room for a call."""
+
+
 class Source:
     """A wakeup source and its statistics."""
 
     def __init__(self, name):
         self.name = name
+        self.entries = 0
         self.since = None  # When its event in progress began.
         self.expiry = None
         self.events = self.actives = self.expiries = self.total = self.longest = self.last = 0
@@ -141,8 +148,15 @@ class Run:
         source.expiry = None
 
     def call(self, who, given):
-        """A whole call on a source."""
-        source, made = self.named[given["source"]], given.get("call") or given["op"]
+        """A whole call on a source, where that has room for it."""
+        source, before = self.named[given["source"]], len(self.lines)
+        if source.entries + 4 > MOST_ENTRIES:
+            raise SourceFull(source.name)
+        self.make_call(who, given, source)
+        source.entries += len(self.lines) - before
+
+    def make_call(self, who, given, source):
+        made = given.get("call") or given["op"]
         if made == "event":
             length, hard = given.get("ms", 0), given.get("hard", False)
             self.put(who, f"event {source.name} {length} {'hard' if hard else 'soft'}")
@@ -783,7 +797,11 @@ class Run:
 
 
 def main():
-    text, stuck = Run(json.load(sys.stdin)).run()
+    try:
+        text, stuck = Run(json.load(sys.stdin)).run()
+    except SourceFull as full:
+        print(f"source full: {full}", file=sys.stderr)
+        sys.exit(7)
     sys.stdout.write(text)
     sys.exit(6 if stuck else 0)
 

@@ -40,6 +40,8 @@ OPERATIONS += NOT_IRQ + CALLS + ["event"]
 class Maker:
     """Makes random machine files that are accepted."""
 
+    DEVICES = [0, 0, 1, 2, 3, 4]  # How many devices a machine may have.
+
     def __init__(self, seed):
         self.dice = random.Random(seed)
 
@@ -154,7 +156,7 @@ class Maker:
         tree = {"version": 1} | self.maybe(0.5, "alarm_ms", lambda: self.pick([10, 50, 100, 1000]))
         tree |= self.maybe(0.3, "cpus", lambda: self.dice.randint(2, 3))
         tree |= self.maybe(0.5, "auto_cycles", lambda: self.dice.randint(1, 3))
-        devices = [self.device(number) for number in range(self.pick([0, 0, 1, 2, 3, 4]))]
+        devices = [self.device(number) for number in range(self.pick(self.DEVICES))]
         sources = ["s0", "s1"][: self.dice.randint(0, 2)]
         tree |= {"devices": devices, "links": self.links(devices), "sources": sources}
         tree |= self.maybe(0.25, "syscore", lambda: ["t1", "t2"][: self.dice.randint(1, 2)])
