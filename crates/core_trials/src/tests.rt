@@ -1,4 +1,4 @@
-ghost use Rattle.std.specs.Prelude.{◌≡◌, ◌≤◌, ◌<◌, zero, length, IfOk};
+ghost use Rattle.std.specs.Prelude.{◌≡◌, ◌≤◌, OnOk};
 ghost use Rattle.sleep_core.specs.Cores.{IsActor};
 ghost use Rattle.sleep_core.specs.Histories.{last_stamp};
 
@@ -7,7 +7,7 @@ use event_word::{Events, PlainEvents};
 use machine_file::{ReadMachine, read_machine};
 use sleep_base::Errno;
 use sleep_core::{Core, CoreTurn};
-use sleep_model::{Actor, JournalEntry, Kind, Stamp, Why};
+use sleep_model::{Actor, JournalEntry, Kind, Machine, Stamp, Why};
 use std::alloc::Global;
 use std::sync::Wait;
 use std::test::Fail;
@@ -15,6 +15,10 @@ use std::test::Fail;
 /// A parent and its child, and a task that reads the count, saves it and writes mem.
 const FAMILY: &str =
     r#"{"version": 1, "devices": [{"name": "p"}, {"name": "c", "parent": "p"}], "actors": [{"name": "w", "kind": "user", "script": [{"op": "read"}, {"op": "save"}, {"op": "state", "text": "mem"}]}]}"#;
+
+/// A task that sleeps, one that waits for a mark, and an asynchronous device.
+const WAITERS: &str =
+    r#"{"version": 1, "devices": [{"name": "d", "async": true}], "actors": [{"name": "s", "kind": "user", "script": [{"op": "sleep", "ms": 5}]}, {"name": "m", "kind": "user", "script": [{"op": "wait", "mark": "a"}]}, {"name": "p", "kind": "user", "script": [{"op": "post", "mark": "b"}]}]}"#;
 
 const MANAGER: Actor = Actor::Script(0);
 
@@ -60,23 +64,67 @@ fn run<R: Wait, E: Events>(
     Err("too many turns".into())
 }
 
-// The journal of the manager alone up to its first wait or its end, with that word.
+// Sees that the machine has that actor.
+fn has_actor(machine: &Machine, who: Actor) -> Result<(), Fail>
+    ensures { OnOk result (IsActor machine.now who) }
+{
+    let there = match who {
+        Actor::Script(script) => (script as usize) < machine.actors.len(),
+        Actor::Auto => true,
+        Actor::Dev(device) => (device as usize) < machine.devices.len(),
+        Actor::Timer(_) | Actor::Time => false,
+    };
+    if there {
+        Ok(())
+    } else {
+        Err("no such actor".into())
+    }
+}
+
+// What came of the turns of one actor alone.
+#[derive(Drop)]
+struct Alone {
+    waits: Option<Why>,
+    next_time: Option<u64>,
+    whole: bool,
+    journal: Vec<JournalEntry>,
+}
+
+// The turns of one actor of a machine alone, up to its first wait or its end, with that word.
+fn run_alone<R: Wait, E: Events>(
+    rt: &R,
+    alloc: Global,
+    events: &mut E,
+    file: &str,
+    who: Actor,
+) -> Result<Alone, Fail> {
+    let Ok(ReadMachine { machine, links }) = read_machine(alloc, file.as_bytes()) else {
+        return Err("no machine".into());
+    };
+    has_actor(&machine, who)?;
+    let mut core = Core::new(alloc, &machine, links)?;
+    let waits = run(rt, &mut core, events, who)?;
+    Ok(Alone {
+        waits,
+        next_time: core.next_time(),
+        whole: core.whole(),
+        journal: core.into_journal(),
+    })
+}
+
+// The journal of the manager of the family alone, with that word.
 fn journal_of<R: Wait, E: Events>(
     rt: &R,
     alloc: Global,
     events: &mut E,
-) -> Result<Vec<JournalEntry>, Fail>
-    requires { zero ≤ E.floor events.old }
-{
-    let Ok(ReadMachine { machine, links }) = read_machine(alloc, FAMILY.as_bytes()) else {
-        return Err("no machine".into());
-    };
-    if machine.actors.len() == 0 {
-        return Err("no task".into());
-    }
-    let mut core = Core::new(alloc, &machine, links)?;
-    run(rt, &mut core, events, MANAGER)?;
-    Ok(core.into_journal())
+) -> Result<Vec<JournalEntry>, Fail> {
+    let Alone { journal, .. } = run_alone(rt, alloc, events, FAMILY, MANAGER)?;
+    Ok(journal)
+}
+
+// What an actor of a machine waits for, after its first turns, where no event comes.
+fn waits_for<R: Wait>(rt: &R, alloc: Global, file: &str, who: Actor) -> Result<Option<Why>, Fail> {
+    Ok(run_alone(rt, alloc, &mut PlainEvents::new(), file, who)?.waits)
 }
 
 // Whether the machine entered sleep.
@@ -131,5 +179,34 @@ fn hard_events_end_an_attempt(rt: HostRuntime) -> Result<(), Fail> {
     let journal = journal_of(&rt, rt.alloc(), &mut MovingWord::new(0, true))?;
     assert!(rt; was_busy(journal.as_slice()));
     assert!(rt; !entered(journal.as_slice()));
+    Ok(())
+}
+
+/// The machine sleeps till its alarm, and all is not over before that.
+#[test]
+fn a_machine_sleeps_till_its_alarm(rt: HostRuntime) -> Result<(), Fail> {
+    let mut events = PlainEvents::new();
+    let slept = run_alone(&rt, rt.alloc(), &mut events, FAMILY, MANAGER)?;
+    assert!(rt; matches!(slept.waits, Some(Why::Asleep)));
+    assert_eq!(rt; slept.next_time, Some(1000));
+    assert!(rt; !slept.whole);
+    Ok(())
+}
+
+/// What an actor waits for that can do nothing: the end of its sleep, a mark, its turn in a phase, or work; and
+/// nothing is due of one that has exited.
+#[test]
+fn actors_say_what_they_wait_for(rt: HostRuntime) -> Result<(), Fail> {
+    let alloc = rt.alloc();
+    let sleeper = waits_for(&rt, alloc, WAITERS, Actor::Script(0))?;
+    assert!(rt; matches!(sleeper, Some(Why::Until(5))));
+    let waiter = waits_for(&rt, alloc, WAITERS, Actor::Script(1))?;
+    assert!(rt; matches!(waiter, Some(Why::Mark(_))));
+    let poster = waits_for(&rt, alloc, WAITERS, Actor::Script(2))?;
+    assert!(rt; poster.is_none());
+    let device = waits_for(&rt, alloc, WAITERS, Actor::Dev(0))?;
+    assert!(rt; matches!(device, Some(Why::NotScheduled)));
+    let work = waits_for(&rt, alloc, WAITERS, Actor::Auto)?;
+    assert!(rt; matches!(work, Some(Why::NoWork)));
     Ok(())
 }
