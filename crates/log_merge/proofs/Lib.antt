@@ -1,3 +1,4 @@
 mod Orders
 mod Sorts
+mod Fields
 mod Reading

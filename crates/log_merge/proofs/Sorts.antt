@@ -2,9 +2,17 @@
 use Rattle.std.proofs.Common.{◌≡◌, ℕ, ◌+◌, ◌<◌, ◌≤◌, zero, suc, Bool, true, false, not, ◌&&◌, cond, if◌then◌else◌, List, [], ◌∷◌, ◌++◌, map, length, get_or, filter, true≢false, refl, sym, ap, subst, ◌∙◌, arith}
 use Rattle.std.proofs.lemmas.List.Sorted.{sorted_far}
 use Rattle.std.specs.Cmp.{IsStrictWeakOrder}
-use Rattle.std.specs.List.Sorted.{IsSortedBy, IsStableBy, ties}
+use Rattle.std.specs.List.Sorted.{IsSortedBy, IsSortedByClosure, IsStableBy, IsStableByClosure, ties}
+use Rattle.std.specs.Fn.{Called}
+use Rattle.std.specs.Ordering.{is_lt}
+use Rattle.std.specs.declared.cmp.Ordering.{Ordering}
+use Rattle.std.proofs.lemmas.Fn.{always_returns_same}
+use denote.Param.Members.{Mut}
+use denote.Ref.{Bor}
+use Rattle.sleep_model.specs.declared.entry.SourceEntry.{SourceEntry}
+use Rattle.log_merge.specs.Rests.{seen}
 use Rattle.sleep_model.specs.declared.entry.JournalEntry.{JournalEntry}
-use Rattle.sleep_model.specs.Merge.{in_order, put_in_order, stands_before}
+use Rattle.sleep_model.specs.Merge.{in_order, of_source, put_in_order, stands_before}
 use Rattle.log_merge.proofs.Orders.{log_order, order_through}
 
 pub head_of : {X : Type 0} (x y : X) (xs ys : List X) → x ∷ xs ≡ y ∷ ys → x ≡ y
@@ -205,3 +213,17 @@ pub low_put_in_order : (a x : JournalEntry) (ys : List JournalEntry) → stands_
 low_put_in_order a x ys h l =
     let P : List JournalEntry → Type 0 = λ l. Low stands_before a l in
     subst P (put_is x ys) (low_put stands_before log_order a x ys h l)
+
+-- what a stable sort of references gives, where each call compares as the log does
+pub sorted_as_seen : {F : Type 0} {g : Mut F (Bor (Bor SourceEntry) × (Bor (Bor SourceEntry) × Unit {0})) Ordering} {f : F}
+    (xs ys : List (Bor SourceEntry)) → IsSortedByClosure g f ys → IsStableByClosure g f xs ys
+    → ((a : Bor (Bor SourceEntry) × (Bor (Bor SourceEntry) × Unit {0})) (r : Ordering) (f' : F) → Called g f a r f'
+      → (is_lt r ≡ stands_before (of_source a.0.now.now) (of_source a.1.0.now.now)) × (f' ≡ f))
+    → seen ys ≡ in_order (seen xs)
+sorted_as_seen {g = g} {f = f} xs ys up stable h =
+    let through : Bor SourceEntry → JournalEntry = λ b. of_source b.now in
+    let compares = always_returns_same g (λ (a : Bor (Bor SourceEntry) × (Bor (Bor SourceEntry) × Unit {0})) (r : Ordering).
+        is_lt r ≡ stands_before (of_source a.0.now.now) (of_source a.1.0.now.now)) f h in
+    sort_through through xs ys
+      (up (λ x y. stands_before (of_source x.now) (of_source y.now)) (order_through through) compares)
+      (stable (λ x y. stands_before (of_source x.now) (of_source y.now)) (order_through through) compares)

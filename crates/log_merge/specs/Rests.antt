@@ -4,7 +4,6 @@ use Rattle.std.specs.List.{list_all, position_or_len}
 use Rattle.sleep_model.specs.declared.entry.Entry.{Entry}
 use Rattle.sleep_model.specs.declared.entry.JournalEntry.{JournalEntry}
 use Rattle.sleep_model.specs.declared.entry.SourceEntry.{SourceEntry}
-use Rattle.sleep_model.specs.declared.word.Stamp.{Stamp}
 use Rattle.sleep_model.specs.Merge.{in_order, of_source, stands_before}
 use denote.Ref.{Bor}
 
@@ -65,7 +64,11 @@ abbrev pub leads : JournalEntry → List JournalEntry → Bool
 leads other [] = true
 leads other (e ∷ rest) = stands_before other e
 
--- that entry is the journal's next, and was passed
-abbrev pub IsNext : Entry → Rest → Rest → Type 0
-IsNext entry before after =
-    (stamp : Stamp) × (before ≡ record after { journal = record { stamp = stamp; entry = entry } ∷ after.journal })
+-- that entry of a source is the next of the log
+abbrev pub IsAhead : SourceEntry → Rest → Type 0
+IsAhead other rest = Begins other rest.others × (leads (of_source other) rest.journal ≡ true)
+
+-- the next entry of the log is the journal's, if one is left
+abbrev pub is_journals_turn : List JournalEntry → List JournalEntry → Bool
+is_journals_turn journal [] = true
+is_journals_turn journal (other ∷ others) = not (leads other journal)

@@ -49,9 +49,9 @@ impl<'a> Model for LogReader<'a> {
 }
 
 impl<'a> LogReader<'a> {
-    ghost use Rattle.std.specs.Prelude.{◌≡◌, ◌≤◌, [], ◌∷◌, ◌++◌, true, IfOk, MatchOption, drop, length, take};
+    ghost use Rattle.std.specs.Prelude.{◌≡◌, [], ◌∷◌, ◌++◌, true, IfOk, MatchOption};
     ghost use Rattle.sleep_model.specs.Merge.{merge, rises};
-    ghost use Rattle.log_merge.specs.Rests.{Begins, IsNext, all_of, bare, behind_stretch, leads, log_of, stretch};
+    ghost use Rattle.log_merge.specs.Rests.{Begins, IsAhead, all_of, bare, behind_stretch, is_journals_turn, leads, log_of, stretch, stretch_len};
 
     /// Before the first entry of the log of a journal, whose ticks and positions rise, and of the
     /// sources' histories. `Mem` where there is no memory for the sources' entries.
@@ -81,25 +81,6 @@ impl<'a> LogReader<'a> {
         }
     }
 
-    /// Passes the next entry of a source.
-    fn pass_other(&mut self)
-        requires { 1 ≤ length self.old.others }
-        ensures { self.new ≡ record self.old { others = drop 1 self.old.others } }
-    {
-        self.read += 1;
-    }
-
-    /// Passes so many entries of the journal: these.
-    fn pass_journal(&mut self, count: usize) -> &'a [JournalEntry]
-        requires { count ≤ length self.old.journal }
-        ensures passed { result.now ≡ take count self.old.journal }
-        ensures rest { self.new ≡ record self.old { journal = drop count self.old.journal } }
-    {
-        let (passed, rest) = self.journal.split_at(count);
-        self.journal = rest;
-        passed
-    }
-
     /// Whether that entry of a source, the next one, stands before all of the journal that is left.
     fn leads(&self, other: &SourceEntry) -> bool
         ensures { result ≡ leads (of_source other.now) self.now.journal }
@@ -110,13 +91,35 @@ impl<'a> LogReader<'a> {
         }
     }
 
-    /// The next entry of the journal. `None` where none is left.
-    fn next_of_journal(&mut self) -> Option<&'a Entry>
-        ensures { MatchOption result ((self.old.journal ≡ []) × (self.new ≡ self.old)) (λ entry. IsNext entry.now self.old self.new) }
+    /// The next entry of the log, where it is a source's.
+    fn other_ahead(&self) -> Option<&'a SourceEntry>
+        ensures { MatchOption result (is_journals_turn self.now.journal self.now.others ≡ true) (λ other. IsAhead other.now self.now) }
     {
-        let first = self.journal.first()?;
-        self.pass_journal(1);
+        let other = self.first_other()?;
+        if self.leads(other) { Some(other) } else { None }
+    }
+
+    /// The next entry of the log, where it is the journal's. `None` where none is left.
+    fn next_of_journal(&mut self) -> Option<&'a Entry>
+        requires { is_journals_turn self.old.journal self.old.others ≡ true }
+        ensures {
+            MatchOption result ((log_of self.old ≡ []) × (self.new ≡ self.old))
+                (λ entry. log_of self.old ≡ entry.now ∷ log_of self.new)
+        }
+    {
+        let (first, rest) = self.journal.split_first()?;
+        self.journal = rest;
         Some(&first.entry)
+    }
+
+    /// How many entries of the journal stand before the next entry of a source.
+    fn run_len(&self) -> usize
+        ensures { result ≡ stretch_len self.now.journal self.now.others }
+    {
+        match self.first_other() {
+            Some(other) => stretch_len(self.journal, other),
+            None => self.journal.len(),
+        }
     }
 
     /// The next run of the journal: all its entries before the next entry of a source. It may be empty.
@@ -125,11 +128,9 @@ impl<'a> LogReader<'a> {
         ensures rest { self.new ≡ behind_stretch self.old }
         ensures log { log_of self.old ≡ bare result.now ++ log_of self.new }
     {
-        let count = match self.first_other() {
-            Some(other) => stretch_len(self.journal, other),
-            None => self.journal.len(),
-        };
-        self.pass_journal(count)
+        let (run, rest) = self.journal.split_at(self.run_len());
+        self.journal = rest;
+        run
     }
 
     /// The next entry of the log. `None` at its end.
@@ -139,12 +140,12 @@ impl<'a> LogReader<'a> {
                 (λ entry. log_of self.old ≡ entry.now ∷ log_of self.new)
         }
     {
-        match self.first_other() {
-            Some(other) if self.leads(other) => {
-                self.pass_other();
+        match self.other_ahead() {
+            Some(other) => {
+                self.read += 1;
                 Some(&other.entry)
             }
-            _ => self.next_of_journal(),
+            None => self.next_of_journal(),
         }
     }
 }
