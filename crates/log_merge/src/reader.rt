@@ -107,8 +107,9 @@ impl<'a> LogReader<'a> {
                 (λ entry. log_of self.old ≡ entry.now ∷ log_of self.new)
         }
     {
-        let (first, rest) = self.journal.split_first()?;
-        self.journal = rest;
+        let journal = self.journal;
+        let first = journal.first()?;
+        self.journal = &journal[1..];
         Some(&first.entry)
     }
 
