@@ -88,14 +88,14 @@ next_joined (e ∷ rest) others first l h t u v =
     journal_first e rest others t u v
     ∙ ap (λ (x : JournalEntry). x.entry ∷ bare (in_order (rest ++ others))) (sym h)
 
-pub next_log : (r : Inside) (rest : Rest) (first : JournalEntry) (back : Bor (List JournalEntry)) → left r ≡ rest
+pub next_log : (r : Inside) (rest : Rest) (first : JournalEntry) (back : List JournalEntry) → left r ≡ rest
     → AreOrdered r → is_journals_turn rest.journal rest.others ≡ true → 0 < length r.journal.now
-    → first ≡ get_or r.journal.now 0 first → back.now ≡ drop 1 r.journal.now
-    → log_of rest ≡ first.entry ∷ log_of (left (record r { journal = back }))
+    → first ≡ get_or r.journal.now 0 first → back ≡ drop 1 r.journal.now
+    → log_of rest ≡ first.entry ∷ log_of (record { journal = back; others = drop r.read (seen r.others.items) })
 next_log r rest first back e o t l h b =
     let others : List JournalEntry = drop r.read (seen r.others.items) in
     let P : Rest → Type 0 = λ v. is_journals_turn v.journal v.others ≡ true
-      → log_of v ≡ first.entry ∷ log_of (left (record r { journal = back })) in
+      → log_of v ≡ first.entry ∷ log_of (record { journal = back; others = others }) in
     subst P e
       (λ t. next_joined r.journal.now others first l h t o.journal (dropped_in_order r.read (seen r.others.items) o.others)
         ∙ ap (λ (k : List JournalEntry). first.entry ∷ bare (in_order (k ++ others))) (sym b))
