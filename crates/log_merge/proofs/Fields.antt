@@ -1,8 +1,9 @@
 -- What the fields of a reader become.
-use Rattle.std.proofs.Common.{◌≡◌, ℕ, ◌+◌, ◌<◌, ◌≤◌, zero, suc, true, List, [], ◌∷◌, ◌++◌, length, get_or, take, drop, drop-drop, refl, sym, ap, subst, ◌∙◌, arith}
+use Rattle.std.proofs.Common.{◌≡◌, ℕ, ◌+◌, ◌-◌, Bool, false, if◌then◌else◌, length-append, length-drop, ◌<◌, ◌≤◌, zero, suc, true, List, [], ◌∷◌, ◌++◌, length, get_or, take, drop, drop-drop, refl, sym, ap, subst, ◌∙◌, arith}
+use Rattle.std.proofs.lemmas.List.{length-map}
 use Rattle.sleep_model.specs.declared.entry.JournalEntry.{JournalEntry}
 use Rattle.sleep_model.specs.declared.entry.SourceEntry.{SourceEntry}
-use Rattle.sleep_model.specs.Merge.{in_order, merge, of_source, rises}
+use Rattle.sleep_model.specs.Merge.{in_order, merge, of_source, put_in_order, rises, stands_before}
 use Rattle.log_merge.specs.declared.reader.LogReader.TheInside.{Inside}
 use Rattle.log_merge.specs.ReaderFields.{AreOrdered, left}
 use Rattle.log_merge.specs.Rests.{Begins, IsAhead, Rest, bare, is_in_order, is_journals_turn, log_of, seen, sources_entries, stretch_len}
@@ -29,8 +30,8 @@ ahead_first : (journal others : List JournalEntry) (other : SourceEntry)
 ahead_first journal [] other h u v = absurd h.0
 ahead_first journal (x ∷ xs) other h u v =
     let P : JournalEntry → Type 0 = λ w. is_in_order (w ∷ xs) ≡ true →
-      log_of (record { journal = journal; others = w ∷ xs })
-      ≡ other.entry ∷ log_of (record { journal = journal; others = xs }) in
+    log_of (record { journal = journal; others = w ∷ xs })
+    ≡ other.entry ∷ log_of (record { journal = journal; others = xs }) in
     subst P (sym h.0) (λ v. other_first (of_source other) journal xs h.1 u v) v
 
 pub passed_other : (r : Inside) (rest : Rest) (other : SourceEntry) → left r ≡ rest → AreOrdered r → IsAhead other rest
@@ -38,12 +39,12 @@ pub passed_other : (r : Inside) (rest : Rest) (other : SourceEntry) → left r �
 passed_other r rest other e o h =
     let others : List JournalEntry = drop r.read (seen r.others.items) in
     let P : Rest → Type 0 = λ v. IsAhead other v →
-      log_of v ≡ other.entry ∷ log_of (left (record r { read = r.read + 1 })) in
+    log_of v ≡ other.entry ∷ log_of (left (record r { read = r.read + 1 })) in
     subst P e
-      (λ h. ahead_first r.journal.now others other h o.journal (dropped_in_order r.read (seen r.others.items) o.others)
-        ∙ ap (λ (l : List JournalEntry). other.entry ∷ log_of (record { journal = r.journal.now; others = l }))
-          (drop-drop 1 r.read (seen r.others.items)))
-      h
+    (λ h. ahead_first r.journal.now others other h o.journal (dropped_in_order r.read (seen r.others.items) o.others)
+    ∙ ap (λ (l : List JournalEntry). other.entry ∷ log_of (record { journal = r.journal.now; others = l }))
+    (drop-drop 1 r.read (seen r.others.items)))
+    h
 
 pub run_within : (r : Inside) (rest : Rest) (n : ℕ) → left r ≡ rest → n ≡ stretch_len rest.journal rest.others
     → n ≤ length r.journal.now
@@ -75,10 +76,10 @@ pub run_log : (r : Inside) (rest : Rest) (n : ℕ) (front : List JournalEntry) (
 run_log r rest n front back e o q f b =
     let others : List JournalEntry = drop r.read (seen r.others.items) in
     let P : Rest → Type 0 = λ v. n ≡ stretch_len v.journal v.others
-      → log_of v ≡ bare front ++ log_of (left (record r { journal = back })) in
+    → log_of v ≡ bare front ++ log_of (left (record r { journal = back })) in
     subst P e
-      (λ q. run_joined r.journal.now others front back.now n q f b o.journal (dropped_in_order r.read (seen r.others.items) o.others))
-      q
+    (λ q. run_joined r.journal.now others front back.now n q f b o.journal (dropped_in_order r.read (seen r.others.items) o.others))
+    q
 
 next_joined : (journal others : List JournalEntry) (first : JournalEntry) → 0 < length journal → first ≡ get_or journal 0 first
     → is_journals_turn journal others ≡ true → is_in_order journal ≡ true → is_in_order others ≡ true
@@ -95,11 +96,11 @@ pub next_log : (r : Inside) (rest : Rest) (first : JournalEntry) (back : List Jo
 next_log r rest first back e o t l h b =
     let others : List JournalEntry = drop r.read (seen r.others.items) in
     let P : Rest → Type 0 = λ v. is_journals_turn v.journal v.others ≡ true
-      → log_of v ≡ first.entry ∷ log_of (record { journal = back; others = others }) in
+    → log_of v ≡ first.entry ∷ log_of (record { journal = back; others = others }) in
     subst P e
-      (λ t. next_joined r.journal.now others first l h t o.journal (dropped_in_order r.read (seen r.others.items) o.others)
-        ∙ ap (λ (k : List JournalEntry). first.entry ∷ bare (in_order (k ++ others))) (sym b))
-      t
+    (λ t. next_joined r.journal.now others first l h t o.journal (dropped_in_order r.read (seen r.others.items) o.others)
+    ∙ ap (λ (k : List JournalEntry). first.entry ∷ bare (in_order (k ++ others))) (sym b))
+    t
 
 pub log_over : (r : Inside) (rest : Rest) → left r ≡ rest → length r.journal.now ≡ 0
     → is_journals_turn rest.journal rest.others ≡ true → log_of rest ≡ []
@@ -123,3 +124,34 @@ pub log_at_first : (journal : List JournalEntry) (others : List JournalEntry) (h
     → log_of (record { journal = journal; others = others }) ≡ merge journal histories
 log_at_first journal others histories s =
     ap (λ (l : List JournalEntry). log_of (record { journal = journal; others = l })) s ∙ log_of_all journal histories
+
+put_length : (x : JournalEntry) (ys : List JournalEntry) → length (put_in_order x ys) ≡ suc (length ys)
+put_length x [] = refl
+put_length x (y ∷ ys) = by (stands_before y x) (put_length x ys)
+  where
+    by : (b : Bool) → length (put_in_order x ys) ≡ suc (length ys)
+        → length (if b then y ∷ put_in_order x ys else x ∷ y ∷ ys) ≡ suc (suc (length ys))
+    by true rest = ap suc rest
+    by false rest = refl
+
+log_length : (xs : List JournalEntry) → length (bare (in_order xs)) ≡ length xs
+log_length xs = length-map (in_order xs) (λ (e : JournalEntry). e.entry) ∙ order_length xs
+  where
+    order_length : (xs : List JournalEntry) → length (in_order xs) ≡ length xs
+    order_length [] = refl
+    order_length (x ∷ xs) = put_length x (in_order xs) ∙ ap suc (order_length xs)
+
+pub left_length : (r : Inside) (rest : Rest) (n : ℕ) → left r ≡ rest → n ≡ length r.others.items
+    → length r.journal.now + (n - r.read) ≡ length (log_of rest)
+left_length r rest n e q =
+    let others : List JournalEntry = drop r.read (seen r.others.items) in
+    let P : Rest → Type 0 = λ v. length r.journal.now + (n - r.read) ≡ length (log_of v) in
+    subst P e
+    (omega (
+      arith,
+      q,
+      log_length (r.journal.now ++ others),
+      length-append r.journal.now others,
+      length-drop r.read (seen r.others.items),
+      length-map r.others.items (λ (b : Bor SourceEntry). of_source b.now),
+    ))

@@ -1,4 +1,5 @@
-mod Orders
-mod Sorts
 mod Fields
+mod Orders
 mod Reading
+mod Rising
+mod Sorts

@@ -38,15 +38,17 @@ not_true false h = refl
 
 below_from : (e : JournalEntry) (entries : List JournalEntry) → is_first e entries ≡ true → Below e entries
 below_from e [] h = tt
-below_from e (x ∷ xs) h =
-    (not_true (stands_before x e) (both_left (not (stands_before x e)) (is_first e xs) h),
-     below_from e xs (both_right (not (stands_before x e)) (is_first e xs) h))
+below_from e (x ∷ xs) h = (
+  not_true (stands_before x e) (both_left (not (stands_before x e)) (is_first e xs) h),
+  below_from e xs (both_right (not (stands_before x e)) (is_first e xs) h),
+)
 
 pub in_order_from : (entries : List JournalEntry) → is_in_order entries ≡ true → InOrder entries
 in_order_from [] h = tt
-in_order_from (e ∷ rest) h =
-    (below_from e rest (both_left (is_first e rest) (is_in_order rest) h),
-     in_order_from rest (both_right (is_first e rest) (is_in_order rest) h))
+in_order_from (e ∷ rest) h = (
+  below_from e rest (both_left (is_first e rest) (is_in_order rest) h),
+  in_order_from rest (both_right (is_first e rest) (is_in_order rest) h),
+)
 
 first_from : (e : JournalEntry) (entries : List JournalEntry) → Below e entries → is_first e entries ≡ true
 first_from e [] h = refl
@@ -191,9 +193,10 @@ free_before : (n : ℕ) (journal : List JournalEntry) (other : JournalEntry) (ot
     → is_in_order (other ∷ others) ≡ true → Free n journal (other ∷ others)
 free_before zero journal other others h u = tt
 free_before (suc n) [] other others h u = tt
-free_before (suc n) (e ∷ rest) other others h u =
-    (no_other other others e (h 0 e (omega arith) (omega arith)) u,
-     free_before n rest other others (λ k d l m. h (suc k) d (omega arith) (omega arith)) u)
+free_before (suc n) (e ∷ rest) other others h u = (
+  no_other other others e (h 0 e (omega arith) (omega arith)) u,
+  free_before n rest other others (λ k d l m. h (suc k) d (omega arith) (omega arith)) u,
+)
 
 stretch_free : (journal others : List JournalEntry) → is_in_order others ≡ true → Free (stretch_len journal others) journal others
 stretch_free journal [] u = free_alone (length journal) journal

@@ -50,9 +50,10 @@ module _ {X : Type 0} (lt : X → X → Bool) where
 
   up_of : (xs : List X) → ((i j : ℕ) (d : X) → i ≤ j → j < length xs → lt (get_or xs j d) (get_or xs i d) ≡ false) → Up xs
   up_of [] h = tt
-  up_of (x ∷ xs) h =
-      (low_of x xs (λ k d l. h 0 (suc k) d (omega arith) (omega arith)),
-       up_of xs (λ i j d a b. h (suc i) (suc j) d (omega arith) (omega arith)))
+  up_of (x ∷ xs) h = (
+    low_of x xs (λ k d l. h 0 (suc k) d (omega arith) (omega arith)),
+    up_of xs (λ i j d a b. h (suc i) (suc j) d (omega arith) (omega arith)),
+  )
 
   module _ (o : IsStrictWeakOrder lt) where
     pub never : (x : X) → lt x x ≡ false
@@ -150,14 +151,14 @@ module _ {X : Type 0} (lt : X → X → Bool) where
     same (x ∷ xs) [] u v h = let e = sym (h x) ∙ kept_first (ties lt x) x xs (ties_itself x) in cc
     same (x ∷ xs) (y ∷ ys) u v h =
         let xy : lt x y ≡ false = found (ties lt x) y x (y ∷ ys) (filter (ties lt x) xs) (never y, v.0)
-            (sym (h x) ∙ kept_first (ties lt x) x xs (ties_itself x)) in
+        (sym (h x) ∙ kept_first (ties lt x) x xs (ties_itself x)) in
         let yx : lt y x ≡ false = found (ties lt y) x y (x ∷ xs) (filter (ties lt y) ys) (never x, u.0)
-            (h y ∙ kept_first (ties lt y) y ys (ties_itself y)) in
+        (h y ∙ kept_first (ties lt y) y ys (ties_itself y)) in
         let first : x ≡ y = head_of x y (filter (ties lt x) xs) (filter (ties lt x) ys)
-            (sym (kept_first (ties lt x) x xs (ties_itself x)) ∙ h x ∙ kept_first (ties lt x) y ys (tied x y xy yx)) in
+        (sym (kept_first (ties lt x) x xs (ties_itself x)) ∙ h x ∙ kept_first (ties lt x) y ys (tied x y xy yx)) in
         let rest : xs ≡ ys = same xs ys u.1 v.1 (λ z. without_first (ties lt z x) x (filter (ties lt z) xs) (filter (ties lt z) ys)
-            (let P : X → Type 0 = λ w. filter (ties lt z) (x ∷ xs) ≡ cond (ties lt z w) (w ∷ filter (ties lt z) ys) (filter (ties lt z) ys)
-              in subst P (sym first) (h z))) in
+        (let P : X → Type 0 = λ w. filter (ties lt z) (x ∷ xs) ≡ cond (ties lt z w) (w ∷ filter (ties lt z) ys) (filter (ties lt z) ys)
+        in subst P (sym first) (h z))) in
         cc
 
     -- a stable sort gives what putting one by one in order gives
@@ -218,12 +219,12 @@ low_put_in_order a x ys h l =
 pub sorted_as_seen : {F : Type 0} {g : Mut F (Bor (Bor SourceEntry) × (Bor (Bor SourceEntry) × Unit {0})) Ordering} {f : F}
     (xs ys : List (Bor SourceEntry)) → IsSortedByClosure g f ys → IsStableByClosure g f xs ys
     → ((a : Bor (Bor SourceEntry) × (Bor (Bor SourceEntry) × Unit {0})) (r : Ordering) (f' : F) → Called g f a r f'
-      → (is_lt r ≡ stands_before (of_source a.0.now.now) (of_source a.1.0.now.now)) × (f' ≡ f))
+    → (is_lt r ≡ stands_before (of_source a.0.now.now) (of_source a.1.0.now.now)) × (f' ≡ f))
     → seen ys ≡ in_order (seen xs)
 sorted_as_seen {g = g} {f = f} xs ys up stable h =
     let through : Bor SourceEntry → JournalEntry = λ b. of_source b.now in
     let compares = always_returns_same g (λ (a : Bor (Bor SourceEntry) × (Bor (Bor SourceEntry) × Unit {0})) (r : Ordering).
-        is_lt r ≡ stands_before (of_source a.0.now.now) (of_source a.1.0.now.now)) f h in
+    is_lt r ≡ stands_before (of_source a.0.now.now) (of_source a.1.0.now.now)) f h in
     sort_through through xs ys
-      (up (λ x y. stands_before (of_source x.now) (of_source y.now)) (order_through through) compares)
-      (stable (λ x y. stands_before (of_source x.now) (of_source y.now)) (order_through through) compares)
+    (up (λ x y. stands_before (of_source x.now) (of_source y.now)) (order_through through) compares)
+    (stable (λ x y. stands_before (of_source x.now) (of_source y.now)) (order_through through) compares)

@@ -1,3 +1,4 @@
+pub mod Journals
 pub mod Orders
-pub mod Rests
 pub mod ReaderFields
+pub mod Rests

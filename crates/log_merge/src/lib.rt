@@ -2,6 +2,7 @@
 //! a list (own: Linux keeps no such log).
 #![tactic(auto)]
 
+mod journal;
 mod merged;
 mod order;
 mod reader;
@@ -9,5 +10,6 @@ mod sources;
 #[cfg(test)]
 mod tests;
 
+pub use journal::rises;
 pub use merged::merge;
 pub use reader::LogReader;

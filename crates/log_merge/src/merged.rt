@@ -30,7 +30,8 @@ pub fn merge(
     ensures { IfOk result (λ log. log ≡ merge journal.now histories.now) }
 {
     let mut reader = LogReader::new(alloc, journal, histories)?;
-    let mut entries = with_run(Vec::new(alloc), reader.run())?;
+    let room = Vec::with_capacity(alloc, reader.remaining())?;
+    let mut entries = with_run(room, reader.run())?;
     while let Some(entry) = reader.next() {
         entries.push(*entry)?;
         entries = with_run(entries, reader.run())?;

@@ -43,7 +43,7 @@ fn is_actor_before(a: Actor, b: Actor) -> bool
 }
 
 /// Whether an entry of that kind is a step on the word.
-fn is_step(kind: Kind) -> bool
+pub(crate) fn is_step(kind: Kind) -> bool
     ensures { result ≡ is_step kind }
 {
     match kind {
@@ -56,11 +56,9 @@ fn is_step(kind: Kind) -> bool
 /// others, then ticks decide, then actors.
 fn breaks_tie(stamp: &Stamp, entry: &Entry, than: &Stamp, other: &Entry) -> bool
     requires { stamp.now.pos ≡ than.now.pos }
-    ensures {
-        result
-            ≡ stands_before (record { stamp = stamp.now; entry = entry.entry.now })
-            (record { stamp = than.now; entry = other.entry.now })
-    }
+    ensures { result
+        ≡ stands_before (record { stamp = stamp.now; entry = entry.entry.now })
+        (record { stamp = than.now; entry = other.entry.now }) }
 {
     match (is_step(entry.kind), is_step(other.kind)) {
         (false, true) => true,
@@ -74,11 +72,9 @@ fn breaks_tie(stamp: &Stamp, entry: &Entry, than: &Stamp, other: &Entry) -> bool
 /// word after the others, then by tick, then by actor.
 #[inline]
 pub(crate) fn stands_before(stamp: &Stamp, entry: &Entry, than: &Stamp, other: &Entry) -> bool
-    ensures {
-        result
-            ≡ stands_before (record { stamp = stamp.now; entry = entry.entry.now })
-            (record { stamp = than.now; entry = other.entry.now })
-    }
+    ensures { result
+        ≡ stands_before (record { stamp = stamp.now; entry = entry.entry.now })
+        (record { stamp = than.now; entry = other.entry.now }) }
 {
     if stamp.pos == than.pos {
         breaks_tie(stamp, entry, than, other)

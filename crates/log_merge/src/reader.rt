@@ -49,7 +49,7 @@ impl<'a> Model for LogReader<'a> {
 }
 
 impl<'a> LogReader<'a> {
-    ghost use Rattle.std.specs.Prelude.{◌≡◌, [], ◌∷◌, ◌++◌, true, IfOk, MatchOption};
+    ghost use Rattle.std.specs.Prelude.{◌≡◌, [], ◌∷◌, ◌++◌, true, IfOk, MatchOption, length};
     ghost use Rattle.sleep_model.specs.Merge.{merge, rises};
     ghost use Rattle.log_merge.specs.Rests.{Begins, IsAhead, all_of, bare, behind_stretch, is_journals_turn, leads, log_of, stretch, stretch_len};
 
@@ -69,6 +69,13 @@ impl<'a> LogReader<'a> {
             others: sorted(alloc, histories)?,
             read: 0,
         })
+    }
+
+    /// How many entries are left.
+    pub fn remaining(&self) -> usize
+        ensures { result ≡ length (log_of self.now) }
+    {
+        self.journal.len() + (self.others.len() - self.read)
     }
 
     /// The next entry of a source.
@@ -102,10 +109,8 @@ impl<'a> LogReader<'a> {
     /// The next entry of the log, where it is the journal's. `None` where none is left.
     fn next_of_journal(&mut self) -> Option<&'a Entry>
         requires { is_journals_turn self.old.journal self.old.others ≡ true }
-        ensures {
-            MatchOption result ((log_of self.old ≡ []) × (self.new ≡ self.old))
-                (λ entry. log_of self.old ≡ entry.now ∷ log_of self.new)
-        }
+        ensures { MatchOption result ((log_of self.old ≡ []) × (self.new ≡ self.old))
+            (λ entry. log_of self.old ≡ entry.now ∷ log_of self.new) }
     {
         let journal = self.journal;
         let first = journal.first()?;
@@ -136,10 +141,8 @@ impl<'a> LogReader<'a> {
 
     /// The next entry of the log. `None` at its end.
     pub fn next(&mut self) -> Option<&'a Entry>
-        ensures {
-            MatchOption result ((log_of self.old ≡ []) × (self.new ≡ self.old))
-                (λ entry. log_of self.old ≡ entry.now ∷ log_of self.new)
-        }
+        ensures { MatchOption result ((log_of self.old ≡ []) × (self.new ≡ self.old))
+            (λ entry. log_of self.old ≡ entry.now ∷ log_of self.new) }
     {
         match self.other_ahead() {
             Some(other) => {

@@ -14,8 +14,8 @@ pub loop-i-preserved : goal.loop-i-preserved
 loop-i-preserved c =
     below_more _ _ c.loop-i.invariant
     (λ d. ap (λ (e : JournalEntry). stands_before (of_source c.args.other.now) e)
-      (get_or_default c.args.journal.now c.loop-i.i d _ c.loop-i-test.true)
-      ∙ sym c.is_ahead.ensures ∙ c.if-is_ahead.false)
+    (get_or_default c.args.journal.now c.loop-i.i d _ c.loop-i-test.true)
+    ∙ sym c.is_ahead.ensures ∙ c.if-is_ahead.false)
 
 pub returns : goal.returns
 returns c =
