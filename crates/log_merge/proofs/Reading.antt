@@ -1,13 +1,12 @@
 -- Reading the journal and the sources' entries in order gives the definition's log.
-use Rattle.std.proofs.Common.{◌≡◌, ℕ, ◌+◌, ◌<◌, ◌≤◌, suc, zero, Bool, true, false, not, ◌&&◌, cond, if◌then◌else◌, List, [], ◌∷◌, ◌++◌, map, length, get_or, take, drop, true≢false, refl, sym, ap, subst, ◌∙◌, arith, rules}
+use Rattle.std.proofs.Common.{◌≡◌, ℕ, ◌<◌, ◌≤◌, suc, zero, Bool, true, false, not, ◌&&◌, List, [], ◌∷◌, ◌++◌, length, get_or, take, drop, true≢false, refl, sym, ap, ◌∙◌, arith}
 use Rattle.std.proofs.lemmas.Bool.Decides.{nat_tests}
 use Rattle.std.proofs.lemmas.List.Sums.{fails_before_first, prefix_len-le-length}
-use Rattle.std.specs.List.{list_all, position_or_len}
 use Rattle.sleep_model.specs.declared.entry.Entry.{Entry}
 use Rattle.sleep_model.specs.declared.entry.JournalEntry.{JournalEntry}
 use Rattle.sleep_model.specs.declared.entry.SourceEntry.{SourceEntry}
-use Rattle.sleep_model.specs.Merge.{all_entries, in_order, merge, position_behind, put_in_order, rises, rises_behind, stands_before, step_number}
-use Rattle.log_merge.specs.Rests.{Rest, all_of, bare, is_first, is_in_order, is_journals_turn, leads, log_of, sources_entries, stretch, behind_stretch, stretch_len}
+use Rattle.sleep_model.specs.Merge.{in_order, merge, position_behind, put_in_order, rises, rises_behind, stands_before, step_number}
+use Rattle.log_merge.specs.Rests.{all_of, bare, is_first, is_in_order, is_journals_turn, leads, log_of, sources_entries, stretch_len}
 use Rattle.log_merge.proofs.Orders.{log_order, rises_stands}
 use Rattle.log_merge.proofs.Sorts.{Low, Up, low_append, low_below, low_put_in_order, up_in_order}
 

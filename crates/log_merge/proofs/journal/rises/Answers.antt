@@ -1,4 +1,4 @@
-use Rattle.std.proofs.Common.{sym, ◌∙◌, arith}
+use Rattle.std.proofs.Common.{sym, ◌∙◌}
 use Rattle.log_merge.proofs.Rising.{rises_on, rises_over}
 use Rattle.log_merge.proofs.journal.rises.Goals as goal
 

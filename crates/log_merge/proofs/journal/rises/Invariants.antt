@@ -1,4 +1,4 @@
-use Rattle.std.proofs.Common.{◌≡◌, ◌-◌, ◌≤◌, drop}
+use Rattle.std.proofs.Common.{◌≡◌, ◌-◌, drop}
 use Rattle.sleep_model.specs.Merge.{rises}
 use Rattle.log_merge.proofs.journal.rises.Given as goal
 
