@@ -1,5 +1,5 @@
 -- What is left to read of the one log of a journal and the sources' histories (own: Linux keeps no such log).
-use Rattle.std.specs.Prelude.{◌≡◌, Bool, true, ℕ, List, [], ◌∷◌, ◌++◌, ◌&&◌, drop, flat_map, length, map, not, take}
+use Rattle.std.specs.Prelude.{◌≡◌, ℕ, Bool, true, List, [], ◌∷◌, ◌++◌, ◌&&◌, drop, flat_map, length, map, not, take}
 use Rattle.std.specs.List.{list_all, position_or_len}
 use Rattle.sleep_model.specs.declared.entry.Entry.{Entry}
 use Rattle.sleep_model.specs.declared.entry.JournalEntry.{JournalEntry}

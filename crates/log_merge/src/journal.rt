@@ -1,6 +1,6 @@
 //! Whether a journal may be merged (own: Linux keeps no such log).
 
-ghost use Rattle.std.specs.Prelude.{◌≡◌, ◌<◌, ◌^◌};
+ghost use Rattle.std.specs.Prelude.{◌≡◌};
 ghost use Rattle.sleep_model.specs.Merge.{rises};
 ghost use Rattle.log_merge.specs.Journals.{follows};
 

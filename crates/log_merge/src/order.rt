@@ -2,7 +2,6 @@
 
 ghost use Rattle.std.specs.Prelude.{◌≡◌};
 ghost use Rattle.sleep_model.specs.Merge.{actor_number, actor_rank, is_actor_before, of_source, stands_before};
-ghost use Rattle.sleep_model.specs.Numbers.{word_step};
 ghost use Rattle.log_merge.specs.Orders.{is_step};
 
 use sleep_model::{Actor, Entry, JournalEntry, Kind, SourceEntry, Stamp};

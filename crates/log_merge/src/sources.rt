@@ -1,6 +1,6 @@
 //! The entries of all sources, as references, in the order of the one log.
 
-ghost use Rattle.std.specs.Prelude.{◌≡◌, ◌++◌, IfOk, map, flat_map};
+ghost use Rattle.std.specs.Prelude.{◌≡◌, ◌++◌, IfOk, map};
 ghost use Rattle.std.specs.Ordering.{is_lt};
 ghost use Rattle.sleep_model.specs.Merge.{in_order, of_source, stands_before};
 ghost use Rattle.log_merge.specs.Rests.{sources_entries, seen};
