@@ -86,6 +86,7 @@ SECTIONS = [
     ("machine_file", "What the reader answers", "own", ["Refusing", "Reading", "Broken", "Fitting"]),
     ("machine_file", "How a machine is written, and generated machines", "own", ["Spelling", "Generated"]),
     ("machine_file", "The words of the command line", "own", ["Words"]),
+    ("log_merge", "The one log, read run by run", "own", ["Rests", "ReaderFields", "Orders", "Journals"]),
     ("sleep_run", "A whole run", "own", ["Runs", "RunFields", "Tries", "Waits", "Called", "Firsts", "JobsOf"]),
     ("sleep_main", "How the program ends", "own", ["Endings"]),
 ]

@@ -1,0 +1,5 @@
+mod Fields
+mod Orders
+mod Reading
+mod Rising
+mod Sorts

@@ -1,0 +1,225 @@
+-- Reading the journal and the sources' entries in order gives the definition's log.
+use Rattle.std.proofs.Common.{◌≡◌, ℕ, ◌<◌, ◌≤◌, suc, zero, Bool, true, false, not, ◌&&◌, List, [], ◌∷◌, ◌++◌, length, get_or, take, drop, true≢false, refl, sym, ap, ◌∙◌, arith}
+use Rattle.std.proofs.lemmas.Bool.Decides.{nat_tests}
+use Rattle.std.proofs.lemmas.List.Sums.{fails_before_first, prefix_len-le-length}
+use Rattle.sleep_model.specs.declared.entry.Entry.{Entry}
+use Rattle.sleep_model.specs.declared.entry.JournalEntry.{JournalEntry}
+use Rattle.sleep_model.specs.declared.entry.SourceEntry.{SourceEntry}
+use Rattle.sleep_model.specs.Merge.{in_order, merge, position_behind, put_in_order, rises, rises_behind, stands_before, step_number}
+use Rattle.log_merge.specs.Rests.{all_of, bare, is_first, is_in_order, is_journals_turn, leads, log_of, sources_entries, stretch_len}
+use Rattle.log_merge.proofs.Orders.{log_order, rises_stands}
+use Rattle.log_merge.proofs.Sorts.{Low, Up, low_append, low_below, low_put_in_order, up_in_order}
+
+-- no entry of these stands before that one
+abbrev pub Below : JournalEntry → List JournalEntry → Type 0
+Below e entries = Low stands_before e entries
+
+-- each stands before none of the earlier ones
+abbrev pub InOrder : List JournalEntry → Type 0
+InOrder entries = Up stands_before entries
+
+-- ---- from the tests and back
+
+both_left : (a b : Bool) → a && b ≡ true → a ≡ true
+both_left true b h = refl
+both_left false b h = h
+
+both_right : (a b : Bool) → a && b ≡ true → b ≡ true
+both_right true b h = h
+both_right false b h = absurd (true≢false (sym h))
+
+both : (a b : Bool) → a ≡ true → b ≡ true → a && b ≡ true
+both a b p q = rw (p, q) refl
+
+not_true : (b : Bool) → not b ≡ true → b ≡ false
+not_true true h = sym h
+not_true false h = refl
+
+below_from : (e : JournalEntry) (entries : List JournalEntry) → is_first e entries ≡ true → Below e entries
+below_from e [] h = tt
+below_from e (x ∷ xs) h = (
+  not_true (stands_before x e) (both_left (not (stands_before x e)) (is_first e xs) h),
+  below_from e xs (both_right (not (stands_before x e)) (is_first e xs) h),
+)
+
+pub in_order_from : (entries : List JournalEntry) → is_in_order entries ≡ true → InOrder entries
+in_order_from [] h = tt
+in_order_from (e ∷ rest) h = (
+  below_from e rest (both_left (is_first e rest) (is_in_order rest) h),
+  in_order_from rest (both_right (is_first e rest) (is_in_order rest) h),
+)
+
+first_from : (e : JournalEntry) (entries : List JournalEntry) → Below e entries → is_first e entries ≡ true
+first_from e [] h = refl
+first_from e (x ∷ xs) h = both (not (stands_before x e)) (is_first e xs) (ap not h.0) (first_from e xs h.1)
+
+pub test_from : (entries : List JournalEntry) → InOrder entries → is_in_order entries ≡ true
+test_from [] h = refl
+test_from (e ∷ rest) h = both (is_first e rest) (is_in_order rest) (first_from e rest h.0) (test_from rest h.1)
+
+-- ---- which lists are in order
+
+pub sorted_in_order : (entries : List JournalEntry) → is_in_order (in_order entries) ≡ true
+sorted_in_order entries = test_from (in_order entries) (up_in_order entries)
+
+behind_steps : (e x : JournalEntry) → e.stamp.tick < x.stamp.tick → position_behind e ≤ x.stamp.pos → stands_before x e ≡ false
+behind_steps e x a b =
+    rises_stands e.stamp.pos (step_number e) e.stamp.tick x.stamp.pos (step_number x) x.stamp.tick _ a b
+
+behind_rises : (e : JournalEntry) (entries : List JournalEntry) → rises_behind e entries ≡ true → InOrder (e ∷ entries)
+behind_rises e [] h = (tt, tt)
+behind_rises e (x ∷ xs) h =
+    let rest : InOrder (x ∷ xs) = behind_rises x xs (both_right _ (rises_behind x xs) h) in
+    let first : stands_before x e ≡ false = behind_steps e x (grind (arith, nat_tests)) (grind (arith, nat_tests)) in
+    ((first, low_below stands_before log_order e x xs first rest.0), rest)
+
+pub rising_in_order : (journal : List JournalEntry) → rises journal ≡ true → is_in_order journal ≡ true
+rising_in_order [] h = refl
+rising_in_order (e ∷ rest) h = test_from (e ∷ rest) (behind_rises e rest h)
+
+order_dropped : (n : ℕ) (entries : List JournalEntry) → InOrder entries → InOrder (drop n entries)
+order_dropped zero entries h = h
+order_dropped (suc n) [] h = tt
+order_dropped (suc n) (x ∷ xs) h = order_dropped n xs h.1
+
+pub dropped_in_order : (n : ℕ) (entries : List JournalEntry) → is_in_order entries ≡ true → is_in_order (drop n entries) ≡ true
+dropped_in_order n entries h = test_from (drop n entries) (order_dropped n entries (in_order_from entries h))
+
+-- ---- the front of a list in order
+
+put_front : (x : JournalEntry) (ys : List JournalEntry) → Below x ys → put_in_order x ys ≡ x ∷ ys
+put_front x [] h = refl
+put_front x (y ∷ ys) h = rw (h.0) refl
+
+low_order : (a : JournalEntry) (xs : List JournalEntry) → Below a xs → Below a (in_order xs)
+low_order a [] h = tt
+low_order a (x ∷ xs) h = low_put_in_order a x (in_order xs) h.0 (low_order a xs h.1)
+
+order_same : (xs : List JournalEntry) → InOrder xs → in_order xs ≡ xs
+order_same [] h = refl
+order_same (x ∷ xs) h = ap (put_in_order x) (order_same xs h.1) ∙ put_front x xs h.0
+
+order_twice : (journal others : List JournalEntry) → in_order (journal ++ in_order others) ≡ in_order (journal ++ others)
+order_twice [] others = order_same (in_order others) (up_in_order others)
+order_twice (e ∷ rest) others = ap (put_in_order e) (order_twice rest others)
+
+-- an entry of the journal is the first of the log
+pub entry_first : (e : JournalEntry) (rest others : List JournalEntry) → Below e rest → Below e others
+    → in_order (e ∷ (rest ++ others)) ≡ e ∷ in_order (rest ++ others)
+entry_first e rest others a b = put_front e _ (low_order e _ (low_append stands_before e rest others a b))
+
+-- an entry of a source stands before all of these
+abbrev Before : JournalEntry → List JournalEntry → Type 0
+Before other [] = Unit {0}
+Before other (e ∷ rest) = (stands_before other e ≡ true) × Before other rest
+
+before_then : (x y z : JournalEntry) → stands_before x y ≡ true → stands_before z y ≡ false → stands_before x z ≡ true
+before_then x y z p q = by (stands_before x z) refl
+  where
+    by : (b : Bool) → stands_before x z ≡ b → stands_before x z ≡ true
+    by true e = e
+    by false e = absurd (true≢false (sym p ∙ log_order.chain x z y e q))
+
+before_later : (other e : JournalEntry) (rest : List JournalEntry) → stands_before other e ≡ true → Below e rest → Before other rest
+before_later other e [] h b = tt
+before_later other e (x ∷ xs) h b = (before_then other e x h b.0, before_later other e xs h b.1)
+
+before_all : (other : JournalEntry) (journal : List JournalEntry) → leads other journal ≡ true → InOrder journal → Before other journal
+before_all other [] h u = tt
+before_all other (e ∷ rest) h u = (h, before_later other e rest h u.0)
+
+passed_first : (other : JournalEntry) (journal others : List JournalEntry) → Before other journal → Below other others
+    → in_order (journal ++ other ∷ others) ≡ other ∷ in_order (journal ++ others)
+passed_first other [] others b l = put_front other (in_order others) (low_order other others l)
+passed_first other (e ∷ rest) others b l =
+    ap (put_in_order e) (passed_first other rest others b.1 l)
+    ∙ put_behind e other (in_order (rest ++ others)) b.0
+  where
+    put_behind : (e other : JournalEntry) (entries : List JournalEntry) → stands_before other e ≡ true
+        → put_in_order e (other ∷ entries) ≡ other ∷ put_in_order e entries
+    put_behind e other entries h = rw h refl
+
+-- an entry of a source that stands before all of the journal is the first of the log
+pub other_first : (other : JournalEntry) (journal others : List JournalEntry) → leads other journal ≡ true
+    → is_in_order journal ≡ true → is_in_order (other ∷ others) ≡ true
+    → bare (in_order (journal ++ other ∷ others)) ≡ other.entry ∷ bare (in_order (journal ++ others))
+other_first other journal others h u v =
+    ap bare (passed_first other journal others (before_all other journal h (in_order_from journal u)) (in_order_from (other ∷ others) v).0)
+
+-- ---- what a reader does
+
+no_other : (other : JournalEntry) (others : List JournalEntry) (e : JournalEntry) → stands_before other e ≡ false
+    → is_in_order (other ∷ others) ≡ true → Below e (other ∷ others)
+no_other other others e h u = (h, low_below stands_before log_order e other others h (in_order_from (other ∷ others) u).0)
+
+turn_below : (e : JournalEntry) (rest others : List JournalEntry) → is_journals_turn (e ∷ rest) others ≡ true
+    → is_in_order others ≡ true → Below e others
+turn_below e rest [] h u = tt
+turn_below e rest (other ∷ others) h u = no_other other others e (not_true (stands_before other e) h) u
+
+-- an entry of the journal is the next of the log, where it is the journal's turn
+pub journal_first : (e : JournalEntry) (rest others : List JournalEntry) → is_journals_turn (e ∷ rest) others ≡ true
+    → is_in_order (e ∷ rest) ≡ true → is_in_order others ≡ true
+    → bare (in_order (e ∷ (rest ++ others))) ≡ e.entry ∷ bare (in_order (rest ++ others))
+journal_first e rest others h u v =
+    ap bare (entry_first e rest others (in_order_from (e ∷ rest) u).0 (turn_below e rest others h v))
+
+-- where it is the turn of a journal that has ended, the log has
+pub log_ends : (others : List JournalEntry) → is_journals_turn [] others ≡ true → bare (in_order others) ≡ []
+log_ends [] h = refl
+log_ends (other ∷ others) h = absurd (true≢false (sym h))
+
+-- the first n of a journal stand behind none of these
+abbrev Free : ℕ → List JournalEntry → List JournalEntry → Type 0
+Free zero journal others = Unit {0}
+Free (suc n) [] others = Unit {0}
+Free (suc n) (e ∷ rest) others = Below e others × Free n rest others
+
+free_run : (n : ℕ) (journal others : List JournalEntry) → InOrder journal → Free n journal others
+    → in_order (journal ++ others) ≡ take n journal ++ in_order (drop n journal ++ others)
+free_run zero journal others u f = refl
+free_run (suc n) [] others u f = refl
+free_run (suc n) (e ∷ rest) others u f =
+    entry_first e rest others u.0 f.0 ∙ ap (λ (l : List JournalEntry). e ∷ l) (free_run n rest others u.1 f.1)
+
+free_alone : (n : ℕ) (journal : List JournalEntry) → Free n journal []
+free_alone zero journal = tt
+free_alone (suc n) [] = tt
+free_alone (suc n) (e ∷ rest) = (tt, free_alone n rest)
+
+free_before : (n : ℕ) (journal : List JournalEntry) (other : JournalEntry) (others : List JournalEntry)
+    → ((k : ℕ) (d : JournalEntry) → k < n → k < length journal → stands_before other (get_or journal k d) ≡ false)
+    → is_in_order (other ∷ others) ≡ true → Free n journal (other ∷ others)
+free_before zero journal other others h u = tt
+free_before (suc n) [] other others h u = tt
+free_before (suc n) (e ∷ rest) other others h u = (
+  no_other other others e (h 0 e (omega arith) (omega arith)) u,
+  free_before n rest other others (λ k d l m. h (suc k) d (omega arith) (omega arith)) u,
+)
+
+stretch_free : (journal others : List JournalEntry) → is_in_order others ≡ true → Free (stretch_len journal others) journal others
+stretch_free journal [] u = free_alone (length journal) journal
+stretch_free journal (other ∷ others) u =
+    free_before (stretch_len journal (other ∷ others)) journal other others
+    (λ k d l m. fails_before_first (λ e. stands_before other e) journal k d l) u
+
+pub stretch_within : (journal others : List JournalEntry) → stretch_len journal others ≤ length journal
+stretch_within journal [] = omega arith
+stretch_within journal (other ∷ others) = prefix_len-le-length (λ e. not (stands_before other e)) journal
+
+bare_append : (xs ys : List JournalEntry) → bare (xs ++ ys) ≡ bare xs ++ bare ys
+bare_append [] ys = refl
+bare_append (x ∷ xs) ys = ap (λ (l : List Entry). x.entry ∷ l) (bare_append xs ys)
+
+-- a run of the journal, and then the log of what is left
+pub run_first : (journal others : List JournalEntry) → is_in_order journal ≡ true → is_in_order others ≡ true
+    → bare (in_order (journal ++ others))
+    ≡ bare (take (stretch_len journal others) journal) ++ bare (in_order (drop (stretch_len journal others) journal ++ others))
+run_first journal others u v =
+    ap bare (free_run (stretch_len journal others) journal others (in_order_from journal u) (stretch_free journal others v))
+    ∙ bare_append (take (stretch_len journal others) journal) (in_order (drop (stretch_len journal others) journal ++ others))
+
+-- the log of all is the definition's merge
+pub log_of_all : (journal : List JournalEntry) (histories : List (List SourceEntry))
+    → log_of (all_of journal histories) ≡ merge journal histories
+log_of_all journal histories = ap bare (order_twice journal (sources_entries histories))

@@ -1,0 +1,4 @@
+pub mod Journals
+pub mod Orders
+pub mod ReaderFields
+pub mod Rests

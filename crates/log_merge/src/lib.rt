@@ -1,0 +1,15 @@
+//! The one log of a machine's journal and of its sources' histories, read run by run or merged into
+//! a list (own: Linux keeps no such log).
+#![tactic(auto)]
+
+mod journal;
+mod merged;
+mod order;
+mod reader;
+mod sources;
+#[cfg(test)]
+mod tests;
+
+pub use journal::rises;
+pub use merged::merge;
+pub use reader::LogReader;

@@ -1,0 +1,40 @@
+//! The one log as a list (own: Linux keeps no such log).
+
+ghost use Rattle.std.specs.Prelude.{◌≡◌, ◌++◌, true, IfOk};
+ghost use Rattle.sleep_model.specs.Merge.{merge, rises};
+ghost use Rattle.log_merge.specs.Rests.{bare};
+
+use crate::reader::LogReader;
+use sleep_base::Mem;
+use sleep_model::{Entry, EntryList, JournalEntry, SourceList};
+use std::alloc::Global;
+
+/// These entries, and those of a run of the journal behind them. `Mem` where there is no memory.
+fn with_run(mut entries: Vec<Entry>, run: &[JournalEntry]) -> Result<Vec<Entry>, Mem>
+    ensures { IfOk result (λ all. all.items ≡ entries.items ++ bare run.now) }
+{
+    for entry in run {
+        entries.push(entry.entry)?;
+    }
+    Ok(entries)
+}
+
+/// The one log of a journal, whose ticks and positions rise, and of the sources' histories.
+/// `Mem` where there is no memory.
+pub fn merge(
+    alloc: Global,
+    journal: &[JournalEntry],
+    histories: &[SourceList],
+) -> Result<EntryList, Mem>
+    requires { rises journal.now ≡ true }
+    ensures { IfOk result (λ log. log ≡ merge journal.now histories.now) }
+{
+    let mut reader = LogReader::new(alloc, journal, histories)?;
+    let room = Vec::with_capacity(alloc, reader.remaining())?;
+    let mut entries = with_run(room, reader.run())?;
+    while let Some(entry) = reader.next() {
+        entries.push(*entry)?;
+        entries = with_run(entries, reader.run())?;
+    }
+    Ok(EntryList::of_vec(entries))
+}
