@@ -32,24 +32,24 @@ RUNS = 5
 MOST = [(10, 1666), (100, 666), (1000, 95)]
 
 
-def processor_time(program, path):
-    """The processor time of one run in seconds, and what it wrote."""
+def processor_time(program, path, wanted=0):
+    """The processor time of one run in seconds, and what it wrote; its status has to be that."""
     with open(path, "rb") as file, tempfile.TemporaryFile() as out:
         done = subprocess.Popen([program, "run", "--workers", "1"], stdin=file, stdout=out)
         _, status, used = os.wait4(done.pid, 0)
         done.returncode = os.waitstatus_to_exitcode(status)
-        if done.returncode != 0:
+        if done.returncode != wanted:
             sys.exit(f"status {done.returncode}")
         out.seek(0)
         return used.ru_utime + used.ru_stime, out.read()
 
 
-def timed(program, tree):
+def timed(program, tree, wanted=0):
     """The best time of some runs in seconds, and the entries of the log."""
     with tempfile.NamedTemporaryFile("w", suffix=".json") as file:
         json.dump(tree, file)
         file.flush()
-        runs = [processor_time(program, file.name) for _ in range(RUNS)]
+        runs = [processor_time(program, file.name, wanted) for _ in range(RUNS)]
     return min(seconds for seconds, _ in runs), sum(line[:1].isdigit() for line in runs[0][1].split(b"\n"))
 
 
