@@ -35,7 +35,7 @@ MOST = [(10, 1666), (100, 666), (1000, 95)]
 def processor_time(program, path, wanted=0):
     """The processor time of one run in seconds, and what it wrote; its status has to be that."""
     with open(path, "rb") as file, tempfile.TemporaryFile() as out:
-        done = subprocess.Popen([program, "run", "--workers", "1"], stdin=file, stdout=out)
+        done = subprocess.Popen([program, "run", "--workers", "1"], stdin=file, stdout=out, stderr=subprocess.DEVNULL)
         _, status, used = os.wait4(done.pid, 0)
         done.returncode = os.waitstatus_to_exitcode(status)
         if done.returncode != wanted:
