@@ -1,0 +1,158 @@
+-- How turns add up, over time and over the jobs.
+use Rattle.std.proofs.Common.{◌≡◌, ◌∙◌, ◌<◌, ◌≤◌, ◌+◌, ◌-◌, ◌*◌, ℕ, suc, zero, Bool, true, false, List, [], ◌∷◌, ◌++◌, length, All, refl, sym, ap, subst, arith}
+use mathlib.Core.Logic.{⊎_elim}
+use lib.ListN.{drop}
+use native.Mathlib.Nat.{add-mul, one-mul, suc-mul, zero-mul, mul-le-mul_right}
+use native.Mathlib.Numerals.{unary_clauses}
+use Rattle.std.proofs.lemmas.Bool.{cases_lt}
+use Rattle.std.proofs.lemmas.List.{length-append, length-drop, drop_all, drop_at, drop-drop, drop-append-le}
+use Rattle.std.proofs.lemmas.List.Elements.{All-append, All-weaker}
+use Rattle.sleep_pool.specs.declared.turns.Turn.{Turn}
+use Rattle.sleep_pool.specs.declared.turns.Turn.TheVariants.{Did, NotYet, Done, Stop}
+use Rattle.sleep_pool.specs.Turns.{did, did_in, goes_on, Went, AllWent, FirstWent, FirstsWent}
+
+-- what two lists did is what each did
+pub did_append : (xs ys : List Turn) → did_in (xs ++ ys) ≡ did_in xs + did_in ys
+did_append [] ys = omega arith
+did_append (x ∷ xs) ys = let e = did_append xs ys in omega arith
+
+-- behind turns without a Stop come others
+pub on_append : (stop : Bool) (xs ys : List Turn) → goes_on false xs ≡ true → goes_on stop ys ≡ true → goes_on stop (xs ++ ys) ≡ true
+on_append stop [] ys h k = k
+on_append stop (Stop ∷ []) ys h k = grind (arith, h)
+on_append stop (Stop ∷ x ∷ xs) ys h k = grind (arith, h)
+on_append stop (Did ∷ xs) ys h k = on_append stop xs ys h k
+on_append stop (NotYet ∷ xs) ys h k = on_append stop xs ys h k
+on_append stop (Done ∷ xs) ys h k = on_append stop xs ys h k
+
+-- turns without a Stop may stand where the last may be one
+pub on_weaker : (stop : Bool) (xs : List Turn) → goes_on false xs ≡ true → goes_on stop xs ≡ true
+on_weaker stop [] h = refl
+on_weaker stop (Stop ∷ []) h = grind (arith, h)
+on_weaker stop (Stop ∷ x ∷ xs) h = grind (arith, h)
+on_weaker stop (Did ∷ xs) h = on_weaker stop xs h
+on_weaker stop (NotYet ∷ xs) h = on_weaker stop xs h
+on_weaker stop (Done ∷ xs) h = on_weaker stop xs h
+
+-- and where the last may be one in any case
+pub on_wider : (stop : Bool) (xs : List Turn) → goes_on stop xs ≡ true → goes_on true xs ≡ true
+on_wider true xs h = h
+on_wider false xs h = on_weaker true xs h
+
+module _ {J : Type 0} where
+  -- jobs that made no turn
+  pub still : (R : J → List Turn → J → Type 0) → ((a : J) → R a [] a) → (olds : List J) → AllWent R olds olds 0
+  still R none [] = refl
+  still R none (a ∷ olds) = ([], 0, none a, still R none olds, refl)
+
+  -- two runs of jobs side by side
+  pub beside : (R : J → List Turn → J → Type 0) (olds bs cs ds : List J) (n m : ℕ) → AllWent R olds bs n → AllWent R cs ds m → AllWent R (olds ++ cs) (bs ++ ds) (n + m)
+  beside R [] [] cs ds n m h k = subst (AllWent R cs ds) (omega (arith, h)) k
+  beside R [] (b ∷ bs) cs ds n m h k = absurd h
+  beside R (a ∷ olds) [] cs ds n m h k = absurd h
+  beside R (a ∷ olds) (b ∷ bs) cs ds n m (turns, rest, r, more, sum) k = (turns, rest + m, r, beside R olds bs cs ds rest m more k, omega (arith, sum))
+
+  -- the jobs, and the same jobs later
+  pub later : (R S T : J → List Turn → J → Type 0) → ((a b c : J) (xs ys : List Turn) → R a xs b → S b ys c → T a (xs ++ ys) c)
+      → (olds bs cs : List J) (n m : ℕ) → AllWent R olds bs n → AllWent S bs cs m → AllWent T olds cs (n + m)
+  later R S T both [] [] [] n m h k = omega (arith, h, k)
+  later R S T both [] [] (c ∷ cs) n m h k = absurd k
+  later R S T both [] (b ∷ bs) cs n m h k = absurd h
+  later R S T both (a ∷ olds) [] cs n m h k = absurd h
+  later R S T both (a ∷ olds) (b ∷ bs) [] n m h k = absurd k
+  later R S T both (a ∷ olds) (b ∷ bs) (c ∷ cs) n m (xs, i, r, hs, e) (ys, j, s, ks, f) =
+      (xs ++ ys, i + j, both a b c xs ys r s, later R S T both olds bs cs i j hs ks, omega (arith, e, f, did_append xs ys))
+
+  -- what holds of less holds
+  pub weaker : (R S : J → List Turn → J → Type 0) → ((a b : J) (xs : List Turn) → R a xs b → S a xs b) → (olds bs : List J) (n : ℕ) → AllWent R olds bs n → AllWent S olds bs n
+  weaker R S less [] [] n h = h
+  weaker R S less [] (b ∷ bs) n h = absurd h
+  weaker R S less (a ∷ olds) [] n h = absurd h
+  weaker R S less (a ∷ olds) (b ∷ bs) n (xs, i, r, hs, e) = (xs, i, less a b xs r, weaker R S less olds bs i hs, e)
+
+  -- no job is lost
+  pub as_many : (R : J → List Turn → J → Type 0) (olds bs : List J) (n : ℕ) → AllWent R olds bs n → length bs ≡ length olds
+  as_many R [] [] n h = refl
+  as_many R [] (b ∷ bs) n h = absurd h
+  as_many R (a ∷ olds) [] n h = absurd h
+  as_many R (a ∷ olds) (b ∷ bs) n (xs, i, r, hs, e) = ap suc (as_many R olds bs i hs)
+
+  -- the first of two runs that are not empty is the first of the front one
+  pub first_beside : (left : J → ℕ) (olds bs cs ds : List J) → 0 < length olds → FirstWent left olds bs → FirstWent left (olds ++ cs) (bs ++ ds)
+  first_beside left [] bs cs ds some h = absurd (omega (arith, some))
+  first_beside left (a ∷ olds) [] cs ds some h = absurd h
+  first_beside left (a ∷ olds) (b ∷ bs) cs ds some h = h
+
+  -- later the first job has no more turns left than before
+  pub first_later : (made : J → List Turn → J → Type 0) (left : J → ℕ) (stop : Bool) (olds bs cs : List J) (n : ℕ)
+      → FirstWent left olds bs → AllWent (Went made left stop) bs cs n → FirstWent left olds cs
+  first_later made left stop [] bs cs n h k = tt
+  first_later made left stop (a ∷ olds) [] cs n h k = absurd h
+  first_later made left stop (a ∷ olds) (b ∷ bs) [] n h k = absurd k
+  first_later made left stop (a ∷ olds) (b ∷ bs) (c ∷ cs) n h (xs, i, r, ks, e) = omega (arith, h, r.1)
+
+  -- where the parts are one, its first job is the first of all
+  pub firsts_one : (left : J → ℕ) (size : ℕ) (olds news : List J) → length olds ≤ size → FirstWent left olds news → FirstsWent left size olds news
+  firsts_one left size olds news short h zero = rw (zero-mul size) h
+  firsts_one left size olds news short h (suc part) =
+      let none : drop (suc part * size) olds ≡ [] = drop_all (suc part * size) olds (omega (arith, suc-mul part size, short)) in
+      subst (λ l. FirstWent left l (drop (suc part * size) news)) (sym none) tt
+
+  -- the firsts of two runs side by side, where the front one has whole parts
+  pub firsts_beside : (left : J → ℕ) (size most : ℕ) (olds bs cs ds : List J) → 0 < size → length olds ≡ most * size → length bs ≡ length olds
+      → FirstsWent left size olds bs → FirstsWent left size cs ds → FirstsWent left size (olds ++ cs) (bs ++ ds)
+  firsts_beside left size most olds bs cs ds some whole same h k part = ⊎_elim
+      (λ ahead.
+          let room : part * size + size ≤ most * size =
+            (let up : part + 1 ≤ most = omega arith in omega (arith, mul-le-mul_right size up, add-mul part 1 size, one-mul size)) in
+          let e = drop-append-le (part * size) olds cs (omega arith) in
+          let f = drop-append-le (part * size) bs ds (omega arith) in
+          let g = first_beside left (drop (part * size) olds) (drop (part * size) bs) cs ds (omega (arith, length-drop (part * size) olds)) (h part) in
+          subst (λ l. FirstWent left l (drop (part * size) (bs ++ ds))) (sym e) (subst (FirstWent left (drop (part * size) olds ++ cs)) (sym f) g))
+      (λ behind.
+          let n = part - most in
+          let is : part * size ≡ most * size + n * size = ap (λ i. i * size) (omega arith) ∙ add-mul most n size in
+          let at : (xs ys : List J) → length xs ≡ most * size → drop (part * size) (xs ++ ys) ≡ drop (n * size) ys =
+            (λ xs ys e. ap (λ i. drop i (xs ++ ys)) is ∙ sym (drop-drop (n * size) (most * size) (xs ++ ys)) ∙ ap (drop (n * size)) (drop_at xs ys (most * size) e)) in
+          subst (λ l. FirstWent left l (drop (part * size) (bs ++ ds))) (sym (at olds cs whole)) (subst (FirstWent left (drop (n * size) cs)) (sym (at bs ds (same ∙ whole))) (k n)))
+      (cases_lt part most)
+
+-- a job by its meanings, with the laws of its relation
+module _ {J : Type 0} (made : J → List Turn → J → Type 0) (left : J → ℕ)
+    (none : (a : J) → made a [] a)
+    (more : (a b c : J) (xs ys : List Turn) → made a xs b → made b ys c → made a (xs ++ ys) c) where
+  -- a job that made no turn
+  pub went_none : (stop : Bool) (a : J) → Went made left stop a [] a
+  went_none stop a = (none a, omega arith, refl)
+
+  -- a job goes on
+  pub went_more : (stop : Bool) (a b c : J) (xs ys : List Turn) → Went made left false a xs b → Went made left stop b ys c → Went made left stop a (xs ++ ys) c
+  went_more stop a b c xs ys h k =
+      (more a b c xs ys h.0 k.0, omega (arith, h.1.0, k.1.0, length-append xs ys), on_append stop xs ys h.1.1 k.1.1)
+
+  went_weaker : (stop : Bool) (a b : J) (xs : List Turn) → Went made left false a xs b → Went made left stop a xs b
+  went_weaker stop a b xs h = (h.0, h.1.0, on_weaker stop xs h.1.1)
+
+  went_wider : (stop : Bool) (a b : J) (xs : List Turn) → Went made left stop a xs b → Went made left true a xs b
+  went_wider stop a b xs h = (h.0, h.1.0, on_wider stop xs h.1.1)
+
+  -- jobs that made no turn
+  pub all_still : (stop : Bool) (olds : List J) → AllWent (Went made left stop) olds olds 0
+  all_still stop = still (Went made left stop) (went_none stop)
+
+  -- a round that ended with its front half
+  pub half_went : (stop : Bool) (olds bs cs : List J) (n : ℕ) → AllWent (Went made left stop) olds bs n → AllWent (Went made left stop) (olds ++ cs) (bs ++ cs) n
+  half_went stop olds bs cs n h = subst (AllWent (Went made left stop) (olds ++ cs) (bs ++ cs)) (omega arith) (beside (Went made left stop) olds bs cs cs n 0 h (all_still stop cs))
+
+  -- a round whose front half had no Stop
+  pub halves_went : (stop : Bool) (olds bs cs ds : List J) (n m : ℕ) → AllWent (Went made left false) olds bs n → AllWent (Went made left stop) cs ds m
+      → AllWent (Went made left stop) (olds ++ cs) (bs ++ ds) (n + m)
+  halves_went stop olds bs cs ds n m h k = beside (Went made left stop) olds bs cs ds n m (weaker _ _ (went_weaker stop) olds bs n h) k
+
+  -- a round in which there may be a Stop
+  pub all_wider : (stop : Bool) (olds bs : List J) (n : ℕ) → AllWent (Went made left stop) olds bs n → AllWent (Went made left true) olds bs n
+  all_wider stop olds bs n h = weaker _ _ (went_wider stop) olds bs n h
+
+  -- a round without a Stop, and what comes later
+  pub all_later : (olds bs cs : List J) (n m : ℕ) → AllWent (Went made left false) olds bs n → AllWent (Went made left true) bs cs m → AllWent (Went made left true) olds cs (n + m)
+  all_later olds bs cs n m h k = later _ _ _ (went_more true) olds bs cs n m h k

@@ -1,0 +1,51 @@
+-- What the turns of jobs come to.
+use Rattle.std.specs.Prelude.{◌≡◌, ◌<◌, ◌≤◌, ◌+◌, ◌*◌, ◌/◌, ◌%◌, min, ℕ, Bool, true, false, ◌&&◌, List, [], ◌∷◌, length, drop}
+use Rattle.sleep_pool.specs.declared.turns.Turn.{Turn}
+use Rattle.sleep_pool.specs.declared.turns.Turn.TheVariants.{Did, NotYet, Done, Stop}
+
+-- one where the turn did something
+abbrev pub did : Turn → ℕ
+did Did = 1
+did NotYet = 0
+did Done = 0
+did Stop = 0
+
+-- how many turns did something
+abbrev pub did_in : List Turn → ℕ
+did_in [] = 0
+did_in (turn ∷ turns) = did turn + did_in turns
+
+-- no turn is a Stop, but the last, where it may be one
+abbrev pub goes_on : Bool → List Turn → Bool
+goes_on stop [] = true
+goes_on stop (Stop ∷ []) = stop
+goes_on stop (Stop ∷ turn ∷ turns) = false
+goes_on stop (Did ∷ turns) = goes_on stop turns
+goes_on stop (NotYet ∷ turns) = goes_on stop turns
+goes_on stop (Done ∷ turns) = goes_on stop turns
+
+-- the length of the parts of a number of jobs, for a number of workers: all are equal, but the last may be shorter
+abbrev pub part_size : ℕ → ℕ → ℕ
+part_size jobs workers = jobs / workers + min 1 (jobs % workers)
+
+module _ {J : Type 0} where
+  -- a job's turns: it stands in their relation to what it was, has used as many as they are, and none but the last is a Stop
+  abbrev pub Went : (J → List Turn → J → Type 0) → (J → ℕ) → Bool → J → List Turn → J → Type 0
+  Went made left stop old turns new = made old turns new × (left old ≡ left new + length turns) × (goes_on stop turns ≡ true)
+
+  -- each job went by turns of its own, and of all these turns so many did something
+  abbrev pub AllWent : (J → List Turn → J → Type 0) → List J → List J → ℕ → Type 0
+  AllWent R [] [] count = count ≡ 0
+  AllWent R [] (new ∷ news) count = ⊥
+  AllWent R (old ∷ olds) [] count = ⊥
+  AllWent R (old ∷ olds) (new ∷ news) count = (turns : List Turn) × (rest : ℕ) × R old turns new × AllWent R olds news rest × (count ≡ did_in turns + rest)
+
+  -- the first job, if there is one, has fewer turns left
+  abbrev pub FirstWent : (J → ℕ) → List J → List J → Type 0
+  FirstWent left [] news = Unit {0}
+  FirstWent left (old ∷ olds) [] = ⊥
+  FirstWent left (old ∷ olds) (new ∷ news) = left new < left old
+
+  -- the first job of each part of that size has fewer turns left
+  abbrev pub FirstsWent : (J → ℕ) → ℕ → List J → List J → Type 0
+  FirstsWent left size olds news = (part : ℕ) → FirstWent left (drop (part * size) olds) (drop (part * size) news)
