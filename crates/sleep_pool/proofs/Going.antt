@@ -84,12 +84,12 @@ module _ {J : Type 0} where
   first_beside left (a ∷ olds) (b ∷ bs) cs ds some h = h
 
   -- later the first job has no more turns left than before
-  pub first_later : (made : J → List Turn → J → Type 0) (left : J → ℕ) (stop : Bool) (olds bs cs : List J) (n : ℕ)
-      → FirstWent left olds bs → AllWent (Went made left stop) bs cs n → FirstWent left olds cs
-  first_later made left stop [] bs cs n h k = tt
-  first_later made left stop (a ∷ olds) [] cs n h k = absurd h
-  first_later made left stop (a ∷ olds) (b ∷ bs) [] n h k = absurd k
-  first_later made left stop (a ∷ olds) (b ∷ bs) (c ∷ cs) n h (xs, i, r, ks, e) = omega (arith, h, r.1)
+  pub first_later : (made : J → List Turn → J → Type 0) (left : J → ℕ) (stop : Bool) (most : ℕ) (olds bs cs : List J) (n : ℕ)
+      → FirstWent left olds bs → AllWent (Went made left stop most) bs cs n → FirstWent left olds cs
+  first_later made left stop most [] bs cs n h k = tt
+  first_later made left stop most (a ∷ olds) [] cs n h k = absurd h
+  first_later made left stop most (a ∷ olds) (b ∷ bs) [] n h k = absurd k
+  first_later made left stop most (a ∷ olds) (b ∷ bs) (c ∷ cs) n h (xs, i, r, ks, e) = omega (arith, h, r.1)
 
   -- where the parts are one, its first job is the first of all
   pub firsts_one : (left : J → ℕ) (size : ℕ) (olds news : List J) → length olds ≤ size → FirstWent left olds news → FirstsWent left size olds news
@@ -122,37 +122,42 @@ module _ {J : Type 0} (made : J → List Turn → J → Type 0) (left : J → �
     (none : (a : J) → made a [] a)
     (more : (a b c : J) (xs ys : List Turn) → made a xs b → made b ys c → made a (xs ++ ys) c) where
   -- a job that made no turn
-  pub went_none : (stop : Bool) (a : J) → Went made left stop a [] a
-  went_none stop a = (none a, omega arith, refl)
+  pub went_none : (stop : Bool) (most : ℕ) (a : J) → Went made left stop most a [] a
+  went_none stop most a = (none a, omega arith, refl, omega arith)
 
   -- a job goes on
-  pub went_more : (stop : Bool) (a b c : J) (xs ys : List Turn) → Went made left false a xs b → Went made left stop b ys c → Went made left stop a (xs ++ ys) c
-  went_more stop a b c xs ys h k =
-      (more a b c xs ys h.0 k.0, omega (arith, h.1.0, k.1.0, length-append xs ys), on_append stop xs ys h.1.1 k.1.1)
+  pub went_more : (stop : Bool) (m n : ℕ) (a b c : J) (xs ys : List Turn) → Went made left false m a xs b → Went made left stop n b ys c
+      → Went made left stop (m + n) a (xs ++ ys) c
+  went_more stop m n a b c xs ys h k =
+      let long = length-append xs ys in (more a b c xs ys h.0 k.0, omega (arith, h.1, k.1, long), on_append stop xs ys h.2 k.2, omega (arith, h.3, k.3, long))
 
-  went_weaker : (stop : Bool) (a b : J) (xs : List Turn) → Went made left false a xs b → Went made left stop a xs b
-  went_weaker stop a b xs h = (h.0, h.1.0, on_weaker stop xs h.1.1)
+  went_weaker : (stop : Bool) (most : ℕ) (a b : J) (xs : List Turn) → Went made left false most a xs b → Went made left stop most a xs b
+  went_weaker stop most a b xs h = (h.0, h.1, on_weaker stop xs h.2, h.3)
 
-  went_wider : (stop : Bool) (a b : J) (xs : List Turn) → Went made left stop a xs b → Went made left true a xs b
-  went_wider stop a b xs h = (h.0, h.1.0, on_wider stop xs h.1.1)
+  went_wider : (stop : Bool) (m n : ℕ) → m ≤ n → (a b : J) (xs : List Turn) → Went made left stop m a xs b → Went made left true n a xs b
+  went_wider stop m n less a b xs h = (h.0, h.1, on_wider stop xs h.2, omega (arith, less, h.3))
 
   -- jobs that made no turn
-  pub all_still : (stop : Bool) (olds : List J) → AllWent (Went made left stop) olds olds 0
-  all_still stop = still (Went made left stop) (went_none stop)
+  pub all_still : (stop : Bool) (most : ℕ) (olds : List J) → AllWent (Went made left stop most) olds olds 0
+  all_still stop most = still (Went made left stop most) (went_none stop most)
 
   -- a round that ended with its front half
-  pub half_went : (stop : Bool) (olds bs cs : List J) (n : ℕ) → AllWent (Went made left stop) olds bs n → AllWent (Went made left stop) (olds ++ cs) (bs ++ cs) n
-  half_went stop olds bs cs n h = subst (AllWent (Went made left stop) (olds ++ cs) (bs ++ cs)) (omega arith) (beside (Went made left stop) olds bs cs cs n 0 h (all_still stop cs))
+  pub half_went : (stop : Bool) (most : ℕ) (olds bs cs : List J) (n : ℕ) → AllWent (Went made left stop most) olds bs n
+      → AllWent (Went made left stop most) (olds ++ cs) (bs ++ cs) n
+  half_went stop most olds bs cs n h =
+      subst (AllWent (Went made left stop most) (olds ++ cs) (bs ++ cs)) (omega arith) (beside (Went made left stop most) olds bs cs cs n 0 h (all_still stop most cs))
 
   -- a round whose front half had no Stop
-  pub halves_went : (stop : Bool) (olds bs cs ds : List J) (n m : ℕ) → AllWent (Went made left false) olds bs n → AllWent (Went made left stop) cs ds m
-      → AllWent (Went made left stop) (olds ++ cs) (bs ++ ds) (n + m)
-  halves_went stop olds bs cs ds n m h k = beside (Went made left stop) olds bs cs ds n m (weaker _ _ (went_weaker stop) olds bs n h) k
+  pub halves_went : (stop : Bool) (most : ℕ) (olds bs cs ds : List J) (n m : ℕ) → AllWent (Went made left false most) olds bs n
+      → AllWent (Went made left stop most) cs ds m → AllWent (Went made left stop most) (olds ++ cs) (bs ++ ds) (n + m)
+  halves_went stop most olds bs cs ds n m h k = beside (Went made left stop most) olds bs cs ds n m (weaker _ _ (went_weaker stop most) olds bs n h) k
 
-  -- a round in which there may be a Stop
-  pub all_wider : (stop : Bool) (olds bs : List J) (n : ℕ) → AllWent (Went made left stop) olds bs n → AllWent (Went made left true) olds bs n
-  all_wider stop olds bs n h = weaker _ _ (went_wider stop) olds bs n h
+  -- a round in which there may be a Stop, among others
+  pub all_wider : (stop : Bool) (m n : ℕ) → m ≤ n → (olds bs : List J) (count : ℕ) → AllWent (Went made left stop m) olds bs count → AllWent (Went made left true n) olds bs count
+  all_wider stop m n less olds bs count h = weaker _ _ (went_wider stop m n less) olds bs count h
 
   -- a round without a Stop, and what comes later
-  pub all_later : (olds bs cs : List J) (n m : ℕ) → AllWent (Went made left false) olds bs n → AllWent (Went made left true) bs cs m → AllWent (Went made left true) olds cs (n + m)
-  all_later olds bs cs n m h k = later _ _ _ (went_more true) olds bs cs n m h k
+  pub all_later : (rest most : ℕ) → 1 + rest ≡ most → (olds bs cs : List J) (n m : ℕ) → AllWent (Went made left false 1) olds bs n
+      → AllWent (Went made left true rest) bs cs m → AllWent (Went made left true most) olds cs (n + m)
+  all_later rest most is olds bs cs n m h k =
+      subst (λ i. AllWent (Went made left true i) olds cs (n + m)) is (later _ _ _ (went_more true 1 rest) olds bs cs n m h k)

@@ -29,9 +29,9 @@ abbrev pub part_size : ℕ → ℕ → ℕ
 part_size jobs workers = jobs / workers + min 1 (jobs % workers)
 
 module _ {J : Type 0} where
-  -- a job's turns: it stands in their relation to what it was, has used as many as they are, and none but the last is a Stop
-  abbrev pub Went : (J → List Turn → J → Type 0) → (J → ℕ) → Bool → J → List Turn → J → Type 0
-  Went made left stop old turns new = made old turns new × (left old ≡ left new + length turns) × (goes_on stop turns ≡ true)
+  -- a job's turns, at most so many: it stands in their relation to what it was, has used as many as they are, and none is a Stop but the last, where it may be one
+  abbrev pub Went : (J → List Turn → J → Type 0) → (J → ℕ) → Bool → ℕ → J → List Turn → J → Type 0
+  Went made left stop most old turns new = made old turns new × (left old ≡ left new + length turns) × (goes_on stop turns ≡ true) × (length turns ≤ most)
 
   -- each job went by turns of its own, and of all these turns so many did something
   abbrev pub AllWent : (J → List Turn → J → Type 0) → List J → List J → ℕ → Type 0

@@ -24,7 +24,7 @@ fn parts<R: Threads + Sync, W: Sync, J: Job<W> + Send>(
     requires left { All (λ j. 1000 ≤ J.left j) jobs.old }
     requires goes { All (λ j. J.goes j shared.now now) jobs.old }
     requires short { length jobs.old < 2 ^ 32 }
-    ensures went { AllWent (Went J.made J.left true) jobs.old jobs.new (padded_value result) }
+    ensures went { AllWent (Went J.made J.left true 1000) jobs.old jobs.new (padded_value result) }
     ensures firsts { FirstsWent J.left size jobs.old jobs.new }
     ensures few { padded_value result ≤ 1000 * length jobs.old }
     ensures goes { All (λ j. J.goes j shared.now now) jobs.new }
@@ -52,7 +52,7 @@ fn both<R: Threads + Sync, W: Sync, J: Job<W> + Send>(
     requires left { All (λ j. 1000 ≤ J.left j) front.old × All (λ j. 1000 ≤ J.left j) back.old }
     requires goes { All (λ j. J.goes j shared.now now) front.old × All (λ j. J.goes j shared.now now) back.old }
     requires short { length front.old + length back.old < 2 ^ 32 }
-    ensures went { AllWent (Went J.made J.left true) (front.old ++ back.old) (front.new ++ back.new) (padded_value result) }
+    ensures went { AllWent (Went J.made J.left true 1000) (front.old ++ back.old) (front.new ++ back.new) (padded_value result) }
     ensures front { FirstsWent J.left size front.old front.new }
     ensures back { FirstsWent J.left size back.old back.new }
     ensures same { length front.new ≡ length front.old }
@@ -61,11 +61,11 @@ fn both<R: Threads + Sync, W: Sync, J: Job<W> + Send>(
 {
     let mut left = || -> CachePadded<u64>
         requires { IsSync R.row × IsSync W.row × IsSend J.row × (0 < size) × All (λ j. 1000 ≤ J.left j) front.now × All (λ j. J.goes j shared.now now) front.now × (length front.now < 2 ^ 32) }
-        ensures { AllWent (Went J.made J.left true) front.entry.now front.exit.now (padded_value result) × FirstsWent J.left size front.entry.now front.exit.now × (padded_value result ≤ 1000 * length front.entry.now) × All (λ j. J.goes j shared.entry.now now) front.exit.now }
+        ensures { AllWent (Went J.made J.left true 1000) front.entry.now front.exit.now (padded_value result) × FirstsWent J.left size front.entry.now front.exit.now × (padded_value result ≤ 1000 * length front.entry.now) × All (λ j. J.goes j shared.entry.now now) front.exit.now }
     { parts(rt, shared, now, size, front) };
     let mut right = || -> CachePadded<u64>
         requires { IsSync R.row × IsSync W.row × IsSend J.row × (0 < size) × All (λ j. 1000 ≤ J.left j) back.now × All (λ j. J.goes j shared.now now) back.now × (length back.now < 2 ^ 32) }
-        ensures { AllWent (Went J.made J.left true) back.entry.now back.exit.now (padded_value result) × FirstsWent J.left size back.entry.now back.exit.now × (padded_value result ≤ 1000 * length back.entry.now) × All (λ j. J.goes j shared.entry.now now) back.exit.now }
+        ensures { AllWent (Went J.made J.left true 1000) back.entry.now back.exit.now (padded_value result) × FirstsWent J.left size back.entry.now back.exit.now × (padded_value result ≤ 1000 * length back.entry.now) × All (λ j. J.goes j shared.entry.now now) back.exit.now }
     { parts(rt, shared, now, size, back) };
     let (one, two) = join_mut(rt, &mut left, &mut right);
     CachePadded::new(*one + *two)
@@ -85,7 +85,7 @@ pub fn burst<R: Threads + Sync, W: Sync, J: Job<W> + Send>(
     requires left { All (λ j. 1000 ≤ J.left j) jobs.old }
     requires goes { All (λ j. J.goes j shared.now now) jobs.old }
     requires short { length jobs.old < 2 ^ 32 }
-    ensures went { AllWent (Went J.made J.left true) jobs.old jobs.new result }
+    ensures went { AllWent (Went J.made J.left true 1000) jobs.old jobs.new result }
     ensures firsts { FirstsWent J.left (part_size (length jobs.old) workers) jobs.old jobs.new }
     ensures goes { All (λ j. J.goes j shared.now now) jobs.new }
 {

@@ -16,7 +16,7 @@ pub struct Round {
 fn one_turn<W, J: Job<W>>(job: &mut J, shared: &W, now: u64) -> Round
     requires left { 0 < J.left job.old }
     requires goes { J.goes job.old shared.now now }
-    ensures went { AllWent (Went J.made J.left result.stopped) (job.old ∷ []) (job.new ∷ []) result.did }
+    ensures went { AllWent (Went J.made J.left result.stopped 1) (job.old ∷ []) (job.new ∷ []) result.did }
     ensures few { result.did ≤ 1 }
     ensures left { J.left job.old ≡ J.left job.new + 1 }
     ensures goes { J.goes job.new shared.now now }
@@ -42,7 +42,7 @@ fn one_turn<W, J: Job<W>>(job: &mut J, shared: &W, now: u64) -> Round
 pub fn one_round<W, J: Job<W>>(jobs: &mut [J], shared: &W, now: u64) -> Round
     requires left { All (λ j. 0 < J.left j) jobs.old }
     requires goes { All (λ j. J.goes j shared.now now) jobs.old }
-    ensures went { AllWent (Went J.made J.left result.stopped) jobs.old jobs.new result.did }
+    ensures went { AllWent (Went J.made J.left result.stopped 1) jobs.old jobs.new result.did }
     ensures first { FirstWent J.left jobs.old jobs.new }
     ensures few { result.did ≤ length jobs.old }
     ensures left { (n : ℕ) → All (λ j. n < J.left j) jobs.old → All (λ j. n ≤ J.left j) jobs.new }
@@ -75,7 +75,7 @@ pub fn part_rounds<W, J: Job<W>>(jobs: &mut [J], shared: &W, now: u64, most: u64
     requires goes { All (λ j. J.goes j shared.now now) jobs.old }
     requires few { most ≤ 1000 }
     requires short { length jobs.old < 2 ^ 32 }
-    ensures went { AllWent (Went J.made J.left true) jobs.old jobs.new result }
+    ensures went { AllWent (Went J.made J.left true most) jobs.old jobs.new result }
     ensures first { 0 < most → FirstWent J.left jobs.old jobs.new }
     ensures few { result ≤ most * length jobs.old }
     ensures goes { All (λ j. J.goes j shared.now now) jobs.new }

@@ -1,5 +1,5 @@
-use Rattle.std.proofs.Common.{rules, ◌<◌, ◌≤◌, sym, subst, rw, All, ◌++◌}
-use Rattle.std.proofs.lemmas.List.Elements.{All-append}
+use Rattle.std.proofs.Common.{◌<◌, ◌≤◌, sym, subst, All, ◌++◌, ◌+◌, arith, refl}
+use Rattle.std.proofs.lemmas.List.Elements.{All-append, All-take, All-drop, All-same, All-weaker}
 use Rattle.sleep_pool.specs.Turns.{AllWent, Went}
 use Rattle.sleep_pool.proofs.Going.{half_went, halves_went}
 use Rattle.sleep_pool.proofs.rounds.+one_round.Goals as goal
@@ -7,7 +7,33 @@ use Rattle.sleep_pool.proofs.rounds.+one_round.Goals as goal
 pub returns-then-ahead-clause-went : goal.returns-then-ahead-clause-went
 returns-then-ahead-clause-went g t c =
     let laws = g.met.J.Job in
-    let cut = c.split_at_mut-front.ensures in
+    let cut = c.split_at_mut-front in
     let r = c.one_round-ahead in
-    subst (λ l. AllWent (Went g.J.Job.made g.J.Job.left r.result.stopped) l (r.new.jobs ++ c.split_at_mut-front.result.1.now) r.result.did) (sym cut.value)
-    (half_went g.J.Job.made g.J.Job.left laws.made_none laws.made_more r.result.stopped _ _ _ _ r.ensures.went)
+    subst (λ l. AllWent (Went g.J.Job.made g.J.Job.left r.result.stopped 1) l (r.new.jobs ++ cut.result.1.now) r.result.did) (sym cut.ensures.value)
+    (half_went g.J.Job.made g.J.Job.left laws.made_none laws.made_more r.result.stopped 1 _ _ _ _ r.ensures.went)
+
+pub returns-then-ahead-clause-left : goal.returns-then-ahead-clause-left
+returns-then-ahead-clause-left g t c n h =
+    let cut = c.split_at_mut-front in
+    let r = c.one_round-ahead in
+    let front = All-same (λ j. n < g.J.Job.left j) _ _ cut.ensures.front (All-take (λ j. n < g.J.Job.left j) _ _ h) in
+    let back = All-same (λ j. n < g.J.Job.left j) _ _ cut.ensures.back (All-drop (λ j. n < g.J.Job.left j) _ _ h) in
+    All-append (λ j. n ≤ g.J.Job.left j) _ _ (r.ensures.left n front) (All-weaker (λ j. n < g.J.Job.left j) (λ j. n ≤ g.J.Job.left j) (λ j l. omega (arith, l)) _ back)
+
+pub returns-clause-went : goal.returns-clause-went
+returns-clause-went g t c =
+    let laws = g.met.J.Job in
+    let cut = c.split_at_mut-front in
+    let r = c.one_round-ahead in
+    let s = c.one_round-behind in
+    let R = Went g.J.Job.made g.J.Job.left in
+    let ahead = subst (λ b. AllWent (R b 1) cut.result.0.now r.new.jobs r.result.did) c.if-ahead.false r.ensures.went in
+    subst (λ l. AllWent (R s.result.stopped 1) l (r.new.jobs ++ s.new.jobs) (r.result.did + s.result.did)) (sym cut.ensures.value)
+    (halves_went g.J.Job.made g.J.Job.left laws.made_none laws.made_more s.result.stopped 1 _ _ _ _ _ _ ahead s.ensures.went)
+
+pub returns-clause-left : goal.returns-clause-left
+returns-clause-left g t c n h =
+    let cut = c.split_at_mut-front in
+    let front = All-same (λ j. n < g.J.Job.left j) _ _ cut.ensures.front (All-take (λ j. n < g.J.Job.left j) _ _ h) in
+    let back = All-same (λ j. n < g.J.Job.left j) _ _ cut.ensures.back (All-drop (λ j. n < g.J.Job.left j) _ _ h) in
+    All-append (λ j. n ≤ g.J.Job.left j) _ _ (c.one_round-ahead.ensures.left n front) (c.one_round-behind.ensures.left n back)
