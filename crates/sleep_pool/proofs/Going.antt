@@ -1,15 +1,13 @@
 -- How turns add up, over time and over the jobs.
-use Rattle.std.proofs.Common.{◌≡◌, ◌∙◌, ◌<◌, ◌≤◌, ◌+◌, ◌-◌, ◌*◌, ℕ, suc, zero, Bool, true, false, List, [], ◌∷◌, ◌++◌, length, All, refl, sym, ap, subst, arith}
+use Rattle.std.proofs.Common.{◌≡◌, ◌∙◌, ◌<◌, ◌≤◌, ◌+◌, ◌-◌, ◌*◌, ℕ, suc, zero, Bool, true, false, List, [], ◌∷◌, ◌++◌, length, refl, sym, ap, subst, arith}
 use mathlib.Core.Logic.{⊎_elim}
 use lib.ListN.{drop}
 use native.Mathlib.Nat.{add-mul, one-mul, suc-mul, zero-mul, mul-le-mul_right}
-use native.Mathlib.Numerals.{unary_clauses}
 use Rattle.std.proofs.lemmas.Bool.{cases_lt}
 use Rattle.std.proofs.lemmas.List.{length-append, length-drop, drop_all, drop_at, drop-drop, drop-append-le}
-use Rattle.std.proofs.lemmas.List.Elements.{All-append, All-weaker}
 use Rattle.sleep_pool.specs.declared.turns.Turn.{Turn}
 use Rattle.sleep_pool.specs.declared.turns.Turn.TheVariants.{Did, NotYet, Done, Stop}
-use Rattle.sleep_pool.specs.Turns.{did, did_in, goes_on, Went, AllWent, FirstWent, FirstsWent}
+use Rattle.sleep_pool.specs.Turns.{did_in, goes_on, Went, AllWent, FirstWent, FirstsWent}
 
 -- what two lists did is what each did
 pub did_append : (xs ys : List Turn) → did_in (xs ++ ys) ≡ did_in xs + did_in ys
@@ -103,18 +101,18 @@ module _ {J : Type 0} where
       → FirstsWent left size olds bs → FirstsWent left size cs ds → FirstsWent left size (olds ++ cs) (bs ++ ds)
   firsts_beside left size most olds bs cs ds some whole same h k part = ⊎_elim
       (λ ahead.
-          let room : part * size + size ≤ most * size =
-            (let up : part + 1 ≤ most = omega arith in omega (arith, mul-le-mul_right size up, add-mul part 1 size, one-mul size)) in
-          let e = drop-append-le (part * size) olds cs (omega arith) in
-          let f = drop-append-le (part * size) bs ds (omega arith) in
-          let g = first_beside left (drop (part * size) olds) (drop (part * size) bs) cs ds (omega (arith, length-drop (part * size) olds)) (h part) in
-          subst (λ l. FirstWent left l (drop (part * size) (bs ++ ds))) (sym e) (subst (FirstWent left (drop (part * size) olds ++ cs)) (sym f) g))
+      let room : part * size + size ≤ most * size =
+      (let up : part + 1 ≤ most = omega arith in omega (arith, mul-le-mul_right size up, add-mul part 1 size, one-mul size)) in
+      let e = drop-append-le (part * size) olds cs (omega arith) in
+      let f = drop-append-le (part * size) bs ds (omega arith) in
+      let g = first_beside left (drop (part * size) olds) (drop (part * size) bs) cs ds (omega (arith, length-drop (part * size) olds)) (h part) in
+      subst (λ l. FirstWent left l (drop (part * size) (bs ++ ds))) (sym e) (subst (FirstWent left (drop (part * size) olds ++ cs)) (sym f) g))
       (λ behind.
-          let n = part - most in
-          let is : part * size ≡ most * size + n * size = ap (λ i. i * size) (omega arith) ∙ add-mul most n size in
-          let at : (xs ys : List J) → length xs ≡ most * size → drop (part * size) (xs ++ ys) ≡ drop (n * size) ys =
-            (λ xs ys e. ap (λ i. drop i (xs ++ ys)) is ∙ sym (drop-drop (n * size) (most * size) (xs ++ ys)) ∙ ap (drop (n * size)) (drop_at xs ys (most * size) e)) in
-          subst (λ l. FirstWent left l (drop (part * size) (bs ++ ds))) (sym (at olds cs whole)) (subst (FirstWent left (drop (n * size) cs)) (sym (at bs ds (same ∙ whole))) (k n)))
+      let n = part - most in
+      let is : part * size ≡ most * size + n * size = ap (λ i. i * size) (omega arith) ∙ add-mul most n size in
+      let at : (xs ys : List J) → length xs ≡ most * size → drop (part * size) (xs ++ ys) ≡ drop (n * size) ys =
+      (λ xs ys e. ap (λ i. drop i (xs ++ ys)) is ∙ sym (drop-drop (n * size) (most * size) (xs ++ ys)) ∙ ap (drop (n * size)) (drop_at xs ys (most * size) e)) in
+      subst (λ l. FirstWent left l (drop (part * size) (bs ++ ds))) (sym (at olds cs whole)) (subst (FirstWent left (drop (n * size) cs)) (sym (at bs ds (same ∙ whole))) (k n)))
       (cases_lt part most)
 
 -- a job by its meanings, with the laws of its relation

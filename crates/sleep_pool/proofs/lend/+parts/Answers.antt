@@ -1,8 +1,8 @@
-use Rattle.std.proofs.Common.{rules, true, ◌≡◌, ◌≤◌, ◌*◌, ◌++◌, ◌+◌, ◌∙◌, sym, ap, subst, length, All, arith}
+use Rattle.std.proofs.Common.{rules, true, ◌≡◌, ◌++◌, ◌+◌, sym, subst}
 use Rattle.std.proofs.lemmas.List.Elements.{All-append}
 use Rattle.crossbeam_utils.specs.Padded.{padded_value}
 use Rattle.sleep_pool.specs.Turns.{AllWent, Went, FirstsWent}
-use Rattle.sleep_pool.proofs.Going.{beside, as_many, firsts_one, firsts_beside}
+use Rattle.sleep_pool.proofs.Going.{beside, firsts_one, firsts_beside}
 use Rattle.sleep_pool.proofs.lend.+parts.Goals as goal
 
 pub both-returns-clause-went : goal.both-returns-clause-went

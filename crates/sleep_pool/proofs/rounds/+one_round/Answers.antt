@@ -1,4 +1,4 @@
-use Rattle.std.proofs.Common.{◌<◌, ◌≤◌, sym, subst, All, ◌++◌, ◌+◌, arith, refl}
+use Rattle.std.proofs.Common.{◌<◌, ◌≤◌, sym, subst, ◌++◌, ◌+◌, arith}
 use Rattle.std.proofs.lemmas.List.Elements.{All-append, All-take, All-drop, All-same, All-weaker}
 use Rattle.sleep_pool.specs.Turns.{AllWent, Went}
 use Rattle.sleep_pool.proofs.Going.{half_went, halves_went}

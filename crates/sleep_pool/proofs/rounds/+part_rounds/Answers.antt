@@ -1,4 +1,4 @@
-use Rattle.std.proofs.Common.{true, sym, subst, ◌++◌, ◌+◌, ◌-◌, arith}
+use Rattle.std.proofs.Common.{true, subst, ◌-◌, arith}
 use Rattle.sleep_pool.specs.Turns.{AllWent, Went}
 use Rattle.sleep_pool.proofs.Going.{all_still, all_wider, all_later}
 use Rattle.sleep_pool.proofs.rounds.+part_rounds.Goals as goal
