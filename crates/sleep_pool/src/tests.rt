@@ -4,7 +4,7 @@ ghost use Rattle.std.proofs.Common.{rules};
 use super::*;
 use std::process::Abort;
 use std::sync::atomic::{AtomicBool, AtomicU64, Ordering};
-use std::thread::Threads;
+use std::thread::{Threads, yield_now};
 
 /// A job that does something `wants` times, then stops or is done. It can make `left` turns.
 #[derive(Clone, Copy, Drop)]
@@ -142,6 +142,7 @@ fn meets(mine: &AtomicBool, others: &AtomicBool) -> bool {
         if others.load(Ordering::SeqCst) {
             return true;
         }
+        yield_now();
     }
     false
 }
