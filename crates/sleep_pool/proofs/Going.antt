@@ -1,13 +1,14 @@
 -- How turns add up, over time and over the jobs.
 use Rattle.std.proofs.Common.{◌≡◌, ◌∙◌, ◌<◌, ◌≤◌, ◌+◌, ◌-◌, ◌*◌, ℕ, suc, zero, Bool, true, false, List, [], ◌∷◌, ◌++◌, length, refl, sym, ap, subst, arith}
 use mathlib.Core.Logic.{⊎_elim}
-use lib.ListN.{drop}
+use mathlib.Core.Logic.{◌⊎◌, inl, inr}
+use lib.ListN.{take, drop}
 use native.Mathlib.Nat.{add-mul, one-mul, suc-mul, zero-mul, mul-le-mul_right}
 use Rattle.std.proofs.lemmas.Bool.{cases_lt}
-use Rattle.std.proofs.lemmas.List.{length-append, length-drop, drop_all, drop_at, drop-drop, drop-append-le}
+use Rattle.std.proofs.lemmas.List.{length-append, length-drop, drop_all, drop_at, drop-drop, drop-append-le, take-append-le, take_all, append_assoc}
 use Rattle.sleep_pool.specs.declared.turns.Turn.{Turn}
 use Rattle.sleep_pool.specs.declared.turns.Turn.TheVariants.{Did, NotYet, Done, Stop}
-use Rattle.sleep_pool.specs.Turns.{did_in, goes_on, Went, AllWent, FirstWent, FirstsWent}
+use Rattle.sleep_pool.specs.Turns.{did, did_in, goes_on, Went, AllWent, SomeWent, WentOn, WentIdle, WentToStop, Ended, FirstWent, FirstsWent, PartsEnded}
 
 -- what two lists did is what each did
 pub did_append : (xs ys : List Turn) → did_in (xs ++ ys) ≡ did_in xs + did_in ys
@@ -89,6 +90,76 @@ module _ {J : Type 0} where
   first_later made left stop most (a ∷ olds) (b ∷ bs) [] n h k = absurd k
   first_later made left stop most (a ∷ olds) (b ∷ bs) (c ∷ cs) n h (xs, i, r, ks, e) = omega (arith, h, r.1)
 
+  -- a job of the front one is one of two runs
+  pub some_front : (R : J → List Turn → J → Type 0) (olds bs cs ds : List J) → SomeWent R olds bs → SomeWent R (olds ++ cs) (bs ++ ds)
+  some_front R [] bs cs ds h = absurd h
+  some_front R (a ∷ olds) [] cs ds h = absurd h
+  some_front R (a ∷ olds) (b ∷ bs) cs ds (inl one) = inl one
+  some_front R (a ∷ olds) (b ∷ bs) cs ds (inr more) = inr (some_front R olds bs cs ds more)
+
+  -- and so is a job of the back one
+  pub some_back : (R S : J → List Turn → J → Type 0) (olds bs cs ds : List J) (n : ℕ) → AllWent S olds bs n → SomeWent R cs ds → SomeWent R (olds ++ cs) (bs ++ ds)
+  some_back R S [] [] cs ds n h k = k
+  some_back R S [] (b ∷ bs) cs ds n h k = absurd h
+  some_back R S (a ∷ olds) [] cs ds n h k = absurd h
+  some_back R S (a ∷ olds) (b ∷ bs) cs ds n (turns, rest, r, more, sum) k = inr (some_back R S olds bs cs ds rest more k)
+
+  -- a job, and the same job later
+  pub some_later : (R S T : J → List Turn → J → Type 0) → ((a b c : J) (xs ys : List Turn) → R a xs b → S b ys c → T a (xs ++ ys) c)
+      → (olds bs cs : List J) (n : ℕ) → AllWent R olds bs n → SomeWent S bs cs → SomeWent T olds cs
+  some_later R S T both [] [] cs n h k = absurd k
+  some_later R S T both [] (b ∷ bs) cs n h k = absurd h
+  some_later R S T both (a ∷ olds) [] cs n h k = absurd h
+  some_later R S T both (a ∷ olds) (b ∷ bs) [] n h k = absurd k
+  some_later R S T both (a ∷ olds) (b ∷ bs) (c ∷ cs) n (xs, i, r, hs, e) (inl (ys, s)) = inl (xs ++ ys, both a b c xs ys r s)
+  some_later R S T both (a ∷ olds) (b ∷ bs) (c ∷ cs) n (xs, i, r, hs, e) (inr more) = inr (some_later R S T both olds bs cs i hs more)
+
+  -- what holds of less holds of some
+  pub some_weaker : (R S : J → List Turn → J → Type 0) → ((a b : J) (xs : List Turn) → R a xs b → S a xs b) → (olds bs : List J) → SomeWent R olds bs → SomeWent S olds bs
+  some_weaker R S less [] bs h = absurd h
+  some_weaker R S less (a ∷ olds) [] h = absurd h
+  some_weaker R S less (a ∷ olds) (b ∷ bs) (inl (xs, r)) = inl (xs, less a b xs r)
+  some_weaker R S less (a ∷ olds) (b ∷ bs) (inr more) = inr (some_weaker R S less olds bs more)
+
+  -- a round that did nothing leaves each job idle
+  pub idle : (made : J → List Turn → J → Type 0) (left : J → ℕ) (olds bs : List J) (n : ℕ) → n ≡ 0 → AllWent (WentOn made left 1) olds bs n → AllWent (WentIdle made left 1) olds bs n
+  idle made left [] [] n z h = h
+  idle made left [] (b ∷ bs) n z h = absurd h
+  idle made left (a ∷ olds) [] n z h = absurd h
+  idle made left (a ∷ olds) (b ∷ bs) n z ([], i, r, hs, e) = absurd (omega (arith, r.1))
+  idle made left (a ∷ olds) (b ∷ bs) n z (x ∷ y ∷ xs, i, r, hs, e) = absurd (omega (arith, r.1))
+  idle made left (a ∷ olds) (b ∷ bs) n z (x ∷ [], i, r, hs, e) =
+      (x ∷ [], i, (r.0, ([], x, refl, omega (arith, z, e))), idle made left olds bs i (omega (arith, z, e)) hs, e)
+
+  -- where the parts are one, it ended
+  pub ended_one : (made : J → List Turn → J → Type 0) (left : J → ℕ) (most size : ℕ) (olds news : List J) → length olds ≤ size → length news ≡ length olds
+      → Ended made left most olds news → PartsEnded made left most size olds news
+  ended_one made left most size olds news short same h zero =
+      let whole : (xs : List J) → length xs ≤ size → take size (drop (0 * size) xs) ≡ xs = (λ xs l. ap (λ k. take size (drop k xs)) (zero-mul size) ∙ take_all size xs l) in
+      rw (whole olds short, whole news (omega arith)) h
+  ended_one made left most size olds news short same h (suc part) =
+      let none : (xs : List J) → length xs ≤ size → take size (drop (suc part * size) xs) ≡ [] =
+      (λ xs l. ap (take size) (drop_all (suc part * size) xs (omega (arith, suc-mul part size, l))) ∙ take_all size [] (omega arith)) in
+      rw (none olds short, none news (omega arith)) (inl (0, refl))
+
+  -- the parts of two runs side by side, where the front one has whole parts
+  pub ended_beside : (made : J → List Turn → J → Type 0) (left : J → ℕ) (rounds size most : ℕ) (olds bs cs ds : List J) → length olds ≡ most * size → length bs ≡ length olds
+      → PartsEnded made left rounds size olds bs → PartsEnded made left rounds size cs ds → PartsEnded made left rounds size (olds ++ cs) (bs ++ ds)
+  ended_beside made left rounds size most olds bs cs ds whole same h k part = ⊎_elim
+      (λ ahead.
+      let room : part * size + size ≤ most * size =
+      (let up : part + 1 ≤ most = omega arith in omega (arith, mul-le-mul_right size up, add-mul part 1 size, one-mul size)) in
+      let at : (xs ys : List J) → length xs ≡ most * size → take size (drop (part * size) (xs ++ ys)) ≡ take size (drop (part * size) xs) =
+      (λ xs ys e. ap (take size) (drop-append-le (part * size) xs ys (omega arith)) ∙ take-append-le size (drop (part * size) xs) ys (omega (arith, length-drop (part * size) xs))) in
+      rw (at olds cs whole, at bs ds (same ∙ whole)) (h part))
+      (λ behind.
+      let n = part - most in
+      let is : part * size ≡ most * size + n * size = ap (λ i. i * size) (omega arith) ∙ add-mul most n size in
+      let at : (xs ys : List J) → length xs ≡ most * size → take size (drop (part * size) (xs ++ ys)) ≡ take size (drop (n * size) ys) =
+      (λ xs ys e. ap (λ i. take size (drop i (xs ++ ys))) is ∙ ap (take size) (sym (drop-drop (n * size) (most * size) (xs ++ ys)) ∙ ap (drop (n * size)) (drop_at xs ys (most * size) e))) in
+      rw (at olds cs whole, at bs ds (same ∙ whole)) (k n))
+      (cases_lt part most)
+
   -- where the parts are one, its first job is the first of all
   pub firsts_one : (left : J → ℕ) (size : ℕ) (olds news : List J) → length olds ≤ size → FirstWent left olds news → FirstsWent left size olds news
   firsts_one left size olds news short h zero = rw (zero-mul size) h
@@ -159,3 +230,37 @@ module _ {J : Type 0} (made : J → List Turn → J → Type 0) (left : J → �
       → AllWent (Went made left true rest) bs cs m → AllWent (Went made left true most) olds cs (n + m)
   all_later rest most is olds bs cs n m h k =
       subst (λ i. AllWent (Went made left true i) olds cs (n + m)) is (later _ _ _ (went_more true 1 rest) olds bs cs n m h k)
+
+  -- a job that went on goes on
+  pub on_more : (m n : ℕ) (a b c : J) (xs ys : List Turn) → WentOn made left m a xs b → WentOn made left n b ys c → WentOn made left (m + n) a (xs ++ ys) c
+  on_more m n a b c xs ys h k = (went_more false m n a b c xs ys h.0 k.0, length-append xs ys ∙ omega (arith, h.1, k.1))
+
+  idle_more : (m n : ℕ) (a b c : J) (xs ys : List Turn) → WentOn made left m a xs b → WentIdle made left n b ys c → WentIdle made left (m + n) a (xs ++ ys) c
+  idle_more m n a b c xs ys h (k, (before, last, is, nothing)) =
+      (went_more false m n a b c xs ys h.0 k, (xs ++ before, last, ap (λ l. xs ++ l) is ∙ sym (append_assoc xs before (last ∷ [])), nothing))
+
+  stop_more : (m n : ℕ) (a b c : J) (xs ys : List Turn) → WentOn made left m a xs b → WentToStop made left n b ys c → WentToStop made left (m + n) a (xs ++ ys) c
+  stop_more m n a b c xs ys h (k, (before, is)) = (went_more true m n a b c xs ys h.0 k, (xs ++ before, ap (λ l. xs ++ l) is ∙ sym (append_assoc xs before (Stop ∷ []))))
+
+  -- no round was asked for
+  pub ended_none : (olds : List J) → Ended made left 0 olds olds
+  ended_none olds = inl (0, still (WentOn made left 0) (λ a. (went_none false 0 a, refl)) olds)
+
+  -- a round with a Stop
+  pub ended_stop : (most : ℕ) → 1 ≤ most → (olds bs : List J) → SomeWent (WentToStop made left 1) olds bs → Ended made left most olds bs
+  ended_stop most some olds bs h =
+      inr (inr (some_weaker (WentToStop made left 1) (WentToStop made left most) (λ a b xs w. (went_wider true 1 most some a b xs w.0, w.1)) olds bs h))
+
+  -- a round that did nothing
+  pub ended_idle : (most : ℕ) → 1 ≤ most → (olds bs : List J) (n : ℕ) → n ≡ 0 → AllWent (WentOn made left 1) olds bs n → Ended made left most olds bs
+  ended_idle most some olds bs n z h =
+      inr (inl (n, weaker (WentIdle made left 1) (WentIdle made left most) (λ a b xs w. ((w.0.0, w.0.1, w.0.2, omega (arith, some, w.0.3)), w.1)) olds bs n (idle made left olds bs n z h)))
+
+  -- a round, and the others
+  ended_after : (rest : ℕ) (olds bs cs : List J) (n : ℕ) → AllWent (WentOn made left 1) olds bs n → Ended made left rest bs cs → Ended made left (1 + rest) olds cs
+  ended_after rest olds bs cs n h (inl (m, k)) = inl (n + m, later _ _ _ (on_more 1 rest) olds bs cs n m h k)
+  ended_after rest olds bs cs n h (inr (inl (m, k))) = inr (inl (n + m, later _ _ _ (idle_more 1 rest) olds bs cs n m h k))
+  ended_after rest olds bs cs n h (inr (inr k)) = inr (inr (some_later _ _ _ (stop_more 1 rest) olds bs cs n h k))
+
+  pub ended_later : (rest most : ℕ) → 1 + rest ≡ most → (olds bs cs : List J) (n : ℕ) → AllWent (WentOn made left 1) olds bs n → Ended made left rest bs cs → Ended made left most olds cs
+  ended_later rest most is olds bs cs n h k = subst (λ i. Ended made left i olds cs) is (ended_after rest olds bs cs n h k)

@@ -1,5 +1,5 @@
 -- What the turns of jobs come to.
-use Rattle.std.specs.Prelude.{◌≡◌, ◌<◌, ◌≤◌, ◌+◌, ◌*◌, ◌/◌, ◌%◌, min, ℕ, Bool, true, false, List, [], ◌∷◌, length, drop}
+use Rattle.std.specs.Prelude.{◌≡◌, ◌<◌, ◌≤◌, ◌+◌, ◌*◌, ◌/◌, ◌%◌, min, ℕ, Bool, true, false, List, [], ◌∷◌, ◌++◌, length, take, drop, ◌⊎◌}
 use Rattle.sleep_pool.specs.declared.turns.Turn.{Turn}
 use Rattle.sleep_pool.specs.declared.turns.Turn.TheVariants.{Did, NotYet, Done, Stop}
 
@@ -23,6 +23,14 @@ goes_on stop (Stop ∷ turn ∷ turns) = false
 goes_on stop (Did ∷ turns) = goes_on stop turns
 goes_on stop (NotYet ∷ turns) = goes_on stop turns
 goes_on stop (Done ∷ turns) = goes_on stop turns
+
+-- the last of these turns did nothing
+abbrev pub IsIdleAtLast : List Turn → Type 0
+IsIdleAtLast turns = (before : List Turn) × (last : Turn) × (turns ≡ before ++ last ∷ []) × (did last ≡ 0)
+
+-- the last of these turns is a Stop
+abbrev pub StopsAtLast : List Turn → Type 0
+StopsAtLast turns = (before : List Turn) × (turns ≡ before ++ Stop ∷ [])
 
 -- the length of the parts of a number of jobs, for a number of workers: all are equal, but the last may be shorter
 abbrev pub part_size : ℕ → ℕ → ℕ
@@ -49,3 +57,33 @@ module _ {J : Type 0} where
   -- the first job of each part of that size has fewer turns left
   abbrev pub FirstsWent : (J → ℕ) → ℕ → List J → List J → Type 0
   FirstsWent left size olds news = (part : ℕ) → FirstWent left (drop (part * size) olds) (drop (part * size) news)
+
+  -- some job went by turns of its own
+  abbrev pub SomeWent : (J → List Turn → J → Type 0) → List J → List J → Type 0
+  SomeWent R [] news = ⊥
+  SomeWent R (old ∷ olds) [] = ⊥
+  SomeWent R (old ∷ olds) (new ∷ news) = ((turns : List Turn) × R old turns new) ⊎ SomeWent R olds news
+
+  -- a job's turns are just so many, and none is a Stop
+  abbrev pub WentOn : (J → List Turn → J → Type 0) → (J → ℕ) → ℕ → J → List Turn → J → Type 0
+  WentOn made left most old turns new = Went made left false most old turns new × (length turns ≡ most)
+
+  -- the last of a job's turns, at most so many, did nothing
+  abbrev pub WentIdle : (J → List Turn → J → Type 0) → (J → ℕ) → ℕ → J → List Turn → J → Type 0
+  WentIdle made left most old turns new = Went made left false most old turns new × IsIdleAtLast turns
+
+  -- the last of a job's turns, at most so many, is a Stop
+  abbrev pub WentToStop : (J → List Turn → J → Type 0) → (J → ℕ) → ℕ → J → List Turn → J → Type 0
+  WentToStop made left most old turns new = Went made left true most old turns new × StopsAtLast turns
+
+  -- why a worker ended: each job made that many turns, or the last turn of each did nothing, or that of one is a Stop
+  abbrev pub Ended : (J → List Turn → J → Type 0) → (J → ℕ) → ℕ → List J → List J → Type 0
+  Ended made left most olds news =
+      ((count : ℕ) × AllWent (WentOn made left most) olds news count)
+      ⊎ ((count : ℕ) × AllWent (WentIdle made left most) olds news count)
+      ⊎ SomeWent (WentToStop made left most) olds news
+
+  -- each part of that size ended
+  abbrev pub PartsEnded : (J → List Turn → J → Type 0) → (J → ℕ) → ℕ → ℕ → List J → List J → Type 0
+  PartsEnded made left most size olds news =
+      (part : ℕ) → Ended made left most (take size (drop (part * size) olds)) (take size (drop (part * size) news))

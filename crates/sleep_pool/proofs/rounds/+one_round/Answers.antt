@@ -1,7 +1,7 @@
 use Rattle.std.proofs.Common.{◌<◌, ◌≤◌, sym, subst, ◌++◌, ◌+◌, arith}
 use Rattle.std.proofs.lemmas.List.Elements.{All-append, All-take, All-drop, All-same, All-weaker}
-use Rattle.sleep_pool.specs.Turns.{AllWent, Went}
-use Rattle.sleep_pool.proofs.Going.{half_went, halves_went}
+use Rattle.sleep_pool.specs.Turns.{AllWent, SomeWent, Went, WentOn, WentToStop}
+use Rattle.sleep_pool.proofs.Going.{half_went, halves_went, beside, some_front, some_back}
 use Rattle.sleep_pool.proofs.rounds.+one_round.Goals as goal
 
 pub returns-then-ahead-clause-went : goal.returns-then-ahead-clause-went
@@ -37,3 +37,29 @@ returns-clause-left g t c n h =
     let front = All-same (λ j. n < g.J.Job.left j) _ _ cut.ensures.front (All-take (λ j. n < g.J.Job.left j) _ _ h) in
     let back = All-same (λ j. n < g.J.Job.left j) _ _ cut.ensures.back (All-drop (λ j. n < g.J.Job.left j) _ _ h) in
     All-append (λ j. n ≤ g.J.Job.left j) _ _ (c.one_round-ahead.ensures.left n front) (c.one_round-behind.ensures.left n back)
+
+pub returns-then-ahead-clause-stop : goal.returns-then-ahead-clause-stop
+returns-then-ahead-clause-stop g t c is =
+    let cut = c.split_at_mut-front in
+    let r = c.one_round-ahead in
+    let S = WentToStop g.J.Job.made g.J.Job.left 1 in
+    subst (λ l. SomeWent S l (r.new.jobs ++ cut.result.1.now)) (sym cut.ensures.value)
+    (some_front S cut.result.0.now r.new.jobs cut.result.1.now cut.result.1.now (r.ensures.stop is))
+
+pub returns-clause-on : goal.returns-clause-on
+returns-clause-on g t c is =
+    let cut = c.split_at_mut-front in
+    let r = c.one_round-ahead in
+    let s = c.one_round-behind in
+    let O = WentOn g.J.Job.made g.J.Job.left 1 in
+    subst (λ l. AllWent O l (r.new.jobs ++ s.new.jobs) (r.result.did + s.result.did)) (sym cut.ensures.value)
+    (beside O cut.result.0.now r.new.jobs cut.result.1.now s.new.jobs r.result.did s.result.did (r.ensures.on c.if-ahead.false) (s.ensures.on is))
+
+pub returns-clause-stop : goal.returns-clause-stop
+returns-clause-stop g t c is =
+    let cut = c.split_at_mut-front in
+    let r = c.one_round-ahead in
+    let s = c.one_round-behind in
+    let S = WentToStop g.J.Job.made g.J.Job.left 1 in
+    subst (λ l. SomeWent S l (r.new.jobs ++ s.new.jobs)) (sym cut.ensures.value)
+    (some_back S (Went g.J.Job.made g.J.Job.left r.result.stopped 1) cut.result.0.now r.new.jobs cut.result.1.now s.new.jobs r.result.did r.ensures.went (s.ensures.stop is))
