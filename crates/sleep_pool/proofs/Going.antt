@@ -1,14 +1,14 @@
 -- How turns add up, over time and over the jobs.
 use Rattle.std.proofs.Common.{◌≡◌, ◌∙◌, ◌<◌, ◌≤◌, ◌+◌, ◌-◌, ◌*◌, ℕ, suc, zero, Bool, true, false, List, [], ◌∷◌, ◌++◌, length, refl, sym, ap, subst, arith}
 use mathlib.Core.Logic.{⊎_elim}
-use mathlib.Core.Logic.{◌⊎◌, inl, inr}
+use mathlib.Core.Logic.{inl, inr}
 use lib.ListN.{take, drop}
 use native.Mathlib.Nat.{add-mul, one-mul, suc-mul, zero-mul, mul-le-mul_right}
 use Rattle.std.proofs.lemmas.Bool.{cases_lt}
 use Rattle.std.proofs.lemmas.List.{length-append, length-drop, drop_all, drop_at, drop-drop, drop-append-le, take-append-le, take_all, append_assoc}
 use Rattle.sleep_pool.specs.declared.turns.Turn.{Turn}
 use Rattle.sleep_pool.specs.declared.turns.Turn.TheVariants.{Did, NotYet, Done, Stop}
-use Rattle.sleep_pool.specs.Turns.{did, did_in, goes_on, Went, AllWent, SomeWent, WentOn, WentIdle, WentToStop, Ended, FirstWent, FirstsWent, PartsEnded}
+use Rattle.sleep_pool.specs.Turns.{did_in, goes_on, Went, AllWent, WentOn, WentIdle, WentToStop, CutShort, Ended, FirstWent, FirstsWent, PartsEnded}
 
 -- what two lists did is what each did
 pub did_append : (xs ys : List Turn) → did_in (xs ++ ys) ≡ did_in xs + did_in ys
@@ -90,36 +90,22 @@ module _ {J : Type 0} where
   first_later made left stop most (a ∷ olds) (b ∷ bs) [] n h k = absurd k
   first_later made left stop most (a ∷ olds) (b ∷ bs) (c ∷ cs) n h (xs, i, r, ks, e) = omega (arith, h, r.1)
 
-  -- a job of the front one is one of two runs
-  pub some_front : (R : J → List Turn → J → Type 0) (olds bs cs ds : List J) → SomeWent R olds bs → SomeWent R (olds ++ cs) (bs ++ ds)
-  some_front R [] bs cs ds h = absurd h
-  some_front R (a ∷ olds) [] cs ds h = absurd h
-  some_front R (a ∷ olds) (b ∷ bs) cs ds (inl one) = inl one
-  some_front R (a ∷ olds) (b ∷ bs) cs ds (inr more) = inr (some_front R olds bs cs ds more)
+  -- a round that a Stop cuts short in its front half
+  pub cut_front : (made : J → List Turn → J → Type 0) (left : J → ℕ) (rounds : ℕ) (olds bs cs ds : List J) (m : ℕ)
+      → CutShort made left rounds olds bs → AllWent (WentOn made left rounds) cs ds m → CutShort made left rounds (olds ++ cs) (bs ++ ds)
+  cut_front made left rounds [] bs cs ds m h k = absurd h
+  cut_front made left rounds (a ∷ olds) [] cs ds m h k = absurd h
+  cut_front made left rounds (a ∷ olds) (b ∷ bs) cs ds m (inl (xs, n, w, more)) k =
+      inl (xs, n + m, w, beside (WentOn made left rounds) olds bs cs ds n m more k)
+  cut_front made left rounds (a ∷ olds) (b ∷ bs) cs ds m (inr (xs, w, more)) k = inr (xs, w, cut_front made left rounds olds bs cs ds m more k)
 
-  -- and so is a job of the back one
-  pub some_back : (R S : J → List Turn → J → Type 0) (olds bs cs ds : List J) (n : ℕ) → AllWent S olds bs n → SomeWent R cs ds → SomeWent R (olds ++ cs) (bs ++ ds)
-  some_back R S [] [] cs ds n h k = k
-  some_back R S [] (b ∷ bs) cs ds n h k = absurd h
-  some_back R S (a ∷ olds) [] cs ds n h k = absurd h
-  some_back R S (a ∷ olds) (b ∷ bs) cs ds n (turns, rest, r, more, sum) k = inr (some_back R S olds bs cs ds rest more k)
-
-  -- a job, and the same job later
-  pub some_later : (R S T : J → List Turn → J → Type 0) → ((a b c : J) (xs ys : List Turn) → R a xs b → S b ys c → T a (xs ++ ys) c)
-      → (olds bs cs : List J) (n : ℕ) → AllWent R olds bs n → SomeWent S bs cs → SomeWent T olds cs
-  some_later R S T both [] [] cs n h k = absurd k
-  some_later R S T both [] (b ∷ bs) cs n h k = absurd h
-  some_later R S T both (a ∷ olds) [] cs n h k = absurd h
-  some_later R S T both (a ∷ olds) (b ∷ bs) [] n h k = absurd k
-  some_later R S T both (a ∷ olds) (b ∷ bs) (c ∷ cs) n (xs, i, r, hs, e) (inl (ys, s)) = inl (xs ++ ys, both a b c xs ys r s)
-  some_later R S T both (a ∷ olds) (b ∷ bs) (c ∷ cs) n (xs, i, r, hs, e) (inr more) = inr (some_later R S T both olds bs cs i hs more)
-
-  -- what holds of less holds of some
-  pub some_weaker : (R S : J → List Turn → J → Type 0) → ((a b : J) (xs : List Turn) → R a xs b → S a xs b) → (olds bs : List J) → SomeWent R olds bs → SomeWent S olds bs
-  some_weaker R S less [] bs h = absurd h
-  some_weaker R S less (a ∷ olds) [] h = absurd h
-  some_weaker R S less (a ∷ olds) (b ∷ bs) (inl (xs, r)) = inl (xs, less a b xs r)
-  some_weaker R S less (a ∷ olds) (b ∷ bs) (inr more) = inr (some_weaker R S less olds bs more)
+  -- and in its back half
+  pub cut_back : (made : J → List Turn → J → Type 0) (left : J → ℕ) (rounds : ℕ) (olds bs cs ds : List J) (n : ℕ)
+      → AllWent (WentOn made left (1 + rounds)) olds bs n → CutShort made left rounds cs ds → CutShort made left rounds (olds ++ cs) (bs ++ ds)
+  cut_back made left rounds [] [] cs ds n h k = k
+  cut_back made left rounds [] (b ∷ bs) cs ds n h k = absurd h
+  cut_back made left rounds (a ∷ olds) [] cs ds n h k = absurd h
+  cut_back made left rounds (a ∷ olds) (b ∷ bs) cs ds n (xs, rest, r, more, sum) k = inr (xs, r, cut_back made left rounds olds bs cs ds rest more k)
 
   -- a round that did nothing leaves each job idle
   pub idle : (made : J → List Turn → J → Type 0) (left : J → ℕ) (olds bs : List J) (n : ℕ) → n ≡ 0 → AllWent (WentOn made left 1) olds bs n → AllWent (WentIdle made left 1) olds bs n
@@ -129,7 +115,7 @@ module _ {J : Type 0} where
   idle made left (a ∷ olds) (b ∷ bs) n z ([], i, r, hs, e) = absurd (omega (arith, r.1))
   idle made left (a ∷ olds) (b ∷ bs) n z (x ∷ y ∷ xs, i, r, hs, e) = absurd (omega (arith, r.1))
   idle made left (a ∷ olds) (b ∷ bs) n z (x ∷ [], i, r, hs, e) =
-      (x ∷ [], i, (r.0, ([], x, refl, omega (arith, z, e))), idle made left olds bs i (omega (arith, z, e)) hs, e)
+      (x ∷ [], i, (r, ([], x, refl, omega (arith, z, e))), idle made left olds bs i (omega (arith, z, e)) hs, e)
 
   -- where the parts are one, it ended
   pub ended_one : (made : J → List Turn → J → Type 0) (left : J → ℕ) (most size : ℕ) (olds news : List J) → length olds ≤ size → length news ≡ length olds
@@ -237,30 +223,48 @@ module _ {J : Type 0} (made : J → List Turn → J → Type 0) (left : J → �
 
   idle_more : (m n : ℕ) (a b c : J) (xs ys : List Turn) → WentOn made left m a xs b → WentIdle made left n b ys c → WentIdle made left (m + n) a (xs ++ ys) c
   idle_more m n a b c xs ys h (k, (before, last, is, nothing)) =
-      (went_more false m n a b c xs ys h.0 k, (xs ++ before, last, ap (λ l. xs ++ l) is ∙ sym (append_assoc xs before (last ∷ [])), nothing))
+      (on_more m n a b c xs ys h k, (xs ++ before, last, ap (λ l. xs ++ l) is ∙ sym (append_assoc xs before (last ∷ [])), nothing))
 
   stop_more : (m n : ℕ) (a b c : J) (xs ys : List Turn) → WentOn made left m a xs b → WentToStop made left n b ys c → WentToStop made left (m + n) a (xs ++ ys) c
-  stop_more m n a b c xs ys h (k, (before, is)) = (went_more true m n a b c xs ys h.0 k, (xs ++ before, ap (λ l. xs ++ l) is ∙ sym (append_assoc xs before (Stop ∷ []))))
+  stop_more m n a b c xs ys h (k, long, (before, is)) =
+      (went_more true m n a b c xs ys h.0 k, length-append xs ys ∙ omega (arith, h.1, long), (xs ++ before, ap (λ l. xs ++ l) is ∙ sym (append_assoc xs before (Stop ∷ []))))
+
+  -- a whole round, and then others of which one is cut short
+  cut_later : (rounds : ℕ) (olds bs cs : List J) (n : ℕ) → AllWent (WentOn made left 1) olds bs n → CutShort made left rounds bs cs → CutShort made left (1 + rounds) olds cs
+  cut_later rounds [] [] cs n h k = absurd k
+  cut_later rounds [] (b ∷ bs) cs n h k = absurd h
+  cut_later rounds (a ∷ olds) [] cs n h k = absurd h
+  cut_later rounds (a ∷ olds) (b ∷ bs) [] n h k = absurd k
+  cut_later rounds (a ∷ olds) (b ∷ bs) (c ∷ cs) n (xs, i, r, hs, e) (inl (ys, j, s, ks)) =
+      inl (xs ++ ys, i + j, stop_more 1 (1 + rounds) a b c xs ys r s, later _ _ _ (on_more 1 rounds) olds bs cs i j hs ks)
+  cut_later rounds (a ∷ olds) (b ∷ bs) (c ∷ cs) n (xs, i, r, hs, e) (inr (ys, s, ks)) =
+      inr (xs ++ ys, on_more 1 (1 + rounds) a b c xs ys r s, cut_later rounds olds bs cs i hs ks)
+
+  -- jobs that made no turn went on for none
+  pub on_none : (olds : List J) → AllWent (WentOn made left 0) olds olds 0
+  on_none olds = still (WentOn made left 0) (λ a. (went_none false 0 a, refl)) olds
+
+  -- a round that ended with its front half
+  pub half_cut : (olds bs cs : List J) → CutShort made left 0 olds bs → CutShort made left 0 (olds ++ cs) (bs ++ cs)
+  half_cut olds bs cs h = cut_front made left 0 olds bs cs cs 0 h (on_none cs)
 
   -- no round was asked for
   pub ended_none : (olds : List J) → Ended made left 0 olds olds
-  ended_none olds = inl (0, still (WentOn made left 0) (λ a. (went_none false 0 a, refl)) olds)
+  ended_none olds = inl (0, on_none olds)
 
   -- a round with a Stop
-  pub ended_stop : (most : ℕ) → 1 ≤ most → (olds bs : List J) → SomeWent (WentToStop made left 1) olds bs → Ended made left most olds bs
-  ended_stop most some olds bs h =
-      inr (inr (some_weaker (WentToStop made left 1) (WentToStop made left most) (λ a b xs w. (went_wider true 1 most some a b xs w.0, w.1)) olds bs h))
+  pub ended_stop : (most : ℕ) → 1 ≤ most → (olds bs : List J) → CutShort made left 0 olds bs → Ended made left most olds bs
+  ended_stop most some olds bs h = inr (inr (0, omega (arith, some), h))
 
   -- a round that did nothing
   pub ended_idle : (most : ℕ) → 1 ≤ most → (olds bs : List J) (n : ℕ) → n ≡ 0 → AllWent (WentOn made left 1) olds bs n → Ended made left most olds bs
-  ended_idle most some olds bs n z h =
-      inr (inl (n, weaker (WentIdle made left 1) (WentIdle made left most) (λ a b xs w. ((w.0.0, w.0.1, w.0.2, omega (arith, some, w.0.3)), w.1)) olds bs n (idle made left olds bs n z h)))
+  ended_idle most some olds bs n z h = inr (inl (1, n, some, idle made left olds bs n z h))
 
   -- a round, and the others
   ended_after : (rest : ℕ) (olds bs cs : List J) (n : ℕ) → AllWent (WentOn made left 1) olds bs n → Ended made left rest bs cs → Ended made left (1 + rest) olds cs
   ended_after rest olds bs cs n h (inl (m, k)) = inl (n + m, later _ _ _ (on_more 1 rest) olds bs cs n m h k)
-  ended_after rest olds bs cs n h (inr (inl (m, k))) = inr (inl (n + m, later _ _ _ (idle_more 1 rest) olds bs cs n m h k))
-  ended_after rest olds bs cs n h (inr (inr k)) = inr (inr (some_later _ _ _ (stop_more 1 rest) olds bs cs n h k))
+  ended_after rest olds bs cs n h (inr (inl (rounds, m, few, k))) = inr (inl (1 + rounds, n + m, omega (arith, few), later _ _ _ (idle_more 1 rounds) olds bs cs n m h k))
+  ended_after rest olds bs cs n h (inr (inr (rounds, few, k))) = inr (inr (1 + rounds, omega (arith, few), cut_later rounds olds bs cs n h k))
 
   pub ended_later : (rest most : ℕ) → 1 + rest ≡ most → (olds bs cs : List J) (n : ℕ) → AllWent (WentOn made left 1) olds bs n → Ended made left rest bs cs → Ended made left most olds cs
   ended_later rest most is olds bs cs n h k = subst (λ i. Ended made left i olds cs) is (ended_after rest olds bs cs n h k)

@@ -58,30 +58,32 @@ module _ {J : Type 0} where
   abbrev pub FirstsWent : (J → ℕ) → ℕ → List J → List J → Type 0
   FirstsWent left size olds news = (part : ℕ) → FirstWent left (drop (part * size) olds) (drop (part * size) news)
 
-  -- some job went by turns of its own
-  abbrev pub SomeWent : (J → List Turn → J → Type 0) → List J → List J → Type 0
-  SomeWent R [] news = ⊥
-  SomeWent R (old ∷ olds) [] = ⊥
-  SomeWent R (old ∷ olds) (new ∷ news) = ((turns : List Turn) × R old turns new) ⊎ SomeWent R olds news
-
   -- a job's turns are just so many, and none is a Stop
   abbrev pub WentOn : (J → List Turn → J → Type 0) → (J → ℕ) → ℕ → J → List Turn → J → Type 0
   WentOn made left most old turns new = Went made left false most old turns new × (length turns ≡ most)
 
-  -- the last of a job's turns, at most so many, did nothing
+  -- a job's turns are just so many, none is a Stop, and the last did nothing
   abbrev pub WentIdle : (J → List Turn → J → Type 0) → (J → ℕ) → ℕ → J → List Turn → J → Type 0
-  WentIdle made left most old turns new = Went made left false most old turns new × IsIdleAtLast turns
+  WentIdle made left most old turns new = WentOn made left most old turns new × IsIdleAtLast turns
 
-  -- the last of a job's turns, at most so many, is a Stop
+  -- a job's turns are just so many, and the last is a Stop
   abbrev pub WentToStop : (J → List Turn → J → Type 0) → (J → ℕ) → ℕ → J → List Turn → J → Type 0
-  WentToStop made left most old turns new = Went made left true most old turns new × StopsAtLast turns
+  WentToStop made left most old turns new = Went made left true most old turns new × (length turns ≡ most) × StopsAtLast turns
 
-  -- why a worker ended: each job made that many turns, or the last turn of each did nothing, or that of one is a Stop
+  -- so many rounds were made, and one that a job's Stop cut short: those before it had a turn more than those behind it
+  abbrev pub CutShort : (J → List Turn → J → Type 0) → (J → ℕ) → ℕ → List J → List J → Type 0
+  CutShort made left rounds [] news = ⊥
+  CutShort made left rounds (old ∷ olds) [] = ⊥
+  CutShort made left rounds (old ∷ olds) (new ∷ news) =
+      ((turns : List Turn) × (count : ℕ) × WentToStop made left (1 + rounds) old turns new × AllWent (WentOn made left rounds) olds news count)
+      ⊎ ((turns : List Turn) × WentOn made left (1 + rounds) old turns new × CutShort made left rounds olds news)
+
+  -- why a worker ended: that many rounds were made, or fewer, of which the last did nothing, or one was cut short
   abbrev pub Ended : (J → List Turn → J → Type 0) → (J → ℕ) → ℕ → List J → List J → Type 0
   Ended made left most olds news =
       ((count : ℕ) × AllWent (WentOn made left most) olds news count)
-      ⊎ ((count : ℕ) × AllWent (WentIdle made left most) olds news count)
-      ⊎ SomeWent (WentToStop made left most) olds news
+      ⊎ ((rounds : ℕ) × (count : ℕ) × (rounds ≤ most) × AllWent (WentIdle made left rounds) olds news count)
+      ⊎ ((rounds : ℕ) × (rounds < most) × CutShort made left rounds olds news)
 
   -- each part of that size ended
   abbrev pub PartsEnded : (J → List Turn → J → Type 0) → (J → ℕ) → ℕ → ℕ → List J → List J → Type 0

@@ -1,5 +1,5 @@
 ghost use Rattle.std.specs.Prelude.{◌≡◌, ◌+◌, ◌*◌, ◌<◌, ◌≤◌, ◌^◌, ℕ, true, false, [], ◌∷◌, All, length};
-ghost use Rattle.sleep_pool.specs.Turns.{AllWent, Went, FirstWent, SomeWent, WentOn, WentToStop, Ended};
+ghost use Rattle.sleep_pool.specs.Turns.{AllWent, Went, FirstWent, WentOn, CutShort, Ended};
 
 use crate::turns::{Job, Turn};
 
@@ -18,7 +18,7 @@ fn one_turn<W, J: Job<W>>(job: &mut J, shared: &W, now: u64) -> Round
     requires goes { J.goes job.old shared.now now }
     ensures went { AllWent (Went J.made J.left result.stopped 1) (job.old ∷ []) (job.new ∷ []) result.did }
     ensures on { result.stopped ≡ false → AllWent (WentOn J.made J.left 1) (job.old ∷ []) (job.new ∷ []) result.did }
-    ensures stop { result.stopped ≡ true → SomeWent (WentToStop J.made J.left 1) (job.old ∷ []) (job.new ∷ []) }
+    ensures stop { result.stopped ≡ true → CutShort J.made J.left 0 (job.old ∷ []) (job.new ∷ []) }
     ensures few { result.did ≤ 1 }
     ensures left { J.left job.old ≡ J.left job.new + 1 }
     ensures goes { J.goes job.new shared.now now }
@@ -46,7 +46,7 @@ pub fn one_round<W, J: Job<W>>(jobs: &mut [J], shared: &W, now: u64) -> Round
     requires goes { All (λ j. J.goes j shared.now now) jobs.old }
     ensures went { AllWent (Went J.made J.left result.stopped 1) jobs.old jobs.new result.did }
     ensures on { result.stopped ≡ false → AllWent (WentOn J.made J.left 1) jobs.old jobs.new result.did }
-    ensures stop { result.stopped ≡ true → SomeWent (WentToStop J.made J.left 1) jobs.old jobs.new }
+    ensures stop { result.stopped ≡ true → CutShort J.made J.left 0 jobs.old jobs.new }
     ensures first { FirstWent J.left jobs.old jobs.new }
     ensures few { result.did ≤ length jobs.old }
     ensures left { (n : ℕ) → All (λ j. n < J.left j) jobs.old → All (λ j. n ≤ J.left j) jobs.new }

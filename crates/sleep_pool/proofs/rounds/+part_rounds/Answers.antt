@@ -1,4 +1,4 @@
-use Rattle.std.proofs.Common.{true, false, sym, subst, ◌+◌, ◌-◌, arith}
+use Rattle.std.proofs.Common.{true, sym, subst, ◌-◌, arith}
 use Rattle.sleep_pool.specs.Turns.{AllWent, Went, Ended}
 use Rattle.sleep_pool.proofs.Going.{all_still, all_wider, all_later, ended_none, ended_stop, ended_idle, ended_later}
 use Rattle.sleep_pool.proofs.rounds.+part_rounds.Goals as goal
