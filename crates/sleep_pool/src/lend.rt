@@ -72,9 +72,9 @@ fn both<R: Threads + Sync, W: Sync, J: Job<W> + Send>(
     CachePadded::new(*one + *two)
 }
 
-/// Cuts the jobs into `workers` contiguous parts of equal length (the last may be shorter) and has a worker make
-/// rounds over each at the moment `now` (ms): at most 1,000, and up to a `Stop` or a round that did nothing. It answers
-/// how many turns did something. Where no thread can be made, the parts run one after another.
+/// Cuts the jobs into `workers` contiguous parts of equal length (the last may be shorter, and there may be fewer), and
+/// has a worker make rounds over each at the moment `now` (ms): 1,000 at most, and up to a `Stop` or a round that did
+/// nothing. It answers how many turns did something. Where no thread can be made, the parts run one after another.
 pub fn burst<R: Threads + Sync, W: Sync, J: Job<W> + Send>(
     rt: &R,
     jobs: &mut [J],
