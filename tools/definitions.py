@@ -68,6 +68,7 @@ SECTIONS = [
     ("wakeup_guard", "A saved count and its test", "`drivers/base/power/wakeup.c`", ["Guarded"]),
     ("event_word", "What looks at the word and steps on it say", "`drivers/base/power/wakeup.c`", ["Looks", "Steps"]),
     ("wakeup_source", "A wakeup source, its calls and what is counted of it", "`drivers/base/power/wakeup.c`", ["SourceStates", "Called", "Told", "Tallies", "Books", "BookFields"]),
+    ("sleep_pool", "Jobs and their turns in a burst", "own", ["Turns"]),
     ("async_board", "Where devices stand, as the code keeps it", "`drivers/base/power/main.c`", ["Boards", "AtPlaces", "BoardFields", "Walks", "Picks", "Cursors", "Counts"]),
     ("phase_prepare", "Prepare and complete, over a board", "`drivers/base/power/main.c`", ["Prepares", "AtPlaces"]),
     ("phase_suspend", "The three phases down, over a board", "`drivers/base/power/main.c`", ["Downs", "Spanned", "AtPlaces"]),

@@ -1,0 +1,11 @@
+//! Jobs that are lent to workers for a while: each job to one worker, in contiguous parts.
+#![tactic(auto)]
+
+mod lend;
+mod rounds;
+#[cfg(test)]
+mod tests;
+mod turns;
+
+pub use lend::burst;
+pub use turns::{Job, Turn};
