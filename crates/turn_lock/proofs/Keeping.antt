@@ -77,6 +77,15 @@ module _ {A : Type 0} where
   drop_front [] ys = refl
   drop_front (x ∷ xs) ys = drop_front xs ys
 
+module _ {V : Type 0} where
+  abbrev value_or : V → Option V → V
+  value_or d None = d
+  value_or d (Some y) = y
+
+  abbrev value_in : V → List (ℕ × Option V) → V
+  value_in d [] = d
+  value_in d (c ∷ cs) = value_or d c.1
+
 zeros : (n i : ℕ) → ◌≡◌ {A = ℕ} (get_or (replicate n 0) i 0) 0
 zeros zero i = refl
 zeros (suc n) zero = refl
@@ -246,3 +255,191 @@ module _ {V I R : Type 0} (root : V → R) (entries : V → List I) where
                   (p.0, booked_stays r.first r.log k k' i more (get_or x.known k' []) other p.1);
             });
       }
+
+  pub may_give : (slots id i k : ℕ) (me : Me (Option V) D) (y : V) → me.1 ≡ (i, Some y) ∷ [] → me.0.out ≡ Some i → me.0.keeps ≡ false → me.0.number ≡ Some k
+      → (more : List I) × (entries y ≡ me.0.had ++ more) → ((u : V) → get_elem? me.0.first i ≡ some u → root y ≡ root u)
+      → Allows Rule slots id me i (λ _. 0) (λ _. told.gives root entries (step slots i 0 0 none) me 0)
+  may_give slots id i k me y carried out plain numbered grown rooted s r sized at small =
+      let w : D = back_from root entries me.0 i (entries y) in (
+        w,
+        gives,
+        tt,
+        subst (λ (cs : List (ℕ × Option V)). Rule (stepped s i 0 id cs w gives)) (sym carried) (given s r id i k me.0 y grown.0 at out plain numbered grown.1 rooted),
+        λ y' e. let same : value_in y me.1 ≡ value_in y ((i, Some y') ∷ []) = ap (value_in y) e in
+            let here : value_in y me.1 ≡ y = ap (value_in y) carried in
+            (λ t. (back_from root entries me.0 i (entries ((sym here ∙ same) t)), Rattle.atomic_table.specs.Table.rest (carried t))),
+      )
+
+  pub may_split : (id : ℕ) (v : D) → v.keeps ≡ true → v.out ≡ None → v.number ≡ None → Splits Rule id v (keeper v.first (v.next + 1) v.known) (pass_view v.first v.next [])
+  may_split id v owns idle unnumbered s r at =
+      let left : D = keeper v.first (v.next + 1) v.known in
+      let right : D = pass_view v.first v.next [] in
+      let vs : List D = set s.views id left in
+      let seen = r.each_seat id v at in
+      let kp = seen.keeps owns in
+      let next : v.next ≡ r.next = kp.2 in
+      let fewer : length v.known ≤ r.next = kp.3 in
+      let seat_of : ℕ → ℕ = put r.seat_of r.next (length vs) in
+      let K : ℕ → D → Type 0 = λ j x. Knows root entries r.first s.words (r.next + 1) r.boss seat_of r.holder r.log j x in
+      record {
+        first = r.first;
+        next = r.next + 1;
+        boss = r.boss;
+        seat_of = seat_of;
+        holder = r.holder;
+        log = r.log;
+        wide = r.wide;
+        deep = r.deep;
+        home = r.home;
+        makers = λ i. below_more r.next (r.log i) (r.makers i);
+        away = λ j low busy. let b = r.away j low busy in
+            let far = apart s.views j (r.holder j) id b.0 v b.1 at b.2 (λ o. none_some j (sym idle ∙ o)) in
+            (b.0, at_longer vs (right ∷ []) (r.holder j) b.0 (set_else s.views id (r.holder j) left far ∙ b.1), b.2, b.3);
+        each_seat = λ j x e. ⊎_elim (seats K s.views id left
+            (record {
+              out = λ i e. absurd (none_some i e);
+              made = λ k e. absurd (none_some k e);
+              keeps = λ _. (kp.0, kp.1, ap (λ n. n + 1) next, omega arith);
+              known = λ _ k low. let b = seen.known owns k low in (put_else r.seat_of r.next (length vs) k (λ q. omega arith) ∙ b.0, b.1);
+            })
+            (λ j x far there'. let b = r.each_seat j x there' in record {
+              out = b.out;
+              made = λ k e. let p = b.made k e in let low = p.1 in (p.0, omega arith, put_else r.seat_of r.next (length vs) k (λ q. omega arith) ∙ p.2, p.3);
+              keeps = λ e. absurd (far ((b.keeps e).1 ∙ sym kp.1));
+              known = λ e. absurd (far ((b.keeps e).1 ∙ sym kp.1));
+            }) j x)
+            (λ (t : (j ≡ length vs) × (right ≡ x)). subst (λ (q : ℕ × D). K q.0 q.1) (λ i. (sym t.0 i, t.1 i)) (record {
+              out = λ i e. absurd (none_some i e);
+              made = λ k e. subst (λ n. (v.first ≡ r.first) × (n < r.next + 1) × (seat_of n ≡ length vs) × IsBooked root entries r.first r.log n []) (sym next ∙ same_number v.next k e)
+                  (kp.0, omega arith, put_at r.seat_of r.next (length vs) r.next refl, λ i u at'. sym (made_by_new r.next i (length (entries u)) (r.log i) (r.makers i)));
+              keeps = λ e. absurd (not_both false refl e);
+              known = λ e. absurd (not_both false refl e);
+            }))
+            (at_end vs right x j e);
+      }
+
+  pub may_join : (id : ℕ) (v : D) (other : ℕ) (w : D) → v.keeps ≡ true → v.out ≡ None → v.number ≡ None → w.number ≡ Some (length v.known) → w.out ≡ None
+      → Joins Rule id v other w (keeper v.first v.next (v.known ++ w.made ∷ [])) spent
+  may_join id v other w owns idle unnumbered numbered rests s r at distinct there' =
+      let both : D = keeper v.first v.next (v.known ++ w.made ∷ []) in
+      let vs : List D = set s.views id both in
+      let there'' : get_elem? s.views other ≡ some w = sym (set_else s.views id other both distinct) ∙ there' in
+      let seen = r.each_seat id v at in
+      let kp = seen.keeps owns in
+      let kw = (r.each_seat other w there'').made (length v.known) numbered in
+      let low : length v.known < r.next = kw.1 in
+      let seat_of : ℕ → ℕ = put r.seat_of (length v.known) id in
+      let K : ℕ → D → Type 0 = λ j x. Knows root entries r.first s.words r.next r.boss seat_of r.holder r.log j x in
+      let long : length (v.known ++ w.made ∷ []) ≡ length v.known + 1 = length-append v.known (w.made ∷ []) in
+      record {
+        first = r.first;
+        next = r.next;
+        boss = r.boss;
+        seat_of = seat_of;
+        holder = r.holder;
+        log = r.log;
+        wide = r.wide;
+        deep = r.deep;
+        home = r.home;
+        makers = r.makers;
+        away = λ j below busy. let b = r.away j below busy in
+            let far = apart s.views j (r.holder j) id b.0 v b.1 at b.2 (λ o. none_some j (sym idle ∙ o)) in
+            let beyond = apart s.views j (r.holder j) other b.0 w b.1 there'' b.2 (λ o. none_some j (sym rests ∙ o)) in
+            (b.0, set_else vs other (r.holder j) spent beyond ∙ (set_else s.views id (r.holder j) both far ∙ b.1), b.2, b.3);
+        each_seat = seats K vs other spent
+            (record {
+              out = λ i e. absurd (none_some i e);
+              made = λ k e. absurd (none_some k e);
+              keeps = λ e. absurd (not_both false refl e);
+              known = λ e. absurd (not_both false refl e);
+            })
+            (λ j x beyond e. seats (λ j x. j ≢ other → K j x) s.views id both
+            (λ _. record {
+              out = λ i e. absurd (none_some i e);
+              made = λ k e. absurd (none_some k e);
+              keeps = λ _. (kp.0, kp.1, kp.2, omega arith);
+              known = λ _ k less. dite (ℕ_discrete k (length v.known))
+                  (λ (q : k ≡ length v.known). (put_at r.seat_of (length v.known) id k q,
+                      subst (λ n. IsBooked root entries r.first r.log n (get_or (v.known ++ w.made ∷ []) n [])) (sym q)
+                      (subst (IsBooked root entries r.first r.log (length v.known)) (sym (get_or_end v.known w.made [])) kw.3)))
+                  (λ (q : k ≢ length v.known). let less' : k < length v.known = omega arith in let b = seen.known owns k less' in
+                      (put_else r.seat_of (length v.known) id k q ∙ b.0, subst (IsBooked root entries r.first r.log k) (sym (get_or_front v.known (w.made ∷ []) k [] less')) b.1));
+            })
+            (λ j x far at' away'. let b = r.each_seat j x at' in record {
+              out = b.out;
+              made = λ k e. let p = b.made k e in
+                  (p.0, p.1, put_else r.seat_of (length v.known) id k (λ q. away' (sym p.2 ∙ (ap r.seat_of q ∙ kw.2))) ∙ p.2, p.3);
+              keeps = λ e. absurd (far ((b.keeps e).1 ∙ sym kp.1));
+              known = λ e. absurd (far ((b.keeps e).1 ∙ sym kp.1));
+            }) j x e beyond);
+      }
+
+  first_seat : (values : List V) (words : List ℕ) (j : ℕ) (x : D) → get_elem? (keeper {V = V} {I = I} values 0 [] ∷ []) j ≡ some x
+      → Knows root entries values words 0 0 (λ _. 0) (λ _. 0) (λ _. []) j x
+  first_seat values words zero x e = subst (λ (q : D). Knows root entries values words 0 0 (λ _. 0) (λ _. 0) (λ _. []) 0 q) (some-injective (keeper values 0 []) x e) (record {
+    out = λ i e. absurd (none_some i e);
+    made = λ k e. absurd (none_some k e);
+    keeps = λ _. (refl, refl, refl, omega arith);
+    known = λ _ k low. absurd (omega arith);
+  })
+  first_seat values words (suc j) x e = absurd (some-ne-none x (sym e))
+
+  pub opens : (values : List V) (words : List ℕ) → words ≡ replicate (length values) 0 → Rule (opening words (map (λ (y : V). Some y) values) (keeper values 0 []))
+  opens values words nils = record {
+    first = values;
+    next = 0;
+    boss = 0;
+    seat_of = λ _. 0;
+    holder = λ _. 0;
+    log = λ _. [];
+    wide = ap length nils ∙ length-replicate (length values) 0;
+    deep = length-map (map (λ (y : V). Some y) values) some ∙ length-map values (λ (y : V). Some y);
+    home = λ i low zeroed. let t = there values i low in
+        (t.0, at_map some (map (λ (y : V). Some y) values) i (Some t.0) (at_map (λ (y : V). Some y) values i t.0 t.1), (t.0, t.1, refl, sym (append-nil (entries t.0))));
+    makers = λ i. tt;
+    away = λ i low busy. absurd (busy (ap (λ l. get_or l i 0) nils ∙ zeros (length values) i));
+    each_seat = λ j x e. first_seat values words j x e;
+  }
+
+  some_number : (o : Option ℕ) → o ≢ None → (k : ℕ) × (o ≡ Some k)
+  some_number None n = absurd (n refl)
+  some_number (Some k) n = (k, refl)
+
+  held_none : (s : St) (r : Rule s) (id : ℕ) (v : D) → get_elem? s.views id ≡ some v → v.keeps ≡ true → v.number ≡ None → r.next ≡ length v.known → (i : ℕ) → i < length r.first
+      → get_or s.words i 0 ≢ 0 → ⊥
+  held_none s r id v at owns unnumbered next i low busy =
+      let b = r.away i low busy in
+      let n = some_number b.0.number b.3 in
+      let there' = r.each_seat (r.holder i) b.0 b.1 in
+      let p = there'.made n.0 n.1 in
+      let less : n.0 < r.next = p.1 in
+      let mine = (r.each_seat id v at).known owns n.0 (omega arith) in
+      let same : r.holder i ≡ id = sym p.2 ∙ mine.0 in
+      let alike : b.0 ≡ v = some-injective b.0 v (sym b.1 ∙ (ap (get_elem? s.views) same ∙ at)) in
+      none_some n.0 (sym unnumbered ∙ (ap (λ (x : D). x.number) (sym alike) ∙ n.1))
+
+  pub ends : (id : ℕ) (v : D) (ws : List ℕ) (slots : List (Option V)) → v.keeps ≡ true → v.number ≡ None → v.next ≡ length v.known → Final (Seen Rule id v) ws slots
+      → (log : ℕ → List (ℕ × I)) × (length slots ≡ length v.first)
+      × ((i : ℕ) → i < length v.first → (y : V) × (get_elem? slots i ≡ some (Some y)) × IsObject root entries v.first i (log i) y)
+      × ((i : ℕ) → AreBelow (length v.known) (log i))
+      × ((k : ℕ) → k < length v.known → IsBooked root entries v.first log k (get_or v.known k []))
+  ends id v ws slots owns unnumbered whole final =
+      let s : St = final.0 in
+      let r : Rule s = final.1.0 in
+      let at : get_elem? s.views id ≡ some v = final.1.1 in
+      let seen = r.each_seat id v at in
+      let kp = seen.keeps owns in
+      let next : r.next ≡ length v.known = sym kp.2 ∙ whole in
+      let first : r.first ≡ v.first = sym kp.0 in
+      let free : (i : ℕ) → i < length r.first → get_or s.words i 0 ≡ 0 = λ i low. dite (ℕ_discrete (get_or s.words i 0) 0) (λ z. z) (λ busy. absurd (held_none s r id v at owns unnumbered next i low busy)) in
+      subst (λ (l : List V). (log : ℕ → List (ℕ × I)) × (length slots ≡ length l)
+          × ((i : ℕ) → i < length l → (y : V) × (get_elem? slots i ≡ some (Some y)) × IsObject root entries l i (log i) y)
+          × ((i : ℕ) → AreBelow (length v.known) (log i))
+          × ((k : ℕ) → k < length v.known → IsBooked root entries l log k (get_or v.known k []))) first
+      (
+        r.log,
+        sym final.3 ∙ r.deep,
+        (λ i low. let h = r.home i low (free i low) in (h.0, final.4 i (Some h.0) h.1, h.2)),
+        (λ i. subst (λ n. AreBelow n (r.log i)) next (r.makers i)),
+        λ k low. (seen.known owns k low).1,
+      )

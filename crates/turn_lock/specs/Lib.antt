@@ -1,2 +1,4 @@
 pub mod Books
 pub mod Locks
+pub mod Passes
+pub mod Passing

@@ -2,10 +2,13 @@
 #![tactic(auto)]
 
 mod booked;
+mod opening;
 mod plays;
+mod table;
 
 mod view;
 
 pub use booked::Booked;
+pub use table::{Held, LockTable, Pass, Token};
 
 pub use view::{Made, View};

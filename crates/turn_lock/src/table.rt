@@ -1,0 +1,110 @@
+//! The table of locks, its passes, and what a pass holds.
+ghost use Rattle.std.specs.Prelude.{◌≡◌, ◌≢◌, ◌<◌, ◌≤◌, ◌+◌, ℕ, [], ◌∷◌, ◌++◌, map, length, vec_len, IfOk, Some, None};
+ghost use mathlib.Core.Option.{some};
+ghost use Rattle.turn_lock.specs.Locks.{keeper, pass_view, IsTaken, AreClosed, out_with};
+ghost use Rattle.turn_lock.specs.Passes.{IsOwn, IsPassOf, Holds, AreAll, AreNew, HasGrown, HasRoot, gained, first_of, made_of, number_of, had_by};
+
+use crate::booked::Booked;
+use crate::plays::{Booking, Cut, Give, Take};
+use crate::view::View;
+use atomic_table::{Seat, Table};
+use crossbeam_utils::Backoff;
+use sleep_base::Mem;
+use std::alloc::Global;
+use std::snapshot::Snapshot;
+use std::sync::Wait;
+
+/// A seat at the table of objects of the type `V`.
+pub type Token<V, I> = Seat<Option<V>, View<V, I>>;
+
+/// One table of locks, each round an object.
+#[derive(Drop)]
+pub struct LockTable<V: Booked> {
+    pub(crate) table: Table<Option<V>, View<V, V::Item>, Snapshot<Vec<V>>, Booking, Global>,
+    pub own: Token<V, V::Item>,
+    ghost seated: { own.table_id ≡ table.shared.table_id },
+    ghost shaped: { (own.table_id.words ≡ length (first_of own)) × (own.table_id.slots ≡ length (first_of own)) × (0 < own.table_id.words) },
+    ghost kept: { IsOwn own },
+}
+
+/// The right to take one object at a time. It knows what it made.
+#[derive(Drop)]
+pub struct Pass<V: Booked> {
+    pub token: Token<V, V::Item>,
+}
+
+/// An object that a pass has taken.
+#[derive(Drop)]
+pub struct Held<V: Booked> {
+    value: V,
+    object: usize,
+    pub token: Token<V, V::Item>,
+}
+
+impl<V: Booked> LockTable<V> {
+    /// One more pass, with the next number.
+    pub(crate) fn pass(&mut self) -> Pass<V>
+        ensures own { self.new.own.me.0 ≡ keeper (first_of self.old.own) (self.old.own.me.0.next + 1) self.old.own.me.0.known }
+        ensures table { self.new.own.table_id ≡ self.old.own.table_id }
+        ensures pass { (result.token.table_id ≡ self.old.own.table_id) × (result.token.me ≡ (pass_view (first_of self.old.own) self.old.own.me.0.next [], [])) }
+    {
+        let table = &self.table;
+        let token = table.shared.split_seat::<Cut>(&mut self.own);
+        Pass { token }
+    }
+
+    /// Waits until the object is free.
+    fn lock<R: Wait>(&self, rt: &R, token: &mut Token<V, V::Item>, object: usize)
+        requires { IsPassOf self.now.own token.old × (object < length (first_of self.now.own)) }
+        ensures seat { (token.new.table_id ≡ token.old.table_id) × (token.new.id ≡ token.old.id) }
+        ensures taken { (y : V) × (token.new.me ≡ (out_with V.root V.entries token.old.me.0 object (V.entries y), (object, Some y) ∷ [])) × IsTaken V.root V.entries token.old.me.0 object y }
+    {
+        let backoff = Backoff::new();
+        for _ in rt.forever() {
+            let found = self.table.shared.compare_exchange::<Take>(token, object, 0, 1);
+            if found == 0 {
+                return;
+            }
+            backoff.snooze();
+        }
+        unreachable!()
+    }
+
+    /// Waits until the object is free, and takes it.
+    pub fn take<R: Wait>(&self, rt: &R, pass: Pass<V>, object: usize) -> Held<V>
+        requires pass { IsPassOf self.now.own pass.token }
+        requires object { object < length (first_of self.now.own) }
+        ensures held { Holds self.now.own object result.token × (result.object ≡ object) }
+        ensures same { (number_of result.token ≡ number_of pass.token) × (made_of result.token ≡ made_of pass.token) }
+        ensures list { had_by result.token ≡ V.entries result.value }
+        ensures taken { IsTaken V.root V.entries pass.token.me.0 object result.value }
+    {
+        let Pass { mut token } = pass;
+        self.lock(rt, &mut token, object);
+        let value = self.table.shared.exchange(&mut token, object, None).unwrap();
+        Held {
+            value,
+            object,
+            token,
+        }
+    }
+
+    /// Gives the object back. The pass's list gains the entries that were added at the end of the object's list.
+    pub fn give(&self, held: Held<V>) -> Pass<V>
+        requires held { Holds self.now.own held.object held.token }
+        requires root { HasRoot V.root V.entries (first_of self.now.own) held.object held.value }
+        requires grown { HasGrown V.root V.entries (had_by held.token) held.value }
+        ensures pass { IsPassOf self.now.own result.token }
+        ensures same { number_of result.token ≡ number_of held.token }
+        ensures made { made_of result.token ≡ made_of held.token ++ gained V.root V.entries held.object (had_by held.token) held.value }
+    {
+        let Held {
+            value,
+            object,
+            mut token,
+        } = held;
+        self.table.shared.exchange(&mut token, object, Some(value));
+        self.table.shared.store::<Give>(&mut token, object, 0);
+        Pass { token }
+    }
+}
