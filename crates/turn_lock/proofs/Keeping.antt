@@ -48,27 +48,27 @@ module _ {A : Type 0} where
   put_else : (f : ℕ → A) (i : ℕ) (a : A) (j : ℕ) → j ≢ i → put f i a j ≡ f j
   put_else f i a j n = ap (λ b. if b then a else f j) (ne_eqb j i n)
 
-  within : (l : List A) (i : ℕ) (a : A) → get_elem? l i ≡ some a → i < length l
+  pub within : (l : List A) (i : ℕ) (a : A) → get_elem? l i ≡ some a → i < length l
   within [] i a e = absurd (some-ne-none a (sym e))
   within (x ∷ xs) zero a e = omega arith
   within (x ∷ xs) (suc i) a e = let rest = within xs i a e in omega arith
 
-  there : (l : List A) (i : ℕ) → i < length l → (a : A) × (get_elem? l i ≡ some a)
+  pub there : (l : List A) (i : ℕ) → i < length l → (a : A) × (get_elem? l i ≡ some a)
   there [] i h = absurd (omega arith)
   there (x ∷ xs) zero h = (x, refl)
   there (x ∷ xs) (suc i) h = there xs i (omega arith)
 
-  at_end : (l : List A) (a b : A) (j : ℕ) → get_elem? (l ++ a ∷ []) j ≡ some b → (get_elem? l j ≡ some b) ⊎ ((j ≡ length l) × (a ≡ b))
+  pub at_end : (l : List A) (a b : A) (j : ℕ) → get_elem? (l ++ a ∷ []) j ≡ some b → (get_elem? l j ≡ some b) ⊎ ((j ≡ length l) × (a ≡ b))
   at_end [] a b zero e = inr (refl, some-injective a b e)
   at_end [] a b (suc j) e = absurd (some-ne-none b (sym e))
   at_end (x ∷ xs) a b zero e = inl e
   at_end (x ∷ xs) a b (suc j) e = ⊎_elim inl (λ t. inr (ap suc t.0, t.1)) (at_end xs a b j e)
 
-  get_or_end : (l : List A) (a d : A) → get_or (l ++ a ∷ []) (length l) d ≡ a
+  pub get_or_end : (l : List A) (a d : A) → get_or (l ++ a ∷ []) (length l) d ≡ a
   get_or_end [] a d = refl
   get_or_end (x ∷ xs) a d = get_or_end xs a d
 
-  get_or_front : (l more : List A) (i : ℕ) (d : A) → i < length l → get_or (l ++ more) i d ≡ get_or l i d
+  pub get_or_front : (l more : List A) (i : ℕ) (d : A) → i < length l → get_or (l ++ more) i d ≡ get_or l i d
   get_or_front [] more i d h = absurd (omega arith)
   get_or_front (x ∷ xs) more zero d h = refl
   get_or_front (x ∷ xs) more (suc i) d h = get_or_front xs more i d (omega arith)

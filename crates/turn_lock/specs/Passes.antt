@@ -9,7 +9,8 @@ use Rattle.turn_lock.specs.declared.view.View.{View}
 use Rattle.turn_lock.specs.Books.{placed}
 use Rattle.turn_lock.specs.Locks.{IsTaken}
 
-abbrev Token : Type 0 → Type 0 → Type 0
+-- a seat at a table of objects of the type V with entries of the type I
+abbrev pub Token : Type 0 → Type 0 → Type 0
 Token V I = Seat (Option V) (View V I)
 
 module _ {V I : Type 0} where

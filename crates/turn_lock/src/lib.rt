@@ -2,6 +2,7 @@
 #![tactic(auto)]
 
 mod booked;
+mod closing;
 mod opening;
 mod plays;
 mod table;
