@@ -418,11 +418,15 @@ module _ {V I R : Type 0} (root : V → R) (entries : V → List I) where
       let alike : b.0 ≡ v = some-injective b.0 v (sym b.1 ∙ (ap (get_elem? s.views) same ∙ at)) in
       none_some n.0 (sym unnumbered ∙ (ap (λ (x : D). x.number) (sym alike) ∙ n.1))
 
+  -- what the slots have at the end
+  abbrev pub Ended : List V → List (List (Made I)) → List (Option V) → Type 0
+  Ended first known slots = (log : ℕ → List (ℕ × I)) × (length slots ≡ length first)
+      × ((i : ℕ) → i < length first → (y : V) × (get_elem? slots i ≡ some (Some y)) × IsObject root entries first i (log i) y)
+      × ((i : ℕ) → AreBelow (length known) (log i))
+      × ((k : ℕ) → k < length known → IsBooked root entries first log k (get_or known k []))
+
   pub ends : (id : ℕ) (v : D) (ws : List ℕ) (slots : List (Option V)) → v.keeps ≡ true → v.number ≡ None → v.next ≡ length v.known → Final (Seen Rule id v) ws slots
-      → (log : ℕ → List (ℕ × I)) × (length slots ≡ length v.first)
-      × ((i : ℕ) → i < length v.first → (y : V) × (get_elem? slots i ≡ some (Some y)) × IsObject root entries v.first i (log i) y)
-      × ((i : ℕ) → AreBelow (length v.known) (log i))
-      × ((k : ℕ) → k < length v.known → IsBooked root entries v.first log k (get_or v.known k []))
+      → Ended v.first v.known slots
   ends id v ws slots owns unnumbered whole final =
       let s : St = final.0 in
       let r : Rule s = final.1.0 in
@@ -432,10 +436,7 @@ module _ {V I R : Type 0} (root : V → R) (entries : V → List I) where
       let next : r.next ≡ length v.known = sym kp.2 ∙ whole in
       let first : r.first ≡ v.first = sym kp.0 in
       let free : (i : ℕ) → i < length r.first → get_or s.words i 0 ≡ 0 = λ i low. dite (ℕ_discrete (get_or s.words i 0) 0) (λ z. z) (λ busy. absurd (held_none s r id v at owns unnumbered next i low busy)) in
-      subst (λ (l : List V). (log : ℕ → List (ℕ × I)) × (length slots ≡ length l)
-          × ((i : ℕ) → i < length l → (y : V) × (get_elem? slots i ≡ some (Some y)) × IsObject root entries l i (log i) y)
-          × ((i : ℕ) → AreBelow (length v.known) (log i))
-          × ((k : ℕ) → k < length v.known → IsBooked root entries l log k (get_or v.known k []))) first
+      subst (λ (l : List V). Ended l v.known slots) first
       (
         r.log,
         sym final.3 ∙ r.deep,

@@ -12,9 +12,9 @@ use Rattle.turn_lock.specs.Passing.{tokens, made_lists}
 use Rattle.turn_lock.proofs.Keeping.{at_end}
 
 module _ {V I : Type 0} where
-  pub none_new : (own : Token V I) → own.me.0.next ≡ 0 → AreNew own []
-  none_new own e = record {
-    all_are = record { counted = sym e; each_is = λ k p at. absurd (some-ne-none p (sym at)) };
+  pub none_new : (own : Token V I) → own.me.0.next ≡ 0 → own.me.0.known ≡ [] → AreNew own []
+  none_new own e unused = record {
+    all_are = record { counted = sym e; unused = unused; each_is = λ k p at. absurd (some-ne-none p (sym at)) };
     empty = λ k p at. absurd (some-ne-none p (sym at));
   }
 
@@ -50,6 +50,7 @@ module _ {V I : Type 0} where
       record {
         all_are = record {
           counted = omega arith;
+          unused = ap (λ v. v.known) me ∙ are.all_are.unused;
           each_is = λ k q at. ⊎_elim (λ old. let b = are.all_are.each_is k q old in (still own own' q same first b.0, b.1))
               (λ (t : (k ≡ length ps) × (p ≡ q)). subst (λ (z : ℕ × Token V I). IsPassOf own' z.1 × (number_of z.1 ≡ Some z.0)) (λ i. ((sym t.0 i), t.1 i)) (new.0, new.1 ∙ ap (λ (n : ℕ). Some n) (sym counted))) (at_end ps p q k at);
         };

@@ -63,6 +63,7 @@ module _ {V I : Type 0} where
   -- the passes of a table, each at the place of its number
   pub record AreAll (own : Token V I) (ps : List (Token V I)) : Type 0 where
     pub counted : length ps ≡ own.me.0.next
+    pub unused : own.me.0.known ≡ []
     pub each_is : (k : ℕ) (p : Token V I) → get_elem? ps k ≡ some p → IsPassOf own p × (number_of p ≡ Some k)
 
   -- the same, and none of them has made anything yet

@@ -26,7 +26,7 @@ fn gather<V: Booked>(
     passes: Vec<Pass<V>>,
 )
     requires table { (own.old.table_id ≡ table.now.shared.table_id) × (0 < own.old.table_id.words) }
-    requires own { IsOwn own.old × (own.old.me.0.known ≡ []) }
+    requires own { IsOwn own.old }
     requires passes { AreAll own.old (tokens passes.items) }
     ensures table { own.new.table_id ≡ own.old.table_id }
     ensures own { IsOwn own.new × (first_of own.new ≡ first_of own.old) × (own.new.me.0.next ≡ own.old.me.0.next) }
@@ -53,4 +53,20 @@ fn unslotted<V: Drop>(mut closed: Closed<Option<V>, Global>, mut values: Vec<V>)
     }
     closed.free();
     values
+}
+
+/// Closes the table, with all its passes in the order of their numbers. The values come back: each has its object's
+/// root, and its list is the one at `new` with what the passes made behind it.
+pub fn close_locks<V: Booked>(
+    alloc: Global,
+    locks: LockTable<V>,
+    passes: Vec<Pass<V>>,
+) -> Result<Vec<V>, Mem>
+    requires passes { AreAll locks.own (tokens passes.items) }
+    ensures { IfOk result (λ values. AreClosed V.root V.entries (first_of locks.own) (made_lists passes.items) values.items) }
+{
+    let values = Vec::with_capacity(alloc, locks.table.slot_count())?;
+    let LockTable { table, mut own } = locks;
+    gather(&table, &mut own, passes);
+    Ok(unslotted(table.close_with(own), values))
 }

@@ -10,6 +10,7 @@ mod table;
 mod view;
 
 pub use booked::Booked;
+pub use closing::close_locks;
 pub use table::{Held, LockTable, Pass, Token};
 
 pub use view::{Made, View};

@@ -39,7 +39,7 @@ impl<V: Booked> LockTable<V> {
     /// That many new passes, in the order of their numbers.
     fn passes(&mut self, alloc: Global, count: u32) -> Result<Vec<Pass<V>>, Mem>
         requires { (self.old.own.me.0.next ≡ 0) × (self.old.own.me.0.known ≡ []) }
-        ensures own { IfOk result (λ passes. (first_of self.new.own ≡ first_of self.old.own) × (self.new.own.me.0.known ≡ [])) }
+        ensures own { IfOk result (λ passes. first_of self.new.own ≡ first_of self.old.own) }
         ensures new { IfOk result (λ passes. (vec_len passes ≡ count) × AreNew self.new.own (tokens passes.items)) }
     {
         let mut passes = Vec::with_capacity(alloc, count as usize)?;
