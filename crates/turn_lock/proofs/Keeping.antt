@@ -113,7 +113,7 @@ module _ {V I R : Type 0} (root : V → R) (entries : V → List I) where
       → IsBooked root entries first (put log i (log i ++ all_by k more)) m ms
   booked_stays first log k m i more ms other b j u at = dite (ℕ_discrete j i)
       (λ (e : j ≡ i). b j u at ∙ (ap (λ z. made_by m j (length (entries u)) (log z)) e ∙ (sym (keeps_makers k m j (length (entries u)) (log i) more other)
-          ∙ ap (λ es. made_by m j (length (entries u)) es) (sym (put_at log i (log i ++ all_by k more) j e)))))
+      ∙ ap (λ es. made_by m j (length (entries u)) es) (sym (put_at log i (log i ++ all_by k more) j e)))))
       (λ (n : j ≢ i). b j u at ∙ ap (λ es. made_by m j (length (entries u)) es) (sym (put_else log i (log i ++ all_by k more) j n)))
 
   taken : (s : St) (r : Rule s) (id i k : ℕ) (v : D) (cs : List (ℕ × Option V)) (y : V) → get_elem? s.views id ≡ some v → i < length r.first → get_or s.words i 0 ≡ 0 → v.out ≡ None
@@ -139,8 +139,8 @@ module _ {V I R : Type 0} (root : V → R) (entries : V → List I) where
         away = λ j below busy. dite (ℕ_discrete j i)
             (λ (e : j ≡ i). (w, ap (get_elem? (set s.views id w)) (put_at r.holder i id j e) ∙ set_here s.views id w (within s.views id v at), ap (λ (z : ℕ). Some z) (sym e), λ n. none_some k (sym n ∙ numbered)))
             (λ (other : j ≢ i). let b = r.away j below (λ z. busy (get_or-set_other s.words i j 1 0 other ∙ z)) in
-                let far = apart s.views j (r.holder j) id b.0 v b.1 at b.2 (λ o. none_some j (sym idle ∙ o)) in
-                (b.0, ap (get_elem? (set s.views id w)) (put_else r.holder i id j other) ∙ (set_else s.views id (r.holder j) w far ∙ b.1), b.2, b.3));
+            let far = apart s.views j (r.holder j) id b.0 v b.1 at b.2 (λ o. none_some j (sym idle ∙ o)) in
+            (b.0, ap (get_elem? (set s.views id w)) (put_else r.holder i id j other) ∙ (set_else s.views id (r.holder j) w far ∙ b.1), b.2, b.3));
         each_seat = seats (λ j u. Knows root entries r.first (set s.words i 1) r.next r.boss r.seat_of (put r.holder i id) r.log j u) s.views id w
             (record {
               out = λ j e. subst (λ z. (put r.holder i id z ≡ id) × (get_or (set s.words i 1) z 0 ≢ 0) × IsHad root entries r.first r.log z (entries y)) (same_number i j e)
@@ -162,7 +162,7 @@ module _ {V I R : Type 0} (root : V → R) (entries : V → List I) where
       → Allows Rule slots id me i (λ n. either (eqb n 0) 1 n) (told.takes root entries (step slots i 0 1 none) me)
   may_take slots id i k me low idle plain numbered s r sized at small =
       let F : ℕ → Type 0 = λ m. (w : D) × (a : Rattle.atomic_table.specs.Table.Act (Option V)) × Rattle.atomic_table.specs.Table.Valid s.homes me.1 a × Rule (stepped s i m id me.1 w a)
-          × told.takes root entries (step slots i 0 1 none) me (get_or s.words i 0) (w, Rattle.atomic_table.specs.Table.carried_after me.1 a) in
+      × told.takes root entries (step slots i 0 1 none) me (get_or s.words i 0) (w, Rattle.atomic_table.specs.Table.carried_after me.1 a) in
       let m = (r.each_seat id me.0 at).made k numbered in let below : i < length r.first = subst (λ (l : List V). i < length l) m.0 low in
       exchanged (get_or s.words i 0) 0 1 F
       (λ free. let h = r.home i below free in let y : V = h.0 in let is = h.2 in (
@@ -210,7 +210,7 @@ module _ {V I R : Type 0} (root : V → R) (entries : V → List I) where
       let nil : get_or (set s.words i 0) i 0 ≡ 0 = get_or-set_same s.words i 0 0 (omega arith) in
       let long : length v.had ≡ length (entries u) + length (r.log i) = ap length had.2 ∙ (length-append (entries u) (bare (r.log i)) ∙ ap (λ n. length (entries u) + n) (bare_length (r.log i))) in
       let lists : entries y ≡ entries u ++ bare (r.log i ++ all_by k more) = grown ∙ (ap (λ l. l ++ more) had.2 ∙ (append_assoc (entries u) (bare (r.log i)) more
-          ∙ ap (λ l. entries u ++ l) (sym (bare_both (r.log i) (all_by k more) ∙ ap (λ l. bare (r.log i) ++ l) (bare_all k more))))) in
+      ∙ ap (λ l. entries u ++ l) (sym (bare_both (r.log i) (all_by k more) ∙ ap (λ l. bare (r.log i) ++ l) (bare_all k more))))) in
       let list : w.made ≡ v.made ++ placed i (length v.had) more = ap (λ l. v.made ++ placed i (length v.had) l) (ap (drop (length v.had)) grown ∙ drop_front v.had more) in
       record {
         first = r.first;
@@ -222,11 +222,18 @@ module _ {V I R : Type 0} (root : V → R) (entries : V → List I) where
         wide = length-set s.words i 0 ∙ r.wide;
         deep = length-set s.homes i (some (Some y)) ∙ r.deep;
         home = λ j low zeroed. dite (ℕ_discrete j i)
-            (λ (e : j ≡ i). subst (λ z. (y' : V) × (get_elem? (set s.homes i (some (Some y))) z ≡ some (some (Some y'))) × IsObject root entries r.first z (log z) y') (sym e)
-                (y, set_here s.homes i (some (Some y)) (omega arith), (u, had.1, rooted u (ap (λ (l : List V). get_elem? l i) m.0 ∙ had.1),
-                    lists ∙ ap (λ es. entries u ++ bare es) (sym (put_at r.log i (r.log i ++ all_by k more) i refl)))))
+            (λ (e : j ≡ i). subst (λ z. (y' : V) × (get_elem? (set s.homes i (some (Some y))) z ≡ some (some (Some y'))) × IsObject root entries r.first z (log z) y') (sym e) (
+              y,
+              set_here s.homes i (some (Some y)) (omega arith),
+              (
+                u,
+                had.1,
+                rooted u (ap (λ (l : List V). get_elem? l i) m.0 ∙ had.1),
+                lists ∙ ap (λ es. entries u ++ bare es) (sym (put_at r.log i (r.log i ++ all_by k more) i refl)),
+              ),
+            ))
             (λ (other : j ≢ i). let b = r.home j low (sym (get_or-set_other s.words i j 0 0 other) ∙ zeroed) in
-                (b.0, set_else s.homes i j (some (Some y)) other ∙ b.1, subst (λ es. IsObject root entries r.first j es b.0) (sym (put_else r.log i (r.log i ++ all_by k more) j other)) b.2));
+            (b.0, set_else s.homes i j (some (Some y)) other ∙ b.1, subst (λ es. IsObject root entries r.first j es b.0) (sym (put_else r.log i (r.log i ++ all_by k more) j other)) b.2));
         makers = λ j. dite (ℕ_discrete j i)
             (λ (e : j ≡ i). subst (AreBelow r.next) (sym (put_at r.log i (r.log i ++ all_by k more) j e)) (below_both r.next k (r.log i) more m.1 (r.makers i)))
             (λ (other : j ≢ i). subst (AreBelow r.next) (sym (put_else r.log i (r.log i ++ all_by k more) j other)) (r.makers j));
@@ -238,10 +245,14 @@ module _ {V I R : Type 0} (root : V → R) (entries : V → List I) where
         each_seat = seats (λ j x. Knows root entries r.first (set s.words i 0) r.next r.boss r.seat_of r.holder log j x) s.views id w
             (record {
               out = λ x e. absurd (none_some x e);
-              made = λ k' e. subst (λ n. (v.first ≡ r.first) × (n < r.next) × (r.seat_of n ≡ id) × IsBooked root entries r.first log n w.made) (same_number k k' (sym numbered ∙ e))
-                  (m.0, m.1, m.2, λ j u' at'. ap (of_object j) list ∙ dite (ℕ_discrete j i)
-                      (λ (e : j ≡ i). mine_grows r.first r.log k i j v.made more v.had u u' e had.1 at' long (m.3 j u' at'))
-                      (λ (other : j ≢ i). keeps_others i j (length v.had) v.made more (λ q. other (sym q)) ∙ (m.3 j u' at' ∙ ap (λ es. made_by k j (length (entries u')) es) (sym (put_else r.log i (r.log i ++ all_by k more) j other)))));
+              made = λ k' e. subst (λ n. (v.first ≡ r.first) × (n < r.next) × (r.seat_of n ≡ id) × IsBooked root entries r.first log n w.made) (same_number k k' (sym numbered ∙ e)) (
+                m.0,
+                m.1,
+                m.2,
+                λ j u' at'. ap (of_object j) list ∙ dite (ℕ_discrete j i)
+                    (λ (e : j ≡ i). mine_grows r.first r.log k i j v.made more v.had u u' e had.1 at' long (m.3 j u' at'))
+                    (λ (other : j ≢ i). keeps_others i j (length v.had) v.made more (λ q. other (sym q)) ∙ (m.3 j u' at' ∙ ap (λ es. made_by k j (length (entries u')) es) (sym (put_else r.log i (r.log i ++ all_by k more) j other)))),
+              );
               keeps = λ e. absurd (not_both v.keeps plain e);
               known = λ e. absurd (not_both v.keeps plain e);
             })
@@ -359,11 +370,13 @@ module _ {V I R : Type 0} (root : V → R) (entries : V → List I) where
               made = λ k e. absurd (none_some k e);
               keeps = λ _. (kp.0, kp.1, kp.2, omega arith);
               known = λ _ k less. dite (ℕ_discrete k (length v.known))
-                  (λ (q : k ≡ length v.known). (put_at r.seat_of (length v.known) id k q,
-                      subst (λ n. IsBooked root entries r.first r.log n (get_or (v.known ++ w.made ∷ []) n [])) (sym q)
-                      (subst (IsBooked root entries r.first r.log (length v.known)) (sym (get_or_end v.known w.made [])) kw.3)))
+                  (λ (q : k ≡ length v.known). (
+                    put_at r.seat_of (length v.known) id k q,
+                    subst (λ n. IsBooked root entries r.first r.log n (get_or (v.known ++ w.made ∷ []) n [])) (sym q)
+                        (subst (IsBooked root entries r.first r.log (length v.known)) (sym (get_or_end v.known w.made [])) kw.3),
+                  ))
                   (λ (q : k ≢ length v.known). let less' : k < length v.known = omega arith in let b = seen.known owns k less' in
-                      (put_else r.seat_of (length v.known) id k q ∙ b.0, subst (IsBooked root entries r.first r.log k) (sym (get_or_front v.known (w.made ∷ []) k [] less')) b.1));
+                  (put_else r.seat_of (length v.known) id k q ∙ b.0, subst (IsBooked root entries r.first r.log k) (sym (get_or_front v.known (w.made ∷ []) k [] less')) b.1));
             })
             (λ j x far at' away'. let b = r.each_seat j x at' in record {
               out = b.out;
@@ -436,8 +449,7 @@ module _ {V I R : Type 0} (root : V → R) (entries : V → List I) where
       let next : r.next ≡ length v.known = sym kp.2 ∙ whole in
       let first : r.first ≡ v.first = sym kp.0 in
       let free : (i : ℕ) → i < length r.first → get_or s.words i 0 ≡ 0 = λ i low. dite (ℕ_discrete (get_or s.words i 0) 0) (λ z. z) (λ busy. absurd (held_none s r id v at owns unnumbered next i low busy)) in
-      subst (λ (l : List V). Ended l v.known slots) first
-      (
+      subst (λ (l : List V). Ended l v.known slots) first (
         r.log,
         sym final.3 ∙ r.deep,
         (λ i low. let h = r.home i low (free i low) in (h.0, final.4 i (Some h.0) h.1, h.2)),

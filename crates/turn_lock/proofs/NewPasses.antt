@@ -20,14 +20,18 @@ module _ {V I : Type 0} where
 
   is_new : (own own' p : Token V I) (k : ℕ) → own'.table_id ≡ own.table_id → first_of own' ≡ first_of own → p.table_id ≡ own.table_id
       → p.me ≡ (pass_view (first_of own) k [], []) → IsPassOf own' p × (number_of p ≡ Some k) × (made_of p ≡ [])
-  is_new own own' p k same first table me = (record {
-    table = table ∙ sym same;
-    first_is = ap (λ m. m.0.first) me ∙ sym first;
-    plain = ap (λ m. m.0.keeps) me;
-    idle = ap (λ m. m.0.out) me;
-    numbered = (k, ap (λ m. m.0.number) me);
-    empty = ap (λ m. m.1) me;
-  }, ap (λ m. m.0.number) me, ap (λ m. m.0.made) me)
+  is_new own own' p k same first table me = (
+    record {
+      table = table ∙ sym same;
+      first_is = ap (λ m. m.0.first) me ∙ sym first;
+      plain = ap (λ m. m.0.keeps) me;
+      idle = ap (λ m. m.0.out) me;
+      numbered = (k, ap (λ m. m.0.number) me);
+      empty = ap (λ m. m.1) me;
+    },
+    ap (λ m. m.0.number) me,
+    ap (λ m. m.0.made) me,
+  )
 
   still : (own own' p : Token V I) → own'.table_id ≡ own.table_id → first_of own' ≡ first_of own → IsPassOf own p → IsPassOf own' p
   still own own' p same first is = record {

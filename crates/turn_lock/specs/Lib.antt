@@ -2,3 +2,4 @@ pub mod Books
 pub mod Locks
 pub mod Passes
 pub mod Passing
+pub mod Lending

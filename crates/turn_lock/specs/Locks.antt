@@ -42,7 +42,6 @@ module _ {V I R : Type 0} (root : V → R) (entries : V → List I) where
     pub away : (i : ℕ) → i < length first → slice_index s.words i ≢ 0 → (v : View V I) × (get_elem? s.views (holder i) ≡ some v) × (v.out ≡ Some i) × (v.number ≢ None)
     pub each_seat : (j : ℕ) (v : View V I) → get_elem? s.views j ≡ some v → Knows first s.words next boss seat_of holder log j v
 
-
 module _ {V I : Type 0} where
   abbrev pub keeper : List V → ℕ → List (List (Made I)) → View V I
   keeper first next known = record { first = first; keeps = true; next = next; known = known; number = None; out = None; had = []; made = [] }
@@ -55,7 +54,6 @@ module _ {V I : Type 0} where
 
   abbrev pub spent : View V I
   spent = record { first = []; keeps = false; next = 0; known = []; number = None; out = None; had = []; made = [] }
-
 
 abbrev Sat : Type 0 → Type 0 → Type 0
 Sat V I = Me (Option V) (View V I)

@@ -20,11 +20,7 @@ use std::snapshot::Snapshot;
 type Inside<V, I> = Table<Option<V>, View<V, I>, Snapshot<Vec<V>>, Booking, Global>;
 
 /// What the passes made comes to the table's own seat.
-fn gather<V: Booked>(
-    table: &Inside<V, V::Item>,
-    own: &mut Token<V, V::Item>,
-    passes: Vec<Pass<V>>,
-)
+fn gather<V: Booked>(table: &Inside<V, V::Item>, own: &mut Token<V, V::Item>, passes: Vec<Pass<V>>)
     requires table { (own.old.table_id ≡ table.now.shared.table_id) × (0 < own.old.table_id.words) }
     requires own { IsOwn own.old }
     requires passes { AreAll own.old (tokens passes.items) }

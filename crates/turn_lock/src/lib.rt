@@ -6,11 +6,9 @@ mod closing;
 mod opening;
 mod plays;
 mod table;
-
 mod view;
 
 pub use booked::Booked;
 pub use closing::close_locks;
 pub use table::{Held, LockTable, Pass, Token};
-
 pub use view::{Made, View};

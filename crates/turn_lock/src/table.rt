@@ -61,7 +61,10 @@ impl<V: Booked> LockTable<V> {
     {
         let backoff = Backoff::new();
         for _ in rt.forever() {
-            let found = self.table.shared.compare_exchange::<Take>(token, object, 0, 1);
+            let found = self
+                .table
+                .shared
+                .compare_exchange::<Take>(token, object, 0, 1);
             if found == 0 {
                 return;
             }
@@ -81,7 +84,11 @@ impl<V: Booked> LockTable<V> {
     {
         let Pass { mut token } = pass;
         self.lock(rt, &mut token, object);
-        let value = self.table.shared.exchange(&mut token, object, None).unwrap();
+        let value = self
+            .table
+            .shared
+            .exchange(&mut token, object, None)
+            .unwrap();
         Held {
             value,
             object,
@@ -106,5 +113,18 @@ impl<V: Booked> LockTable<V> {
         self.table.shared.exchange(&mut token, object, Some(value));
         self.table.shared.store::<Give>(&mut token, object, 0);
         Pass { token }
+    }
+}
+
+impl<V: Booked> Held<V> {
+    ghost use Rattle.std.specs.Borrow.{sem};
+    ghost use Rattle.turn_lock.specs.Lending.{LendsValue};
+
+    /// The object itself.
+    pub fn value(&mut self) -> &mut V
+        ensures* writes_back { sem 𝓛 (LendsValue V.row V.Item.row self.entry result) }
+        ensures value { result.now ≡ self.old.value }
+    {
+        &mut self.value
     }
 }

@@ -9,8 +9,7 @@ join_seat-requires g c =
     let own = is.1 in
     let next = c.in-Some.ensures.steps.0 in
     let p = came c.args.own.now c.args.passes.items c.loop-pass.yielded c.loop-pass.pass-iterator.rest.items c.next.new.self.rest.items c.in-Some.pass c.requires.passes is.5 next in
-    let table = c.requires.table in
-    (
+    let table = c.requires.table in (
       is.0 ∙ table.0,
       p.0.table ∙ table.0,
       p.0.empty,

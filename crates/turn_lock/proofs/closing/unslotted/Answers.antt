@@ -8,8 +8,7 @@ pub loop-i-preserved : goal.loop-i-preserved
 loop-i-preserved g c =
     let is = c.loop-i.invariant in
     let found : c.take.result ≡ Some c.unwrap.result = search rules in
-    let o = c.take.ensures.others in
-    (
+    let o = c.take.ensures.others in (
       search rules,
       search rules,
       (λ k low high. ap (λ fs. get_or fs k false) o.1 ∙ filled_next _ c.loop-i.i _ is.2 k low (subst (λ n. k < n) o.2 high)),

@@ -8,8 +8,7 @@ pub store-requires : goal.store-requires
 store-requires g c =
     let is = c.requires.held in
     let now = c.exchange.ensures.3 in
-    let grown = c.requires.grown in
-    (
+    let grown = c.requires.grown in (
       search rules,
       search rules,
       may_give _ _ _ _ _ is.numbered.0 _ c.args.held.value (ap (λ m. m.1) now ∙ ap (λ cs. (c.args.held.object, Some c.args.held.value) ∷ rest cs) is.slot)

@@ -5,8 +5,7 @@ use Rattle.turn_lock.proofs.table.LockTable.lock.Goals as goal
 pub compare_exchange-found-requires : goal.compare_exchange-found-requires
 compare_exchange-found-requires g c =
     let is = c.requires.0 in
-    let m = c.loop.invariant.4 in
-    (
+    let m = c.loop.invariant.4 in (
       c.loop.invariant.2 ∙ (is.table ∙ c.args.self.now.seated),
       search rules,
       may_take _ _ _ _ _ is.numbered.0 _ (subst (λ (l : List g.row.V.Denot). c.args.object < length l) (sym (ap (λ x. x.0.first) m ∙ is.first_is)) c.requires.1)

@@ -5,8 +5,7 @@ use Rattle.turn_lock.proofs.table.LockTable.passes.Goals as goal
 pub loop-preserved : goal.loop-preserved
 loop-preserved g c =
     let own = c.pass.ensures.own in
-    let is = c.loop.invariant in
-    (
+    let is = c.loop.invariant in (
       search rules,
       ap (λ v. v.first) own ∙ is.1,
       ap (λ v. v.known) own ∙ is.2,
