@@ -7,14 +7,14 @@ use lib.ListN.{get_elem?}
 use mathlib.Core.Logic.{dite}
 use native.Mathlib.Decide.{ℕ_discrete}
 use Rattle.std.specs.Slots.Ownership.{Filled}
-use Rattle.atomic_table.proofs.Lists.{at_map}
+use Rattle.atomic_table.proofs.Lists.{at_map, at_index}
 use Rattle.turn_lock.specs.declared.view.Made.{Made}
 use Rattle.turn_lock.specs.declared.view.View.{View}
 use Rattle.turn_lock.specs.declared.table.Pass.{Pass}
 use Rattle.turn_lock.specs.Passes.{Token, IsPass, IsPassOf, AreAll, first_of, made_of, number_of}
 use Rattle.turn_lock.specs.Passing.{tokens, made_lists, AreOut, AreFull}
 use Rattle.turn_lock.specs.Locks.{IsObject, AreClosed}
-use Rattle.turn_lock.proofs.Keeping.{at_end, within, Ended}
+use Rattle.turn_lock.proofs.Keeping.{at_end, within, there, Ended}
 
 module _ {V : Type 0} where
   abbrev or_else : V → Option V → V
@@ -62,6 +62,36 @@ module _ {V I : Type 0} where
 
   pub all_in : (own own' : Token V I) (passes : List (Pass V I)) → AreAll own (tokens passes) → own'.me.0.next ≡ own.me.0.next → own'.me.0.known ≡ made_lists passes → own'.me.0.next ≡ length own'.me.0.known
   all_in own own' passes are same known = same ∙ (sym are.counted ∙ (length-map passes (λ (p : Pass V I). p.token) ∙ sym (known_length passes own'.me.0.known known)))
+
+  at_unmapped : (ps : List (Pass V I)) (k : ℕ) (p : Token V I) → get_elem? (tokens ps) k ≡ some p → (q : Pass V I) × (get_elem? ps k ≡ some q) × (q.token ≡ p)
+  at_unmapped [] k p e = absurd (some-ne-none p (sym e))
+  at_unmapped (q ∷ ps) zero p e = (q, refl, some-injective q.token p e)
+  at_unmapped (q ∷ ps) (suc k) p e = at_unmapped ps k p e
+
+  read_at : (ps : List (Pass V I)) (k : ℕ) (p d : Pass V I) → get_elem? ps k ≡ some p → get_or ps k d ≡ p
+  read_at [] k p d e = absurd (some-ne-none p (sym e))
+  read_at (q ∷ ps) zero p d e = some-injective q p e
+  read_at (q ∷ ps) (suc k) p d e = read_at ps k p d e
+
+  -- each of all passes is one of the table
+  pub one_of_all : (own : Token V I) (ps : List (Pass V I)) (i : ℕ) (p : Pass V I) → AreAll own (tokens ps) → i < length ps → p ≡ get_or ps i p → IsPassOf own p.token
+  one_of_all own ps i p are low e = (are.each_is i p.token (at_map (λ (q : Pass V I). q.token) ps i p (at_index ps i p low e))).0
+
+  -- passes that come back in their order, each with its number, are all passes
+  pub all_back : (own : Token V I) (before after : List (Pass V I)) → AreAll own (tokens before) → length after ≡ length before
+      → ((i : ℕ) (d : Pass V I) → i < length before → IsPassOf own (get_or after i d).token × (number_of (get_or after i d).token ≡ number_of (get_or before i d).token)) → AreAll own (tokens after)
+  all_back own before after are same each = record {
+    counted = length-map after (λ (q : Pass V I). q.token) ∙ (same ∙ (sym (length-map before (λ (q : Pass V I). q.token)) ∙ are.counted));
+    unused = are.unused;
+    each_is = λ k p at. let q = at_unmapped after k p at in
+        let low = within after k q.0 q.1 in
+        let b = there before k (omega arith) in
+        let was = are.each_is k b.0.token (at_map (λ (x : Pass V I). x.token) before k b.0 b.1) in
+        let e = each k q.0 (omega arith) in
+        let now : get_or after k q.0 ≡ q.0 = read_at after k q.0 q.0 q.1 in
+        subst (λ (x : Token V I). IsPassOf own x × (number_of x ≡ Some k)) (ap (λ (x : Pass V I). x.token) now ∙ q.2)
+            (e.0, e.1 ∙ (ap (λ (x : Pass V I). number_of x.token) (read_at before k b.0 q.0 b.1) ∙ was.1));
+  }
 
 module _ {V I R : Type 0} (root : V → R) (entries : V → List I) where
   pub all_full : (first : List V) (known : List (List (Made I))) (slots : List (Option V)) → Ended root entries first known slots → AreFull slots
