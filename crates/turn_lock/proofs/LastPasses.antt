@@ -90,7 +90,7 @@ module _ {V I : Type 0} where
         let e = each k q.0 (omega arith) in
         let now : get_or after k q.0 ≡ q.0 = read_at after k q.0 q.0 q.1 in
         subst (λ (x : Token V I). IsPassOf own x × (number_of x ≡ Some k)) (ap (λ (x : Pass V I). x.token) now ∙ q.2)
-            (e.0, e.1 ∙ (ap (λ (x : Pass V I). number_of x.token) (read_at before k b.0 q.0 b.1) ∙ was.1));
+        (e.0, e.1 ∙ (ap (λ (x : Pass V I). number_of x.token) (read_at before k b.0 q.0 b.1) ∙ was.1));
   }
 
 module _ {V I R : Type 0} (root : V → R) (entries : V → List I) where

@@ -50,15 +50,15 @@ module _ {V I : Type 0} where
   abbrev pub IsPassOf : Token V I → Token V I → Type 0
   IsPassOf own p = IsPass own.table_id (first_of own) p
 
-  -- a pass of the table that holds the object
-  pub record Holds (own : Token V I) (object : ℕ) (p : Token V I) : Type 0 where
-    pub table : p.table_id ≡ own.table_id
-    pub first_is : first_of p ≡ first_of own
+  -- a pass of the table with these first values that holds the object
+  pub record Holds (table_id : TableId) (first : List V) (object : ℕ) (p : Token V I) : Type 0 where
+    pub table : p.table_id ≡ table_id
+    pub first_is : first_of p ≡ first
     pub plain : p.me.0.keeps ≡ false
     pub out : p.me.0.out ≡ Some object
     pub slot : p.me.1 ≡ (object, None) ∷ []
     pub numbered : (k : ℕ) × (number_of p ≡ Some k)
-    pub inside : object < length (first_of own)
+    pub inside : object < length first
 
   -- the passes of a table, each at the place of its number
   pub record AreAll (own : Token V I) (ps : List (Token V I)) : Type 0 where

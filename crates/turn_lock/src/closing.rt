@@ -9,7 +9,7 @@ ghost use Rattle.turn_lock.specs.Passing.{tokens, made_lists, AreOut, AreFull};
 
 use crate::booked::Booked;
 use crate::plays::{Booking, Glue};
-use crate::table::{LockTable, Pass, Token};
+use crate::table::{Desk, LockTable, Pass, Token};
 use crate::view::View;
 use atomic_table::{Closed, Table};
 use sleep_base::Mem;
@@ -61,8 +61,9 @@ pub fn close_locks<V: Booked>(
     requires passes { AreAll locks.own (tokens passes.items) }
     ensures { IfOk result (λ values. AreClosed V.root V.entries (first_of locks.own) (made_lists passes.items) values.items) }
 {
-    let values = Vec::with_capacity(alloc, locks.table.slot_count())?;
-    let LockTable { table, mut own } = locks;
+    let values = Vec::with_capacity(alloc, locks.desk.table.slot_count())?;
+    let LockTable { desk, mut own } = locks;
+    let Desk { table, about: _ } = desk;
     gather(&table, &mut own, passes);
     Ok(unslotted(table.close_with(own), values))
 }

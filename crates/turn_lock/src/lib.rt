@@ -12,5 +12,5 @@ mod view;
 
 pub use booked::Booked;
 pub use closing::close_locks;
-pub use table::{Held, LockTable, Pass, Token};
+pub use table::{Desk, Held, LockTable, Pass, Token};
 pub use view::{Made, View};

@@ -4,7 +4,7 @@ ghost use Rattle.turn_lock.specs.Passes.{AreNew, first_of};
 ghost use Rattle.turn_lock.specs.Passing.{tokens};
 
 use crate::booked::Booked;
-use crate::table::{LockTable, Pass};
+use crate::table::{Desk, LockTable, Pass};
 use atomic_table::Table;
 use sleep_base::Mem;
 use std::alloc::Global;
@@ -33,7 +33,8 @@ impl<V: Booked> LockTable<V> {
         let Ok((table, own)) = Table::new(alloc, words.as_slice(), slots, &about) else {
             return Err(Mem);
         };
-        Ok(LockTable { table, own })
+        let desk = Desk { table, about };
+        Ok(LockTable { desk, own })
     }
 
     /// That many new passes, in the order of their numbers.

@@ -2,7 +2,7 @@
 ghost use Rattle.std.specs.Prelude.{◌≡◌, ◌≢◌, ◌<◌, ◌≤◌, ◌+◌, ℕ, [], ◌∷◌, ◌++◌, map, length, vec_len, IfOk, Some, None};
 ghost use mathlib.Core.Option.{some};
 ghost use Rattle.turn_lock.specs.Locks.{keeper, pass_view, IsTaken, AreClosed, out_with};
-ghost use Rattle.turn_lock.specs.Passes.{IsOwn, IsPassOf, Holds, AreAll, AreNew, HasGrown, HasRoot, gained, first_of, made_of, number_of, had_by};
+ghost use Rattle.turn_lock.specs.Passes.{IsOwn, IsPass, Holds, AreAll, AreNew, HasGrown, HasRoot, gained, first_of, made_of, number_of, had_by};
 
 use crate::booked::Booked;
 use crate::plays::{Booking, Cut, Give, Take};
@@ -17,13 +17,23 @@ use std::sync::Wait;
 /// A seat at the table of objects of the type `V`.
 pub type Token<V, I> = Seat<Option<V>, View<V, I>>;
 
-/// One table of locks, each round an object.
+/// The locks, each round an object, which threads share.
+#[derive(Drop)]
+pub struct Desk<V: Booked> {
+    pub(crate) table: Table<Option<V>, View<V, V::Item>, Snapshot<Vec<V>>, Booking, Global>,
+    /// The objects as they were at `new`.
+    pub about: Snapshot<Vec<V>>,
+    ghost shaped: { table.shared.table_id.words ≡ length about.value.items },
+}
+
+/// One table of locks, with what it needs to be closed.
 #[derive(Drop)]
 pub struct LockTable<V: Booked> {
-    pub(crate) table: Table<Option<V>, View<V, V::Item>, Snapshot<Vec<V>>, Booking, Global>,
+    pub desk: Desk<V>,
     pub own: Token<V, V::Item>,
-    ghost seated: { own.table_id ≡ table.shared.table_id },
-    ghost shaped: { (own.table_id.words ≡ length (first_of own)) × (own.table_id.slots ≡ length (first_of own)) × (0 < own.table_id.words) },
+    ghost seated: { own.table_id ≡ desk.table.shared.table_id },
+    ghost first_is: { first_of own ≡ desk.about.value.items },
+    ghost shaped: { (own.table_id.slots ≡ length (first_of own)) × (0 < own.table_id.words) },
     ghost kept: { IsOwn own },
 }
 
@@ -48,14 +58,17 @@ impl<V: Booked> LockTable<V> {
         ensures table { self.new.own.table_id ≡ self.old.own.table_id }
         ensures pass { (result.token.table_id ≡ self.old.own.table_id) × (result.token.me ≡ (pass_view (first_of self.old.own) self.old.own.me.0.next [], [])) }
     {
-        let table = &self.table;
+        let desk = &self.desk;
+        let table = &desk.table;
         let token = table.shared.split_seat::<Cut>(&mut self.own);
         Pass { token }
     }
+}
 
+impl<V: Booked> Desk<V> {
     /// Waits until the object is free.
     fn lock<R: Wait>(&self, rt: &R, token: &mut Token<V, V::Item>, object: usize)
-        requires { IsPassOf self.now.own token.old × (object < length (first_of self.now.own)) }
+        requires { IsPass self.now.table.shared.table_id self.now.about.value.items token.old × (object < length self.now.about.value.items) }
         ensures seat { (token.new.table_id ≡ token.old.table_id) × (token.new.id ≡ token.old.id) }
         ensures taken { (y : V) × (token.new.me ≡ (out_with V.root V.entries token.old.me.0 object (V.entries y), (object, Some y) ∷ [])) × IsTaken V.root V.entries token.old.me.0 object y }
     {
@@ -75,9 +88,9 @@ impl<V: Booked> LockTable<V> {
 
     /// Waits until the object is free, and takes it.
     pub fn take<R: Wait>(&self, rt: &R, pass: Pass<V>, object: usize) -> Held<V>
-        requires pass { IsPassOf self.now.own pass.token }
-        requires object { object < length (first_of self.now.own) }
-        ensures held { Holds self.now.own object result.token × (result.object ≡ object) }
+        requires pass { IsPass self.now.table.shared.table_id self.now.about.value.items pass.token }
+        requires object { object < length self.now.about.value.items }
+        ensures held { Holds self.now.table.shared.table_id self.now.about.value.items object result.token × (result.object ≡ object) }
         ensures same { (number_of result.token ≡ number_of pass.token) × (made_of result.token ≡ made_of pass.token) }
         ensures list { had_by result.token ≡ V.entries result.value }
         ensures taken { IsTaken V.root V.entries pass.token.me.0 object result.value }
@@ -98,10 +111,10 @@ impl<V: Booked> LockTable<V> {
 
     /// Gives the object back. The pass's list gains the entries that were added at the end of the object's list.
     pub fn give(&self, held: Held<V>) -> Pass<V>
-        requires held { Holds self.now.own held.object held.token }
-        requires root { HasRoot V.root V.entries (first_of self.now.own) held.object held.value }
+        requires held { Holds self.now.table.shared.table_id self.now.about.value.items held.object held.token }
+        requires root { HasRoot V.root V.entries self.now.about.value.items held.object held.value }
         requires grown { HasGrown V.root V.entries (had_by held.token) held.value }
-        ensures pass { IsPassOf self.now.own result.token }
+        ensures pass { IsPass self.now.table.shared.table_id self.now.about.value.items result.token }
         ensures same { number_of result.token ≡ number_of held.token }
         ensures made { made_of result.token ≡ made_of held.token ++ gained V.root V.entries held.object (had_by held.token) held.value }
     {

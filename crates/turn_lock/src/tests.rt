@@ -1,5 +1,5 @@
 ghost use Rattle.std.specs.Prelude.{◌≡◌, ◌<◌, ◌≤◌, ◌++◌, ℕ, List, IfOk, length, vec_len};
-ghost use Rattle.turn_lock.specs.Passes.{IsPassOf, AreAll, AreNew, first_of, number_of, Token};
+ghost use Rattle.turn_lock.specs.Passes.{IsPass, IsPassOf, AreAll, AreNew, first_of, number_of, Token};
 ghost use Rattle.turn_lock.specs.Passing.{tokens};
 
 use super::*;
@@ -41,14 +41,14 @@ impl Journal {
 /// One take of an object, in which a number is added.
 fn turn<R: Wait>(
     rt: &R,
-    locks: &LockTable<Journal>,
+    locks: &Desk<Journal>,
     pass: Pass<Journal>,
     object: usize,
     x: u32,
 ) -> Pass<Journal>
-    requires pass { IsPassOf locks.now.own pass.token }
-    requires object { object < length (first_of locks.now.own) }
-    ensures pass { IsPassOf locks.now.own result.token }
+    requires pass { IsPass locks.now.table.shared.table_id locks.now.about.value.items pass.token }
+    requires object { object < length locks.now.about.value.items }
+    ensures pass { IsPass locks.now.table.shared.table_id locks.now.about.value.items result.token }
     ensures same { number_of result.token ≡ number_of pass.token }
 {
     let mut held = locks.take(rt, pass, object);
@@ -59,14 +59,14 @@ fn turn<R: Wait>(
 /// All turns of one worker, over all objects.
 fn work<R: Wait>(
     rt: &R,
-    locks: &LockTable<Journal>,
+    locks: &Desk<Journal>,
     pass: Pass<Journal>,
     objects: usize,
     turns: u32,
 ) -> Pass<Journal>
-    requires pass { IsPassOf locks.now.own pass.token }
-    requires objects { (0 < objects) × (objects ≡ length (first_of locks.now.own)) }
-    ensures pass { IsPassOf locks.now.own result.token }
+    requires pass { IsPass locks.now.table.shared.table_id locks.now.about.value.items pass.token }
+    requires objects { (0 < objects) × (objects ≡ length locks.now.about.value.items) }
+    ensures pass { IsPass locks.now.table.shared.table_id locks.now.about.value.items result.token }
     ensures same { number_of result.token ≡ number_of pass.token }
 {
     let mut pass = pass;
@@ -89,11 +89,13 @@ fn burst<R: Threads + Wait + Sync>(
     requires objects { (0 < objects) × (objects ≡ length (first_of locks.now.own)) }
     ensures { IfOk result (λ back. AreAll locks.now.own (tokens back.items)) }
 {
+    let desk = &locks.desk;
     let one = |pass: Pass<Journal>| -> Pass<Journal>
-        requires { IsPassOf locks.now.own pass.token × (0 < objects) × (objects ≡ length (first_of locks.now.own)) }
-        ensures { IsPassOf locks.entry.now.own result.token × (number_of result.token ≡ number_of pass.token) }
-    { work(rt, locks, pass, objects, turns) };
-    thread::map_vec(rt, passes, &one)
+        requires { IsPass desk.now.table.shared.table_id desk.now.about.value.items pass.token × (0 < objects) × (objects ≡ length desk.now.about.value.items) }
+        ensures { IsPass desk.entry.now.table.shared.table_id desk.entry.now.about.value.items result.token × (number_of result.token ≡ number_of pass.token) }
+    { work(rt, desk, pass, objects, turns) };
+    let back = thread::map_vec(rt, passes, &one)?;
+    Ok(back)
 }
 
 /// So many empty objects.
