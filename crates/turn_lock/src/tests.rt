@@ -149,3 +149,20 @@ fn one_object_takes_all_turns(rt: HostRuntime) -> Result<(), Fail> {
     assert_eq!(rt; counted(&rt, rt.alloc(), 1, 4, 500)?, 2_000);
     Ok(())
 }
+
+fn shares<T: Sync>(_it: &T) {}
+
+fn shares_table(locks: &LockTable<Journal>) {
+    let desk = &locks.desk;
+    shares(&desk.table);
+}
+
+fn shares_about(locks: &LockTable<Journal>) {
+    let desk = &locks.desk;
+    shares(&desk.about);
+}
+
+fn shares_desk(locks: &LockTable<Journal>) {
+    let desk = &locks.desk;
+    shares(desk);
+}
