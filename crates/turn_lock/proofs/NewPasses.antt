@@ -19,8 +19,8 @@ module _ {V I : Type 0} where
   }
 
   is_new : (own own' p : Token V I) (k : ℕ) → own'.table_id ≡ own.table_id → first_of own' ≡ first_of own → p.table_id ≡ own.table_id
-      → p.me ≡ (pass_view (first_of own) k [], []) → IsPassOf own' p × (number_of p ≡ Some k) × (made_of p ≡ [])
-  is_new own own' p k same first table me = (
+      → p.me ≡ (pass_view (first_of own) k [], []) → own'.table_id.words ≡ length (first_of own') → IsPassOf own' p × (number_of p ≡ Some k) × (made_of p ≡ [])
+  is_new own own' p k same first table me shaped = (
     record {
       table = table ∙ sym same;
       first_is = ap (λ m. m.0.first) me ∙ sym first;
@@ -28,6 +28,7 @@ module _ {V I : Type 0} where
       idle = ap (λ m. m.0.out) me;
       numbered = (k, ap (λ m. m.0.number) me);
       empty = ap (λ m. m.1) me;
+      shaped = shaped;
     },
     ap (λ m. m.0.number) me,
     ap (λ m. m.0.made) me,
@@ -41,16 +42,17 @@ module _ {V I : Type 0} where
     idle = is.idle;
     numbered = is.numbered;
     empty = is.empty;
+    shaped = ap (λ z. z.words) same ∙ (is.shaped ∙ ap length (sym first));
   }
 
   one_more : (own own' : Token V I) (ps : List (Token V I)) (p : Token V I) → own'.table_id ≡ own.table_id → own'.me.0 ≡ keeper (first_of own) (own.me.0.next + 1) own.me.0.known
-      → p.table_id ≡ own.table_id → p.me ≡ (pass_view (first_of own) own.me.0.next [], []) → AreNew own ps → AreNew own' (ps ++ p ∷ [])
-  one_more own own' ps p same me table mine are =
+      → p.table_id ≡ own.table_id → p.me ≡ (pass_view (first_of own) own.me.0.next [], []) → own'.table_id.words ≡ length (first_of own') → AreNew own ps → AreNew own' (ps ++ p ∷ [])
+  one_more own own' ps p same me table mine shaped are =
       let first : first_of own' ≡ first_of own = ap (λ v. v.first) me in
       let next : own'.me.0.next ≡ own.me.0.next + 1 = ap (λ v. v.next) me in
       let counted = are.all_are.counted in
       let long = length-append ps (p ∷ []) in
-      let new = is_new own own' p own.me.0.next same first table mine in
+      let new = is_new own own' p own.me.0.next same first table mine shaped in
       record {
         all_are = record {
           counted = omega arith;
@@ -62,5 +64,5 @@ module _ {V I : Type 0} where
       }
 
   pub passes_more : (own own' : Token V I) (ps : List (Pass V I)) (p : Pass V I) → own'.table_id ≡ own.table_id → own'.me.0 ≡ keeper (first_of own) (own.me.0.next + 1) own.me.0.known
-      → p.token.table_id ≡ own.table_id → p.token.me ≡ (pass_view (first_of own) own.me.0.next [], []) → AreNew own (tokens ps) → AreNew own' (tokens (ps ++ p ∷ []))
-  passes_more own own' ps p same me table mine are = subst (AreNew own') (sym (map-append (λ (q : Pass V I). q.token) ps (p ∷ []))) (one_more own own' (tokens ps) p.token same me table mine are)
+      → p.token.table_id ≡ own.table_id → p.token.me ≡ (pass_view (first_of own) own.me.0.next [], []) → own'.table_id.words ≡ length (first_of own') → AreNew own (tokens ps) → AreNew own' (tokens (ps ++ p ∷ []))
+  passes_more own own' ps p same me table mine shaped are = subst (AreNew own') (sym (map-append (λ (q : Pass V I). q.token) ps (p ∷ []))) (one_more own own' (tokens ps) p.token same me table mine shaped are)

@@ -45,6 +45,7 @@ module _ {V I : Type 0} where
     pub idle : p.me.0.out ≡ None
     pub numbered : (k : ℕ) × (number_of p ≡ Some k)
     pub empty : p.me.1 ≡ []
+    pub shaped : table_id.words ≡ length first
 
   -- a pass of the table with this seat of its own, which holds nothing
   abbrev pub IsPassOf : Token V I → Token V I → Type 0
@@ -59,6 +60,7 @@ module _ {V I : Type 0} where
     pub slot : p.me.1 ≡ (object, None) ∷ []
     pub numbered : (k : ℕ) × (number_of p ≡ Some k)
     pub inside : object < length first
+    pub shaped : table_id.words ≡ length first
 
   -- the passes of a table, each at the place of its number
   pub record AreAll (own : Token V I) (ps : List (Token V I)) : Type 0 where

@@ -8,19 +8,14 @@ ghost use Rattle.turn_lock.specs.Passes.{IsOwn, AreAll, first_of};
 ghost use Rattle.turn_lock.specs.Passing.{tokens, made_lists, AreOut, AreFull};
 
 use crate::booked::Booked;
-use crate::plays::{Booking, Glue};
+use crate::plays::Glue;
 use crate::table::{Desk, LockTable, Pass, Token};
-use crate::view::View;
-use atomic_table::{Closed, Table};
+use atomic_table::Closed;
 use sleep_base::Mem;
 use std::alloc::Global;
-use std::snapshot::Snapshot;
-
-/// The table inside a table of locks.
-type Inside<V, I> = Table<Option<V>, View<V, I>, Snapshot<Vec<V>>, Booking, Global>;
 
 /// What the passes made comes to the table's own seat.
-fn gather<V: Booked>(table: &Inside<V, V::Item>, own: &mut Token<V, V::Item>, passes: Vec<Pass<V>>)
+fn gather<V: Booked>(table: &Desk<V, V::Item>, own: &mut Token<V, V::Item>, passes: Vec<Pass<V>>)
     requires table { (own.old.table_id ≡ table.now.shared.table_id) × (0 < own.old.table_id.words) }
     requires own { IsOwn own.old }
     requires passes { AreAll own.old (tokens passes.items) }
@@ -61,9 +56,8 @@ pub fn close_locks<V: Booked>(
     requires passes { AreAll locks.own (tokens passes.items) }
     ensures { IfOk result (λ values. AreClosed V.root V.entries (first_of locks.own) (made_lists passes.items) values.items) }
 {
-    let values = Vec::with_capacity(alloc, locks.desk.table.slot_count())?;
+    let values = Vec::with_capacity(alloc, locks.desk.slot_count())?;
     let LockTable { desk, mut own } = locks;
-    let Desk { table, about: _ } = desk;
-    gather(&table, &mut own, passes);
-    Ok(unslotted(table.close_with(own), values))
+    gather(&desk, &mut own, passes);
+    Ok(unslotted(desk.close_with(own), values))
 }

@@ -6,11 +6,9 @@ mod closing;
 mod opening;
 mod plays;
 mod table;
-#[cfg(test)]
-mod tests;
 mod view;
 
 pub use booked::Booked;
 pub use closing::close_locks;
-pub use table::{Desk, Held, LockTable, Pass, Token};
+pub use table::{Desk, Held, LockTable, Pass, Token, give, take};
 pub use view::{Made, View};

@@ -4,7 +4,7 @@ ghost use Rattle.turn_lock.specs.Passes.{AreNew, first_of};
 ghost use Rattle.turn_lock.specs.Passing.{tokens};
 
 use crate::booked::Booked;
-use crate::table::{Desk, LockTable, Pass};
+use crate::table::{LockTable, Pass};
 use atomic_table::Table;
 use sleep_base::Mem;
 use std::alloc::Global;
@@ -30,10 +30,9 @@ impl<V: Booked> LockTable<V> {
         let words = vec![in alloc; 0; values.len()]?;
         let about = Snapshot::of(&values);
         let slots = slotted(alloc, values)?;
-        let Ok((table, own)) = Table::new(alloc, words.as_slice(), slots, &about) else {
+        let Ok((desk, own)) = Table::new(alloc, words.as_slice(), slots, &about) else {
             return Err(Mem);
         };
-        let desk = Desk { table, about };
         Ok(LockTable { desk, own })
     }
 

@@ -18,22 +18,15 @@ use std::sync::Wait;
 pub type Token<V, I> = Seat<Option<V>, View<V, I>>;
 
 /// The locks, each round an object, which threads share.
-#[derive(Drop)]
-pub struct Desk<V: Booked> {
-    pub(crate) table: Table<Option<V>, View<V, V::Item>, Snapshot<Vec<V>>, Booking, Global>,
-    /// The objects as they were at `new`.
-    pub about: Snapshot<Vec<V>>,
-    ghost shaped: { table.shared.table_id.words ≡ length about.value.items },
-}
+pub type Desk<V, I> = Table<Option<V>, View<V, I>, Snapshot<Vec<V>>, Booking, Global>;
 
 /// One table of locks, with what it needs to be closed.
 #[derive(Drop)]
 pub struct LockTable<V: Booked> {
-    pub desk: Desk<V>,
+    pub desk: Table<Option<V>, View<V, V::Item>, Snapshot<Vec<V>>, Booking, Global>,
     pub own: Token<V, V::Item>,
-    ghost seated: { own.table_id ≡ desk.table.shared.table_id },
-    ghost first_is: { first_of own ≡ desk.about.value.items },
-    ghost shaped: { (own.table_id.slots ≡ length (first_of own)) × (0 < own.table_id.words) },
+    ghost seated: { own.table_id ≡ desk.shared.table_id },
+    ghost shaped: { (own.table_id.words ≡ length (first_of own)) × (own.table_id.slots ≡ length (first_of own)) × (0 < own.table_id.words) },
     ghost kept: { IsOwn own },
 }
 
@@ -58,75 +51,75 @@ impl<V: Booked> LockTable<V> {
         ensures table { self.new.own.table_id ≡ self.old.own.table_id }
         ensures pass { (result.token.table_id ≡ self.old.own.table_id) × (result.token.me ≡ (pass_view (first_of self.old.own) self.old.own.me.0.next [], [])) }
     {
-        let desk = &self.desk;
-        let table = &desk.table;
+        let table = &self.desk;
         let token = table.shared.split_seat::<Cut>(&mut self.own);
         Pass { token }
     }
 }
 
-impl<V: Booked> Desk<V> {
-    /// Waits until the object is free.
-    fn lock<R: Wait>(&self, rt: &R, token: &mut Token<V, V::Item>, object: usize)
-        requires { IsPass self.now.table.shared.table_id self.now.about.value.items token.old × (object < length self.now.about.value.items) }
-        ensures seat { (token.new.table_id ≡ token.old.table_id) × (token.new.id ≡ token.old.id) }
-        ensures taken { (y : V) × (token.new.me ≡ (out_with V.root V.entries token.old.me.0 object (V.entries y), (object, Some y) ∷ [])) × IsTaken V.root V.entries token.old.me.0 object y }
-    {
-        let backoff = Backoff::new();
-        for _ in rt.forever() {
-            let found = self
-                .table
-                .shared
-                .compare_exchange::<Take>(token, object, 0, 1);
-            if found == 0 {
-                return;
-            }
-            backoff.snooze();
+/// Waits until the object is free.
+fn lock<R: Wait, V: Booked>(
+    desk: &Desk<V, V::Item>,
+    rt: &R,
+    token: &mut Token<V, V::Item>,
+    object: usize,
+)
+    requires { IsPass desk.now.shared.table_id (first_of token.old) token.old × (object < length (first_of token.old)) }
+    ensures seat { (token.new.table_id ≡ token.old.table_id) × (token.new.id ≡ token.old.id) }
+    ensures taken { (y : V) × (token.new.me ≡ (out_with V.root V.entries token.old.me.0 object (V.entries y), (object, Some y) ∷ [])) × IsTaken V.root V.entries token.old.me.0 object y }
+{
+    let backoff = Backoff::new();
+    for _ in rt.forever() {
+        let found = desk.shared.compare_exchange::<Take>(token, object, 0, 1);
+        if found == 0 {
+            return;
         }
-        unreachable!()
+        backoff.snooze();
     }
+    unreachable!()
+}
 
-    /// Waits until the object is free, and takes it.
-    pub fn take<R: Wait>(&self, rt: &R, pass: Pass<V>, object: usize) -> Held<V>
-        requires pass { IsPass self.now.table.shared.table_id self.now.about.value.items pass.token }
-        requires object { object < length self.now.about.value.items }
-        ensures held { Holds self.now.table.shared.table_id self.now.about.value.items object result.token × (result.object ≡ object) }
-        ensures same { (number_of result.token ≡ number_of pass.token) × (made_of result.token ≡ made_of pass.token) }
-        ensures list { had_by result.token ≡ V.entries result.value }
-        ensures taken { IsTaken V.root V.entries pass.token.me.0 object result.value }
-    {
-        let Pass { mut token } = pass;
-        self.lock(rt, &mut token, object);
-        let value = self
-            .table
-            .shared
-            .exchange(&mut token, object, None)
-            .unwrap();
-        Held {
-            value,
-            object,
-            token,
-        }
+/// Waits until the object is free, and takes it.
+pub fn take<R: Wait, V: Booked>(
+    desk: &Desk<V, V::Item>,
+    rt: &R,
+    pass: Pass<V>,
+    object: usize,
+) -> Held<V>
+    requires pass { IsPass desk.now.shared.table_id (first_of pass.token) pass.token }
+    requires object { object < length (first_of pass.token) }
+    ensures held { Holds desk.now.shared.table_id (first_of pass.token) object result.token × (result.object ≡ object) }
+    ensures same { (number_of result.token ≡ number_of pass.token) × (made_of result.token ≡ made_of pass.token) }
+    ensures list { had_by result.token ≡ V.entries result.value }
+    ensures taken { IsTaken V.root V.entries pass.token.me.0 object result.value }
+{
+    let Pass { mut token } = pass;
+    lock(desk, rt, &mut token, object);
+    let value = desk.shared.exchange(&mut token, object, None).unwrap();
+    Held {
+        value,
+        object,
+        token,
     }
+}
 
-    /// Gives the object back. The pass's list gains the entries that were added at the end of the object's list.
-    pub fn give(&self, held: Held<V>) -> Pass<V>
-        requires held { Holds self.now.table.shared.table_id self.now.about.value.items held.object held.token }
-        requires root { HasRoot V.root V.entries self.now.about.value.items held.object held.value }
-        requires grown { HasGrown V.root V.entries (had_by held.token) held.value }
-        ensures pass { IsPass self.now.table.shared.table_id self.now.about.value.items result.token }
-        ensures same { number_of result.token ≡ number_of held.token }
-        ensures made { made_of result.token ≡ made_of held.token ++ gained V.root V.entries held.object (had_by held.token) held.value }
-    {
-        let Held {
-            value,
-            object,
-            mut token,
-        } = held;
-        self.table.shared.exchange(&mut token, object, Some(value));
-        self.table.shared.store::<Give>(&mut token, object, 0);
-        Pass { token }
-    }
+/// Gives the object back. The pass's list gains the entries that were added at the end of the object's list.
+pub fn give<V: Booked>(desk: &Desk<V, V::Item>, held: Held<V>) -> Pass<V>
+    requires held { Holds desk.now.shared.table_id (first_of held.token) held.object held.token }
+    requires root { HasRoot V.root V.entries (first_of held.token) held.object held.value }
+    requires grown { HasGrown V.root V.entries (had_by held.token) held.value }
+    ensures pass { IsPass desk.now.shared.table_id (first_of held.token) result.token }
+    ensures same { number_of result.token ≡ number_of held.token }
+    ensures made { made_of result.token ≡ made_of held.token ++ gained V.root V.entries held.object (had_by held.token) held.value }
+{
+    let Held {
+        value,
+        object,
+        mut token,
+    } = held;
+    desk.shared.exchange(&mut token, object, Some(value));
+    desk.shared.store::<Give>(&mut token, object, 0);
+    Pass { token }
 }
 
 impl<V: Booked> Held<V> {

@@ -9,5 +9,5 @@ loop-preserved g c =
       search rules,
       ap (λ v. v.first) own ∙ is.1,
       ap (λ v. v.known) own ∙ is.2,
-      rw (c.in_ok-push.ensures.items) (passes_more c.loop.self.own c.pass.new.self.own c.loop.passes.items c.pass.result c.pass.ensures.table own c.pass.ensures.pass.0 c.pass.ensures.pass.1 is.3),
+      rw (c.in_ok-push.ensures.items) (passes_more c.loop.self.own c.pass.new.self.own c.loop.passes.items c.pass.result c.pass.ensures.table own c.pass.ensures.pass.0 c.pass.ensures.pass.1 c.pass.new.self.shaped.0 is.3),
     )

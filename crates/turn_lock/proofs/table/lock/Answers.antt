@@ -1,6 +1,6 @@
 use Rattle.std.proofs.Common.{rules, ◌≡◌, ◌<◌, sym, ap, ◌∙◌, subst, length, List, Some}
 use Rattle.turn_lock.proofs.Keeping.{may_take}
-use Rattle.turn_lock.proofs.table.Desk.lock.Goals as goal
+use Rattle.turn_lock.proofs.table.lock.Goals as goal
 
 pub compare_exchange-found-requires : goal.compare_exchange-found-requires
 compare_exchange-found-requires g c =

@@ -2,7 +2,7 @@ use Rattle.std.proofs.Common.{rules, ◌∷◌, ◌++◌, ◌∙◌, sym, ap, So
 use lib.ListN.{get_elem?}
 use Rattle.atomic_table.specs.Table.{rest}
 use Rattle.turn_lock.proofs.Keeping.{may_give}
-use Rattle.turn_lock.proofs.table.Desk.give.Goals as goal
+use Rattle.turn_lock.proofs.table.give.Goals as goal
 
 pub store-requires : goal.store-requires
 store-requires g c =

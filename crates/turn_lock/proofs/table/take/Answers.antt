@@ -1,6 +1,6 @@
 use Rattle.std.proofs.Common.{rules, ◌∷◌, ◌∙◌, sym, ap, Some}
 use Rattle.atomic_table.specs.Table.{rest}
-use Rattle.turn_lock.proofs.table.Desk.take.Goals as goal
+use Rattle.turn_lock.proofs.table.take.Goals as goal
 
 pub exchange-requires : goal.exchange-requires
 exchange-requires g c =
