@@ -8,6 +8,7 @@ use mathlib.Core.Logic.{dite}
 use native.Mathlib.Decide.{ℕ_discrete}
 use Rattle.std.specs.Slots.Ownership.{Filled}
 use Rattle.atomic_table.proofs.Lists.{at_map, at_index}
+use Rattle.atomic_table.specs.Seated.{TableId}
 use Rattle.turn_lock.specs.declared.view.Made.{Made}
 use Rattle.turn_lock.specs.declared.view.View.{View}
 use Rattle.turn_lock.specs.declared.table.Pass.{Pass}
@@ -108,3 +109,10 @@ module _ {V I R : Type 0} (root : V → R) (entries : V → List I) where
     makers = e.3;
     booked = e.4;
   }
+
+-- the same, by what the pass itself says
+pub one_of_all_alone : {V I : Type 0} (own : Token V I) (z : TableId) (n : ℕ) (ps : List (Pass V I)) (i : ℕ) (p : Pass V I) → own.table_id ≡ z → n ≤ length (first_of own) → AreAll own (tokens ps) → i < length ps
+    → p ≡ get_or ps i p → IsPass z (first_of p.token) p.token × (n ≤ length (first_of p.token))
+one_of_all_alone own z n ps i p table long are low e =
+    let is = one_of_all own ps i p are low e in
+    (subst (λ t. IsPass t (first_of p.token) p.token) table (subst (λ l. IsPass own.table_id l p.token) (sym is.first_is) is), subst (λ l. n ≤ length l) (sym is.first_is) long)

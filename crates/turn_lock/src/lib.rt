@@ -6,6 +6,8 @@ mod closing;
 mod opening;
 mod plays;
 mod table;
+#[cfg(test)]
+mod tests;
 mod view;
 
 pub use booked::Booked;
