@@ -1,7 +1,6 @@
 -- Passes that come back, one after another, and the values that are left.
-use Rattle.std.proofs.Common.{◌≡◌, ℕ, zero, suc, ◌+◌, ◌<◌, ◌≤◌, ◌≢◌, Bool, true, false, get_or, set, get_or-set_other, Option, Some, None, IsSome, List, [], ◌∷◌, ◌++◌, map, length, sym, refl, ap, ◌∙◌, subst, ⊎_elim, arith, length-append, append_assoc}
+use Rattle.std.proofs.Common.{◌≡◌, ℕ, zero, suc, ◌+◌, ◌<◌, ◌≤◌, ◌≢◌, Bool, false, get_or, set, get_or-set_other, Option, Some, None, IsSome, List, [], ◌∷◌, ◌++◌, length, sym, refl, ap, ◌∙◌, subst, ⊎_elim, arith, append_assoc}
 use mathlib.Core.Option.{some, some-ne-none, some-injective}
-use mathlib.Core.List.{map-append}
 use Rattle.std.proofs.lemmas.List.{length-map}
 use lib.ListN.{get_elem?}
 use mathlib.Core.Logic.{dite}
@@ -10,7 +9,6 @@ use Rattle.std.specs.Slots.Ownership.{Filled}
 use Rattle.atomic_table.proofs.Lists.{at_map, at_index}
 use Rattle.atomic_table.specs.Seated.{TableId}
 use Rattle.turn_lock.specs.declared.view.Made.{Made}
-use Rattle.turn_lock.specs.declared.view.View.{View}
 use Rattle.turn_lock.specs.declared.table.Pass.{Pass}
 use Rattle.turn_lock.specs.Passes.{Token, IsPass, IsPassOf, AreAll, first_of, made_of, number_of}
 use Rattle.turn_lock.specs.Passing.{tokens, made_lists, AreOut, AreFull}

@@ -1,14 +1,11 @@
 -- New passes, one after another.
-use Rattle.std.proofs.Common.{◌≡◌, ℕ, zero, suc, ◌+◌, ◌<◌, ◌≤◌, true, false, Option, Some, None, List, [], ◌∷◌, ◌++◌, map, length, sym, refl, ap, ◌∙◌, subst, ⊎_elim, arith, length-append}
-use mathlib.Core.Option.{some, some-ne-none}
+use Rattle.std.proofs.Common.{◌≡◌, ℕ, ◌+◌, Some, List, [], ◌∷◌, ◌++◌, length, sym, ap, ◌∙◌, subst, ⊎_elim, arith, length-append}
+use mathlib.Core.Option.{some-ne-none}
 use mathlib.Core.List.{map-append}
-use lib.ListN.{get_elem?}
-use Rattle.turn_lock.specs.declared.view.Made.{Made}
-use Rattle.turn_lock.specs.declared.view.View.{View}
 use Rattle.turn_lock.specs.declared.table.Pass.{Pass}
 use Rattle.turn_lock.specs.Locks.{keeper, pass_view}
-use Rattle.turn_lock.specs.Passes.{Token, IsPass, IsPassOf, AreAll, AreNew, first_of, made_of, number_of}
-use Rattle.turn_lock.specs.Passing.{tokens, made_lists}
+use Rattle.turn_lock.specs.Passes.{Token, IsPassOf, AreNew, first_of, made_of, number_of}
+use Rattle.turn_lock.specs.Passing.{tokens}
 use Rattle.turn_lock.proofs.Keeping.{at_end}
 
 module _ {V I : Type 0} where

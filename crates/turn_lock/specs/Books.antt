@@ -1,5 +1,5 @@
 -- The entries that passes made, and who made each entry of an object.
-use Rattle.std.specs.Prelude.{◌≡◌, ℕ, ◌+◌, ◌<◌, ◌==◌, if◌then◌else◌, List, [], ◌∷◌}
+use Rattle.std.specs.Prelude.{ℕ, ◌+◌, ◌<◌, ◌==◌, if◌then◌else◌, List, [], ◌∷◌}
 use Rattle.turn_lock.specs.declared.view.Made.{Made}
 
 module _ {I : Type 0} where

@@ -1,4 +1,4 @@
-use Rattle.std.proofs.Common.{rules, ap, sym, ◌∙◌, subst, List}
+use Rattle.std.proofs.Common.{rules, subst, List}
 use Rattle.turn_lock.specs.Locks.{AreClosed}
 use Rattle.turn_lock.specs.Passing.{made_lists}
 use Rattle.turn_lock.proofs.Keeping.{ends}

@@ -1,4 +1,4 @@
-use Rattle.std.proofs.Common.{rules, ap, sym, ◌∙◌, subst, Some, ℕ, ◌≡◌, ◌<◌, false, get_or}
+use Rattle.std.proofs.Common.{rules, ap, sym, ◌∙◌, subst, Some, ◌≡◌, ◌<◌, false, get_or}
 use mathlib.Core.Option.{some}
 use lib.ListN.{get_elem?}
 use Rattle.turn_lock.proofs.LastPasses.{one_out, filled_next, emptied_next}

@@ -1,8 +1,6 @@
-use Rattle.std.proofs.Common.{◌≡◌, ◌<◌, ℕ, false, get_or, Some, vec_len, vec_capacity}
+use Rattle.std.proofs.Common.{◌≡◌, ◌<◌, ℕ, false, get_or, vec_len, vec_capacity}
 use Rattle.std.specs.Slots.{slots_items, slots_len, slots_filled}
 use Rattle.std.specs.Slots.Ownership.{Filled}
-use mathlib.Core.Option.{some}
-use lib.ListN.{get_elem?}
 use Rattle.turn_lock.specs.Passing.{AreOut}
 use Rattle.turn_lock.proofs.closing.unslotted.Given as goal
 

@@ -1,4 +1,4 @@
-use Rattle.std.proofs.Common.{rules, ◌≡◌, ◌<◌, sym, ap, ◌∙◌, subst, length, List, Some}
+use Rattle.std.proofs.Common.{rules, ◌<◌, sym, ap, ◌∙◌, subst, length, List}
 use Rattle.turn_lock.proofs.Keeping.{may_take}
 use Rattle.turn_lock.proofs.table.lock.Goals as goal
 
