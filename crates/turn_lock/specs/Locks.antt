@@ -28,6 +28,7 @@ module _ {V I R : Type 0} (root : V → R) (entries : V → List I) where
       pub keeps : v.keeps ≡ true → (v.first ≡ first) × (seat ≡ boss) × (v.next ≡ next) × (length v.known ≤ next)
       pub known : v.keeps ≡ true → (k : ℕ) → k < length v.known → (seat_of k ≡ seat) × IsBooked first log k (slice_index_or v.known k [])
 
+  -- the rule: each free object is at home, with the list that the log gives it, and each taken one is out with one pass
   pub record Kept (s : State (Option V) (View V I)) : Type 0 where
     pub first : List V
     pub next : ℕ
@@ -43,18 +44,19 @@ module _ {V I R : Type 0} (root : V → R) (entries : V → List I) where
     pub each_seat : (j : ℕ) (v : View V I) → get_elem? s.views j ≡ some v → Knows first s.words next boss seat_of holder log j v
 
 module _ {V I : Type 0} where
+  -- the view of the table's own seat, after that many passes, of which these came back
   abbrev pub keeper : List V → ℕ → List (List (Made I)) → View V I
   keeper first next known = record { first = first; keeps = true; next = next; known = known; number = None; out = None; had = []; made = [] }
 
+  -- the view of a pass that holds nothing and made these entries
   abbrev pub pass_view : List V → ℕ → List (Made I) → View V I
   pass_view first number ms = record { first = first; keeps = false; next = 0; known = []; number = Some number; out = None; had = []; made = ms }
 
-  abbrev pub held_view : List V → ℕ → List (Made I) → ℕ → List I → View V I
-  held_view first number ms i had = record { first = first; keeps = false; next = 0; known = []; number = Some number; out = Some i; had = had; made = ms }
-
+  -- the view of a pass that came back
   abbrev pub spent : View V I
   spent = record { first = []; keeps = false; next = 0; known = []; number = None; out = None; had = []; made = [] }
 
+-- a view, with the slots that are out with it
 abbrev Sat : Type 0 → Type 0 → Type 0
 Sat V I = Me (Option V) (View V I)
 
@@ -64,9 +66,11 @@ module _ {V I R : Type 0} (root : V → R) (entries : V → List I) where
   IsTaken v i y = (u : V) × (es : List (ℕ × I)) × (get_elem? v.first i ≡ some u) × (root y ≡ root u) × (entries y ≡ entries u ++ bare es)
       × ((k : ℕ) → v.number ≡ Some k → of_object i v.made ≡ made_by k i (length (entries u)) es)
 
+  -- the view once the object is taken, with this list
   abbrev pub out_with : View V I → ℕ → List I → View V I
   out_with v i had = record v { out = Some i; had = had }
 
+  -- the view once the object is back, with this list
   abbrev pub back_from : View V I → ℕ → List I → View V I
   back_from v i xs = record v { out = None; had = []; made = v.made ++ placed i (length v.had) (drop (length v.had) xs) }
 

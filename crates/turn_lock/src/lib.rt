@@ -1,4 +1,5 @@
-//! One table of locks for several objects, whose passes know what they made.
+//! One table of locks for several objects, whose passes know what they made. Threads share the `desk` of a `LockTable`;
+//! its own seat, which is needed to close it, stays with its owner.
 #![tactic(auto)]
 
 mod booked;
