@@ -78,6 +78,7 @@ SECTIONS = [
     ("answer_book", "Answers by attempt and thing", "own", ["Keys", "Book"]),
     ("sleep_state", "What the core keeps of each part, each as one value", "own", ["Places", "Paths", "DeviceStates", "TaskStates"]),
     ("task_freezer", "The freezer as one value", "`kernel/power/process.c`, `kernel/freezer.c`", ["Freezers", "FreezerFields", "Fronts", "Waits"]),
+    ("turn_lock", "Locks with passes", "own", ["Books", "Locks", "Passes", "Passing", "Lending"]),
     ("sleep_sysfs", "The state that a text names", "`kernel/power/main.c`", ["Decoding"]),
     ("autosleep_loop", "Autosleep as one value", "`kernel/power/autosleep.c`", ["Autosleeps"]),
     ("script_plan", "A script's turns, counted once", "own", ["Plans", "PlanFields"]),

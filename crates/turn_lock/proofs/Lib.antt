@@ -1,0 +1,4 @@
+pub mod Booking
+pub mod Keeping
+pub mod NewPasses
+pub mod LastPasses

@@ -1,0 +1,5 @@
+pub mod Books
+pub mod Locks
+pub mod Passes
+pub mod Passing
+pub mod Lending

@@ -1,0 +1,29 @@
+//! What a seat at the table knows.
+use std::collections::LinkedList;
+
+/// An entry that a pass made: the object, the place in the object's list, and the entry.
+pub struct Made<I> {
+    pub object: u64,
+    pub place: u64,
+    pub entry: I,
+}
+
+/// What a seat knows. No value of it is made.
+pub struct View<V, I> {
+    /// The values that the table was made of.
+    pub first: LinkedList<V>,
+    /// Whether it is the table's own seat.
+    pub keeps: bool,
+    /// How many passes there are, where it is the table's own.
+    pub next: u64,
+    /// What the passes made that came back, in order, where it is the table's own.
+    pub known: LinkedList<LinkedList<Made<I>>>,
+    /// The pass's number, where it is a pass's.
+    pub number: Option<u64>,
+    /// The object that is out with it.
+    pub out: Option<u64>,
+    /// That object's list as it was taken.
+    pub had: LinkedList<I>,
+    /// What it made.
+    pub made: LinkedList<Made<I>>,
+}
