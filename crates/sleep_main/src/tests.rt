@@ -1,4 +1,6 @@
-use crate::rows::{attempts, devices, diamonds, events, failures, freezer, laptop, sources, sysfs};
+use crate::rows::{
+    attempts, devices, diamonds, events, failures, freezer, laptop, many, sources, sysfs,
+};
 use crate::top::run_words;
 use sleep_base::{MemSink, MemSource};
 use std::alloc::{AllocError, Global};
@@ -59,7 +61,7 @@ fn given<R: Wait>(
     let read_fails = streams.read_fails.to_vec(alloc)?;
     let write_fails = streams.write_fails.to_vec(alloc)?;
     let mut source = MemSource::new(input, streams.read_chunk.max(1), read_fails);
-    let mut out = MemSink::new(alloc, 1 << 20, streams.write_chunk.max(1), write_fails)?;
+    let mut out = MemSink::new(alloc, 1 << 23, streams.write_chunk.max(1), write_fails)?;
     let error_fails = streams.error_fails.to_vec(alloc)?;
     let mut err = MemSink::new(alloc, 4096, 4096, error_fails)?;
     let status = run_words(rt, alloc, &words, &mut source, &mut out, &mut err);
@@ -89,68 +91,60 @@ fn expect<R: Wait + Abort>(
     Ok(())
 }
 
+/// Runs the program over each of these machine files, whose status and log are given.
+fn expect_each<R: Wait + Abort>(
+    rt: &R,
+    alloc: Global,
+    machines: &[(&str, u8, &str)],
+) -> Result<(), Fail> {
+    for machine in machines {
+        let (file, status, log) = *machine;
+        expect(rt, alloc, file, status, log, "")?;
+    }
+    Ok(())
+}
+
 /// Attempts that sleep: a child suspends before its parent, and resumes behind it.
 #[test]
 fn attempts_go_down_and_come_up(rt: HostRuntime) -> Result<(), Fail> {
-    for (file, status, log) in attempts::MACHINES {
-        expect(&rt, rt.alloc(), file, status, log, "")?;
-    }
-    Ok(())
+    expect_each(&rt, rt.alloc(), &attempts::MACHINES)
 }
 
 /// Events between the steps that lead to an attempt, in its middle and while the machine sleeps: whichever test
 /// comes first finds them.
 #[test]
 fn events_end_attempts(rt: HostRuntime) -> Result<(), Fail> {
-    for (file, status, log) in events::MACHINES {
-        expect(&rt, rt.alloc(), file, status, log, "")?;
-    }
-    Ok(())
+    expect_each(&rt, rt.alloc(), &events::MACHINES)
 }
 
 /// A failure at each place of an attempt: what was done before it is undone, and no more.
 #[test]
 fn failures_turn_back(rt: HostRuntime) -> Result<(), Fail> {
-    for (file, status, log) in failures::MACHINES {
-        expect(&rt, rt.alloc(), file, status, log, "")?;
-    }
-    Ok(())
+    expect_each(&rt, rt.alloc(), &failures::MACHINES)
 }
 
 /// Devices with suppliers, asynchronous ones, and some that are left alone.
 #[test]
 fn devices_keep_their_order(rt: HostRuntime) -> Result<(), Fail> {
-    for (file, status, log) in devices::MACHINES {
-        expect(&rt, rt.alloc(), file, status, log, "")?;
-    }
-    Ok(())
+    expect_each(&rt, rt.alloc(), &devices::MACHINES)
 }
 
 /// Tasks that freeze, and that do not in time; waits that the freezer interrupts, and waits without an end.
 #[test]
 fn tasks_freeze(rt: HostRuntime) -> Result<(), Fail> {
-    for (file, status, log) in freezer::MACHINES {
-        expect(&rt, rt.alloc(), file, status, log, "")?;
-    }
-    Ok(())
+    expect_each(&rt, rt.alloc(), &freezer::MACHINES)
 }
 
 /// Events with a time, and a read that waits for the end of one.
 #[test]
 fn sources_report(rt: HostRuntime) -> Result<(), Fail> {
-    for (file, status, log) in sources::MACHINES {
-        expect(&rt, rt.alloc(), file, status, log, "")?;
-    }
-    Ok(())
+    expect_each(&rt, rt.alloc(), &sources::MACHINES)
 }
 
 /// What is written to state, wakeup_count and autosleep, and the work of autosleep.
 #[test]
 fn texts_are_answered(rt: HostRuntime) -> Result<(), Fail> {
-    for (file, status, log) in sysfs::MACHINES {
-        expect(&rt, rt.alloc(), file, status, log, "")?;
-    }
-    Ok(())
+    expect_each(&rt, rt.alloc(), &sysfs::MACHINES)
 }
 
 /// A laptop that its keys wake twice, and its alarm once.
@@ -185,6 +179,19 @@ fn a_source_with_room_is_not_full(rt: HostRuntime) -> Result<(), Fail> {
     }
     log.push_str(sources::RELAXED_END)?;
     expect(&rt, alloc, sources::RELAXED, 0, log.as_str(), "")
+}
+
+/// 65,536 events, after which 16 bits would show the saved count again: the attempt is given up, and a save of their
+/// number is answered.
+#[test]
+fn many_events_do_not_come_round(rt: HostRuntime) -> Result<(), Fail> {
+    let alloc = rt.alloc();
+    for (last, end) in many::ENDS {
+        let file = many::many_file(alloc, last)?;
+        let log = many::many_log(alloc, end)?;
+        expect(&rt, alloc, file.as_str(), 0, log.as_str(), "")?;
+    }
+    Ok(())
 }
 
 /// Files that break a rule: for each rule one at least.

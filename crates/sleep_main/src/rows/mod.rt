@@ -7,5 +7,6 @@ pub(crate) mod events;
 pub(crate) mod failures;
 pub(crate) mod freezer;
 pub(crate) mod laptop;
+pub(crate) mod many;
 pub(crate) mod sources;
 pub(crate) mod sysfs;

@@ -1,13 +1,26 @@
 //! What is written to state, wakeup_count and autosleep.
 
 /// The machines, the status that each gives, and its log.
-pub(crate) const MACHINES: [(&str, u8, &str); 5] = [
+pub(crate) const MACHINES: [(&str, u8, &str); 6] = [
+    (SAVE_PAST_THE_COUNT, 0, SAVE_PAST_THE_COUNT_LOG),
     (STATE_TEXTS, 0, STATE_TEXTS_LOG),
     (STATE_UNSAVED, 0, STATE_UNSAVED_LOG),
     (AUTOSLEEP, 0, AUTOSLEEP_LOG),
     (AUTOSLEEP_OF_NO_STATE, 0, AUTOSLEEP_OF_NO_STATE_LOG),
     (AUTOSLEEP_OF_TWO_LINES, 0, AUTOSLEEP_OF_TWO_LINES_LOG),
 ];
+
+/// A save of a number that the visible count never has.
+const SAVE_PAST_THE_COUNT: &str =
+    r#"{"version": 1, "actors": [{"name": "w", "kind": "user", "script": [{"op": "save", "count": 16777216}]}]}"#;
+
+/// What the program writes for it.
+const SAVE_PAST_THE_COUNT_LOG: &str = "\
+0 0/0/0 task:w save 16777216 EINVAL
+0 0/0/0 task:w exit
+source autosleep 0 0 0 0 0 0 0
+finished
+";
 
 /// A text that is no state, and mem with a newline behind it.
 const STATE_TEXTS: &str =
