@@ -3,23 +3,29 @@ ghost use Rattle.device_links.specs.declared.fault.LinkFault.TheVariants as faul
 
 use sleep_base::Mem;
 use sleep_model::ListOf;
+use thiserror::Error;
 
 /// Numbers of devices.
 pub type DevList = ListOf<u32>;
 
 /// Why a link was not added.
-#[derive(Drop)]
+#[derive(Debug, Drop, Error)]
 pub enum LinkFault {
     /// The supplier or the consumer is not registered.
+    #[error("the supplier or the consumer is not registered")]
     NoDevice,
     /// As many links stand as a machine may have.
+    #[error("as many links stand as a machine may have")]
     TooMany,
     /// This link stands.
+    #[error("this link stands")]
     Twice,
     /// The supplier is the consumer or hangs below it: the devices from the consumer to the
     /// supplier, each but the first right below the one before.
+    #[error("the link would close a cycle")]
     Cycle(DevList),
     /// Memory ran out.
+    #[error("out of memory")]
     Mem,
 }
 

@@ -3,17 +3,22 @@ ghost use Rattle.device_tree.specs.declared.fault.TreeFault.TheVariants as fault
 
 use sleep_base::Mem;
 use std::alloc::{AllocError, AllocFailed};
+use thiserror::Error;
 
 /// Why a device was not registered.
-#[derive(Clone, Copy, Debug, PartialEq, Eq)]
+#[derive(Clone, Copy, Debug, PartialEq, Eq, Error)]
 pub enum TreeFault {
     /// As many devices stand as a machine may have.
+    #[error("as many devices stand as a machine may have")]
     TooMany,
     /// A device of this name stands.
+    #[error("a device of this name stands")]
     NameTaken,
     /// The parent is not registered yet.
+    #[error("the parent is not registered yet")]
     NoParent,
     /// Memory ran out.
+    #[error("out of memory")]
     Mem,
 }
 

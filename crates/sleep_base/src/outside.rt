@@ -4,9 +4,11 @@ ghost use Rattle.std.specs.Io.KnownBytes.{ReadConsumes, WriteAppends};
 ghost use Rattle.sleep_base.specs.Faults.{HasCause};
 
 use std::alloc::{AllocError, AllocFailed};
+use thiserror::Error;
 
 /// Want of memory: an allocation was refused.
-#[derive(Clone, Copy, Debug, PartialEq, Eq)]
+#[derive(Clone, Copy, Debug, PartialEq, Eq, Error)]
+#[error("out of memory")]
 pub struct Mem;
 
 impl From<AllocError> for Mem {
@@ -26,7 +28,8 @@ impl<T: Drop> From<AllocFailed<T>> for Mem {
 }
 
 /// A read or a write that failed. The source or the sink has counted it as a fault.
-#[derive(Clone, Copy, Debug, PartialEq, Eq)]
+#[derive(Clone, Copy, Debug, PartialEq, Eq, Error)]
+#[error("a read or a write failed")]
 pub struct Failed;
 
 /// Where bytes come from.

@@ -4,18 +4,22 @@ ghost use Rattle.sleep_base.specs.Whole.{ReadAll, WriteAll};
 
 use crate::{ByteSink, ByteSource, Failed};
 use std::alloc::{AllocError, Global};
+use thiserror::Error;
 
 /// Bytes of one read.
 const CHUNK: usize = 4096;
 
 /// Why `read_all` stopped before the end.
-#[derive(Clone, Copy, Debug, PartialEq, Eq)]
+#[derive(Clone, Copy, Debug, PartialEq, Eq, Error)]
 pub enum ReadStop {
     /// A read failed.
+    #[error("a read failed")]
     Fault,
     /// There are more bytes than the limit.
+    #[error("more bytes than the limit")]
     TooLong,
     /// An allocation was refused.
+    #[error("out of memory")]
     Mem,
 }
 

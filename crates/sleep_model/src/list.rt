@@ -1,7 +1,7 @@
 use std::marker::Model;
 
 /// A list of `T` that contracts see as the plain list of its items.
-#[derive(Drop)]
+#[derive(Debug, Drop)]
 pub struct ListOf<T> {
     items: Vec<T>,
 }

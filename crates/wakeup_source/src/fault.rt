@@ -1,11 +1,14 @@
 use std::alloc::AllocError;
+use thiserror::Error;
 
 /// Why a call on a source was refused.
-#[derive(Clone, Copy, Debug, PartialEq, Eq)]
+#[derive(Clone, Copy, Debug, PartialEq, Eq, Error)]
 pub enum SourceFault {
     /// Fewer than four places are left in its history.
+    #[error("fewer than four places are left in the source's history")]
     Full,
     /// There was no memory for the history.
+    #[error("out of memory")]
     Mem,
 }
 
