@@ -50,6 +50,9 @@ impl<'a> AnswerBook<'a> {
     pub fn answer(&self, what: What, attempt: u32) -> Option<&'a Answer>
         ensures { option_copied result ≡ answer_among self.now what attempt }
     {
+        if self.answers.is_empty() {
+            return None;
+        }
         match self.given(what, Some(attempt)) {
             Some(own) => Some(own),
             None => self.given(what, None),

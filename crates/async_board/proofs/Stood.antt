@@ -3,7 +3,7 @@ use Rattle.std.proofs.Common.{◌≡◌, ◌≢◌, ◌<◌, ◌≤◌, ◌∙�
 use Rattle.std.proofs.lemmas.Bool.{false≢true}
 use Rattle.sleep_model.specs.declared.place.Stand.{Stand}
 use Rattle.sleep_model.specs.declared.place.Stand.TheVariants as stand
-use Rattle.std.proofs.lemmas.List.{length-replicate}
+use Rattle.std.proofs.lemmas.List.{length-replicate, set-get_or}
 use Rattle.sleep_model.specs.declared.machine.Link.{Link}
 use Rattle.sleep_model.specs.Order.{hanging, holding}
 use Rattle.sleep_model.specs.Links.{first_places}
@@ -18,6 +18,10 @@ use Rattle.sleep_model.specs.Walk.{is_so}
 use Rattle.async_board.specs.Picks.{picks, is_picked, IsPassed, IsAhead}
 use Rattle.async_board.specs.Cursors.{IsPassedBut, IsAheadBut, AreCursors, AreCursorsBut}
 use Rattle.async_board.specs.Walks.{IsPlaced, IsBelow, IsAbove, IsWalk, order_of}
+
+-- a device that is put where it stands moves nothing
+pub stands_stay : (stands : List Stand) (d : ℕ) (after : Stand) → after ≡ stand_at stands d → set stands d after ≡ stands
+stands_stay stands d after e = ap (set stands d) e ∙ set-get_or stands d stand.Unprepared
 
 pub others_stand : (stands : List Stand) (d x : ℕ) (s : Stand) → (x ≡ d → ⊥) → stand_at (set stands d s) x ≡ stand_at stands x
 others_stand stands d x s ne = get_or-set_other stands d x s stand.Unprepared ne

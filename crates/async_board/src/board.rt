@@ -40,7 +40,8 @@ impl Model for Board {
     ghost invariant = { AreKept };
 }
 
-// Moves the device of an entry in a pair of phases.
+// Moves the device of an entry in a pair of phases. Most entries move it in one pair alone.
+#[tactic(auto, using(crate::proofs::Stood::stands_stay))]
 fn move_in(walk: &mut Walk, layout: &Layout, p: Phase, kind: Kind, device: u32)
     requires laid { IsLayout layout.now }
     requires kept { IsWalk layout.now walk.old }
@@ -49,7 +50,10 @@ fn move_in(walk: &mut Walk, layout: &Layout, p: Phase, kind: Kind, device: u32)
     ensures kept { IsWalk layout.now walk.new }
 {
     let before = stand_at(&walk.stands, device);
-    put(walk, layout, device, stand_after(p, kind, before));
+    let after = stand_after(p, kind, before);
+    if after != before {
+        put(walk, layout, device, after);
+    }
 }
 
 impl Board {

@@ -31,8 +31,10 @@ fn first_after(look: &Look<'_>, what: Pick, place: usize, at: usize) -> usize
 {
     if is_picked(look, what, look.order[place]) {
         at.min(place)
-    } else {
+    } else if place == at {
         first_from(look, what, at)
+    } else {
+        at
     }
 }
 
@@ -64,8 +66,10 @@ fn last_after(look: &Look<'_>, what: Pick, place: usize, at: usize) -> usize
 {
     if is_picked(look, what, look.order[place]) {
         at.max(place + 1)
-    } else {
+    } else if place + 1 == at {
         last_before(look, what, at)
+    } else {
+        at
     }
 }
 

@@ -111,18 +111,24 @@ impl<'m> History<'m> {
             actor,
             kind,
         } = stamped.entry;
+        self.journal.put(stamped);
         self.last = stamped.stamp;
-        self.time = time_after(kind, time, self.time);
-        self.guard.note(kind, now);
-        self.path.note(kind, actor, pos(now), time);
         self.devices.note(kind, actor);
         self.board.note(kind);
-        self.tasks.note(actor, kind);
-        self.freezer.note(actor, kind);
-        self.autosleep.note(kind, actor);
-        self.platform.note(kind);
-        self.syscore.note(kind);
-        self.journal.put(stamped);
+        match kind {
+            // The most entries by far: they move nothing else.
+            Kind::Begin(..) | Kind::End(..) => {}
+            _ => {
+                self.time = time_after(kind, time, self.time);
+                self.guard.note(kind, now);
+                self.path.note(kind, actor, pos(now), time);
+                self.tasks.note(actor, kind);
+                self.freezer.note(actor, kind);
+                self.autosleep.note(kind, actor);
+                self.platform.note(kind);
+                self.syscore.note(kind);
+            }
+        }
     }
 
     /// Sees that at least so many places are reserved. After an error nothing has changed.

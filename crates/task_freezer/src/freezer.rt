@@ -62,6 +62,16 @@ impl<'m> Freezer<'m> {
     pub fn note(&mut self, who: Actor, kind: Kind)
         ensures { self.new ≡ freezer_after who kind self.old }
     {
+        match kind {
+            Kind::Freeze(_) | Kind::Thaw(_) | Kind::Frozen | Kind::Exit => self.move_tasks(who, kind),
+            _ => {}
+        }
+    }
+
+    /// What a freeze, a thaw, or an entry by which a task freezes or exits does.
+    fn move_tasks(&mut self, who: Actor, kind: Kind)
+        ensures { self.new ≡ freezer_after who kind self.old }
+    {
         let waited = waits_among(self.scripts, &self.freezings, &self.gone, who);
         move_gone(&mut self.gone, who, kind);
         move_freezings(&mut self.freezings, self.scripts, who, kind);

@@ -3,7 +3,7 @@ use Rattle.sleep_model.specs.declared.entry.Group.TheVariants as group
 use Rattle.task_freezer.specs.declared.left.LeftCounts.{LeftCounts}
 use Rattle.task_freezer.specs.Waits.{AreMoved, left_counts, wait_groups}
 use Rattle.task_freezer.proofs.Waiting.{are_moved, freezings_len, gone_len, left_few}
-use Rattle.task_freezer.proofs.freezer.Freezer.note.Goals as goal
+use Rattle.task_freezer.proofs.freezer.Freezer.move_tasks.Goals as goal
 
 pub counts_after-self-inside-requires-clause-freezings : goal.counts_after-self-inside-requires-clause-freezings
 counts_after-self-inside-requires-clause-freezings c =
