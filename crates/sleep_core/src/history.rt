@@ -117,7 +117,7 @@ impl<'m> History<'m> {
         self.board.note(kind);
         match kind {
             // The most entries by far: they move nothing else.
-            Kind::Begin(..) | Kind::End(..) => {}
+            Kind::Begin(..) | Kind::End(..) | Kind::Schedule(..) => {}
             _ => {
                 self.time = time_after(kind, time, self.time);
                 self.guard.note(kind, now);

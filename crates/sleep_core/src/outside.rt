@@ -11,13 +11,15 @@ ghost use Rattle.sleep_model.specs.Path.{maker};
 ghost use Rattle.sleep_model.specs.Seats.{seat_at, seats};
 ghost use Rattle.sleep_model.specs.Word.{position};
 ghost use Rattle.sleep_state.specs.Places.{entries};
+ghost use Rattle.async_board.specs.AtPlaces.{board_at};
+ghost use Rattle.sleep_core.specs.Seen.{waits_for_on};
 ghost use Rattle.script_plan.specs.Plans.{calls_before};
 ghost use Rattle.sleep_core.specs.Cores.{IsActor, with_entry, next_stamp, jump_entry};
 ghost use Rattle.sleep_core.specs.Histories.{last_stamp};
 
 use crate::state::Core;
 use sleep_base::Mem;
-use sleep_model::{Actor, Due, Entry, EventNow, JournalEntry, Kind, Stamp, pos};
+use sleep_model::{Actor, Due, Entry, EventNow, JournalEntry, Kind, Phase, Stamp, pos};
 
 impl<'m> Core<'m> {
     /// Time jumps to `to` ms, later than now, as seen at a word that was looked at. That the moment is the
@@ -116,6 +118,19 @@ impl<'m> Core<'m> {
         ensures { result.now ≡ first_places (above self.now.machine device) }
     {
         self.history.board().links().above(device)
+    }
+
+    /// The first device that a device waits for in a phase: right below it on the way down
+    /// (`dpm_wait_for_subordinate`), right above it on the way up (`dpm_wait_for_superior`).
+    pub fn waits_for(&self, phase: Phase, device: u32) -> Option<u32>
+        ensures { result ≡ waits_for_on (board_at self.now.machine (entries self.now.past)) phase device }
+    {
+        let board = self.board();
+        if phase.is_down() {
+            board.waits_below(phase, device)
+        } else {
+            board.waits_above(phase.mirror(), device)
+        }
     }
 
     /// The journal, the oldest entry first.

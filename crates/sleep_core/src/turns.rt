@@ -62,11 +62,10 @@ fn next_tick<R: Wait>(rt: &R, one: u64, other: u64) -> u64
     ensures { result ≡ max one other + 1 }
 {
     let last = one.max(other);
-    for _ in rt.forever() {
-        if last < u64::MAX {
-            return last + 1;
-        }
+    if last < u64::MAX {
+        return last + 1;
     }
+    for _ in rt.forever() {}
     unreachable!()
 }
 

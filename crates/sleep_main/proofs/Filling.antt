@@ -4,7 +4,7 @@ use Rattle.sleep_model.specs.declared.machine.Machine.{Machine}
 use Rattle.machine_file.specs.Whole.{machine_in}
 use Rattle.sleep_run.specs.Runs.{IsFull}
 use Rattle.sleep_main.specs.declared.ending.Ending.{Ending}
-use Rattle.sleep_main.specs.declared.ending.Ending.TheVariants.{Ran, Stuck, NoForm, TooLong, Refused, ReadFault, WriteFault, SourceFull, NoMemory}
+use Rattle.sleep_main.specs.declared.ending.Ending.TheVariants.{Ran, Stuck, NoForm, TooLong, Broken, ReadFault, WriteFault, SourceFull, NoMemory}
 use Rattle.sleep_main.specs.Endings.{Streams, ReadWhole, KeepsOut, IsFullNamed, EndsWithout, FileEnded}
 
 -- a source that is full is named
@@ -15,13 +15,13 @@ fills bytes m s Ran spells full named = named
 fills bytes m s Stuck spells full named = named
 fills bytes m s NoForm spells full named = named
 fills bytes m s TooLong spells full named = named
-fills bytes m s Refused spells full named = absurd named
+fills bytes m s (Broken rule place) spells full named = absurd named
 fills bytes m s ReadFault spells full named = named
 fills bytes m s WriteFault spells full named = named
 
 -- a whole input that gives no text ends the program so
 pub ended_without : (old new : Streams) (bytes : List ℕ) (ending : Ending) → ReadWhole old new bytes → KeepsOut old new → EndsWithout bytes ending → FileEnded old new ending
-ended_without old new bytes Refused read out h = ((bytes, read, h), out)
+ended_without old new bytes (Broken rule place) read out h = ((bytes, read, h), out)
 ended_without old new bytes (SourceFull name) read out h = ((bytes, read, h), out)
 ended_without old new bytes NoMemory read out h = out
 ended_without old new bytes Ran read out h = absurd h

@@ -6,8 +6,8 @@ use Rattle.sleep_base.specs.declared.outside.Failed.{Failed}
 use Rattle.sleep_base.specs.Faults.{Rose}
 use Rattle.sleep_base.specs.Whole.{WriteAll}
 use Rattle.sleep_main.specs.declared.ending.Ending.{Ending}
-use Rattle.sleep_main.specs.declared.ending.Ending.TheVariants.{Ran, Stuck, NoForm, TooLong, Refused, ReadFault, WriteFault, SourceFull, NoMemory}
-use Rattle.sleep_main.specs.Endings.{text_of, head_of, name_of, tail_of}
+use Rattle.sleep_main.specs.declared.ending.Ending.TheVariants.{Ran, Stuck, NoForm, TooLong, Broken, ReadFault, WriteFault, SourceFull, NoMemory}
+use Rattle.sleep_main.specs.Endings.{text_of, head_of, number_of, colon_of, name_of, tail_of}
 
 -- what was appended behind another piece
 appends_both : (old mid new : Option (List ℕ)) (one other : List ℕ) → Appends old mid one → Appends mid new other → Appends old new (one ++ other)
@@ -28,13 +28,13 @@ both_written old mid new before then now one other (Err fault) h l g =
     (one ++ g.0, g.1, ap (λ bs. one ++ bs) g.2 ∙ sym (append_assoc one g.0 g.1), appends_both old mid new one g.0 h g.3, omega (arith, g.4, l))
 
 -- what an ending says, in its pieces
-pub text_parts : (ending : Ending) → (head_of ending ++ name_of ending) ++ tail_of ending ≡ text_of ending
-text_parts (SourceFull name) = refl
+pub text_parts : (ending : Ending) → ((head_of ending ++ number_of ending) ++ colon_of ending) ++ (name_of ending ++ tail_of ending) ≡ text_of ending
+text_parts (Broken rule place) = ?
+text_parts (SourceFull name) = ap (λ bs. bs ++ (name_of (SourceFull name) ++ tail_of (SourceFull name))) (append-nil _ ∙ append-nil _) ∙ ?
 text_parts Ran = refl
 text_parts Stuck = refl
-text_parts NoForm = append-nil _ ∙ append-nil _
-text_parts TooLong = append-nil _ ∙ append-nil _
-text_parts Refused = append-nil _ ∙ append-nil _
-text_parts ReadFault = append-nil _ ∙ append-nil _
-text_parts WriteFault = append-nil _ ∙ append-nil _
-text_parts NoMemory = append-nil _ ∙ append-nil _
+text_parts NoForm = append-nil _ ∙ (append-nil _ ∙ append-nil _)
+text_parts TooLong = append-nil _ ∙ (append-nil _ ∙ append-nil _)
+text_parts ReadFault = append-nil _ ∙ (append-nil _ ∙ append-nil _)
+text_parts WriteFault = append-nil _ ∙ (append-nil _ ∙ append-nil _)
+text_parts NoMemory = append-nil _ ∙ (append-nil _ ∙ append-nil _)

@@ -1,5 +1,5 @@
 -- How the program ends: its status, its text on standard error, and what it has read and written.
-use Rattle.std.specs.Prelude.{◌≡◌, ◌≤◌, ◌<◌, ◌-◌, ◌^◌, ◌⊎◌, ℕ, Bool, true, false, List, [], ◌∷◌, ◌++◌, length, codes, Option, Some, None, Result, Ok, Err}
+use Rattle.std.specs.Prelude.{◌≡◌, ◌≤◌, ◌<◌, ◌-◌, ◌^◌, ◌⊎◌, ℕ, Bool, true, false, List, [], ◌∷◌, ◌++◌, length, codes, decimal, string_bytes, Option, Some, None, Result, Ok, Err}
 use Rattle.std.specs.Io.KnownBytes.{Consumes, Appends, IsAtEnd}
 use Rattle.sleep_base.specs.Faults.{Rose}
 use Rattle.sleep_base.specs.Whole.{Took}
@@ -9,10 +9,10 @@ use Rattle.sleep_model.specs.declared.log.LogEnd.TheVariants as end
 use Rattle.sleep_model.specs.declared.machine.Machine.{Machine}
 use Rattle.sleep_model.specs.Legal.{IsFinishedLog, IsStuckLog}
 use Rattle.sleep_model.specs.Text.{text, source}
-use Rattle.machine_file.specs.Whole.{machine_in}
+use Rattle.machine_file.specs.Whole.{machine_in, broken_at, broken_in}
 use Rattle.sleep_main.specs.declared.ending.Ending.{Ending}
 use Rattle.sleep_main.specs.declared.top.LogText.{LogText}
-use Rattle.sleep_main.specs.declared.ending.Ending.TheVariants.{Ran, Stuck, NoForm, TooLong, Refused, ReadFault, WriteFault, SourceFull, NoMemory}
+use Rattle.sleep_main.specs.declared.ending.Ending.TheVariants.{Ran, Stuck, NoForm, TooLong, Broken, ReadFault, WriteFault, SourceFull, NoMemory}
 use Rattle.sleep_run.specs.Runs.{IsRun, IsFull}
 
 -- the program's status
@@ -20,7 +20,7 @@ abbrev pub status_of : Ending → ℕ
 status_of Ran = 0
 status_of NoForm = 2
 status_of TooLong = 3
-status_of Refused = 3
+status_of (Broken rule place) = 3
 status_of ReadFault = 4
 status_of WriteFault = 5
 status_of Stuck = 6
@@ -37,24 +37,37 @@ text_of Ran = []
 text_of Stuck = []
 text_of NoForm = line (codes "usage: run --workers 1")
 text_of TooLong = line (codes "machine: longer than 16777216 bytes")
-text_of Refused = line (codes "machine: refused")
+text_of (Broken rule place) = line (codes "machine: rule " ++ decimal rule ++ codes ": " ++ string_bytes place)
 text_of ReadFault = line (codes "read fault")
 text_of WriteFault = line (codes "write fault")
 text_of (SourceFull name) = line (codes "source full: " ++ name)
 text_of NoMemory = line (codes "want of memory")
 
--- what it says before the name of a source
+-- what it says before a number or a name
 abbrev pub head_of : Ending → List ℕ
+head_of (Broken rule place) = codes "machine: rule "
 head_of (SourceFull name) = codes "source full: "
 head_of ending = text_of ending
 
--- the name of a source, where it says one
+-- the number of a rule, where it says one
+abbrev pub number_of : Ending → List ℕ
+number_of (Broken rule place) = decimal rule
+number_of ending = []
+
+-- what it says between a rule's number and its place
+abbrev pub colon_of : Ending → List ℕ
+colon_of (Broken rule place) = codes ": "
+colon_of ending = []
+
+-- the place where a rule is broken, or the name of a source, where it says one
 abbrev pub name_of : Ending → List ℕ
+name_of (Broken rule place) = string_bytes place
 name_of (SourceFull name) = name
 name_of ending = []
 
--- what it says behind the name
+-- what it says behind the place or the name
 abbrev pub tail_of : Ending → List ℕ
+tail_of (Broken rule place) = line []
 tail_of (SourceFull name) = line []
 tail_of ending = []
 
@@ -95,9 +108,9 @@ pub record IsLogOf (bytes said : List ℕ) (stuck : Bool) : Type 0 where
   pub ends : EndsAs machine log stuck
   pub is_text : said ≡ text machine log
 
--- the bytes spell no machine
-abbrev pub SpellNone : List ℕ → Type 0
-SpellNone bytes = (m : Machine) → ¬ (machine_in bytes ≡ Some m)
+-- the first rule that the bytes break is that one, and there
+abbrev pub IsBroken : List ℕ → ℕ → List ℕ → Type 0
+IsBroken bytes rule place = broken_in bytes ≡ Some (broken_at rule place)
 
 -- the bytes spell a machine, and a source of that name has no place for a call
 pub record FillsSource (bytes name : List ℕ) : Type 0 where
@@ -113,9 +126,9 @@ IsFullNamed m s (SourceFull name) = name ≡ source m s
 IsFullNamed m s NoMemory = Unit {0}
 IsFullNamed m s _ = ⊥
 
--- how the program ends where the bytes give no text: they spell no machine, or one that fills a source, or memory ran out
+-- how the program ends where the bytes give no text: they break a rule, or spell a machine that fills a source, or memory ran out
 abbrev pub EndsWithout : List ℕ → Ending → Type 0
-EndsWithout bytes Refused = SpellNone bytes
+EndsWithout bytes (Broken rule place) = IsBroken bytes rule (string_bytes place)
 EndsWithout bytes (SourceFull name) = FillsSource bytes name
 EndsWithout bytes NoMemory = Unit {0}
 EndsWithout bytes _ = ⊥
@@ -141,8 +154,8 @@ FileEnded old new Stuck = (said : List ℕ) × RanFile old new said true × Appe
 FileEnded old new NoForm = ⊥
 -- more than 16,777,216 bytes came
 FileEnded old new TooLong = Took old.left new.left (λ n. 16777216 < n) × KeepsOut old new
--- the bytes spell no machine
-FileEnded old new Refused = ((bytes : List ℕ) × ReadWhole old new bytes × SpellNone bytes) × KeepsOut old new
+-- the bytes break that rule first, and there
+FileEnded old new (Broken rule place) = ((bytes : List ℕ) × ReadWhole old new bytes × IsBroken bytes rule (string_bytes place)) × KeepsOut old new
 -- a read failed
 FileEnded old new ReadFault = Rose old.read_faults new.read_faults × KeepsOut old new
 -- a write failed, after a front of the log's text

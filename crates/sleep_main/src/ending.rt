@@ -1,10 +1,11 @@
 ghost use Rattle.std.specs.Prelude.{◌≡◌};
-ghost use Rattle.sleep_main.specs.Endings.{status_of, head_of, name_of, tail_of};
+ghost use Rattle.sleep_main.specs.Endings.{status_of, head_of, number_of, colon_of, name_of, tail_of};
 
+use itoa::Buffer;
 use sleep_model::Name;
 
 /// How the program ends.
-#[derive(Clone, Copy, Debug, PartialEq, Eq)]
+#[derive(Debug, Drop)]
 pub enum Ending {
     /// The log was written, of a run in which nothing was left to do.
     Ran,
@@ -14,8 +15,8 @@ pub enum Ending {
     NoForm,
     /// The input is longer than a machine file may be.
     TooLong,
-    /// The input spells no machine.
-    Refused,
+    /// The input breaks a rule of the format: the number of the first one, and its first place.
+    Broken { rule: u8, place: String },
     /// A read failed.
     ReadFault,
     /// A write of the log failed.
@@ -34,7 +35,7 @@ impl Ending {
         match self {
             Ending::Ran => 0,
             Ending::NoForm => 2,
-            Ending::TooLong | Ending::Refused => 3,
+            Ending::TooLong | Ending::Broken { .. } => 3,
             Ending::ReadFault => 4,
             Ending::WriteFault => 5,
             Ending::Stuck => 6,
@@ -43,7 +44,7 @@ impl Ending {
         }
     }
 
-    /// What the program says on standard error, before the name of a source.
+    /// What the program says on standard error, before a number or a name.
     pub fn head(&self) -> &'static str
         ensures { result.now ≡ head_of self.now }
     {
@@ -51,7 +52,7 @@ impl Ending {
             Ending::Ran | Ending::Stuck => "",
             Ending::NoForm => "usage: run --workers 1\n",
             Ending::TooLong => "machine: longer than 16777216 bytes\n",
-            Ending::Refused => "machine: refused\n",
+            Ending::Broken { .. } => "machine: rule ",
             Ending::ReadFault => "read fault\n",
             Ending::WriteFault => "write fault\n",
             Ending::SourceFull(_) => "source full: ",
@@ -59,22 +60,43 @@ impl Ending {
         }
     }
 
-    /// The name of a source, where it says one.
+    /// The number of a rule, where it says one, by this buffer.
+    pub fn number<'b>(&self, buffer: &'b mut Buffer) -> &'b [u8]
+        ensures { result.now ≡ number_of self.now }
+    {
+        match self {
+            Ending::Broken { rule, .. } => buffer.format(*rule).as_bytes(),
+            _ => b"",
+        }
+    }
+
+    /// What it says between a rule's number and its place.
+    pub fn colon(&self) -> &'static str
+        ensures { result.now ≡ colon_of self.now }
+    {
+        match self {
+            Ending::Broken { .. } => ": ",
+            _ => "",
+        }
+    }
+
+    /// The place where a rule is broken, or the name of a source, where it says one.
     pub fn name(&self) -> &[u8]
         ensures { result.now ≡ name_of self.now }
     {
         match self {
+            Ending::Broken { place, .. } => place.as_bytes(),
             Ending::SourceFull(name) => name.bytes(),
             _ => b"",
         }
     }
 
-    /// What it says behind the name.
+    /// What it says behind the place or the name.
     pub fn tail(&self) -> &'static str
         ensures { result.now ≡ tail_of self.now }
     {
         match self {
-            Ending::SourceFull(_) => "\n",
+            Ending::Broken { .. } | Ending::SourceFull(_) => "\n",
             _ => "",
         }
     }

@@ -4,6 +4,7 @@ ghost use Rattle.sleep_main.specs.declared.ending.Ending.{Ending};
 ghost use Rattle.sleep_main.specs.Endings.{IsForm, GivesLog, IsFullNamed, FileEnded, Ended, Completes, Says, is_stuck, status_of, text_of};
 
 use crate::ending::Ending;
+use itoa::Buffer;
 use log_text::{source_name, write_log};
 use machine_file::{MachineFault, ReadMachine, read_machine};
 use sleep_base::{ByteSink, ByteSource, Failed, ReadStop, read_all, write_all};
@@ -56,14 +57,14 @@ fn full(machine: &Machine, source: u32) -> Ending
     }
 }
 
-/// The text of the log of the machine that the bytes spell, or how the program ends without one: `Refused` where
-/// they spell none, `SourceFull` where a source's history has no place for a call, `NoMemory` where there is no memory.
+/// The text of the log of the machine that the bytes spell, or how the program ends without one: `Broken` where
+/// they break a rule and so spell none, `SourceFull` where a source's history has no place for a call, `NoMemory` where there is no memory.
 fn log_of_bytes<R: Wait>(rt: &R, alloc: Global, bytes: &[u8]) -> Result<LogText, Ending>
     ensures { GivesLog bytes.now result }
 {
     let ReadMachine { machine, links } = match read_machine(alloc, bytes) {
         Ok(read) => read,
-        Err(MachineFault::Rule { .. }) => return Err(Ending::Refused),
+        Err(MachineFault::Rule { rule, place }) => return Err(Ending::Broken { rule, place }),
         Err(MachineFault::Mem) => return Err(Ending::NoMemory),
     };
     match run_machine(rt, alloc, &machine, links) {
@@ -147,7 +148,8 @@ fn write_three<K: ByteSink>(
     other: &[u8],
     third: &[u8],
 ) -> Result<(), Failed>
-    ensures { WriteAll (K.written sink.old) (K.written sink.new) (K.faults sink.old) (K.faults sink.new) ((one.now ++ other.now) ++ third.now) result }
+    ensures bytes { WriteAll (K.written sink.old) (K.written sink.new) (K.faults sink.old) (K.faults sink.new) ((one.now ++ other.now) ++ third.now) result }
+    ensures faults { K.faults sink.old ≤ K.faults sink.new }
 {
     write_both(sink, one, other)?;
     write_all(sink, third)
@@ -157,9 +159,11 @@ fn write_three<K: ByteSink>(
 fn write_ending<K: ByteSink>(sink: &mut K, ending: &Ending) -> Result<(), Failed>
     ensures { WriteAll (K.written sink.old) (K.written sink.new) (K.faults sink.old) (K.faults sink.new) (text_of ending.now) result }
 {
+    let mut digits = Buffer::new();
     let head = ending.head().as_bytes();
-    let tail = ending.tail().as_bytes();
-    write_three(sink, head, ending.name(), tail)
+    let number = ending.number(&mut digits);
+    write_three(sink, head, number, ending.colon().as_bytes())?;
+    write_both(sink, ending.name(), ending.tail().as_bytes())
 }
 
 /// Says on a stream how the program ends, as far as the stream takes it.
@@ -175,8 +179,8 @@ pub fn say<K: ByteSink>(err: &mut K, ending: &Ending)
 ///
 /// - 0: the log was written, of a run in which nothing was left to do. 6: of one in which nobody went on.
 /// - 2: exactly where the words are others; nothing is read or written.
-/// - 3: the input has more than 16,777,216 bytes or spells no machine. Such an input may give 4 or 8
-///   instead, and nothing else.
+/// - 3: the input has more than 16,777,216 bytes or breaks a rule of the format, the first of which is told with its
+///   place. Such an input may give 4 or 8 instead, and nothing else.
 /// - 4: a read failed. 5: a write failed, after a front of the log's text.
 /// - 7: the history of a wakeup source has no place left for a call.
 /// - 8: there was no memory.

@@ -83,8 +83,12 @@ impl<'m> Run<'m> {
         }
         match self.ask(rt, Actor::Auto)? {
             Tried::Made => Ok(true),
-            _ => {
-                self.waiters.auto_waits();
+            Tried::Waits(why) => {
+                self.waiters.auto_waits(why);
+                Ok(false)
+            }
+            Tried::Gone => {
+                self.waiters.auto_is_gone();
                 Ok(false)
             }
         }

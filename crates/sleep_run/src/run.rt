@@ -145,8 +145,8 @@ fn fault_of(fault: SourceFault, source: u32) -> RunFault
     }
 }
 
-/// After an entry: the devices that may have something to do by it. One may that waits for a device right below
-/// it on the way down, or right above it on the way up.
+/// After an entry: the devices that may have something to do by it. One may that waited for a device right below
+/// it on the way down, or right above it on the way up, and now waits for none.
 fn stir_devices(core: &Core<'_>, waiters: &mut Waiters, kind: Kind) {
     let (Kind::End(phase, device, _) | Kind::Skip(phase, device, _)) = kind else {
         return;
@@ -157,7 +157,9 @@ fn stir_devices(core: &Core<'_>, waiters: &mut Waiters, kind: Kind) {
         core.below(device)
     };
     for other in waiting {
-        waiters.stir_device(*other);
+        if waiters.is_beside(*other) && core.waits_for(phase, *other).is_none() {
+            waiters.stir_device(*other);
+        }
     }
 }
 

@@ -13,8 +13,12 @@ use std::alloc::Global;
 pub(crate) struct Waiters {
     scripts: Asks,
     /// Scripts that wait for events to end, for a wakeup, for the machine to wake, or as makers of an attempt
-    /// for a device or a task.
+    /// for tasks.
     for_word: Asks,
+    /// The maker of an attempt that waits for a device, if it is a script.
+    for_device: Asks,
+    /// The device that the maker of an attempt waits for.
+    awaited: Option<u32>,
     for_mark: Asks,
     for_lock: Asks,
     /// Scripts that sleep, or are frozen.
@@ -52,6 +56,8 @@ impl Waiters {
         Ok(Waiters {
             scripts: all,
             for_word: Asks::new(alloc, scripts)?,
+            for_device: Asks::new(alloc, scripts)?,
+            awaited: None,
             for_mark: Asks::new(alloc, scripts)?,
             for_lock: Asks::new(alloc, scripts)?,
             for_long: Asks::new(alloc, scripts)?,
@@ -93,6 +99,10 @@ impl Waiters {
             Why::Mark(_) => self.for_mark.insert(script),
             Why::LockHeld => self.for_lock.insert(script),
             Why::Until(_) | Why::Frozen => self.for_long.insert(script),
+            Why::Device(device) => {
+                self.awaited = Some(device);
+                self.for_device.insert(script);
+            }
             _ => self.for_word.insert(script),
         }
     }
@@ -102,8 +112,16 @@ impl Waiters {
         self.scripts.remove(script);
     }
 
-    /// The autosleep work waits.
-    pub(crate) fn auto_waits(&mut self) {
+    /// The autosleep work waits, for that.
+    pub(crate) fn auto_waits(&mut self, why: Why) {
+        self.auto = false;
+        if let Why::Device(device) = why {
+            self.awaited = Some(device);
+        }
+    }
+
+    /// The autosleep work has nothing to do any more.
+    pub(crate) fn auto_is_gone(&mut self) {
         self.auto = false;
     }
 
@@ -117,14 +135,26 @@ impl Waiters {
         self.timers = false;
     }
 
-    /// A device may have something to do, if it is asynchronous.
+    /// Whether the device is asynchronous.
+    pub(crate) fn is_beside(&self, device: u32) -> bool {
+        self.beside.has(device)
+    }
+
+    /// An asynchronous device may have something to do.
     pub(crate) fn stir_device(&mut self, device: u32) {
-        if self.beside.has(device) {
-            self.devices.insert(device);
+        self.devices.insert(device);
+    }
+
+    /// A device is through with a phase.
+    fn stir_maker(&mut self, device: u32) {
+        if self.awaited == Some(device) {
+            self.scripts.take(&mut self.for_device);
+            self.auto = true;
+            self.awaited = None;
         }
     }
 
-    /// The word made a step, or a device or a task has come further.
+    /// The word made a step, or a task has come further.
     pub(crate) fn stir_word(&mut self) {
         self.scripts.take(&mut self.for_word);
         self.auto = true;
@@ -147,6 +177,7 @@ impl Waiters {
         self.stir_marks();
         self.stir_lock();
         self.scripts.take(&mut self.for_long);
+        self.scripts.take(&mut self.for_device);
     }
 
     /// After an entry: scripts and the work, as far as it may have ended their waits.
@@ -155,7 +186,8 @@ impl Waiters {
             Kind::Post(_) => self.stir_marks(),
             Kind::Over { .. } | Kind::AutoDone | Kind::AutoOff => self.stir_lock(),
             Kind::Freeze(_) | Kind::Thaw(_) | Kind::Wake { .. } => self.stir_scripts(),
-            Kind::Frozen | Kind::Exit | Kind::End(..) | Kind::Skip(..) => self.stir_word(),
+            Kind::Frozen | Kind::Exit => self.stir_word(),
+            Kind::End(_, device, _) | Kind::Skip(_, device, _) => self.stir_maker(device),
             Kind::Schedule(_, device) => self.stir_device(device),
             _ => {}
         }
