@@ -1,3 +1,7 @@
+mod Acyclicly
 mod Kept
 mod RowsMade
+mod Passing
+mod Tabulating
+mod Visiting
 mod Walking
