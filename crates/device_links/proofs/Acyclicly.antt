@@ -27,7 +27,7 @@ leads_more hang hang' i d [] e p = p
 leads_more hang hang' i d (x ∷ xs) e p = (i d x p.0, leads_more hang hang' i x xs e p.1)
 
 -- in front of a chosen list, its own
-one_consumer : (b : Bool) (c x : ℕ) → is_among (cond b (c ∷ []) []) x ≡ true → c ≡ x
+pub one_consumer : (b : Bool) (c x : ℕ) → is_among (cond b (c ∷ []) []) x ≡ true → c ≡ x
 one_consumer false c x m = absurd (false≢true m)
 one_consumer true c x m = eqb-true c x (sym (or-false (c == x)) ∙ m)
 

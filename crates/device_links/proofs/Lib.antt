@@ -1,6 +1,7 @@
 mod Acyclicly
 mod Kept
 mod RowsMade
+mod Ordered
 mod Passing
 mod Tabulating
 mod Visiting

@@ -93,3 +93,7 @@ no_link = record { supplier = 0; consumer = 0 }
 pub tells_new : (n : ℕ) (t : Table) (l : Link) → l.supplier < n → l.consumer < n → (r : Bool) → r ≡ is_among (row_at t l.consumer) l.supplier → Tells (not r) (IsNew n t l)
 tells_new n t l s c true e = λ new. true≢false (e ∙ new.new)
 tells_new n t l s c false e = record { supplier = s; consumer = c; new = sym e }
+
+-- the consumer of a link is a device
+pub consumer_at : (ps : List (Option ℕ)) (links : List Link) (i : ℕ) (l : Link) → i < length links → l ≡ get_or links i l → AreApart ps (reverse links) → l.consumer < length ps
+consumer_at ps links i l within at apart = (subst (AreApart ps) (newest links i l within at) (apart_all ps links (i + 1) apart)).1

@@ -262,3 +262,7 @@ module _ (hang : ℕ → List ℕ) where
     kept = λ d i. i;
     placed = λ fix. sym (visited hang (moved n hang) fix old.out (order_closed hang old.out v.ordered) from m) ∙ onto_new (moved n hang from) old.out;
   }
+
+-- what is read of a mark
+pub mark_is : (marks : List Bool) (n : ℕ) (ds : List ℕ) → AreMarks marks n ds → (d : ℕ) → d < n → (read : List Bool) → read ≡ marks → (r : Bool) → r ≡ get_or read d false → is_among ds d ≡ r
+mark_is marks n ds h d l read e r g = sym (h.marked d l) ∙ sym (g ∙ ap (λ ms. get_or ms d false) e)
