@@ -1,5 +1,5 @@
 -- The order that walks from the last link to the first leave.
-use Rattle.std.proofs.Common.{◌≡◌, ◌<◌, ◌≤◌, ◌+◌, ◌∙◌, ℕ, Bool, true, false, not, ◌==◌, List, [], ◌∷◌, ◌++◌, ◌⊎◌, inl, inr, length, take, reverse, filter, get_or, replicate, Option, refl, sym, ap, subst, cond, arith}
+use Rattle.std.proofs.Common.{◌≡◌, ◌<◌, ◌≤◌, ◌+◌, ◌∙◌, ℕ, Bool, true, false, not, ◌==◌, List, [], ◌∷◌, ◌++◌, ◌⊎◌, inl, inr, length, take, reverse, filter, get_or, replicate, Option, Some, None, refl, sym, ap, subst, cond, arith}
 use Rattle.std.specs.List.{range_with_len}
 use Rattle.std.proofs.lemmas.List.{take_all, get_or-replicate, length-replicate}
 use Rattle.std.proofs.lemmas.Bool.{false≢true, eqb-true, or_cases}
@@ -10,10 +10,11 @@ use Rattle.sleep_model.specs.Links.{AreLinks, IsOrder}
 use Rattle.sleep_model.proofs.Acyclic.{order_within}
 use Rattle.sleep_model.proofs.Hanging.{among_app, onto}
 use Rattle.device_rows.specs.Table.{Table, row_at}
+use Rattle.device_links.specs.declared.at_once.Tables.{Tables}
 use Rattle.device_links.specs.declared.visits.Visits.{Visits}
 use Rattle.device_links.specs.Kept.{IsTableOf}
 use Rattle.device_links.specs.Walks.{AreMarks}
-use Rattle.device_links.specs.Passes.{AreApart, AreVisits, IsVisited, IsAcyclic, Goes}
+use Rattle.device_links.specs.Passes.{AreApart, AreVisits, IsVisited, IsAcyclic, Goes, CanStand, Tabulates}
 use Rattle.device_links.proofs.Kept.{hang_is, by_marks}
 use Rattle.device_links.proofs.Passing.{passed, onto_new, order_at_once}
 use Rattle.device_links.proofs.Acyclicly.{one_consumer, visited_links, links_acyclic, apart_within}
@@ -98,3 +99,13 @@ module _ (ps : List (Option ℕ)) (ls : List Link) (t : Table) (h : IsTableOf (l
   within_as after apart d x m =
       let r : x < length ps = apart_within ps after ls apart d x (ap (λ (hang : ℕ → List ℕ). is_among (hang d) x) (sym (hang_is ps ls t h)) ∙ m) in
       omega (arith, h.count)
+
+-- ---- where no links are made
+
+linked_apart : (ps : List (Option ℕ)) (ls : List Link) → AreLinks ps ls → AreApart ps ls
+linked_apart ps [] h = tt
+linked_apart ps (l ∷ ls) h = (h.0, h.1, h.2, linked_apart ps ls h.4)
+
+pub no_tables : (ps : List (Option ℕ)) (links : List Link) (o : Option Tables) → ((t : Tables) → o ≡ Some t → ⊥) → Tabulates ps (reverse links) o → CanStand ps links → ⊥
+no_tables ps links None f h s = h (linked_apart ps (reverse links) s.linked)
+no_tables ps links (Some t) f h s = f t refl
