@@ -52,7 +52,7 @@ walkable ps ls after linked t h =
     (subst (λ (hang : ℕ → List ℕ). IsWalkable (length ps) hang) (sym (hang_is ps ls t h)) (walkable_of ps ls after linked))
 
 -- the others of the order, by their marks
-by_marks : (n : ℕ) (marks : List Bool) (ds : List ℕ) → AreMarks marks n ds → (xs : List ℕ) → ((d : ℕ) → is_among xs d ≡ true → d < n) → filter (λ d. not (get_or marks d false)) xs ≡ filter (λ d. not (is_among ds d)) xs
+pub by_marks : (n : ℕ) (marks : List Bool) (ds : List ℕ) → AreMarks marks n ds → (xs : List ℕ) → ((d : ℕ) → is_among xs d ≡ true → d < n) → filter (λ d. not (get_or marks d false)) xs ≡ filter (λ d. not (is_among ds d)) xs
 by_marks n marks ds m [] h = refl
 by_marks n marks ds m (x ∷ xs) h =
     ap (λ b. cond (not b) (x ∷ filter (λ d. not (get_or marks d false)) xs) (filter (λ d. not (get_or marks d false)) xs)) (m.marked x (h x (among_first x xs)))

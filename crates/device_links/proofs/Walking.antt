@@ -44,7 +44,7 @@ module _ (hang : ℕ → List ℕ) where
   Waits [] out = Unit {0}
   Waits (f ∷ rest) out = Within (drop f.left (hang f.device)) out × Waits rest (f.device ∷ out)
 
-  waits_more : (fs : List Frame) (out more : List ℕ) → Within out more → Waits fs out → Waits fs more
+  pub waits_more : (fs : List Frame) (out more : List ℕ) → Within out more → Waits fs out → Waits fs more
   waits_more [] out more i h = tt
   waits_more (f ∷ rest) out more i h = (
     λ d m. i d (h.0 d m),
@@ -136,7 +136,7 @@ module _ (hang : ℕ → List ℕ) where
           mark d i false e = get_or-set_other marks f.device d true false (λ x. eqb-false f.device d e (sym x)) ∙ w.noted.marked d i
 
       -- one fewer is left
-      flat_next : (xs : List ℕ) (k c : ℕ) → k < length xs → c ≡ get_or xs k c → flat_map W (take (k + 1) xs) ≡ flat_map W (take k xs) ++ W c
+      pub flat_next : (xs : List ℕ) (k c : ℕ) → k < length xs → c ≡ get_or xs k c → flat_map W (take (k + 1) xs) ≡ flat_map W (take k xs) ++ W c
       flat_next xs k c l e =
           ap (flat_map W) (take_more xs k c l ∙ ap (λ y. take k xs ++ y ∷ []) (sym e))
           ∙ (flat_map-append W (take k xs) (c ∷ []) ∙ ap (λ ys. flat_map W (take k xs) ++ ys) (append-nil (W c)))

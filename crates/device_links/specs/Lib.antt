@@ -1,4 +1,5 @@
 pub mod Adds
 pub mod Kept
 pub mod Linked
+pub mod Passes
 pub mod Walks

@@ -1,8 +1,10 @@
 ghost use Rattle.std.specs.Prelude.{◌≡◌, ◌<◌, Some, slice_index, if◌then◌else◌};
 ghost use Rattle.device_rows.specs.Table.{hung};
 
+use crate::at_once::{Tables, tables_of};
 use crate::fault::{DevList, LinkFault};
 use crate::tables::{children_of, is_parent, moved_last, parents_of, registered};
+use crate::visits::order_of;
 use crate::walk::{Found, walk};
 use device_rows::Rows;
 use sleep_base::Mem;
@@ -46,6 +48,7 @@ impl Links {
     ghost use Rattle.sleep_model.specs.Links.{IsOrder, first_places};
     ghost use Rattle.device_links.specs.Walks.{Finds, IsWalked};
     ghost use Rattle.device_links.specs.Adds.{Adds, IsOpen, Refuses};
+    ghost use Rattle.device_links.specs.Passes.{Makes};
 
     /// Devices with these parents, in the order of their registration, and no links. `Mem` if
     /// there is no memory for them, or more of them than device numbers.
@@ -65,6 +68,47 @@ impl Links {
             above: parents_of(alloc, parents)?,
             order: registered(alloc, parents.len() as u32)?,
         })
+    }
+
+    /// Devices with these parents and links, as after an `add` of each link in turn, but in the time
+    /// of one walk over all of them. None exactly where one of these `add`s would refuse its link;
+    /// to learn which and why, add them in turn. `Mem` if there is no memory, or there are more
+    /// devices than device numbers.
+    pub fn with_links(
+        alloc: Global,
+        parents: &[Option<u32>],
+        links: &[Link],
+    ) -> Result<Option<Links>, Mem>
+        requires { EachAfterParent 0 parents.now }
+        ensures { IfOk result (Makes parents.now links.now) }
+    {
+        if parents.len() > u32::MAX as usize {
+            return Err(Mem);
+        }
+        if links.len() > MOST_LINKS {
+            return Ok(None);
+        }
+        let Some(tables) = tables_of(alloc, parents, links)? else {
+            return Ok(None);
+        };
+        let Some(order) = order_of(alloc, parents, &tables.hanging, links)? else {
+            return Ok(None);
+        };
+        let Tables {
+            hanging,
+            below,
+            suppliers,
+            above,
+        } = tables;
+        Ok(Some(Links {
+            parents: Vec::from_slice(alloc, parents)?,
+            links: Vec::from_slice(alloc, links)?,
+            hanging,
+            below,
+            suppliers,
+            above,
+            order,
+        }))
     }
 
     /// Adds a link, and moves the consumer and all that hangs below it to the end of the order.

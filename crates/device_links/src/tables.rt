@@ -1,6 +1,6 @@
 //! The tables and the order of devices without links, and an order after a move.
 
-ghost use Rattle.std.specs.Prelude.{◌≡◌, ◌<◌, ◌≤◌, ◌^◌, ◌++◌, not, false, ℕ, List, IfOk, IfSome, OnOk, length, filter, map, option_to_list, slice_index_or};
+ghost use Rattle.std.specs.Prelude.{◌≡◌, ◌<◌, ◌≤◌, ◌^◌, ◌++◌, not, false, true, ℕ, List, IfOk, IfSome, OnOk, length, filter, map, option_to_list, slice_index_or, slice_set};
 ghost use Rattle.std.specs.List.{range_with_len};
 ghost use Rattle.sleep_model.specs.Order.{EachAfterParent, children_from, is_parent};
 ghost use Rattle.device_rows.specs.Table.{hung};
@@ -58,12 +58,22 @@ pub(crate) fn registered(alloc: Global, count: u32) -> Result<Vec<u32>, Mem>
     Ok(order)
 }
 
-fn is_marked(marks: &[bool], device: u32) -> bool
+/// Whether a device has a mark.
+pub(crate) fn is_marked(marks: &[bool], device: u32) -> bool
     ensures { result ≡ slice_index_or marks.now device false }
 {
     match marks.get(device as usize) {
         Some(mark) => *mark,
         None => false,
+    }
+}
+
+/// Marks a device.
+pub(crate) fn mark(marks: &mut Vec<bool>, device: u32)
+    ensures { marks.new.items ≡ slice_set marks.old.items device true }
+{
+    if let Some(mark) = marks.get_mut(device as usize) {
+        *mark = true;
     }
 }
 

@@ -1,6 +1,6 @@
 -- Links that are added in turn.
-use Rattle.std.proofs.Common.{◌≡◌, ◌<◌, ◌≤◌, ◌+◌, ◌++◌, ◌∙◌, ◌⊎◌, inl, inr, ℕ, List, [], ◌∷◌, length, take, get_or, reverse, not, true, false, Option, Some, Ok, Err, sym, ap, subst, arith}
-use Rattle.std.proofs.lemmas.List.{take_more, reverse-append, length-reverse, length-take-le}
+use Rattle.std.proofs.Common.{◌≡◌, ◌<◌, ◌≤◌, ◌+◌, ◌++◌, ◌∙◌, ◌⊎◌, inl, inr, ℕ, suc, cond, List, [], ◌∷◌, length, take, get_or, reverse, not, true, false, Option, Some, None, refl, Ok, Err, sym, ap, subst, arith}
+use Rattle.std.proofs.lemmas.List.{append-nil, append_assoc, take_more, reverse-append, length-reverse, length-take-le}
 use Rattle.std.proofs.lemmas.Bool.{true≢false}
 use Rattle.sleep_model.specs.declared.machine.Link.{Link}
 use Rattle.sleep_model.specs.Order.{EachAfterParent, is_among, hanging, moved}
@@ -12,6 +12,7 @@ use Rattle.device_links.specs.Linked.{Linked}
 use Rattle.device_links.specs.declared.fault.LinkFault.{LinkFault}
 use Rattle.device_links.specs.declared.fault.LinkFault.TheVariants as link
 use Rattle.machine_file.specs.Fresh.{closes_nothing, IsFresh, AreFresh, no_link}
+use Rattle.machine_file.specs.Places.{first_not_after}
 use Rattle.machine_file.proofs.Placing.{later_from, later_here, later_next}
 
 -- what is added up to number i, and that no cycle is found so far
@@ -77,3 +78,21 @@ module _ (ps : List (Option ℕ)) (after : EachAfterParent 0 ps) (ls : List Link
       true≢false (sym answer.2 ∙ ready.new)
   no_fault v (link.Cycle path) a h o = o
   no_fault v link.Mem a h o = o
+
+-- ---- links that are made at once
+
+older : (ps : List (Option ℕ)) (later ls : List Link) → AreLinks ps (later ++ ls) → AreLinks ps ls
+older ps [] ls h = h
+older ps (l ∷ later) ls h = older ps later ls h.4
+
+none_from : (ps : List (Option ℕ)) (before : List Link) (n : ℕ) (ls : List Link) → AreLinks ps (reverse ls ++ before) → first_not_after (closes_nothing ps) before n ls ≡ None
+none_from ps before n [] h = refl
+none_from ps before n (l ∷ ls) h =
+    let turned : reverse (l ∷ ls) ++ before ≡ reverse ls ++ l ∷ before = ap (λ ks. ks ++ before) (reverse-append (l ∷ []) ls) ∙ append_assoc (reverse ls) (l ∷ []) before in
+    let with_it = subst (AreLinks ps) turned h in
+    ap (λ b. cond b (first_not_after (closes_nothing ps) (l ∷ before) (suc n) ls) (Some n)) (ap not (older ps (reverse ls) (l ∷ before) with_it).3)
+    ∙ none_from ps (l ∷ before) (suc n) ls with_it
+
+-- none of links that may be added in turn closes a cycle
+pub closes_none : (ps : List (Option ℕ)) (ls : List Link) → AreLinks ps (reverse ls) → None ≡ first_not_after (closes_nothing ps) [] 0 ls
+closes_none ps ls h = sym (none_from ps [] 0 ls (subst (AreLinks ps) (sym (append-nil (reverse ls))) h))

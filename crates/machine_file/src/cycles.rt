@@ -99,7 +99,8 @@ pub(crate) struct Added {
     pub(crate) cycle: Option<usize>,
 }
 
-/// Adds links in turn, up to the first that closes a cycle.
+/// Adds links, up to the first that closes a cycle. Links of which none does are made at once; only
+/// for others are they added in turn, to tell which is the first.
 pub(crate) fn add_links(
     alloc: Global,
     parents: &[Option<u32>],
@@ -110,6 +111,12 @@ pub(crate) fn add_links(
     ensures cycle { IfOk result (λ a. a.cycle ≡ first_not_after (closes_nothing parents.now) [] 0 links.now) }
     ensures added { IfOk result (λ a. a.cycle ≡ None → a.links ≡ record { parents = parents.now; links = reverse links.now }) }
 {
+    if let Some(all) = Links::with_links(alloc, parents, links)? {
+        return Ok(Added {
+            links: all,
+            cycle: None,
+        });
+    }
     let mut added = Links::new(alloc, parents)?;
     for i in 0..links.len() {
         let link = &links[i];

@@ -3,7 +3,7 @@ use Rattle.device_links.specs.Adds.{Adds}
 use Rattle.device_links.specs.declared.fault.LinkFault.{LinkFault}
 use Rattle.std.proofs.lemmas.List.{get_or_default}
 use Rattle.machine_file.specs.Fresh.{no_link}
-use Rattle.machine_file.proofs.Cycling.{is_added, is_cycle}
+use Rattle.machine_file.proofs.Cycling.{is_added, is_cycle, closes_none}
 use Rattle.machine_file.proofs.cycles.add_links.Goals as goal
 
 pub returns-in-Err-Cycle-clause-cycle : goal.returns-in-Err-Cycle-clause-cycle
@@ -20,3 +20,6 @@ loop-i-preserved c =
     let l = get_or c.args.links.now c.loop-i.i no_link in
     is_added c.args.parents.now c.requires.after c.args.links.now c.requires.fresh c.loop-i.i within l (get_or_default c.args.links.now c.loop-i.i no_link l within) refl
     c.loop-i.added c.add.new.self c.loop-i.invariant c.in-Ok.ensures.answer c.in-Ok.ensures.ok
+
+pub returns-in-Some-clause-cycle : goal.returns-in-Some-clause-cycle
+returns-in-Some-clause-cycle c = closes_none c.args.parents.now c.args.links.now c.in-Some.ensures.0.linked

@@ -1,0 +1,97 @@
+-- Links that are made at once: their tables, and one walk after another over what hangs below.
+use Rattle.std.specs.Prelude.{◌≡◌, ◌≤◌, ◌<◌, ◌++◌, ℕ, Bool, true, false, not, List, [], ◌∷◌, length, filter, reverse, flat_map, slice_index_or, if◌then◌else◌, Option, Some, None}
+use Rattle.sleep_model.specs.declared.machine.Link.{Link}
+use Rattle.sleep_model.specs.Order.{is_among, is_parent, hanging, holding, suppliers_of, last_places, moved, order_by}
+use Rattle.sleep_model.specs.Links.{AreLinks, IsOrder, first_places, is_linked}
+use Rattle.device_rows.specs.Table.{Table, row_at, hung}
+use Rattle.device_links.specs.declared.at_once.Tables.{Tables}
+use Rattle.device_links.specs.declared.visits.Visits.{Visits}
+use Rattle.device_links.specs.Kept.{IsTableOf}
+use Rattle.device_links.specs.Linked.{Linked}
+use Rattle.device_links.specs.Walks.{AreMarks}
+
+-- each of the links, the first of them first, may be added in turn (device_link_add)
+pub record CanStand (parents : List (Option ℕ)) (links : List Link) : Type 0 where
+  pub few : length links ≤ 4000
+  pub linked : AreLinks parents (reverse links)
+
+-- all of the links stand, or one of them would have been refused
+abbrev pub Makes : List (Option ℕ) → List Link → Option Linked → Type 0
+Makes parents links None = CanStand parents links → ⊥
+Makes parents links (Some l) = CanStand parents links × (l ≡ record { parents = parents; links = reverse links })
+
+-- ---- tables
+
+-- links, the newest first, between registered devices, none twice
+abbrev pub AreApart : List (Option ℕ) → List Link → Type 0
+AreApart parents [] = Unit {0}
+AreApart parents (l ∷ earlier) =
+    (l.supplier < length parents) × (l.consumer < length parents) × (is_linked earlier l.supplier l.consumer ≡ false)
+    × AreApart parents earlier
+
+-- the link is between two of n devices, and these rows of suppliers lack it
+pub record IsNew (n : ℕ) (suppliers : Table) (l : Link) : Type 0 where
+  pub supplier : l.supplier < n
+  pub consumer : l.consumer < n
+  pub new : is_among (row_at suppliers l.consumer) l.supplier ≡ false
+
+-- true where it is so, and false where it is not
+abbrev pub Tells : Bool → Type 0 → Type 0
+Tells true P = P
+Tells false P = P → ⊥
+
+-- the tables are those of the parents and the links
+pub record AreTables (parents : List (Option ℕ)) (links : List Link) (t : Tables) : Type 0 where
+  pub all_hanging : IsTableOf (length parents) (hanging parents links) t.hanging.rows
+  pub once_below : IsTableOf (length parents) (λ d. first_places (hanging parents links d)) t.below.rows
+  pub all_suppliers : IsTableOf (length parents) (λ d. suppliers_of d links) t.suppliers.rows
+  pub once_above : IsTableOf (length parents) (λ d. first_places (holding parents links d)) t.above.rows
+
+-- each table has so many rows
+pub record HaveRows (n : ℕ) (t : Tables) : Type 0 where
+  pub hanging : length t.hanging.rows ≡ n
+  pub below : length t.below.rows ≡ n
+  pub suppliers : length t.suppliers.rows ≡ n
+  pub above : length t.above.rows ≡ n
+
+-- the tables with one more link; what is known below and above already is not put there again
+pub record IsHung (parents : List (Option ℕ)) (l : Link) (old new : Tables) : Type 0 where
+  pub hanging : new.hanging.rows ≡ hung old.hanging.rows (Some l.supplier) l.consumer
+  pub suppliers : new.suppliers.rows ≡ hung old.suppliers.rows (Some l.consumer) l.supplier
+  pub below : new.below.rows ≡ (if is_parent l.supplier (slice_index_or parents l.consumer None) then old.below.rows else hung old.below.rows (Some l.supplier) l.consumer)
+  pub above : new.above.rows ≡ (if is_parent l.supplier (slice_index_or parents l.consumer None) then old.above.rows else hung old.above.rows (Some l.consumer) l.supplier)
+
+-- the tables of all these links, or one of them stands twice or between others than the devices
+abbrev pub Tabulates : List (Option ℕ) → List Link → Option Tables → Type 0
+Tabulates parents links None = AreApart parents links → ⊥
+Tabulates parents links (Some t) = AreApart parents links × AreTables parents links t
+
+-- ---- walks
+
+-- no device hangs below itself: as many levels as devices reach all below each
+abbrev pub IsAcyclic : ℕ → (ℕ → List ℕ) → Type 0
+IsAcyclic n hang = (d : ℕ) → moved n hang d ≡ d ∷ flat_map (moved n hang) (hang d)
+
+-- between two walks: each device that was visited stands before all that hang below it, and has both its marks
+pub record AreVisits (n : ℕ) (hang : ℕ → List ℕ) (v : Visits) : Type 0 where
+  pub ordered : IsOrder hang v.out
+  pub within : (d : ℕ) → is_among v.out d ≡ true → d < n
+  pub entered : AreMarks v.entered.items n v.out
+  pub left : AreMarks v.left.items n v.out
+
+-- a device was visited, with all that hangs below it but what was visited before, each at its last place
+pub record IsVisited (n : ℕ) (hang : ℕ → List ℕ) (from : ℕ) (old new : Visits) : Type 0 where
+  pub visits : AreVisits n hang new
+  pub here : is_among new.out from ≡ true
+  pub kept : (d : ℕ) → is_among old.out d ≡ true → is_among new.out d ≡ true
+  pub placed : IsAcyclic n hang → new.out ≡ filter (λ d. not (is_among old.out d)) (last_places (moved n hang from)) ++ old.out
+
+-- a device was visited, or a cycle was met
+abbrev pub Goes : ℕ → (ℕ → List ℕ) → ℕ → Visits → Visits → Bool → Type 0
+Goes n hang from old new true = IsVisited n hang from old new
+Goes n hang from old new false = IsAcyclic n hang → ⊥
+
+-- the order that the links leave, or they close a cycle
+abbrev pub Orders : List (Option ℕ) → List Link → Option (List ℕ) → Type 0
+Orders parents links None = AreLinks parents links → ⊥
+Orders parents links (Some order) = AreLinks parents links × (order ≡ order_by parents links)

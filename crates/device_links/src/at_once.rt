@@ -1,0 +1,82 @@
+//! The tables of links that are made at once.
+
+ghost use Rattle.std.specs.Prelude.{◌≡◌, ◌<◌, ◌^◌, [], IfOk, OnOk, length, reverse};
+ghost use Rattle.sleep_model.specs.Order.{EachAfterParent};
+ghost use Rattle.device_links.specs.Passes.{AreTables, HaveRows, IsHung, IsNew, Tabulates, Tells};
+
+use crate::tables::{children_of, hang, is_parent, parents_of};
+use device_rows::Rows;
+use sleep_base::Mem;
+use sleep_model::Link;
+use std::alloc::Global;
+
+/// What hangs right below the devices and stands right above them, as `Links` keeps it.
+#[derive(Drop)]
+pub(crate) struct Tables {
+    pub(crate) hanging: Rows,
+    pub(crate) below: Rows,
+    pub(crate) suppliers: Rows,
+    pub(crate) above: Rows,
+}
+
+// The tables of devices without links.
+fn without_links(alloc: Global, parents: &[Option<u32>]) -> Result<Tables, Mem>
+    requires numbered { length parents.now < 2 ^ 32 }
+    requires after { EachAfterParent 0 parents.now }
+    ensures { IfOk result (AreTables parents.now []) }
+{
+    Ok(Tables {
+        hanging: children_of(alloc, parents)?,
+        below: children_of(alloc, parents)?,
+        suppliers: Rows::with_rows(alloc, parents.len())?,
+        above: parents_of(alloc, parents)?,
+    })
+}
+
+// Whether the link is between two of so many devices, and none that stands.
+fn is_new(count: usize, suppliers: &Rows, link: Link) -> bool
+    ensures { Tells result (IsNew count suppliers.now link) }
+{
+    if link.supplier as usize >= count || link.consumer as usize >= count {
+        return false;
+    }
+    !suppliers.row(link.consumer).contains(&link.supplier)
+}
+
+// Puts a link behind the others.
+fn hang_link(parents: &[Option<u32>], tables: &mut Tables, link: Link) -> Result<(), Mem>
+    requires sized { HaveRows (length parents.now) tables.old }
+    requires supplier { link.supplier < length parents.now }
+    requires consumer { link.consumer < length parents.now }
+    ensures { OnOk result (IsHung parents.now link tables.old tables.new) }
+{
+    let Link { supplier, consumer } = link;
+    hang(&mut tables.hanging, Some(supplier), consumer)?;
+    hang(&mut tables.suppliers, Some(consumer), supplier)?;
+    if !is_parent(parents[consumer as usize], supplier) {
+        hang(&mut tables.below, Some(supplier), consumer)?;
+        hang(&mut tables.above, Some(consumer), supplier)?;
+    }
+    Ok(())
+}
+
+/// The tables of these links. None exactly where one of them stands twice, or an end of it is no
+/// device.
+pub(crate) fn tables_of(
+    alloc: Global,
+    parents: &[Option<u32>],
+    links: &[Link],
+) -> Result<Option<Tables>, Mem>
+    requires numbered { length parents.now < 2 ^ 32 }
+    requires after { EachAfterParent 0 parents.now }
+    ensures { IfOk result (Tabulates parents.now (reverse links.now)) }
+{
+    let mut tables = without_links(alloc, parents)?;
+    for link in links {
+        if !is_new(parents.len(), &tables.suppliers, *link) {
+            return Ok(None);
+        }
+        hang_link(parents, &mut tables, *link)?;
+    }
+    Ok(Some(tables))
+}
