@@ -11,7 +11,7 @@ use Rattle.sleep_model.specs.declared.word.WordKind.{WordKind}
 use Rattle.sleep_model.specs.Word.{position}
 use Rattle.event_word.specs.declared.view.View.{View}
 use Rattle.event_word.specs.Steps.{MadeStep, is_active, fits}
-use Rattle.event_word.specs.Histories.{SourceStep, word_after, steps_of, AreBelow, AreInTurn, ArePlaced, AreSeen, AllSeen, AreClosed, packed, unpacked, weight}
+use Rattle.event_word.specs.Histories.{SourceStep, word_after, steps_of, AreBelow, IsSeen, AreSeen, AllSeen, NeverRise, IsInOrder, AllInOrder, AreClosed, packed, unpacked, weight}
 use Rattle.event_word.specs.Counting.{Knows, Kept, keeper, source_view, look_view, spent, stepped_by, looked_at}
 use Rattle.event_word.specs.Counting as told
 use Rattle.event_word.proofs.Totals.{apart_again, added}
@@ -72,6 +72,18 @@ all_end : (log : List SourceStep) (lists : List (List EventNow)) (words : List E
 all_end log [] words all more = (more, tt)
 all_end log (ws ∷ rest) words all more = (all.0, all_end log rest words all.1 more)
 
+rise : (low high : ℕ) (words : List EventNow) → low ≤ high → NeverRise low words → NeverRise high words
+rise low high [] more order = tt
+rise low high (w ∷ ws) more order = let first : position w ≤ low = order.0 in (omega arith, order.1)
+
+in_order : (most : ℕ) (words : List EventNow) → NeverRise most words → IsInOrder words
+in_order most [] order = tt
+in_order most (w ∷ ws) order = order.1
+
+order_end : (lists : List (List EventNow)) (words : List EventNow) → AllInOrder lists → IsInOrder words → AllInOrder (lists ++ words ∷ [])
+order_end [] words all more = (more, tt)
+order_end (ws ∷ rest) words all more = (all.0, order_end rest words all.1 more)
+
 abbrev St : Type 0
 St = State (Unit {0}) View
 
@@ -110,7 +122,7 @@ may_look slots id me s r sized at small =
         each_seat = seats (λ j u. Knows r.log r.next r.boss r.seat_of j u) s.views id w
             (record {
               low = omega arith;
-              looked = (subst (λ x. Rattle.event_word.specs.Histories.IsSeen r.log x) (sym is) (seen_now r.log), seen.looked);
+              looked = ((subst (λ x. IsSeen r.log x) (sym is) (seen_now r.log), seen.looked.0), (omega arith, rise me.0.floor (position word) me.0.looked (omega arith) seen.looked.1));
               made = seen.made;
               keeps = seen.keeps;
               known = seen.known;
@@ -159,7 +171,7 @@ may_step kind slots id k me plain numbered fit room s r sized at small =
         each_seat = seats (λ j u. Knows log r.next r.boss r.seat_of j u) s.views id w
             (record {
               low = omega arith;
-              looked = seen_more one r.log me.0.looked seen.looked;
+              looked = (seen_more one r.log me.0.looked seen.looked.0, rise me.0.floor (position word + 1) me.0.looked (omega arith) seen.looked.1);
               made = λ j e. subst (λ z. (z < r.next) × (r.seat_of z ≡ id) × (w.made ≡ steps_of z log)) (same_number k j (sym numbered ∙ e)) (
                 mine.0,
                 mine.1,
@@ -171,13 +183,13 @@ may_step kind slots id k me plain numbered fit room s r sized at small =
             })
             (λ j u far there. let b = r.each_seat j u there in let less : u.floor ≤ length r.log = b.low in record {
               low = omega arith;
-              looked = seen_more one r.log u.looked b.looked;
+              looked = (seen_more one r.log u.looked b.looked.0, b.looked.1);
               made = λ z e. let p = b.made z e in let other : k ≢ z = λ q. far (sym p.1 ∙ (ap r.seat_of (sym q) ∙ mine.1)) in
                   (p.0, p.1, p.2 ∙ sym (steps_else one r.log z other));
               keeps = b.keeps;
               known = λ e z below. let p = b.known e z below in let other : k ≢ z = λ q. far (sym p.0 ∙ (ap r.seat_of (sym q) ∙ mine.1)) in
                   (p.0, p.1 ∙ sym (steps_else one r.log z other));
-              heard = λ e. all_more one r.log u.heard (b.heard e);
+              heard = λ e. let h = b.heard e in (all_more one r.log u.heard h.0, h.1);
             });
       },
       (omega arith, refl),
@@ -208,7 +220,7 @@ may_split_source id v owns room s r at =
       each_seat = λ j x e. ⊎_elim (seats K s.views id left
           (record {
             low = omega arith;
-            looked = tt;
+            looked = (tt, tt);
             made = λ k e. absurd (none_some k e);
             keeps = λ _. (kp.0, ap suc next, omega arith);
             known = λ _ k low. let b = seen.known owns k low in (put_else r.seat_of r.next (length vs) k (λ q. omega arith) ∙ b.0, b.1);
@@ -224,7 +236,7 @@ may_split_source id v owns room s r at =
           }) j x)
           (λ (t : (j ≡ length vs) × (right ≡ x)). subst (λ (q : ℕ × View). K q.0 q.1) (λ i. (sym t.0 i, t.1 i)) (record {
             low = omega arith;
-            looked = tt;
+            looked = (tt, tt);
             made = λ k e. subst (λ n. (n < suc r.next) × (seat_of n ≡ length vs) × ([] ≡ steps_of n r.log)) (sym next ∙ same_number v.next k e)
                 (omega arith, put_at r.seat_of r.next (length vs) r.next refl, sym (steps_new r.next r.log r.makers));
             keeps = λ e. absurd (not_both false refl e);
@@ -252,11 +264,11 @@ may_split_look id v owns s r at =
       turns = r.turns;
       short = r.short;
       each_seat = λ j x e. ⊎_elim (seats K s.views id left
-          (record { low = omega arith; looked = tt; made = λ k e. absurd (none_some k e); keeps = λ _. seen.keeps owns; known = λ _. seen.known owns; heard = λ _. seen.heard owns })
+          (record { low = omega arith; looked = (tt, tt); made = λ k e. absurd (none_some k e); keeps = λ _. seen.keeps owns; known = λ _. seen.known owns; heard = λ _. seen.heard owns })
           (λ j x far there. r.each_seat j x there) j x)
           (λ (t : (j ≡ length vs) × (look_view ≡ x)). subst (λ (q : ℕ × View). K q.0 q.1) (λ i. (sym t.0 i, t.1 i)) (record {
             low = omega arith;
-            looked = tt;
+            looked = (tt, tt);
             made = λ k e. absurd (none_some k e);
             keeps = λ e. absurd (not_both false refl e);
             known = λ e. absurd (not_both false refl e);
@@ -293,7 +305,7 @@ may_join_source id v other w owns numbered s r at distinct there =
       each_seat = seats K vs other spent
           (record {
             low = omega arith;
-            looked = tt;
+            looked = (tt, tt);
             made = λ k e. absurd (none_some k e);
             keeps = λ e. absurd (not_both false refl e);
             known = λ e. absurd (not_both false refl e);
@@ -302,7 +314,7 @@ may_join_source id v other w owns numbered s r at distinct there =
           (λ j x beyond e. seats (λ j x. j ≢ other → K j x) s.views id both
           (λ _. record {
             low = omega arith;
-            looked = tt;
+            looked = (tt, tt);
             made = λ k e. absurd (none_some k e);
             keeps = λ _. (kp.0, kp.1, omega arith);
             known = λ _ k less. dite (ℕ_discrete k (length v.known))
@@ -312,7 +324,7 @@ may_join_source id v other w owns numbered s r at distinct there =
                 ))
                 (λ (q : k ≢ length v.known). let less' : k < length v.known = omega arith in let b = seen.known owns k less' in
                 (put_else r.seat_of (length v.known) id k q ∙ b.0, get_or_front v.known (w.made ∷ []) k [] less' ∙ b.1));
-            heard = λ _. all_end r.log v.heard w.looked (seen.heard owns) theirs.looked;
+            heard = λ _. let h = seen.heard owns in (all_end r.log v.heard w.looked h.0 theirs.looked.0, order_end v.heard w.looked h.1 (in_order w.floor w.looked theirs.looked.1));
           })
           (λ j x far at' away. let b = r.each_seat j x at' in record {
             low = b.low;
@@ -347,7 +359,7 @@ may_join_look id v other w owns s r at distinct there =
       each_seat = seats K vs other spent
           (record {
             low = omega arith;
-            looked = tt;
+            looked = (tt, tt);
             made = λ k e. absurd (none_some k e);
             keeps = λ e. absurd (not_both false refl e);
             known = λ e. absurd (not_both false refl e);
@@ -356,11 +368,11 @@ may_join_look id v other w owns s r at distinct there =
           (λ j x beyond e. seats K s.views id both
           (record {
             low = omega arith;
-            looked = tt;
+            looked = (tt, tt);
             made = λ k e. absurd (none_some k e);
             keeps = λ _. seen.keeps owns;
             known = λ _. seen.known owns;
-            heard = λ _. all_end r.log v.heard w.looked (seen.heard owns) theirs.looked;
+            heard = λ _. let h = seen.heard owns in (all_end r.log v.heard w.looked h.0 theirs.looked.0, order_end v.heard w.looked h.1 (in_order w.floor w.looked theirs.looked.1));
           })
           (λ j x far at'. r.each_seat j x at') j x e);
     }
@@ -368,11 +380,11 @@ may_join_look id v other w owns s r at distinct there =
 first_seat : (j : ℕ) (x : View) → get_elem? (keeper 0 [] [] ∷ []) j ≡ some x → Knows [] 0 0 (λ _. 0) j x
 first_seat zero x e = subst (λ (q : View). Knows [] 0 0 (λ _. 0) 0 q) (some-injective (keeper 0 [] []) x e) (record {
   low = omega arith;
-  looked = tt;
+  looked = (tt, tt);
   made = λ k e. absurd (none_some k e);
   keeps = λ _. (refl, refl, omega arith);
   known = λ _ k low. absurd (omega arith);
-  heard = λ _. tt;
+  heard = λ _. (tt, tt);
 })
 first_seat (suc j) x e = absurd (some-ne-none x (sym e))
 

@@ -8,17 +8,17 @@ use Rattle.sleep_model.specs.declared.word.WordKind.{WordKind}
 use Rattle.sleep_model.specs.Word.{position}
 use Rattle.event_word.specs.declared.view.View.{View}
 use Rattle.event_word.specs.Steps.{MadeStep}
-use Rattle.event_word.specs.Histories.{SourceStep, word_after, steps_of, AreBelow, AreInTurn, AreSeen, AllSeen, packed, unpacked}
+use Rattle.event_word.specs.Histories.{SourceStep, word_after, steps_of, AreBelow, AreInTurn, AreSeen, AllSeen, NeverRise, AllInOrder, packed, unpacked}
 
 module _ (log : List SourceStep) (next boss : ℕ) (seat_of : ℕ → ℕ) (seat : ℕ) (v : View) where
   -- what one seat's view says
   pub record Knows : Type 0 where
     pub low : v.floor ≤ length log
-    pub looked : AreSeen log v.looked
+    pub looked : AreSeen log v.looked × NeverRise v.floor v.looked
     pub made : (k : ℕ) → v.number ≡ Some k → (k < next) × (seat_of k ≡ seat) × (v.made ≡ steps_of k log)
     pub keeps : v.keeps ≡ true → (seat ≡ boss) × (v.next ≡ next) × (length v.known ≤ next)
     pub known : v.keeps ≡ true → (k : ℕ) → k < length v.known → (seat_of k ≡ seat) × (slice_index_or v.known k [] ≡ steps_of k log)
-    pub heard : v.keeps ≡ true → AllSeen log v.heard
+    pub heard : v.keeps ≡ true → AllSeen log v.heard × AllInOrder v.heard
 
 -- the rule: there is one history, which leaves the word; each source's seat has its steps, and what a seat saw was there
 pub record Kept (s : State (Unit {0}) View) : Type 0 where

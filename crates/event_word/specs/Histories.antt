@@ -1,5 +1,5 @@
 -- The steps of all sources on one word, the newest first.
-use Rattle.std.specs.Prelude.{◌≡◌, ◌⊎◌, ℕ, ◌+◌, ◌*◌, ◌/◌, ◌%◌, ◌<◌, ◌==◌, if◌then◌else◌, true, List, [], ◌∷◌, length, slice_index_or, Some}
+use Rattle.std.specs.Prelude.{◌≡◌, ◌⊎◌, ℕ, ◌+◌, ◌*◌, ◌/◌, ◌%◌, ◌<◌, ◌≤◌, ◌==◌, if◌then◌else◌, true, List, [], ◌∷◌, length, slice_index_or, Some}
 use Rattle.sleep_model.specs.declared.word.EventNow.{EventNow}
 use Rattle.sleep_model.specs.declared.word.WordKind.{WordKind}
 use Rattle.sleep_model.specs.declared.word.WordKind.TheVariants.{Start, Finish, Hard}
@@ -53,6 +53,21 @@ abbrev pub AllSeen : List SourceStep → List (List EventNow) → Type 0
 AllSeen history [] = Unit {0}
 AllSeen history (words ∷ rest) = AreSeen history words × AllSeen history rest
 
+-- the positions of the words, the newest first, are at most that number, and fall or stay: no later look goes back
+abbrev pub NeverRise : ℕ → List EventNow → Type 0
+NeverRise most [] = Unit {0}
+NeverRise most (word ∷ words) = (position word ≤ most) × NeverRise (position word) words
+
+-- no look goes back behind an earlier one
+abbrev pub IsInOrder : List EventNow → Type 0
+IsInOrder [] = Unit {0}
+IsInOrder (word ∷ words) = NeverRise (position word) words
+
+-- the same of lists of looks
+abbrev pub AllInOrder : List (List EventNow) → Type 0
+AllInOrder [] = Unit {0}
+AllInOrder (words ∷ rest) = IsInOrder words × AllInOrder rest
+
 -- the steps of all sources stand at the positions from 0 on, each once, and chain: the last answer is the word after them
 pub record AreClosed (made : List (List MadeStep)) (looked : List (List EventNow)) (answer : EventNow) : Type 0 where
   pub history : List SourceStep
@@ -61,7 +76,7 @@ pub record AreClosed (made : List (List MadeStep)) (looked : List (List EventNow
   pub turns : AreInTurn history
   pub placed : ArePlaced history
   pub last : (answer ≡ word_after history) × (position answer ≡ length history)
-  pub seen : AllSeen history looked
+  pub seen : AllSeen history looked × AllInOrder looked
 
 -- the word as one number: 16 bits in progress, 24 of count, 24 hard (MAX_IN_PROGRESS; hard and the widths are own)
 abbrev pub packed : EventNow → ℕ
