@@ -1,1 +1,5 @@
-mod Looking
+pub mod Looking
+pub mod Totals
+pub mod Histories
+pub mod Keeping
+pub mod Seating

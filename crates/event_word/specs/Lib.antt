@@ -1,2 +1,6 @@
 pub mod Looks
 pub mod Steps
+pub mod Histories
+pub mod Counting
+pub mod Seats
+pub mod Lists

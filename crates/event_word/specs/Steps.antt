@@ -1,14 +1,10 @@
 -- What a step on the event word says, by what the stepped-on object tells, and which steps can be made.
-use Rattle.std.specs.Prelude.{◌≡◌, Bool, true, ◌&&◌, nat_lt, List, [], ◌∷◌, Option, Some, None}
+use Rattle.std.specs.Prelude.{◌≡◌, ℕ, suc, Bool, true, false, ◌&&◌, if◌then◌else◌, nat_lt, List, [], ◌∷◌, Option, Some, None}
 use Rattle.sleep_model.specs.declared.word.EventNow.{EventNow}
 use Rattle.sleep_model.specs.declared.word.WordKind.{WordKind}
 use Rattle.sleep_model.specs.declared.word.WordKind.TheVariants.{Start, Finish, Hard}
 use Rattle.sleep_model.specs.Numbers.{after_step}
-
--- a step that was made, and the word before it
-pub record MadeStep : Type 0 where
-  pub step : WordKind
-  pub before : EventNow
+pub use Rattle.event_word.specs.declared.view.MadeStep.{MadeStep}
 
 -- the told word after a step
 abbrev pub told_after : WordKind → Option EventNow → Option EventNow
@@ -38,3 +34,25 @@ has_place Hard word = nat_lt word.hard 16777215
 abbrev pub has_places : EventNow → List WordKind → Bool
 has_places word [] = true
 has_places word (step ∷ rest) = has_place step word && has_places (after_step (Some step) word) rest
+
+-- whether an event is in progress after a step (a source has at most one)
+abbrev pub active_after : WordKind → Bool → Bool
+active_after Start active = true
+active_after Finish active = false
+active_after Hard active = active
+
+-- whether a source that made these steps, the newest first, has an event in progress
+abbrev pub is_active : List MadeStep → Bool
+is_active [] = false
+is_active (made ∷ before) = active_after made.step (is_active before)
+
+-- a source can make the step: it starts where nothing is in progress, and finishes what is
+abbrev pub fits : WordKind → Bool → Bool
+fits Start active = if active then false else true
+fits Finish active = active
+fits Hard active = true
+
+-- a source that made so many steps can make these next, one after another: at most 60,000 in all (own)
+abbrev pub can_make : ℕ → Bool → List WordKind → Bool
+can_make count active [] = true
+can_make count active (step ∷ rest) = nat_lt count 60000 && fits step active && can_make (suc count) (active_after step active) rest

@@ -1,0 +1,74 @@
+-- Seats that are made, one after another, and that come back; and what a seat can do next.
+use Rattle.std.proofs.Common.{◌≡◌, ℕ, suc, ◌<◌, Bool, true, false, ◌&&◌, nat_lt, Some, List, [], ◌∷◌, ◌++◌, length, sym, refl, ap, ◌∙◌, subst, ⊎_elim, arith, length-append}
+use Rattle.std.proofs.lemmas.Bool.{false≢true}
+use Rattle.std.proofs.lemmas.Bool.Decides.{nat_tests}
+use Rattle.std.proofs.lemmas.List.{length-map}
+use mathlib.Core.List.{map-append}
+use mathlib.Core.Option.{some, some-ne-none}
+use lib.ListN.{get_elem?}
+use Rattle.atomic_table.proofs.Lists.{at_map}
+use Rattle.sleep_model.specs.declared.word.WordKind.{WordKind}
+use Rattle.event_word.specs.declared.table.EventSeat.{EventSeat}
+use Rattle.event_word.specs.Steps.{MadeStep, active_after, fits, can_make}
+use Rattle.event_word.specs.Counting.{keeper, source_view}
+use Rattle.event_word.specs.Seats.{Token, IsUntouched, AreAll, AreNew, made_of, number_of}
+use Rattle.event_word.specs.Lists.{tokens, made_lists}
+use Rattle.event_word.proofs.Keeping.{at_end}
+
+both_true : (a b : Bool) → (a && b) ≡ true → (a ≡ true) × (b ≡ true)
+both_true true b e = (refl, e)
+both_true false b e = absurd (false≢true e)
+
+-- what a seat can do next: the step fits, there is room for it, and what comes behind it can be done then
+pub can_step : (kind : WordKind) (count : ℕ) (active : Bool) (rest : List WordKind) → can_make count active (kind ∷ rest) ≡ true
+    → (count < 60000) × (fits kind active ≡ true) × (can_make (suc count) (active_after kind active) rest ≡ true)
+can_step kind count active rest can =
+    let a = both_true (nat_lt count 60000 && fits kind active) (can_make (suc count) (active_after kind active) rest) can in
+    let b = both_true (nat_lt count 60000) (fits kind active) a.0 in
+    let t : nat_lt count 60000 ≡ true = b.0 in (grind (arith, nat_tests), b.1, a.1)
+
+pub none_new : (own : Token) → own.me.0.next ≡ 0 → AreNew own []
+none_new own e = record {
+  all_are = record { counted = sym e; each_is = λ k t at. absurd (some-ne-none t (sym at)) };
+  untouched = λ k t at. absurd (some-ne-none t (sym at));
+}
+
+one_more : (own own' : Token) (ts : List Token) (t : Token) → own'.table_id ≡ own.table_id → own'.me.0 ≡ keeper (suc own.me.0.next) [] [] → t.table_id ≡ own.table_id → t.me ≡ (source_view own.me.0.next, [])
+    → AreNew own ts → AreNew own' (ts ++ t ∷ [])
+one_more own own' ts t same me table mine are =
+    let next : own'.me.0.next ≡ suc own.me.0.next = ap (λ v. v.next) me in
+    let counted = are.all_are.counted in
+    let long = length-append ts (t ∷ []) in
+    record {
+      all_are = record {
+        counted = omega arith;
+        each_is = λ k q at. ⊎_elim (λ old. let b = are.all_are.each_is k q old in (b.0 ∙ sym same, b.1))
+            (λ (p : (k ≡ length ts) × (t ≡ q)). subst (λ (z : ℕ × Token). (z.1.table_id ≡ own'.table_id) × (number_of z.1 ≡ Some z.0)) (λ i. ((sym p.0 i), p.1 i))
+            (table ∙ sym same, ap (λ m. m.0.number) mine ∙ ap (λ (n : ℕ). Some n) (sym counted))) (at_end ts t q k at);
+      };
+      untouched = λ k q at. ⊎_elim (λ old. are.untouched k q old)
+          (λ (p : (k ≡ length ts) × (t ≡ q)). subst IsUntouched p.1 (record { made = ap (λ m. m.0.made) mine; looked = ap (λ m. m.0.looked) mine; floor = ap (λ m. m.0.floor) mine })) (at_end ts t q k at);
+    }
+
+pub seats_more : (own own' : Token) (seats : List EventSeat) (seat : EventSeat) → own'.table_id ≡ own.table_id → own'.me.0 ≡ keeper (suc own.me.0.next) [] [] → seat.token.table_id ≡ own.table_id
+    → seat.token.me ≡ (source_view own.me.0.next, []) → AreNew own (tokens seats) → AreNew own' (tokens (seats ++ seat ∷ []))
+seats_more own own' seats seat same me table mine are =
+    subst (AreNew own') (sym (map-append (λ (s : EventSeat). s.token) seats (seat ∷ []))) (one_more own own' (tokens seats) seat.token same me table mine are)
+
+module _ {A : Type 0} where
+  at_middle : (xs rest : List A) (a : A) → get_elem? (xs ++ a ∷ rest) (length xs) ≡ some a
+  at_middle [] rest a = refl
+  at_middle (x ∷ xs) rest a = at_middle xs rest a
+
+-- the seat that comes next has the number of its place
+pub came : (own : Token) (seats yielded left rest : List EventSeat) (seat : EventSeat) → AreAll own (tokens seats) → yielded ++ left ≡ seats → left ≡ seat ∷ rest
+    → (seat.token.table_id ≡ own.table_id) × (number_of seat.token ≡ Some (length yielded))
+came own seats yielded left rest seat are whole next = are.each_is (length yielded) seat.token
+    (at_map (λ (s : EventSeat). s.token) seats (length yielded) seat (ap (λ l. get_elem? l (length yielded)) (sym whole ∙ ap (λ l. yielded ++ l) next) ∙ at_middle yielded rest seat))
+
+pub known_length : (yielded : List EventSeat) (known : List (List MadeStep)) → known ≡ made_lists yielded → length known ≡ length yielded
+known_length yielded known e = ap length e ∙ length-map yielded (λ (s : EventSeat). made_of s.token)
+
+-- once all seats came back, as many are known as there are
+pub all_in : (own own' : Token) (seats : List EventSeat) → AreAll own (tokens seats) → own'.me.0.next ≡ own.me.0.next → own'.me.0.known ≡ made_lists seats → own'.me.0.next ≡ length own'.me.0.known
+all_in own own' seats are same known = same ∙ (sym are.counted ∙ (length-map seats (λ (s : EventSeat). s.token) ∙ sym (known_length seats own'.me.0.known known)))

@@ -1,0 +1,63 @@
+-- What a clause reads of a table of the event word and of its seats.
+use Rattle.std.specs.Prelude.{◌≡◌, ◌≢◌, ℕ, ◌≤◌, true, false, List, [], length, Option, Some, None}
+use mathlib.Core.Option.{some}
+use lib.ListN.{get_elem?}
+use Rattle.atomic_table.specs.declared.shared.Seat.{Seat}
+use Rattle.sleep_model.specs.declared.word.EventNow.{EventNow}
+use Rattle.event_word.specs.declared.view.View.{View}
+use Rattle.event_word.specs.Steps.{MadeStep}
+
+-- a seat at a table of the event word
+abbrev pub Token : Type 0
+Token = Seat (Unit {0}) View
+
+-- the source's number
+abbrev pub number_of : Token → Option ℕ
+number_of t = t.me.0.number
+
+-- the steps that a seat made, the newest first
+abbrev pub made_of : Token → List MadeStep
+made_of t = t.me.0.made
+
+-- the words that it looked at, the newest first
+abbrev pub looked_of : Token → List EventNow
+looked_of t = t.me.0.looked
+
+-- the least position that the word can have
+abbrev pub floor_of : Token → ℕ
+floor_of t = t.me.0.floor
+
+-- the table's own seat
+pub record IsOwn (own : Token) : Type 0 where
+  pub keeps : own.me.0.keeps ≡ true
+  pub unnumbered : own.me.0.number ≡ None
+  pub empty : own.me.1 ≡ []
+
+-- a source's seat
+pub record IsSource (t : Token) : Type 0 where
+  pub plain : t.me.0.keeps ≡ false
+  pub numbered : number_of t ≢ None
+  pub empty : t.me.1 ≡ []
+  pub short : length (made_of t) ≤ 60000
+
+-- a seat that only looks
+pub record IsLook (t : Token) : Type 0 where
+  pub plain : t.me.0.keeps ≡ false
+  pub unnumbered : number_of t ≡ None
+  pub empty : t.me.1 ≡ []
+
+-- a seat that did nothing yet
+pub record IsUntouched (t : Token) : Type 0 where
+  pub made : made_of t ≡ []
+  pub looked : looked_of t ≡ []
+  pub floor : floor_of t ≡ 0
+
+-- the seats of the sources of the table with this seat of its own, each at the place of its number
+pub record AreAll (own : Token) (ts : List Token) : Type 0 where
+  pub counted : length ts ≡ own.me.0.next
+  pub each_is : (k : ℕ) (t : Token) → get_elem? ts k ≡ some t → (t.table_id ≡ own.table_id) × (number_of t ≡ Some k)
+
+-- the same, and none of them did anything yet
+pub record AreNew (own : Token) (ts : List Token) : Type 0 where
+  pub all_are : AreAll own ts
+  pub untouched : (k : ℕ) (t : Token) → get_elem? ts k ≡ some t → IsUntouched t

@@ -1,0 +1,80 @@
+//! The rule of the table, and what each step tells.
+ghost use Rattle.std.specs.Prelude.{[], ◌∷◌, ◌++◌, suc};
+ghost use Rattle.sleep_model.specs.declared.word.WordKind.TheVariants as kind;
+ghost use Rattle.event_word.specs.Counting.{Kept, keeper, source_view, look_view, spent, steps_by, looks};
+
+use crate::view::View;
+use atomic_table::{Join, Play, Split, TableRule};
+
+/// The table's rule.
+pub struct Counting;
+
+impl TableRule<(), View, ()> for Counting {
+    ghost holds = { λ _. Kept };
+
+    ghost first = { λ _. keeper 0 [] [] };
+}
+
+/// A seat looks at the word.
+pub(crate) struct Look;
+
+impl Play<(), View> for Look {
+    ghost then = { looks };
+}
+
+/// An event begins.
+pub(crate) struct Start;
+
+impl Play<(), View> for Start {
+    ghost then = { steps_by kind.Start };
+}
+
+/// An event in progress is registered.
+pub(crate) struct Finish;
+
+impl Play<(), View> for Finish {
+    ghost then = { steps_by kind.Finish };
+}
+
+/// A hard event is counted.
+pub(crate) struct Hard;
+
+impl Play<(), View> for Hard {
+    ghost then = { steps_by kind.Hard };
+}
+
+/// A new source's seat comes from the table's own.
+pub(crate) struct NewSource;
+
+impl Split<View> for NewSource {
+    ghost left = { λ v. keeper (suc v.next) v.known v.heard };
+
+    ghost right = { λ v. source_view v.next };
+}
+
+/// A new seat that only looks comes from the table's own.
+pub(crate) struct NewLook;
+
+impl Split<View> for NewLook {
+    ghost left = { λ v. keeper v.next v.known v.heard };
+
+    ghost right = { λ _. look_view };
+}
+
+/// A source's seat comes back to the table's own.
+pub(crate) struct SourceBack;
+
+impl Join<View> for SourceBack {
+    ghost both = { λ v w. keeper v.next (v.known ++ w.made ∷ []) (v.heard ++ w.looked ∷ []) };
+
+    ghost spent = { spent };
+}
+
+/// A seat that only looked comes back to the table's own.
+pub(crate) struct LookBack;
+
+impl Join<View> for LookBack {
+    ghost both = { λ v w. keeper v.next v.known (v.heard ++ w.looked ∷ []) };
+
+    ghost spent = { spent };
+}
