@@ -3,6 +3,7 @@ ghost use Rattle.sleep_model.specs.Order.{EachAfterParent};
 
 use super::*;
 use sleep_base::Mem;
+use sleep_model::Link;
 use std::alloc::Global;
 use std::process::Abort;
 use std::test::Fail;
@@ -257,5 +258,269 @@ fn links_keep_to_the_definition(rt: HostRuntime) -> Result<(), Fail> {
         cycles = cycles.wrapping_add(compare(&rt, rt.alloc(), &tree, seed)?);
     }
     assert!(rt; cycles > 100);
+    Ok(())
+}
+
+/// Links from suppliers to consumers.
+fn links_between(alloc: Global, ends: &[(u32, u32)]) -> Result<Vec<Link>, Mem> {
+    let mut list = Vec::new(alloc);
+    for (supplier, consumer) in ends {
+        list.push(Link {
+            supplier: *supplier,
+            consumer: *consumer,
+        })?;
+    }
+    Ok(list)
+}
+
+/// The links of a list, added in turn; None where one is refused.
+fn in_turn(alloc: Global, parents: &[Option<u32>], list: &[Link]) -> Result<Option<Links>, Mem>
+    requires { EachAfterParent 0 parents.now }
+{
+    let mut links = Links::new(alloc, parents)?;
+    for link in list {
+        if links.add(link.supplier, link.consumer).is_err() {
+            return Ok(None);
+        }
+    }
+    Ok(Some(links))
+}
+
+/// Asserts that all is the same: the order, and what stands below and above each device.
+fn assert_same(rt: &impl Abort, once: &Links, turn: &Links) {
+    assert_eq!(rt; once.order(), turn.order());
+    for device in turn.order() {
+        assert_eq!(rt; once.below(*device), turn.below(*device), "below {device}");
+        assert_eq!(rt; once.above(*device), turn.above(*device), "above {device}");
+    }
+}
+
+/// Asserts that a list is made at once exactly where it is made in turn, and to the same links, and
+/// answers these.
+fn both_ways(
+    rt: &impl Abort,
+    alloc: Global,
+    parents: &[Option<u32>],
+    list: &[Link],
+) -> Result<Option<Links>, Mem>
+    requires { EachAfterParent 0 parents.now }
+{
+    let turn = in_turn(alloc, parents, list)?;
+    let once = Links::with_links(alloc, parents, list)?;
+    assert_eq!(rt; once.is_some(), turn.is_some());
+    if let (Some(once), Some(turn)) = (&once, &turn) {
+        assert_same(rt, once, turn);
+    }
+    Ok(once)
+}
+
+/// Asserts that these links, made both ways, leave this order.
+fn assert_order(
+    rt: &impl Abort,
+    alloc: Global,
+    parents: &[Option<u32>],
+    ends: &[(u32, u32)],
+    order: &[u32],
+) -> Result<(), Mem>
+    requires { EachAfterParent 0 parents.now }
+{
+    let list = links_between(alloc, ends)?;
+    match both_ways(rt, alloc, parents, &list)? {
+        Some(links) => assert_eq!(rt; links.order(), order),
+        None => panic!(rt; "no links for {order:?}"),
+    }
+    Ok(())
+}
+
+/// Lists that are made, with the orders that the moves of each link in turn leave, by hand: a device
+/// that no link moves stays in front; a later link's consumer comes behind those of earlier ones; a
+/// consumer takes children and consumers along; a link may go to a child.
+#[test]
+fn links_are_made_at_once(rt: HostRuntime) -> Result<(), Fail> {
+    let alloc = rt.alloc();
+    let bare = [None, None, None, None];
+    assert_order(&rt, alloc, &bare, &[], &[0, 1, 2, 3])?;
+    assert_order(&rt, alloc, &bare, &[(0, 1)], &[0, 2, 3, 1])?;
+    assert_order(&rt, alloc, &bare, &[(0, 1), (0, 2)], &[0, 3, 1, 2])?;
+    assert_order(&rt, alloc, &bare, &[(0, 2), (0, 1)], &[0, 3, 2, 1])?;
+    assert_order(&rt, alloc, &bare, &[(2, 1), (1, 0)], &[2, 3, 1, 0])?;
+    assert_order(&rt, alloc, &bare, &[(1, 0), (2, 1)], &[2, 3, 1, 0])?;
+    assert_order(&rt, alloc, &bare, &[(3, 0), (3, 1), (0, 1)], &[2, 3, 0, 1])?;
+    let tree = [None, Some(0), Some(1), None, None];
+    assert_order(&rt, alloc, &tree, &[(3, 1)], &[0, 3, 4, 1, 2])?;
+    assert_order(&rt, alloc, &tree, &[(3, 1), (4, 3)], &[0, 4, 3, 1, 2])?;
+    let fork = [None, Some(0), Some(0), None];
+    assert_order(&rt, alloc, &fork, &[(0, 1)], &[0, 2, 3, 1])?;
+    assert_order(&rt, alloc, &fork, &[(0, 1), (3, 0)], &[3, 0, 2, 1])?;
+    Ok(())
+}
+
+/// Lists that are not made: a cycle of two links, of a link and a parent, of a device alone, and one
+/// that an earlier link closes with a later one; a link twice; and an end that is no device.
+#[test]
+fn refused_links_are_not_made(rt: HostRuntime) -> Result<(), Fail> {
+    let parents = [None, Some(0), None];
+    for ends in [
+        [(0u32, 2u32), (2, 0)],
+        [(0, 2), (2, 2)],
+        [(0, 2), (1, 0)],
+        [(1, 2), (2, 0)],
+        [(2, 0), (1, 2)],
+        [(0, 2), (0, 2)],
+        [(0, 2), (0, 3)],
+        [(0, 2), (3, 0)],
+    ] {
+        let list = links_between(rt.alloc(), &ends)?;
+        let made = both_ways(&rt, rt.alloc(), &parents, &list)?;
+        assert!(rt; made.is_none(), "{ends:?}");
+    }
+    Ok(())
+}
+
+/// Four links for each of a hundred diamonds, one on the other, the last diamond first.
+fn diamonds(alloc: Global) -> Result<Vec<Link>, Mem> {
+    let mut list = Vec::new(alloc);
+    for i in (0..100u32).rev() {
+        let a = 3 * i;
+        for (supplier, consumer) in [(a + 1, a + 3), (a + 2, a + 3), (a, a + 1), (a, a + 2)] {
+            list.push(Link { supplier, consumer })?;
+        }
+    }
+    Ok(list)
+}
+
+/// A ladder: two rows of devices, each linked along its row and to the other one, from its end or
+/// from its beginning.
+fn ladder(alloc: Global, from_end: bool) -> Result<Vec<Link>, Mem> {
+    let mut list = Vec::new(alloc);
+    for i in 0..100u32 {
+        let a = if from_end { 198 - 2 * i } else { 2 * i };
+        for (supplier, consumer) in [(a, a + 2), (a + 1, a + 3), (a, a + 3), (a + 1, a + 2)] {
+            list.push(Link { supplier, consumer })?;
+        }
+    }
+    Ok(list)
+}
+
+/// What hangs below doubles with each step of these, and both ways they leave the same.
+#[test]
+fn doubling_links_are_made_at_once(rt: HostRuntime) -> Result<(), Fail> {
+    let parents = unrelated(rt.alloc(), 301)?;
+    let list = diamonds(rt.alloc())?;
+    assert!(rt; both_ways(&rt, rt.alloc(), &parents, &list)?.is_some());
+    for from_end in [false, true] {
+        let list = ladder(rt.alloc(), from_end)?;
+        assert!(rt; both_ways(&rt, rt.alloc(), &parents, &list)?.is_some());
+    }
+    Ok(())
+}
+
+/// A thousand devices and 4,000 links: a chain of 998, its end first, so that each moves what was
+/// linked before, and then links into the upper end of the chain, each of which moves nearly all.
+fn deep(alloc: Global) -> Result<Vec<Link>, Mem> {
+    let mut list = Vec::new(alloc);
+    for supplier in (1..999u32).rev() {
+        list.push(Link {
+            supplier,
+            consumer: supplier + 1,
+        })?;
+    }
+    for consumer in 2..100u32 {
+        for supplier in 0..consumer - 1 {
+            if list.len() < 4000 {
+                list.push(Link { supplier, consumer })?;
+            }
+        }
+    }
+    Ok(list)
+}
+
+/// Of deep links the chain leaves one order alone. One link more is none of these, nor is one back
+/// from the chain's end.
+#[test]
+fn deep_links_are_made_at_once(rt: HostRuntime) -> Result<(), Fail> {
+    let parents = unrelated(rt.alloc(), 1000)?;
+    let mut list = deep(rt.alloc())?;
+    assert_eq!(rt; list.len(), 4000);
+    match both_ways(&rt, rt.alloc(), &parents, &list)? {
+        Some(links) => {
+            for (device, place) in links.order().iter().zip(0..1000u32) {
+                assert_eq!(rt; *device, place);
+            }
+        }
+        None => panic!(rt; "deep links"),
+    }
+    list.push(Link {
+        supplier: 0,
+        consumer: 999,
+    })?;
+    assert!(rt; Links::with_links(rt.alloc(), &parents, &list)?.is_none());
+    list.pop();
+    list.pop();
+    list.push(Link {
+        supplier: 999,
+        consumer: 1,
+    })?;
+    assert!(rt; Links::with_links(rt.alloc(), &parents, &list)?.is_none());
+    Ok(())
+}
+
+/// A chain of 1,000 devices below one another that one link moves as a whole, and one that closes it.
+#[test]
+fn a_long_chain_is_moved_at_once(rt: HostRuntime) -> Result<(), Fail> {
+    let parents = chain(rt.alloc(), 1000)?;
+    let list = links_between(rt.alloc(), &[(1000, 0)])?;
+    assert!(rt; both_ways(&rt, rt.alloc(), &parents, &list)?.is_some());
+    let list = links_between(rt.alloc(), &[(1000, 0), (999, 1000)])?;
+    assert!(rt; both_ways(&rt, rt.alloc(), &parents, &list)?.is_none());
+    Ok(())
+}
+
+/// Tries links between seven devices at random: what is accepted in turn is made at once, with the
+/// same links, to which more may be added; with what is refused nothing is made.
+fn try_links(
+    rt: &impl Abort,
+    alloc: Global,
+    parents: &[Option<u32>],
+    mut seed: u32,
+) -> Result<u32, Fail>
+    requires { EachAfterParent 0 parents.now }
+{
+    let mut list = Vec::new(alloc);
+    let mut refused = 0u32;
+    for _ in 0..20 {
+        seed = seed.wrapping_mul(1_664_525).wrapping_add(1_013_904_223);
+        let link = Link {
+            supplier: (seed >> 16) % 7,
+            consumer: (seed >> 20) % 7,
+        };
+        list.push(link)?;
+        if let Some(mut once) = both_ways(rt, alloc, parents, &list)? {
+            assert!(rt;
+                matches!(
+                    once.add(link.supplier, link.consumer),
+                    Err(LinkFault::Twice)
+                )
+            );
+        } else {
+            list.pop();
+            refused = refused.wrapping_add(1);
+        }
+    }
+    Ok(refused)
+}
+
+/// On small trees, and links at random, links are made at once exactly where they are in turn.
+#[test]
+fn links_at_random_are_made_at_once(rt: HostRuntime) -> Result<(), Fail> {
+    let mut refused = 0u32;
+    for seed in 0..40u32 {
+        let bare = [None, None, None, None, None, None, None];
+        let tree = [None, Some(0), Some(0), Some(1), None, Some(4), Some(2)];
+        refused = refused.wrapping_add(try_links(&rt, rt.alloc(), &bare, seed)?);
+        refused = refused.wrapping_add(try_links(&rt, rt.alloc(), &tree, seed)?);
+    }
+    assert!(rt; refused > 100);
+    assert!(rt; refused < 1500);
     Ok(())
 }

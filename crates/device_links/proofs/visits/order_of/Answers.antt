@@ -52,12 +52,11 @@ returns c =
     let ls = c.args.links.now in
     let v = c.loop-i.visits in
     let none : c.loop-i.i ≡ 0 = omega arith in
-    let w = subst (λ (k : ℕ). AreWalked ps (reverse ls) (reverse (take k ls)) v) none c.loop-i.invariant in
-    (
+    let w = subst (λ (k : ℕ). AreWalked ps (reverse ls) (reverse (take k ls)) v) none c.loop-i.invariant in (
       walked_links ps c.requires.after ls c.requires.apart v w,
       c.in_ok-order.ensures
-      ∙ (ap (λ (o : List ℕ). filter (λ d. not (get_or c.deref-2.result.now d false)) o ++ c.deref-3.result.now) (c.deref.ensures.value ∙ c.in_ok-devices.ensures)
-      ∙ (ap (λ (ms : List Bool). filter (λ d. not (get_or ms d false)) (range_with_len 0 (length ps)) ++ c.deref-3.result.now) c.deref-2.ensures.value
-      ∙ (ap (λ (o : List ℕ). filter (λ d. not (get_or v.left.items d false)) (range_with_len 0 (length ps)) ++ o) (c.deref-3.ensures.value ∙ c.into_vec.ensures)
-      ∙ walked_order ps c.requires.after ls c.requires.apart v w))),
+          ∙ (ap (λ (o : List ℕ). filter (λ d. not (get_or c.deref-2.result.now d false)) o ++ c.deref-3.result.now) (c.deref.ensures.value ∙ c.in_ok-devices.ensures)
+          ∙ (ap (λ (ms : List Bool). filter (λ d. not (get_or ms d false)) (range_with_len 0 (length ps)) ++ c.deref-3.result.now) c.deref-2.ensures.value
+          ∙ (ap (λ (o : List ℕ). filter (λ d. not (get_or v.left.items d false)) (range_with_len 0 (length ps)) ++ o) (c.deref-3.ensures.value ∙ c.into_vec.ensures)
+          ∙ walked_order ps c.requires.after ls c.requires.apart v w))),
     )

@@ -1,5 +1,7 @@
-use Rattle.std.proofs.Common.{◌<◌, length, get_or, refl, subst, Err, arith}
+use Rattle.std.proofs.Common.{◌<◌, length, get_or, refl, subst, Err, Option, arith}
 use Rattle.device_links.specs.Adds.{Adds}
+use Rattle.device_links.specs.Linked.{Linked}
+use Rattle.device_links.specs.Passes.{Makes}
 use Rattle.device_links.specs.declared.fault.LinkFault.{LinkFault}
 use Rattle.std.proofs.lemmas.List.{get_or_default}
 use Rattle.machine_file.specs.Fresh.{no_link}
@@ -22,4 +24,7 @@ loop-i-preserved c =
     c.loop-i.added c.add.new.self c.loop-i.invariant c.in-Ok.ensures.answer c.in-Ok.ensures.ok
 
 pub returns-in-Some-clause-cycle : goal.returns-in-Some-clause-cycle
-returns-in-Some-clause-cycle c = closes_none c.args.parents.now c.args.links.now c.in-Some.ensures.0.linked
+returns-in-Some-clause-cycle c =
+    let ps = c.args.parents.now in
+    let ls = c.args.links.now in
+    closes_none ps ls (subst (λ (o : Option Linked). Makes ps ls o) c.in-Some.is c.in_ok-all.ensures).0.linked
