@@ -12,7 +12,7 @@ use Rattle.sleep_model.specs.Word.{position}
 use Rattle.event_word.specs.declared.view.View.{View}
 use Rattle.event_word.specs.Steps.{MadeStep, is_active, fits}
 use Rattle.event_word.specs.Histories.{SourceStep, word_after, steps_of, AreBelow, IsSeen, AreSeen, AllSeen, NeverRise, IsInOrder, AllInOrder, AreClosed, packed, unpacked, weight}
-use Rattle.event_word.specs.Counting.{Knows, Kept, keeper, source_view, look_view, spent, stepped_by, looked_at}
+use Rattle.event_word.specs.Counting.{Knows, Kept, look_view, one_more, source_view, took_in, spent, stepped_by, looked_at}
 use Rattle.event_word.specs.Counting as told
 use Rattle.event_word.proofs.Totals.{apart_again, added}
 use Rattle.event_word.proofs.Histories.{steps_same, steps_else, steps_new, below_more, has, at_length, placed, in_parts, seen_now, seen_more, all_more}
@@ -195,9 +195,9 @@ may_step kind slots id k me plain numbered fit room s r sized at small =
       (omega arith, refl),
     )
 
-pub may_split_source : (id : ℕ) (v : View) → v.keeps ≡ true → v.next < 256 → Splits Kept id v (keeper (suc v.next) v.known v.heard) (source_view v.next)
-may_split_source id v owns room s r at =
-    let left : View = keeper (suc v.next) v.known v.heard in
+pub may_split_source : (id : ℕ) (v : View) → v.keeps ≡ true → v.number ≡ None → v.next < 256 → Splits Kept id v (one_more v) (source_view v.next)
+may_split_source id v owns unnumbered room s r at =
+    let left : View = one_more v in
     let right : View = source_view v.next in
     let vs : List View = set s.views id left in
     let seen = r.each_seat id v at in
@@ -219,9 +219,9 @@ may_split_source id v owns room s r at =
       short = r.short;
       each_seat = λ j x e. ⊎_elim (seats K s.views id left
           (record {
-            low = omega arith;
-            looked = (tt, tt);
-            made = λ k e. absurd (none_some k e);
+            low = seen.low;
+            looked = seen.looked;
+            made = λ k e. absurd (none_some k (sym unnumbered ∙ e));
             keeps = λ _. (kp.0, ap suc next, omega arith);
             known = λ _ k low. let b = seen.known owns k low in (put_else r.seat_of r.next (length vs) k (λ q. omega arith) ∙ b.0, b.1);
             heard = λ _. seen.heard owns;
@@ -246,41 +246,10 @@ may_split_source id v owns room s r at =
           (at_end vs right x j e);
     }
 
-pub may_split_look : (id : ℕ) (v : View) → v.keeps ≡ true → Splits Kept id v (keeper v.next v.known v.heard) look_view
-may_split_look id v owns s r at =
-    let left : View = keeper v.next v.known v.heard in
-    let vs : List View = set s.views id left in
-    let seen = r.each_seat id v at in
-    let K : ℕ → View → Type 0 = λ j x. Knows r.log r.next r.boss r.seat_of j x in
-    record {
-      log = r.log;
-      next = r.next;
-      boss = r.boss;
-      seat_of = r.seat_of;
-      few = r.few;
-      wide = r.wide;
-      word = r.word;
-      makers = r.makers;
-      turns = r.turns;
-      short = r.short;
-      each_seat = λ j x e. ⊎_elim (seats K s.views id left
-          (record { low = omega arith; looked = (tt, tt); made = λ k e. absurd (none_some k e); keeps = λ _. seen.keeps owns; known = λ _. seen.known owns; heard = λ _. seen.heard owns })
-          (λ j x far there. r.each_seat j x there) j x)
-          (λ (t : (j ≡ length vs) × (look_view ≡ x)). subst (λ (q : ℕ × View). K q.0 q.1) (λ i. (sym t.0 i, t.1 i)) (record {
-            low = omega arith;
-            looked = (tt, tt);
-            made = λ k e. absurd (none_some k e);
-            keeps = λ e. absurd (not_both false refl e);
-            known = λ e. absurd (not_both false refl e);
-            heard = λ e. absurd (not_both false refl e);
-          }))
-          (at_end vs look_view x j e);
-    }
-
-pub may_join_source : (id : ℕ) (v : View) (other : ℕ) (w : View) → v.keeps ≡ true → w.number ≡ Some (length v.known)
-    → Joins Kept id v other w (keeper v.next (v.known ++ w.made ∷ []) (v.heard ++ w.looked ∷ [])) spent
-may_join_source id v other w owns numbered s r at distinct there =
-    let both : View = keeper v.next (v.known ++ w.made ∷ []) (v.heard ++ w.looked ∷ []) in
+pub may_join_source : (id : ℕ) (v : View) (other : ℕ) (w : View) → v.keeps ≡ true → v.number ≡ None → w.number ≡ Some (length v.known)
+    → Joins Kept id v other w (took_in v w) spent
+may_join_source id v other w owns unnumbered numbered s r at distinct there =
+    let both : View = took_in v w in
     let vs : List View = set s.views id both in
     let there' : get_elem? s.views other ≡ some w = sym (set_else s.views id other both distinct) ∙ there in
     let seen = r.each_seat id v at in
@@ -313,9 +282,9 @@ may_join_source id v other w owns numbered s r at distinct there =
           })
           (λ j x beyond e. seats (λ j x. j ≢ other → K j x) s.views id both
           (λ _. record {
-            low = omega arith;
-            looked = (tt, tt);
-            made = λ k e. absurd (none_some k e);
+            low = seen.low;
+            looked = seen.looked;
+            made = λ k e. absurd (none_some k (sym unnumbered ∙ e));
             keeps = λ _. (kp.0, kp.1, omega arith);
             known = λ _ k less. dite (ℕ_discrete k (length v.known))
                 (λ (q : k ≡ length v.known). (
@@ -337,48 +306,8 @@ may_join_source id v other w owns numbered s r at distinct there =
           }) j x e beyond);
     }
 
-pub may_join_look : (id : ℕ) (v : View) (other : ℕ) (w : View) → v.keeps ≡ true → Joins Kept id v other w (keeper v.next v.known (v.heard ++ w.looked ∷ [])) spent
-may_join_look id v other w owns s r at distinct there =
-    let both : View = keeper v.next v.known (v.heard ++ w.looked ∷ []) in
-    let vs : List View = set s.views id both in
-    let there' : get_elem? s.views other ≡ some w = sym (set_else s.views id other both distinct) ∙ there in
-    let seen = r.each_seat id v at in
-    let theirs = r.each_seat other w there' in
-    let K : ℕ → View → Type 0 = λ j x. Knows r.log r.next r.boss r.seat_of j x in
-    record {
-      log = r.log;
-      next = r.next;
-      boss = r.boss;
-      seat_of = r.seat_of;
-      few = r.few;
-      wide = r.wide;
-      word = r.word;
-      makers = r.makers;
-      turns = r.turns;
-      short = r.short;
-      each_seat = seats K vs other spent
-          (record {
-            low = omega arith;
-            looked = (tt, tt);
-            made = λ k e. absurd (none_some k e);
-            keeps = λ e. absurd (not_both false refl e);
-            known = λ e. absurd (not_both false refl e);
-            heard = λ e. absurd (not_both false refl e);
-          })
-          (λ j x beyond e. seats K s.views id both
-          (record {
-            low = omega arith;
-            looked = (tt, tt);
-            made = λ k e. absurd (none_some k e);
-            keeps = λ _. seen.keeps owns;
-            known = λ _. seen.known owns;
-            heard = λ _. let h = seen.heard owns in (all_end r.log v.heard w.looked h.0 theirs.looked.0, order_end v.heard w.looked h.1 (in_order w.floor w.looked theirs.looked.1));
-          })
-          (λ j x far at'. r.each_seat j x at') j x e);
-    }
-
-first_seat : (j : ℕ) (x : View) → get_elem? (keeper 0 [] [] ∷ []) j ≡ some x → Knows [] 0 0 (λ _. 0) j x
-first_seat zero x e = subst (λ (q : View). Knows [] 0 0 (λ _. 0) 0 q) (some-injective (keeper 0 [] []) x e) (record {
+first_seat : (j : ℕ) (x : View) → get_elem? (look_view ∷ []) j ≡ some x → Knows [] 0 0 (λ _. 0) j x
+first_seat zero x e = subst (λ (q : View). Knows [] 0 0 (λ _. 0) 0 q) (some-injective (look_view) x e) (record {
   low = omega arith;
   looked = (tt, tt);
   made = λ k e. absurd (none_some k e);
@@ -388,7 +317,7 @@ first_seat zero x e = subst (λ (q : View). Knows [] 0 0 (λ _. 0) 0 q) (some-in
 })
 first_seat (suc j) x e = absurd (some-ne-none x (sym e))
 
-pub opens : Kept (opening (0 ∷ []) [] (keeper 0 [] []))
+pub opens : Kept (opening (0 ∷ []) [] (look_view))
 opens = record {
   log = [];
   next = 0;
@@ -408,7 +337,7 @@ read_first [] n e = absurd (some-ne-none n (sym e))
 read_first (w ∷ ws) n e = some-injective w n e
 
 pub ends : (id n : ℕ) (v : View) (ws : List ℕ) (slots : List (Unit {0})) → v.keeps ≡ true → v.next ≡ length v.known → get_elem? ws 0 ≡ some n → Final (Seen Kept id v) ws slots
-    → AreClosed v.known v.heard (unpacked n)
+    → AreClosed v.known (v.heard ++ v.looked ∷ []) (unpacked n)
 ends id n v ws slots owns whole first final =
     let s : St = final.0 in
     let r : Kept s = final.1.0 in
@@ -423,5 +352,5 @@ ends id n v ws slots owns whole first final =
       turns = r.turns;
       placed = placed r.next r.log r.makers r.turns;
       last = (last, ap (λ (x : EventNow). position x) last ∙ at_length r.next r.log r.makers r.turns);
-      seen = seen.heard owns;
+      seen = let h = seen.heard owns in (all_end r.log v.heard v.looked h.0 seen.looked.0, order_end v.heard v.looked h.1 (in_order v.floor v.looked seen.looked.1));
     }

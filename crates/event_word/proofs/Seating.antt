@@ -10,8 +10,8 @@ use Rattle.atomic_table.proofs.Lists.{at_map}
 use Rattle.sleep_model.specs.declared.word.WordKind.{WordKind}
 use Rattle.event_word.specs.declared.table.EventSeat.{EventSeat}
 use Rattle.event_word.specs.Steps.{MadeStep, active_after, fits, can_make}
-use Rattle.event_word.specs.Counting.{keeper, source_view}
-use Rattle.event_word.specs.Seats.{Token, IsUntouched, AreAll, AreNew, made_of, number_of}
+use Rattle.event_word.specs.Counting.{one_more, source_view}
+use Rattle.event_word.specs.Seats.{Token, IsSeatOf, IsUntouched, AreAll, AreNew, sources_of, made_of, number_of}
 use Rattle.event_word.specs.Lists.{tokens, made_lists}
 use Rattle.event_word.proofs.Keeping.{at_end}
 
@@ -27,33 +27,46 @@ can_step kind count active rest can =
     let b = both_true (nat_lt count 60000) (fits kind active) a.0 in
     let t : nat_lt count 60000 ≡ true = b.0 in (grind (arith, nat_tests), b.1, a.1)
 
-pub none_new : (own : Token) → own.me.0.next ≡ 0 → AreNew own []
-none_new own e = record {
+-- a step that fits can be made where there is room
+pub can_now : (kind : WordKind) (count : ℕ) (active : Bool) → count < 60000 → fits kind active ≡ true → (rest : List WordKind) × (can_make count active (kind ∷ rest) ≡ true)
+can_now kind count active room fit = let t : nat_lt count 60000 ≡ true = grind (arith, nat_tests) in
+    ([], ap (λ b. b && fits kind active && true) t ∙ (ap (λ b. b && true) fit))
+
+-- seats that come back in their order, each with its number, are all seats
+pub all_back : (look : Token) (before after : List Token) → AreAll look before → length after ≡ length before
+    → ((k : ℕ) (t : Token) → get_elem? after k ≡ some t → (old : Token) × (get_elem? before k ≡ some old) × (t.table_id ≡ old.table_id) × (number_of t ≡ number_of old)) → AreAll look after
+all_back look before after are same each = record {
+  counted = same ∙ are.counted;
+  each_is = λ k t at. let e = each k t at in let was = are.each_is k e.0 e.1 in (e.2 ∙ was.0, e.3 ∙ was.1);
+}
+
+pub none_new : (look : Token) → sources_of look ≡ 0 → AreNew look []
+none_new look e = record {
   all_are = record { counted = sym e; each_is = λ k t at. absurd (some-ne-none t (sym at)) };
   untouched = λ k t at. absurd (some-ne-none t (sym at));
 }
 
-one_more : (own own' : Token) (ts : List Token) (t : Token) → own'.table_id ≡ own.table_id → own'.me.0 ≡ keeper (suc own.me.0.next) [] [] → t.table_id ≡ own.table_id → t.me ≡ (source_view own.me.0.next, [])
-    → AreNew own ts → AreNew own' (ts ++ t ∷ [])
-one_more own own' ts t same me table mine are =
-    let next : own'.me.0.next ≡ suc own.me.0.next = ap (λ v. v.next) me in
+one_new : (look look' : Token) (ts : List Token) (t : Token) → look'.table_id ≡ look.table_id → look'.me ≡ (one_more look.me.0, []) → t.table_id ≡ look.table_id → t.me ≡ (source_view (sources_of look), [])
+    → AreNew look ts → AreNew look' (ts ++ t ∷ [])
+one_new look look' ts t same me table mine are =
+    let next : sources_of look' ≡ suc (sources_of look) = ap (λ m. m.0.next) me in
     let counted = are.all_are.counted in
     let long = length-append ts (t ∷ []) in
     record {
       all_are = record {
         counted = omega arith;
         each_is = λ k q at. ⊎_elim (λ old. let b = are.all_are.each_is k q old in (b.0 ∙ sym same, b.1))
-            (λ (p : (k ≡ length ts) × (t ≡ q)). subst (λ (z : ℕ × Token). (z.1.table_id ≡ own'.table_id) × (number_of z.1 ≡ Some z.0)) (λ i. ((sym p.0 i), p.1 i))
+            (λ (p : (k ≡ length ts) × (t ≡ q)). subst (λ (z : ℕ × Token). IsSeatOf look'.table_id z.0 z.1) (λ i. ((sym p.0 i), p.1 i))
             (table ∙ sym same, ap (λ m. m.0.number) mine ∙ ap (λ (n : ℕ). Some n) (sym counted))) (at_end ts t q k at);
       };
       untouched = λ k q at. ⊎_elim (λ old. are.untouched k q old)
           (λ (p : (k ≡ length ts) × (t ≡ q)). subst IsUntouched p.1 (record { made = ap (λ m. m.0.made) mine; looked = ap (λ m. m.0.looked) mine; floor = ap (λ m. m.0.floor) mine })) (at_end ts t q k at);
     }
 
-pub seats_more : (own own' : Token) (seats : List EventSeat) (seat : EventSeat) → own'.table_id ≡ own.table_id → own'.me.0 ≡ keeper (suc own.me.0.next) [] [] → seat.token.table_id ≡ own.table_id
-    → seat.token.me ≡ (source_view own.me.0.next, []) → AreNew own (tokens seats) → AreNew own' (tokens (seats ++ seat ∷ []))
-seats_more own own' seats seat same me table mine are =
-    subst (AreNew own') (sym (map-append (λ (s : EventSeat). s.token) seats (seat ∷ []))) (one_more own own' (tokens seats) seat.token same me table mine are)
+pub seats_more : (look look' : Token) (seats : List EventSeat) (seat : EventSeat) → look'.table_id ≡ look.table_id → look'.me ≡ (one_more look.me.0, []) → seat.token.table_id ≡ look.table_id
+    → seat.token.me ≡ (source_view (sources_of look), []) → AreNew look (tokens seats) → AreNew look' (tokens (seats ++ seat ∷ []))
+seats_more look look' seats seat same me table mine are =
+    subst (AreNew look') (sym (map-append (λ (s : EventSeat). s.token) seats (seat ∷ []))) (one_new look look' (tokens seats) seat.token same me table mine are)
 
 module _ {A : Type 0} where
   at_middle : (xs rest : List A) (a : A) → get_elem? (xs ++ a ∷ rest) (length xs) ≡ some a
@@ -61,14 +74,14 @@ module _ {A : Type 0} where
   at_middle (x ∷ xs) rest a = at_middle xs rest a
 
 -- the seat that comes next has the number of its place
-pub came : (own : Token) (seats yielded left rest : List EventSeat) (seat : EventSeat) → AreAll own (tokens seats) → yielded ++ left ≡ seats → left ≡ seat ∷ rest
-    → (seat.token.table_id ≡ own.table_id) × (number_of seat.token ≡ Some (length yielded))
-came own seats yielded left rest seat are whole next = are.each_is (length yielded) seat.token
+pub came : (look : Token) (seats yielded left rest : List EventSeat) (seat : EventSeat) → AreAll look (tokens seats) → yielded ++ left ≡ seats → left ≡ seat ∷ rest
+    → (seat.token.table_id ≡ look.table_id) × (number_of seat.token ≡ Some (length yielded))
+came look seats yielded left rest seat are whole next = are.each_is (length yielded) seat.token
     (at_map (λ (s : EventSeat). s.token) seats (length yielded) seat (ap (λ l. get_elem? l (length yielded)) (sym whole ∙ ap (λ l. yielded ++ l) next) ∙ at_middle yielded rest seat))
 
 pub known_length : (yielded : List EventSeat) (known : List (List MadeStep)) → known ≡ made_lists yielded → length known ≡ length yielded
 known_length yielded known e = ap length e ∙ length-map yielded (λ (s : EventSeat). made_of s.token)
 
 -- once all seats came back, as many are known as there are
-pub all_in : (own own' : Token) (seats : List EventSeat) → AreAll own (tokens seats) → own'.me.0.next ≡ own.me.0.next → own'.me.0.known ≡ made_lists seats → own'.me.0.next ≡ length own'.me.0.known
-all_in own own' seats are same known = same ∙ (sym are.counted ∙ (length-map seats (λ (s : EventSeat). s.token) ∙ sym (known_length seats own'.me.0.known known)))
+pub all_in : (look look' : Token) (seats : List EventSeat) → AreAll look (tokens seats) → sources_of look' ≡ sources_of look → look'.me.0.known ≡ made_lists seats → sources_of look' ≡ length look'.me.0.known
+all_in look look' seats are same known = same ∙ (sym are.counted ∙ (length-map seats (λ (s : EventSeat). s.token) ∙ sym (known_length seats look'.me.0.known known)))

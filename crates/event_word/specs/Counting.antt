@@ -1,5 +1,5 @@
 -- The rule of the table, and what each step tells. The table has one word, and no slots.
-use Rattle.std.specs.Prelude.{◌≡◌, ℕ, ◌+◌, ◌<◌, ◌≤◌, true, false, List, [], ◌∷◌, length, slice_index, slice_index_or, Some, None}
+use Rattle.std.specs.Prelude.{◌≡◌, ℕ, suc, ◌+◌, ◌<◌, ◌≤◌, true, false, List, [], ◌∷◌, ◌++◌, length, slice_index, slice_index_or, Some, None}
 use mathlib.Core.Option.{some}
 use lib.ListN.{get_elem?}
 use Rattle.atomic_table.specs.Table.{State, Me, Step}
@@ -34,21 +34,25 @@ pub record Kept (s : State (Unit {0}) View) : Type 0 where
   pub short : (k : ℕ) → length (steps_of k log) ≤ 60000
   pub each_seat : (j : ℕ) (v : View) → get_elem? s.views j ≡ some v → Knows log next boss seat_of j v
 
--- the view of the table's own seat, with so many sources, of which these came back
-abbrev pub keeper : ℕ → List (List MadeStep) → List (List EventNow) → View
-keeper next known heard = record { keeps = true; next = next; known = known; heard = heard; number = None; made = []; looked = []; floor = 0 }
+-- the first view of the seat that only looks
+abbrev pub look_view : View
+look_view = record { keeps = true; next = 0; known = []; heard = []; number = None; made = []; looked = []; floor = 0 }
+
+-- the same seat, once there is one more source
+abbrev pub one_more : View → View
+one_more v = record v { next = suc v.next }
 
 -- the view of a new source's seat
 abbrev pub source_view : ℕ → View
 source_view number = record { keeps = false; next = 0; known = []; heard = []; number = Some number; made = []; looked = []; floor = 0 }
 
--- the view of a new seat that only looks
-abbrev pub look_view : View
-look_view = record { keeps = false; next = 0; known = []; heard = []; number = None; made = []; looked = []; floor = 0 }
+-- the view of the seat that only looks, once a source's seat came back
+abbrev pub took_in : View → View → View
+took_in v w = record v { known = v.known ++ w.made ∷ []; heard = v.heard ++ w.looked ∷ [] }
 
 -- the view of a seat that came back
 abbrev pub spent : View
-spent = look_view
+spent = record { keeps = false; next = 0; known = []; heard = []; number = None; made = []; looked = []; floor = 0 }
 
 -- a view, with the slots that are out with it: none
 abbrev Sat : Type 0

@@ -2,6 +2,7 @@
 use Rattle.std.specs.Prelude.{◌≡◌, ◌≢◌, ℕ, ◌≤◌, true, false, List, [], length, Option, Some, None}
 use mathlib.Core.Option.{some}
 use lib.ListN.{get_elem?}
+use Rattle.atomic_table.specs.Seated.{TableId}
 use Rattle.atomic_table.specs.declared.shared.Seat.{Seat}
 use Rattle.sleep_model.specs.declared.word.EventNow.{EventNow}
 use Rattle.event_word.specs.declared.view.View.{View}
@@ -27,12 +28,6 @@ looked_of t = t.me.0.looked
 abbrev pub floor_of : Token → ℕ
 floor_of t = t.me.0.floor
 
--- the table's own seat
-pub record IsOwn (own : Token) : Type 0 where
-  pub keeps : own.me.0.keeps ≡ true
-  pub unnumbered : own.me.0.number ≡ None
-  pub empty : own.me.1 ≡ []
-
 -- a source's seat
 pub record IsSource (t : Token) : Type 0 where
   pub plain : t.me.0.keeps ≡ false
@@ -40,11 +35,16 @@ pub record IsSource (t : Token) : Type 0 where
   pub empty : t.me.1 ≡ []
   pub short : length (made_of t) ≤ 60000
 
--- a seat that only looks
+-- the seat that only looks
 pub record IsLook (t : Token) : Type 0 where
-  pub plain : t.me.0.keeps ≡ false
+  pub keeps : t.me.0.keeps ≡ true
   pub unnumbered : number_of t ≡ None
   pub empty : t.me.1 ≡ []
+
+-- no seat came back to it yet
+pub record IsUnused (t : Token) : Type 0 where
+  pub known : t.me.0.known ≡ []
+  pub heard : t.me.0.heard ≡ []
 
 -- a seat that did nothing yet
 pub record IsUntouched (t : Token) : Type 0 where
@@ -52,12 +52,20 @@ pub record IsUntouched (t : Token) : Type 0 where
   pub looked : looked_of t ≡ []
   pub floor : floor_of t ≡ 0
 
--- the seats of the sources of the table with this seat of its own, each at the place of its number
-pub record AreAll (own : Token) (ts : List Token) : Type 0 where
-  pub counted : length ts ≡ own.me.0.next
-  pub each_is : (k : ℕ) (t : Token) → get_elem? ts k ≡ some t → (t.table_id ≡ own.table_id) × (number_of t ≡ Some k)
+-- how many sources the table of this seat has, which only looks
+abbrev pub sources_of : Token → ℕ
+sources_of look = look.me.0.next
+
+-- the seat of the source with this number, at that table
+abbrev pub IsSeatOf : TableId → ℕ → Token → Type 0
+IsSeatOf table_id number t = (t.table_id ≡ table_id) × (number_of t ≡ Some number)
+
+-- the seats of all sources of the table of the seat that only looks, each at the place of its number
+pub record AreAll (look : Token) (ts : List Token) : Type 0 where
+  pub counted : length ts ≡ sources_of look
+  pub each_is : (k : ℕ) (t : Token) → get_elem? ts k ≡ some t → IsSeatOf look.table_id k t
 
 -- the same, and none of them did anything yet
-pub record AreNew (own : Token) (ts : List Token) : Type 0 where
-  pub all_are : AreAll own ts
+pub record AreNew (look : Token) (ts : List Token) : Type 0 where
+  pub all_are : AreAll look ts
   pub untouched : (k : ℕ) (t : Token) → get_elem? ts k ≡ some t → IsUntouched t

@@ -10,7 +10,11 @@ mod plays;
 mod seats;
 mod table;
 #[cfg(test)]
+mod table_tests;
+#[cfg(test)]
 mod tests;
+#[cfg(test)]
+mod thread_tests;
 mod view;
 
 pub use closing::close;

@@ -1,6 +1,6 @@
 //! How a table of the event word is made.
 ghost use Rattle.std.specs.Prelude.{◌≡◌, ◌≤◌, vec_len, IfOk};
-ghost use Rattle.event_word.specs.Seats.{IsUntouched, AreNew};
+ghost use Rattle.event_word.specs.Seats.{IsUntouched, AreNew, sources_of, made_of, looked_of, floor_of};
 ghost use Rattle.event_word.specs.Lists.{tokens};
 
 use crate::table::{EventSeat, EventTable, LookSeat};
@@ -9,16 +9,23 @@ use std::alloc::Global;
 
 impl EventTable {
     /// The seats of that many new sources, in the order of their numbers.
-    fn sources(&mut self, alloc: Global, count: u32) -> Result<Vec<EventSeat>, Mem>
-        requires own { self.old.own.me.0.next ≡ 0 }
+    fn sources(
+        &self,
+        alloc: Global,
+        look: &mut LookSeat,
+        count: u32,
+    ) -> Result<Vec<EventSeat>, Mem>
+        requires table { look.old.token.table_id ≡ self.now.desk.shared.table_id }
+        requires none { sources_of look.old.token ≡ 0 }
         requires count { count ≤ 256 }
-        ensures table { self.new.own.table_id ≡ self.old.own.table_id }
+        ensures table { look.new.token.table_id ≡ look.old.token.table_id }
+        ensures look { IfOk result (λ _. (looked_of look.new.token ≡ looked_of look.old.token) × (floor_of look.new.token ≡ floor_of look.old.token) × (made_of look.new.token ≡ made_of look.old.token)) }
         ensures count { IfOk result (λ seats. vec_len seats ≡ count) }
-        ensures new { IfOk result (λ seats. AreNew self.new.own (tokens seats.items)) }
+        ensures new { IfOk result (λ seats. AreNew look.new.token (tokens seats.items)) }
     {
         let mut seats = Vec::with_capacity(alloc, count as usize)?;
         for _ in 0..count {
-            seats.push(self.source())?;
+            seats.push(self.source(look))?;
         }
         Ok(seats)
     }
@@ -27,12 +34,11 @@ impl EventTable {
     pub fn new(alloc: Global, sources: u32) -> Result<(EventTable, Vec<EventSeat>, LookSeat), Mem>
         requires { (1 ≤ sources) × (sources ≤ 256) }
         ensures count { IfOk result (λ made. vec_len made.1 ≡ sources) }
-        ensures seats { IfOk result (λ made. AreNew made.0.own (tokens made.1.items)) }
-        ensures look { IfOk result (λ made. (made.2.token.table_id ≡ made.0.own.table_id) × IsUntouched made.2.token) }
+        ensures seats { IfOk result (λ made. AreNew made.2.token (tokens made.1.items)) }
+        ensures look { IfOk result (λ made. (made.2.token.table_id ≡ made.0.desk.shared.table_id) × IsUntouched made.2.token) }
     {
-        let mut table = EventTable::bare(alloc)?;
-        let look = table.looker();
-        let seats = table.sources(alloc, sources)?;
+        let (table, mut look) = EventTable::bare(alloc)?;
+        let seats = table.sources(alloc, &mut look, sources)?;
         Ok((table, seats, look))
     }
 }

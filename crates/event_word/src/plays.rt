@@ -1,7 +1,6 @@
 //! The rule of the table, and what each step tells.
-ghost use Rattle.std.specs.Prelude.{[], ◌∷◌, ◌++◌, suc};
 ghost use Rattle.sleep_model.specs.declared.word.WordKind.TheVariants as kind;
-ghost use Rattle.event_word.specs.Counting.{Kept, keeper, source_view, look_view, spent, steps_by, looks};
+ghost use Rattle.event_word.specs.Counting.{Kept, look_view, one_more, source_view, took_in, spent, steps_by, looks};
 
 use crate::view::View;
 use atomic_table::{Join, Play, Split, TableRule};
@@ -12,7 +11,7 @@ pub struct Counting;
 impl TableRule<(), View, ()> for Counting {
     ghost holds = { λ _. Kept };
 
-    ghost first = { λ _. keeper 0 [] [] };
+    ghost first = { λ _. look_view };
 }
 
 /// A seat looks at the word.
@@ -43,38 +42,20 @@ impl Play<(), View> for Hard {
     ghost then = { steps_by kind.Hard };
 }
 
-/// A new source's seat comes from the table's own.
+/// A new source's seat comes from the seat that only looks.
 pub(crate) struct NewSource;
 
 impl Split<View> for NewSource {
-    ghost left = { λ v. keeper (suc v.next) v.known v.heard };
+    ghost left = { λ v. one_more v };
 
     ghost right = { λ v. source_view v.next };
 }
 
-/// A new seat that only looks comes from the table's own.
-pub(crate) struct NewLook;
-
-impl Split<View> for NewLook {
-    ghost left = { λ v. keeper v.next v.known v.heard };
-
-    ghost right = { λ _. look_view };
-}
-
-/// A source's seat comes back to the table's own.
+/// A source's seat comes back to the seat that only looks.
 pub(crate) struct SourceBack;
 
 impl Join<View> for SourceBack {
-    ghost both = { λ v w. keeper v.next (v.known ++ w.made ∷ []) (v.heard ++ w.looked ∷ []) };
-
-    ghost spent = { spent };
-}
-
-/// A seat that only looked comes back to the table's own.
-pub(crate) struct LookBack;
-
-impl Join<View> for LookBack {
-    ghost both = { λ v w. keeper v.next v.known (v.heard ++ w.looked ∷ []) };
+    ghost both = { took_in };
 
     ghost spent = { spent };
 }

@@ -2,7 +2,7 @@
 ghost use Rattle.std.specs.Prelude.{◌≡◌, true, false, [], length, Some, None};
 ghost use Rattle.event_word.specs.Histories.{unpacked};
 ghost use Rattle.event_word.specs.Steps.{can_make, is_active};
-ghost use Rattle.event_word.specs.Seats.{IsSource, IsLook, number_of, made_of, looked_of, floor_of};
+ghost use Rattle.event_word.specs.Seats.{IsSource, IsLook, IsUnused, sources_of, number_of, made_of, looked_of, floor_of};
 
 use crate::events::{Bump, Events};
 use crate::plays::{Finish, Hard, Look, Start};
@@ -21,16 +21,17 @@ pub struct TableSeat<'t> {
     pub table: &'t EventTable,
     pub token: Token,
     ghost seated: { IsSource token },
-    ghost fits: { token.table_id ≡ table.now.own.table_id },
+    ghost fits: { token.table_id ≡ table.now.desk.shared.table_id },
 }
 
-/// A seat that only looks, on its table.
+/// The seat that only looks, on its table.
 #[derive(Drop)]
 pub struct TableLook<'t> {
     pub table: &'t EventTable,
     pub token: Token,
     ghost seated: { IsLook token },
-    ghost fits: { token.table_id ≡ table.now.own.table_id },
+    ghost unused: { IsUnused token },
+    ghost fits: { token.table_id ≡ table.now.desk.shared.table_id },
 }
 
 /// The word, taken apart.
@@ -47,7 +48,7 @@ pub(crate) fn apart(word: u64) -> EventNow
 impl EventSeat {
     /// Takes the seat to its table.
     pub fn on<'t>(self, table: &'t EventTable) -> TableSeat<'t>
-        requires { self.token.table_id ≡ table.now.own.table_id }
+        requires { self.token.table_id ≡ table.now.desk.shared.table_id }
         ensures { result.token ≡ self.token }
     {
         let EventSeat { token } = self;
@@ -58,7 +59,7 @@ impl EventSeat {
 impl LookSeat {
     /// Takes the seat to its table.
     pub fn on<'t>(self, table: &'t EventTable) -> TableLook<'t>
-        requires { self.token.table_id ≡ table.now.own.table_id }
+        requires { self.token.table_id ≡ table.now.desk.shared.table_id }
         ensures { result.token ≡ self.token }
     {
         let LookSeat { token } = self;
@@ -139,6 +140,7 @@ impl Bump for TableSeat<'_> {
 }
 
 impl Events for TableLook<'_> {
+    ghost use Rattle.std.specs.Prelude.{ℕ};
     ghost use Rattle.atomic_table.specs.Seated.{TableId};
 
     ghost tells = { λ _. None };
@@ -151,9 +153,9 @@ impl Events for TableLook<'_> {
 
     ghost floor = { λ s. floor_of s.token };
 
-    ghost Root = { TableId };
+    ghost Root = { TableId × ℕ };
 
-    ghost root = { λ s. s.token.table_id };
+    ghost root = { λ s. (s.token.table_id, sources_of s.token) };
 
     fn look(&mut self) -> EventNow {
         apart(self.table.desk.shared.load::<Look>(&mut self.token, 0))

@@ -1,9 +1,9 @@
 //! The table of the event word, and its seats while they are off it.
-ghost use Rattle.std.specs.Prelude.{◌≡◌, ◌<◌, [], suc, IfOk};
-ghost use Rattle.event_word.specs.Counting.{keeper, source_view, look_view};
-ghost use Rattle.event_word.specs.Seats.{IsOwn, IsSource, IsLook};
+ghost use Rattle.std.specs.Prelude.{◌≡◌, ◌<◌, [], IfOk};
+ghost use Rattle.event_word.specs.Counting.{look_view, one_more, source_view};
+ghost use Rattle.event_word.specs.Seats.{IsSource, IsLook, IsUnused, sources_of};
 
-use crate::plays::{Counting, NewLook, NewSource};
+use crate::plays::{Counting, NewSource};
 use crate::view::View;
 use atomic_table::{Seat, Table};
 use sleep_base::Mem;
@@ -15,15 +15,11 @@ pub type Token = Seat<(), View>;
 /// The word, which threads share.
 pub type Desk = Table<(), View, (), Counting, Global>;
 
-/// The event word for many holders (`drivers/base/power/wakeup.c`, `combined_event_count`), with what it needs to be
-/// closed.
+/// The event word for many holders (`drivers/base/power/wakeup.c`, `combined_event_count`).
 #[derive(Drop)]
 pub struct EventTable {
     pub desk: Table<(), View, (), Counting, Global>,
-    pub own: Token,
-    ghost seated: { (own.table_id ≡ desk.shared.table_id) × (own.table_id.words ≡ 1) × (own.table_id.slots ≡ 0) },
-    ghost kept: { IsOwn own },
-    ghost unused: { (own.me.0.known ≡ []) × (own.me.0.heard ≡ []) },
+    ghost shaped: { (desk.shared.table_id.words ≡ 1) × (desk.shared.table_id.slots ≡ 0) },
 }
 
 /// The seat of one source: it knows which steps the source made.
@@ -33,42 +29,32 @@ pub struct EventSeat {
     ghost seated: { IsSource token },
 }
 
-/// The seat of a holder that only looks.
+/// The seat that only looks, and that is needed to close the table.
 #[derive(Drop)]
 pub struct LookSeat {
     pub token: Token,
     ghost seated: { IsLook token },
+    ghost unused: { IsUnused token },
 }
 
 impl EventTable {
-    /// A table with no seat but its own.
-    pub(crate) fn bare(alloc: Global) -> Result<EventTable, Mem>
-        ensures { IfOk result (λ table. table.own.me.0.next ≡ 0) }
+    /// A table with no source.
+    pub(crate) fn bare(alloc: Global) -> Result<(EventTable, LookSeat), Mem>
+        ensures { IfOk result (λ made. (made.1.token.table_id ≡ made.0.desk.shared.table_id) × (made.1.token.me ≡ (look_view, []))) }
     {
-        let (desk, own) = Table::of_words(alloc, &[0], &())?;
-        Ok(EventTable { desk, own })
+        let (desk, token) = Table::of_words(alloc, &[0], &())?;
+        Ok((EventTable { desk }, LookSeat { token }))
     }
 
     /// One more source's seat, with the next number.
-    pub(crate) fn source(&mut self) -> EventSeat
-        requires { self.old.own.me.0.next < 256 }
-        ensures own { self.new.own.me.0 ≡ keeper (suc self.old.own.me.0.next) [] [] }
-        ensures table { self.new.own.table_id ≡ self.old.own.table_id }
-        ensures seat { (result.token.table_id ≡ self.old.own.table_id) × (result.token.me ≡ (source_view self.old.own.me.0.next, [])) }
+    pub(crate) fn source(&self, look: &mut LookSeat) -> EventSeat
+        requires table { look.old.token.table_id ≡ self.now.desk.shared.table_id }
+        requires room { sources_of look.old.token < 256 }
+        ensures table { look.new.token.table_id ≡ look.old.token.table_id }
+        ensures look { look.new.token.me ≡ (one_more look.old.token.me.0, []) }
+        ensures seat { (result.token.table_id ≡ look.old.token.table_id) × (result.token.me ≡ (source_view (sources_of look.old.token), [])) }
     {
-        let table = &self.desk;
-        let token = table.shared.split_seat::<NewSource>(&mut self.own);
+        let token = self.desk.shared.split_seat::<NewSource>(&mut look.token);
         EventSeat { token }
-    }
-
-    /// A seat that only looks.
-    pub(crate) fn looker(&mut self) -> LookSeat
-        ensures own { self.new.own.me.0 ≡ keeper self.old.own.me.0.next [] [] }
-        ensures table { self.new.own.table_id ≡ self.old.own.table_id }
-        ensures seat { (result.token.table_id ≡ self.old.own.table_id) × (result.token.me ≡ (look_view, [])) }
-    {
-        let table = &self.desk;
-        let token = table.shared.split_seat::<NewLook>(&mut self.own);
-        LookSeat { token }
     }
 }

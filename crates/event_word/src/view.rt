@@ -10,13 +10,13 @@ pub struct MadeStep {
 
 /// What a seat knows. No value of it is made.
 pub struct View {
-    /// Whether it is the table's own seat.
+    /// Whether it is the seat that only looks, and that is needed to close the table.
     pub keeps: bool,
-    /// How many sources there are, where it is the table's own.
+    /// How many sources there are, where it is that seat.
     pub next: u64,
-    /// What the sources made whose seats came back, in order, where it is the table's own.
+    /// What the sources made whose seats came back, in order, where it is that seat.
     pub known: LinkedList<LinkedList<MadeStep>>,
-    /// What the seats looked at that came back, in order, where it is the table's own.
+    /// What they looked at, in order, where it is that seat.
     pub heard: LinkedList<LinkedList<EventNow>>,
     /// The source's number, where it is a source's.
     pub number: Option<u64>,

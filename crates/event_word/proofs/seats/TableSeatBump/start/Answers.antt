@@ -1,4 +1,4 @@
-use Rattle.std.proofs.Common.{rules, ◌∙◌}
+use Rattle.std.proofs.Common.{rules}
 use Rattle.sleep_model.specs.declared.word.WordKind.TheVariants.{Start}
 use Rattle.event_word.proofs.Keeping.{may_step, some_number}
 use Rattle.event_word.proofs.Seating.{can_step}
@@ -8,4 +8,4 @@ pub fetch_add-requires : goal.fetch_add-requires
 fetch_add-requires c =
     let s = c.args.self.now in
     let n = some_number _ s.seated.numbered in
-    let can = can_step Start _ _ c.requires.0 c.requires.1 in (s.fits ∙ s.table.now.seated.0, search rules, may_step Start _ _ n.0 _ s.seated.plain n.1 can.1 can.0)
+    let can = can_step Start _ _ c.requires.0 c.requires.1 in (s.fits, search rules, may_step Start _ _ n.0 _ s.seated.plain n.1 can.1 can.0)

@@ -1,6 +1,6 @@
-use Rattle.std.proofs.Common.{rules, ◌∙◌}
+use Rattle.std.proofs.Common.{rules}
 use Rattle.event_word.proofs.Keeping.{may_look}
 use Rattle.event_word.proofs.seats.TableSeatEvents.look.Goals as goal
 
 pub load-requires : goal.load-requires
-load-requires c = let s = c.args.self.now in (s.fits ∙ s.table.now.seated.0, search rules, may_look _ _ _)
+load-requires c = let s = c.args.self.now in (s.fits, search rules, may_look _ _ _)

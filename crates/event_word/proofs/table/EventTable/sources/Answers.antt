@@ -1,14 +1,18 @@
 use Rattle.std.proofs.Common.{rules, arith, ap, ◌∙◌, ◌≡◌, ◌+◌}
+use Rattle.event_word.specs.Seats.{sources_of}
 use Rattle.event_word.proofs.Seating.{seats_more}
 use Rattle.event_word.proofs.table.EventTable.sources.Goals as goal
 
 pub loop-preserved : goal.loop-preserved
 loop-preserved c =
     let is = c.loop.invariant in
-    let own = c.source.ensures.own in
-    let next : c.source.new.self.own.me.0.next ≡ c.loop.self.own.me.0.next + 1 = ap (λ v. v.next) own ∙ omega arith in (
+    let me = c.source.ensures.look in
+    let next : sources_of c.source.new.look.token ≡ sources_of c.loop.look.token + 1 = ap (λ m. m.0.next) me ∙ omega arith in (
       c.source.ensures.table ∙ is.0,
       search rules,
       omega arith,
-      rw (c.in_ok-push.ensures.items) (seats_more c.loop.self.own c.source.new.self.own c.loop.seats.items c.source.result c.source.ensures.table own c.source.ensures.seat.0 c.source.ensures.seat.1 is.3),
+      rw (c.in_ok-push.ensures.items) (seats_more c.loop.look.token c.source.new.look.token c.loop.seats.items c.source.result c.source.ensures.table me c.source.ensures.seat.0 c.source.ensures.seat.1 is.3),
+      ap (λ m. m.0.looked) me ∙ is.4,
+      ap (λ m. m.0.floor) me ∙ is.5,
+      ap (λ m. m.0.made) me ∙ is.6,
     )
