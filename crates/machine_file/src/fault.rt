@@ -3,13 +3,16 @@ ghost use Rattle.machine_file.specs.declared.fault.MachineFault.TheVariants as f
 
 use sleep_base::Mem;
 use std::alloc::{AllocError, AllocFailed};
+use thiserror::Error;
 
 /// Why no machine was read.
-#[derive(Debug, Drop)]
+#[derive(Debug, Drop, Error)]
 pub enum MachineFault {
     /// The bytes break a rule of the format: its number, 1 to 24, and the first place that does.
+    #[error("rule {rule}: {place}")]
     Rule { rule: u8, place: String },
     /// Memory ran out.
+    #[error("out of memory")]
     Mem,
 }
 

@@ -14,17 +14,9 @@ ghost use Rattle.sleep_core.specs.Stages.{IsProper};
 ghost use Rattle.sleep_core.specs.Steps.{woken_end};
 
 use crate::state::Core;
-use sleep_base::Errno;
 use sleep_model::{Due, EventNow, FrozeEnd, Group, Kind, PlatDo, Sleep, Stage, What, Why, pos};
-use sleep_state::behind;
+use sleep_state::{behind, busy_error};
 use task_freezer::Round;
-
-/// EBUSY where a wakeup is pending.
-fn busy_error(busy: bool) -> Option<Errno>
-    ensures { result ≡ busy_error busy }
-{
-    if busy { Some(Errno::EBUSY) } else { None }
-}
 
 impl<'m> Core<'m> {
     /// The next notifier is told of the attempt.

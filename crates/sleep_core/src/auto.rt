@@ -10,13 +10,6 @@ use crate::state::Core;
 use sleep_model::{Due, EventNow, Why};
 
 impl<'m> Core<'m> {
-    /// Whether every script has made its exit, and no attempt is open.
-    pub(crate) fn is_over(&self) -> bool
-        ensures { result ≡ is_over self.now.machine (entries self.now.past) }
-    {
-        self.history.tasks().all_exited() && self.history.path().maker().is_none()
-    }
-
     /// The work's next entry.
     #[tactic(auto, using(crate::proofs::Working::work_is))]
     fn work_due(&self, now: EventNow) -> Due
@@ -35,7 +28,7 @@ impl<'m> Core<'m> {
     {
         if self.is_asleep() {
             Due::Waits(Why::Asleep)
-        } else if self.is_over() {
+        } else if self.whole() {
             Due::Waits(Why::NoWork)
         } else {
             self.work_due(now)

@@ -1,13 +1,12 @@
 //! What a run asks of the core between turns: jumps of time, calls that are due, and whether all is over.
 
-ghost use Rattle.std.specs.Prelude.{◌≡◌, ◌≤◌, ◌<◌, ◌+◌, ◌-◌, ◌^◌, ◌&&◌, ◌||◌, nat_lt, is_none, length, reverse, IfOk, OnErr};
+ghost use Rattle.std.specs.Prelude.{◌≡◌, ◌≤◌, ◌<◌, ◌+◌, ◌-◌, ◌^◌, ◌||◌, nat_lt, length, reverse, IfOk, OnErr};
 ghost use Rattle.sleep_model.specs.Calls.{calls_due, pieces_in};
-ghost use Rattle.sleep_model.specs.Due.{due, all_gone};
+ghost use Rattle.sleep_model.specs.Due.{due, is_over};
 ghost use Rattle.sleep_model.specs.Legal.{JournalPart, is_made};
 ghost use Rattle.sleep_model.specs.Links.{first_places};
 ghost use Rattle.sleep_model.specs.Numbers.{time_of};
 ghost use Rattle.sleep_model.specs.Order.{above, below};
-ghost use Rattle.sleep_model.specs.Path.{maker};
 ghost use Rattle.sleep_model.specs.Seats.{seat_at, seats};
 ghost use Rattle.sleep_model.specs.Word.{position};
 ghost use Rattle.sleep_state.specs.Places.{entries};
@@ -101,7 +100,7 @@ impl<'m> Core<'m> {
 
     /// Whether every script has exited and no attempt is open.
     pub fn whole(&self) -> bool
-        ensures { result ≡ (all_gone self.now.machine (entries self.now.past) && is_none (maker (entries self.now.past))) }
+        ensures { result ≡ is_over self.now.machine (entries self.now.past) }
     {
         self.history.tasks().all_exited() && self.history.path().maker().is_none()
     }

@@ -11,7 +11,7 @@ use crate::state::Core;
 use crate::steps::is_line;
 
 /// The lesser of two moments, where there are any.
-fn sooner(one: Option<u64>, other: Option<u64>) -> Option<u64>
+pub fn sooner(one: Option<u64>, other: Option<u64>) -> Option<u64>
     ensures { result ≡ sooner one other }
 {
     match (one, other) {

@@ -26,6 +26,7 @@ use event_word::{Events, look_from};
 use sleep_base::Mem;
 use sleep_model::{Actor, Due, Entry, EventNow, JournalEntry, Kind, Stamp, What, Why, pos};
 use std::sync::Wait;
+use thiserror::Error;
 
 /// What a turn did.
 #[derive(Clone, Copy)]
@@ -43,10 +44,11 @@ pub enum CoreTurn {
 }
 
 /// Why a turn was refused.
-#[derive(Clone, Copy, Debug, PartialEq, Eq)]
+#[derive(Clone, Copy, Debug, PartialEq, Eq, Error)]
 pub enum CoreFault {
     /// There was no memory for the journal, or a number would have passed its range. It comes for no turn
     /// of the open attempt's maker, nor of a device.
+    #[error("out of memory")]
     Mem,
 }
 

@@ -1,22 +1,9 @@
 //! What a run's core, its sources and its word say of all entries so far.
 
-ghost use Rattle.std.specs.Prelude.{◌≡◌};
-ghost use Rattle.sleep_model.specs.Legal.{sooner};
-
 use crate::run::Run;
 use event_word::Events;
+use sleep_core::sooner;
 use sleep_model::{Actor, EventNow};
-
-/// The lesser of two moments, where there are any.
-fn sooner(one: Option<u64>, other: Option<u64>) -> Option<u64>
-    ensures { result ≡ sooner one other }
-{
-    match (one, other) {
-        (None, other) => other,
-        (one, None) => one,
-        (Some(one), Some(other)) => Some(one.min(other)),
-    }
-}
 
 impl<'m> Run<'m> {
     ghost use Rattle.std.specs.Prelude.{◌≡◌, ◌≤◌, ◌<◌, ◌+◌, ◌^◌, ◌&&◌, true, None, is_none, length};

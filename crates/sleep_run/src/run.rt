@@ -17,6 +17,7 @@ use sleep_model::{Actor, Entry, Kind, Log, Machine, SourceCall, Stamp, Why};
 use std::alloc::{AllocError, Global};
 use std::marker::Model;
 use std::sync::Wait;
+use thiserror::Error;
 use wakeup_source::{CallBy, SourceFault, WakeSource};
 
 /// What a whole run gives.
@@ -26,11 +27,13 @@ pub struct RunEnd {
 }
 
 /// Why a run gives nothing.
-#[derive(Clone, Copy, Debug, PartialEq, Eq)]
+#[derive(Clone, Copy, Debug, PartialEq, Eq, Error)]
 pub enum RunFault {
     /// The history of that source has no place left for a call.
+    #[error("the history of wakeup source {0} has no place left for a call")]
     SourceFull(u32),
     /// There was no memory.
+    #[error("out of memory")]
     Mem,
 }
 

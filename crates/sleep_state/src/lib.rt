@@ -10,5 +10,5 @@ mod tests;
 
 pub use devices::Devices;
 pub use journal::Journal;
-pub use path::{Path, behind};
+pub use path::{Path, behind, busy_error};
 pub use tasks::Tasks;

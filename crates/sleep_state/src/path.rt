@@ -236,7 +236,7 @@ fn freeze_error(end: FrozeEnd) -> Option<Errno>
 }
 
 /// EBUSY where a wakeup is pending.
-fn busy_error(busy: bool) -> Option<Errno>
+pub fn busy_error(busy: bool) -> Option<Errno>
     ensures { result ≡ busy_error busy }
 {
     if busy { Some(Errno::EBUSY) } else { None }
