@@ -7,7 +7,6 @@ use Rattle.sleep_model.specs.declared.word.EventNow.{EventNow}
 use Rattle.sleep_model.specs.declared.word.WordKind.{WordKind}
 use Rattle.sleep_model.specs.Word.{position}
 use Rattle.event_word.specs.declared.view.View.{View}
-use Rattle.event_word.specs.Steps.{MadeStep}
 use Rattle.event_word.specs.Histories.{SourceStep, word_after, steps_of, AreBelow, AreInTurn, AreSeen, AllSeen, NeverRise, AllInOrder, packed, unpacked}
 
 module _ (log : List SourceStep) (next boss : ℕ) (seat_of : ℕ → ℕ) (seat : ℕ) (v : View) where

@@ -28,11 +28,7 @@ fn gather(desk: &Desk, look: &mut Token, seats: Vec<EventSeat>)
 
 /// Closes the table, with the seats of all its sources in the order of their numbers. The answer is the word after all
 /// steps.
-pub fn close(
-    table: EventTable,
-    seats: Vec<EventSeat>,
-    look: LookSeat,
-) -> Result<EventNow, Mem>
+pub fn close(table: EventTable, seats: Vec<EventSeat>, look: LookSeat) -> Result<EventNow, Mem>
     requires look { look.token.table_id ≡ table.desk.shared.table_id }
     requires seats { AreAll look.token (tokens seats.items) }
     ensures closed { IfOk result (λ now. AreClosed (made_lists seats.items) (looked_lists seats.items ++ looked_of look.token ∷ []) now) }

@@ -9,12 +9,7 @@ use std::alloc::Global;
 
 impl EventTable {
     /// The seats of that many new sources, in the order of their numbers.
-    fn sources(
-        &self,
-        alloc: Global,
-        look: &mut LookSeat,
-        count: u32,
-    ) -> Result<Vec<EventSeat>, Mem>
+    fn sources(&self, alloc: Global, look: &mut LookSeat, count: u32) -> Result<Vec<EventSeat>, Mem>
         requires table { look.old.token.table_id ≡ self.now.desk.shared.table_id }
         requires none { sources_of look.old.token ≡ 0 }
         requires count { count ≤ 256 }

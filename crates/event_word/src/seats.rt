@@ -9,6 +9,9 @@ use crate::plays::{Finish, Hard, Look, Start};
 use crate::table::{EventSeat, EventTable, LookSeat, Token};
 use sleep_model::EventNow;
 
+/// What a start adds to the word: one more in progress.
+const START: u64 = 1;
+
 /// What a finish adds to the word: one less in progress, one more registered (`MAX_IN_PROGRESS`).
 const FINISH: u64 = 65_535;
 
@@ -112,30 +115,18 @@ impl Events for TableSeat<'_> {
 
 impl Bump for TableSeat<'_> {
     fn start(&mut self) -> EventNow {
-        apart(
-            self.table
-                .desk
-                .shared
-                .fetch_add::<Start>(&mut self.token, 0, 1),
-        )
+        let desk = &self.table.desk;
+        apart(desk.shared.fetch_add::<Start>(&mut self.token, 0, START))
     }
 
     fn finish(&mut self) -> EventNow {
-        apart(
-            self.table
-                .desk
-                .shared
-                .fetch_add::<Finish>(&mut self.token, 0, FINISH),
-        )
+        let desk = &self.table.desk;
+        apart(desk.shared.fetch_add::<Finish>(&mut self.token, 0, FINISH))
     }
 
     fn hard(&mut self) -> EventNow {
-        apart(
-            self.table
-                .desk
-                .shared
-                .fetch_add::<Hard>(&mut self.token, 0, HARD),
-        )
+        let desk = &self.table.desk;
+        apart(desk.shared.fetch_add::<Hard>(&mut self.token, 0, HARD))
     }
 }
 
@@ -158,6 +149,7 @@ impl Events for TableLook<'_> {
     ghost root = { λ s. (s.token.table_id, sources_of s.token) };
 
     fn look(&mut self) -> EventNow {
-        apart(self.table.desk.shared.load::<Look>(&mut self.token, 0))
+        let desk = &self.table.desk;
+        apart(desk.shared.load::<Look>(&mut self.token, 0))
     }
 }

@@ -1,6 +1,6 @@
 ghost use Rattle.std.specs.Prelude.{◌≡◌, ◌+◌, ◌<◌, [], length, IfOk, not, if◌then◌else◌};
 ghost use Rattle.event_word.specs.Steps.{is_active};
-ghost use Rattle.event_word.specs.Seats.{IsSeatOf, number_of, made_of};
+ghost use Rattle.event_word.specs.Seats.{IsSeatOf, sources_of, number_of, made_of};
 
 use super::*;
 use sleep_base::Mem;
@@ -14,10 +14,10 @@ fn word(inpr: u32, count: u32, hard: u32) -> EventNow {
 
 /// A table of two sources.
 fn two(alloc: Global) -> Result<(EventTable, EventSeat, EventSeat, LookSeat), Mem>
-    ensures count { IfOk result (λ made. made.0.own.me.0.next ≡ 2) }
-    ensures first { IfOk result (λ made. IsSeatOf made.0.own 0 made.1.token × (made_of made.1.token ≡ [])) }
-    ensures second { IfOk result (λ made. IsSeatOf made.0.own 1 made.2.token × (made_of made.2.token ≡ [])) }
-    ensures look { IfOk result (λ made. made.3.token.table_id ≡ made.0.own.table_id) }
+    ensures count { IfOk result (λ made. sources_of made.3.token ≡ 2) }
+    ensures first { IfOk result (λ made. IsSeatOf made.3.token.table_id 0 made.1.token × (made_of made.1.token ≡ [])) }
+    ensures second { IfOk result (λ made. IsSeatOf made.3.token.table_id 1 made.2.token × (made_of made.2.token ≡ [])) }
+    ensures look { IfOk result (λ made. made.3.token.table_id ≡ made.0.desk.shared.table_id) }
 {
     let (table, mut seats, look) = EventTable::new(alloc, 2)?;
     let Some(second) = seats.pop() else {
@@ -37,10 +37,10 @@ fn close_two(
     second: EventSeat,
     look: LookSeat,
 ) -> Result<EventNow, Mem>
-    requires count { table.own.me.0.next ≡ 2 }
-    requires first { IsSeatOf table.own 0 first.token }
-    requires second { IsSeatOf table.own 1 second.token }
-    requires look { look.token.table_id ≡ table.own.table_id }
+    requires count { sources_of look.token ≡ 2 }
+    requires first { IsSeatOf look.token.table_id 0 first.token }
+    requires second { IsSeatOf look.token.table_id 1 second.token }
+    requires look { look.token.table_id ≡ table.desk.shared.table_id }
 {
     let mut seats = Vec::with_capacity(alloc, 2)?;
     seats.push(first)?;

@@ -11,11 +11,13 @@ use std::test::Fail;
 use std::thread;
 use std::thread::Threads;
 
-/// A worker that has ended: its seat, and the positions of the words that its steps found.
+/// A worker that has ended: its seat, the positions of the words that its steps found, and whether each look found a
+/// later one.
 #[derive(Drop)]
 struct Done {
     seat: EventSeat,
     positions: Vec<u64>,
+    later: bool,
 }
 
 /// Adds a position, where there is memory.
@@ -25,9 +27,9 @@ fn note(positions: &mut Vec<u64>, position: u64) {
     }
 }
 
-/// All steps of one worker: events one after another, with a hard step in each.
+/// All steps of one worker: events one after another, with a hard step in each. It looks at the word after each step.
 fn work(alloc: Global, table: &EventTable, seat: EventSeat, turns: u32) -> Done
-    requires table { seat.token.table_id ≡ table.now.own.table_id }
+    requires table { seat.token.table_id ≡ table.now.desk.shared.table_id }
     requires new { made_of seat.token ≡ [] }
     requires turns { turns ≤ 10000 }
     ensures table { result.seat.token.table_id ≡ seat.token.table_id }
@@ -36,14 +38,18 @@ fn work(alloc: Global, table: &EventTable, seat: EventSeat, turns: u32) -> Done
     let mut seat = seat.on(table);
     let mut active = false;
     let mut positions = Vec::new(alloc);
+    let mut later = true;
     for i in 0..turns {
         let (before, now) = step(&mut seat, active, i % 3 == 1);
         active = now;
         note(&mut positions, pos(before));
+        let seen = seat.look();
+        later = later && pos(seen) > pos(before);
     }
     Done {
         seat: seat.off(),
         positions,
+        later,
     }
 }
 
@@ -52,30 +58,38 @@ fn burst<R: Threads + Wait + Sync>(
     rt: &R,
     alloc: Global,
     table: &EventTable,
+    look: &LookSeat,
     seats: Vec<EventSeat>,
     turns: u32,
 ) -> Result<Vec<Done>, AllocError>
-    requires seats { AreNew table.now.own (tokens seats.items) }
+    requires look { look.now.token.table_id ≡ table.now.desk.shared.table_id }
+    requires seats { AreNew look.now.token (tokens seats.items) }
     requires turns { turns ≤ 10000 }
-    ensures { IfOk result (λ done. AreAll table.now.own (map (λ d. d.seat.token) done.items)) }
+    ensures { IfOk result (λ done. AreAll look.now.token (map (λ d. d.seat.token) done.items)) }
 {
+    let _ = look;
     let one = |seat: EventSeat| -> Done
-        requires { (seat.token.table_id ≡ table.now.own.table_id) × (made_of seat.token ≡ []) × (turns ≤ 10000) }
+        requires { (seat.token.table_id ≡ table.now.desk.shared.table_id) × (made_of seat.token ≡ []) × (turns ≤ 10000) }
         ensures { (result.seat.token.table_id ≡ seat.token.table_id) × (number_of result.seat.token ≡ number_of seat.token) }
     { work(alloc, table, seat, turns) };
-    thread::map_vec(rt, seats, &one)
+    let done = thread::map_vec(rt, seats, &one)?;
+    Ok(done)
 }
 
-/// Counts how often each position was found.
-fn count(times: &mut Vec<u32>, positions: &Vec<u64>) {
+/// Counts how often each position was found, where no look went back.
+fn count(times: &mut Vec<u32>, positions: &Vec<u64>, later: bool) {
     for &position in positions {
+        if !later {
+            return;
+        }
         if let Some(n) = times.get_mut(position as usize) {
             *n = n.saturating_add(1);
         }
     }
 }
 
-/// The seats of all workers, in order. Counts the positions that they found.
+/// The seats of all workers, in order. Counts the positions that they found, and forgets those of a worker that looked
+/// back.
 fn gathered(
     alloc: Global,
     done: Vec<Done>,
@@ -85,8 +99,12 @@ fn gathered(
 {
     let mut seats = Vec::with_capacity(alloc, done.len())?;
     for one in done {
-        let Done { seat, positions } = one;
-        count(times, &positions);
+        let Done {
+            seat,
+            positions,
+            later,
+        } = one;
+        count(times, &positions, later);
         seats.push(seat)?;
     }
     Ok(seats)
@@ -103,7 +121,7 @@ fn each_once<R: Threads + Wait + Sync>(
     requires turns { turns ≤ 10000 }
 {
     let (table, seats, look) = EventTable::new(alloc, workers)?;
-    let done = burst(rt, alloc, &table, seats, turns)?;
+    let done = burst(rt, alloc, &table, &look, seats, turns)?;
     let mut times = vec![in alloc; 0; 10_000]?;
     let seats = gathered(alloc, done, &mut times)?;
     let now = close(table, seats, look)?;

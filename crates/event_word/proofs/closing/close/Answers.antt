@@ -1,9 +1,8 @@
-use Rattle.std.proofs.Common.{◌≡◌, List, ◌++◌, ◌∷◌, []}
+use Rattle.std.proofs.Common.{List, ◌++◌, ◌∷◌, []}
 use Rattle.std.proofs.Common.{subst}
 use Rattle.sleep_model.specs.declared.word.EventNow.{EventNow}
 use Rattle.event_word.specs.Steps.{MadeStep}
 use Rattle.event_word.specs.Histories.{AreClosed, unpacked}
-use Rattle.event_word.specs.Seats.{looked_of}
 use Rattle.event_word.proofs.Keeping.{ends}
 use Rattle.event_word.proofs.Seating.{all_in}
 use Rattle.event_word.proofs.closing.close.Goals as goal
@@ -14,4 +13,4 @@ returns-clause-closed c =
     let g = c.gather.ensures in
     let end = ends _ _ look.me.0 _ _ g.look.0.keeps (all_in c.args.look.token look c.args.seats.items c.requires.seats g.look.1 g.known) c.word-word.ensures c.close_with-closed.ensures.values.2 in
     rw (c.apart.ensures) (subst (λ (x : List (List MadeStep) × List (List EventNow)). AreClosed x.0 x.1 (unpacked c.word-word.result))
-        (λ i. (g.known i, g.heard i ++ g.look.2 i ∷ [])) end)
+    (λ i. (g.known i, g.heard i ++ g.look.2 i ∷ [])) end)

@@ -1,4 +1,4 @@
-use Rattle.std.proofs.Common.{rules, ap, sym, ◌∙◌, true}
+use Rattle.std.proofs.Common.{rules}
 use Rattle.sleep_model.specs.declared.word.WordKind.TheVariants.{Start, Finish, Hard}
 use Rattle.event_word.proofs.Seating.{can_now}
 use Rattle.event_word.proofs.table_tests.step.Goals as goal
