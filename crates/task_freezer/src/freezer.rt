@@ -63,7 +63,9 @@ impl<'m> Freezer<'m> {
         ensures { self.new ≡ freezer_after who kind self.old }
     {
         match kind {
-            Kind::Freeze(_) | Kind::Thaw(_) | Kind::Frozen | Kind::Exit => self.move_tasks(who, kind),
+            Kind::Freeze(_) | Kind::Thaw(_) | Kind::Frozen | Kind::Exit => self.move_tasks(
+                who, kind,
+            ),
             _ => {}
         }
     }
