@@ -7,7 +7,8 @@ use Rattle.sleep_model.specs.declared.word.EventNow.{EventNow}
 use Rattle.sleep_model.specs.declared.word.WordKind.{WordKind}
 use Rattle.sleep_model.specs.Word.{position}
 use Rattle.event_word.specs.declared.view.View.{View}
-use Rattle.event_word.specs.Histories.{SourceStep, word_after, steps_of, AreBelow, AreInTurn, AreSeen, AllSeen, NeverRise, AllInOrder, packed, unpacked}
+use Rattle.event_word.specs.Histories.{SourceStep, word_after, steps_of, AreBelow, AreInTurn, packed, unpacked}
+use Rattle.event_word.specs.Histories.{AreSeen, AllSeen, NeverRise, AllInOrder}
 
 module _ (log : List SourceStep) (next boss : ℕ) (seat_of : ℕ → ℕ) (seat : ℕ) (v : View) where
   -- what one seat's view says
@@ -16,10 +17,11 @@ module _ (log : List SourceStep) (next boss : ℕ) (seat_of : ℕ → ℕ) (seat
     pub looked : AreSeen log v.looked × NeverRise v.floor v.looked
     pub made : (k : ℕ) → v.number ≡ Some k → (k < next) × (seat_of k ≡ seat) × (v.made ≡ steps_of k log)
     pub keeps : v.keeps ≡ true → (seat ≡ boss) × (v.next ≡ next) × (length v.known ≤ next)
-    pub known : v.keeps ≡ true → (k : ℕ) → k < length v.known → (seat_of k ≡ seat) × (slice_index_or v.known k [] ≡ steps_of k log)
+    pub known : v.keeps ≡ true → (k : ℕ) → k < length v.known
+        → (seat_of k ≡ seat) × (slice_index_or v.known k [] ≡ steps_of k log)
     pub heard : v.keeps ≡ true → AllSeen log v.heard × AllInOrder v.heard
 
--- the rule: there is one history, which leaves the word; each source's seat has its steps, and what a seat saw was there
+-- the rule: there is one history, which leaves the word; each source's seat has its steps; what a seat saw was there
 pub record Kept (s : State (Unit {0}) View) : Type 0 where
   pub log : List SourceStep
   pub next : ℕ
@@ -43,7 +45,8 @@ one_more v = record v { next = suc v.next }
 
 -- the view of a new source's seat
 abbrev pub source_view : ℕ → View
-source_view number = record { keeps = false; next = 0; known = []; heard = []; number = Some number; made = []; looked = []; floor = 0 }
+source_view number =
+    record { keeps = false; next = 0; known = []; heard = []; number = Some number; made = []; looked = []; floor = 0 }
 
 -- the view of the seat that only looks, once a source's seat came back
 abbrev pub took_in : View → View → View

@@ -21,7 +21,8 @@ word_after (s ∷ past) = after_step (Some s.step) (word_after past)
 abbrev pub steps_of : ℕ → List SourceStep → List MadeStep
 steps_of source [] = []
 steps_of source (s ∷ past) =
-    if s.source == source then record { step = s.step; before = word_after past } ∷ steps_of source past else steps_of source past
+    if s.source == source then record { step = s.step; before = word_after past } ∷ steps_of source past
+    else steps_of source past
 
 -- each step's source has a number below this one
 abbrev pub AreBelow : ℕ → List SourceStep → Type 0
@@ -68,7 +69,8 @@ abbrev pub AllInOrder : List (List EventNow) → Type 0
 AllInOrder [] = Unit {0}
 AllInOrder (words ∷ rest) = IsInOrder words × AllInOrder rest
 
--- the steps of all sources stand at the positions from 0 on, each once, and chain: the last answer is the word after them
+-- the steps of all sources stand at the positions from 0 on, each once, and chain; the answer is the word after them;
+-- each word that a seat looked at was there, and no seat looked back
 pub record AreClosed (made : List (List MadeStep)) (looked : List (List EventNow)) (answer : EventNow) : Type 0 where
   pub history : List SourceStep
   pub makers : AreBelow (length made) history

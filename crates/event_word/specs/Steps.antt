@@ -55,4 +55,5 @@ fits Hard active = true
 -- a source that made so many steps can make these next, one after another: at most 60,000 in all (own)
 abbrev pub can_make : ℕ → Bool → List WordKind → Bool
 can_make count active [] = true
-can_make count active (step ∷ rest) = nat_lt count 60000 && fits step active && can_make (suc count) (active_after step active) rest
+can_make count active (step ∷ rest) =
+    nat_lt count 60000 && fits step active && can_make (suc count) (active_after step active) rest

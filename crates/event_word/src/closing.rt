@@ -16,7 +16,8 @@ fn gather(desk: &Desk, look: &mut Token, seats: Vec<EventSeat>)
     requires look { IsLook look.old × IsUnused look.old }
     requires seats { AreAll look.old (tokens seats.items) }
     ensures table { look.new.table_id ≡ look.old.table_id }
-    ensures look { IsLook look.new × (sources_of look.new ≡ sources_of look.old) × (looked_of look.new ≡ looked_of look.old) }
+    ensures look { IsLook look.new × (sources_of look.new ≡ sources_of look.old) }
+    ensures looked { looked_of look.new ≡ looked_of look.old }
     ensures known { look.new.me.0.known ≡ made_lists seats.items }
     ensures heard { look.new.me.0.heard ≡ looked_lists seats.items }
 {
@@ -31,7 +32,8 @@ fn gather(desk: &Desk, look: &mut Token, seats: Vec<EventSeat>)
 pub fn close(table: EventTable, seats: Vec<EventSeat>, look: LookSeat) -> Result<EventNow, Mem>
     requires look { look.token.table_id ≡ table.desk.shared.table_id }
     requires seats { AreAll look.token (tokens seats.items) }
-    ensures closed { IfOk result (λ now. AreClosed (made_lists seats.items) (looked_lists seats.items ++ looked_of look.token ∷ []) now) }
+    ensures closed { IfOk result (λ now.
+        AreClosed (made_lists seats.items) (looked_lists seats.items ++ looked_of look.token ∷ []) now) }
     ensures always { IsOk result }
 {
     let EventTable { desk } = table;

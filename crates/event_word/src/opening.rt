@@ -14,7 +14,9 @@ impl EventTable {
         requires none { sources_of look.old.token ≡ 0 }
         requires count { count ≤ 256 }
         ensures table { look.new.token.table_id ≡ look.old.token.table_id }
-        ensures look { IfOk result (λ _. (looked_of look.new.token ≡ looked_of look.old.token) × (floor_of look.new.token ≡ floor_of look.old.token) × (made_of look.new.token ≡ made_of look.old.token)) }
+        ensures looked { IfOk result (λ _. looked_of look.new.token ≡ looked_of look.old.token) }
+        ensures floor { IfOk result (λ _. floor_of look.new.token ≡ floor_of look.old.token) }
+        ensures made { IfOk result (λ _. made_of look.new.token ≡ made_of look.old.token) }
         ensures count { IfOk result (λ seats. vec_len seats ≡ count) }
         ensures new { IfOk result (λ seats. AreNew look.new.token (tokens seats.items)) }
     {
@@ -30,7 +32,8 @@ impl EventTable {
         requires { (1 ≤ sources) × (sources ≤ 256) }
         ensures count { IfOk result (λ made. vec_len made.1 ≡ sources) }
         ensures seats { IfOk result (λ made. AreNew made.2.token (tokens made.1.items)) }
-        ensures look { IfOk result (λ made. (made.2.token.table_id ≡ made.0.desk.shared.table_id) × IsUntouched made.2.token) }
+        ensures look { IfOk result (λ made. made.2.token.table_id ≡ made.0.desk.shared.table_id) }
+        ensures untouched { IfOk result (λ made. IsUntouched made.2.token) }
     {
         let (table, mut look) = EventTable::bare(alloc)?;
         let seats = table.sources(alloc, &mut look, sources)?;

@@ -40,7 +40,8 @@ pub struct LookSeat {
 impl EventTable {
     /// A table with no source.
     pub(crate) fn bare(alloc: Global) -> Result<(EventTable, LookSeat), Mem>
-        ensures { IfOk result (λ made. (made.1.token.table_id ≡ made.0.desk.shared.table_id) × (made.1.token.me ≡ (look_view, []))) }
+        ensures table { IfOk result (λ made. made.1.token.table_id ≡ made.0.desk.shared.table_id) }
+        ensures view { IfOk result (λ made. made.1.token.me ≡ (look_view, [])) }
     {
         let (desk, token) = Table::of_words(alloc, &[0], &())?;
         Ok((EventTable { desk }, LookSeat { token }))
@@ -52,7 +53,8 @@ impl EventTable {
         requires room { sources_of look.old.token < 256 }
         ensures table { look.new.token.table_id ≡ look.old.token.table_id }
         ensures look { look.new.token.me ≡ (one_more look.old.token.me.0, []) }
-        ensures seat { (result.token.table_id ≡ look.old.token.table_id) × (result.token.me ≡ (source_view (sources_of look.old.token), [])) }
+        ensures seat { result.token.table_id ≡ look.old.token.table_id }
+        ensures view { result.token.me ≡ (source_view (sources_of look.old.token), []) }
     {
         let token = self.desk.shared.split_seat::<NewSource>(&mut look.token);
         EventSeat { token }

@@ -13,4 +13,4 @@ returns-clause-closed c =
     let g = c.gather.ensures in
     let end = ends _ _ look.me.0 _ _ g.look.0.keeps (all_in c.args.look.token look c.args.seats.items c.requires.seats g.look.1 g.known) c.word-word.ensures c.close_with-closed.ensures.values.2 in
     rw (c.apart.ensures) (subst (λ (x : List (List MadeStep) × List (List EventNow)). AreClosed x.0 x.1 (unpacked c.word-word.result))
-    (λ i. (g.known i, g.heard i ++ g.look.2 i ∷ [])) end)
+    (λ i. (g.known i, g.heard i ++ g.looked i ∷ [])) end)

@@ -11,7 +11,7 @@ loop-preserved c =
       c.source.ensures.table ∙ is.0,
       search rules,
       omega arith,
-      rw (c.in_ok-push.ensures.items) (seats_more c.loop.look.token c.source.new.look.token c.loop.seats.items c.source.result c.source.ensures.table me c.source.ensures.seat.0 c.source.ensures.seat.1 is.3),
+      rw (c.in_ok-push.ensures.items) (seats_more c.loop.look.token c.source.new.look.token c.loop.seats.items c.source.result c.source.ensures.table me c.source.ensures.seat c.source.ensures.view is.3),
       ap (λ m. m.0.looked) me ∙ is.4,
       ap (λ m. m.0.floor) me ∙ is.5,
       ap (λ m. m.0.made) me ∙ is.6,
