@@ -1,5 +1,5 @@
 use crate::rows::{
-    attempts, devices, diamonds, events, failures, freezer, laptop, many, sources, sysfs,
+    attempts, broken, devices, diamonds, events, failures, freezer, laptop, many, sources, sysfs,
 };
 use crate::top::run_words;
 use sleep_base::{MemSink, MemSource};
@@ -194,54 +194,23 @@ fn many_events_do_not_come_round(rt: HostRuntime) -> Result<(), Fail> {
     Ok(())
 }
 
-/// Files that break a rule: for each rule one at least.
+/// Files that break a rule, each with what is said of it: for each rule one at least.
 #[test]
 fn other_files_are_refused(rt: HostRuntime) -> Result<(), Fail> {
-    for file in [
-        // No JSON.
-        r#""#,
-        r#"not json"#,
-        r#"{"version":1"#,
-        // No object of the known members.
-        r#"[]"#,
-        r#"{"version":1,"colour":"red","actors":[{"name":"w","kind":"user"}]}"#,
-        // No version, or another one.
-        r#"{}"#,
-        r#"{"version":2}"#,
-        // A number out of its range, and a device without a name.
-        r#"{"version":1,"cpus":65}"#,
-        r#"{"version":1,"devices":[{"name":"a"},{"parent":"a"}]}"#,
-        // Too many syscore steps.
-        r#"{"version":1,"syscore":["a","b","c","d","e","f","g","h","i","j","k","l","m","n","o","p","q","r","s","t","u","v","w","x","y","z","0","1","2","3","4","5","6"]}"#,
-        // A capital letter in a name.
-        r#"{"version":1,"sources":["Lid"]}"#,
-        // Names that stand twice, and one that is taken.
-        r#"{"version":1,"devices":[{"name":"a"},{"name":"a"}]}"#,
-        r#"{"version":1,"syscore":["t","t"]}"#,
-        r#"{"version":1,"sources":["autosleep"]}"#,
-        r#"{"version":1,"actors":[{"name":"w","kind":"user"},{"name":"w","kind":"irq"}]}"#,
-        // A parent behind its child.
-        r#"{"version":1,"devices":[{"name":"a","parent":"b"},{"name":"b"}],"actors":[{"name":"w","kind":"user"}]}"#,
-        // A link to nothing, to itself, and in a circle.
-        r#"{"version":1,"devices":[{"name":"a"}],"links":[{"supplier":"a","consumer":"b"}]}"#,
-        r#"{"version":1,"devices":[{"name":"a"}],"links":[{"supplier":"a","consumer":"a"}]}"#,
-        devices::CYCLIC,
-        // An operation that is none, and one of tasks alone.
-        r#"{"version":1,"actors":[{"name":"w","kind":"user","script":[{"op":"fly"}]}]}"#,
-        r#"{"version":1,"actors":[{"name":"k","kind":"irq","script":[{"op":"read"}]}]}"#,
-        // A source and a device that are not there.
-        r#"{"version": 1, "sources": ["lid"], "actors": [{"name": "w", "kind": "user", "script": [{"op": "event", "source": "door"}]}]}"#,
-        r#"{"version":1,"actors":[{"name":"w","kind":"user","script":[{"op":"runtime","device":"d","to":"active"}]}]}"#,
-        // Answers for nothing, of a wrong number, with reports out of place, and twice.
-        r#"{"version":1,"answers":[{"what":"syscore","name":"t"}]}"#,
-        r#"{"version":1,"syscore":["t"],"answers":[{"what":"syscore","name":"t","ret":1}]}"#,
-        r#"{"version":1,"sources":["s"],"syscore":["t"],"answers":[{"what":"syscore","name":"t","reports":[{"call":"awake","source":"s"}]}]}"#,
-        r#"{"version":1,"syscore":["t"],"answers":[{"what":"syscore","name":"t"},{"what":"syscore","name":"t"}]}"#,
-        // Too many attempts.
-        r#"{"version":1,"actors":[{"name":"w","kind":"user","script":[{"op":"state","text":"mem","times":2001}]}]}"#,
-    ] {
-        expect(&rt, rt.alloc(), file, 3, "", "machine: refused\n")?;
+    for (file, said) in broken::FILES {
+        expect(&rt, rt.alloc(), file, 3, "", said)?;
     }
+    Ok(())
+}
+
+/// As many attempts as a file may ask for, and no more: the file is accepted.
+#[test]
+fn the_most_attempts_are_accepted(rt: HostRuntime) -> Result<(), Fail> {
+    let alloc = rt.alloc();
+    let bytes = broken::MOST_ATTEMPTS.as_bytes().to_vec(alloc)?;
+    let given = given(&rt, alloc, &RUN, bytes, &GOOD)?;
+    assert_eq!(rt; given.status, 0);
+    assert_eq!(rt; given.err.len(), 0);
     Ok(())
 }
 

@@ -1,6 +1,7 @@
 //! Machine files, and their logs, worked out apart from the program.
 
 pub(crate) mod attempts;
+pub(crate) mod broken;
 pub(crate) mod devices;
 pub(crate) mod diamonds;
 pub(crate) mod events;
