@@ -6,7 +6,7 @@ use Rattle.std.proofs.lemmas.List.{length-map}
 use mathlib.Core.List.{map-append}
 use mathlib.Core.Option.{some, some-ne-none}
 use lib.ListN.{get_elem?}
-use Rattle.atomic_table.proofs.Lists.{at_map}
+use Rattle.atomic_table.proofs.Lists.{at_last, at_longer, at_map}
 use Rattle.sleep_model.specs.declared.word.WordKind.{WordKind}
 use Rattle.event_word.specs.declared.table.EventSeat.{EventSeat}
 use Rattle.event_word.specs.Steps.{MadeStep, active_after, fits, can_make}
@@ -39,6 +39,20 @@ all_back look before after are same each = record {
   counted = same ∙ are.counted;
   each_is = λ k t at. let e = each k t at in let was = are.each_is k e.0 e.1 in (e.2 ∙ was.0, e.3 ∙ was.1);
 }
+
+-- the last two seats of a new table
+new_seat : (look : Token) (seats : List EventSeat) (k : ℕ) (seat : EventSeat) → AreNew look (tokens seats) → get_elem? seats k ≡ some seat → (seat.token.table_id ≡ look.table_id) × (made_of seat.token ≡ [])
+new_seat look seats k seat are at =
+    let there = at_map (λ (s : EventSeat). s.token) seats k seat at in
+    ((are.all_are.each_is k seat.token there).0, (are.untouched k seat.token there).made)
+
+pub last_two : (look : Token) (seats front rest : List EventSeat) (first second : EventSeat) → AreNew look (tokens seats) → seats ≡ front ++ second ∷ [] → front ≡ rest ++ first ∷ []
+    → ((first.token.table_id ≡ look.table_id) × (made_of first.token ≡ [])) × ((second.token.table_id ≡ look.table_id) × (made_of second.token ≡ []))
+last_two look seats front rest first second are is was = (
+  new_seat look seats (length rest) first are
+      (ap (λ l. get_elem? l (length rest)) (is ∙ ap (λ l. l ++ second ∷ []) was) ∙ at_longer (rest ++ first ∷ []) (second ∷ []) (length rest) first (at_last rest first (length rest) refl)),
+  new_seat look seats (length front) second are (ap (λ l. get_elem? l (length front)) is ∙ at_last front second (length front) refl),
+)
 
 pub none_new : (look : Token) → sources_of look ≡ 0 → AreNew look []
 none_new look e = record {

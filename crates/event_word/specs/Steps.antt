@@ -4,7 +4,11 @@ use Rattle.sleep_model.specs.declared.word.EventNow.{EventNow}
 use Rattle.sleep_model.specs.declared.word.WordKind.{WordKind}
 use Rattle.sleep_model.specs.declared.word.WordKind.TheVariants.{Start, Finish, Hard}
 use Rattle.sleep_model.specs.Numbers.{after_step}
-pub use Rattle.event_word.specs.declared.view.MadeStep.{MadeStep}
+use Rattle.event_word.specs.declared.view.MadeStep as view
+
+-- a step that was made, and the word before it
+abbrev pub MadeStep : Type 0
+MadeStep = view.MadeStep
 
 -- the told word after a step
 abbrev pub told_after : WordKind → Option EventNow → Option EventNow
