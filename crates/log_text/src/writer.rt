@@ -40,6 +40,7 @@ impl LineWriter {
     }
 
     /// Writes these bytes.
+    #[inline(always)]
     pub fn push_bytes(&mut self, bytes: &[u8]) -> Result<(), Mem>
         ensures { OnOk result (self.new ≡ self.old ++ bytes.now) }
     {
@@ -48,6 +49,7 @@ impl LineWriter {
     }
 
     /// Writes this text.
+    #[inline(always)]
     pub fn push_text(&mut self, text: &str) -> Result<(), Mem>
         ensures { OnOk result (self.new ≡ self.old ++ text.now) }
     {
@@ -55,7 +57,21 @@ impl LineWriter {
     }
 
     /// Writes the number in decimal.
+    #[inline]
+    #[tactic(auto, using(std::proofs::lemmas::Fmt::decimal_digit))]
     pub fn push_number(&mut self, number: u64) -> Result<(), Mem>
+        ensures { OnOk result (self.new ≡ self.old ++ decimal number) }
+    {
+        // Most numbers of a log have one digit.
+        if number < 10 {
+            self.bytes.push(b'0' + number as u8)?;
+            return Ok(());
+        }
+        self.push_digits(number)
+    }
+
+    /// Writes the number in decimal, also where it is long.
+    fn push_digits(&mut self, number: u64) -> Result<(), Mem>
         ensures { OnOk result (self.new ≡ self.old ++ decimal number) }
     {
         let mut digits = Buffer::new();
@@ -77,6 +93,7 @@ pub trait Spelled {
 impl Spelled for &str {
     ghost spelling = { λ text. text.now };
 
+    #[inline(always)]
     fn write_to(self, out: &mut LineWriter) -> Result<(), Mem> {
         out.push_text(self)
     }
@@ -85,6 +102,7 @@ impl Spelled for &str {
 impl Spelled for &[u8] {
     ghost spelling = { λ bytes. bytes.now };
 
+    #[inline(always)]
     fn write_to(self, out: &mut LineWriter) -> Result<(), Mem> {
         out.push_bytes(self)
     }
@@ -93,6 +111,7 @@ impl Spelled for &[u8] {
 impl Spelled for u32 {
     ghost spelling = { decimal };
 
+    #[inline(always)]
     fn write_to(self, out: &mut LineWriter) -> Result<(), Mem> {
         out.push_number(u64::from(self))
     }
@@ -101,6 +120,7 @@ impl Spelled for u32 {
 impl Spelled for u64 {
     ghost spelling = { decimal };
 
+    #[inline(always)]
     fn write_to(self, out: &mut LineWriter) -> Result<(), Mem> {
         out.push_number(self)
     }
