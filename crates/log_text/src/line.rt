@@ -9,6 +9,7 @@ use sleep_base::Mem;
 use sleep_model::{Actor, Entry, Machine, Stats, Waiting, Why};
 
 /// Writes who makes an entry.
+#[inline(always)]
 fn put_actor(out: &mut LineWriter, machine: &Machine, actor: Actor) -> Result<(), Mem>
     ensures { OnOk result (out.new ≡ out.old ++ actor_text machine.now actor) }
 {
@@ -22,6 +23,7 @@ fn put_actor(out: &mut LineWriter, machine: &Machine, actor: Actor) -> Result<()
 }
 
 /// Writes which task or interrupt line it is.
+#[inline(always)]
 fn put_script(out: &mut LineWriter, machine: &Machine, index: u32) -> Result<(), Mem>
     ensures { OnOk result (out.new ≡ out.old ++ script_text (slice_get machine.now.actors index)) }
 {

@@ -8,11 +8,15 @@ use sleep_base::Mem;
 use sleep_model::{Entry, EventNow, Log, LogEnd, Machine, Stats, Waiting};
 use std::alloc::Global;
 
+/// How many bytes the line of an entry usually has, at most.
+const USUAL_LINE: usize = 48;
+
 /// The text of the log that this machine made.
 pub fn write_log(alloc: Global, machine: &Machine, log: &Log) -> Result<Vec<u8>, Mem>
     ensures { IfOk result (λ v. v.items ≡ text machine.now log.now) }
 {
-    let mut out = LineWriter::new(alloc);
+    let room = log.entries.len().saturating_mul(USUAL_LINE);
+    let mut out = LineWriter::with_room(alloc, room)?;
     put_entries(&mut out, machine, log.entries.as_slice())?;
     put_sources(&mut out, machine, log.stats.as_slice())?;
     put_end(&mut out, machine, &log.end)?;

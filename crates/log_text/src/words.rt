@@ -9,7 +9,7 @@ use sleep_model::{EventNow, Group, Phase, PlatDo, PlatUndo, SkipCause, State, Ta
 impl Spelled for Errno {
     ghost spelling = { name_of };
 
-    #[inline]
+    #[inline(always)]
     fn write_to(self, out: &mut LineWriter) -> Result<(), Mem> {
         out.push_text(self.name())
     }
@@ -18,7 +18,7 @@ impl Spelled for Errno {
 impl Spelled for Option<Errno> {
     ghost spelling = { answer_text };
 
-    #[inline]
+    #[inline(always)]
     fn write_to(self, out: &mut LineWriter) -> Result<(), Mem> {
         match self {
             None => out.push_text("0"),
@@ -30,7 +30,7 @@ impl Spelled for Option<Errno> {
 impl Spelled for Phase {
     ghost spelling = { phase_name };
 
-    #[inline]
+    #[inline(always)]
     fn write_to(self, out: &mut LineWriter) -> Result<(), Mem> {
         out.push_text(self.name())
     }
@@ -39,7 +39,7 @@ impl Spelled for Phase {
 impl Spelled for SkipCause {
     ghost spelling = { cause_text };
 
-    #[inline]
+    #[inline(always)]
     fn write_to(self, out: &mut LineWriter) -> Result<(), Mem> {
         out.push_text(match self {
             SkipCause::Error => "error",
@@ -52,7 +52,7 @@ impl Spelled for SkipCause {
 impl Spelled for State {
     ghost spelling = { state_word };
 
-    #[inline]
+    #[inline(always)]
     fn write_to(self, out: &mut LineWriter) -> Result<(), Mem> {
         out.push_text(match self {
             State::Mem => "mem",
@@ -64,7 +64,7 @@ impl Spelled for State {
 impl Spelled for Group {
     ghost spelling = { group_word };
 
-    #[inline]
+    #[inline(always)]
     fn write_to(self, out: &mut LineWriter) -> Result<(), Mem> {
         out.push_text(match self {
             Group::User => "user",
@@ -76,7 +76,7 @@ impl Spelled for Group {
 impl Spelled for PlatDo {
     ghost spelling = { down_word };
 
-    #[inline]
+    #[inline(always)]
     fn write_to(self, out: &mut LineWriter) -> Result<(), Mem> {
         out.push_text(match self {
             PlatDo::Begin => "begin",
@@ -89,7 +89,7 @@ impl Spelled for PlatDo {
 impl Spelled for PlatUndo {
     ghost spelling = { up_word };
 
-    #[inline]
+    #[inline(always)]
     fn write_to(self, out: &mut LineWriter) -> Result<(), Mem> {
         out.push_text(match self {
             PlatUndo::Recover => "recover",
@@ -104,7 +104,7 @@ impl Spelled for PlatUndo {
 impl Spelled for TaskKind {
     ghost spelling = { script_word };
 
-    #[inline]
+    #[inline(always)]
     fn write_to(self, out: &mut LineWriter) -> Result<(), Mem> {
         out.push_text(match self {
             TaskKind::Irq => "irq:",
@@ -116,7 +116,7 @@ impl Spelled for TaskKind {
 impl Spelled for EventNow {
     ghost spelling = { word_text };
 
-    #[inline]
+    #[inline(always)]
     fn write_to(self, out: &mut LineWriter) -> Result<(), Mem> {
         put!(out; self.inpr, "/", self.count, "/", self.hard)
     }

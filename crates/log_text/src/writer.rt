@@ -20,15 +20,14 @@ impl Model for LineWriter {
 }
 
 impl LineWriter {
-    ghost use Rattle.std.specs.Prelude.{◌≡◌, ◌++◌, [], OnOk};
+    ghost use Rattle.std.specs.Prelude.{◌≡◌, ◌++◌, [], OnOk, IfOk};
 
-    /// A writer that has written nothing.
-    pub fn new(alloc: Global) -> Self
-        ensures { result ≡ [] }
+    /// A writer that has written nothing, with room for so many bytes.
+    pub fn with_room(alloc: Global, room: usize) -> Result<Self, Mem>
+        ensures { IfOk result (λ w. w ≡ []) }
     {
-        LineWriter {
-            bytes: Vec::new(alloc),
-        }
+        let bytes = Vec::with_capacity(alloc, room)?;
+        Ok(LineWriter { bytes })
     }
 
     /// All that was written.

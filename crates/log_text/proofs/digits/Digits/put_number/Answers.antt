@@ -1,5 +1,5 @@
 -- The digits fit before the text, since a number has at most 20.
-use Rattle.std.proofs.Common.{arith, length, length-drop, length-append, ℕ, ◌≡◌, ◌≤◌, ◌+◌, ◌-◌, ◌∙◌, sym, ap, drop, ◌++◌, decimal}
+use Rattle.std.proofs.Common.{arith, length, length-drop, length-append, ◌≡◌, ◌≤◌, ◌-◌, ◌∙◌, sym, ap, drop, decimal}
 use Rattle.log_text.proofs.Decimals.{decimal_short}
 use Rattle.log_text.proofs.digits.Digits.put_number.Goals as goal
 
