@@ -2,6 +2,8 @@
 #![tactic(auto)]
 
 mod body;
+mod digits;
+mod front;
 mod line;
 mod log;
 mod names;

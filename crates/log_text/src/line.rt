@@ -2,12 +2,14 @@ ghost use Rattle.std.specs.Prelude.{◌≡◌, ◌++◌, OnOk, slice_get};
 ghost use Rattle.sleep_model.specs.Text.{actor_text, script_text, waiting_text, entry_line, source_line, counts_text, times_text, waiting_line};
 
 use crate::body::put_body;
+use crate::front::LineFront;
 use crate::names::{device_name, mark_name, source_name};
 use crate::writer::{LineWriter, Spelled, put};
 use sleep_base::Mem;
 use sleep_model::{Actor, Entry, Machine, Stats, Waiting, Why};
 
 /// Writes who makes an entry.
+#[inline(always)]
 fn put_actor(out: &mut LineWriter, machine: &Machine, actor: Actor) -> Result<(), Mem>
     ensures { OnOk result (out.new ≡ out.old ++ actor_text machine.now actor) }
 {
@@ -21,6 +23,7 @@ fn put_actor(out: &mut LineWriter, machine: &Machine, actor: Actor) -> Result<()
 }
 
 /// Writes which task or interrupt line it is.
+#[inline(always)]
 fn put_script(out: &mut LineWriter, machine: &Machine, index: u32) -> Result<(), Mem>
     ensures { OnOk result (out.new ≡ out.old ++ script_text (slice_get machine.now.actors index)) }
 {
@@ -30,11 +33,18 @@ fn put_script(out: &mut LineWriter, machine: &Machine, index: u32) -> Result<(),
     }
 }
 
-/// Writes the line of an entry.
-pub fn put_entry(out: &mut LineWriter, machine: &Machine, entry: Entry) -> Result<(), Mem>
+/// Writes the line of an entry, whose front is given.
+pub fn put_entry(
+    out: &mut LineWriter,
+    machine: &Machine,
+    front: &LineFront,
+    entry: Entry,
+) -> Result<(), Mem>
+    requires time { front.now.time ≡ entry.time }
+    requires word { front.now.word ≡ entry.now }
     ensures { OnOk result (out.new ≡ out.old ++ entry_line machine.now entry) }
 {
-    put!(out; entry.time, " ", entry.now, " ")?;
+    put!(out; front.text())?;
     put_actor(out, machine, entry.actor)?;
     put!(out; " ")?;
     put_body(out, machine, entry.kind)?;

@@ -1,17 +1,22 @@
 ghost use Rattle.std.specs.Prelude.{◌≡◌, ◌++◌, OnOk, IfOk, flat_map};
 ghost use Rattle.sleep_model.specs.Text.{entry_line, source_lines, source_names, end_text, waiting_line, text};
 
+use crate::front::LineFront;
 use crate::line::{put_entry, put_source, put_waiting};
 use crate::writer::{LineWriter, Spelled, put};
 use sleep_base::Mem;
-use sleep_model::{Entry, Log, LogEnd, Machine, Stats, Waiting};
+use sleep_model::{Entry, EventNow, Log, LogEnd, Machine, Stats, Waiting};
 use std::alloc::Global;
+
+/// How many bytes the line of an entry usually has, at most.
+const USUAL_LINE: usize = 48;
 
 /// The text of the log that this machine made.
 pub fn write_log(alloc: Global, machine: &Machine, log: &Log) -> Result<Vec<u8>, Mem>
     ensures { IfOk result (λ v. v.items ≡ text machine.now log.now) }
 {
-    let mut out = LineWriter::new(alloc);
+    let room = log.entries.len().saturating_mul(USUAL_LINE);
+    let mut out = LineWriter::with_room(alloc, room)?;
     put_entries(&mut out, machine, log.entries.as_slice())?;
     put_sources(&mut out, machine, log.stats.as_slice())?;
     put_end(&mut out, machine, &log.end)?;
@@ -22,8 +27,17 @@ pub fn write_log(alloc: Global, machine: &Machine, log: &Log) -> Result<Vec<u8>,
 fn put_entries(out: &mut LineWriter, machine: &Machine, entries: &[Entry]) -> Result<(), Mem>
     ensures { OnOk result (out.new ≡ out.old ++ flat_map (entry_line machine.now) entries.now) }
 {
+    let mut front = LineFront::of(
+        0,
+        EventNow {
+            inpr: 0,
+            count: 0,
+            hard: 0,
+        },
+    );
     for entry in entries {
-        put_entry(out, machine, *entry)?;
+        front.move_to(entry.time, entry.now);
+        put_entry(out, machine, &front, *entry)?;
     }
     Ok(())
 }

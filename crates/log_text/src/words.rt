@@ -9,6 +9,7 @@ use sleep_model::{EventNow, Group, Phase, PlatDo, PlatUndo, SkipCause, State, Ta
 impl Spelled for Errno {
     ghost spelling = { name_of };
 
+    #[inline(always)]
     fn write_to(self, out: &mut LineWriter) -> Result<(), Mem> {
         out.push_text(self.name())
     }
@@ -17,6 +18,7 @@ impl Spelled for Errno {
 impl Spelled for Option<Errno> {
     ghost spelling = { answer_text };
 
+    #[inline(always)]
     fn write_to(self, out: &mut LineWriter) -> Result<(), Mem> {
         match self {
             None => out.push_text("0"),
@@ -28,6 +30,7 @@ impl Spelled for Option<Errno> {
 impl Spelled for Phase {
     ghost spelling = { phase_name };
 
+    #[inline(always)]
     fn write_to(self, out: &mut LineWriter) -> Result<(), Mem> {
         out.push_text(self.name())
     }
@@ -36,6 +39,7 @@ impl Spelled for Phase {
 impl Spelled for SkipCause {
     ghost spelling = { cause_text };
 
+    #[inline(always)]
     fn write_to(self, out: &mut LineWriter) -> Result<(), Mem> {
         out.push_text(match self {
             SkipCause::Error => "error",
@@ -48,6 +52,7 @@ impl Spelled for SkipCause {
 impl Spelled for State {
     ghost spelling = { state_word };
 
+    #[inline(always)]
     fn write_to(self, out: &mut LineWriter) -> Result<(), Mem> {
         out.push_text(match self {
             State::Mem => "mem",
@@ -59,6 +64,7 @@ impl Spelled for State {
 impl Spelled for Group {
     ghost spelling = { group_word };
 
+    #[inline(always)]
     fn write_to(self, out: &mut LineWriter) -> Result<(), Mem> {
         out.push_text(match self {
             Group::User => "user",
@@ -70,6 +76,7 @@ impl Spelled for Group {
 impl Spelled for PlatDo {
     ghost spelling = { down_word };
 
+    #[inline(always)]
     fn write_to(self, out: &mut LineWriter) -> Result<(), Mem> {
         out.push_text(match self {
             PlatDo::Begin => "begin",
@@ -82,6 +89,7 @@ impl Spelled for PlatDo {
 impl Spelled for PlatUndo {
     ghost spelling = { up_word };
 
+    #[inline(always)]
     fn write_to(self, out: &mut LineWriter) -> Result<(), Mem> {
         out.push_text(match self {
             PlatUndo::Recover => "recover",
@@ -96,6 +104,7 @@ impl Spelled for PlatUndo {
 impl Spelled for TaskKind {
     ghost spelling = { script_word };
 
+    #[inline(always)]
     fn write_to(self, out: &mut LineWriter) -> Result<(), Mem> {
         out.push_text(match self {
             TaskKind::Irq => "irq:",
@@ -107,6 +116,7 @@ impl Spelled for TaskKind {
 impl Spelled for EventNow {
     ghost spelling = { word_text };
 
+    #[inline(always)]
     fn write_to(self, out: &mut LineWriter) -> Result<(), Mem> {
         put!(out; self.inpr, "/", self.count, "/", self.hard)
     }

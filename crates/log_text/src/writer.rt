@@ -20,15 +20,14 @@ impl Model for LineWriter {
 }
 
 impl LineWriter {
-    ghost use Rattle.std.specs.Prelude.{◌≡◌, ◌++◌, [], OnOk};
+    ghost use Rattle.std.specs.Prelude.{◌≡◌, ◌++◌, [], OnOk, IfOk};
 
-    /// A writer that has written nothing.
-    pub fn new(alloc: Global) -> Self
-        ensures { result ≡ [] }
+    /// A writer that has written nothing, with room for so many bytes.
+    pub fn with_room(alloc: Global, room: usize) -> Result<Self, Mem>
+        ensures { IfOk result (λ w. w ≡ []) }
     {
-        LineWriter {
-            bytes: Vec::new(alloc),
-        }
+        let bytes = Vec::with_capacity(alloc, room)?;
+        Ok(LineWriter { bytes })
     }
 
     /// All that was written.
@@ -40,6 +39,7 @@ impl LineWriter {
     }
 
     /// Writes these bytes.
+    #[inline(always)]
     pub fn push_bytes(&mut self, bytes: &[u8]) -> Result<(), Mem>
         ensures { OnOk result (self.new ≡ self.old ++ bytes.now) }
     {
@@ -48,6 +48,7 @@ impl LineWriter {
     }
 
     /// Writes this text.
+    #[inline(always)]
     pub fn push_text(&mut self, text: &str) -> Result<(), Mem>
         ensures { OnOk result (self.new ≡ self.old ++ text.now) }
     {
@@ -55,7 +56,21 @@ impl LineWriter {
     }
 
     /// Writes the number in decimal.
+    #[inline]
+    #[tactic(auto, using(std::proofs::lemmas::Fmt::decimal_digit))]
     pub fn push_number(&mut self, number: u64) -> Result<(), Mem>
+        ensures { OnOk result (self.new ≡ self.old ++ decimal number) }
+    {
+        // Most numbers of a log have one digit.
+        if number < 10 {
+            self.bytes.push(b'0' + number as u8)?;
+            return Ok(());
+        }
+        self.push_digits(number)
+    }
+
+    /// Writes the number in decimal, also where it is long.
+    fn push_digits(&mut self, number: u64) -> Result<(), Mem>
         ensures { OnOk result (self.new ≡ self.old ++ decimal number) }
     {
         let mut digits = Buffer::new();
@@ -77,6 +92,7 @@ pub trait Spelled {
 impl Spelled for &str {
     ghost spelling = { λ text. text.now };
 
+    #[inline(always)]
     fn write_to(self, out: &mut LineWriter) -> Result<(), Mem> {
         out.push_text(self)
     }
@@ -85,6 +101,7 @@ impl Spelled for &str {
 impl Spelled for &[u8] {
     ghost spelling = { λ bytes. bytes.now };
 
+    #[inline(always)]
     fn write_to(self, out: &mut LineWriter) -> Result<(), Mem> {
         out.push_bytes(self)
     }
@@ -93,6 +110,7 @@ impl Spelled for &[u8] {
 impl Spelled for u32 {
     ghost spelling = { decimal };
 
+    #[inline(always)]
     fn write_to(self, out: &mut LineWriter) -> Result<(), Mem> {
         out.push_number(u64::from(self))
     }
@@ -101,6 +119,7 @@ impl Spelled for u32 {
 impl Spelled for u64 {
     ghost spelling = { decimal };
 
+    #[inline(always)]
     fn write_to(self, out: &mut LineWriter) -> Result<(), Mem> {
         out.push_number(self)
     }

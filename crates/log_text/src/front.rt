@@ -1,0 +1,64 @@
+ghost use Rattle.std.specs.Prelude.{◌≡◌};
+ghost use Rattle.log_text.specs.Front.{front_text};
+
+use crate::digits::Digits;
+use sleep_model::EventNow;
+
+/// The front of an entry's line, its moment and the word, kept since lines in a row often share it.
+#[derive(Drop)]
+pub struct LineFront {
+    time: u64,
+    word: EventNow,
+    text: Digits,
+    ghost spelled: { text ≡ front_text time word },
+}
+
+impl LineFront {
+    /// The front of lines at that moment, in ms, with that word.
+    pub fn of(time: u64, word: EventNow) -> Self
+        ensures time { result.time ≡ time }
+        ensures word { result.word ≡ word }
+    {
+        LineFront {
+            time,
+            word,
+            text: spell(time, word),
+        }
+    }
+
+    /// Goes on to that moment, in ms, and that word.
+    #[inline(always)]
+    pub fn move_to(&mut self, time: u64, word: EventNow)
+        ensures time { self.new.time ≡ time }
+        ensures word { self.new.word ≡ word }
+    {
+        if self.time != time || self.word != word {
+            *self = LineFront::of(time, word);
+        }
+    }
+
+    /// Its text.
+    #[inline(always)]
+    pub fn text(&self) -> &[u8]
+        ensures { result.now ≡ front_text self.now.time self.now.word }
+    {
+        self.text.as_bytes()
+    }
+}
+
+/// Spells the moment and the word, each with the space behind it.
+#[tactic(auto, using(std::proofs::Common::append_assoc))]
+fn spell(time: u64, word: EventNow) -> Digits
+    ensures { result ≡ front_text time word }
+{
+    let mut text = Digits::new();
+    text.put(b' ');
+    text.put_number(u64::from(word.hard));
+    text.put(b'/');
+    text.put_number(u64::from(word.count));
+    text.put(b'/');
+    text.put_number(u64::from(word.inpr));
+    text.put(b' ');
+    text.put_number(time);
+    text
+}
