@@ -1,9 +1,12 @@
-ghost use Rattle.std.specs.Prelude.{◌≡◌, ◌+◌, true, None};
+ghost use Rattle.std.specs.Prelude.{◌≡◌, ◌+◌, true, [], None, IfOk};
 ghost use Rattle.sleep_model.specs.Word.{position};
+ghost use Rattle.event_word.specs.Seats.{made_of};
 
 use super::*;
-use event_word::{Bump, Events, PlainEvents};
+use event_word::{Bump, EventSeat, EventTable, Events, PlainEvents};
+use sleep_base::Mem;
 use sleep_model::{Actor, EventNow, Name, Stamp, Stats};
+use std::alloc::Global;
 use std::sync::Wait;
 use std::test::Fail;
 
@@ -194,6 +197,46 @@ fn each_entry_bears_the_word_before_it(rt: HostRuntime) -> Result<(), Fail> {
         seen.as_slice(),
         [FIRST, FIRST, word(1, 0), word(1, 1)].as_slice()
     );
+    Ok(())
+}
+
+/// A table of the event word with two sources, and their seats.
+fn two_seats(alloc: Global) -> Result<(EventTable, EventSeat, EventSeat), Mem>
+    ensures first { IfOk result (λ made. (made.1.token.table_id ≡ made.0.desk.shared.table_id) × (made_of made.1.token ≡ [])) }
+    ensures second { IfOk result (λ made. (made.2.token.table_id ≡ made.0.desk.shared.table_id) × (made_of made.2.token ≡ [])) }
+{
+    let (table, mut seats, _look) = EventTable::new(alloc, 2)?;
+    let Some(second) = seats.pop() else {
+        return Err(Mem);
+    };
+    let Some(first) = seats.pop() else {
+        return Err(Mem);
+    };
+    Ok((table, first, second))
+}
+
+/// The same hard event over a seat at the table of the event word. Another source then begins at 0/1/1, position 3.
+#[test]
+fn two_sources_share_the_table(rt: HostRuntime) -> Result<(), Fail> {
+    let (table, first, second) = two_seats(rt.alloc())?;
+    let mut first = first.on(&table);
+    let mut second = second.on(&table);
+    let mut lid = WakeSource::<60000>::new(rt.alloc(), 0);
+    let end = lid.event(&rt, &mut first, at(0), 0, true)?;
+    assert_eq!(rt; end, Stamp { pos: 3, tick: 4 });
+    let mut seen = Vec::new(rt.alloc());
+    for entry in lid.history() {
+        seen.push(entry.entry.now)?;
+    }
+    assert_eq!(rt;
+        seen.as_slice(),
+        [FIRST, FIRST, word(1, 0), word(1, 1)].as_slice()
+    );
+    let mut key = WakeSource::<60000>::new(rt.alloc(), 1);
+    let end = key.stay_awake(&rt, &mut second, at(7))?;
+    assert_eq!(rt; end, Stamp { pos: 4, tick: 2 });
+    let now = first.look();
+    assert_eq!(rt; (now.inpr, now.count, now.hard), (1, 1, 1));
     Ok(())
 }
 
