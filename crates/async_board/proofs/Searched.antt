@@ -1,7 +1,9 @@
 -- Searches in rows that have each device once, and rows in which none is found.
 use Rattle.std.proofs.Common.{◌≡◌, ◌<◌, ◌∙◌, ℕ, zero, suc, Bool, true, false, not, ◌==◌, ◌&&◌, List, [], ◌∷◌, length, filter, get_or, cond, Option, Some, None, refl, sym, ap, arith}
+use Rattle.std.specs.Prelude.{is_none}
 use Rattle.std.specs.List.{find, list_all}
 use Rattle.std.proofs.lemmas.Bool.{eqb-true}
+use Rattle.std.proofs.Math.Dec.{eqb-suc-zero}
 use Rattle.sleep_model.specs.declared.machine.Link.{Link}
 use Rattle.sleep_model.specs.declared.place.Stand.{Stand}
 use Rattle.sleep_model.specs.Links.{first_places}
@@ -80,3 +82,16 @@ below_none ps ls stands counts d h z = none_counted (length ps) (λ e. is_unsett
 pub above_none : (ps : List (Option ℕ)) (ls : List Link) (stands : List Stand) (counts : List ℕ) (d : ℕ) → IsAbove ps ls stands counts → (get_or counts d 1 == 0) ≡ true
     → first_where (λ e. is_low (stand_at stands e)) (holding ps ls d) ≡ None
 above_none ps ls stands counts d h z = none_counted (length ps) (λ e. is_low (stand_at stands e)) (holding ps ls) counts d h z
+
+-- none passes exactly where none is found
+none_or_found : (p : ℕ → Bool) (xs : List ℕ) → (length (filter p xs) == 0) ≡ is_none (first_where p xs)
+none_or_found p [] = refl
+none_or_found p (x ∷ xs) = by_test (none_or_found p xs) (p x) refl
+  where
+    by_test : (length (filter p xs) == 0) ≡ is_none (first_where p xs) → (b : Bool) → p x ≡ b → (length (cond b (x ∷ filter p xs) (filter p xs)) == 0) ≡ is_none (cond b (Some x) (first_where p xs))
+    by_test rest true e = eqb-suc-zero (length (filter p xs))
+    by_test rest false e = rest
+
+-- none of the row that has each once passes exactly where none is found
+pub free : (p : ℕ → Bool) (xs : List ℕ) → (length (filter p (first_places xs)) == 0) ≡ is_none (first_where p xs)
+free p xs = none_or_found p (first_places xs) ∙ ap is_none (first_once p xs)

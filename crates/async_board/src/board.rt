@@ -57,7 +57,7 @@ fn move_in(walk: &mut Walk, layout: &Layout, p: Phase, kind: Kind, device: u32)
 }
 
 impl Board {
-    ghost use Rattle.std.specs.Prelude.{◌≡◌, ◌<◌, IfOk, length};
+    ghost use Rattle.std.specs.Prelude.{◌≡◌, ◌<◌, IfOk, is_none, length};
     ghost use Rattle.async_board.specs.Boards.{first_board, board_after, stands_on, order_on, next_prepared_on, next_completed_on, next_down_on, waits_down_on, next_given_on, next_up_on, waits_up_on, waits_below_on, waits_above_on, open_below_on, open_above_on, all_left_alone_on, work_on};
 
     /// A board over these links, on which no device is prepared; `beside` says for each device
@@ -229,6 +229,34 @@ impl Board {
             None
         } else {
             first_low(&walk.stands, &self.layout.links, device)
+        }
+    }
+
+    /// Whether no device right below one is left that is not through with a phase on the way down. It is
+    /// counted already.
+    #[tactic(auto, using(crate::proofs::Searched::free))]
+    pub fn is_free_below(&self, p: Phase, device: u32) -> bool
+        ensures { result ≡ is_none (waits_below_on self.now p device) }
+    {
+        let walk = self.walk(p);
+        if (device as usize) < walk.open_below.len() {
+            self.open_below(p, device) == 0
+        } else {
+            first_unsettled(&walk.stands, &self.layout.links, device).is_none()
+        }
+    }
+
+    /// Whether no device right above one is left that went down in a phase and is not yet up. It is
+    /// counted already.
+    #[tactic(auto, using(crate::proofs::Searched::free))]
+    pub fn is_free_above(&self, p: Phase, device: u32) -> bool
+        ensures { result ≡ is_none (waits_above_on self.now p device) }
+    {
+        let walk = self.walk(p);
+        if (device as usize) < walk.open_above.len() {
+            self.open_above(p, device) == 0
+        } else {
+            first_low(&walk.stands, &self.layout.links, device).is_none()
         }
     }
 

@@ -1,6 +1,6 @@
 //! What a run asks of the core between turns: jumps of time, calls that are due, and whether all is over.
 
-ghost use Rattle.std.specs.Prelude.{◌≡◌, ◌≤◌, ◌<◌, ◌+◌, ◌-◌, ◌^◌, ◌||◌, nat_lt, length, reverse, IfOk, OnErr};
+ghost use Rattle.std.specs.Prelude.{◌≡◌, ◌≤◌, ◌<◌, ◌+◌, ◌-◌, ◌^◌, ◌||◌, nat_lt, is_none, length, reverse, IfOk, OnErr};
 ghost use Rattle.sleep_model.specs.Calls.{calls_due, pieces_in};
 ghost use Rattle.sleep_model.specs.Due.{due, is_over};
 ghost use Rattle.sleep_model.specs.Legal.{JournalPart, is_made};
@@ -119,16 +119,16 @@ impl<'m> Core<'m> {
         self.history.board().links().above(device)
     }
 
-    /// The first device that a device waits for in a phase: right below it on the way down
-    /// (`dpm_wait_for_subordinate`), right above it on the way up (`dpm_wait_for_superior`).
-    pub fn waits_for(&self, phase: Phase, device: u32) -> Option<u32>
-        ensures { result ≡ waits_for_on (board_at self.now.machine (entries self.now.past)) phase device }
+    /// Whether a device waits for no other in a phase: for none right below it on the way down
+    /// (`dpm_wait_for_subordinate`), for none right above it on the way up (`dpm_wait_for_superior`).
+    pub fn is_free(&self, phase: Phase, device: u32) -> bool
+        ensures { result ≡ is_none (waits_for_on (board_at self.now.machine (entries self.now.past)) phase device) }
     {
         let board = self.board();
         if phase.is_down() {
-            board.waits_below(phase, device)
+            board.is_free_below(phase, device)
         } else {
-            board.waits_above(phase.mirror(), device)
+            board.is_free_above(phase.mirror(), device)
         }
     }
 

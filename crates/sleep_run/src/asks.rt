@@ -113,7 +113,7 @@ impl Asks {
     }
 
     /// Whether no number is in it.
-    fn is_empty(&self) -> bool {
+    pub(crate) fn is_empty(&self) -> bool {
         self.stretches.words.iter().all(|word| *word == 0)
     }
 

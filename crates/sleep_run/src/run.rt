@@ -154,13 +154,16 @@ fn stir_devices(core: &Core<'_>, waiters: &mut Waiters, kind: Kind) {
     let (Kind::End(phase, device, _) | Kind::Skip(phase, device, _)) = kind else {
         return;
     };
+    if waiters.are_in_step() {
+        return;
+    }
     let waiting = if phase.is_down() {
         core.above(device)
     } else {
         core.below(device)
     };
     for other in waiting {
-        if waiters.is_beside(*other) && core.waits_for(phase, *other).is_none() {
+        if waiters.is_beside(*other) && core.is_free(phase, *other) {
             waiters.stir_device(*other);
         }
     }

@@ -135,6 +135,11 @@ impl Waiters {
         self.timers = false;
     }
 
+    /// Whether no device is asynchronous.
+    pub(crate) fn are_in_step(&self) -> bool {
+        self.beside.is_empty()
+    }
+
     /// Whether the device is asynchronous.
     pub(crate) fn is_beside(&self, device: u32) -> bool {
         self.beside.has(device)
