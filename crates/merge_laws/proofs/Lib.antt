@@ -1,2 +1,6 @@
 pub mod Lists
 pub mod Picks
+pub mod Sourced
+pub mod Placing
+pub mod Calling
+pub mod Joint

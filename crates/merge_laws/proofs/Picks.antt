@@ -46,15 +46,15 @@ own_is_no_other s t OfTime n h = refl
 
 -- ---- the entries of all sources
 
-and_left : (s : ℕ) (h : List SourceEntry) (hs : List (List SourceEntry)) → are_of s (h ∷ hs) ≡ true → list_all (λ e. is_of s (part_of e.entry.kind)) h ≡ true
-and_left s h hs g = by (list_all (λ e. is_of s (part_of e.entry.kind)) h) (are_of (suc s) hs) g
+pub first_own : (s : ℕ) (h : List SourceEntry) (hs : List (List SourceEntry)) → are_of s (h ∷ hs) ≡ true → list_all (λ e. is_of s (part_of e.entry.kind)) h ≡ true
+first_own s h hs g = by (list_all (λ e. is_of s (part_of e.entry.kind)) h) (are_of (suc s) hs) g
   where
     by : (a b : Bool) → a && b ≡ true → a ≡ true
     by true b g = refl
     by false b g = g
 
-and_right : (s : ℕ) (h : List SourceEntry) (hs : List (List SourceEntry)) → are_of s (h ∷ hs) ≡ true → are_of (suc s) hs ≡ true
-and_right s h hs g = by (list_all (λ e. is_of s (part_of e.entry.kind)) h) (are_of (suc s) hs) g
+pub rest_own : (s : ℕ) (h : List SourceEntry) (hs : List (List SourceEntry)) → are_of s (h ∷ hs) ≡ true → are_of (suc s) hs ≡ true
+rest_own s h hs g = by (list_all (λ e. is_of s (part_of e.entry.kind)) h) (are_of (suc s) hs) g
   where
     by : (a b : Bool) → a && b ≡ true → b ≡ true
     by true b g = g
@@ -73,8 +73,8 @@ pub none_of_all : (q : Entry → Bool) (s : ℕ) (hs : List (List SourceEntry)) 
 none_of_all q s [] g f = refl
 none_of_all q s (h ∷ hs) g f =
     filter-append (λ e. q e.entry) (map of_source h) (sources_entries hs)
-    ∙ ap₂ (λ (x y : List JournalEntry). x ++ y) (none_of_one q s h (and_left s h hs g) (λ e i. f s e (omega arith) i))
-    (none_of_all q (suc s) hs (and_right s h hs g) (λ t e l i. f t e (omega arith) i))
+    ∙ ap₂ (λ (x y : List JournalEntry). x ++ y) (none_of_one q s h (first_own s h hs g) (λ e i. f s e (omega arith) i))
+    (none_of_all q (suc s) hs (rest_own s h hs g) (λ t e l i. f t e (omega arith) i))
 
 all_of_one : (s : ℕ) (h : List SourceEntry) → list_all (λ e. is_of s (part_of e.entry.kind)) h ≡ true
     → filter (λ e. is_of s (part_of e.entry.kind)) (map of_source h) ≡ map of_source h
@@ -87,16 +87,16 @@ one_of_all s zero (h ∷ hs) g =
     let here : s + 0 ≡ s = omega arith in
     ap (λ (t : ℕ). filter (λ e. is_of t (part_of e.entry.kind)) (sources_entries (h ∷ hs))) here
     ∙ filter-append (λ e. is_of s (part_of e.entry.kind)) (map of_source h) (sources_entries hs)
-    ∙ ap₂ (λ (x y : List JournalEntry). x ++ y) (all_of_one s h (and_left s h hs g))
-    (none_of_all (λ e. is_of s (part_of e.kind)) (suc s) hs (and_right s h hs g) (λ t e l i. own_is_no_other t s (part_of e.kind) (omega arith) i))
+    ∙ ap₂ (λ (x y : List JournalEntry). x ++ y) (all_of_one s h (first_own s h hs g))
+    (none_of_all (λ e. is_of s (part_of e.kind)) (suc s) hs (rest_own s h hs g) (λ t e l i. own_is_no_other t s (part_of e.kind) (omega arith) i))
     ∙ append-nil (map of_source h)
 one_of_all s (suc k) (h ∷ hs) g =
     let there : s + suc k ≡ suc s + k = omega arith in
     ap (λ (t : ℕ). filter (λ e. is_of t (part_of e.entry.kind)) (sources_entries (h ∷ hs))) there
     ∙ filter-append (λ e. is_of (suc s + k) (part_of e.entry.kind)) (map of_source h) (sources_entries hs)
     ∙ ap₂ (λ (x y : List JournalEntry). x ++ y)
-    (none_of_one (λ e. is_of (suc s + k) (part_of e.kind)) s h (and_left s h hs g) (λ e i. own_is_no_other s (suc s + k) (part_of e.kind) (omega arith) i))
-    (one_of_all (suc s) k hs (and_right s h hs g))
+    (none_of_one (λ e. is_of (suc s + k) (part_of e.kind)) s h (first_own s h hs g) (λ e i. own_is_no_other s (suc s + k) (part_of e.kind) (omega arith) i))
+    (one_of_all (suc s) k hs (rest_own s h hs g))
 
 history_rises : (hs : List (List SourceEntry)) (k : ℕ) → list_all (λ h. rises (map of_source h)) hs ≡ true → rises (map of_source (get_or hs k [])) ≡ true
 history_rises [] k g = refl
