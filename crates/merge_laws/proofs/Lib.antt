@@ -4,3 +4,5 @@ pub mod Sourced
 pub mod Placing
 pub mod Calling
 pub mod Joint
+pub mod Whole
+pub mod Chained

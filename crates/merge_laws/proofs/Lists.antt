@@ -10,7 +10,7 @@ use Rattle.log_merge.proofs.Reading.{in_order_from, rising_in_order}
 
 -- ---- the order
 
-low_filter : (p : JournalEntry → Bool) (x : JournalEntry) (ys : List JournalEntry) → Low stands_before x ys → Low stands_before x (filter p ys)
+pub low_filter : (p : JournalEntry → Bool) (x : JournalEntry) (ys : List JournalEntry) → Low stands_before x ys → Low stands_before x (filter p ys)
 low_filter p x [] h = tt
 low_filter p x (y ∷ ys) h = by (p y) (low_filter p x ys h.1)
   where
@@ -102,7 +102,7 @@ both_right : (a b : Bool) → a && b ≡ true → b ≡ true
 both_right true b h = h
 both_right false b h = absurd (cc)
 
-both : (a b : Bool) → a ≡ true → b ≡ true → a && b ≡ true
+pub both : (a b : Bool) → a ≡ true → b ≡ true → a && b ≡ true
 both a b p q = rw (p, q) refl
 
 pub all_head : {A : Type 0} (q : A → Bool) (x : A) (xs : List A) → list_all q (x ∷ xs) ≡ true → q x ≡ true

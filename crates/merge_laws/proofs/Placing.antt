@@ -14,11 +14,11 @@ use Rattle.sleep_model.specs.Parts.{Part, OfJournal, Notes, Moves, OfTime, part_
 use Rattle.sleep_model.specs.Word.{position}
 use Rattle.merge_laws.specs.Apart.{past_of}
 
-both_left : (a b : Bool) → a && b ≡ true → a ≡ true
+pub both_left : (a b : Bool) → a && b ≡ true → a ≡ true
 both_left true b h = refl
 both_left false b h = h
 
-both_right : (a b : Bool) → a && b ≡ true → b ≡ true
+pub both_right : (a b : Bool) → a && b ≡ true → b ≡ true
 both_right true b h = h
 both_right false b h = absurd (cc)
 
@@ -29,10 +29,10 @@ abbrev pub Numbered : List Entry → Type 0
 Numbered [] = Unit {0}
 Numbered (e ∷ past) = (e.now ≡ numbers past) × Numbered past
 
-number_is : (a b : ℕ) → (a == b) ≡ true → a ≡ b
+pub number_is : (a b : ℕ) → (a == b) ≡ true → a ≡ b
 number_is a b h = grind (arith, nat_tests)
 
-word_is : (a b : EventNow) → is_word a b ≡ true → a ≡ b
+pub word_is : (a b : EventNow) → is_word a b ≡ true → a ≡ b
 word_is a b h =
     let inpr : a.inpr ≡ b.inpr = number_is a.inpr b.inpr (both_left (a.inpr == b.inpr) (a.count == b.count) (both_left ((a.inpr == b.inpr) && (a.count == b.count)) (a.hard == b.hard) h)) in
     let count : a.count ≡ b.count = number_is a.count b.count (both_right (a.inpr == b.inpr) (a.count == b.count) (both_left ((a.inpr == b.inpr) && (a.count == b.count)) (a.hard == b.hard) h)) in
@@ -67,7 +67,7 @@ jump_sets : (k : Kind) (time before : ℕ) → is_jump (part_of k) ≡ true → 
 jump_sets kind.Jump time before h = refl
 jump_sets k time before h = absurd (cc)
 
-other_keeps : (k : Kind) (time before : ℕ) → is_jump (part_of k) ≡ false → time_after k time before ≡ before
+pub other_keeps : (k : Kind) (time before : ℕ) → is_jump (part_of k) ≡ false → time_after k time before ≡ before
 other_keeps kind.Jump time before h = absurd (cc)
 other_keeps k time before h = refl
 

@@ -1,6 +1,7 @@
 //! The laws of the one log that a journal and the sources' histories merge to, from what each of them
-//! says by itself.
+//! says by itself (own: Linux keeps no such log).
 #![tactic(auto)]
 
-/// Nothing yet.
-pub fn nothing() {}
+mod laws;
+
+pub use laws::{merges_to_a_finished_log, merges_to_a_legal_log, merges_to_a_stuck_log};

@@ -1,0 +1,21 @@
+//! What the lists that several hands kept apart say of their one log. Each premise is of one list, of
+//! one actor or of one jump, as its keeper knows it.
+
+ghost use Rattle.merge_laws.specs.Merging.{MergesToFinished, MergesToLegal, MergesToStuck};
+
+/// Where the lists of journal and histories fit, the journal and each source are legal by themselves,
+/// each actor's entries are its steps, and at each jump nobody was enabled on what its maker held, the
+/// merge is a legal log.
+pub fn merges_to_a_legal_log()
+    ensures { MergesToLegal }
+{}
+
+/// Where the run is over by the journal, the histories and the last word, the merge is a finished log.
+pub fn merges_to_a_finished_log()
+    ensures { MergesToFinished }
+{}
+
+/// Where nobody goes on by them, the merge is a stuck log, which says for whom and why.
+pub fn merges_to_a_stuck_log()
+    ensures { MergesToStuck }
+{}
