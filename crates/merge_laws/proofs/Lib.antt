@@ -6,3 +6,4 @@ pub mod Calling
 pub mod Joint
 pub mod Whole
 pub mod Chained
+pub mod Timed

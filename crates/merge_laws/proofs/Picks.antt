@@ -105,14 +105,20 @@ history_rises (h ∷ hs) (suc k) g = history_rises hs k (all_tail (λ h. rises (
 
 -- ---- the parts of the merge
 
+-- the journal's entries among all are the journal
+pub journals_of_all : (entries : List JournalEntry) (hs : List (List SourceEntry)) → list_all is_journals entries ≡ true → are_of 0 hs ≡ true
+    → filter is_journals (all_entries entries hs) ≡ entries
+journals_of_all entries hs kept own =
+    filter-append is_journals entries (sources_entries hs)
+    ∙ ap₂ (λ (x y : List JournalEntry). x ++ y) (filter_all is_journals entries kept)
+    (none_of_all (λ e. is_kept (part_of e.kind)) 0 hs own (λ t e l i. own_is_none t (part_of e.kind) i)) ∙ append-nil entries
+
 -- the merge's journal is the journal
 pub journal_of_merge : (entries : List JournalEntry) (hs : List (List SourceEntry)) → list_all is_journals entries ≡ true → are_of 0 hs ≡ true → rises entries ≡ true
     → journal (past_of (stamped entries hs)) ≡ past_of entries
 journal_of_merge entries hs kept own up =
     picked (λ e. is_kept (part_of e.kind)) (all_entries entries hs)
-    ∙ ap (λ (l : List JournalEntry). past_of (in_order l)) (filter-append is_journals entries (sources_entries hs)
-    ∙ ap₂ (λ (x y : List JournalEntry). x ++ y) (filter_all is_journals entries kept)
-    (none_of_all (λ e. is_kept (part_of e.kind)) 0 hs own (λ t e l i. own_is_none t (part_of e.kind) i)) ∙ append-nil entries)
+    ∙ ap (λ (l : List JournalEntry). past_of (in_order l)) (journals_of_all entries hs kept own)
     ∙ ap past_of (order_rising entries up)
 
 -- and its history of a source that source's history

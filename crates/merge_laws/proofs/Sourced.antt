@@ -42,11 +42,11 @@ sources_from (e ∷ past) h = (here (part_of e.kind) refl, sources_from past (λ
 
 -- ---- their histories fit
 
-all_weaker : {A : Type 0} (p q : A → Bool) (xs : List A) → ((x : A) → p x ≡ true → q x ≡ true) → list_all p xs ≡ true → list_all q xs ≡ true
+pub all_weaker : {A : Type 0} (p q : A → Bool) (xs : List A) → ((x : A) → p x ≡ true → q x ≡ true) → list_all p xs ≡ true → list_all q xs ≡ true
 all_weaker p q [] f h = refl
 all_weaker p q (x ∷ xs) f h = all_more q x xs (f x (all_head p x xs h)) (all_weaker p q xs f (all_tail p x xs h))
 
-all_so : {A : Type 0} (q : A → Bool) (xs : List A) → ((x : A) → q x ≡ true) → list_all q xs ≡ true
+pub all_so : {A : Type 0} (q : A → Bool) (xs : List A) → ((x : A) → q x ≡ true) → list_all q xs ≡ true
 all_so q [] f = refl
 all_so q (x ∷ xs) f = all_more q x xs (f x) (all_so q xs f)
 
