@@ -7,3 +7,4 @@ pub mod Joint
 pub mod Whole
 pub mod Chained
 pub mod Timed
+pub mod Fits

@@ -58,9 +58,6 @@ word_steps (e ∷ past) = by (word_step e.kind) refl (word_steps past)
 -- ---- the whole
 
 module _ (m : Machine) (entries : List JournalEntry) (hs : List (List SourceEntry)) (lists : AreLists m entries hs) where
-  whole : List Entry
-  whole = past_of (stamped entries hs)
-
   journal_is : journal (past_of (stamped entries hs)) ≡ past_of entries
   journal_is = journal_of_merge entries hs lists.kept lists.own lists.fit.journal_rises
 

@@ -11,6 +11,7 @@ use Rattle.sleep_model.specs.Numbers.{after_step, word_step}
 use Rattle.sleep_model.specs.Parts.{part_of}
 use Rattle.sleep_model.specs.Sources.{most_entries}
 use Rattle.sleep_model.specs.Word.{position}
+use Rattle.merge_laws.specs.Merging.{AreLists}
 use Rattle.merge_laws.specs.Apart.{are_of, is_journals, own_entries, steps_of}
 
 -- ---- the word
@@ -89,3 +90,9 @@ pub record FitApart (m : Machine) (journal : List JournalEntry) (histories : Lis
   pub sides : list_all (λ e. list_all (stands_right e) (all_entries journal histories)) (all_entries journal histories)
     ≡ true
   pub times : list_all (has_time (all_entries journal histories)) (all_entries journal histories) ≡ true
+
+-- lists that fit by themselves fit together
+abbrev pub FitsTogether : Type 0
+FitsTogether =
+    (m : Machine) (journal : List JournalEntry) (histories : List (List SourceEntry)) → FitApart m journal histories
+    → AreLists m journal histories

@@ -1,7 +1,15 @@
 //! What the lists that several hands kept apart say of their one log. Each premise is of one list, of
 //! one actor or of one jump, as its keeper knows it.
 
+ghost use Rattle.merge_laws.specs.Fitting.{FitsTogether};
 ghost use Rattle.merge_laws.specs.Merging.{MergesToFinished, MergesToLegal, MergesToStuck};
+
+/// Lists fit together where each shows it by itself: each has its own entries alone and rises, and so
+/// do each actor's own; the steps on the word are counted and chained, each look is at a word that they
+/// leave, and each entry has its tick and its time to each jump.
+pub fn lists_fit_together()
+    ensures { FitsTogether }
+{}
 
 /// Where the lists of journal and histories fit, the journal and each source are legal by themselves,
 /// each actor's entries are its steps, and at each jump nobody was enabled on what its maker held, the

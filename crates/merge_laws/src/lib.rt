@@ -4,4 +4,4 @@
 
 mod laws;
 
-pub use laws::{merges_to_a_finished_log, merges_to_a_legal_log, merges_to_a_stuck_log};
+pub use laws::{lists_fit_together, merges_to_a_finished_log, merges_to_a_legal_log, merges_to_a_stuck_log};
