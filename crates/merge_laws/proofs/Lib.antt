@@ -8,3 +8,4 @@ pub mod Whole
 pub mod Chained
 pub mod Timed
 pub mod Fits
+pub mod Owned
