@@ -9,14 +9,16 @@ use Rattle.sleep_model.specs.Merge.{IsFit, actors_of, all_entries, entries_of, i
 use Rattle.sleep_model.specs.Parts.{Part, OfJournal, Notes, Moves, OfTime, part_of, is_kept}
 use Rattle.sleep_model.specs.Path.{is_same}
 use Rattle.log_merge.proofs.Sorts.{Up, up_in_order}
-use Rattle.merge_laws.specs.Apart.{are_of, is_journals, own_entries, steps_of}
-use Rattle.merge_laws.specs.Fitting.{FitApart, FitsTogether, are_raised, has_time, is_look, jumps, stands_right}
-use Rattle.merge_laws.specs.Merging.{AreLists}
+use Rattle.merge_laws.specs.Apart.{IsActor, are_of, calls_behind, is_journals, own_entries, past_of, steps_of}
+use Rattle.merge_laws.specs.Fitting.{FitApart, FitsTogether, KeptListsMerge, are_raised, has_time, is_look, jumps, stands_right}
+use Rattle.merge_laws.specs.Merging.{AreLegalApart, AreLists}
 use Rattle.merge_laws.proofs.Chained.{chained_all}
 use Rattle.merge_laws.proofs.Lists.{all_order, filter_order, order_rising}
+use Rattle.merge_laws.proofs.Owned.{own_lists}
 use Rattle.merge_laws.proofs.Picks.{journals_of_all}
 use Rattle.merge_laws.proofs.Sourced.{all_so, all_weaker}
 use Rattle.merge_laws.proofs.Timed.{timed_all}
+use Rattle.merge_laws.proofs.Whole.{merges_to_finished, merges_to_legal, merges_to_stuck}
 
 -- ---- an entry that passes, among entries in order
 
@@ -58,7 +60,7 @@ jumps_kept (x ∷ xs) = by (is_journals x) refl (jumps x) refl (jumps_kept xs)
 
 -- ---- the whole
 
-module _ (m : Machine) (journal : List JournalEntry) (hs : List (List SourceEntry)) (a : FitApart m journal hs) where
+module _ (m : Machine) (journal : List JournalEntry) (hs : List (List SourceEntry)) (own : Actor → List JournalEntry) (a : FitApart m journal hs own) where
   up : Up stands_before (in_order (all_entries journal hs))
   up = up_in_order (all_entries journal hs)
 
@@ -66,7 +68,7 @@ module _ (m : Machine) (journal : List JournalEntry) (hs : List (List SourceEntr
   jumps_are =
       jumps_kept (in_order (all_entries journal hs))
       ∙ ap (λ (l : List JournalEntry). filter jumps l) (filter_order is_journals (all_entries journal hs)
-      ∙ ap in_order (journals_of_all journal hs a.kept a.own) ∙ order_rising journal a.journal_rises)
+      ∙ ap in_order (journals_of_all journal hs a.kept a.sourced) ∙ order_rising journal a.journal_rises)
 
   has_sides : list_all (λ e. list_all (stands_right e) (in_order (all_entries journal hs))) (in_order (all_entries journal hs)) ≡ true
   has_sides =
@@ -85,7 +87,7 @@ module _ (m : Machine) (journal : List JournalEntry) (hs : List (List SourceEntr
     journal_rises = a.journal_rises;
     histories_rise = a.histories_rise;
     actors_rise = all_so (λ who. rises (entries_of who (stamped journal hs))) (actors_of m)
-      (λ who. ap rises (filter_order (λ e. is_same e.entry.actor who) (all_entries journal hs)) ∙ a.actors_rise who);
+      (λ who. ap rises (filter_order (λ e. is_same e.entry.actor who) (all_entries journal hs)) ∙ ap rises (own_lists m who (own who) journal hs a.count (a.actors who)) ∙ (a.actors who).rising);
     chained = chained_all (in_order (all_entries journal hs)) (steps_of journal hs) up (filter_order is_word_step (all_entries journal hs)) a.counted a.chained
       (all_order (is_look (steps_of journal hs)) (all_entries journal hs) a.looks);
     timed = timed_all (in_order (all_entries journal hs)) up (all_order (λ e. nat_lt 0 e.stamp.tick) (all_entries journal hs) a.ticks)
@@ -93,7 +95,25 @@ module _ (m : Machine) (journal : List JournalEntry) (hs : List (List SourceEntr
   }
 
   lists : AreLists m journal hs
-  lists = record { kept = a.kept; own = a.own; count = a.count; short = a.short; fit = is_fit }
+  lists = record { kept = a.kept; own = a.sourced; count = a.count; short = a.short; fit = is_fit }
 
 pub fits_together : FitsTogether
-fits_together m journal hs a = lists m journal hs a
+fits_together m journal hs own a = lists m journal hs own a
+
+-- ---- and merge
+
+kept_legal : (m : Machine) (journal : List JournalEntry) (hs : List (List SourceEntry)) (own : Actor → List JournalEntry) → FitApart m journal hs own
+    → AreLegalApart m journal hs own → AreLegalApart m journal hs (λ who. own_entries who journal hs)
+kept_legal m journal hs own a legal = record {
+  of_journal = legal.of_journal;
+  of_sources = legal.of_sources;
+  of_actors = λ who. subst (λ (l : List JournalEntry). IsActor who (λ k. calls_behind m who k (past_of journal)) (past_of l)) (sym (own_lists m who (own who) journal hs a.count (a.actors who))) (legal.of_actors who);
+  of_jumps = legal.of_jumps;
+}
+
+pub kept_merge : KeptListsMerge
+kept_merge m journal hs own log a legal is = (
+  merges_to_legal m journal hs log (fits_together m journal hs own a) (kept_legal m journal hs own a legal) is,
+  λ over. merges_to_finished m journal hs log (fits_together m journal hs own a) is over,
+  λ over. merges_to_stuck m journal hs log (fits_together m journal hs own a) is over,
+)

@@ -18,7 +18,6 @@ use Rattle.log_merge.specs.Rests.{sources_entries}
 use Rattle.log_merge.proofs.Orders.{log_order}
 use Rattle.log_merge.proofs.Sorts.{Low, Up, low_append}
 use Rattle.merge_laws.specs.Apart.{is_journals, own_entries}
-use Rattle.merge_laws.specs.Merging.{AreLists}
 use Rattle.merge_laws.specs.Owned.{IsOwnList, OwnListsAreOwnEntries}
 use Rattle.merge_laws.proofs.Lists.{all_head, all_tail, low_filter, put_front}
 use Rattle.merge_laws.proofs.Placing.{both_left, both_right}
@@ -197,9 +196,9 @@ own_sources who own i (history ∷ hs) h =
     (own_sources who own (suc i) hs (λ k. let there : suc i + k ≡ i + suc k = omega arith in ap (λ (j : ℕ). filter (λ e. is_of j (part_of e.entry.kind)) own) there ∙ h (suc k)))
 
 pub own_lists : OwnListsAreOwnEntries
-own_lists m who own journal hs lists is =
+own_lists m who own journal hs count is =
     ap in_order (filter-append (λ e. is_same e.entry.actor who) journal (sources_entries hs)
     ∙ ap₂ (λ (a b : List JournalEntry). a ++ b) (sym is.in_journal)
     (own_sources who own 0 hs (λ k. let start : 0 + k ≡ k = omega arith in ap (λ (j : ℕ). filter (λ e. is_of j (part_of e.entry.kind)) own) start ∙ is.in_histories k)
-    ∙ ap (λ (n : ℕ). sources_part 0 n own) lists.count))
+    ∙ ap (λ (n : ℕ). sources_part 0 n own) count))
     ∙ in_parts m own is.rising is.there

@@ -73,7 +73,7 @@ module _ (m : Machine) (entries : List JournalEntry) (hs : List (List SourceEntr
   own_is : (who : Actor) → own_of who (past_of (stamped entries hs)) ≡ past_of (own_entries who entries hs)
   own_is who = picked (λ e. is_same e.actor who) (all_entries entries hs)
 
-  legal : AreLegalApart m entries hs → IsLegal m (past_of (stamped entries hs))
+  legal : AreLegalApart m entries hs (λ who. own_entries who entries hs) → IsLegal m (past_of (stamped entries hs))
   legal apart =
       let there = all_there m entries hs lists.kept lists.own lists.count in
       let clock = timed_clock (stamped entries hs) lists.fit.timed in
@@ -102,7 +102,7 @@ module _ (m : Machine) (entries : List JournalEntry) (hs : List (List SourceEntr
     timeless = (λ i. next_time m (journal_is i) (histories_are i)) ∙ apart.timeless;
   }
 
-  merged_legal : (log : Log) → AreLegalApart m entries hs → IsMergeOf m entries hs log → IsLegalLog m log
+  merged_legal : (log : Log) → AreLegalApart m entries hs (λ who. own_entries who entries hs) → IsMergeOf m entries hs log → IsLegalLog m log
   merged_legal log apart is =
       let whole_is : past_of (stamped entries hs) ≡ reverse log.entries = ap (λ (l : List Entry). reverse l) (sym is.entries) in
       let stats : log.stats ≡ map (λ s. stats_at (history s (past_of (stamped entries hs))) (time_of (past_of (stamped entries hs)))) (range_with_len 0 (length m.sources + 1)) =

@@ -5,14 +5,17 @@ use Rattle.sleep_model.specs.declared.word.EventNow.{EventNow}
 use Rattle.sleep_model.specs.declared.entry.Actor.{Actor}
 use Rattle.sleep_model.specs.declared.entry.JournalEntry.{JournalEntry}
 use Rattle.sleep_model.specs.declared.entry.SourceEntry.{SourceEntry}
+use Rattle.sleep_model.specs.declared.log.Log.{Log}
 use Rattle.sleep_model.specs.declared.machine.Machine.{Machine}
+use Rattle.sleep_model.specs.Legal.{IsFinishedLog, IsLegalLog, IsStuckLog}
 use Rattle.sleep_model.specs.Merge.{all_entries, is_chained, is_jump, is_word, is_word_step, of_source, position_behind, rises}
 use Rattle.sleep_model.specs.Numbers.{after_step, word_step}
 use Rattle.sleep_model.specs.Parts.{part_of}
 use Rattle.sleep_model.specs.Sources.{most_entries}
 use Rattle.sleep_model.specs.Word.{position}
-use Rattle.merge_laws.specs.Merging.{AreLists}
-use Rattle.merge_laws.specs.Apart.{are_of, is_journals, own_entries, steps_of}
+use Rattle.merge_laws.specs.Apart.{are_of, is_journals, steps_of}
+use Rattle.merge_laws.specs.Merging.{AreLegalApart, AreLists, IsFinishedApart, IsMergeOf, IsStuckApart}
+use Rattle.merge_laws.specs.Owned.{IsOwnList}
 
 -- ---- the word
 
@@ -73,15 +76,17 @@ has_time entries e =
 
 -- ---- all of it
 
--- each list has its own entries alone and rises, so do each actor's own entries; the steps on the word are counted and chained, each look is at a word that they leave, and each entry has its tick and its time to each jump
-pub record FitApart (m : Machine) (journal : List JournalEntry) (histories : List (List SourceEntry)) : Type 0 where
+-- each list has its own entries alone and rises, and each actor has kept its own; the steps on the word are counted and chained, each look is at a word that they leave, and each entry has its tick and its time to each jump
+pub record FitApart
+    (m : Machine) (journal : List JournalEntry) (histories : List (List SourceEntry)) (own : Actor → List JournalEntry)
+  : Type 0 where
   pub kept : list_all is_journals journal ≡ true
-  pub own : are_of 0 histories ≡ true
+  pub sourced : are_of 0 histories ≡ true
   pub count : length histories ≡ length m.sources + 1
   pub short : list_all (λ history. nat_le (length history) most_entries) histories ≡ true
   pub journal_rises : rises journal ≡ true
   pub histories_rise : list_all (λ history. rises (map of_source history)) histories ≡ true
-  pub actors_rise : (who : Actor) → rises (own_entries who journal histories) ≡ true
+  pub actors : (who : Actor) → IsOwnList m who (own who) journal histories
   pub counted : are_counted 0 (steps_of journal histories) ≡ true
   pub chained : is_chained no_steps (steps_of journal histories) ≡ true
   pub looks : list_all (is_look (steps_of journal histories)) (all_entries journal histories) ≡ true
@@ -94,5 +99,14 @@ pub record FitApart (m : Machine) (journal : List JournalEntry) (histories : Lis
 -- lists that fit by themselves fit together
 abbrev pub FitsTogether : Type 0
 FitsTogether =
-    (m : Machine) (journal : List JournalEntry) (histories : List (List SourceEntry)) → FitApart m journal histories
-    → AreLists m journal histories
+    (m : Machine) (journal : List JournalEntry) (histories : List (List SourceEntry)) (own : Actor → List JournalEntry)
+    → FitApart m journal histories own → AreLists m journal histories
+
+-- the lists that each has kept, which fit and are legal by themselves, merge to a legal log; and to a finished or stuck one where the end holds by themselves
+abbrev pub KeptListsMerge : Type 0
+KeptListsMerge =
+    (m : Machine) (journal : List JournalEntry) (histories : List (List SourceEntry)) (own : Actor → List JournalEntry)
+    (log : Log) → FitApart m journal histories own → AreLegalApart m journal histories own
+    → IsMergeOf m journal histories log
+    → IsLegalLog m log × (IsFinishedApart m journal histories log → IsFinishedLog m log)
+    × (IsStuckApart m journal histories log → IsStuckLog m log)

@@ -22,11 +22,13 @@ pub record AreLists (m : Machine) (journal : List JournalEntry) (histories : Lis
   pub short : list_all (λ history. nat_le (length history) most_entries) histories ≡ true
   pub fit : IsFit m journal histories
 
--- the journal, each source, each actor and each jump is legal by itself
-pub record AreLegalApart (m : Machine) (journal : List JournalEntry) (histories : List (List SourceEntry)) : Type 0 where
+-- the journal, each source, each actor by its own entries, and each jump is legal by itself
+pub record AreLegalApart
+    (m : Machine) (journal : List JournalEntry) (histories : List (List SourceEntry)) (own : Actor → List JournalEntry)
+  : Type 0 where
   pub of_journal : JournalPart m (past_of journal)
   pub of_sources : (s : ℕ) → IsSource (source_past histories s)
-  pub of_actors : (who : Actor) → IsActor who (λ k. calls_behind m who k (past_of journal)) (past_of (own_entries who journal histories))
+  pub of_actors : (who : Actor) → IsActor who (λ k. calls_behind m who k (past_of journal)) (past_of (own who))
   pub of_jumps : AreJumps m (past_of journal) (source_past histories)
 
 -- a log has the merge of these as its entries, and the statistics of each history at the journal's time
@@ -51,8 +53,8 @@ pub record IsStuckApart (m : Machine) (journal : List JournalEntry) (histories :
 abbrev pub MergesToLegal : Type 0
 MergesToLegal =
     (m : Machine) (journal : List JournalEntry) (histories : List (List SourceEntry)) (log : Log)
-    → AreLists m journal histories → AreLegalApart m journal histories → IsMergeOf m journal histories log
-    → IsLegalLog m log
+    → AreLists m journal histories → AreLegalApart m journal histories (λ who. own_entries who journal histories)
+    → IsMergeOf m journal histories log → IsLegalLog m log
 
 -- and where the end holds by themselves, to a finished one
 abbrev pub MergesToFinished : Type 0

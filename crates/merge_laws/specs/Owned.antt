@@ -1,5 +1,5 @@
 -- A list that an actor keeps of its own entries (own).
-use Rattle.std.specs.Prelude.{◌≡◌, ℕ, true, List, [], map, filter, slice_index_or}
+use Rattle.std.specs.Prelude.{◌≡◌, ◌+◌, ℕ, true, List, [], length, map, filter, slice_index_or}
 use Rattle.std.specs.List.{list_all}
 use Rattle.sleep_model.specs.declared.entry.Actor.{Actor}
 use Rattle.sleep_model.specs.declared.entry.JournalEntry.{JournalEntry}
@@ -10,10 +10,10 @@ use Rattle.sleep_model.specs.Merge.{entries_of, of_source, rises}
 use Rattle.sleep_model.specs.Parts.{part_of}
 use Rattle.sleep_model.specs.Sources.{is_of}
 use Rattle.merge_laws.specs.Apart.{is_journals, own_entries}
-use Rattle.merge_laws.specs.Merging.{AreLists}
 
 -- an actor has made these entries, in the order of its ticks: the journal's are its entries there, and those of each source its entries in that history
-pub record IsOwnList (m : Machine) (who : Actor) (own : List JournalEntry) (journal : List JournalEntry) (histories : List (List SourceEntry)) : Type 0 where
+pub record IsOwnList (m : Machine) (who : Actor) (own journal : List JournalEntry) (histories : List (List SourceEntry))
+  : Type 0 where
   pub rising : rises own ≡ true
   pub there : list_all (λ e. is_there m (part_of e.entry.kind)) own ≡ true
   pub in_journal : filter is_journals own ≡ entries_of who journal
@@ -24,4 +24,5 @@ pub record IsOwnList (m : Machine) (who : Actor) (own : List JournalEntry) (jour
 abbrev pub OwnListsAreOwnEntries : Type 0
 OwnListsAreOwnEntries =
     (m : Machine) (who : Actor) (own journal : List JournalEntry) (histories : List (List SourceEntry))
-    → AreLists m journal histories → IsOwnList m who own journal histories → own_entries who journal histories ≡ own
+    → length histories ≡ length m.sources + 1 → IsOwnList m who own journal histories
+    → own_entries who journal histories ≡ own

@@ -4,4 +4,7 @@
 
 mod laws;
 
-pub use laws::{lists_fit_together, merges_to_a_finished_log, merges_to_a_legal_log, merges_to_a_stuck_log};
+pub use laws::{
+    kept_lists_merge_to_a_legal_log, lists_fit_together, merges_to_a_finished_log,
+    merges_to_a_legal_log, merges_to_a_stuck_log, own_lists_are_own_entries,
+};
