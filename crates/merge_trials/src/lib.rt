@@ -1,0 +1,20 @@
+//! Worked logs by which the laws of the merge are tried: taken apart, they meet the premises. No program
+//! stands on it.
+#![tactic(auto)]
+
+ghost use Rattle.merge_trials.specs.Worked.{IsApart, IsApartAgain};
+ghost use Rattle.worked_logs.specs.Attempts.{event_stops_a_device_machine, event_stops_a_device_entries, hard_event_machine, hard_event_entries, callback_reports_machine, callback_reports_entries};
+ghost use Rattle.worked_logs.specs.Autosleep.{autosleep_machine, autosleep_entries};
+ghost use Rattle.worked_logs.specs.Counts.{read_waits_machine, read_waits_entries, calls_of_a_line_machine};
+ghost use Rattle.worked_logs.specs.Merging.{two_workers};
+ghost use Rattle.worked_logs.specs.Timers.{event_expires_machine, event_expires_entries};
+
+/// What one worker makes: each entry's maker knows the entry before it.
+pub fn logs_are_kept_apart()
+    ensures expiry { IsApartAgain event_expires_machine event_expires_entries }
+{}
+
+/// What two workers make that know nothing of each other: ticks are each actor's and each list's own.
+pub fn log_of_two_workers_is_kept_apart()
+    ensures { IsApart calls_of_a_line_machine two_workers }
+{}
