@@ -98,7 +98,7 @@ one_of_all s (suc k) (h ∷ hs) g =
     (none_of_one (λ e. is_of (suc s + k) (part_of e.kind)) s h (first_own s h hs g) (λ e i. own_is_no_other s (suc s + k) (part_of e.kind) (omega arith) i))
     (one_of_all (suc s) k hs (rest_own s h hs g))
 
-history_rises : (hs : List (List SourceEntry)) (k : ℕ) → list_all (λ h. rises (map of_source h)) hs ≡ true → rises (map of_source (get_or hs k [])) ≡ true
+pub history_rises : (hs : List (List SourceEntry)) (k : ℕ) → list_all (λ h. rises (map of_source h)) hs ≡ true → rises (map of_source (get_or hs k [])) ≡ true
 history_rises [] k g = refl
 history_rises (h ∷ hs) zero g = all_head (λ h. rises (map of_source h)) h hs g
 history_rises (h ∷ hs) (suc k) g = history_rises hs k (all_tail (λ h. rises (map of_source h)) h hs g)
@@ -121,14 +121,20 @@ journal_of_merge entries hs kept own up =
     ∙ ap (λ (l : List JournalEntry). past_of (in_order l)) (journals_of_all entries hs kept own)
     ∙ ap past_of (order_rising entries up)
 
--- and its history of a source that source's history
+-- and a source's entries among all are its history
+pub history_among : (entries : List JournalEntry) (hs : List (List SourceEntry)) → list_all is_journals entries ≡ true → are_of 0 hs ≡ true
+    → (s : ℕ) → filter (λ e. is_of s (part_of e.entry.kind)) (all_entries entries hs) ≡ map of_source (get_or hs s [])
+history_among entries hs kept own s =
+    let start : 0 + s ≡ s = omega arith in
+    filter-append (λ e. is_of s (part_of e.entry.kind)) entries (sources_entries hs)
+    ∙ ap₂ (λ (x y : List JournalEntry). x ++ y)
+    (filter_none (λ (e : JournalEntry). is_of s (part_of e.entry.kind)) is_journals entries kept (λ e i. kept_is_none s (part_of e.entry.kind) i))
+    (ap (λ (t : ℕ). filter (λ e. is_of t (part_of e.entry.kind)) (sources_entries hs)) (sym start) ∙ one_of_all 0 s hs own)
+
+-- so is the merge's history of a source that source's history
 pub history_of_merge : (entries : List JournalEntry) (hs : List (List SourceEntry)) → list_all is_journals entries ≡ true → are_of 0 hs ≡ true
     → list_all (λ h. rises (map of_source h)) hs ≡ true → (s : ℕ) → history s (past_of (stamped entries hs)) ≡ source_past hs s
 history_of_merge entries hs kept own up s =
-    let start : 0 + s ≡ s = omega arith in
     picked (λ e. is_of s (part_of e.kind)) (all_entries entries hs)
-    ∙ ap (λ (l : List JournalEntry). past_of (in_order l)) (filter-append (λ e. is_of s (part_of e.entry.kind)) entries (sources_entries hs)
-    ∙ ap₂ (λ (x y : List JournalEntry). x ++ y)
-    (filter_none (λ (e : JournalEntry). is_of s (part_of e.entry.kind)) is_journals entries kept (λ e i. kept_is_none s (part_of e.entry.kind) i))
-    (ap (λ (t : ℕ). filter (λ e. is_of t (part_of e.entry.kind)) (sources_entries hs)) (sym start) ∙ one_of_all 0 s hs own))
+    ∙ ap (λ (l : List JournalEntry). past_of (in_order l)) (history_among entries hs kept own s)
     ∙ ap past_of (order_rising (map of_source (get_or hs s [])) (history_rises hs s up))

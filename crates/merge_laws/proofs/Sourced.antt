@@ -75,15 +75,20 @@ sources_there m s (h ∷ hs) g l =
     (sources_there m (suc s) hs (rest_own s h hs g) (omega arith))
 
 -- each entry of a source is of one that there is
+pub entries_there : (m : Machine) (entries : List JournalEntry) (hs : List (List SourceEntry)) → list_all is_journals entries ≡ true → are_of 0 hs ≡ true
+    → length hs ≡ length m.sources + 1 → list_all (λ e. is_there m (part_of e.entry.kind)) (all_entries entries hs) ≡ true
+entries_there m entries hs kept own count =
+    all_append (λ e. is_there m (part_of e.entry.kind)) entries (sources_entries hs)
+    (all_weaker is_journals (λ e. is_there m (part_of e.entry.kind)) entries (λ e i. kept_there m (part_of e.entry.kind) i) kept)
+    (sources_there m 0 hs own (omega (arith, count)))
+
+-- also in the merge
 pub all_there : (m : Machine) (entries : List JournalEntry) (hs : List (List SourceEntry)) → list_all is_journals entries ≡ true → are_of 0 hs ≡ true
     → length hs ≡ length m.sources + 1 → list_all (λ e. is_there m (part_of e.kind)) (past_of (stamped entries hs)) ≡ true
 all_there m entries hs kept own count =
     all_reverse (λ (e : Entry). is_there m (part_of e.kind)) (map (λ e. e.entry) (stamped entries hs))
     (all_map (λ (e : JournalEntry). e.entry) (λ e. is_there m (part_of e.kind)) (stamped entries hs)
-    (all_order (λ e. is_there m (part_of e.entry.kind)) (all_entries entries hs)
-    (all_append (λ e. is_there m (part_of e.entry.kind)) entries (sources_entries hs)
-    (all_weaker is_journals (λ e. is_there m (part_of e.entry.kind)) entries (λ e i. kept_there m (part_of e.entry.kind) i) kept)
-    (sources_there m 0 hs own (omega (arith, count))))))
+    (all_order (λ e. is_there m (part_of e.entry.kind)) (all_entries entries hs) (entries_there m entries hs kept own count)))
 
 short_at : (hs : List (List SourceEntry)) (s : ℕ) → list_all (λ h. nat_le (length h) most_entries) hs ≡ true → nat_le (length (get_or hs s [])) most_entries ≡ true
 short_at [] s g = refl

@@ -2,6 +2,7 @@
 //! stands on it.
 #![tactic(auto)]
 
+ghost use Rattle.merge_trials.specs.Tests.{TestsTell};
 ghost use Rattle.merge_trials.specs.Worked.{IsApart, IsApartAgain};
 ghost use Rattle.worked_logs.specs.Attempts.{event_stops_a_device_machine, event_stops_a_device_entries, hard_event_machine, hard_event_entries, callback_reports_machine, callback_reports_entries};
 ghost use Rattle.worked_logs.specs.Autosleep.{autosleep_machine, autosleep_entries};
@@ -11,10 +12,20 @@ ghost use Rattle.worked_logs.specs.Timers.{event_expires_machine, event_expires_
 
 /// What one worker makes: each entry's maker knows the entry before it.
 pub fn logs_are_kept_apart()
+    ensures device { IsApartAgain event_stops_a_device_machine event_stops_a_device_entries }
+    ensures hard { IsApartAgain hard_event_machine hard_event_entries }
+    ensures report { IsApartAgain callback_reports_machine callback_reports_entries }
+    ensures autosleep { IsApartAgain autosleep_machine autosleep_entries }
+    ensures read { IsApartAgain read_waits_machine read_waits_entries }
     ensures expiry { IsApartAgain event_expires_machine event_expires_entries }
 {}
 
 /// What two workers make that know nothing of each other: ticks are each actor's and each list's own.
 pub fn log_of_two_workers_is_kept_apart()
     ensures { IsApart calls_of_a_line_machine two_workers }
+{}
+
+/// What passes the tests meets the premises of `kept_lists_merge_to_a_legal_log`.
+pub fn tests_tell_the_premises()
+    ensures { TestsTell }
 {}
