@@ -1,11 +1,10 @@
 -- What an actor has done among all entries is what it has done among its own.
-use Rattle.std.proofs.Common.{◌≡◌, ◌∙◌, ◌≤◌, ◌<◌, ◌+◌, ◌==◌, ◌++◌, ◌&&◌, ℕ, zero, suc, nat_le, nat_lt, Bool, true, false, List, [], ◌∷◌, length, filter, cond, refl, sym, ap, ap₂, subst, arith}
+use Rattle.std.proofs.Common.{◌≡◌, ◌∙◌, ◌≤◌, ◌+◌, ◌==◌, ◌++◌, ◌&&◌, ℕ, zero, suc, nat_le, nat_lt, Bool, true, false, List, [], ◌∷◌, length, filter, cond, refl, sym, ap, ap₂, subst, arith}
 use Rattle.std.proofs.lemmas.Bool.Decides.{nat_tests}
 use Rattle.std.specs.List.{list_all}
 use Rattle.sleep_model.specs.declared.entry.Actor.{Actor}
 use Rattle.sleep_model.specs.declared.entry.Actor.TheVariants as actor
 use Rattle.sleep_model.specs.declared.entry.Entry.{Entry}
-use Rattle.sleep_model.specs.declared.entry.Kind.{Kind}
 use Rattle.sleep_model.specs.declared.machine.Machine.{Machine}
 use Rattle.sleep_model.specs.Calls.{calls_of, is_note_of, made, notes_of, one_more, ends_turn, report_calls, turns_ended}
 use Rattle.sleep_model.specs.Calls as calls
@@ -13,7 +12,7 @@ use Rattle.sleep_model.specs.Legal.{is_behind, is_there}
 use Rattle.sleep_model.specs.Parts.{Part, OfJournal, Notes, Moves, OfTime, part_of, is_kept, journal}
 use Rattle.sleep_model.specs.Path.{is_same, attempts}
 use Rattle.sleep_model.specs.Sources.{history, is_of}
-use Rattle.merge_laws.specs.Apart.{calls_behind, own_of}
+use Rattle.merge_laws.specs.Apart.{calls_after, own_of}
 use Rattle.merge_laws.proofs.Lists.{all_head, all_tail}
 use Rattle.merge_laws.proofs.Sourced.{same_number}
 
@@ -139,18 +138,18 @@ behind_own s who (e ∷ past) = by (is_same e.actor who) refl (behind_own s who 
 
 -- ---- the calls that are due
 
-calls_top : (m : Machine) (who : Actor) (k : ℕ) (past : List Entry) → length (own_of who past) ≤ k → calls_behind m who k past ≡ calls_of m who past
+calls_top : (m : Machine) (who : Actor) (k : ℕ) (past : List Entry) → length (own_of who past) ≤ k → calls_after m who k past ≡ calls_of m who past
 calls_top m who k [] l = refl
 calls_top m who k (e ∷ past) l =
     let here : nat_le (length (own_of who (e ∷ past))) k ≡ true = grind (arith, nat_tests) in
-    ap (λ (b : Bool). cond b (calls_of m who (e ∷ past)) (calls_behind m who k past)) here
+    ap (λ (b : Bool). cond b (calls_of m who (e ∷ past)) (calls_after m who k past)) here
 
 -- a further entry of the journal leaves the calls behind those before it
-calls_earlier : (m : Machine) (who : Actor) (k : ℕ) (e : Entry) (past : List Entry) → k ≤ length (own_of who past) → calls_behind m who k (e ∷ past) ≡ calls_behind m who k past
+calls_earlier : (m : Machine) (who : Actor) (k : ℕ) (e : Entry) (past : List Entry) → k ≤ length (own_of who past) → calls_after m who k (e ∷ past) ≡ calls_after m who k past
 calls_earlier m who k e past l = by (is_same e.actor who) refl (nat_le (length (own_of who (e ∷ past))) k) refl
   where
     by : (a : Bool) → is_same e.actor who ≡ a → (b : Bool) → nat_le (length (own_of who (e ∷ past))) k ≡ b
-        → cond b (calls_of m who (e ∷ past)) (calls_behind m who k past) ≡ calls_behind m who k past
+        → cond b (calls_of m who (e ∷ past)) (calls_after m who k past) ≡ calls_after m who k past
     by a is false g = refl
     by true is true g =
         let longer : length (own_of who (e ∷ past)) ≡ suc (length (own_of who past)) = ap (λ (b : Bool). length (cond b (e ∷ own_of who past) (own_of who past))) is in
@@ -164,26 +163,26 @@ calls_earlier m who k e past l = by (is_same e.actor who) refl (nat_le (length (
 
 -- the calls of a whole journal are, behind each of its beginnings, those of that beginning
 abbrev pub CallsKept : Machine → List Entry → List Entry → Type 0
-CallsKept m whole past = (who : Actor) (k : ℕ) → k ≤ length (own_of who (journal past)) → calls_behind m who k whole ≡ calls_behind m who k (journal past)
+CallsKept m whole past = (who : Actor) (k : ℕ) → k ≤ length (own_of who (journal past)) → calls_after m who k whole ≡ calls_after m who k (journal past)
 
 pub calls_kept : (m : Machine) (whole : List Entry) (e : Entry) (past : List Entry) → CallsKept m whole (e ∷ past) → CallsKept m whole past
 calls_kept m whole e past h who k l = by (is_kept (part_of e.kind)) refl
   where
-    by : (b : Bool) → is_kept (part_of e.kind) ≡ b → calls_behind m who k whole ≡ calls_behind m who k (journal past)
+    by : (b : Bool) → is_kept (part_of e.kind) ≡ b → calls_after m who k whole ≡ calls_after m who k (journal past)
     by true is =
         let more : journal (e ∷ past) ≡ e ∷ journal past = ap (λ (b : Bool). cond b (e ∷ journal past) (journal past)) is in
         h who k (subst (λ (j : List Entry). k ≤ length (own_of who j)) (sym more) (grown (is_same e.actor who)))
-        ∙ ap (calls_behind m who k) more ∙ calls_earlier m who k e (journal past) l
+        ∙ ap (calls_after m who k) more ∙ calls_earlier m who k e (journal past) l
       where
         grown : (b : Bool) → k ≤ length (cond b (e ∷ own_of who (journal past)) (own_of who (journal past)))
         grown true = omega (arith, l)
         grown false = l
     by false is =
         let same : journal (e ∷ past) ≡ journal past = ap (λ (b : Bool). cond b (e ∷ journal past) (journal past)) is in
-        h who k (subst (λ (j : List Entry). k ≤ length (own_of who j)) (sym same) l) ∙ ap (calls_behind m who k) same
+        h who k (subst (λ (j : List Entry). k ≤ length (own_of who j)) (sym same) l) ∙ ap (calls_after m who k) same
 
 -- the calls that are due at a place, by an actor's own entries before it
-pub calls_own : (m : Machine) (whole past : List Entry) (who : Actor) → CallsKept m whole past → calls_behind m who (length (journal (own_of who past))) whole ≡ calls_of m who (journal past)
+pub calls_own : (m : Machine) (whole past : List Entry) (who : Actor) → CallsKept m whole past → calls_after m who (length (journal (own_of who past))) whole ≡ calls_of m who (journal past)
 calls_own m whole past who h =
     let same : length (journal (own_of who past)) ≡ length (own_of who (journal past)) = ap length (filter_twice (λ (e : Entry). is_kept (part_of e.kind)) (λ e. is_same e.actor who) past) in
     h who (length (journal (own_of who past))) (omega arith) ∙ calls_top m who (length (journal (own_of who past))) (journal past) (omega arith)

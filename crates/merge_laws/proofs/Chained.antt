@@ -1,5 +1,5 @@
 -- Where the steps are counted and chained, and each look is at a word that they leave, the merged entries are chained.
-use Rattle.std.proofs.Common.{◌≡◌, ◌∙◌, ◌≤◌, ◌<◌, ◌+◌, ◌==◌, ◌&&◌, ◌||◌, ℕ, zero, suc, nat_le, nat_lt, Bool, true, false, List, [], ◌∷◌, length, filter, cond, Option, Some, None, refl, sym, ap, subst, arith}
+use Rattle.std.proofs.Common.{◌≡◌, ◌∙◌, ◌≤◌, ◌<◌, ◌+◌, ◌==◌, ◌&&◌, ◌||◌, ℕ, suc, nat_le, Bool, true, false, List, [], ◌∷◌, length, filter, cond, Option, Some, None, refl, sym, ap, subst, arith}
 use Rattle.std.proofs.lemmas.Bool.Decides.{nat_tests}
 use Rattle.std.specs.Prelude.{is_some}
 use Rattle.std.specs.List.{list_all}
@@ -10,9 +10,10 @@ use Rattle.sleep_model.specs.Merge.{before_or, is_actor_before, is_chained, is_w
 use Rattle.sleep_model.specs.Numbers.{after_step, word_step}
 use Rattle.sleep_model.specs.Word.{position}
 use Rattle.log_merge.proofs.Sorts.{Low, Up}
+use Rattle.log_merge.proofs.Reading.{both, both_left, both_right}
 use Rattle.merge_laws.specs.Fitting.{are_counted, is_look, no_steps, word_from}
-use Rattle.merge_laws.proofs.Lists.{all_head, all_tail, both, low_filter}
-use Rattle.merge_laws.proofs.Placing.{both_left, both_right, number_is, word_is}
+use Rattle.merge_laws.proofs.Lists.{all_head, all_tail, low_filter}
+use Rattle.merge_laws.proofs.Placing.{number_is, word_is}
 
 -- looks from position n on
 abbrev pub LooksFrom : ℕ → List JournalEntry → Type 0
@@ -74,7 +75,7 @@ after_a_step steps e rest n word a step =
       counted = both_right (e.stamp.pos == n) (are_counted (suc n) (filter is_word_step rest)) counted;
       chained = both_right (is_word e.entry.now word && (e.stamp.pos == position word)) (is_chained (after_step (word_step e.entry.kind) word) (filter is_word_step rest)) chained;
       words = λ k. let more : suc n + k ≡ n + suc k = omega arith in
-      ap (λ (j : ℕ). word_from no_steps j steps) more ∙ a.words (suc k) ∙ ap (word_from word (suc k)) own;
+          ap (λ (j : ℕ). word_from no_steps j steps) more ∙ a.words (suc k) ∙ ap (word_from word (suc k)) own;
       left = omega (arith, left);
       looks = all_tail (is_look steps) e rest a.looks;
       later = looks_behind e rest n step (number_is e.stamp.pos n (both_left (e.stamp.pos == n) (are_counted (suc n) (filter is_word_step rest)) counted)) a.up.0;

@@ -1,5 +1,5 @@
 -- Lists that fit by what each shows by itself fit together.
-use Rattle.std.proofs.Common.{◌≡◌, ◌∙◌, ◌==◌, ◌&&◌, ◌||◌, ℕ, nat_le, nat_lt, Bool, true, false, List, [], ◌∷◌, length, filter, cond, refl, sym, ap, subst}
+use Rattle.std.proofs.Common.{◌≡◌, ◌∙◌, ◌==◌, ◌&&◌, ◌||◌, nat_lt, Bool, true, false, List, [], ◌∷◌, filter, cond, refl, sym, ap, subst}
 use Rattle.std.specs.List.{list_all, list_any}
 use Rattle.sleep_model.specs.declared.entry.Actor.{Actor}
 use Rattle.sleep_model.specs.declared.entry.JournalEntry.{JournalEntry}
@@ -9,7 +9,7 @@ use Rattle.sleep_model.specs.Merge.{IsFit, actors_of, all_entries, entries_of, i
 use Rattle.sleep_model.specs.Parts.{Part, OfJournal, Notes, Moves, OfTime, part_of, is_kept}
 use Rattle.sleep_model.specs.Path.{is_same}
 use Rattle.log_merge.proofs.Sorts.{Up, up_in_order}
-use Rattle.merge_laws.specs.Apart.{IsActor, are_of, calls_behind, is_journals, own_entries, past_of, steps_of}
+use Rattle.merge_laws.specs.Apart.{IsActor, calls_after, is_journals, own_entries, past_of, steps_of}
 use Rattle.merge_laws.specs.Fitting.{FitApart, FitsTogether, KeptListsMerge, are_raised, has_time, is_look, jumps, stands_right}
 use Rattle.merge_laws.specs.Merging.{AreLegalApart, AreLists}
 use Rattle.merge_laws.proofs.Chained.{chained_all}
@@ -87,15 +87,15 @@ module _ (m : Machine) (journal : List JournalEntry) (hs : List (List SourceEntr
     journal_rises = a.journal_rises;
     histories_rise = a.histories_rise;
     actors_rise = all_so (λ who. rises (entries_of who (stamped journal hs))) (actors_of m)
-      (λ who. ap rises (filter_order (λ e. is_same e.entry.actor who) (all_entries journal hs)) ∙ ap rises (own_lists m who (own who) journal hs a.count (a.actors who)) ∙ (a.actors who).rising);
+        (λ who. ap rises (filter_order (λ e. is_same e.entry.actor who) (all_entries journal hs)) ∙ ap rises (own_lists m who (own who) journal hs a.count (a.actors who)) ∙ (a.actors who).rising);
     chained = chained_all (in_order (all_entries journal hs)) (steps_of journal hs) up (filter_order is_word_step (all_entries journal hs)) a.counted a.chained
-      (all_order (is_look (steps_of journal hs)) (all_entries journal hs) a.looks);
+        (all_order (is_look (steps_of journal hs)) (all_entries journal hs) a.looks);
     timed = timed_all (in_order (all_entries journal hs)) up (all_order (λ e. nat_lt 0 e.stamp.tick) (all_entries journal hs) a.ticks)
-      (ap (are_raised 0 0) jumps_are ∙ a.raised) has_sides has_times;
+        (ap (are_raised 0 0) jumps_are ∙ a.raised) has_sides has_times;
   }
 
   lists : AreLists m journal hs
-  lists = record { kept = a.kept; own = a.sourced; count = a.count; short = a.short; fit = is_fit }
+  lists = record { kept = a.kept; sourced = a.sourced; count = a.count; short = a.short; fit = is_fit }
 
 pub fits_together : FitsTogether
 fits_together m journal hs own a = lists m journal hs own a
@@ -107,7 +107,7 @@ kept_legal : (m : Machine) (journal : List JournalEntry) (hs : List (List Source
 kept_legal m journal hs own a legal = record {
   of_journal = legal.of_journal;
   of_sources = legal.of_sources;
-  of_actors = λ who. subst (λ (l : List JournalEntry). IsActor who (λ k. calls_behind m who k (past_of journal)) (past_of l)) (sym (own_lists m who (own who) journal hs a.count (a.actors who))) (legal.of_actors who);
+  of_actors = λ who. subst (λ (l : List JournalEntry). IsActor who (λ k. calls_after m who k (past_of journal)) (past_of l)) (sym (own_lists m who (own who) journal hs a.count (a.actors who))) (legal.of_actors who);
   of_jumps = legal.of_jumps;
 }
 

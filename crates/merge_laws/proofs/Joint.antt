@@ -1,5 +1,5 @@
 -- Where each actor and each jump is legal by itself, the merged entries fit together.
-use Rattle.std.proofs.Common.{◌≡◌, ◌∙◌, ◌≤◌, ◌<◌, ◌+◌, ℕ, zero, suc, nat_lt, Bool, true, false, List, [], ◌∷◌, length, filter, cond, Some, slice_get, refl, sym, ap, ap₂, subst, arith}
+use Rattle.std.proofs.Common.{◌≡◌, ◌∙◌, ◌≤◌, ◌<◌, ◌+◌, ℕ, nat_lt, Bool, true, false, List, [], ◌∷◌, length, cond, refl, sym, ap, subst, arith}
 use Rattle.std.proofs.lemmas.Bool.Decides.{nat_tests}
 use Rattle.std.specs.List.{list_all}
 use Rattle.sleep_model.specs.declared.word.EventNow.{EventNow}
@@ -9,19 +9,19 @@ use Rattle.sleep_model.specs.declared.entry.Entry.{Entry}
 use Rattle.sleep_model.specs.declared.entry.Kind.{Kind}
 use Rattle.sleep_model.specs.declared.machine.Machine.{Machine}
 use Rattle.sleep_model.specs.Calls.{calls_of, made, notes_of}
-use Rattle.sleep_model.specs.Legal.{IsOwnCall, JointPart, JointStep, JumpStep, is_behind, is_there}
-use Rattle.sleep_model.specs.Numbers.{numbers, time_of}
+use Rattle.sleep_model.specs.Legal.{IsOwnCall, JointPart, JointStep, JumpStep, is_there}
+use Rattle.sleep_model.specs.Numbers.{time_of}
 use Rattle.sleep_model.specs.Parts.{Part, OfJournal, Notes, Moves, OfTime, part_of, is_kept, journal}
 use Rattle.sleep_model.specs.Path.{is_same}
 use Rattle.sleep_model.specs.Sources.{history, is_of}
-use Rattle.merge_laws.specs.Apart.{ActorStep, AreJumps, IsActor, IsCall, JumpHeld, before, calls_behind, own_of}
-use Rattle.merge_laws.proofs.Lists.{all_head, all_more, all_tail, filter_all}
+use Rattle.merge_laws.specs.Apart.{ActorStep, AreJumps, IsActor, IsCall, JumpHeld, before, calls_after, own_of}
+use Rattle.merge_laws.proofs.Lists.{all_more, all_tail, filter_all}
 use Rattle.merge_laws.proofs.Calling.{CallsKept, behind_own, calls_kept, calls_own, filter_twice, made_own, same_actor}
 use Rattle.merge_laws.proofs.Placing.{Clocked, IsClock, Numbered, clock_rises, clock_time}
 
 -- ---- the time of a place
 
-less : (a b : ℕ) → a < b → nat_lt a b ≡ true
+pub less : (a b : ℕ) → a < b → nat_lt a b ≡ true
 less a b h = grind (arith, nat_tests)
 
 no_less : (a b : ℕ) → b ≤ a → nat_lt a b ≡ false
@@ -57,7 +57,7 @@ before_jump whole e past c h l =
 
 -- what is known at a place, of all entries and of those before it
 record Walk (m : Machine) (whole past : List Entry) : Type 0 where
-  actors : (who : Actor) → IsActor who (λ k. calls_behind m who k (journal whole)) (own_of who past)
+  actors : (who : Actor) → IsActor who (λ k. calls_after m who k (journal whole)) (own_of who past)
   calls : CallsKept m (journal whole) past
   jumps : AreJumps m (journal past) (λ s. history s whole)
   times : TimesKept whole past
@@ -76,8 +76,8 @@ walk_on m whole e past w = record {
   there = all_tail (λ e. is_there m (part_of e.kind)) e past w.there;
 }
   where
-    rest : (who : Actor) (b : Bool) → IsActor who (λ k. calls_behind m who k (journal whole)) (cond b (e ∷ own_of who past) (own_of who past))
-        → IsActor who (λ k. calls_behind m who k (journal whole)) (own_of who past)
+    rest : (who : Actor) (b : Bool) → IsActor who (λ k. calls_after m who k (journal whole)) (cond b (e ∷ own_of who past) (own_of who past))
+        → IsActor who (λ k. calls_after m who k (journal whole)) (own_of who past)
     rest who true h = h.1
     rest who false h = h
 
@@ -97,12 +97,12 @@ joint_step : (m : Machine) (whole : List Entry) (e : Entry) (past : List Entry) 
 joint_step m whole e past w = by (part_of e.kind) refl here
   where
     calls : ℕ → List Kind
-    calls = λ k. calls_behind m e.actor k (journal whole)
+    calls = λ k. calls_after m e.actor k (journal whole)
 
-    here : ActorStep e.actor (λ k. calls_behind m e.actor k (journal whole)) (own_of e.actor past) e (part_of e.kind)
-    here = (subst (λ (b : Bool). IsActor e.actor (λ k. calls_behind m e.actor k (journal whole)) (cond b (e ∷ own_of e.actor past) (own_of e.actor past))) (same_actor e.actor) (w.actors e.actor)).0
+    here : ActorStep e.actor (λ k. calls_after m e.actor k (journal whole)) (own_of e.actor past) e (part_of e.kind)
+    here = (subst (λ (b : Bool). IsActor e.actor (λ k. calls_after m e.actor k (journal whole)) (cond b (e ∷ own_of e.actor past) (own_of e.actor past))) (same_actor e.actor) (w.actors e.actor)).0
 
-    due : calls_behind m e.actor (length (journal (own_of e.actor past))) (journal whole) ≡ calls_of m e.actor (journal past)
+    due : calls_after m e.actor (length (journal (own_of e.actor past))) (journal whole) ≡ calls_of m e.actor (journal past)
     due = calls_own m (journal whole) past e.actor (calls_kept m (journal whole) e past w.calls)
 
     there : list_all (λ e. is_there m (part_of e.kind)) past ≡ true
@@ -111,7 +111,7 @@ joint_step m whole e past w = by (part_of e.kind) refl here
     did : made (length m.sources + 1) (λ s. history s past) e.actor ≡ notes_of e.actor (own_of e.actor past)
     did = made_own m e.actor past there
 
-    by : (p : Part) → part_of e.kind ≡ p → ActorStep e.actor (λ k. calls_behind m e.actor k (journal whole)) (own_of e.actor past) e p → JointStep m past e p
+    by : (p : Part) → part_of e.kind ≡ p → ActorStep e.actor (λ k. calls_after m e.actor k (journal whole)) (own_of e.actor past) e p → JointStep m past e p
     by OfJournal is h = did ∙ h ∙ ap length due
     by (Notes s c) is h =
         own_call m (journal past) (λ t. history t past) e.actor e.kind
@@ -135,7 +135,7 @@ joint_on m whole [] w = tt
 joint_on m whole (e ∷ past) w = (joint_step m whole e past w, joint_on m whole past (walk_on m whole e past w))
 
 pub joint : (m : Machine) (whole : List Entry)
-    → ((who : Actor) → IsActor who (λ k. calls_behind m who k (journal whole)) (own_of who whole)) → AreJumps m (journal whole) (λ s. history s whole)
+    → ((who : Actor) → IsActor who (λ k. calls_after m who k (journal whole)) (own_of who whole)) → AreJumps m (journal whole) (λ s. history s whole)
     → Clocked whole → Numbered whole → list_all (λ e. is_there m (part_of e.kind)) whole ≡ true → JointPart m whole
 joint m whole actors jumps clock words there = joint_on m whole whole (record {
   actors = actors;

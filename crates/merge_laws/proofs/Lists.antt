@@ -1,12 +1,12 @@
 -- Sorting by the order of the log, maps and reversals keep what a filter picks.
-use Rattle.std.proofs.Common.{◌≡◌, ◌∙◌, ℕ, zero, suc, Bool, true, false, ◌&&◌, List, [], ◌∷◌, ◌++◌, map, filter, reverse, cond, if◌then◌else◌, refl, sym, ap, subst}
+use Rattle.std.proofs.Common.{◌≡◌, ◌∙◌, Bool, true, false, List, [], ◌∷◌, ◌++◌, map, filter, reverse, cond, if◌then◌else◌, refl, sym, ap}
 use mathlib.Core.List.{reverse_aux}
 use Rattle.std.specs.List.{list_all}
 use Rattle.sleep_model.specs.declared.entry.JournalEntry.{JournalEntry}
 use Rattle.sleep_model.specs.Merge.{in_order, put_in_order, rises, stands_before}
 use Rattle.log_merge.proofs.Orders.{log_order}
 use Rattle.log_merge.proofs.Sorts.{Low, Up, low_below, up_in_order}
-use Rattle.log_merge.proofs.Reading.{in_order_from, rising_in_order}
+use Rattle.log_merge.proofs.Reading.{both, both_left, both_right, in_order_from, order_same, put_front, rising_in_order}
 
 -- ---- the order
 
@@ -17,10 +17,6 @@ low_filter p x (y ∷ ys) h = by (p y) (low_filter p x ys h.1)
     by : (b : Bool) → Low stands_before x (filter p ys) → Low stands_before x (cond b (y ∷ filter p ys) (filter p ys))
     by true l = (h.0, l)
     by false l = l
-
-pub put_front : (x : JournalEntry) (ys : List JournalEntry) → Low stands_before x ys → put_in_order x ys ≡ x ∷ ys
-put_front x [] h = refl
-put_front x (y ∷ ys) h = rw (h.0) refl
 
 -- where an entry is put among others in order, before a filter or behind it
 filter_put : (p : JournalEntry → Bool) (x : JournalEntry) (ys : List JournalEntry) → Up stands_before ys
@@ -62,13 +58,9 @@ filter_order p (x ∷ xs) = filter_put p x (in_order xs) (up_in_order xs) ∙ by
     by true e = ap (put_in_order x) e
     by false e = e
 
-order_up : (xs : List JournalEntry) → Up stands_before xs → in_order xs ≡ xs
-order_up [] u = refl
-order_up (x ∷ xs) u = ap (put_in_order x) (order_up xs u.1) ∙ put_front x xs u.0
-
 -- what rises is in order already
 pub order_rising : (xs : List JournalEntry) → rises xs ≡ true → in_order xs ≡ xs
-order_rising xs h = order_up xs (in_order_from xs (rising_in_order xs h))
+order_rising xs h = order_same xs (in_order_from xs (rising_in_order xs h))
 
 -- ---- maps and reversals
 
@@ -93,17 +85,6 @@ pub filter_reverse : {A : Type 0} (q : A → Bool) (xs : List A) → filter q (r
 filter_reverse q xs = filter_onto q xs []
 
 -- ---- tests at all entries
-
-both_left : (a b : Bool) → a && b ≡ true → a ≡ true
-both_left true b h = refl
-both_left false b h = h
-
-both_right : (a b : Bool) → a && b ≡ true → b ≡ true
-both_right true b h = h
-both_right false b h = absurd (cc)
-
-pub both : (a b : Bool) → a ≡ true → b ≡ true → a && b ≡ true
-both a b p q = rw (p, q) refl
 
 pub all_head : {A : Type 0} (q : A → Bool) (x : A) (xs : List A) → list_all q (x ∷ xs) ≡ true → q x ≡ true
 all_head q x xs h = both_left (q x) (list_all q xs) h

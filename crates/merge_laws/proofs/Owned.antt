@@ -1,26 +1,25 @@
 -- A list that an actor keeps of its entries is what the journal and the histories have of it, in order.
-use Rattle.std.proofs.Common.{◌≡◌, ◌≢◌, ◌∙◌, ◌≤◌, ◌<◌, ◌+◌, ◌==◌, ◌&&◌, ◌++◌, ◌⊎◌, inl, inr, not, ℕ, zero, suc, nat_le, nat_lt, Bool, true, false, List, [], ◌∷◌, length, map, filter, get_or, cond, refl, sym, ap, ap₂, subst, arith}
+use Rattle.std.proofs.Common.{◌≡◌, ◌∙◌, ◌≤◌, ◌<◌, ◌+◌, ◌==◌, ◌&&◌, ◌++◌, ℕ, zero, suc, nat_le, nat_lt, Bool, true, false, List, [], ◌∷◌, length, map, filter, get_or, cond, refl, sym, ap, ap₂, arith}
 use Rattle.std.proofs.lemmas.Bool.Decides.{nat_tests}
 use Rattle.std.proofs.lemmas.List.{append_assoc}
 use Rattle.std.proofs.lemmas.List.Elements.{filter-append}
 use Rattle.std.specs.List.{list_all}
-use Rattle.std.specs.List.Sorted.{ties}
 use Rattle.sleep_model.specs.declared.entry.Actor.{Actor}
 use Rattle.sleep_model.specs.declared.entry.JournalEntry.{JournalEntry}
 use Rattle.sleep_model.specs.declared.entry.SourceEntry.{SourceEntry}
 use Rattle.sleep_model.specs.declared.machine.Machine.{Machine}
 use Rattle.sleep_model.specs.Legal.{is_there}
-use Rattle.sleep_model.specs.Merge.{all_entries, before_or, entries_of, in_order, is_actor_before, of_source, position_behind, put_in_order, rises, rises_behind, stands_before, step_number}
+use Rattle.sleep_model.specs.Merge.{before_or, entries_of, in_order, is_actor_before, of_source, position_behind, put_in_order, rises, rises_behind, stands_before, step_number}
 use Rattle.sleep_model.specs.Parts.{Part, OfJournal, Notes, Moves, OfTime, part_of, is_kept}
 use Rattle.sleep_model.specs.Path.{is_same}
 use Rattle.sleep_model.specs.Sources.{is_of}
 use Rattle.log_merge.specs.Rests.{sources_entries}
 use Rattle.log_merge.proofs.Orders.{log_order}
-use Rattle.log_merge.proofs.Sorts.{Low, Up, low_append}
-use Rattle.merge_laws.specs.Apart.{is_journals, own_entries}
-use Rattle.merge_laws.specs.Owned.{IsOwnList, OwnListsAreOwnEntries}
-use Rattle.merge_laws.proofs.Lists.{all_head, all_tail, low_filter, put_front}
-use Rattle.merge_laws.proofs.Placing.{both_left, both_right}
+use Rattle.log_merge.proofs.Sorts.{Low}
+use Rattle.log_merge.proofs.Reading.{both_left, both_right, low_order, put_front}
+use Rattle.merge_laws.specs.Apart.{is_journals}
+use Rattle.merge_laws.specs.Owned.{OwnListsAreOwnEntries}
+use Rattle.merge_laws.proofs.Lists.{all_head, all_tail}
 
 -- ---- an entry that stands before all others
 
@@ -44,18 +43,6 @@ ahead_filter q x (y ∷ ys) a = by (q y) (ahead_filter q x ys a.1)
 ahead_append : (x : JournalEntry) (xs ys : List JournalEntry) → Ahead x xs → Ahead x ys → Ahead x (xs ++ ys)
 ahead_append x [] ys a b = b
 ahead_append x (z ∷ xs) ys a b = (a.0, ahead_append x xs ys a.1 b)
-
-low_put : (x y : JournalEntry) (ys : List JournalEntry) → stands_before y x ≡ false → Low stands_before x ys → Low stands_before x (put_in_order y ys)
-low_put x y [] h l = (h, tt)
-low_put x y (z ∷ zs) h l = by (stands_before z y) (low_put x y zs h l.1)
-  where
-    by : (b : Bool) → Low stands_before x (put_in_order y zs) → Low stands_before x (cond b (z ∷ put_in_order y zs) (y ∷ z ∷ zs))
-    by true rest = (l.0, rest)
-    by false rest = (h, l)
-
-low_order : (x : JournalEntry) (ys : List JournalEntry) → Low stands_before x ys → Low stands_before x (in_order ys)
-low_order x [] l = tt
-low_order x (y ∷ ys) l = low_put x y (in_order ys) l.0 (low_order x ys l.1)
 
 -- it is the first of them in order, wherever it stands among them
 first_of_all : (x : JournalEntry) (xs ys : List JournalEntry) → Ahead x xs → Ahead x ys → in_order (xs ++ x ∷ ys) ≡ x ∷ in_order (xs ++ ys)

@@ -1,5 +1,5 @@
 -- Each merged entry carries the word and the time of its place.
-use Rattle.std.proofs.Common.{◌≡◌, ◌∙◌, ◌≤◌, ◌<◌, ◌==◌, ℕ, zero, suc, nat_lt, max, Bool, true, false, ◌&&◌, List, [], ◌∷◌, map, reverse, if◌then◌else◌, refl, sym, ap, subst, arith}
+use Rattle.std.proofs.Common.{◌≡◌, ◌∙◌, ◌≤◌, ◌<◌, ◌==◌, ℕ, nat_lt, max, Bool, true, false, ◌&&◌, List, [], ◌∷◌, map, if◌then◌else◌, refl, sym, ap, subst, arith}
 use Rattle.std.proofs.lemmas.Bool.Decides.{nat_tests}
 use mathlib.Core.List.{reverse_aux}
 use Rattle.sleep_model.specs.declared.word.EventNow.{EventNow}
@@ -12,15 +12,8 @@ use Rattle.sleep_model.specs.Merge.{fits_time, is_chained, is_jump, is_timed, is
 use Rattle.sleep_model.specs.Numbers.{after_step, numbers, time_after, time_of, word_step}
 use Rattle.sleep_model.specs.Parts.{Part, OfJournal, Notes, Moves, OfTime, part_of}
 use Rattle.sleep_model.specs.Word.{position}
+use Rattle.log_merge.proofs.Reading.{both_left, both_right}
 use Rattle.merge_laws.specs.Apart.{past_of}
-
-pub both_left : (a b : Bool) → a && b ≡ true → a ≡ true
-both_left true b h = refl
-both_left false b h = h
-
-pub both_right : (a b : Bool) → a && b ≡ true → b ≡ true
-both_right true b h = h
-both_right false b h = absurd (cc)
 
 -- ---- words
 

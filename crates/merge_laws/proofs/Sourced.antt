@@ -1,5 +1,5 @@
 -- Where each source is legal by itself, so are the sources among all entries, and their histories have their places.
-use Rattle.std.proofs.Common.{◌≡◌, ◌∙◌, ◌≤◌, ◌<◌, ◌+◌, ◌==◌, ◌++◌, ℕ, zero, suc, nat_le, Bool, true, false, List, [], ◌∷◌, length, map, reverse, get_or, cond, refl, sym, ap, subst, arith}
+use Rattle.std.proofs.Common.{◌≡◌, ◌∙◌, ◌≤◌, ◌<◌, ◌+◌, ◌==◌, ℕ, zero, suc, nat_le, Bool, true, false, List, [], ◌∷◌, length, map, get_or, cond, refl, ap, subst, arith}
 use Rattle.std.proofs.lemmas.Bool.Decides.{nat_tests}
 use Rattle.std.proofs.lemmas.List.{length-map, length-reverse}
 use Rattle.std.specs.List.{list_all, range_with_len}
@@ -14,7 +14,7 @@ use Rattle.sleep_model.specs.Sources.{SourceStep, history, is_of, most_entries}
 use Rattle.log_merge.specs.Rests.{sources_entries}
 use Rattle.merge_laws.specs.Apart.{IsSource, are_of, is_journals, past_of, source_past}
 use Rattle.merge_laws.proofs.Lists.{all_append, all_head, all_map, all_more, all_order, all_reverse, all_tail}
-use Rattle.merge_laws.proofs.Picks.{first_own, rest_own, history_of_merge}
+use Rattle.merge_laws.proofs.Picks.{first_own, rest_own}
 
 pub same_number : (s : ℕ) → (s == s) ≡ true
 same_number s = grind (arith, nat_tests)
@@ -103,5 +103,5 @@ pub histories_fit : (m : Machine) (past : List Entry) (hs : List (List SourceEnt
 histories_fit m past hs there are short = record {
   there = there;
   short = all_so (is_short past) (range_with_len 0 (length m.sources + 1))
-    (λ s. ap (λ (n : ℕ). nat_le n most_entries) (ap length (are s) ∙ length_past (get_or hs s [])) ∙ short_at hs s short);
+      (λ s. ap (λ (n : ℕ). nat_le n most_entries) (ap length (are s) ∙ length_past (get_or hs s [])) ∙ short_at hs s short);
 }

@@ -1,18 +1,20 @@
 -- Where each entry has its tick and its time to each jump, the merged entries are timed.
-use Rattle.std.proofs.Common.{◌≡◌, ◌∙◌, ◌≤◌, ◌<◌, ◌+◌, ◌==◌, ◌&&◌, ◌||◌, ◌⊎◌, inl, inr, ℕ, zero, suc, nat_le, nat_lt, max, not, Bool, true, false, List, [], ◌∷◌, length, filter, cond, if◌then◌else◌, refl, sym, ap, subst, arith}
+use Rattle.std.proofs.Common.{◌≡◌, ◌∙◌, ◌≤◌, ◌<◌, ◌+◌, ◌==◌, ◌&&◌, ◌||◌, ◌⊎◌, inl, inr, ℕ, nat_le, nat_lt, max, not, Bool, true, false, List, [], ◌∷◌, filter, cond, if◌then◌else◌, refl, sym, ap, subst, arith}
 use Rattle.std.proofs.lemmas.Bool.Decides.{nat_tests}
 use Rattle.std.specs.Prelude.{is_some}
 use Rattle.std.specs.List.{list_all, list_any}
 use Rattle.sleep_model.specs.declared.entry.JournalEntry.{JournalEntry}
 use Rattle.sleep_model.specs.declared.entry.Kind.{Kind}
 use Rattle.sleep_model.specs.declared.entry.Kind.TheVariants as kind
-use Rattle.sleep_model.specs.Merge.{before_or, fits_time, is_actor_before, is_jump, is_timed, is_word_step, position_behind, stands_before, step_number}
+use Rattle.sleep_model.specs.Merge.{before_or, is_actor_before, is_jump, is_timed, position_behind, stands_before, step_number}
 use Rattle.sleep_model.specs.Numbers.{word_step}
 use Rattle.sleep_model.specs.Parts.{part_of}
 use Rattle.log_merge.proofs.Sorts.{Low, Up}
+use Rattle.log_merge.proofs.Reading.{both, both_left, both_right}
 use Rattle.merge_laws.specs.Fitting.{are_raised, has_time, is_earlier, is_later, jumps, stands_right}
-use Rattle.merge_laws.proofs.Lists.{all_head, all_tail, both}
-use Rattle.merge_laws.proofs.Placing.{both_left, both_right, number_is}
+use Rattle.merge_laws.proofs.Lists.{all_head, all_tail}
+use Rattle.merge_laws.proofs.Joint.{less}
+use Rattle.merge_laws.proofs.Placing.{number_is}
 use Rattle.merge_laws.proofs.Sourced.{all_weaker}
 
 -- ---- what holds of each entry
@@ -140,9 +142,6 @@ record At (rest : List JournalEntry) (time jumped last : ℕ) : Type 0 where
   sides : Aside rest
   times : Each (λ x. jumps x ≡ false → (x.entry.time ≡ time) ⊎ AnyJump x.entry.time rest) rest
 
-less : (a b : ℕ) → a < b → nat_lt a b ≡ true
-less a b h = grind (arith, nat_tests)
-
 less_is : (a b : ℕ) → nat_lt a b ≡ true → a < b
 less_is a b h = grind (arith, nat_tests)
 
@@ -182,11 +181,11 @@ after_entry : (e : JournalEntry) (rest : List JournalEntry) (time jumped last : 
 after_entry e rest time jumped last a plain = record {
   past_jump = a.past_jump.1;
   to_jump = each_both (λ x. jumps x ≡ true → last < x.stamp.tick) (Beside e) (λ x. jumps x ≡ true → max last e.stamp.tick < x.stamp.tick) rest
-    (λ x h s leaps. higher last e.stamp.tick x.stamp.tick (h leaps) (s.0 plain leaps).0) a.to_jump.1 a.sides.0;
+      (λ x h s leaps. higher last e.stamp.tick x.stamp.tick (h leaps) (s.0 plain leaps).0) a.to_jump.1 a.sides.0;
   raised = subst (λ (l : List JournalEntry). are_raised time jumped l ≡ true) (ap (λ (b : Bool). cond b (e ∷ filter jumps rest) (filter jumps rest)) plain) a.raised;
   sides = a.sides.1;
   times = each_weaker (λ x. jumps x ≡ false → (x.entry.time ≡ time) ⊎ AnyJump x.entry.time (e ∷ rest)) (λ x. jumps x ≡ false → (x.entry.time ≡ time) ⊎ AnyJump x.entry.time rest) rest
-    (λ x h none. by x (h none)) a.times.1;
+      (λ x h none. by x (h none)) a.times.1;
 }
   where
     by : (x : JournalEntry) → (x.entry.time ≡ time) ⊎ AnyJump x.entry.time (e ∷ rest) → (x.entry.time ≡ time) ⊎ AnyJump x.entry.time rest
@@ -211,12 +210,12 @@ after_jump e rest time jumped last a leaps =
     record {
       past_jump = each_weaker (Beside e) (λ x. jumps x ≡ false → (e.stamp.tick < x.stamp.tick) × (e.entry.time ≤ x.entry.time)) rest (λ x s none. s.1 leaps none) a.sides.0;
       to_jump = each_both (λ x. jumps x ≡ true → last < x.stamp.tick) (λ x. jumps x ≡ true → e.stamp.tick < x.stamp.tick) (λ x. jumps x ≡ true → max last e.stamp.tick < x.stamp.tick) rest
-        (λ x h g is. higher last e.stamp.tick x.stamp.tick (h is) (g is)) a.to_jump.1
-        (each_filtered jumps (λ x. e.stamp.tick < x.stamp.tick) rest (raised_ticks (filter jumps rest) e.entry.time e.stamp.tick e.stamp.tick (omega arith) on));
+          (λ x h g is. higher last e.stamp.tick x.stamp.tick (h is) (g is)) a.to_jump.1
+          (each_filtered jumps (λ x. e.stamp.tick < x.stamp.tick) rest (raised_ticks (filter jumps rest) e.entry.time e.stamp.tick e.stamp.tick (omega arith) on));
       raised = on;
       sides = a.sides.1;
       times = each_both (λ x. jumps x ≡ false → (x.entry.time ≡ time) ⊎ AnyJump x.entry.time (e ∷ rest)) (Beside e) (λ x. jumps x ≡ false → (x.entry.time ≡ e.entry.time) ⊎ AnyJump x.entry.time rest) rest
-        (λ x h s none. by x rise (s.1 leaps none).1 (h none)) a.times.1 a.sides.0;
+          (λ x h s none. by x rise (s.1 leaps none).1 (h none)) a.times.1 a.sides.0;
     }
   where
     by : (x : JournalEntry) → time < e.entry.time → e.entry.time ≤ x.entry.time → (x.entry.time ≡ time) ⊎ AnyJump x.entry.time (e ∷ rest) → (x.entry.time ≡ e.entry.time) ⊎ AnyJump x.entry.time rest

@@ -2,7 +2,6 @@
 use Rattle.std.proofs.Common.{◌≡◌, ◌∙◌, ◌+◌, ℕ, Bool, true, false, List, [], ◌∷◌, length, map, filter, reverse, cond, Option, Some, None, refl, sym, ap, subst}
 use Rattle.std.specs.Prelude.{is_some}
 use Rattle.std.specs.List.{range_with_len}
-use Rattle.sleep_model.specs.declared.word.EventNow.{EventNow}
 use Rattle.sleep_model.specs.declared.word.WordKind.{WordKind}
 use Rattle.sleep_model.specs.declared.entry.Actor.{Actor}
 use Rattle.sleep_model.specs.declared.entry.Entry.{Entry}
@@ -10,16 +9,15 @@ use Rattle.sleep_model.specs.declared.entry.JournalEntry.{JournalEntry}
 use Rattle.sleep_model.specs.declared.entry.SourceEntry.{SourceEntry}
 use Rattle.sleep_model.specs.declared.log.Log.{Log}
 use Rattle.sleep_model.specs.declared.log.LogEnd.TheVariants.{Stuck}
-use Rattle.sleep_model.specs.declared.log.Stats.{Stats}
 use Rattle.sleep_model.specs.declared.machine.Machine.{Machine}
 use Rattle.sleep_model.specs.Due.{all_gone}
 use Rattle.sleep_model.specs.Legal.{IsFinishedLog, IsLegal, IsLegalLog, IsStuckAfter, IsStuckLog, JournalPart, is_finished, is_finished_after, is_idle, next_time, waiting}
-use Rattle.sleep_model.specs.Merge.{all_entries, is_jump, merge, stamped}
+use Rattle.sleep_model.specs.Merge.{all_entries, is_jump, stamped}
 use Rattle.sleep_model.specs.Numbers.{after_step, numbers, time_after, time_of, word_step}
 use Rattle.sleep_model.specs.Parts.{Part, OfJournal, Notes, Moves, OfTime, part_of, is_kept, journal}
 use Rattle.sleep_model.specs.Path.{is_same}
 use Rattle.sleep_model.specs.Sources.{history, stats_at}
-use Rattle.merge_laws.specs.Apart.{AreJumps, IsActor, IsSource, calls_behind, last_word, own_entries, own_of, past_of, source_past}
+use Rattle.merge_laws.specs.Apart.{AreJumps, IsActor, IsSource, calls_after, last_word, own_entries, own_of, past_of, source_past}
 use Rattle.merge_laws.specs.Merging.{AreLegalApart, AreLists, IsFinishedApart, IsMergeOf, IsStuckApart, MergesToFinished, MergesToLegal, MergesToStuck}
 use Rattle.merge_laws.proofs.Joint.{joint}
 use Rattle.merge_laws.proofs.Picks.{history_of_merge, journal_of_merge, picked}
@@ -59,10 +57,10 @@ word_steps (e ∷ past) = by (word_step e.kind) refl (word_steps past)
 
 module _ (m : Machine) (entries : List JournalEntry) (hs : List (List SourceEntry)) (lists : AreLists m entries hs) where
   journal_is : journal (past_of (stamped entries hs)) ≡ past_of entries
-  journal_is = journal_of_merge entries hs lists.kept lists.own lists.fit.journal_rises
+  journal_is = journal_of_merge entries hs lists.kept lists.sourced lists.fit.journal_rises
 
   history_is : (s : ℕ) → history s (past_of (stamped entries hs)) ≡ source_past hs s
-  history_is s = history_of_merge entries hs lists.kept lists.own lists.fit.histories_rise s
+  history_is s = history_of_merge entries hs lists.kept lists.sourced lists.fit.histories_rise s
 
   histories_are : (λ (s : ℕ). history s (past_of (stamped entries hs))) ≡ source_past hs
   histories_are = λ i s. history_is s i
@@ -75,12 +73,12 @@ module _ (m : Machine) (entries : List JournalEntry) (hs : List (List SourceEntr
 
   legal : AreLegalApart m entries hs (λ who. own_entries who entries hs) → IsLegal m (past_of (stamped entries hs))
   legal apart =
-      let there = all_there m entries hs lists.kept lists.own lists.count in
+      let there = all_there m entries hs lists.kept lists.sourced lists.count in
       let clock = timed_clock (stamped entries hs) lists.fit.timed in
       let words = chain_numbers (stamped entries hs) lists.fit.chained in
-      let actors : (who : Actor) → IsActor who (λ k. calls_behind m who k (journal (past_of (stamped entries hs)))) (own_of who (past_of (stamped entries hs))) = λ who.
-      subst (λ (own : List Entry). IsActor who (λ k. calls_behind m who k (journal (past_of (stamped entries hs)))) own) (sym (own_is who))
-      (subst (λ (j : List Entry). IsActor who (λ k. calls_behind m who k j) (past_of (own_entries who entries hs))) (sym journal_is) (apart.of_actors who)) in
+      let actors : (who : Actor) → IsActor who (λ k. calls_after m who k (journal (past_of (stamped entries hs)))) (own_of who (past_of (stamped entries hs))) = λ who.
+      subst (λ (own : List Entry). IsActor who (λ k. calls_after m who k (journal (past_of (stamped entries hs)))) own) (sym (own_is who))
+      (subst (λ (j : List Entry). IsActor who (λ k. calls_after m who k j) (past_of (own_entries who entries hs))) (sym journal_is) (apart.of_actors who)) in
       let jumps : AreJumps m (journal (past_of (stamped entries hs))) (λ s. history s (past_of (stamped entries hs))) =
       subst (λ (j : List Entry). AreJumps m j (λ s. history s (past_of (stamped entries hs)))) (sym journal_is)
       (subst (λ (of : ℕ → List Entry). AreJumps m (past_of entries) of) (sym histories_are) apart.of_jumps) in

@@ -1,5 +1,5 @@
 -- What a journal and the sources' histories say before they are merged: each list, each actor and each jump by itself (own).
-use Rattle.std.specs.Prelude.{◌≡◌, ◌+◌, ℕ, suc, Bool, true, ◌&&◌, nat_le, nat_lt, List, [], ◌∷◌, length, map, filter, reverse, if◌then◌else◌, Some, slice_get, slice_index_or}
+use Rattle.std.specs.Prelude.{◌≡◌, ℕ, suc, Bool, true, ◌&&◌, nat_le, nat_lt, List, [], ◌∷◌, length, map, filter, reverse, if◌then◌else◌, Some, slice_get, slice_index_or}
 use Rattle.std.specs.List.{list_all}
 use Rattle.sleep_model.specs.declared.word.EventNow.{EventNow}
 use Rattle.sleep_model.specs.declared.entry.Actor.{Actor}
@@ -63,10 +63,10 @@ abbrev pub own_of : Actor → List Entry → List Entry
 own_of who past = filter (λ e. is_same e.actor who) past
 
 -- the calls that an actor has to have made behind its first k entries of the journal: those of others change none of them
-abbrev pub calls_behind : Machine → Actor → ℕ → List Entry → List Kind
-calls_behind m who k [] = calls_of m who []
-calls_behind m who k (e ∷ past) =
-    if nat_le (length (own_of who (e ∷ past))) k then calls_of m who (e ∷ past) else calls_behind m who k past
+abbrev pub calls_after : Machine → Actor → ℕ → List Entry → List Kind
+calls_after m who k [] = calls_of m who []
+calls_after m who k (e ∷ past) =
+    if nat_le (length (own_of who (e ∷ past))) k then calls_of m who (e ∷ past) else calls_after m who k past
 
 -- a note is the next of these calls, of which n were made; a timer's is the expiry of its source
 abbrev pub IsCall : Actor → List Kind → ℕ → Kind → Type 0

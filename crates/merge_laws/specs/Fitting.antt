@@ -79,7 +79,7 @@ has_time entries e =
 -- each list has its own entries alone and rises, and each actor has kept its own; the steps on the word are counted and chained, each look is at a word that they leave, and each entry has its tick and its time to each jump
 pub record FitApart
     (m : Machine) (journal : List JournalEntry) (histories : List (List SourceEntry)) (own : Actor → List JournalEntry)
-  : Type 0 where
+    : Type 0 where
   pub kept : list_all is_journals journal ≡ true
   pub sourced : are_of 0 histories ≡ true
   pub count : length histories ≡ length m.sources + 1
@@ -93,7 +93,7 @@ pub record FitApart
   pub ticks : list_all (λ e. nat_lt 0 e.stamp.tick) (all_entries journal histories) ≡ true
   pub raised : are_raised 0 0 (filter jumps journal) ≡ true
   pub sides : list_all (λ e. list_all (stands_right e) (all_entries journal histories)) (all_entries journal histories)
-    ≡ true
+      ≡ true
   pub times : list_all (has_time (all_entries journal histories)) (all_entries journal histories) ≡ true
 
 -- lists that fit by themselves fit together

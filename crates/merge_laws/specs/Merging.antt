@@ -12,12 +12,12 @@ use Rattle.sleep_model.specs.Legal.{JournalPart, IsLegalLog, IsFinishedLog, IsSt
 use Rattle.sleep_model.specs.Merge.{IsFit, merge}
 use Rattle.sleep_model.specs.Numbers.{time_of}
 use Rattle.sleep_model.specs.Sources.{most_entries, stats_at}
-use Rattle.merge_laws.specs.Apart.{AreJumps, IsActor, IsSource, are_of, calls_behind, is_journals, last_word, own_entries, past_of, source_past}
+use Rattle.merge_laws.specs.Apart.{AreJumps, IsActor, IsSource, are_of, calls_after, is_journals, last_word, own_entries, past_of, source_past}
 
 -- each list has its own entries alone, one history a source of the machine, autosleep last, none longer than its places; and they fit
 pub record AreLists (m : Machine) (journal : List JournalEntry) (histories : List (List SourceEntry)) : Type 0 where
   pub kept : list_all is_journals journal ≡ true
-  pub own : are_of 0 histories ≡ true
+  pub sourced : are_of 0 histories ≡ true
   pub count : length histories ≡ length m.sources + 1
   pub short : list_all (λ history. nat_le (length history) most_entries) histories ≡ true
   pub fit : IsFit m journal histories
@@ -25,25 +25,28 @@ pub record AreLists (m : Machine) (journal : List JournalEntry) (histories : Lis
 -- the journal, each source, each actor by its own entries, and each jump is legal by itself
 pub record AreLegalApart
     (m : Machine) (journal : List JournalEntry) (histories : List (List SourceEntry)) (own : Actor → List JournalEntry)
-  : Type 0 where
+    : Type 0 where
   pub of_journal : JournalPart m (past_of journal)
   pub of_sources : (s : ℕ) → IsSource (source_past histories s)
-  pub of_actors : (who : Actor) → IsActor who (λ k. calls_behind m who k (past_of journal)) (past_of (own who))
+  pub of_actors : (who : Actor) → IsActor who (λ k. calls_after m who k (past_of journal)) (past_of (own who))
   pub of_jumps : AreJumps m (past_of journal) (source_past histories)
 
 -- a log has the merge of these as its entries, and the statistics of each history at the journal's time
-pub record IsMergeOf (m : Machine) (journal : List JournalEntry) (histories : List (List SourceEntry)) (log : Log) : Type 0 where
+pub record IsMergeOf (m : Machine) (journal : List JournalEntry) (histories : List (List SourceEntry)) (log : Log)
+    : Type 0 where
   pub entries : log.entries ≡ merge journal histories
   pub stats : log.stats
-    ≡ map (λ s. stats_at (source_past histories s) (time_of (past_of journal))) (range_with_len 0 (length m.sources + 1))
+      ≡ map (λ s. stats_at (source_past histories s) (time_of (past_of journal))) (range_with_len 0 (length m.sources + 1))
 
 -- the run is over, by the journal, the histories and the last word
-pub record IsFinishedApart (m : Machine) (journal : List JournalEntry) (histories : List (List SourceEntry)) (log : Log) : Type 0 where
+pub record IsFinishedApart (m : Machine) (journal : List JournalEntry) (histories : List (List SourceEntry)) (log : Log)
+    : Type 0 where
   pub says : log.end ≡ Finished
   pub finished : is_finished m (past_of journal) (source_past histories) (last_word journal histories) ≡ true
 
 -- nobody goes on, by the journal, the histories and the last word
-pub record IsStuckApart (m : Machine) (journal : List JournalEntry) (histories : List (List SourceEntry)) (log : Log) : Type 0 where
+pub record IsStuckApart (m : Machine) (journal : List JournalEntry) (histories : List (List SourceEntry)) (log : Log)
+    : Type 0 where
   pub says : log.end ≡ Stuck (waiting m (past_of journal) (last_word journal histories))
   pub left : all_gone m (past_of journal) ≡ false
   pub idle : is_idle m (past_of journal) (source_past histories) (last_word journal histories) ≡ true

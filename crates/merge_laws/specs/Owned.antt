@@ -13,12 +13,12 @@ use Rattle.merge_laws.specs.Apart.{is_journals, own_entries}
 
 -- an actor has made these entries, in the order of its ticks: the journal's are its entries there, and those of each source its entries in that history
 pub record IsOwnList (m : Machine) (who : Actor) (own journal : List JournalEntry) (histories : List (List SourceEntry))
-  : Type 0 where
+    : Type 0 where
   pub rising : rises own ≡ true
   pub there : list_all (λ e. is_there m (part_of e.entry.kind)) own ≡ true
   pub in_journal : filter is_journals own ≡ entries_of who journal
   pub in_histories : (s : ℕ) → filter (λ e. is_of s (part_of e.entry.kind)) own
-    ≡ entries_of who (map of_source (slice_index_or histories s []))
+      ≡ entries_of who (map of_source (slice_index_or histories s []))
 
 -- such a list is what the journal and the histories have of the actor, in the order of their stamps
 abbrev pub OwnListsAreOwnEntries : Type 0

@@ -1,8 +1,7 @@
 -- What is so for each actor and source of the machine is so for all that there are.
-use Rattle.std.proofs.Common.{◌≡◌, ◌∙◌, ◌≤◌, ◌<◌, ◌+◌, ◌==◌, ◌&&◌, ◌||◌, ◌++◌, ℕ, zero, suc, nat_le, nat_lt, Bool, true, false, List, [], ◌∷◌, length, map, filter, get_or, cond, refl, sym, ap, subst, arith}
+use Rattle.std.proofs.Common.{◌≡◌, ◌∙◌, ◌≤◌, ◌<◌, ◌==◌, ◌&&◌, ◌||◌, ℕ, zero, suc, nat_lt, Bool, true, false, List, [], ◌∷◌, length, map, filter, get_or, cond, refl, sym, ap, subst, arith}
 use Rattle.std.proofs.lemmas.Bool.Decides.{nat_tests}
-use Rattle.std.proofs.lemmas.List.{append-nil, get_or_past}
-use Rattle.std.proofs.lemmas.List.Elements.{filter-append}
+use Rattle.std.proofs.lemmas.List.{get_or_past}
 use Rattle.std.specs.List.{list_all, list_any}
 use Rattle.sleep_model.specs.declared.entry.Actor.{Actor}
 use Rattle.sleep_model.specs.declared.entry.Actor.TheVariants as actor
@@ -14,13 +13,14 @@ use Rattle.sleep_model.specs.Merge.{actors_of, all_entries, entries_of, in_order
 use Rattle.sleep_model.specs.Parts.{part_of}
 use Rattle.sleep_model.specs.Path.{is_same}
 use Rattle.sleep_model.specs.Sources.{is_of}
-use Rattle.merge_laws.specs.Apart.{IsActor, IsSource, calls_behind, is_journals, own_entries, past_of, source_past}
+use Rattle.merge_laws.specs.Apart.{IsActor, IsSource, calls_after, is_journals, own_entries, past_of, source_past}
 use Rattle.merge_laws.specs.Fitting.{FitApart}
 use Rattle.merge_laws.specs.Merging.{AreLegalApart}
 use Rattle.merge_laws.specs.Owned.{IsOwnList}
 use Rattle.merge_laws.proofs.Calling.{filter_twice}
 use Rattle.merge_laws.proofs.Lists.{all_head, all_order, all_tail, filter_order, order_rising}
 use Rattle.merge_laws.proofs.Picks.{history_among, history_rises, journals_of_all}
+use Rattle.merge_laws.proofs.Placing.{number_is}
 use Rattle.merge_laws.proofs.Sourced.{entries_there}
 use Rattle.merge_trials.specs.Tests.{Below, FitTested, LegalTested, OfEach, TestsTell}
 
@@ -44,9 +44,6 @@ all_sources hs h s = by (nat_lt s (length hs)) refl
         subst (λ (l : List SourceEntry). IsSource (past_of (map of_source l))) (sym (get_or_past hs s [] past)) tt
 
 -- ---- actors
-
-number_is : (a b : ℕ) → (a == b) ≡ true → a ≡ b
-number_is a b h = grind (arith, nat_tests)
 
 actor_is : (a b : Actor) → is_same a b ≡ true → a ≡ b
 actor_is (actor.Script i) (actor.Script j) h = ap actor.Script (number_is i j h)
@@ -108,10 +105,10 @@ module _ (m : Machine) (journal : List JournalEntry) (hs : List (List SourceEntr
   own_kept who = record {
     rising = own_rises who;
     there = all_order (λ e. is_there m (part_of e.entry.kind)) (entries_of who (all_entries journal hs))
-      (all_of_filter (λ e. is_there m (part_of e.entry.kind)) (λ e. is_same e.entry.actor who) (all_entries journal hs) (entries_there m journal hs t.kept t.sourced t.count));
+        (all_of_filter (λ e. is_there m (part_of e.entry.kind)) (λ e. is_same e.entry.actor who) (all_entries journal hs) (entries_there m journal hs t.kept t.sourced t.count));
     in_journal = picked_own who is_journals journal (journals_of_all journal hs t.kept t.sourced) t.journal_rises;
     in_histories = λ s. picked_own who (λ e. is_of s (part_of e.entry.kind)) (map of_source (get_or hs s []))
-      (history_among journal hs t.kept t.sourced s) (history_rises hs s t.histories_rise);
+        (history_among journal hs t.kept t.sourced s) (history_rises hs s t.histories_rise);
   }
 
   fit : FitApart m journal hs (λ who. own_entries who journal hs)
@@ -137,8 +134,8 @@ module _ (m : Machine) (journal : List JournalEntry) (hs : List (List SourceEntr
     of_journal = l.of_journal;
     of_sources = all_sources hs l.of_sources;
     of_actors = λ who.
-      each_or_none (λ who. IsActor who (λ k. calls_behind m who k (past_of journal)) (past_of (own_entries who journal hs))) (actors_of m) who (all_entries journal hs) l.of_actors t.owned
-      (λ none. subst (λ (xs : List JournalEntry). IsActor who (λ k. calls_behind m who k (past_of journal)) (past_of (in_order xs))) (sym none) tt);
+        each_or_none (λ who. IsActor who (λ k. calls_after m who k (past_of journal)) (past_of (own_entries who journal hs))) (actors_of m) who (all_entries journal hs) l.of_actors t.owned
+        (λ none. subst (λ (xs : List JournalEntry). IsActor who (λ k. calls_after m who k (past_of journal)) (past_of (in_order xs))) (sym none) tt);
     of_jumps = l.of_jumps;
   }
 

@@ -9,7 +9,7 @@ use Rattle.sleep_model.specs.Legal.{JournalPart}
 use Rattle.sleep_model.specs.Merge.{actors_of, all_entries, is_chained, of_source, rises}
 use Rattle.sleep_model.specs.Path.{is_same}
 use Rattle.sleep_model.specs.Sources.{most_entries}
-use Rattle.merge_laws.specs.Apart.{AreJumps, IsActor, IsSource, are_of, calls_behind, is_journals, own_entries, past_of, source_past, steps_of}
+use Rattle.merge_laws.specs.Apart.{AreJumps, IsActor, IsSource, are_of, calls_after, is_journals, own_entries, past_of, source_past, steps_of}
 use Rattle.merge_laws.specs.Fitting.{FitApart, are_counted, are_raised, has_time, is_look, jumps, no_steps, stands_right}
 use Rattle.merge_laws.specs.Merging.{AreLegalApart}
 
@@ -32,7 +32,7 @@ pub record FitTested (m : Machine) (journal : List JournalEntry) (histories : Li
   pub journal_rises : rises journal ≡ true
   pub histories_rise : list_all (λ history. rises (map of_source history)) histories ≡ true
   pub owned : list_all (λ e. list_any (λ who. is_same e.entry.actor who) (actors_of m)) (all_entries journal histories)
-    ≡ true
+      ≡ true
   pub actors_rise : list_all (λ who. rises (own_entries who journal histories)) (actors_of m) ≡ true
   pub counted : are_counted 0 (steps_of journal histories) ≡ true
   pub chained : is_chained no_steps (steps_of journal histories) ≡ true
@@ -40,7 +40,7 @@ pub record FitTested (m : Machine) (journal : List JournalEntry) (histories : Li
   pub ticks : list_all (λ e. nat_lt 0 e.stamp.tick) (all_entries journal histories) ≡ true
   pub raised : are_raised 0 0 (filter jumps journal) ≡ true
   pub sides : list_all (λ e. list_all (stands_right e) (all_entries journal histories)) (all_entries journal histories)
-    ≡ true
+      ≡ true
   pub times : list_all (has_time (all_entries journal histories)) (all_entries journal histories) ≡ true
 
 -- the entries are legal, each by itself
@@ -48,8 +48,8 @@ pub record LegalTested (m : Machine) (journal : List JournalEntry) (histories : 
   pub of_journal : JournalPart m (past_of journal)
   pub of_sources : Below (λ s. IsSource (source_past histories s)) (length histories)
   pub of_actors : OfEach
-    (λ who. IsActor who (λ k. calls_behind m who k (past_of journal)) (past_of (own_entries who journal histories)))
-    (actors_of m)
+      (λ who. IsActor who (λ k. calls_after m who k (past_of journal)) (past_of (own_entries who journal histories)))
+      (actors_of m)
   pub of_jumps : AreJumps m (past_of journal) (source_past histories)
 
 -- entries that pass the tests meet the premises of the law

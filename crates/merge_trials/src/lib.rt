@@ -2,6 +2,8 @@
 //! stands on it.
 #![tactic(auto)]
 
+ghost use Rattle.std.specs.Prelude.{◌≡◌, false};
+ghost use Rattle.merge_trials.specs.Broken.{broken, chain_fits, count_fits, jumps_fit, looks_fit, sides_fit, ticks_fit, times_fit, with_pos, with_tick, with_time};
 ghost use Rattle.merge_trials.specs.Tests.{TestsTell};
 ghost use Rattle.merge_trials.specs.Worked.{IsApart, IsApartAgain};
 ghost use Rattle.worked_logs.specs.Attempts.{event_stops_a_device_machine, event_stops_a_device_entries, hard_event_machine, hard_event_entries, callback_reports_machine, callback_reports_entries};
@@ -28,4 +30,19 @@ pub fn log_of_two_workers_is_kept_apart()
 /// What passes the tests meets the premises of `kept_lists_merge_to_a_legal_log`.
 pub fn tests_tell_the_premises()
     ensures { TestsTell }
+{}
+
+/// Lists of which one entry is broken do not fit: a step at a position that is not its own, or after
+/// steps that leave another word; a look at a position of another word; an entry without a tick; a jump
+/// that does not raise the time; an entry behind a jump with a tick before it, or before a jump with its
+/// time; an entry at a time of no jump.
+pub fn broken_lists_do_not_fit()
+    ensures step_position { count_fits (broken 10 (with_pos 5)) ≡ false }
+    ensures step_order { chain_fits (broken 10 (with_pos 0)) ≡ false }
+    ensures look_position { looks_fit (broken 4 (with_pos 0)) ≡ false }
+    ensures no_tick { ticks_fit (broken 0 (with_tick 0)) ≡ false }
+    ensures jump_back { jumps_fit (broken 8 (with_time 50)) ≡ false }
+    ensures tick_of_the_other_side { sides_fit (broken 4 (with_tick 2)) ≡ false }
+    ensures time_of_the_other_side { sides_fit (broken 2 (with_time 50)) ≡ false }
+    ensures no_time { times_fit (broken 4 (with_time 60)) ≡ false }
 {}
