@@ -6,6 +6,7 @@ use Rattle.sleep_model.specs.declared.entry.JournalEntry.{JournalEntry}
 use Rattle.sleep_model.specs.declared.entry.SourceEntry.{SourceEntry}
 use Rattle.sleep_model.specs.declared.log.Log.{Log}
 use Rattle.sleep_model.specs.declared.log.LogEnd.TheVariants.{Finished, Stuck}
+use Rattle.sleep_model.specs.declared.log.Stats.{Stats}
 use Rattle.sleep_model.specs.declared.machine.Machine.{Machine}
 use Rattle.sleep_model.specs.Due.{all_gone}
 use Rattle.sleep_model.specs.Legal.{JournalPart, IsLegalLog, IsFinishedLog, IsStuckLog, is_finished, is_idle, next_time, waiting}
@@ -31,12 +32,17 @@ pub record AreLegalApart
   pub of_actors : (who : Actor) → IsActor who (λ k. calls_after m who k (past_of journal)) (past_of (own who))
   pub of_jumps : AreJumps m (past_of journal) (source_past histories)
 
--- a log has the merge of these as its entries, and the statistics of each history at the journal's time
+-- the statistics of each history at the journal's time, autosleep last
+abbrev pub stats_apart : Machine → List JournalEntry → List (List SourceEntry) → List Stats
+stats_apart m journal histories =
+    map (λ s. stats_at (source_past histories s) (time_of (past_of journal)))
+    (range_with_len 0 (length m.sources + 1))
+
+-- a log has the merge of these as its entries, and their statistics
 pub record IsMergeOf (m : Machine) (journal : List JournalEntry) (histories : List (List SourceEntry)) (log : Log)
     : Type 0 where
   pub entries : log.entries ≡ merge journal histories
-  pub stats : log.stats
-      ≡ map (λ s. stats_at (source_past histories s) (time_of (past_of journal))) (range_with_len 0 (length m.sources + 1))
+  pub stats : log.stats ≡ stats_apart m journal histories
 
 -- the run is over, by the journal, the histories and the last word
 pub record IsFinishedApart (m : Machine) (journal : List JournalEntry) (histories : List (List SourceEntry)) (log : Log)
