@@ -1,5 +1,5 @@
 mod Fields
-mod Orders
-mod Reading
+pub mod Orders
+pub mod Reading
 mod Rising
-mod Sorts
+pub mod Sorts

@@ -20,15 +20,15 @@ InOrder entries = Up stands_before entries
 
 -- ---- from the tests and back
 
-both_left : (a b : Bool) → a && b ≡ true → a ≡ true
+pub both_left : (a b : Bool) → a && b ≡ true → a ≡ true
 both_left true b h = refl
 both_left false b h = h
 
-both_right : (a b : Bool) → a && b ≡ true → b ≡ true
+pub both_right : (a b : Bool) → a && b ≡ true → b ≡ true
 both_right true b h = h
 both_right false b h = absurd (true≢false (sym h))
 
-both : (a b : Bool) → a ≡ true → b ≡ true → a && b ≡ true
+pub both : (a b : Bool) → a ≡ true → b ≡ true → a && b ≡ true
 both a b p q = rw (p, q) refl
 
 not_true : (b : Bool) → not b ≡ true → b ≡ false
@@ -87,15 +87,15 @@ dropped_in_order n entries h = test_from (drop n entries) (order_dropped n entri
 
 -- ---- the front of a list in order
 
-put_front : (x : JournalEntry) (ys : List JournalEntry) → Below x ys → put_in_order x ys ≡ x ∷ ys
+pub put_front : (x : JournalEntry) (ys : List JournalEntry) → Below x ys → put_in_order x ys ≡ x ∷ ys
 put_front x [] h = refl
 put_front x (y ∷ ys) h = rw (h.0) refl
 
-low_order : (a : JournalEntry) (xs : List JournalEntry) → Below a xs → Below a (in_order xs)
+pub low_order : (a : JournalEntry) (xs : List JournalEntry) → Below a xs → Below a (in_order xs)
 low_order a [] h = tt
 low_order a (x ∷ xs) h = low_put_in_order a x (in_order xs) h.0 (low_order a xs h.1)
 
-order_same : (xs : List JournalEntry) → InOrder xs → in_order xs ≡ xs
+pub order_same : (xs : List JournalEntry) → InOrder xs → in_order xs ≡ xs
 order_same [] h = refl
 order_same (x ∷ xs) h = ap (put_in_order x) (order_same xs h.1) ∙ put_front x xs h.0
 

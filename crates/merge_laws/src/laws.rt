@@ -1,0 +1,42 @@
+//! What the lists that several hands keep apart say of their one log. Each premise is of one list, of
+//! one actor or of one jump, as its keeper knows it.
+
+ghost use Rattle.merge_laws.specs.Fitting.{FitsTogether, KeptListsMerge};
+ghost use Rattle.merge_laws.specs.Merging.{MergesToFinished, MergesToLegal, MergesToStuck};
+ghost use Rattle.merge_laws.specs.Owned.{OwnListsAreOwnEntries};
+
+/// Where the lists of journal, histories and actors fit, the journal and each source are legal by
+/// themselves, each actor's entries are its steps, and at each jump nobody was enabled on the journal,
+/// the histories and the word that its maker held, the merge is a legal log. Where the run is over by
+/// the journal, the histories and the last word, it is a finished or a stuck one.
+pub fn kept_lists_merge_to_a_legal_log()
+    ensures { KeptListsMerge }
+{}
+
+/// Lists fit together where each shows it by itself: each has its own entries alone and rises, and so
+/// does what each actor keeps; the steps on the word are counted and chained, each look is at a word
+/// that they leave, and each entry has its tick and its time to each jump.
+pub fn lists_fit_together()
+    ensures { FitsTogether }
+{}
+
+/// What an actor keeps of its entries, in the order of its ticks, is what the journal and the histories
+/// have of it, in the order of their stamps.
+pub fn own_lists_are_own_entries()
+    ensures { OwnListsAreOwnEntries }
+{}
+
+/// Where the lists fit together, and each is legal by itself, the merge is a legal log.
+pub fn merges_to_a_legal_log()
+    ensures { MergesToLegal }
+{}
+
+/// Where the run is over by the journal, the histories and the last word, the merge is a finished log.
+pub fn merges_to_a_finished_log()
+    ensures { MergesToFinished }
+{}
+
+/// Where nobody goes on by them, the merge is a stuck log, which says for whom and why.
+pub fn merges_to_a_stuck_log()
+    ensures { MergesToStuck }
+{}

@@ -1,0 +1,10 @@
+//! The laws of the one log that a journal and the sources' histories merge to, from what each of them
+//! says by itself (own: Linux keeps no such log).
+#![tactic(auto)]
+
+mod laws;
+
+pub use laws::{
+    kept_lists_merge_to_a_legal_log, lists_fit_together, merges_to_a_finished_log,
+    merges_to_a_legal_log, merges_to_a_stuck_log, own_lists_are_own_entries,
+};
