@@ -1,5 +1,6 @@
 pub mod CoreFields
 pub mod Cores
+pub mod FirstParts
 pub mod Histories
 pub mod HistoryFields
 pub mod Numbered

@@ -1,6 +1,8 @@
 ghost use Rattle.std.specs.Prelude.{◌≡◌, map, IfOk};
 ghost use Rattle.sleep_model.specs.Runtime.{is_async};
 ghost use Rattle.async_board.specs.Boards.{first_board};
+ghost use Rattle.sleep_model.specs.Accepted.{IsAccepted};
+ghost use Rattle.sleep_core.specs.FirstParts.{AreFirst};
 
 use crate::clock::time_after;
 use async_board::Board;
@@ -65,8 +67,41 @@ fn first_board(alloc: Global, devices: &[Device], links: Links) -> Result<Board,
     Board::wired(alloc, links, beside)
 }
 
+/// The parts that take memory, but for the board.
+#[derive(Drop)]
+struct Parts<'m> {
+    devices: Devices,
+    tasks: Tasks,
+    freezer: Freezer<'m>,
+    platform: Platform,
+    syscore: Syscore,
+}
+
+impl<'m> Parts<'m> {
+    /// The parts of a machine before any entry. `Mem` where there is no memory.
+    fn new(alloc: Global, machine: &'m Machine) -> Result<Self, Mem>
+        requires { IsAccepted machine.now }
+        ensures { IfOk result (AreFirst machine.now) }
+    {
+        let syscore = Syscore::new(alloc, machine.syscore.len() as u32)?;
+        let platform = Platform::new(alloc, machine)?;
+        let freezer = Freezer::new(alloc, machine.actors.as_slice())?;
+        let tasks = Tasks::new(alloc, machine.actors.len(), machine.marks.len())?;
+        let devices = Devices::new(alloc, machine.devices.as_slice())?;
+        Ok(Parts {
+            devices,
+            tasks,
+            freezer,
+            platform,
+            syscore,
+        })
+    }
+}
+
 impl<'m> History<'m> {
-    ghost use Rattle.std.specs.Prelude.{◌≡◌, ◌≤◌, ◌<◌, ◌+◌, ◌-◌, ◌^◌, [], false, length, reverse, IsOk, OnOk, OnErr, IfOk};
+    ghost use Rattle.std.specs.Prelude.{◌≡◌, ◌≤◌, ◌<◌, ◌+◌, ◌-◌, ◌^◌, [], false, length, map, reverse, IsOk, OnOk, OnErr, IfOk};
+    ghost use Rattle.sleep_model.specs.Runtime.{is_async};
+    ghost use Rattle.async_board.specs.Boards.{first_board};
     ghost use Rattle.attempt_room.specs.Room.{enough};
     ghost use Rattle.sleep_model.specs.Numbers.{time_of};
     ghost use Rattle.sleep_model.specs.Path.{maker};
@@ -75,29 +110,48 @@ impl<'m> History<'m> {
     ghost use Rattle.sleep_state.specs.Places.{entries};
     ghost use Rattle.sleep_core.specs.Histories.{Admits, after_entry, places_for, HasRoom, last_stamp, guard_of, path_of, devices_of, board_of, tasks_of, freezer_of, autosleep_of, steps_of, parts_of};
 
+    /// The empty journal of a machine, and its parts before any entry.
+    fn of_parts(machine: &'m Machine, journal: Journal, parts: Parts<'m>, board: Board) -> Self
+        requires accepted { IsAccepted machine.now }
+        requires journal { journal ≡ record { past = []; room = 0 } }
+        requires parts { AreFirst machine.now parts }
+        requires board { board ≡ first_board (parents_of machine.now.devices) (reverse machine.now.links) (map is_async machine.now.devices) }
+        ensures { result ≡ record { machine = machine.now; past = []; room = 0 } }
+    {
+        let Parts {
+            devices,
+            tasks,
+            freezer,
+            platform,
+            syscore,
+        } = parts;
+        History {
+            machine,
+            journal,
+            last: Stamp { pos: 0, tick: 0 },
+            time: 0,
+            guard: Guard::new(),
+            path: Path::new(),
+            devices,
+            board,
+            tasks,
+            freezer,
+            autosleep: Autosleep::new(),
+            platform,
+            syscore,
+        }
+    }
+
     /// The empty journal of a machine, whose links these are. `Mem` where there is no memory.
     pub fn new(alloc: Global, machine: &'m Machine, links: Links) -> Result<Self, Mem>
         requires accepted { IsAccepted machine.now }
         requires links { links ≡ record { parents = parents_of machine.now.devices; links = reverse machine.now.links } }
         ensures { IfOk result (λ h. h ≡ record { machine = machine.now; past = []; room = 0 }) }
     {
-        let devices = machine.devices.as_slice();
-        let board = first_board(alloc, devices, links)?;
-        Ok(History {
-            machine,
-            journal: Journal::new(alloc),
-            last: Stamp { pos: 0, tick: 0 },
-            time: 0,
-            guard: Guard::new(),
-            path: Path::new(),
-            devices: Devices::new(alloc, devices)?,
-            board,
-            tasks: Tasks::new(alloc, machine.actors.len(), machine.marks.len())?,
-            freezer: Freezer::new(alloc, machine.actors.as_slice())?,
-            autosleep: Autosleep::new(),
-            platform: Platform::new(alloc, machine)?,
-            syscore: Syscore::new(alloc, machine.syscore.len() as u32)?,
-        })
+        let board = first_board(alloc, machine.devices.as_slice(), links)?;
+        let parts = Parts::new(alloc, machine)?;
+        let journal = Journal::new(alloc);
+        Ok(History::of_parts(machine, journal, parts, board))
     }
 
     /// Appends an entry in a reserved place.
@@ -111,24 +165,18 @@ impl<'m> History<'m> {
             actor,
             kind,
         } = stamped.entry;
-        self.journal.put(stamped);
         self.last = stamped.stamp;
+        self.time = time_after(kind, time, self.time);
+        self.guard.note(kind, now);
+        self.path.note(kind, actor, pos(now), time);
         self.devices.note(kind, actor);
         self.board.note(kind);
-        match kind {
-            // The most entries by far: they move nothing else.
-            Kind::Begin(..) | Kind::End(..) | Kind::Schedule(..) => {}
-            _ => {
-                self.time = time_after(kind, time, self.time);
-                self.guard.note(kind, now);
-                self.path.note(kind, actor, pos(now), time);
-                self.tasks.note(actor, kind);
-                self.freezer.note(actor, kind);
-                self.autosleep.note(kind, actor);
-                self.platform.note(kind);
-                self.syscore.note(kind);
-            }
-        }
+        self.tasks.note(actor, kind);
+        self.freezer.note(actor, kind);
+        self.autosleep.note(kind, actor);
+        self.platform.note(kind);
+        self.syscore.note(kind);
+        self.journal.put(stamped);
     }
 
     /// Sees that at least so many places are reserved. After an error nothing has changed.

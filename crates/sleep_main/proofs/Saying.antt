@@ -1,6 +1,7 @@
 -- What is written piece by piece.
 use Rattle.std.proofs.Common.{◌≡◌, ◌≤◌, ◌+◌, ◌++◌, ◌∙◌, ℕ, List, [], Option, Some, None, Result, Ok, Err, refl, sym, ap, append_assoc, arith}
 use Rattle.std.proofs.lemmas.List.{append-nil}
+use Rattle.std.specs.Prelude.{◌∷◌, codes, decimal, string_bytes}
 use Rattle.std.specs.Io.KnownBytes.{Appends}
 use Rattle.sleep_base.specs.declared.outside.Failed.{Failed}
 use Rattle.sleep_base.specs.Faults.{Rose}
@@ -29,8 +30,8 @@ both_written old mid new before then now one other (Err fault) h l g =
 
 -- what an ending says, in its pieces
 pub text_parts : (ending : Ending) → ((head_of ending ++ number_of ending) ++ colon_of ending) ++ (name_of ending ++ tail_of ending) ≡ text_of ending
-text_parts (Broken rule place) = ?
-text_parts (SourceFull name) = ap (λ bs. bs ++ (name_of (SourceFull name) ++ tail_of (SourceFull name))) (append-nil _ ∙ append-nil _) ∙ ?
+text_parts (Broken rule place) = sym (append_assoc ((codes "machine: rule " ++ decimal rule) ++ codes ": ") (string_bytes place) (10 ∷ []))
+text_parts (SourceFull name) = ap (λ bs. bs ++ (name ++ 10 ∷ [])) (append-nil (codes "source full: " ++ []) ∙ append-nil (codes "source full: ")) ∙ sym (append_assoc (codes "source full: ") name (10 ∷ []))
 text_parts Ran = refl
 text_parts Stuck = refl
 text_parts NoForm = append-nil _ ∙ (append-nil _ ∙ append-nil _)

@@ -214,13 +214,25 @@ impl<'m> Run<'m> {
         entries
     }
 
+    /// How a run that is over ended, and the statistics of all sources then.
+    fn ending(&self, alloc: Global, rest: Rest) -> Result<(LogEnd, Vec<Stats>), AllocError>
+        requires { AfterAll self.now (Ok rest) }
+        ensures end { IfOk result (λ e. EndsSo self.now e.0) }
+        ensures stats { IfOk result (λ e. e.1.items ≡ stats_of self.now.machine self.now.past) }
+    {
+        let end = self.end(alloc, rest)?;
+        let stats = self.stats(alloc)?;
+        Ok((end, stats))
+    }
+
     /// The log of a run that is over.
     pub(crate) fn into_log(self, alloc: Global, rest: Rest) -> Result<Log, Mem>
         requires { AfterAll self (Ok rest) }
         ensures { IfOk result (λ log. IsRun self.entry.machine log) }
     {
-        let end = self.end(alloc, rest)?;
-        let stats = self.stats(alloc)?;
-        Ok(log_of(self.into_entries(), stats, end))
+        match self.ending(alloc, rest) {
+            Ok((end, stats)) => Ok(log_of(self.into_entries(), stats, end)),
+            Err(_) => Err(Mem),
+        }
     }
 }

@@ -15,10 +15,10 @@ pub(crate) struct Waiters {
     /// Scripts that wait for events to end, for a wakeup, for the machine to wake, or as makers of an attempt
     /// for tasks.
     for_word: Asks,
-    /// The maker of an attempt that waits for a device, if it is a script.
-    for_device: Asks,
     /// The device that the maker of an attempt waits for.
     awaited: Option<u32>,
+    /// The maker that waits for it, if it is a script.
+    maker: Option<u32>,
     for_mark: Asks,
     for_lock: Asks,
     /// Scripts that sleep, or are frozen.
@@ -56,8 +56,8 @@ impl Waiters {
         Ok(Waiters {
             scripts: all,
             for_word: Asks::new(alloc, scripts)?,
-            for_device: Asks::new(alloc, scripts)?,
             awaited: None,
+            maker: None,
             for_mark: Asks::new(alloc, scripts)?,
             for_lock: Asks::new(alloc, scripts)?,
             for_long: Asks::new(alloc, scripts)?,
@@ -101,7 +101,7 @@ impl Waiters {
             Why::Until(_) | Why::Frozen => self.for_long.insert(script),
             Why::Device(device) => {
                 self.awaited = Some(device);
-                self.for_device.insert(script);
+                self.maker = Some(script);
             }
             _ => self.for_word.insert(script),
         }
@@ -153,10 +153,18 @@ impl Waiters {
     /// A device is through with a phase.
     fn stir_maker(&mut self, device: u32) {
         if self.awaited == Some(device) {
-            self.scripts.take(&mut self.for_device);
-            self.auto = true;
-            self.awaited = None;
+            self.stir_any_maker();
         }
+    }
+
+    /// The maker of an attempt may go on.
+    fn stir_any_maker(&mut self) {
+        if let Some(script) = self.maker {
+            self.scripts.insert(script);
+        }
+        self.auto = true;
+        self.awaited = None;
+        self.maker = None;
     }
 
     /// The word made a step, or a task has come further.
@@ -182,7 +190,7 @@ impl Waiters {
         self.stir_marks();
         self.stir_lock();
         self.scripts.take(&mut self.for_long);
-        self.scripts.take(&mut self.for_device);
+        self.stir_any_maker();
     }
 
     /// After an entry: scripts and the work, as far as it may have ended their waits.
