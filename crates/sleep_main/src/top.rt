@@ -155,6 +155,22 @@ fn write_three<K: ByteSink>(
     write_all(sink, third)
 }
 
+/// Writes five pieces, one behind the other. `Failed` at the first write that fails: a front of all was written.
+#[tactic(auto, using(crate::proofs::Saying::one_failed, crate::proofs::Saying::both_written))]
+fn write_five<K: ByteSink>(
+    sink: &mut K,
+    one: &[u8],
+    other: &[u8],
+    third: &[u8],
+    fourth: &[u8],
+    fifth: &[u8],
+) -> Result<(), Failed>
+    ensures { WriteAll (K.written sink.old) (K.written sink.new) (K.faults sink.old) (K.faults sink.new) (((one.now ++ other.now) ++ third.now) ++ (fourth.now ++ fifth.now)) result }
+{
+    write_three(sink, one, other, third)?;
+    write_both(sink, fourth, fifth)
+}
+
 /// Writes what an ending says, piece by piece, without memory.
 fn write_ending<K: ByteSink>(sink: &mut K, ending: &Ending) -> Result<(), Failed>
     ensures { WriteAll (K.written sink.old) (K.written sink.new) (K.faults sink.old) (K.faults sink.new) (text_of ending.now) result }
@@ -162,8 +178,10 @@ fn write_ending<K: ByteSink>(sink: &mut K, ending: &Ending) -> Result<(), Failed
     let mut digits = Buffer::new();
     let head = ending.head().as_bytes();
     let number = ending.number(&mut digits);
-    write_three(sink, head, number, ending.colon().as_bytes())?;
-    write_both(sink, ending.name(), ending.tail().as_bytes())
+    let colon = ending.colon().as_bytes();
+    let name = ending.name();
+    let tail = ending.tail().as_bytes();
+    write_five(sink, head, number, colon, name, tail)
 }
 
 /// Says on a stream how the program ends, as far as the stream takes it.
