@@ -23,7 +23,6 @@ from try_definitions import Maker
 
 ROOT = pathlib.Path(__file__).resolve().parent.parent
 PROGRAM = ROOT / "crates" / "sleep_main" / "out" / "sleep_main"
-REFUSED = 3, b"", b"machine: refused\n"
 
 # ---- what is expected
 
@@ -38,14 +37,20 @@ def no_constant(_):
     raise ValueError
 
 
+def refused(rule, place):
+    """The status, the output and what is said on standard error where a file breaks that rule first, and there."""
+    return 3, b"", f"machine: rule {rule}: {place}\n".encode()
+
+
 def expected(text):
     """The status, the output and what is said on standard error."""
     try:
         tree = json.loads(text.decode("utf-8"), parse_int=whole, parse_constant=no_constant)
     except (ValueError, RecursionError):
-        return REFUSED
-    if try_rules.first_broken(tree) is not None:
-        return REFUSED
+        return refused(1, "json")
+    broken = try_rules.first_broken(tree)
+    if broken is not None:
+        return refused(*broken)
     try:
         log, stuck = second.Run(tree).run()
     except second.SourceFull as full:
