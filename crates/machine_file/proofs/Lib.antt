@@ -17,3 +17,5 @@ pub mod FittedFile
 pub mod Marked
 pub mod Worded
 pub mod Machined
+pub mod Sheets
+pub mod Rising

@@ -367,7 +367,7 @@ marks_each q (o ∷ os) e =
     by (Some s) h = and_parts (q s) (list_all q (marks_of os)) h
 
 -- every mark is among the marks of the file
-marks_known : (q : List ℕ → Bool) (actors : List Data) → list_all q (flat_map (λ a. marks_of (list_in (codes "script") a)) actors) ≡ true →
+pub marks_known : (q : List ℕ → Bool) (actors : List Data) → list_all q (flat_map (λ a. marks_of (list_in (codes "script") a)) actors) ≡ true →
     list_all (λ a. list_all (λ o. is_none_or q (word_at (codes "mark") o)) (list_in (codes "script") a)) actors ≡ true
 marks_known q [] e = refl
 marks_known q (a ∷ actors) e =

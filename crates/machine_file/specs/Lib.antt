@@ -12,8 +12,6 @@ pub mod Answering
 pub mod Limits
 pub mod Whole
 pub mod Spelling
-pub mod Generated
-pub mod Words
 pub mod Broken
 pub mod Tests
 pub mod Knows
@@ -29,3 +27,4 @@ pub mod Marks
 pub mod Fitting
 pub mod Reading
 pub mod Refusing
+pub mod Writing

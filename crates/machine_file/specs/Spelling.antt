@@ -44,7 +44,7 @@ abbrev pub put_if : List ℕ → Option Data → Members → Members
 put_if name None members = members
 put_if name (Some d) members = put name d members
 
--- the members of these rows at which something stands
+-- the members of these rows at which something stands; each table below has its rows in the order of their names
 abbrev pub as_members : List (Named (Option Data)) → Members
 as_members [] = no_members
 as_members (r ∷ rows) = put_if r.name r.is (as_members rows)
@@ -80,28 +80,40 @@ text_row name text = always name (string text)
 
 -- ---- the parts of a machine
 
+-- the members of a device
+abbrev pub device_rows : Machine → Device → List (Named (Option Data))
+device_rows m d =
+    true_if (codes "async") (is_async d)
+    ∷ text_row (codes "name") d.name
+    ∷ row (codes "parent") (option_map (λ p. string (device m p)) d.parent)
+    ∷ row (codes "runtime") (if has_bit 4 d.flags then Some (string (codes "suspended")) else None)
+    ∷ true_if (codes "wakeup") (may_wake d)
+    ∷ []
+
 -- a device
 abbrev pub device_value : Machine → Device → Data
-device_value m d =
-    object_of (text_row (codes "name") d.name
-    ∷ row (codes "parent") (option_map (λ p. string (device m p)) d.parent)
-    ∷ true_if (codes "async") (is_async d)
-    ∷ true_if (codes "wakeup") (may_wake d)
-    ∷ row (codes "runtime") (if has_bit 4 d.flags then Some (string (codes "suspended")) else None)
-    ∷ [])
+device_value m d = object_of (device_rows m d)
+
+-- the members of a link
+abbrev pub link_rows : Machine → Link → List (Named (Option Data))
+link_rows m l = text_row (codes "consumer") (device m l.consumer) ∷ text_row (codes "supplier") (device m l.supplier) ∷ []
 
 -- a link
 abbrev pub link_value : Machine → Link → Data
-link_value m l = object_of (text_row (codes "supplier") (device m l.supplier) ∷ text_row (codes "consumer") (device m l.consumer) ∷ [])
+link_value m l = object_of (link_rows m l)
 
 -- a whole number, unless it is 0
 abbrev pub integer_unless_zero : ℤ → Option Data
 integer_unless_zero (pos n) = if n == 0 then None else Some (count n)
 integer_unless_zero z = Some (number (of_integer z))
 
+-- the members of a notifier
+abbrev pub notifier_rows : Notifier → List (Named (Option Data))
+notifier_rows x = text_row (codes "name") x.name ∷ row (codes "priority") (integer_unless_zero x.priority) ∷ []
+
 -- a notifier
 abbrev pub notifier_value : Notifier → Data
-notifier_value x = object_of (text_row (codes "name") x.name ∷ row (codes "priority") (integer_unless_zero x.priority) ∷ [])
+notifier_value x = object_of (notifier_rows x)
 
 -- the word of a kind
 abbrev pub kind_word : TaskKind → List ℕ
@@ -110,83 +122,118 @@ kind_word Kthread = codes "kthread"
 kind_word NoFreeze = codes "nofreeze"
 kind_word Irq = codes "irq"
 
--- an operation's word and its own members
-abbrev pub op_rows : Machine → Op → List (Named (Option Data))
-op_rows m Read = text_row (codes "op") (codes "read") ∷ []
-op_rows m (Save c) = text_row (codes "op") (codes "save") ∷ row (codes "count") (option_map count c) ∷ []
-op_rows m (State text if_saved) = text_row (codes "op") (codes "state") ∷ text_row (codes "text") text ∷ true_if (codes "if_saved") if_saved ∷ []
-op_rows m (Autosleep text) = text_row (codes "op") (codes "autosleep") ∷ text_row (codes "text") text ∷ []
-op_rows m (Sleep ms) = text_row (codes "op") (codes "sleep") ∷ always (codes "ms") (count ms) ∷ []
-op_rows m (SleepD ms) = text_row (codes "op") (codes "sleep_d") ∷ always (codes "ms") (count ms) ∷ []
-op_rows m FreezePoint = text_row (codes "op") (codes "freeze_point") ∷ []
-op_rows m (Post x) = text_row (codes "op") (codes "post") ∷ text_row (codes "mark") (mark m x) ∷ []
-op_rows m (Wait x) = text_row (codes "op") (codes "wait") ∷ text_row (codes "mark") (mark m x) ∷ []
-op_rows m (Runtime d suspended) = text_row (codes "op") (codes "runtime") ∷ text_row (codes "device") (device m d) ∷ text_row (codes "to") (runtime_word suspended) ∷ []
-op_rows m (Awake s) = text_row (codes "op") (codes "awake") ∷ text_row (codes "source") (source m s) ∷ []
-op_rows m (Relax s) = text_row (codes "op") (codes "relax") ∷ text_row (codes "source") (source m s) ∷ []
-op_rows m (Event s ms hard) = text_row (codes "op") (codes "event") ∷ text_row (codes "source") (source m s) ∷ count_unless (codes "ms") 0 ms ∷ true_if (codes "hard") hard ∷ []
+-- the word of an operation
+abbrev pub op_row : List ℕ → Named (Option Data)
+op_row word = text_row (codes "op") word
+
+-- how often an operation is made
+abbrev pub times : ℕ → Named (Option Data)
+times n = count_unless (codes "times") 1 n
+
+-- the members of an operation that is made so often
+abbrev pub op_rows : Machine → ℕ → Op → List (Named (Option Data))
+op_rows m n Read = op_row (codes "read") ∷ times n ∷ []
+op_rows m n (Save c) = row (codes "count") (option_map count c) ∷ op_row (codes "save") ∷ times n ∷ []
+op_rows m n (State text if_saved) = true_if (codes "if_saved") if_saved ∷ op_row (codes "state") ∷ text_row (codes "text") text ∷ times n ∷ []
+op_rows m n (Autosleep text) = op_row (codes "autosleep") ∷ text_row (codes "text") text ∷ times n ∷ []
+op_rows m n (Sleep ms) = always (codes "ms") (count ms) ∷ op_row (codes "sleep") ∷ times n ∷ []
+op_rows m n (SleepD ms) = always (codes "ms") (count ms) ∷ op_row (codes "sleep_d") ∷ times n ∷ []
+op_rows m n FreezePoint = op_row (codes "freeze_point") ∷ times n ∷ []
+op_rows m n (Post x) = text_row (codes "mark") (mark m x) ∷ op_row (codes "post") ∷ times n ∷ []
+op_rows m n (Wait x) = text_row (codes "mark") (mark m x) ∷ op_row (codes "wait") ∷ times n ∷ []
+op_rows m n (Runtime d suspended) = text_row (codes "device") (device m d) ∷ op_row (codes "runtime") ∷ times n ∷ text_row (codes "to") (runtime_word suspended) ∷ []
+op_rows m n (Awake s) = op_row (codes "awake") ∷ text_row (codes "source") (source m s) ∷ times n ∷ []
+op_rows m n (Relax s) = op_row (codes "relax") ∷ text_row (codes "source") (source m s) ∷ times n ∷ []
+op_rows m n (Event s ms hard) = true_if (codes "hard") hard ∷ count_unless (codes "ms") 0 ms ∷ op_row (codes "event") ∷ text_row (codes "source") (source m s) ∷ times n ∷ []
 
 -- an operation, and how often it is made
 abbrev pub step_value : Machine → Step → Data
-step_value m s = object_of (count_unless (codes "times") 1 s.times ∷ op_rows m s.op)
+step_value m s = object_of (op_rows m s.times s.op)
+
+-- the members of an actor
+abbrev pub script_rows : Machine → Script → List (Named (Option Data))
+script_rows m s =
+    text_row (codes "kind") (kind_word s.kind)
+    ∷ text_row (codes "name") s.name
+    ∷ count_unless (codes "repeat") 1 s.repeat
+    ∷ list_if (codes "script") (map (step_value m) s.steps)
+    ∷ []
 
 -- an actor
 abbrev pub script_value : Machine → Script → Data
-script_value m s =
-    object_of (text_row (codes "name") s.name
-    ∷ text_row (codes "kind") (kind_word s.kind)
-    ∷ count_unless (codes "repeat") 1 s.repeat
-    ∷ list_if (codes "script") (map (step_value m) s.steps)
-    ∷ [])
+script_value m s = object_of (script_rows m s)
 
--- the thing that an answer is of
-abbrev pub thing_rows : Machine → What → List (Named (Option Data))
-thing_rows m (what.Device d p) = text_row (codes "what") (codes "device") ∷ text_row (codes "name") (device m d) ∷ text_row (codes "phase") (phase_name p) ∷ []
-thing_rows m (what.Syscore x) = text_row (codes "what") (codes "syscore") ∷ text_row (codes "name") (syscore m x) ∷ []
-thing_rows m (what.Notifier x) = text_row (codes "what") (codes "notifier") ∷ text_row (codes "name") (notifier m x) ∷ []
-thing_rows m (what.Platform step) = text_row (codes "what") (codes "platform") ∷ text_row (codes "name") (down_word step) ∷ []
+-- what kind of thing an answer is of
+abbrev pub thing_word : What → List ℕ
+thing_word (what.Device d p) = codes "device"
+thing_word (what.Syscore x) = codes "syscore"
+thing_word (what.Notifier x) = codes "notifier"
+thing_word (what.Platform step) = codes "platform"
+
+-- the name of the thing that an answer is of
+abbrev pub thing_name : Machine → What → List ℕ
+thing_name m (what.Device d p) = device m d
+thing_name m (what.Syscore x) = syscore m x
+thing_name m (what.Notifier x) = notifier m x
+thing_name m (what.Platform step) = down_word step
+
+-- the phase in which a device answers
+abbrev pub thing_phase : What → Option Data
+thing_phase (what.Device d p) = Some (string (phase_name p))
+thing_phase _ = None
 
 -- an error's name; and else the number, unless it is 0
 abbrev pub error_or : Option Errno → ℤ → Option Data
 error_or (Some e) z = Some (string (error_name e))
 error_or None z = integer_unless_zero z
 
--- the call of a report
-abbrev pub call_rows : SourceCall → List (Named (Option Data))
-call_rows call.Awake = text_row (codes "call") (codes "awake") ∷ []
-call_rows call.Relax = text_row (codes "call") (codes "relax") ∷ []
-call_rows (call.Event ms hard) = text_row (codes "call") (codes "event") ∷ count_unless (codes "ms") 0 ms ∷ true_if (codes "hard") hard ∷ []
-call_rows call.Expire = []
+-- the members of a report of that source
+abbrev pub report_rows : List ℕ → SourceCall → List (Named (Option Data))
+report_rows source call.Awake = text_row (codes "call") (codes "awake") ∷ text_row (codes "source") source ∷ []
+report_rows source call.Relax = text_row (codes "call") (codes "relax") ∷ text_row (codes "source") source ∷ []
+report_rows source (call.Event ms hard) = text_row (codes "call") (codes "event") ∷ true_if (codes "hard") hard ∷ count_unless (codes "ms") 0 ms ∷ text_row (codes "source") source ∷ []
+report_rows source call.Expire = text_row (codes "source") source ∷ []
 
 -- a report
 abbrev pub report_value : Machine → Report → Data
-report_value m r = object_of (text_row (codes "source") (source m r.source) ∷ call_rows r.call)
+report_value m r = object_of (report_rows (source m r.source) r.call)
+
+-- the members of an answer
+abbrev pub answer_rows : Machine → Answer → List (Named (Option Data))
+answer_rows m a =
+    row (codes "attempt") (option_map count a.attempt)
+    ∷ text_row (codes "name") (thing_name m a.what)
+    ∷ row (codes "phase") (thing_phase a.what)
+    ∷ list_if (codes "reports") (map (report_value m) a.reports)
+    ∷ row (codes "ret") (error_or (error_of_number a.ret) a.ret)
+    ∷ text_row (codes "what") (thing_word a.what)
+    ∷ []
 
 -- an answer
 abbrev pub answer_value : Machine → Answer → Data
-answer_value m a =
-    object_of (row (codes "attempt") (option_map count a.attempt)
-    ∷ row (codes "ret") (error_or (error_of_number a.ret) a.ret)
-    ∷ list_if (codes "reports") (map (report_value m) a.reports)
-    ∷ thing_rows m a.what)
+answer_value m a = object_of (answer_rows m a)
 
 -- ---- the machine
 
--- the value of a machine
-abbrev pub machine_value : Machine → Data
-machine_value m =
-    object_of (always (codes "version") (count 1)
+-- the members of a machine
+abbrev pub machine_rows : Machine → List (Named (Option Data))
+machine_rows m =
+    list_if (codes "actors") (map (script_value m) m.actors)
     ∷ count_unless (codes "alarm_ms") 1000 m.alarm_ms
-    ∷ count_unless (codes "cpus") 1 m.cpus
+    ∷ list_if (codes "answers") (map (answer_value m) m.answers)
     ∷ count_unless (codes "auto_cycles") 16 m.auto_cycles
+    ∷ count_unless (codes "cpus") 1 m.cpus
     ∷ list_if (codes "devices") (map (device_value m) m.devices)
     ∷ list_if (codes "links") (map (link_value m) m.links)
-    ∷ list_if (codes "syscore") (map string m.syscore)
     ∷ list_if (codes "notifiers") (map notifier_value m.notifiers)
     ∷ list_if (codes "sources") (map string m.sources)
-    ∷ list_if (codes "actors") (map (script_value m) m.actors)
-    ∷ list_if (codes "answers") (map (answer_value m) m.answers)
-    ∷ [])
+    ∷ list_if (codes "syscore") (map string m.syscore)
+    ∷ always (codes "version") (count 1)
+    ∷ []
+
+-- the value of a machine
+abbrev pub machine_value : Machine → Data
+machine_value m = object_of (machine_rows m)
 
 -- the bytes of a machine's file, with a newline at their end
 abbrev pub spelling : Machine → List ℕ

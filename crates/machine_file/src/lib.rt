@@ -1,6 +1,7 @@
-//! Reads a machine file: one JSON object that spells a machine.
+//! Reads and writes a machine file: one JSON object that spells a machine.
 #![tactic(auto)]
 
+mod answering;
 mod answers;
 mod cycles;
 mod fault;
@@ -12,20 +13,28 @@ mod look;
 mod machine;
 mod marks;
 mod names;
+mod numbered;
 mod operations;
 mod pairs;
 mod place;
 mod places;
+mod quoted;
 mod reading;
 mod replies;
+#[cfg(test)]
+mod rewritten;
 mod rules;
 mod scripts;
+mod spelling;
 #[cfg(test)]
 mod tests;
 mod texts;
 mod things;
 mod tree;
 mod whole;
+mod writer;
+mod writing;
 
 pub use fault::MachineFault;
 pub use reading::{ReadMachine, read_machine};
+pub use writing::write_machine;

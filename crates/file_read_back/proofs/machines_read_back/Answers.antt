@@ -1,0 +1,5 @@
+use Rattle.file_read_back.proofs.ReadBack.{all_read_back}
+use Rattle.file_read_back.proofs.machines_read_back.Goals as goal
+
+pub returns : goal.returns
+returns c = all_read_back

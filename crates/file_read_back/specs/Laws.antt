@@ -1,0 +1,13 @@
+-- That a machine is read back from what is written for it.
+use Rattle.std.specs.Prelude.{◌≡◌, None}
+use Rattle.serde_json.specs.Data.{Data}
+use Rattle.machine_file.specs.Whole.{first_broken, whole_machine}
+use Rattle.machine_file.specs.Spelling.{machine_value}
+
+-- the value that is written for what this value spells breaks no rule, and spells the same
+abbrev pub SpellsAgain : Data → Type 0
+SpellsAgain d = (first_broken (machine_value (whole_machine d)) ≡ None) × (whole_machine (machine_value (whole_machine d)) ≡ whole_machine d)
+
+-- so it is of each value that breaks no rule
+abbrev pub AllSpellAgain : Type 0
+AllSpellAgain = (d : Data) → first_broken d ≡ None → SpellsAgain d

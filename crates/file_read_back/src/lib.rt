@@ -1,0 +1,17 @@
+//! What is written for a machine is read back as that machine. No program is mentioned here: the
+//! laws are about the definitions that the reader and the writer of machine files meet.
+#![tactic(auto)]
+
+ghost use Rattle.machine_file.specs.Spelling.{AllReadBack};
+ghost use Rattle.file_read_back.specs.Laws.{AllSpellAgain};
+
+/// The value that is written for the machine of a value without a broken rule breaks none, and
+/// spells that machine.
+pub fn values_spell_again()
+    ensures { AllSpellAgain }
+{}
+
+/// The bytes that are written for a machine that some file spells are accepted, and spell it.
+pub fn machines_read_back()
+    ensures { AllReadBack }
+{}
