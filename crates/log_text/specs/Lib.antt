@@ -1,1 +1,9 @@
+pub mod Book
+pub mod Cutting
+pub mod Faults
 pub mod Front
+pub mod Grammar
+pub mod Named
+pub mod Reading
+pub mod Verbs
+pub mod Words

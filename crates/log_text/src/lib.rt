@@ -1,17 +1,36 @@
 //! The text of a sleep log: a line for each entry, a line for each wakeup source, and how the run ended.
 #![tactic(auto)]
 
+mod attempts;
 mod body;
+mod book;
+mod cut;
+mod devices;
 mod digits;
+mod ends;
+mod entries;
+mod fault;
 mod front;
+mod index;
+mod kinds;
 mod line;
+mod lines;
 mod log;
+mod meaning;
 mod names;
+mod number;
+mod places;
+mod read;
+mod reader;
+mod steps;
+mod verb;
 mod words;
 mod writer;
 
+pub use fault::LogFault;
 pub use log::write_log;
 pub use names::source_name;
+pub use read::read_log;
 
 #[cfg(test)]
 mod tests;

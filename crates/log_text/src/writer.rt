@@ -21,6 +21,7 @@ impl Model for LineWriter {
 
 impl LineWriter {
     ghost use Rattle.std.specs.Prelude.{◌≡◌, ◌++◌, [], OnOk, IfOk};
+    ghost use Rattle.std.specs.Str.{bytes_eq};
 
     /// A writer that has written nothing, with room for so many bytes.
     pub fn with_room(alloc: Global, room: usize) -> Result<Self, Mem>
@@ -28,6 +29,20 @@ impl LineWriter {
     {
         let bytes = Vec::with_capacity(alloc, room)?;
         Ok(LineWriter { bytes })
+    }
+
+    /// Forgets what was written.
+    pub fn clear(&mut self)
+        ensures { self.new ≡ [] }
+    {
+        self.bytes.clear();
+    }
+
+    /// Whether just these bytes were written.
+    pub fn is(&self, bytes: &[u8]) -> bool
+        ensures { result ≡ bytes_eq self.now bytes.now }
+    {
+        self.bytes.as_slice() == bytes
     }
 
     /// All that was written.

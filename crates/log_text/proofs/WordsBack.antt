@@ -1,0 +1,93 @@
+-- Closed words are read back.
+use Rattle.std.proofs.Common.{◌≡◌, ◌∙◌, ℕ, zero, suc, ◌==◌, ◌+◌, ◌-◌, ◌<◌, ◌≤◌, Bool, true, false, List, [], ◌∷◌, ◌++◌, codes, decimal, if◌then◌else◌, Option, Some, None, is_some, ℤ, pos, negsuc, refl, sym, ap, subst, arith, nat_le}
+use Rattle.std.proofs.lemmas.Bool.{eqb-true}
+use Rattle.std.proofs.lemmas.Bool.Decides.{nat_tests}
+use Rattle.std.proofs.lemmas.Fmt.{decimal_digit}
+use Rattle.sleep_base.specs.declared.errno.Errno.{Errno}
+use Rattle.sleep_base.specs.declared.errno.Errno.TheVariants.{EINTR, EIO, EAGAIN, EACCES, EBUSY, ENODEV, EINVAL}
+use Rattle.sleep_base.specs.Errno.{name_of, number_of}
+use Rattle.phase_table.specs.declared.phase.Phase.{Phase}
+use Rattle.phase_table.specs.declared.phase.Phase.TheVariants as phase
+use Rattle.phase_table.specs.Phases.{phase_name}
+use Rattle.sleep_model.specs.declared.entry.SkipCause.{SkipCause}
+use Rattle.sleep_model.specs.declared.entry.SkipCause.TheVariants as cause
+use Rattle.sleep_model.specs.declared.entry.Group.{Group}
+use Rattle.sleep_model.specs.declared.entry.Group.TheVariants as group
+use Rattle.sleep_model.specs.declared.entry.Kind.TheVariants as kind
+use Rattle.sleep_model.specs.declared.machine.PlatDo.{PlatDo}
+use Rattle.sleep_model.specs.declared.machine.PlatDo.TheVariants as down
+use Rattle.sleep_model.specs.Answers.{errno_with, errors}
+use Rattle.sleep_model.specs.Fits.{is_answer}
+use Rattle.sleep_model.specs.Text.{answer_text, prepare_text, error_text, cause_text, group_word, down_word}
+use Rattle.log_text.specs.Words.{errno_in, answer_in, prepare_in, error_number, phase_in, cause_in, group_in, down_in}
+use Rattle.log_text.specs.Reading.{save_kind, state_kind}
+use Rattle.log_text.proofs.Cuts.{is_without}
+
+pub errno_back : (r : Errno) → errno_in (name_of r) ≡ r
+errno_back EINTR = refl
+errno_back _ = refl
+
+pub answer_back : (r : Option Errno) → answer_in (answer_text r) ≡ r
+answer_back None = refl
+answer_back (Some EINTR) = refl
+answer_back (Some _) = refl
+
+pub phase_back : (p : Phase) → phase_in (phase_name p) ≡ p
+phase_back phase.Prepare = refl
+phase_back _ = refl
+
+pub cause_back : (c : SkipCause) → cause_in (cause_text c) ≡ c
+cause_back cause.Error = refl
+cause_back _ = refl
+
+pub group_back : (g : Group) → group_in (group_word g) ≡ g
+group_back group.User = refl
+group_back group.Kernel = refl
+
+pub down_back : (d : PlatDo) → down_in (down_word d) ≡ d
+down_back down.Begin = refl
+down_back _ = refl
+
+pub phase_plain : (p : Phase) → is_without 32 (phase_name p) ≡ true
+phase_plain phase.Prepare = refl
+phase_plain _ = refl
+
+pub group_plain : (g : Group) → is_without 32 (group_word g) ≡ true
+group_plain group.User = refl
+group_plain group.Kernel = refl
+
+pub down_plain : (d : PlatDo) → is_without 32 (down_word d) ≡ true
+down_plain down.Begin = refl
+down_plain _ = refl
+
+pub save_err : (r : Errno) (c : ℕ) → save_kind (name_of r) c ≡ kind.SaveErr c r
+save_err EINTR c = refl
+save_err _ c = refl
+
+pub state_err : (r : Errno) → state_kind (name_of r) ≡ kind.StateErr r
+state_err EINTR = refl
+state_err _ = refl
+
+-- an error's number is that of one of the errors
+known : (es : List Errno) (k : ℕ) → is_some (errno_with k es) ≡ true → (e : Errno) × (number_of e ≡ k)
+known [] k h = absurd (cc)
+known (e ∷ es) k h = on (number_of e == k) refl (known es k) h
+  where
+    on : (t : Bool) → (number_of e == k) ≡ t → (is_some (errno_with k es) ≡ true → (x : Errno) × (number_of x ≡ k)) → is_some (if t then Some e else errno_with k es) ≡ true → (x : Errno) × (number_of x ≡ k)
+    on true s ih g = (e, eqb-true (number_of e) k s)
+    on false s ih g = ih g
+
+named_back : (e : Errno) (n : ℕ) → number_of e ≡ suc n → prepare_in (error_text (suc n)) ≡ negsuc n
+named_back EINTR n h = let same : n ≡ 3 = omega (arith, h) in rw same refl
+named_back EIO n h = let same : n ≡ 4 = omega (arith, h) in rw same refl
+named_back EAGAIN n h = let same : n ≡ 10 = omega (arith, h) in rw same refl
+named_back EACCES n h = let same : n ≡ 12 = omega (arith, h) in rw same refl
+named_back EBUSY n h = let same : n ≡ 15 = omega (arith, h) in rw same refl
+named_back ENODEV n h = let same : n ≡ 18 = omega (arith, h) in rw same refl
+named_back EINVAL n h = let same : n ≡ 21 = omega (arith, h) in rw same refl
+
+pub prepare_back : (r : ℤ) → is_answer r ≡ true → prepare_in (prepare_text r) ≡ r
+prepare_back (pos zero) h = ap prepare_in (decimal_digit 0 (omega arith))
+prepare_back (pos (suc zero)) h = ap prepare_in (decimal_digit 1 (omega arith))
+prepare_back (pos (suc (suc n))) h = let l : suc (suc n) ≤ 1 = grind (arith, nat_tests) in absurd (omega arith)
+prepare_back (negsuc n) h = let e = known errors (suc n) h in named_back e.0 n e.1

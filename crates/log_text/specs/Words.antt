@@ -1,0 +1,78 @@
+-- What the closed words of a log mean: of two words told apart, the last one stands for any other.
+use Rattle.std.specs.Prelude.{ℕ, ℤ, pos, negsuc, List, codes, Option, Some, None, if◌then◌else◌, ◌-◌}
+use Rattle.std.specs.Str.{bytes_eq}
+use Rattle.sleep_base.specs.declared.errno.Errno.{Errno}
+use Rattle.sleep_base.specs.declared.errno.Errno.TheVariants.{EINTR, EIO, EAGAIN, EACCES, EBUSY, ENODEV, EINVAL}
+use Rattle.phase_table.specs.declared.phase.Phase.{Phase}
+use Rattle.phase_table.specs.declared.phase.Phase.TheVariants as phase
+use Rattle.sleep_model.specs.declared.entry.SkipCause.{SkipCause}
+use Rattle.sleep_model.specs.declared.entry.SkipCause.TheVariants as cause
+use Rattle.sleep_model.specs.declared.entry.Group.{Group}
+use Rattle.sleep_model.specs.declared.entry.Group.TheVariants as group
+use Rattle.sleep_model.specs.declared.entry.Thaw.{Thaw}
+use Rattle.sleep_model.specs.declared.entry.Thaw.TheVariants as thaw
+use Rattle.sleep_model.specs.declared.machine.PlatDo.{PlatDo}
+use Rattle.sleep_model.specs.declared.machine.PlatDo.TheVariants as down
+
+-- the error of that name
+abbrev pub errno_in : List ℕ → Errno
+errno_in w =
+    if bytes_eq w (codes "EBUSY") then EBUSY
+    else (if bytes_eq w (codes "EINTR") then EINTR
+    else (if bytes_eq w (codes "EIO") then EIO
+    else (if bytes_eq w (codes "EAGAIN") then EAGAIN
+    else (if bytes_eq w (codes "EACCES") then EACCES
+    else (if bytes_eq w (codes "ENODEV") then ENODEV else EINVAL)))))
+
+-- none for 0, else the error of that name
+abbrev pub answer_in : List ℕ → Option Errno
+answer_in w = if bytes_eq w (codes "0") then None else Some (errno_in w)
+
+-- the number of the error with that name, below 0
+abbrev pub error_number : Errno → ℤ
+error_number EINTR = negsuc 3
+error_number EIO = negsuc 4
+error_number EAGAIN = negsuc 10
+error_number EACCES = negsuc 12
+error_number EBUSY = negsuc 15
+error_number ENODEV = negsuc 18
+error_number EINVAL = negsuc 21
+
+-- 0, 1, or the number of the error with that name, below 0
+abbrev pub prepare_in : List ℕ → ℤ
+prepare_in w =
+    if bytes_eq w (codes "0") then pos 0
+    else (if bytes_eq w (codes "1") then pos 1 else error_number (errno_in w))
+
+-- the phase of that name
+abbrev pub phase_in : List ℕ → Phase
+phase_in w =
+    if bytes_eq w (codes "suspend") then phase.Suspend
+    else (if bytes_eq w (codes "late") then phase.Late
+    else (if bytes_eq w (codes "noirq") then phase.Noirq
+    else (if bytes_eq w (codes "resume_noirq") then phase.ResumeNoirq
+    else (if bytes_eq w (codes "early") then phase.Early
+    else (if bytes_eq w (codes "resume") then phase.Resume
+    else (if bytes_eq w (codes "prepare") then phase.Prepare
+    else (if bytes_eq w (codes "syscore") then phase.Syscore
+    else (if bytes_eq w (codes "syscore_resume") then phase.SyscoreResume else phase.Complete))))))))
+
+-- why a device was skipped
+abbrev pub cause_in : List ℕ → SkipCause
+cause_in w =
+    if bytes_eq w (codes "error") then cause.Error
+    else (if bytes_eq w (codes "pending") then cause.Pending else cause.Direct)
+
+-- whom a freeze asks
+abbrev pub group_in : List ℕ → Group
+group_in w = if bytes_eq w (codes "user") then group.User else group.Kernel
+
+-- which tasks a thaw lets go
+abbrev pub thaw_in : List ℕ → Thaw
+thaw_in w = if bytes_eq w (codes "kernel") then thaw.Kernel else thaw.All
+
+-- the platform's step on the way down
+abbrev pub down_in : List ℕ → PlatDo
+down_in w =
+    if bytes_eq w (codes "begin") then down.Begin
+    else (if bytes_eq w (codes "prepare") then down.Prepare else down.PrepareLate)

@@ -1,0 +1,163 @@
+//! A machine with its names, as a log's reader needs them.
+
+ghost use Rattle.std.specs.Prelude.{◌≡◌, map};
+
+use crate::index::NameIndex;
+use sleep_base::Mem;
+use sleep_model::{Device, Machine, Name, Notifier, Script};
+use std::alloc::Global;
+use std::marker::Model;
+
+/// A machine, each of whose things is found at once by its name. Contracts see the machine.
+#[derive(Drop)]
+pub struct NameBook<'a> {
+    machine: &'a Machine,
+    devices: NameIndex,
+    syscore: NameIndex,
+    notifiers: NameIndex,
+    sources: NameIndex,
+    marks: NameIndex,
+    scripts: NameIndex,
+}
+
+impl<'a> Model for NameBook<'a> {
+    ghost use Rattle.sleep_model.specs.declared.machine.Machine.{Machine};
+
+    ghost Value = { Machine };
+
+    ghost use Rattle.log_text.specs.Book.{IsIndexed};
+
+    ghost view = { λ b. b.machine.now };
+
+    ghost invariant = { λ b. IsIndexed b.machine.now b.devices.places b.syscore.places b.notifiers.places b.sources.places b.marks.places b.scripts.places };
+}
+
+impl<'a> NameBook<'a> {
+    ghost use Rattle.std.specs.Prelude.{◌≡◌, nat_lt, nat_le, length, true, IfOk, IfSome};
+    ghost use Rattle.log_text.specs.Reading.{device_in, syscore_in, notifier_in, source_in, mark_in, script_in};
+
+    /// The book of this machine. `Mem` if there is no memory for it, or more things of a kind than
+    /// have numbers.
+    pub fn new(alloc: Global, machine: &'a Machine) -> Result<Self, Mem>
+        ensures { IfOk result (λ b. b ≡ machine.now) }
+    {
+        let devices = NameIndex::new(alloc, names_of_devices(alloc, machine.devices.as_slice())?)?;
+        let syscore = NameIndex::new(alloc, Vec::from_slice(alloc, machine.syscore.as_slice())?)?;
+        let notifiers = names_of_notifiers(alloc, machine.notifiers.as_slice())?;
+        let notifiers = NameIndex::new(alloc, notifiers)?;
+        let sources = NameIndex::new(alloc, names_of_sources(alloc, machine.sources.as_slice())?)?;
+        let marks = NameIndex::new(alloc, Vec::from_slice(alloc, machine.marks.as_slice())?)?;
+        let scripts = NameIndex::new(alloc, names_of_scripts(alloc, machine.actors.as_slice())?)?;
+        Ok(NameBook {
+            machine,
+            devices,
+            syscore,
+            notifiers,
+            sources,
+            marks,
+            scripts,
+        })
+    }
+
+    /// The machine.
+    pub fn machine(&self) -> &'a Machine
+        ensures { result.now ≡ self.now }
+    {
+        self.machine
+    }
+
+    /// The device of that name. None where there is none.
+    pub fn device(&self, word: &[u8]) -> Option<u32>
+        ensures place { result ≡ device_in self.now word.now }
+        ensures within { IfSome result (λ d. nat_lt d (length self.now.devices) ≡ true) }
+    {
+        self.devices.find(word)
+    }
+
+    /// The syscore step of that name. None where there is none.
+    pub fn syscore(&self, word: &[u8]) -> Option<u32>
+        ensures place { result ≡ syscore_in self.now word.now }
+        ensures within { IfSome result (λ x. nat_lt x (length self.now.syscore) ≡ true) }
+    {
+        self.syscore.find(word)
+    }
+
+    /// The notifier of that name. None where there is none.
+    pub fn notifier(&self, word: &[u8]) -> Option<u32>
+        ensures place { result ≡ notifier_in self.now word.now }
+        ensures within { IfSome result (λ x. nat_lt x (length self.now.notifiers) ≡ true) }
+    {
+        self.notifiers.find(word)
+    }
+
+    /// The source of that name, `autosleep` behind those of the machine. None where there is none.
+    pub fn source(&self, word: &[u8]) -> Option<u32>
+        ensures place { result ≡ source_in self.now word.now }
+        ensures within { IfSome result (λ s. nat_le s (length self.now.sources) ≡ true) }
+    {
+        self.sources.find(word)
+    }
+
+    /// The mark of that name. None where there is none.
+    pub fn mark(&self, word: &[u8]) -> Option<u32>
+        ensures place { result ≡ mark_in self.now word.now }
+        ensures within { IfSome result (λ x. nat_lt x (length self.now.marks) ≡ true) }
+    {
+        self.marks.find(word)
+    }
+
+    /// The script of that name. None where there is none.
+    pub fn script(&self, word: &[u8]) -> Option<u32>
+        ensures place { result ≡ script_in self.now word.now }
+        ensures within { IfSome result (λ i. nat_lt i (length self.now.actors) ≡ true) }
+    {
+        self.scripts.find(word)
+    }
+}
+
+ghost use Rattle.std.specs.Prelude.{IfOk, ◌++◌, ◌∷◌, [], codes};
+
+/// The devices' names, in order.
+fn names_of_devices(alloc: Global, devices: &[Device]) -> Result<Vec<Name>, Mem>
+    ensures { IfOk result (λ v. v.items ≡ map (λ d. d.name) devices.now) }
+{
+    let mut names = Vec::new(alloc);
+    for device in devices {
+        names.push(device.name)?;
+    }
+    Ok(names)
+}
+
+/// The notifiers' names, in order.
+fn names_of_notifiers(alloc: Global, notifiers: &[Notifier]) -> Result<Vec<Name>, Mem>
+    ensures { IfOk result (λ v. v.items ≡ map (λ x. x.name) notifiers.now) }
+{
+    let mut names = Vec::new(alloc);
+    for notifier in notifiers {
+        names.push(notifier.name)?;
+    }
+    Ok(names)
+}
+
+/// The scripts' names, in order.
+fn names_of_scripts(alloc: Global, scripts: &[Script]) -> Result<Vec<Name>, Mem>
+    ensures { IfOk result (λ v. v.items ≡ map (λ s. s.name) scripts.now) }
+{
+    let mut names = Vec::new(alloc);
+    for script in scripts {
+        names.push(script.name)?;
+    }
+    Ok(names)
+}
+
+/// The sources' names, in order, `autosleep` last.
+fn names_of_sources(alloc: Global, sources: &[Name]) -> Result<Vec<Name>, Mem>
+    ensures { IfOk result (λ v. v.items ≡ sources.now ++ codes "autosleep" ∷ []) }
+{
+    let mut names = Vec::from_slice(alloc, sources)?;
+    match Name::of_bytes(b"autosleep") {
+        Some(name) => names.push(name)?,
+        None => unreachable!(),
+    }
+    Ok(names)
+}

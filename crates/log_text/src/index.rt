@@ -1,0 +1,44 @@
+//! The things that a log names, by their names.
+
+ghost use Rattle.std.specs.Prelude.{◌≡◌, ◌<◌, ◌^◌, length, nat_lt, true, IfOk, IfSome};
+ghost use Rattle.log_text.specs.Cutting.{place_in};
+
+use crate::places::Places;
+use sleep_base::Mem;
+use sleep_model::Name;
+use std::alloc::Global;
+
+/// Names of things, each of which is found at once by its bytes.
+#[derive(Drop)]
+pub struct NameIndex {
+    places: Places<Name>,
+    ghost few: { length places < 2 ^ 32 },
+}
+
+impl NameIndex {
+    /// The index of these names. `Mem` if there is no memory for it, or no number for each.
+    pub fn new(alloc: Global, names: Vec<Name>) -> Result<Self, Mem>
+        ensures { IfOk result (λ n. n.places ≡ names.items) }
+    {
+        if names.len() > u32::MAX as usize {
+            return Err(Mem);
+        }
+        let places = Places::new(alloc, names)?;
+        Ok(NameIndex { places })
+    }
+
+    /// The number of the first thing of that name. None where there is none.
+    #[tactic(auto, using(crate::proofs::SameNames::found_is))]
+    pub fn find(&self, word: &[u8]) -> Option<u32>
+        ensures place { result ≡ place_in self.now.places word.now }
+        ensures within { IfSome result (λ i. nat_lt i (length self.now.places) ≡ true) }
+    {
+        match Name::of_bytes(word) {
+            Some(name) => match self.places.place(&name) {
+                Some(place) => Some(place as u32),
+                None => None,
+            },
+            None => None,
+        }
+    }
+}
