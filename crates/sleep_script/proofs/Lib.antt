@@ -1,3 +1,6 @@
+pub mod Drawn
 pub mod Following
+pub mod Generating
+mod Rising
 mod Scripted
 mod Stepped

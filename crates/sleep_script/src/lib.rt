@@ -4,6 +4,10 @@
 
 mod auto;
 mod device;
+mod draws;
+mod generator;
+#[cfg(test)]
+mod generator_tests;
 mod job;
 mod kinds;
 mod script;
@@ -13,5 +17,6 @@ mod timer;
 
 pub use auto::AutoJob;
 pub use device::DeviceJob;
+pub use generator::generate;
 pub use script::ScriptJob;
 pub use timer::TimerJob;

@@ -1,0 +1,64 @@
+-- What the words of the command line ask for.
+use Rattle.std.specs.Prelude.{ℕ, ◌+◌, ◌-◌, ◌*◌, ◌^◌, List, [], ◌∷◌, length, codes, Bool, true, false, ◌&&◌, take, drop, bytes_eq, nat_le, nat_lt, fold, Option, Some, None, option_map, option_and_then, if◌then◌else◌}
+use Rattle.std.specs.List.{list_all}
+use Rattle.command_line.specs.declared.command.Command.{Command}
+use Rattle.command_line.specs.declared.command.Command.TheVariants.{Run, Gen, Soak}
+
+-- a digit
+abbrev pub is_digit : ℕ → Bool
+is_digit b = nat_le 48 b && nat_le b 57
+
+-- the first is no 0 before others
+abbrev pub has_no_zero_before : List ℕ → Bool
+has_no_zero_before [] = false
+has_no_zero_before (b ∷ []) = true
+has_no_zero_before (b ∷ c ∷ bs) = nat_lt 48 b
+
+-- the number of these digits
+abbrev pub value_of : List ℕ → ℕ
+value_of word = fold (λ n b. 10 * n + (b - 48)) 0 word
+
+-- the number that a word is, where it is one of this range: decimal digits, and no 0 before others
+abbrev pub number_in : ℕ → ℕ → List ℕ → Option ℕ
+number_in least most word =
+    if list_all is_digit word && has_no_zero_before word && nat_le least (value_of word) && nat_le (value_of word) most
+    then Some (value_of word) else None
+
+-- how many workers a word asks for
+abbrev pub workers_of : List ℕ → Option Command
+workers_of word = option_map Run (number_in 1 64 word)
+
+-- what stands before a worker's number in one word
+abbrev pub workers_prefix : List ℕ
+workers_prefix = codes "--workers="
+
+-- one word for both
+abbrev pub workers_in : List ℕ → Option Command
+workers_in word =
+    if bytes_eq (take (length workers_prefix) word) workers_prefix then workers_of (drop (length workers_prefix) word)
+    else None
+
+-- the words after run
+abbrev pub run_of : List (List ℕ) → Option Command
+run_of [] = Some (Run 4)
+run_of (word ∷ []) = workers_in word
+run_of (word ∷ n ∷ []) = if bytes_eq word (codes "--workers") then workers_of n else None
+run_of _ = None
+
+-- a seed and a number of devices
+abbrev pub seeded_of : (ℕ → ℕ → Command) → List (List ℕ) → Option Command
+seeded_of make (seed ∷ devices ∷ []) =
+    option_and_then (λ s. option_map (make s) (number_in 1 1000 devices)) (number_in 0 (2 ^ 64 - 1) seed)
+seeded_of make _ = None
+
+-- the words after the program's name
+abbrev pub command_in : List (List ℕ) → Option Command
+command_in [] = None
+command_in (word ∷ words) =
+    if bytes_eq word (codes "run") then run_of words else if bytes_eq word (codes "gen") then seeded_of Gen words
+    else if bytes_eq word (codes "soak") then seeded_of Soak words else None
+
+-- what these words ask for, where they are of a form; the first is the program's name
+abbrev pub command_of : List (List ℕ) → Option Command
+command_of [] = None
+command_of (name ∷ words) = command_in words

@@ -1,0 +1,10 @@
+/// What the program is asked to do.
+#[derive(Clone, Copy, Debug, PartialEq, Eq)]
+pub enum Command {
+    /// To read a machine and to run it by so many workers, 1 to 64.
+    Run { workers: u32 },
+    /// To write the generated machine of a seed and 1 to 1,000 devices.
+    Gen { seed: u64, devices: u32 },
+    /// To run that machine, and to write how its run ended.
+    Soak { seed: u64, devices: u32 },
+}

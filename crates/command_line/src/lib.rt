@@ -1,0 +1,11 @@
+//! The words of the command line, and what they ask for.
+#![tactic(auto)]
+
+mod command;
+mod number;
+#[cfg(test)]
+mod tests;
+mod words;
+
+pub use command::Command;
+pub use words::command_of;

@@ -1,0 +1,228 @@
+use crate::{Command, command_of};
+use sleep_base::Mem;
+use std::alloc::Global;
+use std::test::Fail;
+
+/// What these words ask for, which stand between spaces.
+fn asked(alloc: Global, line: &str) -> Result<Option<Command>, Fail> {
+    let mut words = Vec::new(alloc);
+    for word in line.split(' ') {
+        words.push(String::from_str(alloc, word)?)?;
+    }
+    Ok(command_of(alloc, &words)?)
+}
+
+/// Each form, and the least and the most of each number.
+#[test]
+fn words_of_a_form(rt: HostRuntime) -> Result<(), Fail> {
+    let most = 18_446_744_073_709_551_615;
+    for (line, command) in [
+        ("sleep run", Command::Run { workers: 4 }),
+        ("sleep run --workers 1", Command::Run { workers: 1 }),
+        ("sleep run --workers 64", Command::Run { workers: 64 }),
+        ("sleep run --workers=1", Command::Run { workers: 1 }),
+        ("sleep run --workers=64", Command::Run { workers: 64 }),
+        (
+            "sleep gen 0 1",
+            Command::Gen {
+                seed: 0,
+                devices: 1,
+            },
+        ),
+        (
+            "sleep gen 7 20",
+            Command::Gen {
+                seed: 7,
+                devices: 20,
+            },
+        ),
+        (
+            "sleep gen 18446744073709551615 1000",
+            Command::Gen {
+                seed: most,
+                devices: 1_000,
+            },
+        ),
+        (
+            "sleep soak 0 1",
+            Command::Soak {
+                seed: 0,
+                devices: 1,
+            },
+        ),
+        (
+            "sleep soak 20 7",
+            Command::Soak {
+                seed: 20,
+                devices: 7,
+            },
+        ),
+        (
+            "sleep soak 18446744073709551615 1000",
+            Command::Soak {
+                seed: most,
+                devices: 1_000,
+            },
+        ),
+        ("-- run", Command::Run { workers: 4 }),
+        (" run", Command::Run { workers: 4 }),
+    ] {
+        assert_eq!(rt; asked(rt.alloc(), line)?, Some(command));
+    }
+    Ok(())
+}
+
+/// Numbers past their range, and texts that are no numbers.
+#[test]
+fn numbers_of_no_form(rt: HostRuntime) -> Result<(), Fail> {
+    for line in [
+        "sleep run --workers 0",
+        "sleep run --workers 65",
+        "sleep run --workers=0",
+        "sleep run --workers=65",
+        "sleep run --workers 04",
+        "sleep run --workers=04",
+        "sleep run --workers 00",
+        "sleep run --workers +4",
+        "sleep run --workers -4",
+        "sleep run --workers 4.0",
+        "sleep run --workers 0x4",
+        "sleep run --workers four",
+        "sleep run --workers ٤",
+        "sleep run --workers 99999999999999999999",
+        "sleep gen 1 0",
+        "sleep gen 1 1001",
+        "sleep gen 1 01",
+        "sleep gen 01 1",
+        "sleep gen 00 1",
+        "sleep gen 18446744073709551616 1",
+        "sleep gen -1 1",
+        "sleep gen 1 -1",
+        "sleep gen +1 1",
+        "sleep gen 1 +1",
+        "sleep gen 1 1e2",
+        "sleep soak 1 0",
+        "sleep soak 1 1001",
+        "sleep soak 18446744073709551616 1",
+        "sleep soak 1 ",
+        "sleep soak  1",
+        "sleep soak １ 1",
+    ] {
+        assert_eq!(rt; asked(rt.alloc(), line)?, None);
+    }
+    Ok(())
+}
+
+/// Words that are too few, too many, or none of the forms'.
+#[test]
+fn words_of_no_form(rt: HostRuntime) -> Result<(), Fail> {
+    for line in [
+        "sleep",
+        "",
+        "sleep ",
+        "sleep fly",
+        "sleep Run",
+        "sleep ru",
+        "sleep run ",
+        "sleep run 4",
+        "sleep run run",
+        "sleep run --workers",
+        "sleep run --workers=",
+        "sleep run --workers ",
+        "sleep run --workers=4=5",
+        "sleep run --workers==4",
+        "sleep run --workers 4 4",
+        "sleep run --workers --workers",
+        "sleep run --workers --workers=4",
+        "sleep run --workers=4 --workers=4",
+        "sleep run --workers=4 --workers",
+        "sleep run --workers=4 4",
+        "sleep run --worker 4",
+        "sleep run --work 4",
+        "sleep run --Workers 4",
+        "sleep run -workers 4",
+        "sleep run -w 4",
+        "sleep run -4",
+        "sleep run -",
+        "sleep run --=4",
+        "sleep --workers 4 run",
+        "sleep --workers=4 run",
+        "sleep gen",
+        "sleep gen 1",
+        "sleep gen 1 1 1",
+        "sleep gen --workers 4",
+        "sleep gen --seed 1",
+        "sleep gen - 1",
+        "sleep gen 1 -é",
+        "sleep soak",
+        "sleep soak 1",
+        "sleep soak 1 1 1",
+        "sleep soak run 1",
+        "sleep läuft",
+        "sleep -é",
+        "sleep --é",
+        "sleep run --workers é",
+    ] {
+        assert_eq!(rt; asked(rt.alloc(), line)?, None);
+    }
+    Ok(())
+}
+
+/// `--` is of no form, wherever it stands after the name.
+#[test]
+fn the_end_of_options_is_of_no_form(rt: HostRuntime) -> Result<(), Fail> {
+    for line in [
+        "sleep --",
+        "sleep -- run",
+        "sleep run --",
+        "sleep run -- --workers=4",
+        "sleep run --workers --",
+        "sleep run --workers=4 --",
+        "sleep gen -- 1",
+        "sleep gen 1 --",
+        "sleep gen -- 1 1",
+        "sleep gen 1 1 --",
+    ] {
+        assert_eq!(rt; asked(rt.alloc(), line)?, None);
+    }
+    Ok(())
+}
+
+/// A call for help or for the version is of no form, in each spelling and place.
+#[test]
+fn help_is_of_no_form(rt: HostRuntime) -> Result<(), Fail> {
+    for line in [
+        "sleep help",
+        "sleep help run",
+        "sleep help gen soak",
+        "sleep --help",
+        "sleep -h",
+        "sleep --version",
+        "sleep -V",
+        "sleep version",
+        "sleep run --help",
+        "sleep run -h",
+        "sleep run help",
+        "sleep run --version",
+        "sleep run --workers --help",
+        "sleep run --workers=4 -h",
+        "sleep gen --help",
+        "sleep gen -h 1",
+        "sleep gen 1 --help",
+        "sleep gen 1 -V",
+        "sleep soak --help 1",
+        "sleep soak help",
+        "sleep soak 1 help",
+    ] {
+        assert_eq!(rt; asked(rt.alloc(), line)?, None);
+    }
+    Ok(())
+}
+
+/// No words at all, without a name.
+#[test]
+fn no_words_are_of_no_form(rt: HostRuntime) -> Result<(), Mem> {
+    let words: Vec<String> = Vec::new(rt.alloc());
+    assert_eq!(rt; command_of(rt.alloc(), &words)?, None);
+    Ok(())
+}
