@@ -86,18 +86,20 @@ SECTIONS = [
     ("sleep_core", "The core", "own", ["Cores", "Turned", "Histories", "HistoryFields", "CoreFields", "Numbered", "Seen", "Stages", "Steps", "Reports", "ReportFields"]),
     ("machine_file", "Accepted bytes: the first broken rule, and the machine that is spelled", "`include/linux/pm.h`, `drivers/base/core.c`; most is own", ["Whole", "Members", "Places", "Form", "Names", "Devices", "Operations", "Answering", "Limits", "Tree", "Look", "Rules", "Spelled"]),
     ("machine_file", "What the reader answers", "own", ["Refusing", "Reading", "Broken", "Fitting"]),
-    ("machine_file", "How a machine is written, and generated machines", "own", ["Spelling", "Generated"]),
-    ("machine_file", "The words of the command line", "own", ["Words"]),
+    ("machine_file", "How a machine is written", "own", ["Spelling", "Writing"]),
+    ("sleep_script", "Generated machines", "own", ["Generated"]),
+    ("command_line", "The words of the command line", "own", ["Words"]),
     ("event_word", "The event word for many holders", "`drivers/base/power/wakeup.c`", ["Histories", "Counting", "Seats", "Lists"]),
     ("device_links", "The links of a whole list", "`drivers/base/core.c`", ["Passes"]),
     ("merge_laws", "Lists that are right by themselves, and what they merge to", "own", ["Apart", "Fitting", "Merging", "Owned"]),
+    ("log_text", "The grammar of a log, and its first bad line", "own", ["Grammar", "Named"]),
     ("log_merge", "The one log, read run by run", "own", ["Rests", "ReaderFields", "Orders", "Journals"]),
     ("sleep_run", "A whole run", "own", ["Runs", "RunFields", "Tries", "Waits", "Called", "Firsts", "JobsOf"]),
     ("sleep_main", "How the program ends", "own", ["Endings"]),
 ]
 
 # What no contract of the program speaks of: terms by which the definitions are tried.
-TRIALS = {"worked_logs", "file_laws", "merge_trials"}
+TRIALS = {"worked_logs", "file_laws"}
 
 DEFINITION = re.compile(r"(?:abbrev pub|unfoldable pub|pub record|pub data) (\w+)")
 MODULE = re.compile(r"pub mod (\w+)")

@@ -4,7 +4,8 @@ use Rattle.std.specs.Prelude.{◌≡◌, ℕ, ◌==◌, List, [], ◌∷◌, ◌
 use Rattle.sleep_model.specs.declared.machine.Machine.{Machine}
 use Rattle.sleep_model.specs.Text.{newline}
 use Rattle.machine_file.specs.Spelling.{spelling}
-use Rattle.machine_file.specs.Words.{Command, command_of}
+use Rattle.command_line.specs.declared.command.Command.{Command}
+use Rattle.command_line.specs.Words.{command_of}
 use Rattle.machine_file.specs.Whole.{broken_in, broken_at, SpellsWhole}
 
 -- the bytes of a text, with " in place of '

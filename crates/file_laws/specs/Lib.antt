@@ -1,3 +1,4 @@
 pub mod Files
+pub mod Generating
 pub mod Worked
 pub mod Values

@@ -2,7 +2,7 @@
 
 ghost use Rattle.std.specs.Prelude.{◌≡◌, [], ◌∷◌, map};
 ghost use Rattle.std.specs.List.{range_with_len};
-ghost use Rattle.machine_file.specs.Generated.{drawn, generated};
+ghost use Rattle.sleep_script.specs.Generated.{drawn, generated};
 ghost use Rattle.machine_file.specs.Spelling.{ReadsBack};
 ghost use Rattle.file_laws.specs.Files.{IsWritten};
 

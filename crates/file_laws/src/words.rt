@@ -1,8 +1,8 @@
 //! What the words of the command line ask for.
 
 ghost use Rattle.std.specs.Prelude.{◌≡◌, [], ◌∷◌, codes, None};
-ghost use Rattle.machine_file.specs.Words.{command_of};
-ghost use Rattle.machine_file.specs.Words.Command.{Run, Gen, Soak};
+ghost use Rattle.command_line.specs.Words.{command_of};
+ghost use Rattle.command_line.specs.declared.command.Command.TheVariants.{Run, Gen, Soak};
 ghost use Rattle.file_laws.specs.Files.{Asks, AsksNothing};
 
 /// To run a machine, by 4 workers where no number is given.
