@@ -2,6 +2,7 @@
 use std::collections::LinkedList;
 
 /// An entry that a pass made: the object, the place in the object's list, and the entry.
+#[derive(Drop)]
 pub struct Made<I> {
     pub object: u64,
     pub place: u64,
