@@ -9,6 +9,8 @@ mod reader;
 mod sources;
 #[cfg(test)]
 mod tests;
+#[cfg(test)]
+mod thread_tests;
 
 pub use journal::rises;
 pub use merged::merge;

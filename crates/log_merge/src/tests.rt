@@ -1,4 +1,5 @@
 use super::*;
+use sleep_base::Errno;
 use sleep_model::{
     Actor, Entry, EntryList, EventNow, JournalEntry, Kind, ListOf, SourceEntry, SourceList, Stamp,
 };
@@ -22,16 +23,21 @@ fn entry(time: u64, actor: Actor, kind: Kind) -> Entry {
     }
 }
 
-/// An entry of the journal, a mark that a task raises.
-fn post(time: u64, pos: u64, tick: u64) -> JournalEntry {
+/// An entry of the journal, by a task.
+fn of_task(time: u64, pos: u64, tick: u64, kind: Kind) -> JournalEntry {
     JournalEntry {
         stamp: Stamp { pos, tick },
-        entry: entry(time, TASK, Kind::Post(0)),
+        entry: entry(time, TASK, kind),
     }
 }
 
+/// A mark that the task raises.
+fn post(time: u64, pos: u64, tick: u64) -> JournalEntry {
+    of_task(time, pos, tick, Kind::Post(0))
+}
+
 /// An entry of a source.
-fn made(time: u64, pos: u64, tick: u64, actor: Actor, kind: Kind) -> SourceEntry {
+pub(crate) fn made(time: u64, pos: u64, tick: u64, actor: Actor, kind: Kind) -> SourceEntry {
     SourceEntry {
         stamp: Stamp { pos, tick },
         entry: entry(time, actor, kind),
@@ -39,7 +45,7 @@ fn made(time: u64, pos: u64, tick: u64, actor: Actor, kind: Kind) -> SourceEntry
 }
 
 /// The one log of these.
-fn merged(
+pub(crate) fn merged(
     alloc: Global,
     journal: &[JournalEntry],
     histories: &[SourceList],
@@ -69,6 +75,27 @@ fn looks_stand_before_the_step(rt: HostRuntime) -> Result<(), Fail> {
     let histories = Vec::from_array(rt.alloc(), [history])?;
     let journal = [post(0, 0, 1), post(1, 0, 2), post(4, 1, 3)];
     let log = merged(rt.alloc(), &journal, &histories)?;
+    assert!(rt; has_times(&log, &[0, 1, 2, 3, 4]));
+    Ok(())
+}
+
+/// What another does to a source between a task's read and its save stands between them.
+#[test]
+fn an_event_stands_between_a_read_and_a_save(rt: HostRuntime) -> Result<(), Fail> {
+    let other = Actor::Script(1);
+    let event = Kind::Event {
+        source: 0,
+        ms: 0,
+        hard: false,
+    };
+    let note = made(1, 0, 2, other, event);
+    let start = made(2, 0, 3, other, Kind::Start(0));
+    let finish = made(3, 1, 4, other, Kind::Finish(0));
+    let history: SourceList = ListOf::of_vec(Vec::from_array(rt.alloc(), [note, start, finish])?);
+    let histories = Vec::from_array(rt.alloc(), [history])?;
+    let read = of_task(0, 0, 1, Kind::Read(0));
+    let save = of_task(4, 2, 5, Kind::SaveErr(0, Errno::EINVAL));
+    let log = merged(rt.alloc(), &[read, save], &histories)?;
     assert!(rt; has_times(&log, &[0, 1, 2, 3, 4]));
     Ok(())
 }
