@@ -1,12 +1,13 @@
 -- Seats that are made, one after another, and that come back; and what a seat can do next.
-use Rattle.std.proofs.Common.{◌≡◌, ℕ, suc, ◌<◌, Bool, true, false, ◌&&◌, nat_lt, Some, List, [], ◌∷◌, ◌++◌, length, sym, refl, ap, ◌∙◌, subst, ⊎_elim, arith, length-append}
+use Rattle.std.proofs.Common.{◌≡◌, ℕ, suc, ◌<◌, Bool, true, false, ◌&&◌, nat_lt, Some, List, [], ◌∷◌, ◌++◌, length, get_or, sym, refl, ap, ◌∙◌, subst, ⊎_elim, arith, length-append}
 use Rattle.std.proofs.lemmas.Bool.{false≢true}
 use Rattle.std.proofs.lemmas.Bool.Decides.{nat_tests}
 use Rattle.std.proofs.lemmas.List.{length-map}
 use mathlib.Core.List.{map-append}
 use mathlib.Core.Option.{some, some-ne-none}
 use lib.ListN.{get_elem?}
-use Rattle.atomic_table.proofs.Lists.{at_last, at_longer, at_map}
+use Rattle.atomic_table.proofs.Lists.{at_index, at_last, at_longer, at_map}
+use Rattle.atomic_table.specs.Seated.{TableId}
 use Rattle.sleep_model.specs.declared.word.WordKind.{WordKind}
 use Rattle.event_word.specs.declared.table.EventSeat.{EventSeat}
 use Rattle.event_word.specs.Steps.{MadeStep, active_after, fits, can_make}
@@ -40,12 +41,20 @@ all_back look before after are same each = record {
   each_is = λ k t at. let e = each k t at in let was = are.each_is k e.0 e.1 in (e.2 ∙ was.0, e.3 ∙ was.1);
 }
 
--- the last two seats of a new table
+-- a seat of a new table
 new_seat : (look : Token) (seats : List EventSeat) (k : ℕ) (seat : EventSeat) → AreNew look (tokens seats) → get_elem? seats k ≡ some seat → (seat.token.table_id ≡ look.table_id) × (made_of seat.token ≡ [])
 new_seat look seats k seat are at =
     let there = at_map (λ (s : EventSeat). s.token) seats k seat at in
     ((are.all_are.each_is k seat.token there).0, (are.untouched k seat.token there).made)
 
+-- the same, by a place in the list
+pub new_at : (look : Token) (z : TableId) (seats : List EventSeat) (k : ℕ) (seat : EventSeat) → look.table_id ≡ z → AreNew look (tokens seats) → k < length seats → seat ≡ get_or seats k seat
+    → (seat.token.table_id ≡ z) × (made_of seat.token ≡ [])
+new_at look z seats k seat table are low e =
+    let new = new_seat look seats k seat are (at_index seats k seat low e) in
+    (subst (λ (y : TableId). seat.token.table_id ≡ y) table new.0, new.1)
+
+-- the last two seats of a new table
 pub last_two : (look : Token) (seats front rest : List EventSeat) (first second : EventSeat) → AreNew look (tokens seats) → seats ≡ front ++ second ∷ [] → front ≡ rest ++ first ∷ []
     → ((first.token.table_id ≡ look.table_id) × (made_of first.token ≡ [])) × ((second.token.table_id ≡ look.table_id) × (made_of second.token ≡ []))
 last_two look seats front rest first second are is was = (

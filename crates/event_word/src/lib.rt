@@ -5,6 +5,8 @@
 mod closing;
 mod events;
 mod opening;
+#[cfg(test)]
+mod overlap_tests;
 mod plain;
 mod plays;
 mod seats;

@@ -8,7 +8,7 @@ use sleep_model::{EventNow, pos};
 use std::alloc::Global;
 use std::test::Fail;
 
-fn word(inpr: u32, count: u32, hard: u32) -> EventNow {
+pub(crate) fn word(inpr: u32, count: u32, hard: u32) -> EventNow {
     EventNow { inpr, count, hard }
 }
 

@@ -4,11 +4,10 @@ use mathlib.Core.Option.{some, some-injective, some-ne-none}
 use lib.ListN.{get_elem?}
 use Rattle.event_word.specs.declared.thread_tests.Done.{Done}
 use Rattle.atomic_table.proofs.Lists.{at_index, at_map}
-use Rattle.atomic_table.specs.Seated.{TableId}
 use Rattle.event_word.specs.declared.table.EventSeat.{EventSeat}
-use Rattle.event_word.specs.Seats.{Token, AreNew, AreAll, made_of, number_of}
+use Rattle.event_word.specs.Seats.{Token, AreNew, AreAll, number_of}
 use Rattle.event_word.specs.Lists.{tokens}
-use Rattle.event_word.proofs.Seating.{all_back}
+use Rattle.event_word.proofs.Seating.{all_back, new_at}
 use Rattle.event_word.proofs.thread_tests.burst.Goals as goal
 
 within : {A : Type 0} (l : List A) (i : ℕ) (a : A) → get_elem? l i ≡ some a → i < length l
@@ -16,15 +15,9 @@ within [] i a e = absurd (some-ne-none a (sym e))
 within (x ∷ xs) zero a e = omega arith
 within (x ∷ xs) (suc i) a e = let rest = within xs i a e in omega arith
 
-one_of : (look : Token) (z : TableId) (seats : List EventSeat) (i : ℕ) (x : EventSeat) → look.table_id ≡ z → AreNew look (tokens seats) → i < length seats → x ≡ get_or seats i x
-    → (x.token.table_id ≡ z) × (made_of x.token ≡ [])
-one_of look z seats i x table are low e =
-    let at = at_map (λ (s : EventSeat). s.token) seats i x (at_index seats i x low e) in
-    (subst (λ (y : TableId). x.token.table_id ≡ y) table (are.all_are.each_is i x.token at).0, (are.untouched i x.token at).made)
-
 pub map_vec-requires-after_bounds : goal.map_vec-requires-after_bounds
 map_vec-requires-after_bounds g c κs inside = λ i x low e.
-    let one = one_of c.args.look.now.token _ c.args.seats.items i x c.requires.look c.requires.seats low e in (one.0, one.1, c.requires.turns)
+    let one = new_at c.args.look.now.token _ c.args.seats.items i x c.requires.look c.requires.seats low e in (one.0, one.1, c.requires.turns)
 
 at_unmapped : (ds : List Done) (k : ℕ) (t : Token) → get_elem? (map (λ (d : Done). d.seat.token) ds) k ≡ some t → (d : Done) × (get_elem? ds k ≡ some d) × (d.seat.token ≡ t)
 at_unmapped [] k t e = absurd (some-ne-none t (sym e))
