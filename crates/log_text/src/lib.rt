@@ -35,4 +35,6 @@ pub use names::source_name;
 pub use read::read_log;
 
 #[cfg(test)]
+mod reading_tests;
+#[cfg(test)]
 mod tests;
