@@ -13,3 +13,8 @@ pub mod FirstLines
 pub mod Readable
 pub mod Loops
 pub mod Finished
+pub mod Clean
+pub mod TextLines
+pub mod OneLog
+pub mod NoBadLine
+pub mod ReadBack

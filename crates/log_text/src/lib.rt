@@ -13,6 +13,7 @@ mod fault;
 mod front;
 mod index;
 mod kinds;
+mod laws;
 mod line;
 mod lines;
 mod log;
@@ -28,9 +29,12 @@ mod words;
 mod writer;
 
 pub use fault::LogFault;
+pub use laws::{first_bad_line_is_one, text_tells_log, written_lines_are_good};
 pub use log::write_log;
 pub use names::source_name;
 pub use read::read_log;
 
+#[cfg(test)]
+mod reading_tests;
 #[cfg(test)]
 mod tests;

@@ -1,7 +1,8 @@
 //! A log from its text.
 
-ghost use Rattle.std.specs.Prelude.{◌≡◌, ◌≢◌, ◌++◌, ◌∷◌, ◌+◌, ◌&&◌, [], ℕ, true, length, flat_map, IfOk, IfErr, IfSome};
+ghost use Rattle.std.specs.Prelude.{◌≡◌, ◌≢◌, ◌++◌, ◌∷◌, ◌+◌, ◌&&◌, [], ℕ, true, length, flat_map, IfOk, IfErr, IsOkUnless};
 ghost use Rattle.std.specs.List.{list_all};
+ghost use Rattle.sleep_model.specs.declared.log.Log.{Log};
 ghost use Rattle.sleep_model.specs.Text.{entry_line, source_line, source_lines, source_names, waiting_line, end_text, text};
 ghost use Rattle.sleep_model.specs.Fits.{fits_entry, fits_stats, fits_script, fits_cause, fits_end, is_filled, IsWritable};
 ghost use Rattle.log_text.specs.Grammar.{lines, IsBadEntry, IsBadSource, IsBadEnd, IsBadStuck, IsFirstBad};
@@ -215,13 +216,20 @@ fn read_whole(alloc: Global, book: &NameBook, bytes: &[u8]) -> Result<Log, LogFa
 /// and are in the ranges of their fields.
 ///
 /// `Line(n)` where they are the text of no log that fits the machine: line n, from 1, is the first
-/// that is not of the grammar or is missing. The machine's names have to be spelled as names and
-/// told apart for that, as those of each machine that was read from a file are. `Mem` comes for want
-/// of memory, and where lines or things of a kind are more than have numbers.
+/// that is not of the grammar or is missing. The text of a log that fits the machine is read as that
+/// very log. For both the machine's names have to be spelled as names and told apart, as the rules on
+/// machine files ask. `Mem` comes for want of memory, and where lines or things of a kind are more
+/// than have numbers.
 pub fn read_log(alloc: Global, machine: &Machine, bytes: &[u8]) -> Result<Log, LogFault>
     ensures text { IfOk result (λ log. text machine.now log ≡ bytes.now) }
     ensures fits { IfOk result (λ log. IsWritable machine.now log) }
     ensures line { IfErr result (λ e. AtLine e (λ n. AreNamed machine.now → IsFirstBad machine.now bytes.now n)) }
+    // The text of a log that fits is read as that log, ..
+    ensures back { (log : Log) → AreNamed machine.now → IsWritable machine.now log → text machine.now log ≡ bytes.now →
+        IfOk result (λ read. read ≡ log) }
+    // .. and no line of it is a fault.
+    ensures taken { (log : Log) → AreNamed machine.now → IsWritable machine.now log → text machine.now log ≡ bytes.now →
+        IsOkUnless result LogFault.Mem }
 {
     match NameBook::new(alloc, machine) {
         Ok(book) => read_whole(alloc, &book, bytes),

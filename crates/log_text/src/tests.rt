@@ -21,8 +21,43 @@ fn script(alloc: Global, text: &str, kind: TaskKind) -> Result<Script, Fail> {
     })
 }
 
+// A machine of these things.
+fn machine_of(
+    alloc: Global,
+    devices: Vec<Device>,
+    sources: Vec<Name>,
+    marks: Vec<Name>,
+    actors: Vec<Script>,
+) -> Machine {
+    Machine {
+        alarm_ms: 1000,
+        cpus: 1,
+        auto_cycles: 1,
+        devices: ListOf::of_vec(devices),
+        links: ListOf::of_vec(Vec::new(alloc)),
+        syscore: ListOf::of_vec(Vec::new(alloc)),
+        notifiers: ListOf::of_vec(Vec::new(alloc)),
+        sources: ListOf::of_vec(sources),
+        marks: ListOf::of_vec(marks),
+        actors: ListOf::of_vec(actors),
+        answers: ListOf::of_vec(Vec::new(alloc)),
+    }
+}
+
+// The task w alone.
+pub fn one_task(alloc: Global) -> Result<Machine, Fail> {
+    let actors = vec![in alloc; script(alloc, "w", TaskKind::User)?]?;
+    Ok(machine_of(
+        alloc,
+        Vec::new(alloc),
+        Vec::new(alloc),
+        Vec::new(alloc),
+        actors,
+    ))
+}
+
 // The device c, the source lid, the mark a, the tasks w and b and the interrupt line k.
-fn machine(alloc: Global) -> Result<Machine, Fail> {
+pub fn machine(alloc: Global) -> Result<Machine, Fail> {
     let device = Device {
         name: name("c")?,
         parent: None,
@@ -32,19 +67,13 @@ fn machine(alloc: Global) -> Result<Machine, Fail> {
     actors.push(script(alloc, "w", TaskKind::User)?)?;
     actors.push(script(alloc, "b", TaskKind::User)?)?;
     actors.push(script(alloc, "k", TaskKind::Irq)?)?;
-    Ok(Machine {
-        alarm_ms: 1000,
-        cpus: 1,
-        auto_cycles: 1,
-        devices: ListOf::of_vec(vec![in alloc; device]?),
-        links: ListOf::of_vec(Vec::new(alloc)),
-        syscore: ListOf::of_vec(Vec::new(alloc)),
-        notifiers: ListOf::of_vec(Vec::new(alloc)),
-        sources: ListOf::of_vec(vec![in alloc; name("lid")?]?),
-        marks: ListOf::of_vec(vec![in alloc; name("a")?]?),
-        actors: ListOf::of_vec(actors),
-        answers: ListOf::of_vec(Vec::new(alloc)),
-    })
+    Ok(machine_of(
+        alloc,
+        vec![in alloc; device]?,
+        vec![in alloc; name("lid")?]?,
+        vec![in alloc; name("a")?]?,
+        actors,
+    ))
 }
 
 const TASK: Actor = Actor::Script(0);
