@@ -18,4 +18,5 @@ pub mod ContentRead
 pub mod TextsRead
 pub mod PlainAgain
 pub mod ReadBack
+pub mod Naming
 pub mod Proved

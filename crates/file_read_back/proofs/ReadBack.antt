@@ -17,7 +17,8 @@ abbrev pick : Machine → Option Machine → Machine
 pick m None = m
 pick m (Some k) = k
 
-some_is : (k l : Machine) → Some k ≡ Some l → k ≡ l
+-- two that are there are one where what holds them is
+pub some_is : (k l : Machine) → Some k ≡ Some l → k ≡ l
 some_is k l same = ap (pick k) same
 
 value_back : (d : Data) → HasTexts d → first_broken d ≡ None → ReadsBack (whole_machine d)

@@ -1,7 +1,9 @@
 -- That a machine is read back from what is written for it.
 use Rattle.std.specs.Prelude.{◌≡◌, None}
 use Rattle.serde_json.specs.Data.{Data}
-use Rattle.machine_file.specs.Whole.{first_broken, whole_machine}
+use Rattle.sleep_model.specs.declared.machine.Machine.{Machine}
+use Rattle.machine_file.specs.Whole.{first_broken, whole_machine, IsSpelled}
+use Rattle.log_text.specs.Named.{AreNamed}
 use Rattle.machine_file.specs.Spelling.{machine_value}
 
 -- the value that is written for what this value spells breaks no rule, and spells the same
@@ -11,3 +13,7 @@ SpellsAgain d = (first_broken (machine_value (whole_machine d)) ≡ None) × (wh
 -- so it is of each value that breaks no rule
 abbrev pub AllSpellAgain : Type 0
 AllSpellAgain = (d : Data) → first_broken d ≡ None → SpellsAgain d
+
+-- the names of each machine that a file spells are spelled as names are, and told apart
+abbrev pub AllNamed : Type 0
+AllNamed = (m : Machine) → IsSpelled m → AreNamed m

@@ -3,7 +3,7 @@
 #![tactic(auto)]
 
 ghost use Rattle.machine_file.specs.Spelling.{AllReadBack};
-ghost use Rattle.file_read_back.specs.Laws.{AllSpellAgain};
+ghost use Rattle.file_read_back.specs.Laws.{AllNamed, AllSpellAgain};
 
 /// The value that is written for the machine of a value without a broken rule breaks none, and
 /// spells that machine.
@@ -14,4 +14,10 @@ pub fn values_spell_again()
 /// The bytes that are written for a machine that some file spells are accepted, and spell it.
 pub fn machines_read_back()
     ensures { AllReadBack }
+{}
+
+/// The names of a machine that some file spells are spelled as names and told apart, as those who
+/// read its logs ask.
+pub fn machines_are_named()
+    ensures { AllNamed }
 {}

@@ -1,0 +1,5 @@
+use Rattle.file_read_back.proofs.Naming.{machines_named}
+use Rattle.file_read_back.proofs.machines_are_named.Goals as goal
+
+pub returns : goal.returns
+returns c = machines_named
