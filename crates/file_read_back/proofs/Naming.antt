@@ -24,7 +24,8 @@ use Rattle.file_read_back.proofs.Alike.{EachOf, weaker, made_pass, mapped}
 use Rattle.file_read_back.proofs.DevicesBack.{KeptDevice}
 use Rattle.file_read_back.proofs.OperationsBack.{KeptOp}
 use Rattle.file_read_back.proofs.ScriptsBack.{KeptActor}
-use Rattle.file_read_back.specs.Laws.{AllNamed}
+use Rattle.file_read_back.specs.Laws.{AllNamed, AllTold}
+use Rattle.log_text.proofs.OneLog.{one_log}
 use Rattle.file_read_back.proofs.FileKept.{kept_file}
 use Rattle.file_read_back.proofs.ReadBack.{some_is}
 
@@ -325,3 +326,7 @@ by_tree m (Some d) is = by_rules d m (first_broken d) refl is
 -- so it is of each machine that some file spells
 pub machines_named : AllNamed
 machines_named m is = by_tree m (tree is.0) is.1
+
+-- so its logs are told apart by their texts
+pub logs_told : AllTold
+logs_told m is a b v w same = one_log m (machines_named m is) a b v w same

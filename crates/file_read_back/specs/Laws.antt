@@ -1,7 +1,10 @@
--- That a machine is read back from what is written for it.
+-- That a machine is read back from what is written for it, and that texts tell its logs apart.
 use Rattle.std.specs.Prelude.{◌≡◌, None}
 use Rattle.serde_json.specs.Data.{Data}
+use Rattle.sleep_model.specs.declared.log.Log.{Log}
 use Rattle.sleep_model.specs.declared.machine.Machine.{Machine}
+use Rattle.sleep_model.specs.Fits.{IsWritable}
+use Rattle.sleep_model.specs.Text.{text}
 use Rattle.machine_file.specs.Whole.{first_broken, whole_machine, IsSpelled}
 use Rattle.log_text.specs.Named.{AreNamed}
 use Rattle.machine_file.specs.Spelling.{machine_value}
@@ -17,3 +20,7 @@ AllSpellAgain = (d : Data) → first_broken d ≡ None → SpellsAgain d
 -- the names of each machine that a file spells are spelled as names are, and told apart
 abbrev pub AllNamed : Type 0
 AllNamed = (m : Machine) → IsSpelled m → AreNamed m
+
+-- two logs that fit a machine which a file spells are one log where they have one text
+abbrev pub AllTold : Type 0
+AllTold = (m : Machine) → IsSpelled m → (a b : Log) → IsWritable m a → IsWritable m b → text m a ≡ text m b → a ≡ b

@@ -3,7 +3,7 @@
 #![tactic(auto)]
 
 ghost use Rattle.machine_file.specs.Spelling.{AllReadBack};
-ghost use Rattle.file_read_back.specs.Laws.{AllNamed, AllSpellAgain};
+ghost use Rattle.file_read_back.specs.Laws.{AllNamed, AllSpellAgain, AllTold};
 
 /// The value that is written for the machine of a value without a broken rule breaks none, and
 /// spells that machine.
@@ -20,4 +20,9 @@ pub fn machines_read_back()
 /// read its logs ask.
 pub fn machines_are_named()
     ensures { AllNamed }
+{}
+
+/// Two logs that fit a machine which some file spells and have the same text are the same log.
+pub fn texts_tell_logs()
+    ensures { AllTold }
 {}
