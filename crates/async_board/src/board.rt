@@ -6,7 +6,7 @@ ghost use Rattle.async_board.specs.Walks.{IsLayout, IsWalk, IsBelow, IsAbove};
 
 use crate::pick::{Look, Pick, first_picked, is_so, last_picked, stand_at};
 use crate::rows::{all_left_alone, count_at, first_low, first_unsettled, is_none};
-use crate::stand::{device_of, stand_after, work_in};
+use crate::stand::{device_of, may_move, stand_after, work_in};
 use crate::walk::{Layout, Walk, places_of, put};
 use device_links::Links;
 use sleep_base::Mem;
@@ -40,9 +40,9 @@ impl Model for Board {
     ghost invariant = { AreKept };
 }
 
-// Moves the device of an entry in a pair of phases. Most entries move it in one pair alone.
+// Moves the device of an entry in a pair of phases that it may be of.
 #[tactic(auto, using(crate::proofs::Stood::stands_stay))]
-fn move_in(walk: &mut Walk, layout: &Layout, p: Phase, kind: Kind, device: u32)
+fn move_by(walk: &mut Walk, layout: &Layout, p: Phase, kind: Kind, device: u32)
     requires laid { IsLayout layout.now }
     requires kept { IsWalk layout.now walk.old }
     ensures stands { walk.new.stands.items
@@ -53,6 +53,21 @@ fn move_in(walk: &mut Walk, layout: &Layout, p: Phase, kind: Kind, device: u32)
     let after = stand_after(p, kind, before);
     if after != before {
         put(walk, layout, device, after);
+    }
+}
+
+// Moves the device of an entry in a pair of phases. Most entries are of one pair alone.
+#[inline]
+#[tactic(auto, using(crate::proofs::Stood::stands_stay))]
+fn move_in(walk: &mut Walk, layout: &Layout, p: Phase, kind: Kind, device: u32)
+    requires laid { IsLayout layout.now }
+    requires kept { IsWalk layout.now walk.old }
+    ensures stands { walk.new.stands.items
+        ≡ stands_after p kind (Some device) walk.old.stands.items }
+    ensures kept { IsWalk layout.now walk.new }
+{
+    if may_move(p, kind) {
+        move_by(walk, layout, p, kind, device);
     }
 }
 

@@ -1,6 +1,8 @@
 //! What an entry does to the stand of its device, and tests of a stand.
 
 ghost use Rattle.std.specs.Prelude.{◌≡◌};
+ghost use Rattle.std.specs.Bool.{OnFalse};
+ghost use Rattle.sleep_model.specs.declared.place.Stand.{Stand};
 ghost use Rattle.sleep_model.specs.Devices.{work_in};
 ghost use Rattle.sleep_model.specs.Stands as stands;
 
@@ -56,6 +58,33 @@ pub fn stand_after(p: Phase, kind: Kind, before: Stand) -> Stand
         Kind::End(q, _, r) => by_phase(p, q, ended_by(r), Stand::Resumed, before),
         Kind::Skip(q, _, cause) => by_phase(p, q, skipped_for(cause), before, before),
         _ => before,
+    }
+}
+
+/// Whether a phase is that one on the way down, or its mirror.
+#[tactic(auto, using(crate::proofs::Stood::neither))]
+fn is_of(p: Phase, q: Phase) -> bool
+    ensures { OnFalse result ((down up other : Stand) → stands.by_phase p q down up other ≡ other) }
+{
+    if q == p {
+        return true;
+    }
+    if q == p.mirror() {
+        return true;
+    }
+    false
+}
+
+/// Whether the device of an entry may stand otherwise after it, for a phase on the way down and its mirror.
+pub(crate) fn may_move(p: Phase, kind: Kind) -> bool
+    ensures { OnFalse result ((before : Stand) → stands.stand_after p kind before ≡ before) }
+{
+    match kind {
+        Kind::Schedule(q, _) => is_of(p, q),
+        Kind::Begin(q, _) => is_of(p, q),
+        Kind::End(q, ..) => is_of(p, q),
+        Kind::Skip(q, ..) => is_of(p, q),
+        _ => true,
     }
 }
 

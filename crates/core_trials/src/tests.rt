@@ -3,7 +3,7 @@ ghost use Rattle.sleep_core.specs.Cores.{IsActor};
 ghost use Rattle.sleep_core.specs.Histories.{last_stamp};
 
 use crate::MovingWord;
-use event_word::{Events, PlainEvents};
+use event_word::{EventTable, Events, PlainEvents};
 use machine_file::{ReadMachine, read_machine};
 use sleep_base::Errno;
 use sleep_core::{Core, CoreTurn};
@@ -152,6 +152,18 @@ fn was_busy(journal: &[JournalEntry]) -> bool {
 fn a_quiet_attempt_enters(rt: HostRuntime) -> Result<(), Fail> {
     let journal = journal_of(&rt, rt.alloc(), &mut PlainEvents::new())?;
     assert!(rt; entered(journal.as_slice()));
+    Ok(())
+}
+
+/// A look at the table of the event word serves the core as the plain counter does.
+#[test]
+fn a_quiet_attempt_enters_over_the_table(rt: HostRuntime) -> Result<(), Fail> {
+    let (table, _seats, look) = EventTable::new(rt.alloc(), 1)?;
+    let mut look = look.on(&table);
+    let journal = journal_of(&rt, rt.alloc(), &mut look)?;
+    assert!(rt; entered(journal.as_slice()));
+    let plain = journal_of(&rt, rt.alloc(), &mut PlainEvents::new())?;
+    assert_eq!(rt; journal.len(), plain.len());
     Ok(())
 }
 

@@ -328,6 +328,22 @@ impl Path {
         requires { attempts_after kind self.old.attempts < 2 ^ 32 }
         ensures { self.new ≡ path_after kind who pos time self.old }
     {
+        match kind {
+            Kind::Prepare { .. }
+            | Kind::Complete(_)
+            | Kind::Schedule(..)
+            | Kind::Begin(..)
+            | Kind::End(..)
+            | Kind::Skip(..) => {}
+            _ => self.go_on(kind, who, pos, time),
+        }
+    }
+
+    /// What an entry of that actor does, which need not be of a device.
+    fn go_on(&mut self, kind: Kind, who: Actor, pos: u64, time: u64)
+        requires { attempts_after kind self.old.attempts < 2 ^ 32 }
+        ensures { self.new ≡ path_after kind who pos time self.old }
+    {
         self.attempts = attempts_after(kind, self.attempts);
         self.maker = maker_after(kind, who, self.maker);
         self.stage = stage_after(kind, self.stage);

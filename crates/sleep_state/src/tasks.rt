@@ -159,7 +159,25 @@ impl Tasks {
     }
 
     /// What an entry of that actor does to the tasks.
+    #[tactic(auto, using(crate::proofs::Staying::seats_stay))]
     pub fn note(&mut self, who: Actor, kind: Kind)
+        requires seat { SeatIsSmall who self.old.seats }
+        requires marks { MarksAreSmall kind self.old.marks }
+        ensures { self.new ≡ tasks_after who kind self.old }
+    {
+        match kind {
+            Kind::Prepare { .. }
+            | Kind::Complete(_)
+            | Kind::Schedule(..)
+            | Kind::Begin(..)
+            | Kind::End(..)
+            | Kind::Skip(..) => {}
+            _ => self.go_on(who, kind),
+        }
+    }
+
+    /// What an entry of that actor does to the tasks, which need not be of a device.
+    fn go_on(&mut self, who: Actor, kind: Kind)
         requires seat { SeatIsSmall who self.old.seats }
         requires marks { MarksAreSmall kind self.old.marks }
         ensures { self.new ≡ tasks_after who kind self.old }
