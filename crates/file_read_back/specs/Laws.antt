@@ -1,8 +1,9 @@
 -- That a machine is read back from what is written for it.
-use Rattle.std.specs.Prelude.{◌≡◌, None}
+use Rattle.std.specs.Prelude.{◌≡◌, ◌≤◌, ℕ, None}
 use Rattle.serde_json.specs.Data.{Data}
 use Rattle.machine_file.specs.Whole.{first_broken, whole_machine}
-use Rattle.machine_file.specs.Spelling.{machine_value}
+use Rattle.machine_file.specs.Spelling.{machine_value, ReadsBack}
+use Rattle.sleep_script.specs.Generated.{generated}
 
 -- the value that is written for what this value spells breaks no rule, and spells the same
 abbrev pub SpellsAgain : Data → Type 0
@@ -11,3 +12,7 @@ SpellsAgain d = (first_broken (machine_value (whole_machine d)) ≡ None) × (wh
 -- so it is of each value that breaks no rule
 abbrev pub AllSpellAgain : Type 0
 AllSpellAgain = (d : Data) → first_broken d ≡ None → SpellsAgain d
+
+-- what is written for the generated machine of each seed and of 1 to 1000 devices is accepted, and spells it
+abbrev pub AllGenerated : Type 0
+AllGenerated = (seed devices : ℕ) → 1 ≤ devices → devices ≤ 1000 → ReadsBack (generated seed devices)

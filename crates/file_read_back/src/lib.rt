@@ -3,7 +3,10 @@
 #![tactic(auto)]
 
 ghost use Rattle.machine_file.specs.Spelling.{AllReadBack};
-ghost use Rattle.file_read_back.specs.Laws.{AllSpellAgain};
+ghost use Rattle.file_read_back.specs.Laws.{AllGenerated, AllSpellAgain};
+
+#[cfg(test)]
+mod tests;
 
 /// The value that is written for the machine of a value without a broken rule breaks none, and
 /// spells that machine.
@@ -14,4 +17,9 @@ pub fn values_spell_again()
 /// The bytes that are written for a machine that some file spells are accepted, and spell it.
 pub fn machines_read_back()
     ensures { AllReadBack }
+{}
+
+/// The bytes that are written for a generated machine are accepted, and spell it.
+pub fn generated_machines_read_back()
+    ensures { AllGenerated }
 {}
