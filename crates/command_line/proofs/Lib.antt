@@ -5,3 +5,4 @@ pub mod Forms
 pub mod Numbers
 pub mod Readings
 pub mod Commands
+pub mod Ranges

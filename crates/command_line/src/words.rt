@@ -1,8 +1,8 @@
-ghost use Rattle.std.specs.Prelude.{◌≡◌, ℕ, [], ◌∷◌, IfOk, IfErr, Option, Some, option_map, map, string_bytes};
+ghost use Rattle.std.specs.Prelude.{◌≡◌, ℕ, [], ◌∷◌, IfOk, IfErr, IfSome, Option, Some, option_map, map, string_bytes};
 ghost use Rattle.std.specs.List.{list_any};
 ghost use Rattle.clap.specs.Words.{FailsBy, app_of, fault_of, found_of, rows_of, shape_of, subcommand_of, subcommand_rows_of};
 ghost use Rattle.command_line.specs.declared.command.Command.TheVariants.{Gen, Soak};
-ghost use Rattle.command_line.specs.Words.{command_of, seeded_of, workers_of};
+ghost use Rattle.command_line.specs.Words.{IsInRange, command_of, seeded_of, workers_of};
 ghost use Rattle.command_line.specs.Parses.{are_few, is_end_of_options, run_app, seeded_app, whole_app, run_read, seeded_read, command_read};
 
 use crate::command::Command;
@@ -119,7 +119,8 @@ fn command_read(matches: &ArgMatches) -> Option<Command>
 /// What the words of the command line ask for; the first is the program's name. `None` where they are of no form, as
 /// where they call for help. An error is want of memory.
 pub fn command_of(alloc: Global, words: &[String]) -> Result<Option<Command>, Mem>
-    ensures { IfOk result (λ c. c ≡ command_of (map string_bytes words.now)) }
+    ensures asks { IfOk result (λ c. c ≡ command_of (map string_bytes words.now)) }
+    ensures range { IfOk result (λ c. IfSome c IsInRange) }
 {
     let [_, rest @ ..] = words else {
         return Ok(None);

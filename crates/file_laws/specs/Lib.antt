@@ -1,4 +1,3 @@
 pub mod Files
-pub mod Generating
 pub mod Worked
 pub mod Values

@@ -17,6 +17,10 @@ pub mod TextsIn
 pub mod ContentRead
 pub mod TextsRead
 pub mod PlainAgain
+pub mod DrawnNames
+pub mod DrawnValue
+pub mod DrawnRules
+pub mod DrawnTexts
 pub mod ReadBack
 pub mod Naming
 pub mod Proved

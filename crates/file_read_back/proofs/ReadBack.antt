@@ -5,6 +5,10 @@ use Rattle.sleep_model.specs.declared.machine.Machine.{Machine}
 use Rattle.machine_file.specs.Tree.{tree}
 use Rattle.machine_file.specs.Whole.{Broken, first_broken, whole_machine, unless_broken}
 use Rattle.machine_file.specs.Spelling.{machine_value, ReadsBack, AllReadBack}
+use Rattle.file_read_back.specs.Laws.{AllGenerated}
+use Rattle.file_read_back.proofs.DrawnValue.{drawn_value, spells_drawn}
+use Rattle.file_read_back.proofs.DrawnRules.{drawn_unbroken}
+use Rattle.file_read_back.proofs.DrawnTexts.{drawn_texts}
 use Rattle.file_read_back.proofs.FileKept.{kept_file}
 use Rattle.file_read_back.proofs.MachineBack.{machine_same}
 use Rattle.file_read_back.proofs.RulesBack.{unbroken_again}
@@ -37,3 +41,8 @@ tree_back bytes m (Some d) e is = found_back d m (file_texts bytes d e) (first_b
 -- so it is of each machine that some file spells
 pub all_read_back : AllReadBack
 all_read_back m spelled = tree_back spelled.0 m (tree spelled.0) refl spelled.1
+
+-- so it is of each generated machine
+pub all_drawn_back : AllGenerated
+all_drawn_back seed devices some few =
+    subst ReadsBack (spells_drawn seed devices some few) (value_back (drawn_value seed devices) (drawn_texts seed devices some few) (drawn_unbroken seed devices some few))

@@ -36,7 +36,7 @@ use Rattle.file_read_back.proofs.MachineBack.{again, text_again, devices_list, l
 
 -- ---- no rule is broken where each is kept
 
-none_broken : (rs : List Rule) (v : Data) → KeepsAll rs v → first_of rs v ≡ None
+pub none_broken : (rs : List Rule) (v : Data) → KeepsAll rs v → first_of rs v ≡ None
 none_broken [] v h = refl
 none_broken (r ∷ rest) v h = ap₂ (λ o p. option_or (option_map (broken_at r.number) o) p) h.0 (none_broken rest v h.1)
 
@@ -47,17 +47,17 @@ none_found : {A : Type 0} (test : Named A → Bool) (rows : List (Named A)) → 
 none_found test [] h = refl
 none_found test (r ∷ rest) h = one_passes (test r) r (find (λ x. not (test x)) rest) h.0 (none_found test rest h.1)
 
-rows_pass : {A : Type 0} (test : Named A → Bool) (rows : List (Named A)) → AllPass test rows → first_row test rows ≡ None
+pub rows_pass : {A : Type 0} (test : Named A → Bool) (rows : List (Named A)) → AllPass test rows → first_row test rows ≡ None
 rows_pass test rows h = ap (option_map (λ r. r.name)) (none_found test rows h)
 
-kept_unless : (b : Bool) (place : List ℕ) → b ≡ true → unless b place ≡ None
+pub kept_unless : (b : Bool) (place : List ℕ) → b ≡ true → unless b place ≡ None
 kept_unless b place e = ap (λ x. unless x place) e
 
 holds : (b : Bool) (place : List ℕ) → unless b place ≡ None → b ≡ true
 holds true place e = refl
 holds false place e = absurd (let g : Some place ≡ None = e in cc)
 
-items_pass : (name : List ℕ) (test : Data → Bool) (v : Data) → list_all test (list_in name v) ≡ true → first_item name test v ≡ None
+pub items_pass : (name : List ℕ) (test : Data → Bool) (v : Data) → list_all test (list_in name v) ≡ true → first_item name test v ≡ None
 items_pass name test v e = ap (option_map (item_place name)) (none_fails test (list_in name v) e)
 
 -- all that are written again pass

@@ -1,5 +1,5 @@
 -- That a machine is read back from what is written for it, and that texts tell its logs apart.
-use Rattle.std.specs.Prelude.{◌≡◌, None}
+use Rattle.std.specs.Prelude.{◌≡◌, ◌≤◌, ℕ, None}
 use Rattle.serde_json.specs.Data.{Data}
 use Rattle.sleep_model.specs.declared.log.Log.{Log}
 use Rattle.sleep_model.specs.declared.machine.Machine.{Machine}
@@ -7,7 +7,8 @@ use Rattle.sleep_model.specs.Fits.{IsWritable}
 use Rattle.sleep_model.specs.Text.{text}
 use Rattle.machine_file.specs.Whole.{first_broken, whole_machine, IsSpelled}
 use Rattle.log_text.specs.Named.{AreNamed}
-use Rattle.machine_file.specs.Spelling.{machine_value}
+use Rattle.machine_file.specs.Spelling.{machine_value, ReadsBack}
+use Rattle.sleep_script.specs.Generated.{generated}
 
 -- the value that is written for what this value spells breaks no rule, and spells the same
 abbrev pub SpellsAgain : Data → Type 0
@@ -24,3 +25,7 @@ AllNamed = (m : Machine) → IsSpelled m → AreNamed m
 -- two logs that fit a machine which a file spells are one log where they have one text
 abbrev pub AllTold : Type 0
 AllTold = (m : Machine) → IsSpelled m → (a b : Log) → IsWritable m a → IsWritable m b → text m a ≡ text m b → a ≡ b
+
+-- what is written for the generated machine of each seed and of 1 to 1000 devices is accepted, and spells it
+abbrev pub AllGenerated : Type 0
+AllGenerated = (seed devices : ℕ) → 1 ≤ devices → devices ≤ 1000 → ReadsBack (generated seed devices)

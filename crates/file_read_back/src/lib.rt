@@ -3,7 +3,10 @@
 #![tactic(auto)]
 
 ghost use Rattle.machine_file.specs.Spelling.{AllReadBack};
-ghost use Rattle.file_read_back.specs.Laws.{AllNamed, AllSpellAgain, AllTold};
+ghost use Rattle.file_read_back.specs.Laws.{AllGenerated, AllNamed, AllSpellAgain, AllTold};
+
+#[cfg(test)]
+mod tests;
 
 /// The value that is written for the machine of a value without a broken rule breaks none, and
 /// spells that machine.
@@ -25,4 +28,9 @@ pub fn machines_are_named()
 /// Two logs that fit a machine which some file spells and have the same text are the same log.
 pub fn texts_tell_logs()
     ensures { AllTold }
+{}
+
+/// The bytes that are written for a generated machine are accepted, and spell it.
+pub fn generated_machines_read_back()
+    ensures { AllGenerated }
 {}

@@ -21,8 +21,6 @@ mod places;
 mod quoted;
 mod reading;
 mod replies;
-#[cfg(test)]
-mod rewritten;
 mod rules;
 mod scripts;
 mod spelling;
