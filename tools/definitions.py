@@ -95,7 +95,7 @@ SECTIONS = [
     ("log_text", "The grammar of a log, and its first bad line", "own", ["Grammar", "Named"]),
     ("log_merge", "The one log, read run by run", "own", ["Rests", "ReaderFields", "Orders", "Journals"]),
     ("sleep_run", "A whole run", "own", ["Runs", "RunFields", "Tries", "Waits", "Called", "Firsts", "JobsOf"]),
-    ("sleep_main", "How the program ends", "own", ["Endings"]),
+    ("sleep_main", "How the program ends", "own", ["Words", "Endings", "Counting"]),
 ]
 
 # What no contract of the program speaks of: terms by which the definitions are tried.

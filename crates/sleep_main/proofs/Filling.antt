@@ -1,17 +1,17 @@
 -- What an ending without a log means.
-use Rattle.std.proofs.Common.{◌≡◌, ℕ, List, Some}
+use Rattle.std.proofs.Common.{◌≡◌, ℕ, Bool, List, Some}
 use Rattle.sleep_model.specs.declared.machine.Machine.{Machine}
 use Rattle.machine_file.specs.Whole.{machine_in}
 use Rattle.sleep_run.specs.Runs.{IsFull}
 use Rattle.sleep_main.specs.declared.ending.Ending.{Ending}
-use Rattle.sleep_main.specs.declared.ending.Ending.TheVariants.{Ran, Stuck, NoForm, TooLong, Broken, ReadFault, WriteFault, SourceFull, NoMemory}
-use Rattle.sleep_main.specs.Endings.{Streams, ReadWhole, KeepsOut, IsFullNamed, EndsWithout, FileEnded}
+use Rattle.sleep_main.specs.declared.ending.Ending.TheVariants.{Done, Stuck, NoForm, TooLong, Broken, ReadFault, WriteFault, SourceFull, NoMemory}
+use Rattle.sleep_main.specs.Endings.{Streams, ReadWhole, KeepsOut, IsFullNamed, IsLogOf, EndsWithout, RunEnded, Writes}
 
 -- a source that is full is named
 pub fills : (bytes : List ℕ) (m : Machine) (s : ℕ) (ending : Ending) → machine_in bytes ≡ Some m → IsFull m s → IsFullNamed m s ending → EndsWithout bytes ending
 fills bytes m s (SourceFull name) spells full named = record { machine = m; number = s; spells = spells; full = full; named = named }
 fills bytes m s NoMemory spells full named = tt
-fills bytes m s Ran spells full named = named
+fills bytes m s Done spells full named = named
 fills bytes m s Stuck spells full named = named
 fills bytes m s NoForm spells full named = named
 fills bytes m s TooLong spells full named = named
@@ -20,13 +20,25 @@ fills bytes m s ReadFault spells full named = named
 fills bytes m s WriteFault spells full named = named
 
 -- a whole input that gives no text ends the program so
-pub ended_without : (old new : Streams) (bytes : List ℕ) (ending : Ending) → ReadWhole old new bytes → KeepsOut old new → EndsWithout bytes ending → FileEnded old new ending
+pub ended_without : (old new : Streams) (bytes : List ℕ) (ending : Ending) → ReadWhole old new bytes → KeepsOut old new → EndsWithout bytes ending → RunEnded old new ending
 ended_without old new bytes (Broken rule place) read out h = ((bytes, read, h), out)
 ended_without old new bytes (SourceFull name) read out h = ((bytes, read, h), out)
 ended_without old new bytes NoMemory read out h = out
-ended_without old new bytes Ran read out h = absurd h
+ended_without old new bytes Done read out h = absurd h
 ended_without old new bytes Stuck read out h = absurd h
-ended_without old new bytes NoForm read out h = h
+ended_without old new bytes NoForm read out h = absurd h
 ended_without old new bytes TooLong read out h = absurd h
 ended_without old new bytes ReadFault read out h = absurd h
 ended_without old new bytes WriteFault read out h = absurd h
+
+-- a whole input that gives a text, which is written whole or in front
+pub ended_with : (old new : Streams) (bytes said : List ℕ) (stuck : Bool) (ending : Ending) → ReadWhole old new bytes → IsLogOf bytes said stuck → Writes old.output new.output said stuck ending → RunEnded old new ending
+ended_with old new bytes said stuck Done read log h = (said, stuck, (bytes, read, log), h)
+ended_with old new bytes said stuck Stuck read log h = (said, stuck, (bytes, read, log), h)
+ended_with old new bytes said stuck WriteFault read log h = (said, stuck, (bytes, read, log), h)
+ended_with old new bytes said stuck NoForm read log h = absurd h
+ended_with old new bytes said stuck TooLong read log h = absurd h
+ended_with old new bytes said stuck (Broken rule place) read log h = absurd h
+ended_with old new bytes said stuck ReadFault read log h = absurd h
+ended_with old new bytes said stuck (SourceFull name) read log h = absurd h
+ended_with old new bytes said stuck NoMemory read log h = absurd h

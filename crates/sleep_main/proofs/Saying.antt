@@ -7,7 +7,7 @@ use Rattle.sleep_base.specs.declared.outside.Failed.{Failed}
 use Rattle.sleep_base.specs.Faults.{Rose}
 use Rattle.sleep_base.specs.Whole.{WriteAll}
 use Rattle.sleep_main.specs.declared.ending.Ending.{Ending}
-use Rattle.sleep_main.specs.declared.ending.Ending.TheVariants.{Ran, Stuck, NoForm, TooLong, Broken, ReadFault, WriteFault, SourceFull, NoMemory}
+use Rattle.sleep_main.specs.declared.ending.Ending.TheVariants.{Done, Stuck, NoForm, TooLong, Broken, ReadFault, WriteFault, SourceFull, NoMemory}
 use Rattle.sleep_main.specs.Endings.{text_of, head_of, number_of, colon_of, name_of, tail_of}
 
 -- what was appended behind another piece
@@ -32,7 +32,7 @@ both_written old mid new before then now one other (Err fault) h l g =
 pub text_parts : (ending : Ending) → ((head_of ending ++ number_of ending) ++ colon_of ending) ++ (name_of ending ++ tail_of ending) ≡ text_of ending
 text_parts (Broken rule place) = sym (append_assoc ((codes "machine: rule " ++ decimal rule) ++ codes ": ") (string_bytes place) (10 ∷ []))
 text_parts (SourceFull name) = ap (λ bs. bs ++ (name ++ 10 ∷ [])) (append-nil (codes "source full: " ++ []) ∙ append-nil (codes "source full: ")) ∙ sym (append_assoc (codes "source full: ") name (10 ∷ []))
-text_parts Ran = refl
+text_parts Done = refl
 text_parts Stuck = refl
 text_parts NoForm = append-nil _ ∙ (append-nil _ ∙ append-nil _)
 text_parts TooLong = append-nil _ ∙ (append-nil _ ∙ append-nil _)

@@ -9,15 +9,20 @@ use Rattle.sleep_model.specs.declared.log.LogEnd.TheVariants as end
 use Rattle.sleep_model.specs.declared.machine.Machine.{Machine}
 use Rattle.sleep_model.specs.Legal.{IsFinishedLog, IsStuckLog}
 use Rattle.sleep_model.specs.Text.{text, source}
+use Rattle.command_line.specs.declared.command.Command.{Command}
+use Rattle.command_line.specs.declared.command.Command.TheVariants.{Run, Gen, Soak}
+use Rattle.machine_file.specs.Spelling.{spelling}
 use Rattle.machine_file.specs.Whole.{machine_in, broken_at, broken_in}
+use Rattle.sleep_script.specs.Generated.{generated}
+use Rattle.sleep_main.specs.Counting.{count_line, counts_of}
 use Rattle.sleep_main.specs.declared.ending.Ending.{Ending}
-use Rattle.sleep_main.specs.declared.top.LogText.{LogText}
-use Rattle.sleep_main.specs.declared.ending.Ending.TheVariants.{Ran, Stuck, NoForm, TooLong, Broken, ReadFault, WriteFault, SourceFull, NoMemory}
+use Rattle.sleep_main.specs.declared.ending.Ending.TheVariants.{Done, Stuck, NoForm, TooLong, Broken, ReadFault, WriteFault, SourceFull, NoMemory}
+use Rattle.sleep_main.specs.declared.said.Said.{Said}
 use Rattle.sleep_run.specs.Runs.{IsRun, IsFull}
 
 -- the program's status
 abbrev pub status_of : Ending → ℕ
-status_of Ran = 0
+status_of Done = 0
 status_of NoForm = 2
 status_of TooLong = 3
 status_of (Broken rule place) = 3
@@ -33,9 +38,9 @@ line text = text ++ 10 ∷ []
 
 -- what the program says on standard error
 abbrev pub text_of : Ending → List ℕ
-text_of Ran = []
+text_of Done = []
 text_of Stuck = []
-text_of NoForm = line (codes "usage: run --workers 1")
+text_of NoForm = line (codes "usage: run [--workers N] or gen SEED DEVICES or soak SEED DEVICES")
 text_of TooLong = line (codes "machine: longer than 16777216 bytes")
 text_of (Broken rule place) = line (codes "machine: rule " ++ decimal rule ++ codes ": " ++ string_bytes place)
 text_of ReadFault = line (codes "read fault")
@@ -71,22 +76,28 @@ tail_of (Broken rule place) = line []
 tail_of (SourceFull name) = line []
 tail_of ending = []
 
--- the words are a name, and then `run --workers 1`
-abbrev pub IsForm : List (List ℕ) → Type 0
-IsForm (name ∷ run ∷ workers ∷ one ∷ []) = (run ≡ codes "run") × (workers ≡ codes "--workers") × (one ≡ codes "1")
-IsForm _ = ⊥
+-- a stream at a moment: the bytes that are left or that were written, where it tells them, and its count of faults
+pub record Stream : Type 0 where
+  pub bytes : Option (List ℕ)
+  pub faults : ℕ
 
--- input and output at a moment: the bytes that are left and that were written, where they are told, and the counts of faults
+-- input and output at a moment
 pub record Streams : Type 0 where
-  pub left : Option (List ℕ)
-  pub read_faults : ℕ
-  pub out : Option (List ℕ)
-  pub out_faults : ℕ
+  pub input : Stream
+  pub output : Stream
+
+-- a stream of these bytes and so many faults
+abbrev pub stream : Option (List ℕ) → ℕ → Stream
+stream bytes faults = record { bytes = bytes; faults = faults }
+
+-- that input, and that output
+abbrev pub streams : Stream → Stream → Streams
+streams input output = record { input = input; output = output }
 
 -- the whole input was read, and was these bytes
 pub record ReadWhole (old new : Streams) (bytes : List ℕ) : Type 0 where
-  pub taken : Consumes old.left new.left bytes
-  pub at_end : IsAtEnd new.left
+  pub taken : Consumes old.input.bytes new.input.bytes bytes
+  pub at_end : IsAtEnd new.input.bytes
   pub fits : length bytes ≤ 16777216
 
 -- the run was stuck
@@ -134,40 +145,87 @@ EndsWithout bytes NoMemory = Unit {0}
 EndsWithout bytes _ = ⊥
 
 -- the bytes give the text of a log, or there is none
-abbrev pub GivesLog : List ℕ → Result LogText Ending → Type 0
+abbrev pub GivesLog : List ℕ → Result Said Ending → Type 0
 GivesLog bytes (Ok said) = IsLogOf bytes said.text.items said.stuck
 GivesLog bytes (Err ending) = EndsWithout bytes ending
+
+-- nothing was written on standard output, and no write of it failed
+abbrev pub KeepsOut : Streams → Streams → Type 0
+KeepsOut old new = new.output ≡ old.output
+
+-- nothing was read, and no read failed
+abbrev pub KeepsInput : Streams → Streams → Type 0
+KeepsInput old new = new.input ≡ old.input
+
+-- a text, of a run that is stuck or not, was written whole; where a write failed, a front of it
+abbrev pub Writes : Stream → Stream → List ℕ → Bool → Ending → Type 0
+Writes old new said stuck Done = (stuck ≡ false) × Appends old.bytes new.bytes said
+Writes old new said stuck Stuck = (stuck ≡ true) × Appends old.bytes new.bytes said
+Writes old new said stuck WriteFault = Rose old.faults new.faults × ((front back : List ℕ) × (said ≡ front ++ back) × Appends old.bytes new.bytes front)
+Writes old new said stuck _ = ⊥
+
+-- ---- run
 
 -- the whole input was a machine file, and the text is that of its log
 abbrev pub RanFile : Streams → Streams → List ℕ → Bool → Type 0
 RanFile old new said stuck = (bytes : List ℕ) × ReadWhole old new bytes × IsLogOf bytes said stuck
 
--- nothing was written on standard output
-abbrev pub KeepsOut : Streams → Streams → Type 0
-KeepsOut old new = new.out ≡ old.out
+-- the log's text was written, or a front of it
+abbrev pub WroteLog : Streams → Streams → Ending → Type 0
+WroteLog old new ending = (said : List ℕ) × (stuck : Bool) × RanFile old new said stuck × Writes old.output new.output said stuck ending
 
 -- what an ending of a run of a file means
-abbrev pub FileEnded : Streams → Streams → Ending → Type 0
--- the log's text was written
-FileEnded old new Ran = (said : List ℕ) × RanFile old new said false × Appends old.out new.out said
-FileEnded old new Stuck = (said : List ℕ) × RanFile old new said true × Appends old.out new.out said
-FileEnded old new NoForm = ⊥
+abbrev pub RunEnded : Streams → Streams → Ending → Type 0
+RunEnded old new Done = WroteLog old new Done
+RunEnded old new Stuck = WroteLog old new Stuck
+RunEnded old new NoForm = ⊥
 -- more than 16,777,216 bytes came
-FileEnded old new TooLong = Took old.left new.left (λ n. 16777216 < n) × KeepsOut old new
+RunEnded old new TooLong = Took old.input.bytes new.input.bytes (λ n. 16777216 < n) × KeepsOut old new
 -- the bytes break that rule first, and there
-FileEnded old new (Broken rule place) = ((bytes : List ℕ) × ReadWhole old new bytes × IsBroken bytes rule (string_bytes place)) × KeepsOut old new
+RunEnded old new (Broken rule place) = ((bytes : List ℕ) × ReadWhole old new bytes × IsBroken bytes rule (string_bytes place)) × KeepsOut old new
 -- a read failed
-FileEnded old new ReadFault = Rose old.read_faults new.read_faults × KeepsOut old new
--- a write failed, after a front of the log's text
-FileEnded old new WriteFault = Rose old.out_faults new.out_faults × ((front back : List ℕ) × (stuck : Bool) × RanFile old new (front ++ back) stuck × Appends old.out new.out front)
+RunEnded old new ReadFault = Rose old.input.faults new.input.faults × KeepsOut old new
+RunEnded old new WriteFault = WroteLog old new WriteFault
 -- the history of that source has no place for a call
-FileEnded old new (SourceFull name) = ((bytes : List ℕ) × ReadWhole old new bytes × FillsSource bytes name) × KeepsOut old new
-FileEnded old new NoMemory = KeepsOut old new
+RunEnded old new (SourceFull name) = ((bytes : List ℕ) × ReadWhole old new bytes × FillsSource bytes name) × KeepsOut old new
+RunEnded old new NoMemory = KeepsOut old new
 
--- what an ending means: the words are of no form, exactly where nothing was read or written; or they are, and a file was run
-abbrev pub Ended : List (List ℕ) → Streams → Streams → Ending → Type 0
-Ended words old new NoForm = (IsForm words → ⊥) × (new.left ≡ old.left) × (new.read_faults ≡ old.read_faults) × KeepsOut old new × (new.out_faults ≡ old.out_faults)
-Ended words old new ending = IsForm words × FileEnded old new ending
+-- ---- gen
+
+-- what an ending of gen means: the file of the generator's machine was written, or a front of it, or memory ran out
+abbrev pub GenEnded : ℕ → ℕ → Stream → Stream → Ending → Type 0
+GenEnded seed devices old new NoMemory = new ≡ old
+GenEnded seed devices old new ending = Writes old new (spelling (generated seed devices)) false ending
+
+-- ---- soak
+
+-- the text is the line of the numbers of one log: that of a run of the generator's machine, which is stuck or not
+pub record IsLineOf (seed devices : ℕ) (said : List ℕ) (stuck : Bool) : Type 0 where
+  pub log : Log
+  pub run : IsRun (generated seed devices) log
+  pub ends : EndsAs (generated seed devices) log stuck
+  pub is_line : said ≡ count_line (counts_of log) stuck
+
+-- what an ending of soak means: the line was written, or a front of it, or memory ran out
+abbrev pub SoakEnded : ℕ → ℕ → Stream → Stream → Ending → Type 0
+SoakEnded seed devices old new NoMemory = new ≡ old
+SoakEnded seed devices old new ending =
+    (said : List ℕ) × (stuck : Bool) × IsLineOf seed devices said stuck × Writes old new said stuck ending
+
+-- ---- all words
+
+-- words of no form: the program says so, or memory ran out
+abbrev pub IsRefusal : Ending → Type 0
+IsRefusal NoForm = Unit {0}
+IsRefusal NoMemory = Unit {0}
+IsRefusal _ = ⊥
+
+-- what an ending means, by what the words ask for; where they are of no form, nothing is read or written
+abbrev pub Ended : Option Command → Streams → Streams → Ending → Type 0
+Ended None old new ending = IsRefusal ending × KeepsInput old new × KeepsOut old new
+Ended (Some (Run workers)) old new ending = RunEnded old new ending
+Ended (Some (Gen seed devices)) old new ending = KeepsInput old new × GenEnded seed devices old.output new.output ending
+Ended (Some (Soak seed devices)) old new ending = KeepsInput old new × SoakEnded seed devices old.output new.output ending
 
 -- the text was said on a stream, or a front of it where its count of faults rose
 abbrev pub Says : Option (List ℕ) → Option (List ℕ) → ℕ → ℕ → List ℕ → Type 0
@@ -181,8 +239,15 @@ NoFault before now = (now ≡ before) × (now < 2 ^ 64 - 1)
 abbrev pub FillsNone : Machine → Type 0
 FillsNone m = (s : ℕ) → ¬ (IsFull m s)
 
--- completeness: words of the form, an input that spells a machine none of whose sources can be filled, and no fault counted give a log, of a run that is finished or stuck, or want of memory
-abbrev pub Completes : List (List ℕ) → Streams → Streams → ℕ → Type 0
-Completes words old new status =
-    IsForm words → (bytes : List ℕ) → old.left ≡ Some bytes → length bytes ≤ 16777216 → (m : Machine) → machine_in bytes ≡ Some m → FillsNone m → NoFault old.read_faults new.read_faults → NoFault old.out_faults new.out_faults
-    → (status ≡ status_of Ran) ⊎ (status ≡ status_of Stuck) ⊎ (status ≡ status_of NoMemory)
+-- one of these statuses, or want of memory
+abbrev pub IsOneOf : Ending → Ending → ℕ → Type 0
+IsOneOf one other status = (status ≡ status_of one) ⊎ (status ≡ status_of other) ⊎ (status ≡ status_of NoMemory)
+
+-- completeness, where no fault is counted: an input that spells a machine none of whose sources can be filled gives a log, of a run that is finished or stuck; gen writes its file, and soak its line; or memory ran out
+abbrev pub Completes : Option Command → Streams → Streams → ℕ → Type 0
+Completes None old new status = IsOneOf NoForm NoForm status
+Completes (Some (Run workers)) old new status =
+    (bytes : List ℕ) → old.input.bytes ≡ Some bytes → length bytes ≤ 16777216 → (m : Machine) → machine_in bytes ≡ Some m → FillsNone m
+    → NoFault old.input.faults new.input.faults → NoFault old.output.faults new.output.faults → IsOneOf Done Stuck status
+Completes (Some (Gen seed devices)) old new status = NoFault old.output.faults new.output.faults → IsOneOf Done Done status
+Completes (Some (Soak seed devices)) old new status = NoFault old.output.faults new.output.faults → IsOneOf Done Stuck status

@@ -7,9 +7,9 @@ use sleep_model::Name;
 /// How the program ends.
 #[derive(Debug, Drop)]
 pub enum Ending {
-    /// The log was written, of a run in which nothing was left to do.
-    Ran,
-    /// The log was written, of a run in which nobody went on.
+    /// The text was written: a machine file, or what is told of a run in which nothing was left to do.
+    Done,
+    /// The text was written, of a run in which nobody went on.
     Stuck,
     /// The words are of no form.
     NoForm,
@@ -19,7 +19,7 @@ pub enum Ending {
     Broken { rule: u8, place: String },
     /// A read failed.
     ReadFault,
-    /// A write of the log failed.
+    /// A write of the text failed.
     WriteFault,
     /// The history of the source of that name has no place left for a call.
     SourceFull(Name),
@@ -33,7 +33,7 @@ impl Ending {
         ensures { result ≡ status_of self.now }
     {
         match self {
-            Ending::Ran => 0,
+            Ending::Done => 0,
             Ending::NoForm => 2,
             Ending::TooLong | Ending::Broken { .. } => 3,
             Ending::ReadFault => 4,
@@ -49,8 +49,8 @@ impl Ending {
         ensures { result.now ≡ head_of self.now }
     {
         match self {
-            Ending::Ran | Ending::Stuck => "",
-            Ending::NoForm => "usage: run --workers 1\n",
+            Ending::Done | Ending::Stuck => "",
+            Ending::NoForm => "usage: run [--workers N] or gen SEED DEVICES or soak SEED DEVICES\n",
             Ending::TooLong => "machine: longer than 16777216 bytes\n",
             Ending::Broken { .. } => "machine: rule ",
             Ending::ReadFault => "read fault\n",

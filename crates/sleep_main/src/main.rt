@@ -1,9 +1,15 @@
-//! Runs the machine of a machine file through system sleep and prints the log of every step.
+//! Runs the machine of a machine file through system sleep and prints the log of every step. It also writes machines
+//! that are made of a seed, and runs them.
 #![tactic(auto)]
 
+mod counts;
 mod ending;
+mod generated;
+#[cfg(test)]
+mod generated_tests;
 #[cfg(test)]
 mod rows;
+mod said;
 #[cfg(test)]
 mod tests;
 mod top;

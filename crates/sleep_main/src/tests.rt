@@ -1,5 +1,6 @@
 use crate::rows::{
-    attempts, broken, devices, diamonds, events, failures, freezer, laptop, many, sources, sysfs,
+    attempts, broken, devices, diamonds, events, failures, freezer, generated, laptop, many,
+    sources, sysfs,
 };
 use crate::top::run_words;
 use sleep_base::{MemSink, MemSource};
@@ -8,32 +9,35 @@ use std::process::Abort;
 use std::sync::Wait;
 use std::test::Fail;
 
-/// The words of the one form.
+/// The words that ask for a run.
 const RUN: [&str; 4] = ["sleep", "run", "--workers", "1"];
+
+/// What is said of words of no form.
+const USAGE: &str = "usage: run [--workers N] or gen SEED DEVICES or soak SEED DEVICES\n";
 
 /// The most bytes that a machine file has.
 const MOST_BYTES: usize = 16_777_216;
 
 /// What a call of the program gave.
 #[derive(Drop)]
-struct Outcome {
-    status: u8,
-    out: Vec<u8>,
-    err: Vec<u8>,
-    left: usize,
+pub(crate) struct Outcome {
+    pub(crate) status: u8,
+    pub(crate) out: Vec<u8>,
+    pub(crate) err: Vec<u8>,
+    pub(crate) left: usize,
 }
 
 /// How the streams behave: bytes a call, and the calls that fail.
 #[derive(Clone, Copy)]
-struct Streams<'a> {
-    read_chunk: usize,
-    read_fails: &'a [u64],
-    write_chunk: usize,
-    write_fails: &'a [u64],
-    error_fails: &'a [u64],
+pub(crate) struct Streams<'a> {
+    pub(crate) read_chunk: usize,
+    pub(crate) read_fails: &'a [u64],
+    pub(crate) write_chunk: usize,
+    pub(crate) write_fails: &'a [u64],
+    pub(crate) error_fails: &'a [u64],
 }
 
-const GOOD: Streams<'static> = Streams {
+pub(crate) const GOOD: Streams<'static> = Streams {
     read_chunk: 4096,
     read_fails: &[],
     write_chunk: 4096,
@@ -50,7 +54,7 @@ fn texts(alloc: Global, words: &[&str]) -> Result<Vec<String>, AllocError> {
 }
 
 /// Runs the program over memory.
-fn given<R: Wait>(
+pub(crate) fn given<R: Wait>(
     rt: &R,
     alloc: Global,
     words: &[&str],
@@ -228,24 +232,48 @@ fn diamonds_keep_their_order(rt: HostRuntime) -> Result<(), Fail> {
 /// Words of no form: nothing is read.
 #[test]
 fn other_words_are_refused(rt: HostRuntime) -> Result<(), Fail> {
-    let forms: [&[&str]; 7] = [
+    let forms: [&[&str]; 14] = [
         &[],
         &["sleep"],
         &["sleep", "run"],
+        &["sleep", "run", "--workers", "0"],
         &["sleep", "run", "--workers", "2"],
+        &["sleep", "run", "--workers", "04"],
+        &["sleep", "run", "--workers", "65"],
         &["sleep", "run", "--workers", "1", "1"],
-        &["sleep", "fly", "--workers", "1"],
+        &["sleep", "fly"],
         &["sleep", "--help"],
+        &["sleep", "gen", "1", "1001"],
+        &["sleep", "gen", "01", "1"],
+        &["sleep", "soak", "1", "0"],
+        &["sleep", "soak", "1"],
     ];
     for words in forms {
-        let bytes = attempts::SMALL.as_bytes().to_vec(rt.alloc())?;
-        let count = bytes.len();
-        let given = given(&rt, rt.alloc(), words, bytes, &GOOD)?;
-        assert_eq!(rt; given.status, 2);
-        assert_eq!(rt; given.out.len(), 0);
-        assert!(rt; given.err.as_slice() == b"usage: run --workers 1\n".as_slice());
-        assert_eq!(rt; given.left, count);
+        refuse(&rt, rt.alloc(), words)?;
     }
+    Ok(())
+}
+
+/// Runs the program with words of no form over a machine file, of which nothing is read.
+fn refuse<R: Wait + Abort>(rt: &R, alloc: Global, words: &[&str]) -> Result<(), Fail> {
+    let bytes = attempts::SMALL.as_bytes().to_vec(alloc)?;
+    let count = bytes.len();
+    let given = given(rt, alloc, words, bytes, &GOOD)?;
+    assert_eq!(rt; given.status, 2);
+    assert_eq!(rt; given.out.len(), 0);
+    assert!(rt; given.err.as_slice() == USAGE.as_bytes());
+    assert_eq!(rt; given.left, count);
+    Ok(())
+}
+
+/// A number of workers in one word with its option.
+#[test]
+fn a_run_is_asked_in_two_words(rt: HostRuntime) -> Result<(), Fail> {
+    let bytes = attempts::SMALL.as_bytes().to_vec(rt.alloc())?;
+    let words = ["sleep", "run", "--workers=1"];
+    let given = given(&rt, rt.alloc(), &words, bytes, &GOOD)?;
+    assert_eq!(rt; given.status, 0);
+    assert!(rt; given.out.as_slice() == attempts::SMALL_LOG.as_bytes());
     Ok(())
 }
 

@@ -1,51 +1,25 @@
-ghost use Rattle.std.specs.Prelude.{◌≡◌, ◌≤◌, ◌++◌, ◌↔◌, ℕ, IsTrue, codes, map, string_bytes};
+ghost use Rattle.std.specs.Prelude.{◌≡◌, ◌≤◌, ◌++◌, IfOk, IfSome, map, string_bytes};
 ghost use Rattle.sleep_base.specs.Whole.{WriteAll};
+ghost use Rattle.command_line.specs.Words.{IsInRange};
 ghost use Rattle.sleep_main.specs.declared.ending.Ending.{Ending};
-ghost use Rattle.sleep_main.specs.Endings.{IsForm, GivesLog, IsFullNamed, FileEnded, Ended, Completes, Says, is_stuck, status_of, text_of};
+ghost use Rattle.sleep_main.specs.Endings.{GivesLog, IsFullNamed, RunEnded, Ended, Completes, Says, status_of, stream, streams, text_of};
+ghost use Rattle.sleep_main.specs.Words.{asked, is_done};
 
 use crate::ending::Ending;
+use crate::generated::{soak_generated, write_generated};
+use crate::said::{Said, is_stuck, write_said};
+use command_line::{Command, command_of};
 use itoa::Buffer;
 use log_text::{source_name, write_log};
 use machine_file::{MachineFault, ReadMachine, read_machine};
-use sleep_base::{ByteSink, ByteSource, Failed, ReadStop, read_all, write_all};
-use sleep_model::{LogEnd, Machine, Name};
+use sleep_base::{ByteSink, ByteSource, Failed, Mem, ReadStop, read_all, write_all};
+use sleep_model::{Machine, Name};
 use sleep_run::{RunFault, run_machine};
 use std::alloc::Global;
 use std::sync::Wait;
 
 /// The most bytes that a machine file has.
 const MOST_BYTES: u32 = 16_777_216;
-
-/// Whether these are the words `run --workers 1`.
-fn is_run_one(run: &str, workers: &str, one: &str) -> bool
-    ensures { IsTrue result ↔ ((run.now ≡ codes "run") × (workers.now ≡ codes "--workers") × (one.now ≡ codes "1")) }
-{
-    run == "run" && workers == "--workers" && one == "1"
-}
-
-/// Whether the words are a name, and then `run --workers 1`.
-fn is_form(words: &[String]) -> bool
-    ensures { IsTrue result ↔ IsForm (map string_bytes words.now) }
-{
-    match words {
-        [_, run, workers, one] => is_run_one(run.as_str(), workers.as_str(), one.as_str()),
-        _ => false,
-    }
-}
-
-/// The text of the log of a run, and whether the run was stuck.
-#[derive(Drop)]
-struct LogText {
-    text: Vec<u8>,
-    stuck: bool,
-}
-
-/// Whether the run was stuck.
-fn is_stuck(end: &LogEnd) -> bool
-    ensures { result ≡ is_stuck end.now }
-{
-    matches!(end, LogEnd::Stuck(_))
-}
 
 /// That a source has no place for a call, by its name.
 fn full(machine: &Machine, source: u32) -> Ending
@@ -59,7 +33,7 @@ fn full(machine: &Machine, source: u32) -> Ending
 
 /// The text of the log of the machine that the bytes spell, or how the program ends without one: `Broken` where
 /// they break a rule and so spell none, `SourceFull` where a source's history has no place for a call, `NoMemory` where there is no memory.
-fn log_of_bytes<R: Wait>(rt: &R, alloc: Global, bytes: &[u8]) -> Result<LogText, Ending>
+fn log_of_bytes<R: Wait>(rt: &R, alloc: Global, bytes: &[u8]) -> Result<Said, Ending>
     ensures { GivesLog bytes.now result }
 {
     let ReadMachine { machine, links } = match read_machine(alloc, bytes) {
@@ -71,7 +45,7 @@ fn log_of_bytes<R: Wait>(rt: &R, alloc: Global, bytes: &[u8]) -> Result<LogText,
         Ok(run) => match write_log(alloc, &machine, &run.log) {
             Ok(text) => {
                 let stuck = is_stuck(&run.log.end);
-                Ok(LogText { text, stuck })
+                Ok(Said { text, stuck })
             }
             Err(_) => Err(Ending::NoMemory),
         },
@@ -88,9 +62,9 @@ fn run_file<R: Wait, S: ByteSource, K: ByteSink>(
     input: &mut S,
     out: &mut K,
 ) -> Ending
-    ensures { FileEnded
-        (record { left = S.left input.old; read_faults = S.faults input.old; out = K.written out.old; out_faults = K.faults out.old })
-        (record { left = S.left input.new; read_faults = S.faults input.new; out = K.written out.new; out_faults = K.faults out.new })
+    ensures { RunEnded
+        (streams (stream (S.left input.old) (S.faults input.old)) (stream (K.written out.old) (K.faults out.old)))
+        (streams (stream (S.left input.new) (S.faults input.new)) (stream (K.written out.new) (K.faults out.new)))
         result }
 {
     let bytes = match read_all(alloc, input, MOST_BYTES) {
@@ -99,14 +73,51 @@ fn run_file<R: Wait, S: ByteSource, K: ByteSink>(
         Err(ReadStop::TooLong) => return Ending::TooLong,
         Err(ReadStop::Mem) => return Ending::NoMemory,
     };
-    let log = match log_of_bytes(rt, alloc, &bytes) {
-        Ok(log) => log,
-        Err(ending) => return ending,
-    };
-    match write_all(out, &log.text) {
-        Ok(()) if log.stuck => Ending::Stuck,
-        Ok(()) => Ending::Ran,
-        Err(_) => Ending::WriteFault,
+    match log_of_bytes(rt, alloc, &bytes) {
+        Ok(said) => write_said(out, &said),
+        Err(ending) => ending,
+    }
+}
+
+/// Whether the program does it: as yet a run has one worker.
+fn is_done(command: Command) -> bool
+    ensures { result ≡ is_done command }
+{
+    match command {
+        Command::Run { workers } => workers == 1,
+        Command::Gen { .. } | Command::Soak { .. } => true,
+    }
+}
+
+/// What the words ask for; `None` where they are of no form. An error is want of memory.
+fn asked(alloc: Global, words: &[String]) -> Result<Option<Command>, Mem>
+    ensures asks { IfOk result (λ c. c ≡ asked (map string_bytes words.now)) }
+    ensures range { IfOk result (λ c. IfSome c IsInRange) }
+{
+    match command_of(alloc, words)? {
+        Some(command) => Ok(is_done(command).then_some(command)),
+        None => Ok(None),
+    }
+}
+
+/// Does what a command says, and answers how it ended.
+fn do_command<R: Wait, S: ByteSource, K: ByteSink>(
+    rt: &R,
+    alloc: Global,
+    command: Command,
+    input: &mut S,
+    out: &mut K,
+) -> Ending
+    requires { IsInRange command }
+    ensures { Ended (Some command)
+        (streams (stream (S.left input.old) (S.faults input.old)) (stream (K.written out.old) (K.faults out.old)))
+        (streams (stream (S.left input.new) (S.faults input.new)) (stream (K.written out.new) (K.faults out.new)))
+        result }
+{
+    match command {
+        Command::Run { .. } => run_file(rt, alloc, input, out),
+        Command::Gen { seed, devices } => write_generated(alloc, seed, devices, out),
+        Command::Soak { seed, devices } => soak_generated(rt, alloc, seed, devices, out),
     }
 }
 
@@ -118,15 +129,15 @@ fn do_words<R: Wait, S: ByteSource, K: ByteSink>(
     input: &mut S,
     out: &mut K,
 ) -> Ending
-    ensures { Ended (map string_bytes words.now)
-        (record { left = S.left input.old; read_faults = S.faults input.old; out = K.written out.old; out_faults = K.faults out.old })
-        (record { left = S.left input.new; read_faults = S.faults input.new; out = K.written out.new; out_faults = K.faults out.new })
+    ensures { Ended (asked (map string_bytes words.now))
+        (streams (stream (S.left input.old) (S.faults input.old)) (stream (K.written out.old) (K.faults out.old)))
+        (streams (stream (S.left input.new) (S.faults input.new)) (stream (K.written out.new) (K.faults out.new)))
         result }
 {
-    if is_form(words) {
-        run_file(rt, alloc, input, out)
-    } else {
-        Ending::NoForm
+    match asked(alloc, words) {
+        Ok(Some(command)) => do_command(rt, alloc, command, input, out),
+        Ok(None) => Ending::NoForm,
+        Err(_) => Ending::NoMemory,
     }
 }
 
@@ -191,20 +202,26 @@ pub fn say<K: ByteSink>(err: &mut K, ending: &Ending)
     let _ = write_ending(err, ending);
 }
 
-/// The whole program: `run --workers 1` reads a machine file from `input`, runs the machine, and
-/// writes its log to `out`. The first word is the program's name. The answer is the status, and
-/// `err` is told what it means:
+/// The whole program. The first word is its name, and those behind it say what it does:
 ///
-/// - 0: the log was written, of a run in which nothing was left to do. 6: of one in which nobody went on.
+/// - `run --workers 1`, also in one word as `--workers=1`: reads a machine file from `input`, runs the machine, and
+///   writes its log to `out`.
+/// - `gen SEED DEVICES`: writes the file of the generated machine of a seed of 64 bits with 1 to 1,000 devices.
+/// - `soak SEED DEVICES`: runs that machine, and writes the line of its log's numbers.
+///
+/// The answer is the status, and `err` is told what it means:
+///
+/// - 0: the text was written; of a run, one in which nothing was left to do. 6: of a run in which nobody went on.
 /// - 2: exactly where the words are others; nothing is read or written.
 /// - 3: the input has more than 16,777,216 bytes or breaks a rule of the format, the first of which is told with its
 ///   place. Such an input may give 4 or 8 instead, and nothing else.
-/// - 4: a read failed. 5: a write failed, after a front of the log's text.
+/// - 4: a read failed. 5: a write failed, after a front of the text.
 /// - 7: the history of a wakeup source has no place left for a call.
 /// - 8: there was no memory.
 ///
-/// At 2, 3, 4, 7 and 8 nothing is written to `out`. An input that spells a machine none of whose sources
-/// can be filled gives 0, 6 or 8, where no fault is counted.
+/// At 2, 3, 4, 7 and 8 nothing is written to `out`. Where no fault is counted, an input that spells a machine none
+/// of whose sources can be filled gives 0, 6 or 8, `gen` gives 0 or 8, and `soak` 0, 6 or 8. `gen` and `soak` leave
+/// `input` unread.
 pub fn run_words<R: Wait, S: ByteSource, K: ByteSink>(
     rt: &R,
     alloc: Global,
@@ -214,14 +231,14 @@ pub fn run_words<R: Wait, S: ByteSource, K: ByteSink>(
     err: &mut K,
 ) -> u8
     ensures ended { (ending : Ending) × (result ≡ status_of ending)
-        × Ended (map string_bytes words.now)
-        (record { left = S.left input.old; read_faults = S.faults input.old; out = K.written out.old; out_faults = K.faults out.old })
-        (record { left = S.left input.new; read_faults = S.faults input.new; out = K.written out.new; out_faults = K.faults out.new })
+        × Ended (asked (map string_bytes words.now))
+        (streams (stream (S.left input.old) (S.faults input.old)) (stream (K.written out.old) (K.faults out.old)))
+        (streams (stream (S.left input.new) (S.faults input.new)) (stream (K.written out.new) (K.faults out.new)))
         ending
         × Says (K.written err.old) (K.written err.new) (K.faults err.old) (K.faults err.new) (text_of ending) }
-    ensures complete { Completes (map string_bytes words.now)
-        (record { left = S.left input.old; read_faults = S.faults input.old; out = K.written out.old; out_faults = K.faults out.old })
-        (record { left = S.left input.new; read_faults = S.faults input.new; out = K.written out.new; out_faults = K.faults out.new })
+    ensures complete { Completes (asked (map string_bytes words.now))
+        (streams (stream (S.left input.old) (S.faults input.old)) (stream (K.written out.old) (K.faults out.old)))
+        (streams (stream (S.left input.new) (S.faults input.new)) (stream (K.written out.new) (K.faults out.new)))
         result }
 {
     let ending = do_words(rt, alloc, words, input, out);

@@ -7,6 +7,7 @@ pub(crate) mod diamonds;
 pub(crate) mod events;
 pub(crate) mod failures;
 pub(crate) mod freezer;
+pub(crate) mod generated;
 pub(crate) mod laptop;
 pub(crate) mod many;
 pub(crate) mod sources;
