@@ -1,11 +1,11 @@
 -- What an ending without a log means.
-use Rattle.std.proofs.Common.{◌≡◌, ℕ, Bool, List, Some}
+use Rattle.std.proofs.Common.{◌≡◌, ℕ, List, Some}
 use Rattle.sleep_model.specs.declared.machine.Machine.{Machine}
 use Rattle.machine_file.specs.Whole.{machine_in}
 use Rattle.sleep_run.specs.Runs.{IsFull}
 use Rattle.sleep_main.specs.declared.ending.Ending.{Ending}
 use Rattle.sleep_main.specs.declared.ending.Ending.TheVariants.{Done, Stuck, NoForm, TooLong, Broken, ReadFault, WriteFault, SourceFull, NoMemory}
-use Rattle.sleep_main.specs.Endings.{Streams, ReadWhole, KeepsOut, IsFullNamed, IsLogOf, EndsWithout, RunEnded, Writes}
+use Rattle.sleep_main.specs.Endings.{Streams, ReadWhole, KeepsOut, IsFullNamed, EndsWithout, RunEnded}
 
 -- a source that is full is named
 pub fills : (bytes : List ℕ) (m : Machine) (s : ℕ) (ending : Ending) → machine_in bytes ≡ Some m → IsFull m s → IsFullNamed m s ending → EndsWithout bytes ending
@@ -30,15 +30,3 @@ ended_without old new bytes NoForm read out h = absurd h
 ended_without old new bytes TooLong read out h = absurd h
 ended_without old new bytes ReadFault read out h = absurd h
 ended_without old new bytes WriteFault read out h = absurd h
-
--- a whole input that gives a text, which is written whole or in front
-pub ended_with : (old new : Streams) (bytes said : List ℕ) (stuck : Bool) (ending : Ending) → ReadWhole old new bytes → IsLogOf bytes said stuck → Writes old.output new.output said stuck ending → RunEnded old new ending
-ended_with old new bytes said stuck Done read log h = (said, stuck, (bytes, read, log), h)
-ended_with old new bytes said stuck Stuck read log h = (said, stuck, (bytes, read, log), h)
-ended_with old new bytes said stuck WriteFault read log h = (said, stuck, (bytes, read, log), h)
-ended_with old new bytes said stuck NoForm read log h = absurd h
-ended_with old new bytes said stuck TooLong read log h = absurd h
-ended_with old new bytes said stuck (Broken rule place) read log h = absurd h
-ended_with old new bytes said stuck ReadFault read log h = absurd h
-ended_with old new bytes said stuck (SourceFull name) read log h = absurd h
-ended_with old new bytes said stuck NoMemory read log h = absurd h

@@ -1,7 +1,5 @@
-use crate::rows::generated::{ASKED, ONE_DEVICE};
+use crate::rows::generated::{A_THOUSAND, ASKED, ONE_DEVICE};
 use crate::tests::{GOOD, Outcome, Streams, given};
-use sleep_model::{DeviceFlags, Machine, Op};
-use sleep_script::generate;
 use std::alloc::Global;
 use std::process::Abort;
 use std::sync::Wait;
@@ -52,59 +50,15 @@ fn a_written_machine_is_run(rt: HostRuntime) -> Result<(), Fail> {
     Ok(())
 }
 
-/// How many devices of a machine are async.
-fn asyncs(machine: &Machine) -> usize {
-    machine
-        .devices
-        .as_slice()
-        .iter()
-        .filter(|device| device.flags == DeviceFlags::ASYNC)
-        .count()
-}
-
-/// The lengths in ms of the events that the interrupt line of a generated machine makes.
-fn lengths(alloc: Global, machine: &Machine) -> Result<Vec<u32>, Fail> {
-    let mut lengths = Vec::new(alloc);
-    let [_, line] = machine.actors.as_slice() else {
-        return Err("two actors".into());
-    };
-    for step in line.steps.as_slice() {
-        if let Op::Event { ms, .. } = step.op {
-            lengths.push(ms)?;
-        }
-    }
-    Ok(lengths)
-}
-
-/// How many entries the log of the machine of seed 7 with 1,000 devices has: 30 and 14 a device and 6 more an async
-/// one in each of four attempts, 22 of the tasks, and 3 for each of the first three events with a length and one
-/// fewer than none for the last, which nobody waits for.
-fn entries_of_a_thousand(alloc: Global) -> Result<usize, Fail> {
-    let machine = generate(alloc, 7, 1_000)?;
-    let lengths = lengths(alloc, &machine)?;
-    let [first, second, third, last] = lengths.as_slice() else {
-        return Err("four events".into());
-    };
-    let waited = usize::from(*first > 0) + usize::from(*second > 0) + usize::from(*third > 0);
-    let cut = usize::from(*last > 0);
-    let each = asyncs(&machine).saturating_mul(6).saturating_add(14_030);
-    Ok(
-        each.saturating_mul(4)
-            .saturating_add(22 + 3 * waited)
-            .saturating_sub(cut),
-    )
-}
-
-/// A thousand devices, twice: one line, and the number of entries that four undisturbed attempts have.
+/// A thousand devices, twice: one line, with the entries that four undisturbed attempts have. That is 30 and 14 a
+/// device and 6 more for each of 519 async ones in each attempt, 22 of the task and the line, 9 for three events with
+/// a length, and one fewer for a last one, whose end nobody waits for.
 #[test]
 fn a_thousand_devices_sleep_four_times(rt: HostRuntime) -> Result<(), Fail> {
-    let alloc = rt.alloc();
-    let entries = entries_of_a_thousand(alloc)?;
-    let line = format!(in alloc; "entries {entries} attempts 4 entered 4 aborted 0 finished\n")?;
     for _ in 0..2 {
-        let soak = answered(&rt, alloc, &["sleep", "soak", "7", "1000"], &GOOD)?;
+        let soak = answered(&rt, rt.alloc(), &["sleep", "soak", "7", "1000"], &GOOD)?;
         assert_eq!(rt; soak.status, 0);
-        assert!(rt; soak.out.as_slice() == line.as_bytes());
+        assert!(rt; soak.out.as_slice() == A_THOUSAND.as_bytes());
     }
     Ok(())
 }
