@@ -99,7 +99,7 @@ SECTIONS = [
 ]
 
 # What no contract of the program speaks of: terms by which the definitions are tried.
-TRIALS = {"worked_logs", "file_laws"}
+TRIALS = {"worked_logs", "file_laws", "merge_trials"}
 
 DEFINITION = re.compile(r"(?:abbrev pub|unfoldable pub|pub record|pub data) (\w+)")
 MODULE = re.compile(r"pub mod (\w+)")

@@ -1,5 +1,5 @@
-//! What is written for a machine is read back as that machine. No program is mentioned here: the
-//! laws are about the definitions that the reader and the writer of machine files meet.
+//! What is written for a machine is read back as that machine, and the texts of its logs tell them apart. No program
+//! is mentioned here: the laws are about the definitions that readers and writers of files and logs meet.
 #![tactic(auto)]
 
 ghost use Rattle.machine_file.specs.Spelling.{AllReadBack};

@@ -1,4 +1,7 @@
-use crate::{generated_machines_read_back, machines_read_back, values_spell_again};
+use crate::{
+    generated_machines_read_back, machines_are_named, machines_read_back, texts_tell_logs,
+    values_spell_again,
+};
 use machine_file::{read_machine, write_machine};
 use std::alloc::Global;
 use std::process::Abort;
@@ -37,11 +40,13 @@ fn laws_are_called(rt: HostRuntime) {
     values_spell_again();
     machines_read_back();
     generated_machines_read_back();
+    machines_are_named();
+    texts_tell_logs();
 }
 
-/// The machine of the format's example, which is written as one line.
+/// The generated machine of seed 0 with one device, which is written as one line.
 #[test]
-fn the_example_of_the_format(rt: HostRuntime) -> Result<(), Fail> {
+fn one_generated_device(rt: HostRuntime) -> Result<(), Fail> {
     let text =
         r#"{"actors":[{"kind":"user","name":"sleeper","repeat":4,"script":[{"op":"read"},{"op":"save"},{"if_saved":true,"op":"state","text":"mem"}]},{"kind":"irq","name":"line","script":[{"ms":289,"op":"sleep"},{"op":"event","source":"s2"},{"ms":677,"op":"sleep"},{"op":"event","source":"s0"},{"ms":904,"op":"sleep"},{"op":"event","source":"s1"},{"ms":428,"op":"sleep"},{"op":"event","source":"s2"}]}],"devices":[{"name":"d0"}],"sources":["s0","s1","s2"],"version":1}"#;
     expect(&rt, rt.alloc(), text, text)

@@ -1,4 +1,5 @@
-//! The text of a sleep log: a line for each entry, a line for each wakeup source, and how the run ended.
+//! The text of a sleep log, written and read: a line for each entry, a line for each wakeup source, and how the run
+//! ended.
 #![tactic(auto)]
 
 mod attempts;

@@ -9,6 +9,7 @@ use std::alloc::Global;
 /// How many entries a log has, and what became of its attempts.
 #[derive(Clone, Copy)]
 pub struct Counts {
+    /// Entries of the log, jumps included.
     pub entries: usize,
     /// Attempts that were begun.
     pub attempts: usize,

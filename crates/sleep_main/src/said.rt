@@ -8,7 +8,9 @@ use sleep_model::LogEnd;
 /// A text that the program writes, and whether it tells of a run that was stuck.
 #[derive(Drop)]
 pub struct Said {
+    /// The bytes to be written.
     pub text: Vec<u8>,
+    /// Whether the run that it tells of was stuck; false for a machine file.
     pub stuck: bool,
 }
 

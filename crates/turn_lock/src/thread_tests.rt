@@ -11,7 +11,7 @@ use std::test::Fail;
 use std::thread::Threads;
 use std::{mem, thread};
 
-/// No worker adds it.
+/// What stands in place of an entry that was struck out; no worker adds it.
 const STRUCK: u32 = u32::MAX;
 
 /// All turns of one worker, which takes the two objects in turn and adds a number to each.
