@@ -70,7 +70,8 @@ BESIDE = {
     "hard": [False, True, 0, "false", None],
     "text": ["mem", "", "mem\n", None],
     "if_saved": [False, True],
-    "to": ["active", "suspended", "Active", None],
+    "to": ["active", "suspended", "dormant", "Active", None],
+    "state": ["active", "dormant"],
     "count": [0],
     "name": ["lid"],
 }
@@ -86,7 +87,7 @@ FILLING = [
 ]
 # Other spellings of a member. Some spell the same, since of equal members the last counts.
 SPELLINGS = {
-    b'"version": 1': [b'7, "version": 1', b"1.0", b"01", b"1e0", b"-1", b"1 ", b'1, "version": 7'],
+    b'"version": 2': [b'7, "version": 2', b"2.0", b"02", b"2e0", b"-2", b"2 ", b'2, "version": 7', b"1", b"3"],
     b'"ms": 0': [b'7, "ms": 0', b"0.0", b"00", b"0e0", b"-0", b"0 ", b'0, "ms": 7'],
     b'"hard": false': [b'true, "hard": false', b'false, "hard": true', b"False", b"fals"],
     b'"op": "event"': [b'"read", "op": "event"', b'"event", "op": "read"', b'"\\u0065vent"'],
@@ -144,7 +145,7 @@ class Files(Maker):
         elif self.often(0.5) or isinstance(holder, list):
             holder[key] = self.pick(WRONG)
         else:
-            members = [self.name(), *"count text times repeat if_saved source ms hard reports async".split()]
+            members = [self.name(), *"count text times repeat if_saved source ms hard reports async state to".split()]
             holder[self.pick(members)] = self.pick(WRONG)
 
     def spoil_bytes(self, text):
@@ -161,6 +162,8 @@ class Files(Maker):
 
     def text(self):
         tree = self.machine_of_names()
+        if self.often(0.1):
+            tree["version"] = 1
         script = self.pick(tree["actors"])["script"]
         if script and self.often(0.1):
             member = self.pick(list(BESIDE))

@@ -95,21 +95,33 @@ class Run:
         self.suspended = {d["name"]: d.get("runtime") == "suspended" for d in devices}
         self.off_direct, self.off_late = set(), set()
         self.prepared, self.down = {}, {phase: set() for phase in DOWN}
-        self.below = {d: [c["name"] for c in devices if c.get("parent") == d] for d in self.names}
-        self.above = {d["name"]: [d["parent"]] if "parent" in d else [] for d in devices}
         self.order = list(self.names)
+        self.links = {}  # Whether the link of a supplier and a consumer is active, the oldest first.
         for link in links:
-            supplier, consumer = link["supplier"], link["consumer"]
-            self.below[supplier].append(consumer)
-            self.above[consumer].append(supplier)
-            moved = self.moved(consumer)
-            last = [d for at, d in enumerate(moved) if d not in moved[at + 1 :]]
-            self.order = [d for d in self.order if d not in last] + last
+            self.add_link(link["supplier"], link["consumer"], link.get("state", "active") == "active")
+
+    def add_link(self, supplier, consumer, active):
+        self.links[supplier, consumer] = active
+        moved = self.moved(consumer)
+        last = [d for at, d in enumerate(moved) if d not in moved[at + 1 :]]
+        self.order = [d for d in self.order if d not in last] + last
+
+    def children(self, d):
+        return [name for name in self.names if self.devices[name].get("parent") == d]
+
+    def below(self, d):
+        """The devices that d waits for as it goes down: dormant links do not count."""
+        return self.children(d) + [to for (of, to), active in self.links.items() if of == d and active]
+
+    def above(self, d):
+        parent = self.devices[d].get("parent")
+        suppliers = [of for (of, to), active in self.links.items() if to == d and active]
+        return suppliers if parent is None else [parent, *suppliers]
 
     def moved(self, d):
         """The device and all that hang below it, as they go to the tail: children first, then consumers."""
         found = [d]
-        for below in self.below[d]:
+        for below in self.children(d) + [to for of, to in self.links if of == d]:
             found += self.moved(below)
         return found
 
@@ -371,6 +383,28 @@ class Run:
             result = "0"
             self.suspended[d] = to == "suspended"
         self.put(task.label, f"runtime {d} {to} {result}")
+        yield True
+
+    def op_link(self, task, step):
+        yield from self.ready(task, task.kind == "user")
+        supplier, consumer = step["supplier"], step["consumer"]
+        if self.maker is not None:
+            result = "EBUSY"
+        elif (supplier, consumer) in self.links or supplier in self.moved(consumer):
+            result = "EINVAL"
+        else:
+            result = "0"
+            self.add_link(supplier, consumer, True)
+        self.put(task.label, f"link {supplier} {consumer} {result}")
+        yield True
+
+    def op_link_state(self, task, step):
+        yield from self.ready(task, task.kind == "user")
+        link, to = (step["supplier"], step["consumer"]), step["to"]
+        result = "EBUSY" if self.maker is not None else "0" if link in self.links else "ENODEV"
+        if result == "0":
+            self.links[link] = to == "active"
+        self.put(task.label, f"link_state {link[0]} {link[1]} {to} {result}")
         yield True
 
     def op_awake(self, task, step):
@@ -644,7 +678,7 @@ class Run:
         if phase.name != "suspend":
             return d in self.left_alone
         calm = self.prepared.get(d) == "1" and self.suspended[d] and not self.devices[d].get("wakeup", False)
-        return calm and all(below in phase.direct for below in self.below[d])
+        return calm and all(below in phase.direct for below in self.below(d))
 
     def skip(self, who, d, why):
         phase = self.phase
@@ -698,7 +732,7 @@ class Run:
             yield from self.callback(who, d)
 
     def waits_below(self, d):
-        return any(below not in self.phase.over for below in self.below[d])
+        return any(below not in self.phase.over for below in self.below(d))
 
     def down_phase(self, who, name):
         phase = self.phase = Phase(name)
@@ -723,7 +757,7 @@ class Run:
         return result
 
     def waits_above(self, d):
-        return any(above in self.phase.members and above not in self.phase.over for above in self.above[d])
+        return any(above in self.phase.members and above not in self.phase.over for above in self.above(d))
 
     def up_phase(self, who, name):
         phase = self.phase = Phase(name)

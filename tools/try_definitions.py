@@ -31,7 +31,8 @@ LENGTHS = [10, 20, 50, 100, 1000, 20000]  # Few, so that moments fall together.
 ERRORS = ["EIO", "EAGAIN", "EBUSY", "ENODEV", "EINVAL"]
 CALLBACKS = ["suspend", "late", "noirq", "resume_noirq", "early", "resume"]
 ONLY_USER = ["read", "save", "state", "autosleep"]
-NOT_IRQ = ["sleep_d", "freeze_point", "runtime"]
+OF_DEVICES = ["runtime", "link", "link", "link_state"]
+NOT_IRQ = ["sleep_d", "freeze_point", *OF_DEVICES]
 CALLS = ["awake", "relax", "event"]
 OPERATIONS = ["read", "save", "state", "state", "autosleep", "sleep", "sleep", "post", "post", "wait"]
 OPERATIONS += NOT_IRQ + CALLS + ["event"]
@@ -69,7 +70,7 @@ class Maker:
             link = {"supplier": supplier, "consumer": consumer}
             hangs = supplier in self.hanging(devices, links, consumer)
             links += [] if hangs or link in links else [link]
-        return links
+        return [link | self.maybe(0.4, "state", lambda: "dormant") for link in links]
 
     @staticmethod
     def hanging(devices, links, device):
@@ -91,7 +92,7 @@ class Maker:
     def operation(self, kind, devices, sources):
         names = [name for name in OPERATIONS if kind == "user" or name not in ONLY_USER]
         names = [name for name in names if kind != "irq" or name not in NOT_IRQ]
-        names = [name for name in names if (devices or name != "runtime") and (sources or name not in CALLS)]
+        names = [name for name in names if (devices or name not in OF_DEVICES) and (sources or name not in CALLS)]
         name = self.pick(names)
         given = {"op": name} | self.maybe(0.1, "times", lambda: self.dice.randint(2, 4))
         if name in CALLS:
@@ -108,9 +109,21 @@ class Maker:
             return given | {"ms": self.pick(LENGTHS)}
         if name in ("post", "wait"):
             return given | {"mark": self.pick("ab")}
+        if name in ("link", "link_state"):
+            ends = self.ends(name, [device["name"] for device in devices])
+            return given | ends | ({"to": self.pick(["active", "dormant"])} if name == "link_state" else {})
         if name == "runtime":
             return given | {"device": self.pick(devices)["name"], "to": self.pick(["active", "suspended"])}
         return given
+
+    def ends(self, name, devices):
+        """The ends of a link that a step adds or sets: mostly two devices, and mostly of one of the file's."""
+        if name == "link_state" and self.linked and self.often(0.6):
+            link = self.pick(self.linked)
+            return {"supplier": link["supplier"], "consumer": link["consumer"]}
+        two = len(devices) > 1 and self.often(0.9)
+        supplier, consumer = self.dice.sample(devices, 2) if two else (self.pick(devices), self.pick(devices))
+        return {"supplier": supplier, "consumer": consumer}
 
     def script(self, number, devices, sources):
         """A script; the first one mostly writes a state, others mostly do something in the midst of that."""
@@ -153,12 +166,13 @@ class Maker:
                 yield {"what": what, "name": name, "ret": self.pick(ERRORS)} | self.maybe(0.4, "attempt", lambda: 1)
 
     def machine(self):
-        tree = {"version": 1} | self.maybe(0.5, "alarm_ms", lambda: self.pick([10, 50, 100, 1000]))
+        tree = {"version": 2} | self.maybe(0.5, "alarm_ms", lambda: self.pick([10, 50, 100, 1000]))
         tree |= self.maybe(0.3, "cpus", lambda: self.dice.randint(2, 3))
         tree |= self.maybe(0.5, "auto_cycles", lambda: self.dice.randint(1, 3))
         devices = [self.device(number) for number in range(self.pick(self.DEVICES))]
         sources = ["s0", "s1"][: self.dice.randint(0, 2)]
-        tree |= {"devices": devices, "links": self.links(devices), "sources": sources}
+        self.linked = self.links(devices)
+        tree |= {"devices": devices, "links": self.linked, "sources": sources}
         tree |= self.maybe(0.25, "syscore", lambda: ["t1", "t2"][: self.dice.randint(1, 2)])
         priorities = [self.pick([0, 0, 5, -5]) for _ in range(self.pick([0, 0, 0, 1, 2, 3]))]
         tree["notifiers"] = [{"name": f"n{at}", "priority": priority} for at, priority in enumerate(priorities)]

@@ -83,6 +83,7 @@ def ret(value):
 
 
 STATUS = word("active", "suspended")
+STATE = word("active", "dormant")
 DEVICE = {"parent": text, "async": truth, "wakeup": truth, "runtime": STATUS}
 KIND = word("user", "kthread", "nofreeze", "irq")
 THING = word("device", "syscore", "notifier", "platform")
@@ -92,9 +93,10 @@ ANSWER = {
     "ret": ret,
     "reports": lambda value: is_list(value) and all(map(report, value)),
 }
+ENDS = {"supplier": text, "consumer": text}
 ITEMS = {
     "devices": lambda value: is_object(value, {"name": text}, DEVICE),
-    "links": lambda value: is_object(value, {"supplier": text, "consumer": text}, {}),
+    "links": lambda value: is_object(value, ENDS, {"state": STATE}),
     "syscore": text,
     "notifiers": lambda value: is_object(value, {"name": text}, {"priority": number(-1000, 1000)}),
     "sources": text,
@@ -114,14 +116,22 @@ OPERATIONS = {
     "post": ({"mark": name}, {}, "all"),
     "wait": ({"mark": name}, {}, "all"),
     "runtime": ({"device": text, "to": STATUS}, {}, "task"),
+    "link": (ENDS, {}, "task"),
+    "link_state": (ENDS | {"to": STATE}, {}, "task"),
     "awake": ({"source": text}, {}, "all"),
     "relax": ({"source": text}, {}, "all"),
     "event": ({"source": text}, {"ms": number(0, 86_400_000), "hard": truth}, "all"),
 }
 
 
-def operation(value):
+# What files of version 2 alone may have.
+CHANGES = ["link", "link_state"]
+
+
+def operation(value, version):
     if not isinstance(value, dict) or not word(*OPERATIONS)(value.get("op")):
+        return False
+    if version == 1 and value["op"] in CHANGES:
         return False
     required, optional, _ = OPERATIONS[value["op"]]
     return is_object(value, {"op": text} | required, {"times": number(1, 20_000)} | optional)
@@ -156,11 +166,13 @@ def closes_cycle(link, before, devices):
 
 def form_rules(file):
     yield 2, None if isinstance(file, dict) and set(file) <= set(MEMBERS) else "top"
-    yield 3, None if number(1, 1)(file.get("version")) else "version"
+    yield 3, None if number(1, 2)(file.get("version")) else "version"
     forms = {member: number(*RANGES[member]) if member in RANGES else is_list for member in MEMBERS[1:]}
     yield 4, next((member for member, test in forms.items() if member in file and not test(file[member])), None)
     lists = [(member, file.get(member, [])) for member in LISTS]
-    places = (first_not(member, items, lambda item, _: ITEMS[member](item)) for member, items in lists)
+    too_new = lambda member, item: file["version"] == 1 and member == "links" and "state" in item
+    in_form = lambda member: lambda item, _: ITEMS[member](item) and not too_new(member, item)
+    places = (first_not(member, items, in_form(member)) for member, items in lists)
     yield 5, next(filter(None, places), None)
     yield 6, next((member for member, items in lists if len(items) > MOST[member]), None)
     named = ("name", "parent", "supplier", "consumer")
@@ -176,7 +188,8 @@ def thing_rules(file):
     parents = lambda device, before: "parent" not in device or device["parent"] in [d["name"] for d in before]
     yield 9, first_not("devices", devices, parents)
     yield 10, first_not("links", links, lambda link, _: link["supplier"] in names and link["consumer"] in names)
-    yield 11, first_not("links", links, lambda link, before: link["supplier"] != link["consumer"] and link not in before)
+    ends = [(link["supplier"], link["consumer"]) for link in links]
+    yield 11, first_not("links", ends, lambda pair, before: pair[0] != pair[1] and pair not in before)
     yield 12, first_not("links", links, lambda link, before: not closes_cycle(link, before, devices))
     distinct = lambda found, before: found not in before
     notifiers = [notifier["name"] for notifier in file.get("notifiers", [])]
@@ -198,12 +211,13 @@ def is_allowed(actor, found):
 def script_rules(file):
     sources, devices = file.get("sources", []), [device["name"] for device in file.get("devices", [])]
     first = lambda test: next((place for place, actor, found in operations_of(file) if not test(actor, found)), None)
-    yield 16, first(lambda actor, found: operation(found))
+    yield 16, first(lambda actor, found: operation(found, file["version"]))
     yield 17, first(is_allowed)
     reports = lambda answer, _: all(found["source"] in sources for found in answer.get("reports", []))
     unknown = first(lambda actor, found: found.get("source") in [None, *sources])
     yield 18, unknown or first_not("answers", file.get("answers", []), reports)
-    yield 19, first(lambda actor, found: found.get("device") in [None, *devices])
+    ends = ("device", "supplier", "consumer")
+    yield 19, first(lambda actor, found: all(found.get(end) in [None, *devices] for end in ends))
 
 
 def answer_rules(file):
@@ -228,8 +242,9 @@ def amount_rules(file):
     )
     attempts = steps("state") + (file.get("auto_cycles", 16) if steps("autosleep") else 0)
     too_long = steps(*OPERATIONS) > 200_000 or attempts * (len(file.get("devices", [])) + 50) > 100_000
+    too_linked = len(file.get("links", [])) + steps("link") > 4000
     reports = sum(len(answer.get("reports", [])) for answer in file.get("answers", []))
-    yield 24, "actors" if too_long else "answers" if reports > 10_000 else None
+    yield 24, "actors" if too_long or too_linked else "answers" if reports > 10_000 else None
 
 
 def first_broken(file):
@@ -254,6 +269,7 @@ def without_defaults(file):
     ]
     kept = {
         "devices": lambda item: without(item, wakeup=False, runtime="active", **{"async": False}),
+        "links": lambda item: without(item, state="active"),
         "notifiers": lambda item: without(item, priority=0),
         "actors": lambda item: without(item | {"script": operations(item.get("script", []))}, repeat=1, script=[]),
         "answers": lambda item: without(
@@ -262,7 +278,7 @@ def without_defaults(file):
     }
     parts = {member: [kept[member](item) for item in file[member]] for member in kept if member in file}
     empty = {member: [] for member in LISTS}
-    return without(file | parts, alarm_ms=1000, cpus=1, auto_cycles=16, **empty)
+    return without(file | parts | {"version": 2}, alarm_ms=1000, cpus=1, auto_cycles=16, **empty)
 
 
 def compact(value, sort_keys=False):
@@ -277,11 +293,12 @@ SEEDS = [
         '{"version":1,"devices":[{"name":"a"},{"name":"b","parent":"a"},{"name":"c"}],"links":[{"supplier":"c","consumer":"b"},{"supplier":"a","consumer":"c"}],"syscore":["t","u"],"notifiers":[{"name":"n"},{"name":"m","priority":3}],"sources":["s","r"]}',
         '{"version":1,"devices":[{"name":"a"},{"name":"b"}],"sources":["s"],"actors":[{"name":"w","kind":"user","script":[{"op":"read"},{"op":"save","count":1},{"op":"state","text":"mem","times":1000},{"op":"autosleep","text":"x"},{"op":"runtime","device":"a","to":"suspended"}]},{"name":"k","kind":"irq","repeat":9,"script":[{"op":"sleep","ms":5},{"op":"awake","source":"s"},{"op":"post","mark":"x"},{"op":"event","source":"s","ms":7}]}]}',
         '{"version":1,"devices":[{"name":"a"}],"syscore":["t"],"notifiers":[{"name":"n"}],"sources":["s"],"answers":[{"what":"device","name":"a","phase":"late","reports":[{"call":"awake","source":"s"}]},{"what":"device","name":"a","phase":"prepare","ret":1},{"what":"syscore","name":"t","ret":"EIO","attempt":2},{"what":"notifier","name":"n","ret":"EAGAIN"},{"what":"platform","name":"begin","ret":"EBUSY"}]}',
+        '{"version":2,"devices":[{"name":"a"},{"name":"b","parent":"a"},{"name":"c"}],"links":[{"supplier":"c","consumer":"b","state":"dormant"},{"supplier":"a","consumer":"c","state":"active"}],"actors":[{"name":"w","kind":"user","script":[{"op":"link","supplier":"c","consumer":"a","times":1000},{"op":"link_state","supplier":"a","consumer":"c","to":"dormant"}]},{"name":"k","kind":"kthread","repeat":2,"script":[{"op":"link_state","supplier":"c","consumer":"b","to":"active"}]}]}',
     )
 ]
-VALUES = [0, 1, -1, 17, 64, 1000, 1001, 2001, 20_000, 86_400_001, 4_294_967_296, True, False, None, "", "A", "a", "b", "c", "s", "t", "n", [], {}]
-VALUES += ["user", "irq", "kthread", "late", "prepare", "suspended", "EIO", "EAGAIN", "EINTR", "mem", "autosleep", "device", "platform", *OPERATIONS]
-NAMES = "name parent async runtime supplier priority kind repeat script phase attempt ret reports call source ms hard op times count text mark fly".split()
+VALUES = [0, 1, 2, 3, -1, 17, 64, 1000, 1001, 2001, 20_000, 86_400_001, 4_294_967_296, True, False, None, "", "A", "a", "b", "c", "s", "t", "n", [], {}]
+VALUES += ["user", "irq", "kthread", "late", "prepare", "suspended", "EIO", "EAGAIN", "EINTR", "mem", "autosleep", "device", "platform", "active", "dormant", *OPERATIONS]
+NAMES = "version name parent async runtime supplier consumer state to priority kind repeat script phase attempt ret reports call source ms hard op times count text mark fly".split()
 
 
 def parts_of(value):

@@ -24,6 +24,7 @@ MODULES = {
     "Attempts": "Whole logs of attempts that sleep, and of attempts that a wakeup ends.",
     "Failures": "Whole logs of attempts in which a callback, a notifier or the platform fails.",
     "Devices": "Whole logs of devices with links, of asynchronous devices, and of runtime status.",
+    "Links": "Whole logs of links that are added, that are dormant, and that are refused.",
     "Freezing": "Whole logs of the freezer.",
     "Counts": "Whole logs of reads and saves of the count, and of writes to the state.",
     "Timers": "Whole logs of events with a length.",
@@ -59,6 +60,11 @@ LOGS = [
     ("Devices", "wakeup_is_not_direct", "The same, where the lowest one may wake the machine: no callback is left out."),
     ("Devices", "suspended_before_the_attempt", "A device that a task suspends at run time before the attempt, and that stays so."),
     ("Devices", "runtime_requests", "Requests at run time while the device is prepared, and after its late suspend began."),
+    ("Links", "link_added", "A task links two devices and then sleeps: the supplier is prepared first, and suspends last."),
+    ("Links", "dormant_link", "A link that is dormant: the asynchronous consumer and its supplier suspend beside one another."),
+    ("Links", "active_link", "The same link, active: the supplier waits for its consumer."),
+    ("Links", "links_in_an_attempt", "Links that a task would change while an attempt is open: both are refused."),
+    ("Links", "links_without_an_attempt", "The same changes without an attempt."),
     ("Freezing", "freeze_times_out", "A task that sleeps uninterruptibly: freezing gives up, first by its time and then by an event."),
     ("Freezing", "kernel_freeze_times_out", "A kernel thread that sleeps uninterruptibly: freezing gives up, and all are let go."),
     ("Freezing", "read_interrupted", "A read that waits is interrupted as its task is asked to freeze."),
@@ -91,6 +97,8 @@ TEXTS = [
     "asynchronous_child",
     "direct_complete",
     "runtime_requests",
+    "link_added",
+    "links_in_an_attempt",
     "freeze_times_out",
     "kernel_freeze_times_out",
     "read_interrupted",
@@ -134,7 +142,7 @@ USES = [
 PRELUDE = ["◌++◌", "true", "false", "List", "[]", "◌∷◌", "codes", "pos", "negsuc", "Some", "None"]
 ERRORS = ["EINTR", "EIO", "EAGAIN", "EACCES", "EBUSY", "ENODEV", "EINVAL"]
 NUMBERS = {"EINTR": 4, "EIO": 5, "EAGAIN": 11, "EACCES": 13, "EBUSY": 16, "ENODEV": 19, "EINVAL": 22}
-TERMS = "entry word device link notifier script once times answer report bare stats unused log_of stuck_log waiting".split()
+TERMS = "entry word device link dormant notifier script once times answer report bare stats unused log_of stuck_log waiting".split()
 
 PHASES = {
     "prepare": "Prepare",
@@ -243,7 +251,12 @@ class Machine:
         return f"device ({codes(given['name'])}) {optional(parent)} {flags}"
 
     def link_term(self, given):
-        return f"link {self.devices.index(given['supplier'])} {self.devices.index(given['consumer'])}"
+        word = "link" if given.get("state", "active") == "active" else "dormant"
+        return f"{word} {self.ends(given)}"
+
+    def ends(self, given):
+        """The numbers of a link's supplier and of its consumer."""
+        return f"{self.devices.index(given['supplier'])} {self.devices.index(given['consumer'])}"
 
     @staticmethod
     def notifier_term(given):
@@ -264,6 +277,10 @@ class Machine:
             return f"(op.{name.capitalize()} {self.marks.index(given['mark'])})"
         if name == "runtime":
             return f"(op.Runtime {self.devices.index(given['device'])} {truth(given['to'] == 'suspended')})"
+        if name == "link":
+            return f"(op.Link {self.ends(given)})"
+        if name == "link_state":
+            return f"(op.LinkState {self.ends(given)} {truth(given['to'] == 'active')})"
         if name in ("awake", "relax"):
             return f"(op.{name.capitalize()} {self.sources.index(given['source'])})"
         if name == "event":
@@ -364,6 +381,11 @@ def task_kind(m, words):
             return f"{made.capitalize()} {m.marks.index(mark)}"
         case ["runtime", device, to, error]:
             return f"RuntimeAsk {m.devices.index(device)} {truth(to == 'suspended')} {answered(error)}"
+        case ["link", supplier, consumer, error]:
+            return f"LinkAdd {m.devices.index(supplier)} {m.devices.index(consumer)} {answered(error)}"
+        case ["link_state", supplier, consumer, to, error]:
+            ends = f"{m.devices.index(supplier)} {m.devices.index(consumer)}"
+            return f"LinkState {ends} {truth(to == 'active')} {answered(error)}"
         case ["run" | "again" | "off" as plain]:
             return f"Auto{plain.capitalize()}"
         case ["saved" | "unsaved" as made, count]:
@@ -601,6 +623,7 @@ returns-clause-legal c = record {{
   legal = record {{
     journal = journal_part {name}_machine (journal (reverse {name}_entries)) refl;
     sources = source_part (reverse {name}_entries) refl;
+    histories = record {{ there = refl; short = refl }};
     placed = placed (reverse {name}_entries) refl;
     joint = {name}_fits;
   }};
@@ -703,12 +726,18 @@ def text_term(log):
     return f"-- {says}: the text of its log\nabbrev pub {log.name}_text : List ℕ\n{log.name}_text =\n{lines}\n"
 
 
+TEXT_MODULES = {"Texts": "Texts of worked logs", "LinkTexts": "Texts of worked logs in which links change"}
+
+
 def write_texts(logs):
-    """The texts of some logs, with the laws that they are the logs'."""
-    head = "-- Texts of worked logs, a line an entry.\nuse Rattle.std.specs.Prelude.{ℕ, ◌++◌, List, codes}\n\n"
-    (CRATE / "specs" / "Texts.antt").write_text(head + "\n".join(map(text_term, logs)))
-    uses = f"ghost use Rattle.worked_logs.specs.Texts.{{{', '.join(f'{log.name}_text' for log in logs)}}};\n"
-    laws = [TEXTS_HEAD, *ghost_uses(logs, "_machine", ""), uses, *map(text_law, logs)]
+    """The texts of some logs, by module, with the laws that they are the logs'."""
+    uses = []
+    for module, says in TEXT_MODULES.items():
+        own = [log for log in logs if (log.module == "Links") == (module == "LinkTexts")]
+        head = f"-- {says}, a line an entry.\nuse Rattle.std.specs.Prelude.{{ℕ, ◌++◌, List, codes}}\n\n"
+        (CRATE / "specs" / f"{module}.antt").write_text(head + "\n".join(map(text_term, own)))
+        uses.append(f"ghost use Rattle.worked_logs.specs.{module}.{{{', '.join(f'{log.name}_text' for log in own)}}};\n")
+    laws = [TEXTS_HEAD, *ghost_uses(logs, "_machine", ""), *uses, *map(text_law, logs)]
     (CRATE / "src" / "texts.rt").write_text("".join(laws))
 
 

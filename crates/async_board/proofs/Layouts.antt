@@ -2,7 +2,7 @@
 use Rattle.std.proofs.Common.{◌≡◌, ◌<◌, ◌∙◌, ℕ, Bool, true, false, List, length, get_or, set, Option, sym, ap, subst, arith, length-set}
 use Rattle.sleep_model.specs.declared.machine.Link.{Link}
 use Rattle.sleep_model.specs.declared.place.Stand.{Stand}
-use Rattle.sleep_model.specs.Order.{is_among, hanging, holding, order_by}
+use Rattle.sleep_model.specs.Order.{active_of, is_among, hanging, holding, order_by}
 use Rattle.sleep_model.specs.Links.{first_places, IsOrder}
 use Rattle.sleep_model.specs.Stands.{stand_at, is_unsettled, is_low}
 use Rattle.sleep_model.proofs.FirstPlaces.{among_first_places}
@@ -16,44 +16,44 @@ module _ (ps : List (Option ℕ)) (ls : List Link) (stands : List Stand) (d : �
   d_stands = omega (arith, size, within)
 
   -- on the way down
-  pub below_some : IsBelow ps ls stands counts → is_unsettled (stand_at stands d) ≡ true → (x : ℕ) → x < length counts → is_among (first_places (holding ps ls d)) x ≡ true → 0 < get_or counts x 0
+  pub below_some : IsBelow ps ls stands counts → is_unsettled (stand_at stands d) ≡ true → (x : ℕ) → x < length counts → is_among (first_places (holding ps (active_of ls) d)) x ≡ true → 0 < get_or counts x 0
   below_some h was =
-      count_some (length ps) (λ x. is_unsettled (stand_at stands x)) (λ x. is_unsettled (stand_at (set stands d s) x)) (λ x. first_places (hanging ps ls x)) (first_places (holding ps ls d)) d counts h
-      (λ x. first_different (hanging ps ls x)) (λ x l. above_across ps ls x d within) (λ x ne. ap is_unsettled (others_stand stands d x s ne)) was
+      count_some (length ps) (λ x. is_unsettled (stand_at stands x)) (λ x. is_unsettled (stand_at (set stands d s) x)) (λ x. first_places (hanging ps (active_of ls) x)) (first_places (holding ps (active_of ls) d)) d counts h
+      (λ x. first_different (hanging ps (active_of ls) x)) (λ x l. above_across ps (active_of ls) x d within) (λ x ne. ap is_unsettled (others_stand stands d x s ne)) was
 
-  pub below_few : IsOrder (hanging ps ls) (order_by ps ls) → ((x : ℕ) → x < length ps → is_among (order_by ps ls) x ≡ true) → ((x : ℕ) → is_among (order_by ps ls) x ≡ true → x < length ps)
-      → IsBelow ps ls stands counts → is_unsettled (stand_at stands d) ≡ false → is_unsettled s ≡ true → (x : ℕ) → x < length counts → is_among (first_places (holding ps ls d)) x ≡ true → get_or counts x 0 < length counts
+  pub below_few : IsOrder (hanging ps (active_of ls)) (order_by ps ls) → ((x : ℕ) → x < length ps → is_among (order_by ps ls) x ≡ true) → ((x : ℕ) → is_among (order_by ps ls) x ≡ true → x < length ps)
+      → IsBelow ps ls stands counts → is_unsettled (stand_at stands d) ≡ false → is_unsettled s ≡ true → (x : ℕ) → x < length counts → is_among (first_places (holding ps (active_of ls) d)) x ≡ true → get_or counts x 0 < length counts
   below_few ranked covers stays h was is =
-      count_few (length ps) (λ x. is_unsettled (stand_at stands x)) (λ x. is_unsettled (stand_at (set stands d s) x)) (λ x. first_places (hanging ps ls x)) (first_places (holding ps ls d)) d counts h
-      (λ x. first_different (hanging ps ls x)) (λ x l. above_across ps ls x d within) (λ x ne. ap is_unsettled (others_stand stands d x s ne))
-      (λ y x l m t. stays x (order_hangs (hanging ps ls) (order_by ps ls) ranked y x (covers y l) (sym (among_first_places (hanging ps ls y) x) ∙ m)))
+      count_few (length ps) (λ x. is_unsettled (stand_at stands x)) (λ x. is_unsettled (stand_at (set stands d s) x)) (λ x. first_places (hanging ps (active_of ls) x)) (first_places (holding ps (active_of ls) d)) d counts h
+      (λ x. first_different (hanging ps (active_of ls) x)) (λ x l. above_across ps (active_of ls) x d within) (λ x ne. ap is_unsettled (others_stand stands d x s ne))
+      (λ y x l m t. stays x (order_hangs (hanging ps (active_of ls)) (order_by ps ls) ranked y x (covers y l) (sym (among_first_places (hanging ps (active_of ls) y) x) ∙ m)))
       was (ap is_unsettled (stands_anew stands d s d_stands) ∙ is)
 
-  pub below_moved : IsBelow ps ls stands counts → (row : List ℕ) (was is : Bool) (new : List ℕ) → row ≡ first_places (holding ps ls d) → was ≡ is_unsettled (stand_at stands d) → is ≡ is_unsettled s → AreShifted row was is counts new → IsBelow ps ls (set stands d s) new
+  pub below_moved : IsBelow ps ls stands counts → (row : List ℕ) (was is : Bool) (new : List ℕ) → row ≡ first_places (holding ps (active_of ls) d) → was ≡ is_unsettled (stand_at stands d) → is ≡ is_unsettled s → AreShifted row was is counts new → IsBelow ps ls (set stands d s) new
   below_moved h row was is new a b c t =
-      count_moved (length ps) (λ x. is_unsettled (stand_at stands x)) (λ x. is_unsettled (stand_at (set stands d s) x)) (λ x. first_places (hanging ps ls x)) (first_places (holding ps ls d)) d counts h
-      (λ x. first_different (hanging ps ls x)) (λ x l. above_across ps ls x d within) (λ x ne. ap is_unsettled (others_stand stands d x s ne)) new
+      count_moved (length ps) (λ x. is_unsettled (stand_at stands x)) (λ x. is_unsettled (stand_at (set stands d s) x)) (λ x. first_places (hanging ps (active_of ls) x)) (first_places (holding ps (active_of ls) d)) d counts h
+      (λ x. first_different (hanging ps (active_of ls) x)) (λ x l. above_across ps (active_of ls) x d within) (λ x ne. ap is_unsettled (others_stand stands d x s ne)) new
       (subst (λ (r : List ℕ). AreShifted r (is_unsettled (stand_at stands d)) (is_unsettled (stand_at (set stands d s) d)) counts new) a
       (subst (λ (x : Bool). AreShifted row x (is_unsettled (stand_at (set stands d s) d)) counts new) b
       (subst (λ (x : Bool). AreShifted row was x counts new) (c ∙ sym (ap is_unsettled (stands_anew stands d s d_stands))) t)))
 
   -- on the way up
-  pub above_some : IsAbove ps ls stands counts → is_low (stand_at stands d) ≡ true → (x : ℕ) → x < length counts → is_among (first_places (hanging ps ls d)) x ≡ true → 0 < get_or counts x 0
+  pub above_some : IsAbove ps ls stands counts → is_low (stand_at stands d) ≡ true → (x : ℕ) → x < length counts → is_among (first_places (hanging ps (active_of ls) d)) x ≡ true → 0 < get_or counts x 0
   above_some h was =
-      count_some (length ps) (λ x. is_low (stand_at stands x)) (λ x. is_low (stand_at (set stands d s) x)) (λ x. first_places (holding ps ls x)) (first_places (hanging ps ls d)) d counts h
-      (λ x. first_different (holding ps ls x)) (λ x l. below_across ps ls x d l) (λ x ne. ap is_low (others_stand stands d x s ne)) was
+      count_some (length ps) (λ x. is_low (stand_at stands x)) (λ x. is_low (stand_at (set stands d s) x)) (λ x. first_places (holding ps (active_of ls) x)) (first_places (hanging ps (active_of ls) d)) d counts h
+      (λ x. first_different (holding ps (active_of ls) x)) (λ x l. below_across ps (active_of ls) x d l) (λ x ne. ap is_low (others_stand stands d x s ne)) was
 
-  pub above_few : IsAbove ps ls stands counts → is_low (stand_at stands d) ≡ false → is_low s ≡ true → (x : ℕ) → x < length counts → is_among (first_places (hanging ps ls d)) x ≡ true → get_or counts x 0 < length counts
+  pub above_few : IsAbove ps ls stands counts → is_low (stand_at stands d) ≡ false → is_low s ≡ true → (x : ℕ) → x < length counts → is_among (first_places (hanging ps (active_of ls) d)) x ≡ true → get_or counts x 0 < length counts
   above_few h was is =
-      count_few (length ps) (λ x. is_low (stand_at stands x)) (λ x. is_low (stand_at (set stands d s) x)) (λ x. first_places (holding ps ls x)) (first_places (hanging ps ls d)) d counts h
-      (λ x. first_different (holding ps ls x)) (λ x l. below_across ps ls x d l) (λ x ne. ap is_low (others_stand stands d x s ne))
+      count_few (length ps) (λ x. is_low (stand_at stands x)) (λ x. is_low (stand_at (set stands d s) x)) (λ x. first_places (holding ps (active_of ls) x)) (first_places (hanging ps (active_of ls) d)) d counts h
+      (λ x. first_different (holding ps (active_of ls) x)) (λ x l. below_across ps (active_of ls) x d l) (λ x ne. ap is_low (others_stand stands d x s ne))
       (λ y x l m t. let k = low_within (set stands d s) x t in omega (arith, k, length-set stands d s, size))
       was (ap is_low (stands_anew stands d s d_stands) ∙ is)
 
-  pub above_moved : IsAbove ps ls stands counts → (row : List ℕ) (was is : Bool) (new : List ℕ) → row ≡ first_places (hanging ps ls d) → was ≡ is_low (stand_at stands d) → is ≡ is_low s → AreShifted row was is counts new → IsAbove ps ls (set stands d s) new
+  pub above_moved : IsAbove ps ls stands counts → (row : List ℕ) (was is : Bool) (new : List ℕ) → row ≡ first_places (hanging ps (active_of ls) d) → was ≡ is_low (stand_at stands d) → is ≡ is_low s → AreShifted row was is counts new → IsAbove ps ls (set stands d s) new
   above_moved h row was is new a b c t =
-      count_moved (length ps) (λ x. is_low (stand_at stands x)) (λ x. is_low (stand_at (set stands d s) x)) (λ x. first_places (holding ps ls x)) (first_places (hanging ps ls d)) d counts h
-      (λ x. first_different (holding ps ls x)) (λ x l. below_across ps ls x d l) (λ x ne. ap is_low (others_stand stands d x s ne)) new
+      count_moved (length ps) (λ x. is_low (stand_at stands x)) (λ x. is_low (stand_at (set stands d s) x)) (λ x. first_places (holding ps (active_of ls) x)) (first_places (hanging ps (active_of ls) d)) d counts h
+      (λ x. first_different (holding ps (active_of ls) x)) (λ x l. below_across ps (active_of ls) x d l) (λ x ne. ap is_low (others_stand stands d x s ne)) new
       (subst (λ (r : List ℕ). AreShifted r (is_low (stand_at stands d)) (is_low (stand_at (set stands d s) d)) counts new) a
       (subst (λ (x : Bool). AreShifted row x (is_low (stand_at (set stands d s) d)) counts new) b
       (subst (λ (x : Bool). AreShifted row was x counts new) (c ∙ sym (ap is_low (stands_anew stands d s d_stands))) t)))

@@ -6,7 +6,7 @@ use Rattle.sleep_model.specs.declared.place.Stand.{Stand}
 use Rattle.sleep_model.specs.declared.place.Stand.TheVariants as stand
 use Rattle.std.proofs.lemmas.List.{length-replicate, set-get_or}
 use Rattle.sleep_model.specs.declared.machine.Link.{Link}
-use Rattle.sleep_model.specs.Order.{hanging, holding}
+use Rattle.sleep_model.specs.Order.{active_of, hanging, holding}
 use Rattle.sleep_model.specs.Links.{first_places}
 use Rattle.sleep_model.specs.Stands.{stand_at, is_low, is_unsettled, by_phase}
 use Rattle.phase_table.specs.declared.phase.Phase.{Phase}
@@ -96,16 +96,16 @@ zeros (suc n) zero = refl
 zeros (suc n) (suc d) = zeros n d
 
 -- all are below and not through, and none is up
-pub fresh_below : (ps : List (Option ℕ)) (ls : List Link) (counts : List ℕ) → IsLengths (length ps) (λ d. first_places (hanging ps ls d)) counts → IsBelow ps ls (replicate (length ps) stand.Unprepared) counts
+pub fresh_below : (ps : List (Option ℕ)) (ls : List Link) (counts : List ℕ) → IsLengths (length ps) (λ d. first_places (hanging ps (active_of ls) d)) counts → IsBelow ps ls (replicate (length ps) stand.Unprepared) counts
 fresh_below ps ls counts h = record {
   size = h.size;
-  each = λ d l. h.each d l ∙ ap length (sym (all_pass (λ x. is_unsettled (stand_at (replicate (length ps) stand.Unprepared) x)) (first_places (hanging ps ls d)) (λ x. ap is_unsettled (fresh_stands (length ps) x))));
+  each = λ d l. h.each d l ∙ ap length (sym (all_pass (λ x. is_unsettled (stand_at (replicate (length ps) stand.Unprepared) x)) (first_places (hanging ps (active_of ls) d)) (λ x. ap is_unsettled (fresh_stands (length ps) x))));
 }
 
 pub fresh_above : (ps : List (Option ℕ)) (ls : List Link) → IsAbove ps ls (replicate (length ps) stand.Unprepared) (replicate (length ps) 0)
 fresh_above ps ls = record {
   size = length-replicate (length ps) 0;
-  each = λ d l. zeros (length ps) d ∙ ap length (sym (none_pass (λ x. is_low (stand_at (replicate (length ps) stand.Unprepared) x)) (first_places (holding ps ls d)) (λ x. ap is_low (fresh_stands (length ps) x))));
+  each = λ d l. zeros (length ps) d ∙ ap length (sym (none_pass (λ x. is_low (stand_at (replicate (length ps) stand.Unprepared) x)) (first_places (holding ps (active_of ls) d)) (λ x. ap is_low (fresh_stands (length ps) x))));
 }
 
 fresh_passed : (p : ℕ → Bool) (xs : List ℕ) → IsPassed p xs 0
@@ -129,7 +129,7 @@ fresh_cursors beside stands order n e = record {
 -- a walk in which no device is prepared
 pub fresh_walk : (l : Layout) (w : Walk) (n : ℕ) → n ≡ length (order_of l) → n ≡ length l.links.parents → w.stands.items ≡ replicate n stand.Unprepared
     → w.cursors ≡ record { unprepared = 0; going = 0; given = 0; up = 0; low = 0; ready = n; prepared = n }
-    → IsLengths (length l.links.parents) (λ d. first_places (hanging l.links.parents l.links.links d)) w.open_below.items → w.open_above.items ≡ replicate n 0 → IsWalk l w
+    → IsLengths (length l.links.parents) (λ d. first_places (hanging l.links.parents (active_of l.links.links) d)) w.open_below.items → w.open_above.items ≡ replicate n 0 → IsWalk l w
 fresh_walk l w n e f stands cursors below above = record {
   size = ap length stands ∙ (length-replicate n stand.Unprepared ∙ f);
   cursors = subst (λ (c : Cursors). AreCursors l.beside.items w.stands.items (order_of l) c) (sym cursors) (fresh_cursors l.beside.items w.stands.items (order_of l) n e);

@@ -1,5 +1,5 @@
 -- What a board tells at a place of a machine's log.
-use Rattle.std.proofs.Common.{◌≡◌, ℕ, true, not, ◌&&◌, List, [], length, map, reverse, replicate, refl, ap}
+use Rattle.std.proofs.Common.{◌≡◌, ℕ, true, not, ◌&&◌, List, [], ◌∷◌, length, map, reverse, replicate, refl, sym, ap}
 use Rattle.std.proofs.lemmas.List.{length-map}
 use Rattle.std.proofs.lemmas.Bool.{false≢true}
 use Rattle.phase_table.specs.declared.phase.Phase.{Phase}
@@ -7,15 +7,16 @@ use Rattle.phase_table.specs.declared.phase.Phase.TheVariants as phase
 use Rattle.phase_table.specs.Phases.{is_down}
 use Rattle.sleep_model.specs.declared.entry.Entry.{Entry}
 use Rattle.sleep_model.specs.declared.machine.Device.{Device}
+use Rattle.sleep_model.specs.declared.machine.Link.{Link}
 use Rattle.sleep_model.specs.declared.machine.Machine.{Machine}
 use Rattle.sleep_model.specs.declared.place.Stand.{Stand}
 use Rattle.sleep_model.specs.declared.place.Stand.TheVariants as stand
 use Rattle.sleep_model.specs.Devices.{is_async_device}
-use Rattle.sleep_model.specs.Order.{order, below, above, parents_of}
+use Rattle.sleep_model.specs.Order.{order, below, above, links_after, links_at, parents_of}
 use Rattle.sleep_model.specs.Runtime.{is_async}
 use Rattle.sleep_model.specs.Stands.{stands, stand_at, is_ready, is_unsettled, is_going_down, is_down_in, is_low}
 use Rattle.sleep_model.specs.Walk.{first_where, last_where}
-use Rattle.async_board.specs.Boards.{stands_on, first_board}
+use Rattle.async_board.specs.Boards.{stands_on, first_board, board_after}
 use Rattle.async_board.specs.AtPlaces.{board_at, Tells}
 
 -- the stands of a phase on the way down
@@ -40,12 +41,17 @@ module _ (m : Machine) (past : List Entry) where
     stood = λ p d e. ap (λ ss. stand_at ss d) (stands_down m past p e);
     prepares = refl;
     completes = refl;
-    takes = λ p e. ap (λ (ss : List Stand). last_where (λ d. is_ready (stand_at ss d)) (order m)) (stands_down m past p e);
-    closes = λ p e. ap (λ (ss : List Stand). first_where (λ d. is_going_down (stand_at ss d)) (order m)) (stands_down m past p e);
-    gives = λ p e. ap (λ (ss : List Stand). first_where (λ d. is_down_in (stand_at ss d) && is_async_device m d) (order m)) (stands_down m past p e);
-    raises = λ p e. ap (λ (ss : List Stand). first_where (λ d. is_down_in (stand_at ss d) && not (is_async_device m d)) (order m)) (stands_down m past p e);
-    opens = λ p e. ap (λ (ss : List Stand). first_where (λ d. is_low (stand_at ss d)) (order m)) (stands_down m past p e);
-    waits_for_below = λ p d e. ap (λ (ss : List Stand). first_where (λ x. is_unsettled (stand_at ss x)) (below m d)) (stands_down m past p e);
-    waits_for_above = λ p d e. ap (λ (ss : List Stand). first_where (λ x. is_low (stand_at ss x)) (above m d)) (stands_down m past p e);
+    takes = λ p e. ap (λ (ss : List Stand). last_where (λ d. is_ready (stand_at ss d)) (order m past)) (stands_down m past p e);
+    closes = λ p e. ap (λ (ss : List Stand). first_where (λ d. is_going_down (stand_at ss d)) (order m past)) (stands_down m past p e);
+    gives = λ p e. ap (λ (ss : List Stand). first_where (λ d. is_down_in (stand_at ss d) && is_async_device m d) (order m past)) (stands_down m past p e);
+    raises = λ p e. ap (λ (ss : List Stand). first_where (λ d. is_down_in (stand_at ss d) && not (is_async_device m d)) (order m past)) (stands_down m past p e);
+    opens = λ p e. ap (λ (ss : List Stand). first_where (λ d. is_low (stand_at ss d)) (order m past)) (stands_down m past p e);
+    waits_for_below = λ p d e. ap (λ (ss : List Stand). first_where (λ x. is_unsettled (stand_at ss x)) (below m past d)) (stands_down m past p e);
+    waits_for_above = λ p d e. ap (λ (ss : List Stand). first_where (λ x. is_low (stand_at ss x)) (above m past d)) (stands_down m past p e);
     left_alone = λ d. refl;
   }
+
+-- an entry that changes no link moves the board alone
+pub board_next : (m : Machine) (past : List Entry) (e : Entry) → links_after e.kind (links_at m past) ≡ links_at m past → board_after e.kind (board_at m past) ≡ board_at m (e ∷ past)
+board_next m past e same =
+    ap (λ (ls : List Link). record { parents = parents_of m.devices; links = ls; beside = map is_async m.devices; suspend = stands (length m.devices) phase.Suspend (e ∷ past); late = stands (length m.devices) phase.Late (e ∷ past); noirq = stands (length m.devices) phase.Noirq (e ∷ past) }) (sym same)

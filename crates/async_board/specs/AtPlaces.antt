@@ -1,12 +1,12 @@
 -- The board at a place of a machine's log.
-use Rattle.std.specs.Prelude.{◌≡◌, ℕ, true, ◌&&◌, List, length, map, reverse, not}
+use Rattle.std.specs.Prelude.{◌≡◌, ℕ, true, ◌&&◌, List, length, map, not}
 use Rattle.phase_table.specs.declared.phase.Phase.{Phase}
 use Rattle.phase_table.specs.declared.phase.Phase.TheVariants as phase
 use Rattle.phase_table.specs.Phases.{is_down}
 use Rattle.sleep_model.specs.declared.entry.Entry.{Entry}
 use Rattle.sleep_model.specs.declared.machine.Machine.{Machine}
 use Rattle.sleep_model.specs.Devices.{is_async_device, async_work, may_wake_device, stand_in, is_direct_now, next_prepared, next_completed, next_down, waits_down, next_given, next_up, waits_up, waits_below, waits_above, willing}
-use Rattle.sleep_model.specs.Order.{parents_of}
+use Rattle.sleep_model.specs.Order.{links_at, parents_of}
 use Rattle.sleep_model.specs.Runtime.{is_async, statuses}
 use Rattle.sleep_model.specs.Stands.{stands, stand_at}
 use Rattle.sleep_model.specs.Walk.{is_so}
@@ -16,7 +16,7 @@ use Rattle.async_board.specs.Boards.{BoardState, stands_on, next_prepared_on, ne
 abbrev pub board_at : Machine → List Entry → BoardState
 board_at m past = record {
   parents = parents_of m.devices;
-  links = reverse m.links;
+  links = links_at m past;
   beside = map is_async m.devices;
   suspend = stands (length m.devices) phase.Suspend past;
   late = stands (length m.devices) phase.Late past;

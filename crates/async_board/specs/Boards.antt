@@ -11,7 +11,7 @@ use Rattle.sleep_model.specs.declared.place.AsyncWork.{AsyncWork}
 use Rattle.sleep_model.specs.declared.place.AsyncWork.TheVariants.{Idle}
 use Rattle.sleep_model.specs.Devices.{work_by}
 use Rattle.sleep_model.specs.Links.{first_places}
-use Rattle.sleep_model.specs.Order.{hanging, holding, order_by}
+use Rattle.sleep_model.specs.Order.{active_of, hanging, holding, order_by}
 use Rattle.sleep_model.specs.Stands.{stands_after, device_of, stand_at, is_unprepared, is_prepared, is_ready, is_unsettled, is_going_down, is_down_in, is_left_alone, is_low}
 use Rattle.sleep_model.specs.Walk.{is_so, first_where, last_where}
 
@@ -86,29 +86,29 @@ waits_up_on board p = first_where (λ d. is_low (stand_at (stands_on board p) d)
 -- the first device below d that is not through (dpm_wait_for_subordinate)
 abbrev pub waits_below_on : BoardState → Phase → ℕ → Option ℕ
 waits_below_on board p d =
-    first_where (λ e. is_unsettled (stand_at (stands_on board p) e)) (hanging board.parents board.links d)
+    first_where (λ e. is_unsettled (stand_at (stands_on board p) e)) (hanging board.parents (active_of board.links) d)
 
 -- the first device above d that is not yet up (dpm_wait_for_superior)
 abbrev pub waits_above_on : BoardState → Phase → ℕ → Option ℕ
 waits_above_on board p d =
-    first_where (λ e. is_low (stand_at (stands_on board p) e)) (holding board.parents board.links d)
+    first_where (λ e. is_low (stand_at (stands_on board p) e)) (holding board.parents (active_of board.links) d)
 
 -- how many devices below d are not through (dpm_wait_for_subordinate)
 abbrev pub open_below_on : BoardState → Phase → ℕ → ℕ
 open_below_on board p d =
     length (filter (λ e. is_unsettled (stand_at (stands_on board p) e))
-    (first_places (hanging board.parents board.links d)))
+    (first_places (hanging board.parents (active_of board.links) d)))
 
 -- how many devices above d are not yet up (dpm_wait_for_superior)
 abbrev pub open_above_on : BoardState → Phase → ℕ → ℕ
 open_above_on board p d =
     length (filter (λ e. is_low (stand_at (stands_on board p) e))
-    (first_places (holding board.parents board.links d)))
+    (first_places (holding board.parents (active_of board.links) d)))
 
 -- all devices below d are left alone (direct_complete)
 abbrev pub all_left_alone_on : BoardState → ℕ → Bool
 all_left_alone_on board d =
-    list_all (λ e. is_left_alone (stand_at board.suspend e)) (hanging board.parents board.links d)
+    list_all (λ e. is_left_alone (stand_at board.suspend e)) (hanging board.parents (active_of board.links) d)
 
 -- the work of its own of device d: a synchronous one has none (async_schedule_dev)
 abbrev pub work_on : BoardState → ℕ → AsyncWork

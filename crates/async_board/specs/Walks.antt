@@ -4,7 +4,7 @@ use Rattle.sleep_model.specs.declared.machine.Link.{Link}
 use Rattle.sleep_model.specs.declared.place.Stand.{Stand}
 use Rattle.sleep_model.specs.declared.place.Stand.TheVariants as stand
 use Rattle.sleep_model.specs.Links.{first_places}
-use Rattle.sleep_model.specs.Order.{hanging, holding, order_by}
+use Rattle.sleep_model.specs.Order.{active_of, hanging, holding, order_by}
 use Rattle.sleep_model.specs.Stands.{stand_at, is_unsettled, is_low}
 use Rattle.async_board.specs.Counts.{IsCount}
 use Rattle.async_board.specs.Cursors.{AreCursors}
@@ -28,13 +28,13 @@ failed_after _ before = before
 abbrev pub IsBelow : List (Option ℕ) → List Link → List Stand → List ℕ → Type 0
 IsBelow parents links stands counts =
     IsCount (length parents) (λ d. is_unsettled (stand_at stands d))
-    (λ d. first_places (hanging parents links d)) counts
+    (λ d. first_places (hanging parents (active_of links) d)) counts
 
 -- how many devices right above each are not yet up
 abbrev pub IsAbove : List (Option ℕ) → List Link → List Stand → List ℕ → Type 0
 IsAbove parents links stands counts =
     IsCount (length parents) (λ d. is_low (stand_at stands d))
-    (λ d. first_places (holding parents links d)) counts
+    (λ d. first_places (holding parents (active_of links) d)) counts
 
 -- the order that the links of a layout leave
 abbrev pub order_of : Layout → List ℕ

@@ -72,7 +72,8 @@ fn move_in(walk: &mut Walk, layout: &Layout, p: Phase, kind: Kind, device: u32)
 }
 
 impl Board {
-    ghost use Rattle.std.specs.Prelude.{◌≡◌, ◌<◌, IfOk, is_none, length};
+    ghost use Rattle.std.specs.Prelude.{◌≡◌, ◌<◌, IfOk, None, is_none, length};
+    ghost use Rattle.sleep_model.specs.Order.{links_added, links_set};
     ghost use Rattle.async_board.specs.Boards.{first_board, board_after, stands_on, order_on, next_prepared_on, next_completed_on, next_down_on, waits_down_on, next_given_on, next_up_on, waits_up_on, waits_below_on, waits_above_on, open_below_on, open_above_on, all_left_alone_on, work_on};
 
     /// A board over these links, on which no device is prepared; `beside` says for each device
@@ -114,6 +115,41 @@ impl Board {
         ensures { result.now ≡ record { parents = self.now.parents; links = self.now.links } }
     {
         &self.layout.links
+    }
+
+    // A board over other links of the same devices, on which no device is prepared.
+    fn over(&self, links: Links) -> Result<Board, Mem>
+        ensures { IfOk result (λ b. b ≡ first_board links.parents links.links self.now.beside) }
+    {
+        let beside = &self.layout.beside;
+        let alloc = *beside.allocator();
+        Board::wired(alloc, links, Vec::from_slice(alloc, beside)?)
+    }
+
+    /// A board with one link more, which is active, on which no device is prepared (`device_link_add`).
+    /// `Mem` if there is no memory for it, or where the link cannot be added.
+    pub fn with_link(&self, supplier: u32, consumer: u32) -> Result<Board, Mem>
+        ensures { IfOk result (λ b. b ≡ first_board self.now.parents
+            (links_added supplier consumer None self.now.links) self.now.beside) }
+    {
+        let mut links = self.layout.links.copy()?;
+        match links.add(supplier, consumer) {
+            Ok(()) => self.over(links),
+            Err(_) => Err(Mem),
+        }
+    }
+
+    /// A board with the state of a link set, on which no device is prepared (`struct device_link`,
+    /// `status`). `Mem` if there is no memory for it, or where there is no such link.
+    pub fn with_state(&self, supplier: u32, consumer: u32, active: bool) -> Result<Board, Mem>
+        ensures { IfOk result (λ b. b ≡ first_board self.now.parents
+            (links_set supplier consumer active None self.now.links) self.now.beside) }
+    {
+        let mut links = self.layout.links.copy()?;
+        match links.set_active(supplier, consumer, active) {
+            Ok(()) => self.over(links),
+            Err(_) => Err(Mem),
+        }
     }
 
     // The walk of a phase on the way down and its mirror.

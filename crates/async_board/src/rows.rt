@@ -2,7 +2,7 @@
 
 ghost use Rattle.std.specs.Prelude.{◌≡◌, ◌<◌, ◌==◌, length, slice_index, slice_index_or};
 ghost use Rattle.std.specs.List.{find, list_all};
-ghost use Rattle.sleep_model.specs.Order.{hanging, holding};
+ghost use Rattle.sleep_model.specs.Order.{active_of, hanging, holding};
 ghost use Rattle.sleep_model.specs.Stands.{stand_at, is_unsettled, is_low, is_left_alone};
 ghost use Rattle.sleep_model.specs.Walk.{first_where};
 
@@ -55,7 +55,7 @@ fn are_left_alone(stands: &[Stand], row: &[u32]) -> bool
 /// The first device right below one that is not through on the way down.
 pub(crate) fn first_unsettled(stands: &[Stand], links: &Links, device: u32) -> Option<u32>
     ensures { result ≡ first_where (λ e. is_unsettled (stand_at stands.now e))
-        (hanging links.now.parents links.now.links device) }
+        (hanging links.now.parents (active_of links.now.links) device) }
 {
     let row = links.below(device);
     find_unsettled(stands, row)
@@ -64,7 +64,7 @@ pub(crate) fn first_unsettled(stands: &[Stand], links: &Links, device: u32) -> O
 /// The first device right above one that is not yet up.
 pub(crate) fn first_low(stands: &[Stand], links: &Links, device: u32) -> Option<u32>
     ensures { result ≡ first_where (λ e. is_low (stand_at stands.now e))
-        (holding links.now.parents links.now.links device) }
+        (holding links.now.parents (active_of links.now.links) device) }
 {
     let row = links.above(device);
     find_low(stands, row)
@@ -73,7 +73,7 @@ pub(crate) fn first_low(stands: &[Stand], links: &Links, device: u32) -> Option<
 /// Whether all devices right below one are left alone.
 pub(crate) fn all_left_alone(stands: &[Stand], links: &Links, device: u32) -> bool
     ensures { result ≡ list_all (λ e. is_left_alone (stand_at stands.now e))
-        (hanging links.now.parents links.now.links device) }
+        (hanging links.now.parents (active_of links.now.links) device) }
 {
     let row = links.below(device);
     are_left_alone(stands, row)

@@ -1,7 +1,7 @@
 //! Where the devices stand in a pair of phases.
 
 ghost use Rattle.std.specs.Prelude.{◌≡◌, ◌<◌, ◌∷◌, ℕ, true, IfOk, length, replicate, slice_index, slice_set};
-ghost use Rattle.sleep_model.specs.Order.{is_among, hanging, holding, order_by};
+ghost use Rattle.sleep_model.specs.Order.{active_of, is_among, hanging, holding, order_by};
 ghost use Rattle.sleep_model.proofs.Walks.{AllDifferent};
 ghost use Rattle.sleep_model.specs.Links.{first_places};
 ghost use Rattle.sleep_model.specs.declared.place.Stand.TheVariants as stand;
@@ -56,7 +56,7 @@ pub(crate) fn places_of(alloc: Global, order: &[u32]) -> Result<Vec<usize>, Mem>
 // How many devices hang right below each.
 fn counts_below(alloc: Global, links: &Links) -> Result<Vec<usize>, Mem>
     ensures { IfOk result (λ v. IsLengths (length links.now.parents)
-        (λ d. first_places (hanging links.now.parents links.now.links d)) v.items) }
+        (λ d. first_places (hanging links.now.parents (active_of links.now.links) d)) v.items) }
 {
     let count = links.order().len();
     if count > u32::MAX as usize {

@@ -243,32 +243,32 @@ module _ (m : Machine) (past : List Entry) (time : ℕ) (now : EventNow) (who : 
   inside : (p q : Phase) (d : ℕ) (s : Stand) → callback past ≡ Some (record { phase = q; device = d }) → InsideIf m (callback past) s p (three m past) → at (three m past d) p ≡ s
   inside p q d s c h = (subst (λ (o : Option Callback). InsideIf m o s p (three m past)) c h).inside
 
-  pub devices_fall : ((d : ℕ) → is_among (order m) d ≡ true → d < length m.devices) → (there : Stage) (k : Kind) → Made m past now there k → FitsKind k → Standing m past (Some there) → Falls (is_of_device (payer k)) (devices_need m (prepares_if (stage_after k (Some there)) (is_some (phase_failed (with k)))) (with k)) (devices_need m (prepares_ahead there (is_some (phase_failed past))) past)
+  pub devices_fall : ((d : ℕ) → is_among (order m past) d ≡ true → d < length m.devices) → (there : Stage) (k : Kind) → Made m past now there k → FitsKind k → Standing m past (Some there) → Falls (is_of_device (payer k)) (devices_need m (prepares_if (stage_after k (Some there)) (is_some (phase_failed (with k)))) (with k)) (devices_need m (prepares_ahead there (is_some (phase_failed past))) past)
   devices_fall w _ _ (Made.Prepares d r f n) t h =
-      let g = first_found (λ x. is_unprepared (stand_in m past phase.Suspend x)) (order m) d n in
+      let g = first_found (λ x. is_unprepared (stand_in m past phase.Suspend x)) (order m past) d n in
       let all : not (is_some (phase_failed past)) ≡ true = ap (λ o. not (is_some o)) f in
       subst (λ (a : Bool). devices_need m (not (is_some (or_else (error_of_number r) (phase_failed past)))) (with (kind.Prepare d r)) + 1 ≤ devices_need m a past) (sym all)
       (prepares d r t (w d g.among) (unprepared_is (stand_in m past phase.Suspend d) g.passes))
   devices_fall w _ _ (Made.EndsDown p q d r i c) t h = ends_down p d r false false i refl (sym (at_is m past p d i) ∙ inside p q d stand.Suspending c h.1)
   devices_fall w _ _ (Made.SchedulesDown p d i c f n a) t h =
-      let g = last_found (λ x. is_ready (stand_in m past p x)) (order m) d n in
+      let g = last_found (λ x. is_ready (stand_in m past p x)) (order m past) d n in
       schedules_down p d false false i refl (ready_is (stand_in m past p d) g.passes)
   devices_fall w _ _ (Made.FindsDown p d i x e y) t h =
-      let g = last_found (λ z. is_ready (stand_in m past p z)) (order m) d x.next in
+      let g = last_found (λ z. is_ready (stand_in m past p z)) (order m past) d x.next in
       skips_down p d skip.Pending stand.Prepared false false i refl (ready_is (stand_in m past p d) g.passes) refl (omega arith)
   devices_fall w _ _ (Made.LeavesDown p d i x e y) t h =
-      let g = last_found (λ z. is_ready (stand_in m past p z)) (order m) d x.next in
+      let g = last_found (λ z. is_ready (stand_in m past p z)) (order m past) d x.next in
       skips_down p d skip.Direct stand.Prepared false false i refl (ready_is (stand_in m past p d) g.passes) refl (omega arith)
   devices_fall w _ _ (Made.BeginsDown p d i x e y) t h =
-      let g = last_found (λ z. is_ready (stand_in m past p z)) (order m) d x.next in
+      let g = last_found (λ z. is_ready (stand_in m past p z)) (order m past) d x.next in
       begins_down p d stand.Prepared false false i refl (ready_is (stand_in m past p d) g.passes) refl (omega arith)
   devices_fall w _ _ (Made.EndsUp p q d r i c) t h = ends_up p d r false false i refl (sym (at_is m past (mirror p) d (mirror_down p i)) ∙ inside (mirror p) q d stand.Resuming c h.1)
   devices_fall w _ _ (Made.SchedulesUp p d i c n) t h =
-      let g = first_found (λ x. is_down_in (stand_in m past (mirror p) x) && is_async_device m x) (order m) d n in
+      let g = first_found (λ x. is_down_in (stand_in m past (mirror p) x) && is_async_device m x) (order m past) d n in
       schedules_up p d false false i refl (down_is (stand_in m past (mirror p) d) (and_first (is_down_in (stand_in m past (mirror p) d)) (is_async_device m d) g.passes))
   devices_fall w _ _ (Made.BeginsUp p d i c x n y) t h =
-      let g = first_found (λ z. is_down_in (stand_in m past (mirror p) z) && not (is_async_device m z)) (order m) d n in
+      let g = first_found (λ z. is_down_in (stand_in m past (mirror p) z) && not (is_async_device m z)) (order m past) d n in
       begins_up p d stand.Suspended false false i refl (down_is (stand_in m past (mirror p) d) (and_first (is_down_in (stand_in m past (mirror p) d)) (not (is_async_device m d)) g.passes)) refl (omega arith)
-  devices_fall w _ _ (Made.Completes d n) t h = completes d (last_found (λ x. is_prepared (stand_in m past phase.Suspend x)) (order m) d n).passes
+  devices_fall w _ _ (Made.Completes d n) t h = completes d (last_found (λ x. is_prepared (stand_in m past phase.Suspend x)) (order m past) d n).passes
   devices_fall w _ _ Made.AsksBegin t h = devices_less m past true (not (is_some (phase_failed past))) (leads_true (not (is_some (phase_failed past))))
   devices_fall w there k _ t h = devices_less m past (prepares_ahead there (is_some (phase_failed past))) (prepares_if (stage_after k (Some there)) (is_some (phase_failed (with k)))) refl

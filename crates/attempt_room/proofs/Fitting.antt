@@ -1,5 +1,5 @@
 -- What acceptance tells: the devices of the order are the machine's, and a prepare that fails answers an error of ours.
-use Rattle.std.proofs.Common.{◌≡◌, ◌<◌, ◌∙◌, ℕ, ℤ, pos, negsuc, Bool, true, false, ◌&&◌, List, [], ◌∷◌, length, reverse, Option, Some, None, cond, refl, sym, ap, subst, arith}
+use Rattle.std.proofs.Common.{◌≡◌, ◌<◌, ◌∙◌, ℕ, ℤ, pos, negsuc, Bool, true, false, ◌&&◌, List, [], ◌∷◌, length, Option, Some, None, cond, refl, sym, ap, subst, arith}
 use Rattle.std.proofs.lemmas.List.{length-map}
 use Rattle.sleep_model.specs.declared.entry.Actor.{Actor}
 use Rattle.sleep_model.specs.declared.entry.Entry.{Entry}
@@ -20,17 +20,19 @@ use Rattle.sleep_model.specs.Answers.{answer, answer_for, answer_number, own_or,
 use Rattle.sleep_model.specs.Attempt.{attempt_due, due_at, or_next, stage_due}
 use Rattle.sleep_model.specs.Devices.{phase_failed, next_prepared, prepare_due}
 use Rattle.sleep_model.specs.Due.{due, own_due}
-use Rattle.sleep_model.specs.Order.{order, is_among, parents_of}
+use Rattle.sleep_model.specs.Legal.{JournalPart}
+use Rattle.sleep_model.specs.Order.{order, links_at, is_among, parents_of}
 use Rattle.sleep_model.specs.Path.{attempts, maker, is_actor}
 use Rattle.sleep_model.specs.Table.{stage_of, behind}
 use Rattle.sleep_model.proofs.Acyclic.{order_within}
+use Rattle.sleep_laws.proofs.Linking.{links_stand}
 use Rattle.sleep_laws.proofs.Made.{Made, Comes, AtOnce}
 use Rattle.attempt_room.proofs.Falling.{is_fit, FitsKind}
 
 -- the devices of an accepted machine's order are its own
-pub order_inside : (m : Machine) → IsAccepted m → (d : ℕ) → is_among (order m) d ≡ true → d < length m.devices
-order_inside m a d h =
-    let l : d < length (parents_of m.devices) = order_within (parents_of m.devices) a.parents (reverse m.links) a.links d h in
+pub order_inside : (m : Machine) → IsAccepted m → (past : List Entry) → JournalPart m past → (d : ℕ) → is_among (order m past) d ≡ true → d < length m.devices
+order_inside m a past j d h =
+    let l : d < length (parents_of m.devices) = order_within (parents_of m.devices) a.parents (links_at m past) (links_stand m a.scripts a.links past j) d h in
     let n : length (parents_of m.devices) ≡ length m.devices = length-map m.devices (λ x. x.parent) in
     omega (arith, l, n)
 

@@ -84,7 +84,7 @@ module _ (m : Machine) (past : List Entry) (h : JournalPart m past) where
     by_the_maker acc who here there k a e c x f =
         by_maker m past now k here there (λ s. needed_at m past s ≤ needed_at m past (stage_of past)) (λ s. needed_at m (entry_of time now who k ∷ past) s + 1 ≤ needed_at m past (stage_of past)) e c x
         (λ before. let less = comes_less m past here there c in omega (arith, before, less))
-        (λ before. let falls = maker_spends m past time now who (order_inside m acc) there k x f (standing_made m past h here there e c) in omega (arith, before, falls))
+        (λ before. let falls = maker_spends m past time now who (order_inside m acc past h) there k x f (standing_made m past h here there e c) in omega (arith, before, falls))
         (omega arith)
 
     spends_made : IsAccepted m → (who : Actor) (k : Kind) → due m past who now ≡ Makes k → is_actor who (maker past) ≡ true → EntryMade m past now who k → needed m (entry_of time now who k ∷ past) + 1 ≤ needed m past
@@ -165,7 +165,7 @@ module _ (m : Machine) (past : List Entry) (h : JournalPart m past) where
     made_none _ _ (Made.Notifies x e) n = true≢false (sym n)
     made_none _ _ _ n = true≢false (sym n)
 
-    aside_none : (k : Kind) → Aside k → is_attempt k ≡ true → ⊥
+    aside_none : (k : Kind) {s : Option Stage} → Aside s k → is_attempt k ≡ true → ⊥
     aside_none _ Aside.Frozen n = true≢false (sym n)
     aside_none _ _ n = true≢false (sym n)
 

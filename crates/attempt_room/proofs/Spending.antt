@@ -68,7 +68,7 @@ comes_less m past _ _ (PastPosts e) = omega arith
 
 module _ (m : Machine) (past : List Entry) (time : ℕ) (now : EventNow) where
   -- what the maker makes spends a place
-  pub maker_spends : (who : Actor) → ((d : ℕ) → is_among (order m) d ≡ true → d < length m.devices) → (there : Stage) (k : Kind) → Made m past now there k → FitsKind k → Standing m past (Some there) → needed_at m (entry_of time now who k ∷ past) (stage_after k (Some there)) + 1 ≤ needed_at m past (Some there)
+  pub maker_spends : (who : Actor) → ((d : ℕ) → is_among (order m past) d ≡ true → d < length m.devices) → (there : Stage) (k : Kind) → Made m past now there k → FitsKind k → Standing m past (Some there) → needed_at m (entry_of time now who k ∷ past) (stage_after k (Some there)) + 1 ≤ needed_at m past (Some there)
   maker_spends who inside there k x f h =
       let p : Payer = payer k in
       let most = at_most m (entry_of time now who k ∷ past) (stage_after k (Some there)) in

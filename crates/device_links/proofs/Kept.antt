@@ -1,6 +1,7 @@
 -- What is kept of links that are made and grow.
-use Rattle.std.proofs.Common.{◌≡◌, ◌<◌, ◌^◌, ◌∙◌, ℕ, Bool, true, false, not, List, [], ◌∷◌, ◌++◌, length, map, filter, get_or, slice_get, option_to_list, replicate, Option, Some, None, refl, sym, ap, subst, cond, arith}
+use Rattle.std.proofs.Common.{◌≡◌, ◌<◌, ◌≤◌, ◌+◌, ◌^◌, ◌∙◌, ◌==◌, ℕ, Bool, true, false, not, List, [], ◌∷◌, ◌++◌, length, map, filter, get_or, slice_get, option_to_list, replicate, Option, Some, None, refl, sym, ap, subst, cond, arith, length-append}
 use Rattle.std.specs.List.{range_with_len}
+use Rattle.std.proofs.lemmas.Bool.{eqb-true}
 use Rattle.std.proofs.lemmas.List.{append-nil, length-map, length-replicate}
 use Rattle.sleep_model.specs.declared.machine.Link.{Link}
 use Rattle.sleep_model.specs.Order.{is_among, is_parent, children_from, suppliers_of, parent_of, hanging, holding, EachAfterParent, moved, last_places, order_by}
@@ -8,10 +9,12 @@ use Rattle.sleep_model.specs.Links.{AreLinks, first_places}
 use Rattle.sleep_model.proofs.Hanging.{among_first, among_rest}
 use Rattle.sleep_model.proofs.Acyclic.{order_ranked, order_within, links_descend, hanging_within, others_same, moved_before}
 use Rattle.sleep_model.proofs.FirstPlaces.{first_places_push, first_children, first_parent, hanging_new, holding_new, holding_other, suppliers_new, suppliers_other, hangs_already, holds_already}
-use Rattle.device_rows.specs.Table.{Table, row_at, hung}
+use Rattle.device_rows.specs.Table.{Table, row_at, places_at, hung}
 use Rattle.device_links.specs.Walks.{IsWalkable, IsWalked, AreMarks}
-use Rattle.device_links.specs.Kept.{IsTableOf, IsKept}
+use Rattle.device_links.specs.Kept.{IsTableOf, IsKept, IsWhole, HavePlaces, near_below, near_above}
+use Rattle.device_links.specs.Passes.{is_left_out}
 use Rattle.device_links.specs.Adds.{IsOpen}
+use Rattle.device_links.proofs.Near.{below_none, above_none, below_here, below_other, above_here, above_other}
 use Rattle.device_links.proofs.RowsMade.{table_push, table_same, table_unless, parent_rows, empty_rows}
 
 -- without links
@@ -24,14 +27,14 @@ kept_new ps l after hangs below suppliers above order h b s a o = record {
   few = omega arith;
   linked = tt;
   all_hanging = table_same (length ps) (λ d. children_from d 0 ps) (hanging ps []) hangs h (λ d. append-nil (children_from d 0 ps));
-  once_below = table_same (length ps) (λ d. children_from d 0 ps) (λ d. first_places (hanging ps [] d)) below b (λ d. ap first_places (append-nil (children_from d 0 ps)) ∙ first_children d 0 ps);
+  once_below = table_same (length ps) (λ d. children_from d 0 ps) (near_below ps []) below b (λ d. below_none ps d);
   all_suppliers = record {
     count = ap length s ∙ length-replicate (length ps) [];
     each = λ d. ap (λ rows. get_or rows d []) s ∙ empty_rows (length ps) d;
   };
   once_above = record {
     count = ap length a ∙ length-map ps option_to_list;
-    each = λ d. ap (λ rows. get_or rows d []) a ∙ (parent_rows ps d ∙ sym (ap first_places (append-nil (parent_of (slice_get ps d))) ∙ first_parent ps d));
+    each = λ d. ap (λ rows. get_or rows d []) a ∙ (parent_rows ps d ∙ sym (above_none ps d));
   };
   ordered = o;
 }
@@ -61,28 +64,69 @@ by_marks n marks ds m (x ∷ xs) h =
 -- with one more link
 pub kept_more : (ps : List (Option ℕ)) (ls : List Link) (hangs below suppliers above : List (List ℕ)) (order : List ℕ) → IsKept ps ls hangs below suppliers above order
     → (l : Link) → IsOpen (record { parents = ps; links = ls }) l.supplier l.consumer → (found : List ℕ) (marks : List Bool) → IsWalked (length ps) (hanging ps ls) l.consumer l.supplier found marks
-    → (known : Bool) → known ≡ is_parent l.supplier (get_or ps l.consumer None)
-    → IsKept ps (l ∷ ls) (hung hangs (Some l.supplier) l.consumer) (cond known below (hung below (Some l.supplier) l.consumer)) (hung suppliers (Some l.consumer) l.supplier) (cond known above (hung above (Some l.consumer) l.supplier))
+    → (left_out : Bool) → left_out ≡ is_left_out ps l
+    → IsKept ps (l ∷ ls) (hung hangs (Some l.supplier) l.consumer) (cond left_out below (hung below (Some l.supplier) l.consumer)) (hung suppliers (Some l.consumer) l.supplier) (cond left_out above (hung above (Some l.consumer) l.supplier))
     (filter (λ d. not (get_or marks d false)) order ++ found)
-kept_more ps ls hangs below suppliers above order k l open' found marks w known is = record {
+kept_more ps ls hangs below suppliers above order k l open' found marks w left_out is = record {
   numbered = k.numbered;
   after = k.after;
   few = omega (arith, open'.few);
   linked = (open'.stand.0, open'.stand.1, open'.new, w.missing, k.linked);
   all_hanging = table_push (length ps) (hanging ps ls) (hanging ps (l ∷ ls)) hangs k.all_hanging l.supplier l.consumer open'.stand.0 (hanging_new ps l ls) (λ d e. others_same ps k.after l ls d e);
-  once_below = table_unless (length ps) (λ d. first_places (hanging ps ls d)) (λ d. first_places (hanging ps (l ∷ ls) d)) below k.once_below known l.supplier l.consumer open'.stand.0
-      (ap first_places (hanging_new ps l ls) ∙ (first_places_push (hanging ps ls l.supplier) l.consumer ∙ ap (λ b. cond b (first_places (hanging ps ls l.supplier)) (first_places (hanging ps ls l.supplier) ++ l.consumer ∷ [])) (hangs_already ps ls l.supplier l.consumer open'.stand.1 open'.new ∙ sym is)))
-      (λ d e. ap first_places (others_same ps k.after l ls d e));
+  once_below = table_unless (length ps) (near_below ps ls) (near_below ps (l ∷ ls)) below k.once_below left_out l.supplier l.consumer open'.stand.0
+      (below_here ps l ls open'.stand.1 open'.new ∙ ap (λ b. cond b (near_below ps ls l.supplier) (near_below ps ls l.supplier ++ l.consumer ∷ [])) (sym is))
+      (λ d e. below_other ps l ls d e);
   all_suppliers = table_push (length ps) (λ d. suppliers_of d ls) (λ d. suppliers_of d (l ∷ ls)) suppliers k.all_suppliers l.consumer l.supplier open'.stand.1 (suppliers_new l ls) (λ d e. suppliers_other l ls d e);
-  once_above = table_unless (length ps) (λ d. first_places (holding ps ls d)) (λ d. first_places (holding ps (l ∷ ls) d)) above k.once_above known l.consumer l.supplier open'.stand.1
-      (ap first_places (holding_new ps l ls) ∙ (first_places_push (holding ps ls l.consumer) l.supplier ∙ ap (λ b. cond b (first_places (holding ps ls l.consumer)) (first_places (holding ps ls l.consumer) ++ l.supplier ∷ [])) (holds_already ps ls l.supplier l.consumer open'.new ∙ sym is)))
-      (λ d e. ap first_places (holding_other ps l ls d e));
+  once_above = table_unless (length ps) (near_above ps ls) (near_above ps (l ∷ ls)) above k.once_above left_out l.consumer l.supplier open'.stand.1
+      (above_here ps l ls open'.new ∙ ap (λ b. cond b (near_above ps ls l.consumer) (near_above ps ls l.consumer ++ l.supplier ∷ [])) (sym is))
+      (λ d e. above_other ps l ls d e);
   ordered =
       ap (λ xs. filter (λ d. not (get_or marks d false)) xs ++ found) k.ordered
       ∙ (ap (λ xs. xs ++ found) (by_marks (length ps) marks (moved (length ps) (hanging ps ls) l.consumer) w.marked (order_by ps ls) (order_within ps k.after ls k.linked))
       ∙ (ap (λ xs. filter (λ d. not (is_among (moved (length ps) (hanging ps ls) l.consumer) d)) (order_by ps ls) ++ xs) w.places
       ∙ ap (λ m. filter (λ d. not (is_among m d)) (order_by ps ls) ++ last_places m) (sym (moved_before ps k.after l ls w.missing))));
 }
+
+-- the places, where the tables have no fewer
+pub places_new : (ps : List (Option ℕ)) (below above : Table) → IsTableOf (length ps) (near_below ps []) below.rows → IsTableOf (length ps) (near_above ps []) above.rows → HavePlaces ps [] below above
+places_new ps below above b a = record {
+  below = λ d. let e = ap length (b.each d ∙ below_none ps d ∙ sym (append-nil (children_from d 0 ps))) in omega (arith, e);
+  above = λ d. let e = ap length (a.each d ∙ above_none ps d ∙ sym (append-nil (parent_of (slice_get ps d)))) in omega (arith, e);
+}
+
+-- and with one more link, where the rows of its ends have places for all that they may hold
+pub places_more : (ps : List (Option ℕ)) → EachAfterParent 0 ps → (l : Link) (ls : List Link) (below above below' above' : Table) → HavePlaces ps ls below above
+    → ((d : ℕ) → places_at below d ≤ places_at below' d) → length (hanging ps (l ∷ ls) l.supplier) ≤ places_at below' l.supplier
+    → ((d : ℕ) → places_at above d ≤ places_at above' d) → length (holding ps (l ∷ ls) l.consumer) ≤ places_at above' l.consumer
+    → HavePlaces ps (l ∷ ls) below' above'
+places_more ps after l ls below above below' above' h b s a c = record {
+  below = λ d. by_supplier d (l.supplier == d) refl;
+  above = λ d. by_consumer d (l.consumer == d) refl;
+}
+  where
+    by_supplier : (d : ℕ) (t : Bool) → (l.supplier == d) ≡ t → length (hanging ps (l ∷ ls) d) ≤ places_at below' d
+    by_supplier d true e = subst (λ (x : ℕ). length (hanging ps (l ∷ ls) x) ≤ places_at below' x) (eqb-true l.supplier d e) s
+    by_supplier d false e = let same = ap length (others_same ps after l ls d e) in let had = h.below d in let more = b d in omega (arith, same, had, more)
+
+    by_consumer : (d : ℕ) (t : Bool) → (l.consumer == d) ≡ t → length (holding ps (l ∷ ls) d) ≤ places_at above' d
+    by_consumer d true e = subst (λ (x : ℕ). length (holding ps (l ∷ ls) x) ≤ places_at above' x) (eqb-true l.consumer d e) c
+    by_consumer d false e = let same = ap length (holding_other ps l ls d e) in let had = h.above d in let more = a d in omega (arith, same, had, more)
+
+-- what hangs below the supplier, and stands above the consumer, counted by the tables
+pub hanging_count : (ps : List (Option ℕ)) (l : Link) (ls : List Link) → length (hanging ps (l ∷ ls) l.supplier) ≡ length (hanging ps ls l.supplier) + 1
+hanging_count ps l ls = ap length (hanging_new ps l ls) ∙ length-append (hanging ps ls l.supplier) (l.consumer ∷ [])
+
+pub holding_count : (ps : List (Option ℕ)) (l : Link) (ls : List Link) → length (holding ps (l ∷ ls) l.consumer) ≤ length (suppliers_of l.consumer ls) + 2
+holding_count ps l ls =
+    let whole = ap length (holding_new ps l ls) ∙ length-append (holding ps ls l.consumer) (l.supplier ∷ []) in
+    let parts = length-append (parent_of (slice_get ps l.consumer)) (suppliers_of l.consumer ls) in
+    let one = one_parent (slice_get ps l.consumer) in
+    omega (arith, whole, parts, one)
+  where
+    one_parent : (o : Option (Option ℕ)) → length (parent_of o) ≤ 1
+    one_parent None = omega arith
+    one_parent (Some None) = omega arith
+    one_parent (Some (Some p)) = omega arith
 
 pub kept_as : {ps qs : List (Option ℕ)} {ls ms : List Link} {h i b c s t a e : List (List ℕ)} {o p : List ℕ} → ps ≡ qs → ls ≡ ms → h ≡ i → b ≡ c → s ≡ t → a ≡ e → o ≡ p → IsKept ps ls h b s a o → IsKept qs ms i c t e p
 kept_as {ps} {qs} {ls} {ms} {h} {i} {b} {c} {s} {t} {a} {e} {o} {p} w1 w2 w3 w4 w5 w6 w7 k =
@@ -93,3 +137,7 @@ kept_as {ps} {qs} {ls} {ms} {h} {i} {b} {c} {s} {t} {a} {e} {o} {p} w1 w2 w3 w4 
     (subst (λ (x : List (List ℕ)). IsKept ps ls h b x e p) w5
     (subst (λ (x : List (List ℕ)). IsKept ps ls h b s x p) w6
     (subst (λ (x : List ℕ). IsKept ps ls h b s a x) w7 k))))))
+
+pub whole_as : {ps qs : List (Option ℕ)} {ls ms : List Link} {h : List (List ℕ)} {b : Table} {s : List (List ℕ)} {a : Table} {o : List ℕ} → ps ≡ qs → ls ≡ ms → IsWhole ps ls h b s a o → IsWhole qs ms h b s a o
+whole_as {ps} {qs} {ls} {ms} {h} {b} {s} {a} {o} w1 w2 k =
+    subst (λ (x : List (Option ℕ)). IsWhole x ms h b s a o) w1 (subst (λ (x : List Link). IsWhole ps x h b s a o) w2 k)

@@ -1,8 +1,13 @@
 mod Acyclicly
+mod InPlace
 mod Kept
+mod Near
+mod Refilling
 mod RowsMade
 mod Ordered
 mod Passing
+mod Setting
+mod Spreading
 mod Tabulating
 mod Visiting
 mod Walking

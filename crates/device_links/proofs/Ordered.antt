@@ -102,7 +102,7 @@ module _ (ps : List (Option ℕ)) (ls : List Link) (t : Table) (h : IsTableOf (l
 
 -- ---- where no links are made
 
-linked_apart : (ps : List (Option ℕ)) (ls : List Link) → AreLinks ps ls → AreApart ps ls
+pub linked_apart : (ps : List (Option ℕ)) (ls : List Link) → AreLinks ps ls → AreApart ps ls
 linked_apart ps [] h = tt
 linked_apart ps (l ∷ ls) h = (h.0, h.1, h.2, linked_apart ps ls h.4)
 

@@ -1,5 +1,5 @@
 -- The tables of links that are made at once.
-use Rattle.std.proofs.Common.{◌≡◌, ◌<◌, ◌≤◌, ◌+◌, ◌^◌, ◌∙◌, ℕ, Bool, true, false, not, ◌==◌, List, [], ◌∷◌, ◌++◌, length, map, take, drop, reverse, get_or, option_to_list, replicate, Option, Some, None, refl, sym, ap, subst, cond, arith}
+use Rattle.std.proofs.Common.{◌≡◌, ◌<◌, ◌≤◌, ◌+◌, ◌^◌, ◌∙◌, ℕ, Bool, true, false, not, ◌==◌, List, [], ◌∷◌, ◌++◌, length, map, take, drop, reverse, get_or, option_to_list, replicate, Option, Some, None, refl, sym, ap, subst, cond, arith, length-append}
 use Rattle.std.specs.List.{range_with_len}
 use Rattle.std.proofs.lemmas.List.{take_more, take-append-drop, reverse-append}
 use Rattle.std.proofs.lemmas.Bool.{true≢false}
@@ -7,12 +7,13 @@ use Rattle.sleep_model.specs.declared.machine.Link.{Link}
 use Rattle.sleep_model.specs.Order.{is_among, is_parent, children_from, suppliers_of, hanging, holding, EachAfterParent}
 use Rattle.sleep_model.specs.Links.{first_places, is_linked}
 use Rattle.sleep_model.proofs.Acyclic.{others_same}
-use Rattle.sleep_model.proofs.FirstPlaces.{first_places_push, hanging_new, holding_new, holding_other, suppliers_new, suppliers_other, suppliers_linked, hangs_already, holds_already}
+use Rattle.sleep_model.proofs.FirstPlaces.{hanging_new, suppliers_new, suppliers_other, suppliers_linked}
 use Rattle.device_rows.specs.Table.{Table, row_at, hung}
 use Rattle.device_links.specs.declared.at_once.Tables.{Tables}
-use Rattle.device_links.specs.Kept.{IsTableOf}
-use Rattle.device_links.specs.Passes.{AreApart, AreTables, HaveRows, IsHung, IsNew, Tells}
-use Rattle.device_links.proofs.Kept.{kept_new}
+use Rattle.device_links.specs.Kept.{IsTableOf, near_below, near_above}
+use Rattle.device_links.specs.Passes.{AreApart, AreTables, HaveRows, IsHung, IsNew, Tells, is_left_out}
+use Rattle.device_links.proofs.Kept.{kept_new, places_new, places_more, holding_count}
+use Rattle.device_links.proofs.Near.{below_here, below_other, above_here, above_other}
 use Rattle.device_links.proofs.RowsMade.{table_push, table_same, table_unless}
 
 -- without links
@@ -20,7 +21,7 @@ pub tables_new : (ps : List (Option ℕ)) → length ps < 2 ^ 32 → EachAfterPa
     → IsTableOf (length ps) (λ d. children_from d 0 ps) t.hanging.rows → IsTableOf (length ps) (λ d. children_from d 0 ps) t.below.rows → t.suppliers.rows ≡ replicate (length ps) [] → t.above.rows ≡ map option_to_list ps → AreTables ps [] t
 tables_new ps l after t h b s a =
     let k = kept_new ps l after t.hanging.rows t.below.rows t.suppliers.rows t.above.rows (range_with_len 0 (length ps)) h b s a refl in
-    record { all_hanging = k.all_hanging; once_below = k.once_below; all_suppliers = k.all_suppliers; once_above = k.once_above }
+    record { all_hanging = k.all_hanging; once_below = k.once_below; all_suppliers = k.all_suppliers; once_above = k.once_above; places = places_new ps t.below t.above k.once_below k.once_above }
 
 pub rows_of : (ps : List (Option ℕ)) (ls : List Link) (t : Tables) → AreTables ps ls t → HaveRows (length ps) t
 rows_of ps ls t h = record { hanging = h.all_hanging.count; below = h.once_below.count; suppliers = h.all_suppliers.count; above = h.once_above.count }
@@ -40,26 +41,31 @@ new_of ps ls t h l a = record { supplier = a.0; consumer = a.1; new = stands_as 
 -- with one more link
 pub tables_more : (ps : List (Option ℕ)) → EachAfterParent 0 ps → (ls : List Link) (old new : Tables) → AreTables ps ls old → (l : Link) → AreApart ps (l ∷ ls) → IsHung ps l old new → AreTables ps (l ∷ ls) new
 tables_more ps after ls old new k l apart u = record {
-  all_hanging =
-      subst (IsTableOf (length ps) (hanging ps (l ∷ ls))) (sym u.hanging)
-      (table_push (length ps) (hanging ps ls) (hanging ps (l ∷ ls)) old.hanging.rows k.all_hanging l.supplier l.consumer apart.0 (hanging_new ps l ls) (λ d e. others_same ps after l ls d e));
+  all_hanging = hangs;
   once_below =
-      subst (IsTableOf (length ps) (λ d. first_places (hanging ps (l ∷ ls) d))) (sym u.below)
-      (table_unless (length ps) (λ d. first_places (hanging ps ls d)) (λ d. first_places (hanging ps (l ∷ ls) d)) old.below.rows k.once_below known l.supplier l.consumer apart.0
-      (ap first_places (hanging_new ps l ls) ∙ (first_places_push (hanging ps ls l.supplier) l.consumer ∙ ap (λ b. cond b (first_places (hanging ps ls l.supplier)) (first_places (hanging ps ls l.supplier) ++ l.consumer ∷ [])) (hangs_already ps ls l.supplier l.consumer apart.1 apart.2)))
-      (λ d e. ap first_places (others_same ps after l ls d e)));
-  all_suppliers =
-      subst (IsTableOf (length ps) (λ d. suppliers_of d (l ∷ ls))) (sym u.suppliers)
-      (table_push (length ps) (λ d. suppliers_of d ls) (λ d. suppliers_of d (l ∷ ls)) old.suppliers.rows k.all_suppliers l.consumer l.supplier apart.1 (suppliers_new l ls) (λ d e. suppliers_other l ls d e));
+      subst (IsTableOf (length ps) (near_below ps (l ∷ ls))) (sym u.below.rows)
+      (table_unless (length ps) (near_below ps ls) (near_below ps (l ∷ ls)) old.below.rows k.once_below (is_left_out ps l) l.supplier l.consumer apart.0
+      (below_here ps l ls apart.1 apart.2) (λ d e. below_other ps l ls d e));
+  all_suppliers = supplies;
   once_above =
-      subst (IsTableOf (length ps) (λ d. first_places (holding ps (l ∷ ls) d))) (sym u.above)
-      (table_unless (length ps) (λ d. first_places (holding ps ls d)) (λ d. first_places (holding ps (l ∷ ls) d)) old.above.rows k.once_above known l.consumer l.supplier apart.1
-      (ap first_places (holding_new ps l ls) ∙ (first_places_push (holding ps ls l.consumer) l.supplier ∙ ap (λ b. cond b (first_places (holding ps ls l.consumer)) (first_places (holding ps ls l.consumer) ++ l.supplier ∷ [])) (holds_already ps ls l.supplier l.consumer apart.2)))
-      (λ d e. ap first_places (holding_other ps l ls d e)));
+      subst (IsTableOf (length ps) (near_above ps (l ∷ ls))) (sym u.above.rows)
+      (table_unless (length ps) (near_above ps ls) (near_above ps (l ∷ ls)) old.above.rows k.once_above (is_left_out ps l) l.consumer l.supplier apart.1
+      (above_here ps l ls apart.2) (λ d e. above_other ps l ls d e));
+  places =
+      places_more ps after l ls old.below old.above new.below new.above k.places u.below.kept
+      (let made = u.below.made in let is = ap length (hangs.each l.supplier) in omega (arith, made, is)) u.above.kept
+      (let made = u.above.made in let is = ap length (supplies.each l.consumer ∙ suppliers_new l ls) ∙ length-append (suppliers_of l.consumer ls) (l.supplier ∷ []) in let most = holding_count ps l ls in omega (arith, made, is, most));
 }
   where
-    known : Bool
-    known = is_parent l.supplier (get_or ps l.consumer None)
+    hangs : IsTableOf (length ps) (hanging ps (l ∷ ls)) new.hanging.rows
+    hangs =
+        subst (IsTableOf (length ps) (hanging ps (l ∷ ls))) (sym u.hanging)
+        (table_push (length ps) (hanging ps ls) (hanging ps (l ∷ ls)) old.hanging.rows k.all_hanging l.supplier l.consumer apart.0 (hanging_new ps l ls) (λ d e. others_same ps after l ls d e))
+
+    supplies : IsTableOf (length ps) (λ d. suppliers_of d (l ∷ ls)) new.suppliers.rows
+    supplies =
+        subst (IsTableOf (length ps) (λ d. suppliers_of d (l ∷ ls))) (sym u.suppliers)
+        (table_push (length ps) (λ d. suppliers_of d ls) (λ d. suppliers_of d (l ∷ ls)) old.suppliers.rows k.all_suppliers l.consumer l.supplier apart.1 (suppliers_new l ls) (λ d e. suppliers_other l ls d e))
 
 -- the links up to number i with the next one, the newest first
 pub newest : (links : List Link) (i : ℕ) (l : Link) → i < length links → l ≡ get_or links i l → reverse (take (i + 1) links) ≡ l ∷ reverse (take i links)
@@ -88,7 +94,7 @@ with_next ps after links i l within at old new h n u =
 
 -- what is read past the end
 abbrev pub no_link : Link
-no_link = record { supplier = 0; consumer = 0 }
+no_link = record { supplier = 0; consumer = 0; active = false }
 
 pub tells_new : (n : ℕ) (t : Table) (l : Link) → l.supplier < n → l.consumer < n → (r : Bool) → r ≡ is_among (row_at t l.consumer) l.supplier → Tells (not r) (IsNew n t l)
 tells_new n t l s c true e = λ new. true≢false (e ∙ new.new)

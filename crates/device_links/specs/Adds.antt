@@ -1,6 +1,7 @@
--- What is answered where a link is added.
-use Rattle.std.specs.Prelude.{◌≡◌, ◌≤◌, ◌<◌, ◌⊎◌, ℕ, true, false, List, length, Option, Some, None, Result, Ok, Err}
-use Rattle.sleep_model.specs.Order.{hanging}
+-- What is answered where a link is added, or its state set.
+use Rattle.std.specs.Prelude.{◌≡◌, ◌≤◌, ◌<◌, ◌⊎◌, ℕ, Bool, true, false, List, ◌∷◌, length, map, Option, Some, None, Result, Ok, Err}
+use Rattle.sleep_model.specs.declared.machine.Link.{Link}
+use Rattle.sleep_model.specs.Order.{hanging, with_state}
 use Rattle.sleep_model.specs.Links.{IsPath, is_linked}
 use Rattle.device_links.specs.declared.fault.LinkFault.{LinkFault}
 use Rattle.device_links.specs.declared.fault.LinkFault.TheVariants as fault
@@ -26,6 +27,7 @@ Refuses l supplier consumer None = IsOpen l supplier consumer
 Refuses l supplier consumer (Some fault.NoDevice) = (length l.parents ≤ supplier) ⊎ (length l.parents ≤ consumer)
 Refuses l supplier consumer (Some fault.TooMany) = Stand l supplier consumer × (4000 ≤ length l.links)
 Refuses l supplier consumer (Some fault.Twice) = Stand l supplier consumer × (length l.links < 4000) × (is_linked l.links supplier consumer ≡ true)
+Refuses l supplier consumer (Some fault.NoLink) = ⊥
 Refuses l supplier consumer (Some (fault.Cycle path)) = ⊥
 Refuses l supplier consumer (Some fault.Mem) = ⊥
 
@@ -35,3 +37,25 @@ Adds l supplier consumer (Ok done) = IsOpen l supplier consumer × ((path : List
 Adds l supplier consumer (Err (fault.Cycle path)) = IsOpen l supplier consumer × Closes l supplier consumer path
 Adds l supplier consumer (Err fault.Mem) = IsOpen l supplier consumer
 Adds l supplier consumer (Err f) = Refuses l supplier consumer (Some f)
+
+-- ---- states
+
+-- links with one more, the newest (device_link_add)
+abbrev pub with_link : Linked → Link → Linked
+with_link l link = record l { links = link ∷ l.links }
+
+-- links with the state of one of them set (struct device_link, status)
+abbrev pub with_set : Linked → ℕ → ℕ → Bool → Linked
+with_set l supplier consumer active = record l { links = map (with_state supplier consumer active) l.links }
+
+-- why a link's state is not set, in the order of the tests; none: that link stands
+abbrev pub Lacks : Linked → ℕ → ℕ → Option LinkFault → Type 0
+Lacks l supplier consumer None = Stand l supplier consumer × (is_linked l.links supplier consumer ≡ true)
+Lacks l supplier consumer (Some fault.NoDevice) = (length l.parents ≤ supplier) ⊎ (length l.parents ≤ consumer)
+Lacks l supplier consumer (Some fault.NoLink) = Stand l supplier consumer × (is_linked l.links supplier consumer ≡ false)
+Lacks l supplier consumer (Some f) = ⊥
+
+-- the answer where a link's state is set: done, or a fault, each exactly where it comes; it takes no memory
+abbrev pub Sets : Linked → ℕ → ℕ → Result (Unit {0}) LinkFault → Type 0
+Sets l supplier consumer (Ok done) = Lacks l supplier consumer None
+Sets l supplier consumer (Err f) = Lacks l supplier consumer (Some f)

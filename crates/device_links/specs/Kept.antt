@@ -1,13 +1,35 @@
 -- What is kept of links.
-use Rattle.std.specs.Prelude.{◌≡◌, ◌≤◌, ◌<◌, ◌^◌, ℕ, List, [], length, slice_index_or, Option}
+use Rattle.std.specs.Prelude.{◌≡◌, ◌≤◌, ◌<◌, ◌^◌, ℕ, Bool, not, ◌==◌, ◌&&◌, List, [], length, slice_index_or, Option, None}
 use Rattle.sleep_model.specs.declared.machine.Link.{Link}
-use Rattle.sleep_model.specs.Order.{EachAfterParent, hanging, holding, suppliers_of, order_by}
+use Rattle.sleep_model.specs.Order.{EachAfterParent, is_parent, active_of, hanging, holding, suppliers_of, order_by}
 use Rattle.sleep_model.specs.Links.{AreLinks, first_places}
+use Rattle.device_rows.specs.Table.{Table, places_at}
 
 -- n rows, each as f tells
 pub record IsTableOf (n : ℕ) (f : ℕ → List ℕ) (rows : List (List ℕ)) : Type 0 where
   pub count : length rows ≡ n
   pub each : (d : ℕ) → slice_index_or rows d [] ≡ f d
+
+-- what must sleep before d does, by the links that are active, each once (dpm_wait_for_subordinate)
+abbrev pub near_below : List (Option ℕ) → List Link → ℕ → List ℕ
+near_below parents links d = first_places (hanging parents (active_of links) d)
+
+-- what must be awake before d is, by the links that are active, each once (dpm_wait_for_superior)
+abbrev pub near_above : List (Option ℕ) → List Link → ℕ → List ℕ
+near_above parents links d = first_places (holding parents (active_of links) d)
+
+-- a link shows its consumer below that device: it is active, and the consumer is no child, which stands there already
+abbrev pub is_shown_below : List (Option ℕ) → Link → ℕ → Bool
+is_shown_below parents l d = l.active && l.supplier == d && not (is_parent d (slice_index_or parents l.consumer None))
+
+-- a link shows its supplier above that device: it is active, and the supplier is not the parent, which stands there already
+abbrev pub is_shown_above : List (Option ℕ) → Link → ℕ → Bool
+is_shown_above parents l d = l.active && l.consumer == d && not (is_parent l.supplier (slice_index_or parents d None))
+
+-- the rows have places for all that may come to stand there, were every link active
+pub record HavePlaces (parents : List (Option ℕ)) (links : List Link) (seen_below seen_above : Table) : Type 0 where
+  pub below : (d : ℕ) → length (hanging parents links d) ≤ places_at seen_below d
+  pub above : (d : ℕ) → length (holding parents links d) ≤ places_at seen_above d
 
 -- the tables and the order are those of the parents and the links
 pub record IsKept (parents : List (Option ℕ)) (links : List Link) (hangs below suppliers above : List (List ℕ)) (order : List ℕ) : Type 0 where
@@ -16,7 +38,12 @@ pub record IsKept (parents : List (Option ℕ)) (links : List Link) (hangs below
   pub few : length links ≤ 4000
   pub linked : AreLinks parents links
   pub all_hanging : IsTableOf (length parents) (hanging parents links) hangs
-  pub once_below : IsTableOf (length parents) (λ d. first_places (hanging parents links d)) below
+  pub once_below : IsTableOf (length parents) (near_below parents links) below
   pub all_suppliers : IsTableOf (length parents) (λ d. suppliers_of d links) suppliers
-  pub once_above : IsTableOf (length parents) (λ d. first_places (holding parents links d)) above
+  pub once_above : IsTableOf (length parents) (near_above parents links) above
   pub ordered : order ≡ order_by parents links
+
+-- all that is kept
+pub record IsWhole (parents : List (Option ℕ)) (links : List Link) (hangs : List (List ℕ)) (below : Table) (suppliers : List (List ℕ)) (above : Table) (order : List ℕ) : Type 0 where
+  pub kept : IsKept parents links hangs below.rows suppliers above.rows order
+  pub places : HavePlaces parents links below above

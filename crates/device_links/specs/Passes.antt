@@ -1,12 +1,12 @@
 -- Links that are made at once: their tables, and one walk after another over what hangs below.
-use Rattle.std.specs.Prelude.{◌≡◌, ◌≤◌, ◌<◌, ◌++◌, ℕ, Bool, true, false, not, List, [], ◌∷◌, length, filter, reverse, flat_map, slice_index_or, if◌then◌else◌, Option, Some, None}
+use Rattle.std.specs.Prelude.{◌≡◌, ◌≤◌, ◌<◌, ◌+◌, ◌++◌, ◌||◌, ℕ, Bool, true, false, not, List, [], ◌∷◌, length, filter, reverse, flat_map, slice_index_or, if◌then◌else◌, Option, Some, None}
 use Rattle.sleep_model.specs.declared.machine.Link.{Link}
 use Rattle.sleep_model.specs.Order.{is_among, is_parent, hanging, holding, suppliers_of, last_places, moved, order_by}
 use Rattle.sleep_model.specs.Links.{AreLinks, IsOrder, first_places, is_linked}
-use Rattle.device_rows.specs.Table.{Table, row_at, hung}
+use Rattle.device_rows.specs.Table.{Table, row_at, places_at, hung}
 use Rattle.device_links.specs.declared.at_once.Tables.{Tables}
 use Rattle.device_links.specs.declared.visits.Visits.{Visits}
-use Rattle.device_links.specs.Kept.{IsTableOf}
+use Rattle.device_links.specs.Kept.{IsTableOf, near_below, near_above, HavePlaces}
 use Rattle.device_links.specs.Linked.{Linked}
 use Rattle.device_links.specs.Walks.{AreMarks}
 
@@ -43,9 +43,10 @@ Tells false P = P → ⊥
 -- the tables are those of the parents and the links
 pub record AreTables (parents : List (Option ℕ)) (links : List Link) (t : Tables) : Type 0 where
   pub all_hanging : IsTableOf (length parents) (hanging parents links) t.hanging.rows
-  pub once_below : IsTableOf (length parents) (λ d. first_places (hanging parents links d)) t.below.rows
+  pub once_below : IsTableOf (length parents) (near_below parents links) t.below.rows
   pub all_suppliers : IsTableOf (length parents) (λ d. suppliers_of d links) t.suppliers.rows
-  pub once_above : IsTableOf (length parents) (λ d. first_places (holding parents links d)) t.above.rows
+  pub once_above : IsTableOf (length parents) (near_above parents links) t.above.rows
+  pub places : HavePlaces parents links t.below t.above
 
 -- each table has so many rows
 pub record HaveRows (n : ℕ) (t : Tables) : Type 0 where
@@ -54,12 +55,22 @@ pub record HaveRows (n : ℕ) (t : Tables) : Type 0 where
   pub suppliers : length t.suppliers.rows ≡ n
   pub above : length t.above.rows ≡ n
 
--- the tables with one more link; what is known below and above already is not put there again
+-- a number is put at the end of a row, or left out, and the row has places for so many
+pub record IsNear (left_out : Bool) (row number count : ℕ) (old new : Table) : Type 0 where
+  pub rows : new.rows ≡ (if left_out then old.rows else hung old.rows (Some row) number)
+  pub kept : (d : ℕ) → places_at old d ≤ places_at new d
+  pub made : count ≤ places_at new row
+
+-- a link is put neither below nor above: it is dormant, or between a parent and its child
+abbrev pub is_left_out : List (Option ℕ) → Link → Bool
+is_left_out parents l = not l.active || is_parent l.supplier (slice_index_or parents l.consumer None)
+
+-- the tables with one more link; what is left out is not put there, but has its places
 pub record IsHung (parents : List (Option ℕ)) (l : Link) (old new : Tables) : Type 0 where
   pub hanging : new.hanging.rows ≡ hung old.hanging.rows (Some l.supplier) l.consumer
   pub suppliers : new.suppliers.rows ≡ hung old.suppliers.rows (Some l.consumer) l.supplier
-  pub below : new.below.rows ≡ (if is_parent l.supplier (slice_index_or parents l.consumer None) then old.below.rows else hung old.below.rows (Some l.supplier) l.consumer)
-  pub above : new.above.rows ≡ (if is_parent l.supplier (slice_index_or parents l.consumer None) then old.above.rows else hung old.above.rows (Some l.consumer) l.supplier)
+  pub below : IsNear (is_left_out parents l) l.supplier l.consumer (length (row_at new.hanging l.supplier) + 2) old.below new.below
+  pub above : IsNear (is_left_out parents l) l.consumer l.supplier (length (row_at new.suppliers l.consumer) + 2) old.above new.above
 
 -- the tables of all these links, or one of them stands twice or between others than the devices
 abbrev pub Tabulates : List (Option ℕ) → List Link → Option Tables → Type 0

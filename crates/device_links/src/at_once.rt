@@ -2,9 +2,9 @@
 
 ghost use Rattle.std.specs.Prelude.{◌≡◌, ◌<◌, ◌^◌, [], IfOk, OnOk, length, reverse};
 ghost use Rattle.sleep_model.specs.Order.{EachAfterParent};
-ghost use Rattle.device_links.specs.Passes.{AreTables, HaveRows, IsHung, IsNew, Tabulates, Tells};
+ghost use Rattle.device_links.specs.Passes.{AreTables, HaveRows, IsHung, IsNear, IsNew, Tabulates, Tells};
 
-use crate::tables::{children_of, hang, is_parent, parents_of};
+use crate::tables::{children_of, hang, is_left_out, parents_of, places_for};
 use device_rows::Rows;
 use sleep_base::Mem;
 use sleep_model::Link;
@@ -43,6 +43,25 @@ fn is_new(count: usize, suppliers: &Rows, link: Link) -> bool
     !suppliers.row(link.consumer).contains(&link.supplier)
 }
 
+// Puts a number at the end of a row, unless it is left out, and gives the row places for so many.
+fn hang_near(
+    table: &mut Rows,
+    left_out: bool,
+    row: u32,
+    number: u32,
+    count: usize,
+) -> Result<(), Mem>
+    requires { row < length table.old.rows }
+    ensures { OnOk result (IsNear left_out row number count table.old table.new) }
+{
+    table.make_places(row, count)?;
+    if !left_out {
+        table.make_room(row)?;
+        table.push(row, number);
+    }
+    Ok(())
+}
+
 // Puts a link behind the others.
 fn hang_link(parents: &[Option<u32>], tables: &mut Tables, link: Link) -> Result<(), Mem>
     requires sized { HaveRows (length parents.now) tables.old }
@@ -50,13 +69,18 @@ fn hang_link(parents: &[Option<u32>], tables: &mut Tables, link: Link) -> Result
     requires consumer { link.consumer < length parents.now }
     ensures { OnOk result (IsHung parents.now link tables.old tables.new) }
 {
-    let Link { supplier, consumer } = link;
+    let Link {
+        supplier,
+        consumer,
+        ..
+    } = link;
     hang(&mut tables.hanging, Some(supplier), consumer)?;
     hang(&mut tables.suppliers, Some(consumer), supplier)?;
-    if !is_parent(parents[consumer as usize], supplier) {
-        hang(&mut tables.below, Some(supplier), consumer)?;
-        hang(&mut tables.above, Some(consumer), supplier)?;
-    }
+    let left_out = is_left_out(parents, link);
+    let below = places_for(&tables.hanging, supplier);
+    let above = places_for(&tables.suppliers, consumer);
+    hang_near(&mut tables.below, left_out, supplier, consumer, below)?;
+    hang_near(&mut tables.above, left_out, consumer, supplier, above)?;
     Ok(())
 }
 

@@ -8,12 +8,15 @@ use thiserror::Error;
 /// Numbers of devices.
 pub type DevList = ListOf<u32>;
 
-/// Why a link was not added.
+/// Why a link was not added, or its state not set.
 #[derive(Debug, Drop, Error)]
 pub enum LinkFault {
     /// The supplier or the consumer is not registered.
     #[error("the supplier or the consumer is not registered")]
     NoDevice,
+    /// There is no such link.
+    #[error("there is no such link")]
+    NoLink,
     /// As many links stand as a machine may have.
     #[error("as many links stand as a machine may have")]
     TooMany,

@@ -2,15 +2,18 @@
 #![tactic(auto)]
 
 mod at_once;
+mod depends;
 mod env;
 mod fault;
 mod links;
+mod states;
 mod tables;
 #[cfg(test)]
 mod tests;
 mod visits;
 mod walk;
 
+pub use depends::MOST_SEARCHED;
 pub use env::DevEnv;
 pub use fault::{DevList, LinkFault};
 pub use links::Links;

@@ -1,9 +1,11 @@
-ghost use Rattle.std.specs.Prelude.{◌≡◌, ◌<◌, Some, slice_index, if◌then◌else◌};
-ghost use Rattle.device_rows.specs.Table.{hung};
+ghost use Rattle.std.specs.Prelude.{◌≡◌, ◌<◌, ◌≤◌, ℕ, OnOk, Some, length, slice_index, if◌then◌else◌};
+ghost use Rattle.device_rows.specs.Table.{hung, places_at};
 
 use crate::at_once::{Tables, tables_of};
+use crate::depends::comes_to;
 use crate::fault::{DevList, LinkFault};
-use crate::tables::{children_of, is_parent, moved_last, parents_of, registered};
+use crate::states::{refill_above, refill_below, set_state};
+use crate::tables::{children_of, is_left_out, moved_last, parents_of, places_for, registered};
 use crate::visits::order_of;
 use crate::walk::{Found, walk};
 use device_rows::Rows;
@@ -32,22 +34,23 @@ pub struct Links {
 impl Model for Links {
     ghost use Rattle.std.specs.Prelude.{reverse};
     ghost use Rattle.device_links.specs.Linked.{Linked};
-    ghost use Rattle.device_links.specs.Kept.{IsKept};
+    ghost use Rattle.device_links.specs.Kept.{IsWhole};
 
     ghost Value = { Linked };
 
     ghost view = { λ l. record { parents = l.parents.items; links = reverse l.links.items } };
 
-    ghost invariant = { λ l. IsKept l.parents.items (reverse l.links.items)
-        l.hanging.rows l.below.rows l.suppliers.rows l.above.rows l.order.items };
+    ghost invariant = { λ l. IsWhole l.parents.items (reverse l.links.items)
+        l.hanging.rows l.below l.suppliers.rows l.above l.order.items };
 }
 
 impl Links {
-    ghost use Rattle.std.specs.Prelude.{◌≡◌, ◌∷◌, [], ◌<◌, ℕ, false, true, IfOk, OnOk, OnErr, length};
-    ghost use Rattle.sleep_model.specs.Order.{EachAfterParent, is_among, hanging, holding, order_by};
-    ghost use Rattle.sleep_model.specs.Links.{IsOrder, first_places};
+    ghost use Rattle.std.specs.Prelude.{◌≡◌, ◌∷◌, [], ◌<◌, ◌≤◌, ℕ, true, IfOk, OnOk, OnErr, length};
+    ghost use Rattle.sleep_model.specs.Order.{EachAfterParent, is_among, hanging, order_by};
+    ghost use Rattle.sleep_model.specs.Links.{IsOrder, is_dependent, is_linked};
     ghost use Rattle.device_links.specs.Walks.{Finds, IsWalked};
-    ghost use Rattle.device_links.specs.Adds.{Adds, IsOpen, Refuses};
+    ghost use Rattle.device_links.specs.Adds.{Adds, IsOpen, Lacks, Refuses, Sets, with_link, with_set};
+    ghost use Rattle.device_links.specs.Kept.{near_below, near_above};
     ghost use Rattle.device_links.specs.Passes.{Makes};
 
     /// Devices with these parents, in the order of their registration, and no links. `Mem` if
@@ -111,19 +114,29 @@ impl Links {
         }))
     }
 
-    /// Adds a link, and moves the consumer and all that hangs below it to the end of the order.
+    /// Adds a link that is active, and moves the consumer and all that hangs below it to the end of
+    /// the order: `add_as` with true.
+    pub fn add(&mut self, supplier: u32, consumer: u32) -> Result<(), LinkFault>
+        ensures answer { Adds self.old supplier consumer result }
+        ensures ok { OnOk result (self.new ≡ with_link self.old
+            (record { supplier = supplier; consumer = consumer; active = true })) }
+        ensures err { OnErr result (self.new ≡ self.old) }
+    {
+        self.add_as(supplier, consumer, true)
+    }
+
+    /// Adds a link, active or dormant, and moves the consumer and all that hangs below it to the end
+    /// of the order. A dormant link is neither seen below nor above.
     ///
     /// Tested in turn, each refusal exactly where its test fails: that both are registered
     /// (`NoDevice`), that a link more has a place among 4,000 (`TooMany`), that these two have none
     /// yet (`Twice`), and that the consumer would not come to hang below itself (`Cycle`, with a
     /// path from it to the supplier). Want of memory (`Mem`) may come in place of `Cycle`. A refused
     /// link changes nothing.
-    pub fn add(&mut self, supplier: u32, consumer: u32) -> Result<(), LinkFault>
+    pub fn add_as(&mut self, supplier: u32, consumer: u32, active: bool) -> Result<(), LinkFault>
         ensures answer { Adds self.old supplier consumer result }
-        ensures ok { OnOk result (self.new ≡ record {
-          parents = self.old.parents;
-          links = record { supplier = supplier; consumer = consumer } ∷ self.old.links;
-        }) }
+        ensures ok { OnOk result (self.new ≡ with_link self.old
+            (record { supplier = supplier; consumer = consumer; active = active })) }
         ensures err { OnErr result (self.new ≡ self.old) }
     {
         if let Some(fault) = self.refusal(supplier, consumer) {
@@ -132,10 +145,34 @@ impl Links {
         match self.find(supplier, consumer)? {
             Found::Reached(path) => Err(LinkFault::Cycle(DevList::of_vec(path))),
             Found::Passed(below, marks) => {
-                self.put(Link { supplier, consumer }, &below, &marks)?;
+                let link = Link {
+                    supplier,
+                    consumer,
+                    active,
+                };
+                self.put(link, &below, &marks)?;
                 Ok(())
             }
         }
+    }
+
+    /// Makes a link active or dormant (`struct device_link`, `status`). The order stays, and it takes
+    /// no memory.
+    ///
+    /// Tested in turn, each refusal exactly where its test fails: that both are registered
+    /// (`NoDevice`), and that they have a link (`NoLink`).
+    pub fn set_active(&mut self, supplier: u32, consumer: u32, to: bool) -> Result<(), LinkFault>
+        ensures answer { Sets self.old supplier consumer result }
+        ensures ok { OnOk result (self.new ≡ with_set self.old supplier consumer to) }
+        ensures err { OnErr result (self.new ≡ self.old) }
+    {
+        if let Some(fault) = self.absence(supplier, consumer) {
+            return Err(fault);
+        }
+        set_state(&mut self.links, supplier, consumer, to);
+        refill_below(&mut self.below, &self.parents, &self.links, supplier);
+        refill_above(&mut self.above, &self.parents, &self.links, consumer);
+        Ok(())
     }
 
     /// The devices in the order in which they are prepared and resumed; they suspend the other way.
@@ -149,18 +186,47 @@ impl Links {
         &self.order
     }
 
-    /// The devices that hang right below one: its children, then its consumers, each once.
+    /// The devices that hang right below one: its children, then its consumers by the links that
+    /// are active, each once.
     pub fn below(&self, device: u32) -> &[u32]
-        ensures { result.now ≡ first_places (hanging self.now.parents self.now.links device) }
+        ensures { result.now ≡ near_below self.now.parents self.now.links device }
     {
         self.below.row(device)
     }
 
-    /// The devices that one hangs right below: its parent, then its suppliers, each once.
+    /// The devices that one hangs right below: its parent, then its suppliers by the links that are
+    /// active, each once.
     pub fn above(&self, device: u32) -> &[u32]
-        ensures { result.now ≡ first_places (holding self.now.parents self.now.links device) }
+        ensures { result.now ≡ near_above self.now.parents self.now.links device }
     {
         self.above.row(device)
+    }
+
+    /// Whether a link of these two stands, active or dormant.
+    pub fn is_linked(&self, supplier: u32, consumer: u32) -> bool
+        ensures { result ≡ is_linked self.now.links supplier consumer }
+    {
+        self.suppliers.row(consumer).contains(&supplier)
+    }
+
+    /// Whether a supplier is the consumer or hangs below it, by children and all links. It takes no
+    /// memory (`drivers/base/core.c`, `device_is_dependent`).
+    pub fn is_dependent(&self, consumer: u32, supplier: u32) -> bool
+        requires { length self.now.parents ≤ 1024 }
+        ensures { result ≡ is_dependent self.now.parents self.now.links consumer supplier }
+    {
+        consumer == supplier || comes_to(&self.hanging, &self.order, consumer, supplier)
+    }
+
+    /// The same links anew. `Mem` if there is no memory for them.
+    pub fn copy(&self) -> Result<Links, Mem>
+        ensures { IfOk result (λ l. l ≡ self.now) }
+    {
+        let alloc = *self.order.allocator();
+        match Links::with_links(alloc, &self.parents, &self.links)? {
+            Some(links) => Ok(links),
+            None => unreachable!(),
+        }
     }
 
     // Why the link is refused before anything is walked.
@@ -174,8 +240,22 @@ impl Links {
         if self.links.len() >= MOST_LINKS {
             return Some(LinkFault::TooMany);
         }
-        if self.suppliers.row(consumer).contains(&supplier) {
+        if self.is_linked(supplier, consumer) {
             return Some(LinkFault::Twice);
+        }
+        None
+    }
+
+    // Why the state of a link is not set.
+    fn absence(&self, supplier: u32, consumer: u32) -> Option<LinkFault>
+        ensures { Lacks self.now supplier consumer result }
+    {
+        let count = self.parents.len();
+        if consumer as usize >= count || supplier as usize >= count {
+            return Some(LinkFault::NoDevice);
+        }
+        if !self.is_linked(supplier, consumer) {
+            return Some(LinkFault::NoLink);
         }
         None
     }
@@ -200,16 +280,18 @@ impl Links {
         ensures err { OnErr result (self.new ≡ self.old) }
     {
         let order = moved_last(*self.order.allocator(), &self.order, marks, below)?;
-        let is_child = is_parent(self.parents[link.consumer as usize], link.supplier);
+        let left_out = is_left_out(&self.parents, link);
+        let most_below = places_for(&self.hanging, link.supplier);
+        let most_above = places_for(&self.suppliers, link.consumer);
         self.links.reserve(1)?;
         self.hanging.make_room(link.supplier)?;
-        self.below.make_room(link.supplier)?;
         self.suppliers.make_room(link.consumer)?;
-        self.above.make_room(link.consumer)?;
+        make_near(&mut self.below, link.supplier, most_below)?;
+        make_near(&mut self.above, link.consumer, most_above)?;
         self.hanging.push(link.supplier, link.consumer);
         self.suppliers.push(link.consumer, link.supplier);
-        push_unless(&mut self.below, is_child, link.supplier, link.consumer);
-        push_unless(&mut self.above, is_child, link.consumer, link.supplier);
+        push_unless(&mut self.below, left_out, link.supplier, link.consumer);
+        push_unless(&mut self.above, left_out, link.consumer, link.supplier);
         self.order = order;
         match self.links.push(link) {
             Ok(()) => Ok(()),
@@ -218,13 +300,27 @@ impl Links {
     }
 }
 
-// Puts a number at the end of a row, if it does not stand there.
-fn push_unless(table: &mut Rows, stands: bool, row: u32, number: u32)
-    requires { 0 < slice_index table.old.room row }
-    ensures { table.new.rows ≡
-        (if stands then table.old.rows else hung table.old.rows (Some row) number) }
+// Gives a row places for so many numbers, and for one more than it has.
+fn make_near(table: &mut Rows, row: u32, count: usize) -> Result<(), Mem>
+    requires { row < length table.old.rows }
+    ensures rows { table.new.rows ≡ table.old.rows }
+    ensures places { (d : ℕ) → places_at table.old d ≤ places_at table.new d }
+    ensures room { OnOk result (0 < slice_index table.new.room row) }
+    ensures made { OnOk result (count ≤ places_at table.new row) }
 {
-    if !stands {
+    table.make_places(row, count)?;
+    table.make_room(row)?;
+    Ok(())
+}
+
+// Puts a number at the end of a row, unless it is left out.
+fn push_unless(table: &mut Rows, left_out: bool, row: u32, number: u32)
+    requires { 0 < slice_index table.old.room row }
+    ensures rows { table.new.rows ≡
+        (if left_out then table.old.rows else hung table.old.rows (Some row) number) }
+    ensures places { (d : ℕ) → places_at table.old d ≤ places_at table.new d }
+{
+    if !left_out {
         table.push(row, number);
     }
 }

@@ -1,13 +1,15 @@
 //! The tables and the order of devices without links, and an order after a move.
 
-ghost use Rattle.std.specs.Prelude.{◌≡◌, ◌<◌, ◌≤◌, ◌^◌, ◌++◌, not, false, true, ℕ, List, IfOk, IfSome, OnOk, length, filter, map, option_to_list, slice_index_or, slice_set};
+ghost use Rattle.std.specs.Prelude.{◌≡◌, ◌<◌, ◌≤◌, ◌+◌, ◌^◌, ◌++◌, not, false, true, ℕ, List, IfOk, IfSome, OnOk, length, filter, map, option_to_list, slice_index_or, slice_set};
 ghost use Rattle.std.specs.List.{range_with_len};
 ghost use Rattle.sleep_model.specs.Order.{EachAfterParent, children_from, is_parent};
-ghost use Rattle.device_rows.specs.Table.{hung};
+ghost use Rattle.device_rows.specs.Table.{hung, row_at};
 ghost use Rattle.device_links.specs.Kept.{IsTableOf};
+ghost use Rattle.device_links.specs.Passes.{is_left_out};
 
 use device_rows::Rows;
 use sleep_base::Mem;
+use sleep_model::Link;
 use std::alloc::Global;
 
 /// Puts a number at the end of a row, where there is one to put it.
@@ -104,4 +106,19 @@ pub(crate) fn is_parent(parent: Option<u32>, device: u32) -> bool
         Some(parent) => parent == device,
         None => false,
     }
+}
+
+/// Whether a link is put neither below nor above: it is dormant, or between a parent and its child.
+pub(crate) fn is_left_out(parents: &[Option<u32>], link: Link) -> bool
+    requires { link.consumer < length parents.now }
+    ensures { result ≡ is_left_out parents.now link }
+{
+    !link.active || is_parent(parents[link.consumer as usize], link.supplier)
+}
+
+/// Places for a row's numbers, for a link's end, and for a parent.
+pub(crate) fn places_for(table: &Rows, row: u32) -> usize
+    ensures { result ≡ length (row_at table.now row) + 2 }
+{
+    table.row(row).len() + 2
 }

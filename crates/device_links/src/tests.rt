@@ -115,6 +115,83 @@ fn a_child_may_be_a_consumer(rt: HostRuntime) -> Result<(), Fail> {
     Ok(())
 }
 
+/// A dormant link moves its consumer, and closes cycles.
+#[test]
+fn a_dormant_link_keeps_the_order(rt: HostRuntime) -> Result<(), Fail> {
+    let mut links = Links::new(rt.alloc(), &[None, None, None])?;
+    assert!(rt; links.add_as(2, 0, false).is_ok());
+    assert_eq!(rt; links.order(), [1u32, 2, 0].as_slice());
+    assert_eq!(rt;
+        cycle_of(&rt, &mut links, 0, 2).as_slice(),
+        [2u32, 0].as_slice()
+    );
+    Ok(())
+}
+
+/// A dormant link is seen neither below nor above.
+#[test]
+fn a_dormant_link_is_not_seen(rt: HostRuntime) -> Result<(), Fail> {
+    let mut links = Links::new(rt.alloc(), &[None, None, None])?;
+    assert!(rt; links.add_as(2, 0, true).is_ok());
+    assert!(rt; links.add_as(2, 1, false).is_ok());
+    assert_eq!(rt; links.below(2), [0u32].as_slice());
+    assert!(rt; links.above(1).is_empty());
+    Ok(())
+}
+
+/// A link that becomes active is seen in its place among the others.
+#[test]
+fn a_link_becomes_active(rt: HostRuntime) -> Result<(), Fail> {
+    let mut links = Links::new(rt.alloc(), &[None, None, None])?;
+    assert!(rt; links.add_as(2, 0, false).is_ok());
+    assert!(rt; links.add_as(2, 1, true).is_ok());
+    assert!(rt; links.set_active(2, 0, true).is_ok());
+    assert_eq!(rt; links.below(2), [0u32, 1].as_slice());
+    assert_eq!(rt; links.above(0), [2u32].as_slice());
+    Ok(())
+}
+
+/// The state of a link is set where both are devices and have a link.
+#[test]
+fn states_are_refused(rt: HostRuntime) -> Result<(), Fail> {
+    let mut links = Links::new(rt.alloc(), &[None, Some(0)])?;
+    assert!(rt; matches!(links.set_active(0, 2, true), Err(LinkFault::NoDevice)));
+    assert!(rt; matches!(links.set_active(0, 1, true), Err(LinkFault::NoLink)));
+    Ok(())
+}
+
+/// A child is never seen twice, nor lost, whatever its link's state.
+#[test]
+fn a_child_is_seen_once(rt: HostRuntime) -> Result<(), Fail> {
+    let mut links = Links::new(rt.alloc(), &[None, Some(0)])?;
+    add_all(&rt, &mut links, &[(0, 1)]);
+    assert!(rt; links.set_active(0, 1, false).is_ok());
+    assert_eq!(rt; links.below(0), [1u32].as_slice());
+    assert_eq!(rt; links.above(1), [0u32].as_slice());
+    Ok(())
+}
+
+/// A device depends on itself, and on what it hangs below, over dormant links too.
+#[test]
+fn dependents_are_found(rt: HostRuntime) -> Result<(), Fail> {
+    let mut links = Links::new(rt.alloc(), &[None, Some(0), None])?;
+    assert!(rt; links.add_as(1, 2, false).is_ok());
+    for (consumer, supplier, depends) in [
+        (0, 0, true),
+        (0, 1, true),
+        (0, 2, true),
+        (2, 0, false),
+        (1, 0, false),
+    ] {
+        assert_eq!(rt;
+            links.is_dependent(consumer, supplier),
+            depends,
+            "{supplier} below {consumer}"
+        );
+    }
+    Ok(())
+}
+
 /// Each refusal, the earlier one where two would come; the order stays.
 #[test]
 fn links_are_refused(rt: HostRuntime) -> Result<(), Fail> {
@@ -268,6 +345,7 @@ fn links_between(alloc: Global, ends: &[(u32, u32)]) -> Result<Vec<Link>, Mem> {
         list.push(Link {
             supplier: *supplier,
             consumer: *consumer,
+            active: true,
         })?;
     }
     Ok(list)
@@ -279,7 +357,10 @@ fn in_turn(alloc: Global, parents: &[Option<u32>], list: &[Link]) -> Result<Opti
 {
     let mut links = Links::new(alloc, parents)?;
     for link in list {
-        if links.add(link.supplier, link.consumer).is_err() {
+        if links
+            .add_as(link.supplier, link.consumer, link.active)
+            .is_err()
+        {
             return Ok(None);
         }
     }
@@ -386,7 +467,11 @@ fn diamonds(alloc: Global) -> Result<Vec<Link>, Mem> {
     for i in (0..100u32).rev() {
         let a = 3 * i;
         for (supplier, consumer) in [(a + 1, a + 3), (a + 2, a + 3), (a, a + 1), (a, a + 2)] {
-            list.push(Link { supplier, consumer })?;
+            list.push(Link {
+                supplier,
+                consumer,
+                active: true,
+            })?;
         }
     }
     Ok(list)
@@ -399,7 +484,11 @@ fn ladder(alloc: Global, from_end: bool) -> Result<Vec<Link>, Mem> {
     for i in 0..100u32 {
         let a = if from_end { 198 - 2 * i } else { 2 * i };
         for (supplier, consumer) in [(a, a + 2), (a + 1, a + 3), (a, a + 3), (a + 1, a + 2)] {
-            list.push(Link { supplier, consumer })?;
+            list.push(Link {
+                supplier,
+                consumer,
+                active: true,
+            })?;
         }
     }
     Ok(list)
@@ -426,12 +515,17 @@ fn deep(alloc: Global) -> Result<Vec<Link>, Mem> {
         list.push(Link {
             supplier,
             consumer: supplier + 1,
+            active: true,
         })?;
     }
     for consumer in 2..100u32 {
         for supplier in 0..consumer - 1 {
             if list.len() < 4000 {
-                list.push(Link { supplier, consumer })?;
+                list.push(Link {
+                    supplier,
+                    consumer,
+                    active: true,
+                })?;
             }
         }
     }
@@ -475,6 +569,7 @@ fn try_links(
         let link = Link {
             supplier: (seed >> 16) % 7,
             consumer: (seed >> 20) % 7,
+            active: (seed >> 24) % 2 == 0,
         };
         list.push(link)?;
         if let Some(mut once) = both_ways(rt, alloc, parents, &list)? {

@@ -1,5 +1,5 @@
 -- What one element's change does to what is seen of each element.
-use Rattle.std.proofs.Common.{◌≡◌, ◌<◌, ◌∙◌, ℕ, zero, suc, List, [], ◌∷◌, length, map, get_or, set, sym, ap, arith}
+use Rattle.std.proofs.Common.{◌≡◌, ◌<◌, ◌≤◌, ◌+◌, ◌∙◌, ℕ, zero, suc, List, [], ◌∷◌, length, map, get_or, set, refl, sym, ap, subst, arith}
 use Rattle.std.proofs.lemmas.List.{map-set, set-get_or, get_or-map, get_or-set_same, length-map}
 
 module _ {A B : Type 0} (f : A → B) (xs : List A) (i : ℕ) (x y : A) (within : i < length xs) (at : x ≡ get_or xs i x) where
@@ -19,6 +19,25 @@ module _ {A B : Type 0} (f : A → B) (xs : List A) (i : ℕ) (x y : A) (within 
     where
       seen_within : i < length (map f xs)
       seen_within = rw length-map within
+
+-- ---- places
+
+-- a list and a number that each element tells
+module _ {A : Type 0} (f : A → List ℕ) (r : A → ℕ) where
+  -- one element that has no fewer places
+  pub places_more : (xs : List A) (i : ℕ) (x y : A) → i < length xs → x ≡ get_or xs i x → length (f x) + r x ≤ length (f y) + r y → (d : ℕ)
+      → length (get_or (map f xs) d []) + get_or (map r xs) d 0 ≤ length (get_or (map f (set xs i y)) d []) + get_or (map r (set xs i y)) d 0
+  places_more [] i x y l at more d = absurd (omega arith)
+  places_more (z ∷ zs) zero x y l at more zero = let same : x ≡ z = at in subst (λ (v : A). length (f v) + r v ≤ length (f y) + r y) same more
+  places_more (z ∷ zs) zero x y l at more (suc d) = omega arith
+  places_more (z ∷ zs) (suc i) x y l at more zero = omega arith
+  places_more (z ∷ zs) (suc i) x y l at more (suc d) = places_more zs i x y (omega arith) at more d
+
+  -- the places of the element that was put there
+  pub places_new : (xs : List A) (i : ℕ) (y : A) → i < length xs → length (get_or (map f (set xs i y)) i []) + get_or (map r (set xs i y)) i 0 ≡ length (f y) + r y
+  places_new [] i y l = absurd (omega arith)
+  places_new (z ∷ zs) zero y l = refl
+  places_new (z ∷ zs) (suc i) y l = places_new zs i y (omega arith)
 
 -- a place whose number is above 0 is within the list
 pub above_zero : (xs : List ℕ) (i : ℕ) → 0 < get_or xs i 0 → i < length xs

@@ -1,5 +1,5 @@
 -- What contracts see of rows of numbers.
-use Rattle.std.specs.Prelude.{ℕ, List, [], ◌∷◌, ◌++◌, slice_index_or, slice_set, Option, Some, None}
+use Rattle.std.specs.Prelude.{ℕ, ◌+◌, List, [], ◌∷◌, ◌++◌, length, slice_index_or, slice_set, Option, Some, None}
 
 -- the rows, and how many more numbers each takes without memory
 pub record Table : Type 0 where
@@ -9,6 +9,10 @@ pub record Table : Type 0 where
 -- the row at a place, and none past the end
 abbrev pub row_at : Table → ℕ → List ℕ
 row_at t d = slice_index_or t.rows d []
+
+-- how many numbers a row has places for, without more memory
+abbrev pub places_at : Table → ℕ → ℕ
+places_at t d = length (row_at t d) + slice_index_or t.room d 0
 
 -- the rows with one more number at the end of one of them, or as they are
 abbrev pub hung : List (List ℕ) → Option ℕ → ℕ → List (List ℕ)

@@ -24,8 +24,8 @@ impl Model for Rows {
 }
 
 impl Rows {
-    ghost use Rattle.std.specs.Prelude.{◌≡◌, ◌<◌, ◌++◌, ◌∷◌, [], ℕ, IfOk, OnOk, OnErr, length, replicate, option_to_list, slice_index, slice_set};
-    ghost use Rattle.device_rows.specs.Table.{row_at};
+    ghost use Rattle.std.specs.Prelude.{◌≡◌, ◌<◌, ◌≤◌, ◌++◌, ◌∷◌, [], ℕ, IfOk, OnOk, OnErr, length, replicate, option_to_list, slice_index, slice_set};
+    ghost use Rattle.device_rows.specs.Table.{row_at, places_at};
 
     /// A table without rows.
     pub fn new(alloc: Global) -> Rows
@@ -92,6 +92,7 @@ impl Rows {
     pub fn make_room(&mut self, device: u32) -> Result<(), Mem>
         requires { device < length self.old.rows }
         ensures rows { self.new.rows ≡ self.old.rows }
+        ensures places { (d : ℕ) → places_at self.old d ≤ places_at self.new d }
         ensures ok { OnOk result (0 < slice_index self.new.room device) }
     {
         let row = &mut self.rows[device as usize];
@@ -99,11 +100,34 @@ impl Rows {
         Ok(())
     }
 
+    /// Gives a row places for so many numbers in all. `Mem` if there is no memory for them.
+    pub fn make_places(&mut self, device: u32, count: usize) -> Result<(), Mem>
+        requires { device < length self.old.rows }
+        ensures rows { self.new.rows ≡ self.old.rows }
+        ensures places { (d : ℕ) → places_at self.old d ≤ places_at self.new d }
+        ensures ok { OnOk result (count ≤ places_at self.new device) }
+    {
+        let row = &mut self.rows[device as usize];
+        row.reserve(count.saturating_sub(row.len()))?;
+        Ok(())
+    }
+
+    /// Takes all numbers out of a row, which keeps its places.
+    pub fn clear(&mut self, device: u32)
+        requires { device < length self.old.rows }
+        ensures rows { self.new.rows ≡ slice_set self.old.rows device [] }
+        ensures places { (d : ℕ) → places_at self.old d ≤ places_at self.new d }
+    {
+        let row = &mut self.rows[device as usize];
+        row.clear();
+    }
+
     /// Puts a number at the end of a row that has room.
     pub fn push(&mut self, device: u32, number: u32)
         requires { 0 < slice_index self.old.room device }
-        ensures { self.new.rows ≡
+        ensures rows { self.new.rows ≡
             slice_set self.old.rows device (row_at self.old device ++ number ∷ []) }
+        ensures places { (d : ℕ) → places_at self.old d ≤ places_at self.new d }
     {
         let row = &mut self.rows[device as usize];
         match row.push(number) {

@@ -3,7 +3,7 @@ use Rattle.std.specs.Prelude.{ℕ, true, false, List, [], ◌∷◌, codes, negs
 use Rattle.sleep_model.specs.declared.machine.Device.{Device}
 use Rattle.sleep_model.specs.declared.machine.Machine.{Machine}
 use Rattle.sleep_model.specs.declared.machine.Op.{Op}
-use Rattle.sleep_model.specs.declared.machine.Op.TheVariants.{Read, Save, State, Autosleep, Sleep, SleepD, FreezePoint, Post, Wait, Runtime, Awake, Relax, Event}
+use Rattle.sleep_model.specs.declared.machine.Op.TheVariants.{Read, Save, State, Autosleep, Sleep, SleepD, FreezePoint, Post, Wait, Runtime, Link, LinkState, Awake, Relax, Event}
 use Rattle.sleep_model.specs.declared.machine.PlatDo.TheVariants.{PrepareLate}
 use Rattle.sleep_model.specs.declared.machine.Script.{Script}
 use Rattle.sleep_model.specs.declared.machine.SourceCall.TheVariants as call
@@ -48,7 +48,7 @@ full = record {
   cpus = 2;
   auto_cycles = 3;
   devices = device (codes "pci") None 1 ∷ device (codes "nic") (Some 0) 6 ∷ [];
-  links = record { supplier = 0; consumer = 1 } ∷ [];
+  links = record { supplier = 0; consumer = 1; active = true } ∷ [];
   syscore = codes "t1" ∷ codes "t2" ∷ [];
   notifiers = record { name = codes "n"; priority = negsuc 4 } ∷ record { name = codes "o"; priority = pos 0 } ∷ [];
   sources = codes "lan" ∷ codes "lid" ∷ [];
@@ -66,4 +66,20 @@ full = record {
       ∷ record { what = what.Notifier 0; attempt = None; ret = negsuc 18; reports = [] }
       ∷ record { what = what.Platform PrepareLate; attempt = Some 1; ret = negsuc 10; reports = [] }
       ∷ [];
+}
+
+-- a machine with a dormant link, whose task sets links active, dormant, and adds one
+abbrev pub relinking : Machine
+relinking = record {
+  alarm_ms = 1000;
+  cpus = 1;
+  auto_cycles = 16;
+  devices = device (codes "a") None 0 ∷ device (codes "b") None 0 ∷ device (codes "c") None 0 ∷ [];
+  links = record { supplier = 1; consumer = 0; active = false } ∷ record { supplier = 1; consumer = 2; active = true } ∷ [];
+  syscore = [];
+  notifiers = [];
+  sources = [];
+  marks = [];
+  actors = script (codes "w") Kthread 1 (step 1 (LinkState 1 0 true) ∷ step 2 (LinkState 1 2 false) ∷ step 3 (Link 0 2) ∷ []) ∷ [];
+  answers = [];
 }

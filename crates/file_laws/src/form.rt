@@ -32,11 +32,12 @@ pub fn members_are_known()
     ensures unknown { Breaks "{'version':1,'alarm':1}" 2 "top" }
 {}
 
-/// The version is there, and is 1.
+/// The version is there, and is 1 or 2.
 #[tactic(auto, unfolding(crate::proofs::Reading::reading))]
-pub fn version_is_one()
+pub fn version_is_known()
     ensures missing { Breaks "{}" 3 "version" }
-    ensures two { Breaks "{'version':2}" 3 "version" }
+    ensures zero { Breaks "{'version':0}" 3 "version" }
+    ensures three { Breaks "{'version':3}" 3 "version" }
     ensures text { Breaks "{'version':'1'}" 3 "version" }
 {}
 
@@ -60,7 +61,9 @@ pub fn items_have_form()
     // No parent is one that is left out.
     ensures null { Breaks "{'version':1,'devices':[{'name':'a','parent':null}]}" 5 "devices[0]" }
     ensures link { Breaks "{'version':1,'links':[{'supplier':'a'}]}" 5 "links[0]" }
+    // A link of version 1 has no state, and one of version 2 has no other word than these two.
     ensures state { Breaks "{'version':1,'links':[{'supplier':'a','consumer':'b','state':'active'}]}" 5 "links[0]" }
+    ensures status_of_link { Breaks "{'version':2,'links':[{'supplier':'a','consumer':'b','state':'off'}]}" 5 "links[0]" }
     ensures number { Breaks "{'version':1,'syscore':['t',1]}" 5 "syscore[1]" }
     ensures priority { Breaks "{'version':1,'notifiers':[{'name':'n','priority':-1001}]}" 5 "notifiers[0]" }
     ensures source { Breaks "{'version':1,'sources':[{'name':'s'}]}" 5 "sources[0]" }

@@ -7,6 +7,7 @@ mod floats;
 mod form;
 mod generated;
 mod limits;
+mod links;
 mod order;
 mod scripts;
 mod things;
@@ -20,10 +21,14 @@ pub use accepted::{
 pub use floats::floats_have_no_form;
 pub use form::{
     answers_have_form, bytes_are_read, items_have_form, lists_are_short, members_are_known,
-    members_have_form, names_are_spelled, values_nest_so_deep, version_is_one,
+    members_have_form, names_are_spelled, values_nest_so_deep, version_is_known,
 };
 pub use generated::{eight_devices_are_generated, numbers_are_drawn, one_device_is_generated};
 pub use limits::{lists_have_limits, reports_have_a_limit};
+pub use links::{
+    changes_are_spelled, changes_keep_the_rules, changes_want_version_two,
+    dormant_links_keep_the_rules, links_are_few,
+};
 pub use order::{
     first_place_is_named, last_of_equal_members_counts, least_rule_is_named,
     refusal_names_rule_and_place,

@@ -8,7 +8,7 @@ ghost use Rattle.file_laws.specs.Files.{Breaks, KeepsAll};
 /// Of two rules the one with the smaller number is named, wherever they are broken.
 #[tactic(auto, unfolding(crate::proofs::Reading::reading))]
 pub fn least_rule_is_named()
-    ensures version { Breaks "{'version':2,'fly':1}" 2 "top" }
+    ensures version { Breaks "{'version':3,'fly':1}" 2 "top" }
     // A later answer without form stands before an operation without form.
     ensures operation { Breaks "{'version':1,'actors':[{'name':'w','kind':'user','script':[{'op':'fly'}]}],'answers':[{'what':'disk','name':'t'}]}" 5 "answers[0]" }
     // Form is tried on the 33rd notifier too.
@@ -34,8 +34,8 @@ pub fn first_place_is_named()
 /// Of two equal members of an object the last one counts.
 #[tactic(auto, unfolding(crate::proofs::Reading::reading))]
 pub fn last_of_equal_members_counts()
-    ensures kept { KeepsAll "{'version':2,'version':1}" }
-    ensures broken { Breaks "{'version':1,'version':2}" 3 "version" }
+    ensures kept { KeepsAll "{'version':3,'version':1}" }
+    ensures broken { Breaks "{'version':1,'version':3}" 3 "version" }
 {}
 
 /// What is said of a refused file.

@@ -18,7 +18,7 @@ use Rattle.machine_file.specs.Rules.{is_name, name_of}
 use Rattle.machine_file.specs.Spelled.{link_of, place_among}
 use Rattle.machine_file.specs.Devices.{has_parent_before, has_ends, is_new_link, is_same_link, closes_no_cycle, orphan, loose_link, repeated_link, cyclic_link}
 use Rattle.machine_file.specs.Operations.{is_formed, names_source, unformed_operation, sourceless_operation}
-use Rattle.machine_file.specs.Limits.{most_items, too_many, are_steps_few, too_much}
+use Rattle.machine_file.specs.Limits.{most_items, too_many, all_steps, is_link_step, are_links_few, are_steps_few, too_much}
 use Rattle.machine_file.specs.Whole.{rules, first_broken}
 use Rattle.machine_file.specs.Spelling.{as_items}
 use Rattle.sleep_script.specs.Generated.{draw, drawn_parent, drawn_links, behind_links, generated}
@@ -173,7 +173,7 @@ module _ (seed n : ℕ) (some : 1 ≤ n) (few : n ≤ 1000) where
       items_pass (codes "links") test file (ap (list_all test) (listed_links seed n) ∙ made_pass test link_datum (drawn_links seed n (n / 4)) (weaker (Rises n) (λ l. test (link_datum l) ≡ true) (drawn_links seed n (n / 4)) f (links_rise seed n (n / 4) some)))
 
   items_kept : unformed_item file ≡ None
-  items_kept = or_none _ _ (devices_pass is_device_form (λ i h. device_form (drawn_parent seed i) (draw seed (n + i) 2 == 1) i)) (or_none _ _ (links_pass is_link_form (λ l r. refl)) refl)
+  items_kept = or_none _ _ (devices_pass is_device_form (λ i h. device_form (drawn_parent seed i) (draw seed (n + i) 2 == 1) i)) (or_none _ _ (links_pass (is_link_form true) (λ l r. refl)) refl)
 
   few_items : too_many file ≡ None
   few_items =
@@ -217,7 +217,7 @@ module _ (seed n : ℕ) (some : 1 ≤ n) (few : n ≤ 1000) where
   formed_kept : unformed_operation file ≡ None
   formed_kept =
       let line = actor_datum (codes "irq") (codes "line") 1 (line_ops seed (behind_links n)) in
-      none_fails_of is_formed 0 (actors_data seed n) (refl, (ops_pass (is_formed line) (λ ms l m. within 1 86400000 ms l m) (λ s ms l m. ap (λ b. b && true) (within 0 86400000 ms (omega arith) m)) seed (behind_links n) (range_with_len 0 4), tt))
+      none_fails_of (is_formed true) 0 (actors_data seed n) (refl, (ops_pass (is_formed true line) (λ ms l m. within 1 86400000 ms l m) (λ s ms l m. ap (λ b. b && true) (within 0 86400000 ms (omega arith) m)) seed (behind_links n) (range_with_len 0 4), tt))
 
   source_kept : sourceless_operation file ≡ None
   source_kept =
@@ -227,7 +227,11 @@ module _ (seed n : ℕ) (some : 1 ≤ n) (few : n ≤ 1000) where
   few_steps : are_steps_few file ≡ true
   few_steps =
       let devices : length (list_in (codes "devices") file) ≡ n = ap length (listed_devices seed n) ∙ length-map-range_with_len (drawn_datum seed n) 0 n in
-      le-leb (4 * (length (list_in (codes "devices") file) + 50)) 100000 (omega (arith, devices))
+      let links : length (list_in (codes "links") file) ≡ length (drawn_links seed n (n / 4)) = ap length (listed_links seed n) ∙ length-map (drawn_links seed n (n / 4)) link_datum in
+      let added : all_steps is_link_step file ≡ 0 = refl in
+      and_from (nat_le (4 * (length (list_in (codes "devices") file) + 50)) 100000) (are_links_few file)
+      (le-leb (4 * (length (list_in (codes "devices") file) + 50)) 100000 (omega (arith, devices)))
+      (le-leb (length (list_in (codes "links") file) + all_steps is_link_step file) 4000 (omega (arith, links, added, whole.few_links)))
 
   much_kept : too_much file ≡ None
   much_kept = or_none _ _ (kept_unless (are_steps_few file) (codes "actors") few_steps) refl

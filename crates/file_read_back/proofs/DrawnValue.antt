@@ -1,5 +1,5 @@
 -- A value that spells the generated machine.
-use Rattle.std.proofs.Common.{◌≡◌, ◌∙◌, ◌≤◌, ◌<◌, ◌+◌, ◌*◌, ◌/◌, ◌==◌, ◌&&◌, ◌++◌, ℕ, zero, suc, List, [], ◌∷◌, map, flat_map, codes, Bool, true, false, not, cond, nat_lt, Option, Some, None, IfSome, refl, ap, ap₂, arith}
+use Rattle.std.proofs.Common.{◌≡◌, ◌∙◌, ◌≤◌, ◌<◌, ◌+◌, ◌*◌, ◌/◌, ◌==◌, ◌&&◌, ◌++◌, ℕ, zero, suc, List, [], ◌∷◌, map, flat_map, codes, Bool, true, false, not, cond, nat_lt, Option, Some, None, IfSome, refl, sym, ap, ap₂, arith}
 use Rattle.std.specs.List.{list_any, range_with_len}
 use Rattle.std.proofs.lemmas.Bool.{and_parts, eqb-false, ltb-true}
 use Rattle.serde_json.specs.Data.{Data, boolean, string, array, object, no_members, member}
@@ -91,7 +91,7 @@ sources_data = string (codes "s0") ∷ string (codes "s1") ∷ string (codes "s2
 abbrev pub drawn_value : ℕ → ℕ → Data
 drawn_value seed n =
     object (member (codes "actors") (array (as_items (actors_data seed n))) (member (codes "devices") (array (as_items (devices_data seed n)))
-    (member (codes "links") (array (as_items (links_data seed n))) (member (codes "sources") (array (as_items sources_data)) (member (codes "version") (count 1) no_members)))))
+    (member (codes "links") (array (as_items (links_data seed n))) (member (codes "sources") (array (as_items sources_data)) (member (codes "version") (count 2) no_members)))))
 
 -- ---- its devices
 
@@ -143,10 +143,11 @@ devices_same seed n a (suc m) few h =
 
 -- ---- its links
 
--- a link goes from a lesser device to a greater one
+-- an active link, from a lesser device to a greater one
 pub record Rises (n : ℕ) (l : Link) : Type 0 where
   pub up : l.supplier < l.consumer
   pub low : l.consumer < n
+  pub active : l.active ≡ true
 
 each_and : {X : Type 0} (P : X → Type 0) (xs : List X) (y : X) → EachOf P xs → P y → EachOf P (xs ++ y ∷ [])
 each_and P [] y h k = (k, tt)
@@ -160,13 +161,13 @@ links_rise seed n (suc k) some =
     by u v (drawn_less seed (2 * n + 2 * k + 1) n (omega arith)) (drawn_links seed n k) (links_rise seed n k some) (nat_lt u v && not (list_any (λ l. l.supplier == u && l.consumer == v) (drawn_links seed n k))) refl
   where
     by : (u v : ℕ) → v < n → (ls : List Link) → EachOf (Rises n) ls → (b : Bool) → (nat_lt u v && not (list_any (λ l. l.supplier == u && l.consumer == v) ls)) ≡ b
-        → EachOf (Rises n) (cond b (ls ++ record { supplier = u; consumer = v } ∷ []) ls)
+        → EachOf (Rises n) (cond b (ls ++ record { supplier = u; consumer = v; active = true } ∷ []) ls)
     by u v low ls h false e = h
     by u v low ls h true e =
-        each_and (Rises n) ls (record { supplier = u; consumer = v }) h (record { up = ltb-true u v (and_parts (nat_lt u v) (not (list_any (λ l. l.supplier == u && l.consumer == v) ls)) e).0; low = low })
+        each_and (Rises n) ls (record { supplier = u; consumer = v; active = true }) h (record { up = ltb-true u v (and_parts (nat_lt u v) (not (list_any (λ l. l.supplier == u && l.consumer == v) ls)) e).0; low = low; active = refl })
 
 pub link_same : (n : ℕ) (l : Link) → n ≤ 1000 → Rises n l → link_of (names_from 0 n) (link_datum l) ≡ l
-link_same n l few r = λ j. record { supplier = name_placed n l.supplier few (omega (arith, r.up, r.low)) j; consumer = name_placed n l.consumer few r.low j }
+link_same n l few r = λ j. record { supplier = name_placed n l.supplier few (omega (arith, r.up, r.low)) j; consumer = name_placed n l.consumer few r.low j; active = sym r.active j }
 
 pub links_same : (n : ℕ) (ls : List Link) → n ≤ 1000 → EachOf (Rises n) ls → map (link_of (names_from 0 n)) (map link_datum ls) ≡ ls
 links_same n [] few h = refl

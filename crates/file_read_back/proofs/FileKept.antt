@@ -10,13 +10,13 @@ use Rattle.machine_file.specs.Members.{list_in, word_at, may_have}
 use Rattle.machine_file.specs.Places.{first_not_after, item_place}
 use Rattle.machine_file.specs.Form.{item_forms, is_actor_form, is_answer_form, is_notifier_form}
 use Rattle.machine_file.specs.Names.{item_names, is_among_names, own_name, names_of_device, names_of_link, spells_name, devices_named, sources_named}
-use Rattle.machine_file.specs.Rules.{name_of}
+use Rattle.machine_file.specs.Rules.{is_second, name_of}
 use Rattle.machine_file.specs.Devices.{has_parent_before, has_ends}
 use Rattle.machine_file.specs.Operations.{is_formed, names_source, names_device, whole_marks, marks_of, sourceless_operation}
 use Rattle.machine_file.specs.Answering.{names_thing, is_ret_allowed, may_report, sourceless_report}
 use Rattle.machine_file.specs.Whole.{rules, first_broken}
 use Rattle.machine_file.proofs.Accepted.{keeps_all}
-use Rattle.machine_file.proofs.ScriptsKept.{each_item, each_list, EachList, each_operation, marks_known, each_found}
+use Rattle.machine_file.proofs.ScriptsKept.{table_row, each_item, each_list, EachList, each_operation, marks_known, each_found}
 use Rattle.file_read_back.proofs.Alike.{EachOf, weaker, each_passes, each_both}
 use Rattle.file_read_back.proofs.DevicesBack.{KeptDevice}
 use Rattle.file_read_back.proofs.OperationsBack.{KeptOp}
@@ -87,34 +87,34 @@ kept_devices d (o ∷ os) n p = (record { names = n.0; parent = p.0 }, kept_devi
 
 -- ---- actors
 
-kept_ops : (d : Data) (os : List Data) → list_all (is_formed d) os ≡ true → list_all (names_source (sources_named d)) os ≡ true → list_all (names_device (devices_named d)) os ≡ true →
+kept_ops : (d : Data) (second : Bool) (a : Data) (os : List Data) → list_all (is_formed second a) os ≡ true → list_all (names_source (sources_named d)) os ≡ true → list_all (names_device (devices_named d)) os ≡ true →
     list_all (λ o. is_none_or (is_among_names (whole_marks d)) (word_at (codes "mark") o)) os ≡ true → EachOf (KeptOp d) os
-kept_ops d [] f s v k = tt
-kept_ops d (o ∷ os) f s v k =
-    let fs = and_parts (is_formed d o) (list_all (is_formed d) os) f in
+kept_ops d second a [] f s v k = tt
+kept_ops d second a (o ∷ os) f s v k =
+    let fs = and_parts (is_formed second a o) (list_all (is_formed second a) os) f in
     let ss = and_parts (names_source (sources_named d) o) (list_all (names_source (sources_named d)) os) s in
     let vs = and_parts (names_device (devices_named d) o) (list_all (names_device (devices_named d)) os) v in
     let ks = and_parts (is_none_or (is_among_names (whole_marks d)) (word_at (codes "mark") o)) (list_all (λ x. is_none_or (is_among_names (whole_marks d)) (word_at (codes "mark") x)) os) k in
-    (record { form = fs.0; source = ss.0; device = vs.0; mark = ks.0 }, kept_ops d os fs.1 ss.1 vs.1 ks.1)
+    (record { form = table_row second a o fs.0; source = ss.0; device = vs.0; mark = ks.0 }, kept_ops d second a os fs.1 ss.1 vs.1 ks.1)
 
-kept_actors : (d : Data) (actors : List Data) → list_all is_actor_form actors ≡ true → list_all own_name actors ≡ true →
-    list_all (λ a. list_all (is_formed a) (list_in (codes "script") a)) actors ≡ true →
+kept_actors : (d : Data) (second : Bool) (actors : List Data) → list_all is_actor_form actors ≡ true → list_all own_name actors ≡ true →
+    list_all (λ a. list_all (is_formed second a) (list_in (codes "script") a)) actors ≡ true →
     list_all (λ a. list_all (names_source (sources_named d)) (list_in (codes "script") a)) actors ≡ true →
     list_all (λ a. list_all (names_device (devices_named d)) (list_in (codes "script") a)) actors ≡ true →
     list_all (λ a. list_all (λ o. is_none_or (is_among_names (whole_marks d)) (word_at (codes "mark") o)) (list_in (codes "script") a)) actors ≡ true → EachOf (KeptActor d) actors
-kept_actors d [] r n f s v k = tt
-kept_actors d (a ∷ actors) r n f s v k =
+kept_actors d second [] r n f s v k = tt
+kept_actors d second (a ∷ actors) r n f s v k =
     let each = λ (test : Data → Data → Bool). list_all (λ b. list_all (test b) (list_in (codes "script") b)) actors in
     let own = λ (test : Data → Data → Bool). list_all (test a) (list_in (codes "script") a) in
     let marked = λ (b o : Data). is_none_or (is_among_names (whole_marks d)) (word_at (codes "mark") o) in
     let rs = and_parts (is_actor_form a) (list_all is_actor_form actors) r in
     let ns = and_parts (own_name a) (list_all own_name actors) n in
-    let fs = and_parts (own is_formed) (each is_formed) f in
+    let fs = and_parts (own (is_formed second)) (each (is_formed second)) f in
     let ss = and_parts (own (λ b. names_source (sources_named d))) (each (λ b. names_source (sources_named d))) s in
     let vs = and_parts (own (λ b. names_device (devices_named d))) (each (λ b. names_device (devices_named d))) v in
     let ks = and_parts (own marked) (each marked) k in (
-      record { form = rs.0; names = ns.0; ops = kept_ops d (list_in (codes "script") a) fs.0 ss.0 vs.0 ks.0 },
-      kept_actors d actors rs.1 ns.1 fs.1 ss.1 vs.1 ks.1,
+      record { form = rs.0; names = ns.0; ops = kept_ops d second a (list_in (codes "script") a) fs.0 ss.0 vs.0 ks.0 },
+      kept_actors d second actors rs.1 ns.1 fs.1 ss.1 vs.1 ks.1,
     )
 
 -- ---- answers
@@ -147,7 +147,7 @@ pub record KeptFile (d : Data) : Type 0 where
 pub kept_file : (d : Data) → first_broken d ≡ None → KeptFile d
 kept_file d h =
     let r = keeps_all rules d h in
-    let forms : EachList d item_forms = each_list d item_forms r.1.1.1.0 in
+    let forms : EachList d (item_forms (is_second d)) = each_list d (item_forms (is_second d)) r.1.1.1.0 in
     let names = r.1.1.1.1.1 in
     let spelled : EachList d item_names = each_list d item_names names.0 in
     let devices = list_in (codes "devices") d in
@@ -171,8 +171,8 @@ kept_file d h =
           (each_passes own_name (list_in (codes "notifiers") d) (each_item (codes "notifiers") own_name d spelled.1.1.1.0));
       sources = each_passes spells_name (list_in (codes "sources") d) (each_item (codes "sources") spells_name d spelled.1.1.1.1.0);
       actors =
-          kept_actors d actors (each_item (codes "actors") is_actor_form d forms.1.1.1.1.1.0) (each_item (codes "actors") own_name d spelled.1.1.1.1.1.0)
-          (each_operation is_formed 0 actors ops.0)
+          kept_actors d (is_second d) actors (each_item (codes "actors") is_actor_form d forms.1.1.1.1.1.0) (each_item (codes "actors") own_name d spelled.1.1.1.1.1.0)
+          (each_operation (is_formed (is_second d)) 0 actors ops.0)
           (each_operation (λ a. names_source (sources_named d)) 0 actors sources.0)
           (each_operation (λ a. names_device (devices_named d)) 0 actors ops.1.1.1.0)
           (marks_known (is_among_names (whole_marks d)) actors (each_found [] (flat_map (λ a. marks_of (list_in (codes "script") a)) actors)));

@@ -23,4 +23,5 @@ pub mod DrawnRules
 pub mod DrawnTexts
 pub mod ReadBack
 pub mod Naming
+pub mod Versions
 pub mod Proved

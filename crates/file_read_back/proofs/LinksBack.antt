@@ -1,12 +1,12 @@
 -- A link that is written again has the same ends, and a notifier its name and priority.
-use Rattle.std.proofs.Common.{◌≡◌, ◌∙◌, ◌&&◌, ◌==◌, ℕ, List, [], codes, Bool, true, false, cond, ℤ, pos, negsuc, nat_le, nat_abs, Option, Some, None, option_and_then, unwrap_or, refl, sym, ap}
+use Rattle.std.proofs.Common.{◌≡◌, ◌∙◌, ◌&&◌, ◌==◌, ℕ, List, [], codes, Bool, true, false, not, cond, ℤ, pos, negsuc, nat_le, nat_abs, Option, Some, None, option_and_then, unwrap_or, refl, sym, ap}
 use Rattle.std.proofs.lemmas.Bool.{and_parts, and_from, false≢true, eqb-true}
 use Rattle.serde_json.specs.Data.{Data, string}
 use Rattle.serde_json.specs.Find.{get, as_str, as_number, as_integer}
 use Rattle.sleep_model.specs.Text.{device}
-use Rattle.machine_file.specs.Look.{is_some_and, is_none_or, has_only, text_at}
-use Rattle.machine_file.specs.Members.{must_have, may_have, link_members, notifier_members}
-use Rattle.machine_file.specs.Form.{is_string, is_near, is_link_form, is_notifier_form}
+use Rattle.machine_file.specs.Look.{is_some_and, is_none_or, is_text, has_only, text_at}
+use Rattle.machine_file.specs.Members.{must_have, may_have, has_text, link_members, notifier_members}
+use Rattle.machine_file.specs.Form.{is_string, is_near, is_one_of, link_states, is_link_form, is_notifier_form}
 use Rattle.machine_file.specs.Names.{is_among_names, spells_name, names_of_link, own_name, devices_named}
 use Rattle.machine_file.specs.Rules.{name_of, is_name}
 use Rattle.machine_file.specs.Spelled.{place_among, link_of}
@@ -34,8 +34,21 @@ link_again d o = link_value (whole_machine d) (link_of (devices_named d) o)
 pub record SameLink (d o : Data) : Type 0 where
   pub supplier : text_at (codes "supplier") (link_again d o) ≡ text_at (codes "supplier") o
   pub consumer : text_at (codes "consumer") (link_again d o) ≡ text_at (codes "consumer") o
-  pub form : is_link_form (link_again d o) ≡ true
+  pub active : not (has_text (codes "state") (codes "dormant") (link_again d o)) ≡ not (has_text (codes "state") (codes "dormant") o)
+  pub form : is_link_form true (link_again d o) ≡ true
   pub names : names_of_link (link_again d o) ≡ true
+
+-- the state, which is left out where the link is active
+abbrev state_of : Bool → Option Data
+state_of active = cond active None (Some (string (codes "dormant")))
+
+state_back : (active : Bool) → not (is_some_and (is_text (codes "dormant")) (state_of active)) ≡ active
+state_back true = refl
+state_back false = refl
+
+state_form : (active : Bool) → is_none_or (is_one_of link_states) (state_of active) ≡ true
+state_form true = refl
+state_form false = refl
 
 pub same_link : (d o : Data) → names_of_link o ≡ true → has_ends (devices_named d) o ≡ true → SameLink d o
 same_link d o names ends =
@@ -47,12 +60,16 @@ same_link d o names ends =
     at_name (link_rows (whole_machine d) (link_of (devices_named d) o)) refl (codes "supplier") ∙ ap (λ s. Some (string s)) supplier in
     let consumer_at : get (codes "consumer") (link_again d o) ≡ Some (string (text_at (codes "consumer") o)) =
     at_name (link_rows (whole_machine d) (link_of (devices_named d) o)) refl (codes "consumer") ∙ ap (λ s. Some (string s)) consumer in
+    let state_at : get (codes "state") (link_again d o) ≡ state_of (link_of (devices_named d) o).active =
+    at_name (link_rows (whole_machine d) (link_of (devices_named d) o)) refl (codes "state") in
     record {
       supplier = ap (λ r. unwrap_or (option_and_then as_str r) []) supplier_at;
       consumer = ap (λ r. unwrap_or (option_and_then as_str r) []) consumer_at;
+      active = ap (λ r. not (is_some_and (is_text (codes "dormant")) r)) state_at ∙ state_back (link_of (devices_named d) o).active;
       form =
-          and_from _ _ (and_from _ _ (named link_members (link_rows (whole_machine d) (link_of (devices_named d) o)) refl refl) (ap (is_some_and is_string) supplier_at))
-          (ap (is_some_and is_string) consumer_at);
+          and_from _ _ (and_from _ _ (and_from _ _ (named (link_members true) (link_rows (whole_machine d) (link_of (devices_named d) o)) refl refl) (ap (is_some_and is_string) supplier_at))
+          (ap (is_some_and is_string) consumer_at))
+          (ap (is_none_or (is_one_of link_states)) state_at ∙ state_form (link_of (devices_named d) o).active);
       names =
           and_from _ _ (ap (is_some_and spells_name) supplier_at ∙ spelled (get (codes "supplier") o) spell.0)
           (ap (is_some_and spells_name) consumer_at ∙ spelled (get (codes "consumer") o) spell.1);

@@ -134,7 +134,7 @@ module _ (d : Data) where
     pub link_same : (o : Data) → (names_of_link o ≡ true) × (has_ends (devices_named d) o ≡ true) → link_of (devices_named d) (link_again d o) ≡ link_of (devices_named d) o
     link_same o k =
         let s = same_link d o k.0 k.1 in
-        λ i. record { supplier = place_among (devices_named d) (s.supplier i); consumer = place_among (devices_named d) (s.consumer i) }
+        λ i. record { supplier = place_among (devices_named d) (s.supplier i); consumer = place_among (devices_named d) (s.consumer i); active = s.active i }
 
     pub whole_links_same : whole_links again ≡ whole_links d
     whole_links_same =

@@ -215,7 +215,7 @@ abbrev OwnsMark : Operation → Type 0
 OwnsMark r = (list_any (bytes_eq (codes "mark")) (codes "op" ∷ codes "times" ∷ r.members) ≡ false) ⊎ (r.form ≡ has_mark)
 
 rows_own : EachOf OwnsMark operations
-rows_own = (inl refl, (inl refl, (inl refl, (inl refl, (inl refl, (inl refl, (inl refl, (inr refl, (inr refl, (inl refl, (inl refl, (inl refl, (inl refl, tt)))))))))))))
+rows_own = (inl refl, (inl refl, (inl refl, (inl refl, (inl refl, (inl refl, (inl refl, (inr refl, (inr refl, (inl refl, (inl refl, (inl refl, (inl refl, (inl refl, (inl refl, tt)))))))))))))))
 
 row_kept : (o : Data) (r : Operation) → OwnsMark r → MarkKept o r
 row_kept o r (inl none) = no_mark o r none

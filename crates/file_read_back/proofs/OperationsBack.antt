@@ -1,20 +1,20 @@
 -- An operation that is written again says the same.
-use Rattle.std.proofs.Common.{◌≡◌, ◌∙◌, ◌&&◌, ℕ, List, [], ◌∷◌, codes, Bool, true, false, cond, bytes_eq, nat_le, length, find, Option, Some, None, option_map, option_and_then, unwrap_or, is_some, refl, sym, ap, ap₂}
+use Rattle.std.proofs.Common.{◌≡◌, ◌∙◌, ◌&&◌, ℕ, List, [], ◌∷◌, codes, Bool, true, false, not, cond, bytes_eq, nat_le, length, find, Option, Some, None, option_map, option_and_then, unwrap_or, is_some, refl, sym, ap, ap₂}
 use Rattle.std.specs.List.{list_all, list_any}
 use Rattle.std.proofs.lemmas.Bool.{and_parts, and_from, false≢true}
 use Rattle.serde_json.specs.Data.{Data, string}
 use Rattle.serde_json.specs.Find.{get, as_str, as_bool, as_number, as_u64}
 use Rattle.sleep_model.specs.declared.machine.Op.{Op}
-use Rattle.sleep_model.specs.declared.machine.Op.TheVariants.{Read, Save, State, Autosleep, Sleep, SleepD, FreezePoint, Post, Wait, Runtime, Awake, Relax, Event}
-use Rattle.sleep_model.specs.Text.{device, source, mark, runtime_word}
+use Rattle.sleep_model.specs.declared.machine.Op.TheVariants.{Read, Save, State, Autosleep, Sleep, SleepD, FreezePoint, Post, Wait, Runtime, Link, LinkState, Awake, Relax, Event}
+use Rattle.sleep_model.specs.Text.{device, source, mark, runtime_word, link_word}
 use Rattle.machine_file.specs.Look.{is_some_and, is_none_or, is_text, has_only, text_at}
 use Rattle.machine_file.specs.Members.{must_have, may_have, has_text, number_at, word_at}
-use Rattle.machine_file.specs.Form.{Named, is_string, is_truth, is_within, is_time, is_one_of, statuses}
+use Rattle.machine_file.specs.Form.{Named, is_string, is_truth, is_within, is_time, is_one_of, statuses, link_states}
 use Rattle.machine_file.specs.Names.{spells_name, is_among_names, devices_named, sources_named}
 use Rattle.machine_file.specs.Rules.{is_name}
 use Rattle.machine_file.specs.Spelled.{place_among}
 use Rattle.machine_file.specs.Limits.{times_of}
-use Rattle.machine_file.specs.Operations.{Operation, operation, operations, row_of, fits_row, names_source, names_device, has_count, is_state_form, has_short_text, has_length, has_mark, is_runtime_form, has_source, is_event_form, plain, users, tasks, everyone, Known, known_of, thing_at, ms_of, says, spelled_op, whole_op, whole_step, whole_marks}
+use Rattle.machine_file.specs.Operations.{Operation, operation, operations, row_of, fits_row, names_source, names_device_at, names_device, has_count, is_state_form, has_short_text, has_length, has_mark, is_runtime_form, has_ends_named, is_link_state_form, has_source, is_event_form, plain, users, tasks, everyone, Known, known_of, thing_at, ms_of, says, spelled_op, whole_op, whole_step, whole_marks}
 use Rattle.machine_file.specs.Whole.{whole_machine}
 use Rattle.machine_file.specs.Spelling.{object_of, op_rows, step_value}
 use Rattle.machine_file.proofs.Fitted.{absent}
@@ -38,6 +38,12 @@ spelled_by known g =
     ∷ (codes "post", Post (place_among known.marks (unwrap_or (option_and_then as_str (g (codes "mark"))) [])))
     ∷ (codes "wait", Wait (place_among known.marks (unwrap_or (option_and_then as_str (g (codes "mark"))) [])))
     ∷ (codes "runtime", Runtime (place_among known.devices (unwrap_or (option_and_then as_str (g (codes "device"))) [])) (is_some_and (is_text (codes "suspended")) (g (codes "to"))))
+    ∷ (codes "link", Link (place_among known.devices (unwrap_or (option_and_then as_str (g (codes "supplier"))) [])) (place_among known.devices (unwrap_or (option_and_then as_str (g (codes "consumer"))) [])))
+    ∷ (
+      codes "link_state",
+      LinkState (place_among known.devices (unwrap_or (option_and_then as_str (g (codes "supplier"))) [])) (place_among known.devices (unwrap_or (option_and_then as_str (g (codes "consumer"))) []))
+          (not (is_some_and (is_text (codes "dormant")) (g (codes "to")))),
+    )
     ∷ (codes "awake", Awake (place_among known.sources (unwrap_or (option_and_then as_str (g (codes "source"))) [])))
     ∷ (codes "relax", Relax (place_among known.sources (unwrap_or (option_and_then as_str (g (codes "source"))) [])))
     ∷ (codes "event", Event (place_among known.sources (unwrap_or (option_and_then as_str (g (codes "source"))) [])) (unwrap_or (number_of (g (codes "ms"))) 0) (unwrap_or (option_and_then as_bool (g (codes "hard"))) false))
@@ -59,6 +65,8 @@ pub record SameOp (d o : Data) (op : Op) : Type 0 where
   pub times : times_of (object_of (rows_again d o op)) ≡ times_of o
   pub source : word_at (codes "source") (object_of (rows_again d o op)) ≡ word_at (codes "source") o
   pub device : word_at (codes "device") (object_of (rows_again d o op)) ≡ word_at (codes "device") o
+  pub supplier : word_at (codes "supplier") (object_of (rows_again d o op)) ≡ word_at (codes "supplier") o
+  pub consumer : word_at (codes "consumer") (object_of (rows_again d o op)) ≡ word_at (codes "consumer") o
   pub mark : word_at (codes "mark") (object_of (rows_again d o op)) ≡ word_at (codes "mark") o
   pub spelled : whole_op (known_of d) (object_of (rows_again d o op)) ≡ op
   pub form : is_some_and (fits_row (object_of (rows_again d o op))) (row_of (object_of (rows_again d o op))) ≡ true
@@ -120,6 +128,14 @@ status_back : (b : Bool) → bytes_eq (runtime_word b) (codes "suspended") ≡ b
 status_back true = refl
 status_back false = refl
 
+active_back : (b : Bool) → not (bytes_eq (link_word b) (codes "dormant")) ≡ b
+active_back true = refl
+active_back false = refl
+
+active_form : (b : Bool) → is_one_of link_states (string (link_word b)) ≡ true
+active_form true = refl
+active_form false = refl
+
 status_form : (b : Bool) → is_one_of statuses (string (runtime_word b)) ≡ true
 status_form true = refl
 status_form false = refl
@@ -146,6 +162,16 @@ module _ (d o : Data) where
     pub none_at : (k : List ℕ) → list_any (bytes_eq k) names ≡ false → None ≡ word_at k o
     none_at k n = sym (ap word_of (absent names k o only n))
 
+    -- both ends of a link, in the rows and in the value
+    abbrev pub SameEnds : Op → Type 0
+    SameEnds op =
+        (word_of (found (rows_again d o op) (codes "supplier")) ≡ word_at (codes "supplier") o) × (word_of (found (rows_again d o op) (codes "consumer")) ≡ word_at (codes "consumer") o)
+
+    -- an operation that has no such members
+    pub endless : list_any (bytes_eq (codes "supplier")) names ≡ false → list_any (bytes_eq (codes "consumer")) names ≡ false →
+        (None ≡ word_at (codes "supplier") o) × (None ≡ word_at (codes "consumer") o)
+    endless s c = (none_at (codes "supplier") s, none_at (codes "consumer") c)
+
     -- what is left to be shown of a row
     pub made : (op : Op) → are_rising (rows_again d o op) ≡ true → found (rows_again d o op) (codes "op") ≡ Some (string r.word) →
         found (rows_again d o op) (codes "times") ≡ unless_default 1 (times_of o) →
@@ -153,16 +179,18 @@ module _ (d o : Data) where
         find (λ q. bytes_eq r.word q.word) operations ≡ Some r →
         word_of (found (rows_again d o op) (codes "source")) ≡ word_at (codes "source") o →
         word_of (found (rows_again d o op) (codes "device")) ≡ word_at (codes "device") o →
-        word_of (found (rows_again d o op) (codes "mark")) ≡ word_at (codes "mark") o →
+        word_of (found (rows_again d o op) (codes "mark")) ≡ word_at (codes "mark") o → SameEnds op →
         op_by (known_of d) (found (rows_again d o op)) ≡ op →
         r.form (object_of (rows_again d o op)) ≡ true →
         SameOp d o op
-    made op rising word times own row source device mark spells form =
+    made op rising word times own row source device mark ends spells form =
         let at = at_name (rows_again d o op) rising in record {
           word = λ x. ap (is_some_and (is_text x)) (at (codes "op") ∙ word) ∙ sym (member_apart (get (codes "op") o) r.word x is);
           times = ap (λ q. unwrap_or (number_of q) 1) (at (codes "times") ∙ times) ∙ number_back 1 (times_of o);
           source = ap word_of (at (codes "source")) ∙ source;
           device = ap word_of (at (codes "device")) ∙ device;
+          supplier = ap word_of (at (codes "supplier")) ∙ ends.0;
+          consumer = ap word_of (at (codes "consumer")) ∙ ends.1;
           mark = ap word_of (at (codes "mark")) ∙ mark;
           spelled = ap (op_by (known_of d)) (at_names (rows_again d o op) rising) ∙ spells;
           form =
@@ -177,13 +205,13 @@ module _ (d o : Data) where
     read_again : has_text (codes "op") (codes "read") o ≡ true → fits_row o (of_row users (codes "read") plain []) ≡ true → SameOp d o Read
     read_again is fits =
         let r = of_row users (codes "read") plain [] in
-        made r is fits Read refl refl refl refl refl (none_at r is fits (codes "source") refl) (none_at r is fits (codes "device") refl) (none_at r is fits (codes "mark") refl) refl refl
+        made r is fits Read refl refl refl refl refl (none_at r is fits (codes "source") refl) (none_at r is fits (codes "device") refl) (none_at r is fits (codes "mark") refl) (endless r is fits refl refl) refl refl
 
     save_again : has_text (codes "op") (codes "save") o ≡ true → fits_row o (of_row users (codes "save") has_count (codes "count" ∷ [])) ≡ true → SameOp d o (Save (number_at (codes "count") o))
     save_again is fits =
         let r = of_row users (codes "save") has_count (codes "count" ∷ []) in
         let op = Save (number_at (codes "count") o) in
-        made r is fits op refl refl refl refl refl (none_at r is fits (codes "source") refl) (none_at r is fits (codes "device") refl) (none_at r is fits (codes "mark") refl)
+        made r is fits op refl refl refl refl refl (none_at r is fits (codes "source") refl) (none_at r is fits (codes "device") refl) (none_at r is fits (codes "mark") refl) (endless r is fits refl refl)
         (ap Save (maybe_back (number_at (codes "count") o)))
         (ap (is_none_or (is_within 0 4294967295)) (at_name (rows_again d o op) refl (codes "count")) ∙ maybe_form 0 4294967295 (get (codes "count") o) (formed r is fits))
 
@@ -193,7 +221,7 @@ module _ (d o : Data) where
         let r = of_row users (codes "state") is_state_form (codes "text" ∷ codes "if_saved" ∷ []) in
         let op = State (text_at (codes "text") o) (says (codes "if_saved") o) in
         let form = and_parts (has_short_text o) (may_have (codes "if_saved") is_truth o) (formed r is fits) in
-        made r is fits op refl refl refl refl refl (none_at r is fits (codes "source") refl) (none_at r is fits (codes "device") refl) (none_at r is fits (codes "mark") refl)
+        made r is fits op refl refl refl refl refl (none_at r is fits (codes "source") refl) (none_at r is fits (codes "device") refl) (none_at r is fits (codes "mark") refl) (endless r is fits refl refl)
         (ap (State (text_at (codes "text") o)) (truth_back (says (codes "if_saved") o)))
         (and_from _ _ (ap (is_some_and (λ x. is_some_and (λ s. nat_le (length s) 32) (as_str x))) (at_name (rows_again d o op) refl (codes "text")) ∙ short_back (get (codes "text") o) form.0)
         (ap (is_none_or is_truth) (at_name (rows_again d o op) refl (codes "if_saved")) ∙ truth_form (says (codes "if_saved") o)))
@@ -203,34 +231,43 @@ module _ (d o : Data) where
     autosleep_again is fits =
         let r = of_row users (codes "autosleep") has_short_text (codes "text" ∷ []) in
         let op = Autosleep (text_at (codes "text") o) in
-        made r is fits op refl refl refl refl refl (none_at r is fits (codes "source") refl) (none_at r is fits (codes "device") refl) (none_at r is fits (codes "mark") refl) refl
+        made r is fits op refl refl refl refl refl (none_at r is fits (codes "source") refl) (none_at r is fits (codes "device") refl) (none_at r is fits (codes "mark") refl) (endless r is fits refl refl) refl
         (ap (is_some_and (λ x. is_some_and (λ s. nat_le (length s) 32) (as_str x))) (at_name (rows_again d o op) refl (codes "text")) ∙ short_back (get (codes "text") o) (formed r is fits))
 
     sleep_again : has_text (codes "op") (codes "sleep") o ≡ true → fits_row o (of_row everyone (codes "sleep") has_length (codes "ms" ∷ [])) ≡ true → SameOp d o (Sleep (ms_of o))
     sleep_again is fits =
         let r = of_row everyone (codes "sleep") has_length (codes "ms" ∷ []) in
         let op = Sleep (ms_of o) in
-        made r is fits op refl refl refl refl refl (none_at r is fits (codes "source") refl) (none_at r is fits (codes "device") refl) (none_at r is fits (codes "mark") refl) refl
+        made r is fits op refl refl refl refl refl (none_at r is fits (codes "source") refl) (none_at r is fits (codes "device") refl) (none_at r is fits (codes "mark") refl) (endless r is fits refl refl) refl
         (ap (is_some_and (is_time 1)) (at_name (rows_again d o op) refl (codes "ms")) ∙ length_back (get (codes "ms") o) (formed r is fits))
 
     sleep_d_again : has_text (codes "op") (codes "sleep_d") o ≡ true → fits_row o (of_row tasks (codes "sleep_d") has_length (codes "ms" ∷ [])) ≡ true → SameOp d o (SleepD (ms_of o))
     sleep_d_again is fits =
         let r = of_row tasks (codes "sleep_d") has_length (codes "ms" ∷ []) in
         let op = SleepD (ms_of o) in
-        made r is fits op refl refl refl refl refl (none_at r is fits (codes "source") refl) (none_at r is fits (codes "device") refl) (none_at r is fits (codes "mark") refl) refl
+        made r is fits op refl refl refl refl refl (none_at r is fits (codes "source") refl) (none_at r is fits (codes "device") refl) (none_at r is fits (codes "mark") refl) (endless r is fits refl refl) refl
         (ap (is_some_and (is_time 1)) (at_name (rows_again d o op) refl (codes "ms")) ∙ length_back (get (codes "ms") o) (formed r is fits))
 
     freeze_point_again : has_text (codes "op") (codes "freeze_point") o ≡ true → fits_row o (of_row tasks (codes "freeze_point") plain []) ≡ true → SameOp d o FreezePoint
     freeze_point_again is fits =
         let r = of_row tasks (codes "freeze_point") plain [] in
-        made r is fits FreezePoint refl refl refl refl refl (none_at r is fits (codes "source") refl) (none_at r is fits (codes "device") refl) (none_at r is fits (codes "mark") refl) refl refl
+        made r is fits FreezePoint refl refl refl refl refl (none_at r is fits (codes "source") refl) (none_at r is fits (codes "device") refl) (none_at r is fits (codes "mark") refl) (endless r is fits refl refl) refl refl
 
     -- the name of the mark, of the device or of the source
     mark_same : has_mark o ≡ true → mark (whole_machine d) (thing_at (codes "mark") (whole_marks d) o) ≡ text_at (codes "mark") o
     mark_same e = mark_back d (text_at (codes "mark") o) (among_word (whole_marks d) (get (codes "mark") o) (name_string (get (codes "mark") o) e) kept.mark)
 
-    device_same : must_have (codes "device") is_string o ≡ true → device (whole_machine d) (thing_at (codes "device") (devices_named d) o) ≡ text_at (codes "device") o
-    device_same e = device_back d (text_at (codes "device") o) (among_word (devices_named d) (get (codes "device") o) e kept.device)
+    device_same : (member : List ℕ) → names_device_at member (devices_named d) o ≡ true → must_have member is_string o ≡ true →
+        device (whole_machine d) (thing_at member (devices_named d) o) ≡ text_at member o
+    device_same member h e = device_back d (text_at member o) (among_word (devices_named d) (get member o) e h)
+
+    -- each device that it may name
+    named_devices : (names_device_at (codes "device") (devices_named d) o ≡ true) × (names_device_at (codes "supplier") (devices_named d) o ≡ true) × (names_device_at (codes "consumer") (devices_named d) o ≡ true)
+    named_devices =
+        let two =
+        and_parts (names_device_at (codes "device") (devices_named d) o && names_device_at (codes "supplier") (devices_named d) o) (names_device_at (codes "consumer") (devices_named d) o) kept.device in
+        let one = and_parts (names_device_at (codes "device") (devices_named d) o) (names_device_at (codes "supplier") (devices_named d) o) two.0 in
+        (one.0, one.1, two.1)
 
     source_same : has_source o ≡ true → source (whole_machine d) (thing_at (codes "source") (sources_named d) o) ≡ text_at (codes "source") o
     source_same e = source_back d (text_at (codes "source") o) (among_word (sources_named d) (get (codes "source") o) e kept.source)
@@ -242,7 +279,7 @@ module _ (d o : Data) where
         let op = Post (thing_at (codes "mark") (whole_marks d) o) in
         let form : has_mark o ≡ true = formed r is fits in
         made r is fits op refl refl refl refl refl (none_at r is fits (codes "source") refl) (none_at r is fits (codes "device") refl)
-        (ap Some (mark_same form) ∙ sym (some_string (get (codes "mark") o) (name_string (get (codes "mark") o) form)))
+        (ap Some (mark_same form) ∙ sym (some_string (get (codes "mark") o) (name_string (get (codes "mark") o) form))) (endless r is fits refl refl)
         (ap (λ s. Post (place_among (whole_marks d) s)) (mark_same form))
         (ap (is_some_and spells_name) (at_name (rows_again d o op) refl (codes "mark")) ∙ spelled_as (mark_same form) (spelled (get (codes "mark") o) form))
 
@@ -253,7 +290,7 @@ module _ (d o : Data) where
         let op = Wait (thing_at (codes "mark") (whole_marks d) o) in
         let form : has_mark o ≡ true = formed r is fits in
         made r is fits op refl refl refl refl refl (none_at r is fits (codes "source") refl) (none_at r is fits (codes "device") refl)
-        (ap Some (mark_same form) ∙ sym (some_string (get (codes "mark") o) (name_string (get (codes "mark") o) form)))
+        (ap Some (mark_same form) ∙ sym (some_string (get (codes "mark") o) (name_string (get (codes "mark") o) form))) (endless r is fits refl refl)
         (ap (λ s. Wait (place_among (whole_marks d) s)) (mark_same form))
         (ap (is_some_and spells_name) (at_name (rows_again d o op) refl (codes "mark")) ∙ spelled_as (mark_same form) (spelled (get (codes "mark") o) form))
 
@@ -264,10 +301,51 @@ module _ (d o : Data) where
         let op = Runtime (thing_at (codes "device") (devices_named d) o) (has_text (codes "to") (codes "suspended") o) in
         let form = and_parts (must_have (codes "device") is_string o) (must_have (codes "to") (is_one_of statuses) o) (formed r is fits) in
         made r is fits op refl refl refl refl refl (none_at r is fits (codes "source") refl)
-        (ap Some (device_same form.0) ∙ sym (some_string (get (codes "device") o) form.0)) (none_at r is fits (codes "mark") refl)
-        (ap₂ (λ s b. Runtime (place_among (devices_named d) s) b) (device_same form.0) (status_back (has_text (codes "to") (codes "suspended") o)))
+        (ap Some (device_same (codes "device") named_devices.0 form.0) ∙ sym (some_string (get (codes "device") o) form.0)) (none_at r is fits (codes "mark") refl) (endless r is fits refl refl)
+        (ap₂ (λ s b. Runtime (place_among (devices_named d) s) b) (device_same (codes "device") named_devices.0 form.0) (status_back (has_text (codes "to") (codes "suspended") o)))
         (and_from _ _ (ap (is_some_and is_string) (at_name (rows_again d o op) refl (codes "device")))
         (ap (is_some_and (is_one_of statuses)) (at_name (rows_again d o op) refl (codes "to")) ∙ status_form (has_text (codes "to") (codes "suspended") o)))
+
+    -- both ends of a link, by the form
+    module _ (ends : has_ends_named o ≡ true) where
+      given : (must_have (codes "supplier") is_string o ≡ true) × (must_have (codes "consumer") is_string o ≡ true)
+      given = and_parts (must_have (codes "supplier") is_string o) (must_have (codes "consumer") is_string o) ends
+
+      supplier_same : device (whole_machine d) (thing_at (codes "supplier") (devices_named d) o) ≡ text_at (codes "supplier") o
+      supplier_same = device_same (codes "supplier") named_devices.1 given.0
+
+      consumer_same : device (whole_machine d) (thing_at (codes "consumer") (devices_named d) o) ≡ text_at (codes "consumer") o
+      consumer_same = device_same (codes "consumer") named_devices.2 given.1
+
+      supplier_word : Some (device (whole_machine d) (thing_at (codes "supplier") (devices_named d) o)) ≡ word_at (codes "supplier") o
+      supplier_word = ap Some supplier_same ∙ sym (some_string (get (codes "supplier") o) given.0)
+
+      consumer_word : Some (device (whole_machine d) (thing_at (codes "consumer") (devices_named d) o)) ≡ word_at (codes "consumer") o
+      consumer_word = ap Some consumer_same ∙ sym (some_string (get (codes "consumer") o) given.1)
+
+    link_again : has_text (codes "op") (codes "link") o ≡ true → fits_row o (of_row tasks (codes "link") has_ends_named (codes "supplier" ∷ codes "consumer" ∷ [])) ≡ true →
+        SameOp d o (Link (thing_at (codes "supplier") (devices_named d) o) (thing_at (codes "consumer") (devices_named d) o))
+    link_again is fits =
+        let r = of_row tasks (codes "link") has_ends_named (codes "supplier" ∷ codes "consumer" ∷ []) in
+        let op = Link (thing_at (codes "supplier") (devices_named d) o) (thing_at (codes "consumer") (devices_named d) o) in
+        let form : has_ends_named o ≡ true = formed r is fits in
+        made r is fits op refl refl refl refl refl (none_at r is fits (codes "source") refl) (none_at r is fits (codes "device") refl) (none_at r is fits (codes "mark") refl)
+        (supplier_word form, consumer_word form)
+        (ap₂ (λ s c. Link (place_among (devices_named d) s) (place_among (devices_named d) c)) (supplier_same form) (consumer_same form))
+        (and_from _ _ (ap (is_some_and is_string) (at_name (rows_again d o op) refl (codes "supplier"))) (ap (is_some_and is_string) (at_name (rows_again d o op) refl (codes "consumer"))))
+
+    link_state_again : has_text (codes "op") (codes "link_state") o ≡ true → fits_row o (of_row tasks (codes "link_state") is_link_state_form (codes "supplier" ∷ codes "consumer" ∷ codes "to" ∷ [])) ≡ true →
+        SameOp d o (LinkState (thing_at (codes "supplier") (devices_named d) o) (thing_at (codes "consumer") (devices_named d) o) (not (has_text (codes "to") (codes "dormant") o)))
+    link_state_again is fits =
+        let r = of_row tasks (codes "link_state") is_link_state_form (codes "supplier" ∷ codes "consumer" ∷ codes "to" ∷ []) in
+        let active = not (has_text (codes "to") (codes "dormant") o) in
+        let op = LinkState (thing_at (codes "supplier") (devices_named d) o) (thing_at (codes "consumer") (devices_named d) o) active in
+        let form = (and_parts (has_ends_named o) (must_have (codes "to") (is_one_of link_states) o) (formed r is fits)).0 in
+        made r is fits op refl refl refl refl refl (none_at r is fits (codes "source") refl) (none_at r is fits (codes "device") refl) (none_at r is fits (codes "mark") refl)
+        (supplier_word form, consumer_word form)
+        (λ i. LinkState (place_among (devices_named d) (supplier_same form i)) (place_among (devices_named d) (consumer_same form i)) (active_back active i))
+        (and_from _ _ (and_from _ _ (ap (is_some_and is_string) (at_name (rows_again d o op) refl (codes "supplier"))) (ap (is_some_and is_string) (at_name (rows_again d o op) refl (codes "consumer"))))
+        (ap (is_some_and (is_one_of link_states)) (at_name (rows_again d o op) refl (codes "to")) ∙ active_form active))
 
     awake_again : has_text (codes "op") (codes "awake") o ≡ true → fits_row o (of_row everyone (codes "awake") has_source (codes "source" ∷ [])) ≡ true →
         SameOp d o (Awake (thing_at (codes "source") (sources_named d) o))
@@ -276,7 +354,7 @@ module _ (d o : Data) where
         let op = Awake (thing_at (codes "source") (sources_named d) o) in
         let form : has_source o ≡ true = formed r is fits in
         made r is fits op refl refl refl refl refl (ap Some (source_same form) ∙ sym (some_string (get (codes "source") o) form))
-        (none_at r is fits (codes "device") refl) (none_at r is fits (codes "mark") refl)
+        (none_at r is fits (codes "device") refl) (none_at r is fits (codes "mark") refl) (endless r is fits refl refl)
         (ap (λ s. Awake (place_among (sources_named d) s)) (source_same form))
         (ap (is_some_and is_string) (at_name (rows_again d o op) refl (codes "source")))
 
@@ -287,7 +365,7 @@ module _ (d o : Data) where
         let op = Relax (thing_at (codes "source") (sources_named d) o) in
         let form : has_source o ≡ true = formed r is fits in
         made r is fits op refl refl refl refl refl (ap Some (source_same form) ∙ sym (some_string (get (codes "source") o) form))
-        (none_at r is fits (codes "device") refl) (none_at r is fits (codes "mark") refl)
+        (none_at r is fits (codes "device") refl) (none_at r is fits (codes "mark") refl) (endless r is fits refl refl)
         (ap (λ s. Relax (place_among (sources_named d) s)) (source_same form))
         (ap (is_some_and is_string) (at_name (rows_again d o op) refl (codes "source")))
 
@@ -299,7 +377,7 @@ module _ (d o : Data) where
         let both = and_parts (has_source o && may_have (codes "ms") (is_time 0) o) (may_have (codes "hard") is_truth o) (formed r is fits) in
         let form = and_parts (has_source o) (may_have (codes "ms") (is_time 0) o) both.0 in
         made r is fits op refl refl refl refl refl (ap Some (source_same form.0) ∙ sym (some_string (get (codes "source") o) form.0))
-        (none_at r is fits (codes "device") refl) (none_at r is fits (codes "mark") refl)
+        (none_at r is fits (codes "device") refl) (none_at r is fits (codes "mark") refl) (endless r is fits refl refl)
         (ap (λ s. Event (place_among (sources_named d) s) (unwrap_or (number_of (unless_default 0 (ms_of o))) 0) (unwrap_or (option_and_then as_bool (if_true (says (codes "hard") o))) false)) (source_same form.0)
         ∙ ap₂ (λ n b. Event (thing_at (codes "source") (sources_named d) o) n b) (number_back 0 (ms_of o)) (truth_back (says (codes "hard") o)))
         (and_from _ _ (and_from _ _ (ap (is_some_and is_string) (at_name (rows_again d o op) refl (codes "source")))
@@ -368,11 +446,19 @@ same_op d o kept =
                         runtime_again d o kept,
                         (
                           refl,
-                          awake_again d o kept,
+                          link_again d o kept,
                           (
                             refl,
-                            relax_again d o kept,
-                            (refl, event_again d o kept, tt),
+                            link_state_again d o kept,
+                            (
+                              refl,
+                              awake_again d o kept,
+                              (
+                                refl,
+                                relax_again d o kept,
+                                (refl, event_again d o kept, tt),
+                              ),
+                            ),
                           ),
                         ),
                       ),

@@ -14,7 +14,7 @@ use Rattle.phase_table.specs.Phases.{phase_name}
 use Rattle.sleep_model.specs.Accepted.{IsOp, AreSteps, AreScripts, IsReport, AreReports, AreAnswers, IsAccepted}
 use Rattle.sleep_model.specs.declared.machine.Machine.{Machine}
 use Rattle.sleep_model.specs.declared.machine.Op.{Op}
-use Rattle.sleep_model.specs.declared.machine.Op.TheVariants.{Read, Save, State, Autosleep, Sleep, SleepD, FreezePoint, Post, Wait, Runtime, Awake, Relax, Event}
+use Rattle.sleep_model.specs.declared.machine.Op.TheVariants.{Read, Save, State, Autosleep, Sleep, SleepD, FreezePoint, Post, Wait, Runtime, Link, LinkState, Awake, Relax, Event}
 use Rattle.sleep_model.specs.declared.machine.SourceCall.{SourceCall}
 use Rattle.sleep_model.specs.declared.machine.SourceCall.TheVariants as call
 use Rattle.sleep_model.specs.declared.machine.TaskKind.{TaskKind}
@@ -22,7 +22,7 @@ use Rattle.sleep_model.specs.declared.machine.TaskKind.TheVariants as kind
 use Rattle.sleep_model.specs.declared.machine.What.{What}
 use Rattle.sleep_model.specs.declared.machine.What.TheVariants as what
 use Rattle.sleep_model.specs.Runtime.{has_bit, is_async, may_wake}
-use Rattle.sleep_model.specs.Text.{device, source, runtime_word}
+use Rattle.sleep_model.specs.Text.{device, source, runtime_word, link_word}
 use Rattle.machine_file.specs.Look.{is_some_and, is_none_or, text_of}
 use Rattle.machine_file.specs.Members.{list_in, has_text, number_at}
 use Rattle.machine_file.specs.Form.{Named, is_within, is_ret_form, is_notifier_form, is_near}
@@ -125,11 +125,15 @@ found_text t (q ∷ ops) h = by (t q.0) h.0 (found_text t ops h.1)
 op_text : (known : Known) (o : Data) → HasTexts o → HasText (whole_op known o)
 op_text known o h =
     found_text (λ word. has_text (codes "op") word o) (spelled_op known o)
-    (tt, (tt, (text_utf8 (codes "text") o h, (text_utf8 (codes "text") o h, (tt, (tt, (tt, (tt, (tt, (tt, (tt, (tt, (tt, tt)))))))))))))
+    (tt, (tt, (text_utf8 (codes "text") o h, (text_utf8 (codes "text") o h, (tt, (tt, (tt, (tt, (tt, (tt, (tt, (tt, (tt, (tt, (tt, tt)))))))))))))))
 
 status_utf8 : (b : Bool) → IsUtf8 (runtime_word b)
 status_utf8 true = ascii (codes "suspended") refl
 status_utf8 false = ascii (codes "active") refl
+
+state_utf8 : (b : Bool) → IsUtf8 (link_word b)
+state_utf8 true = ascii (codes "active") refl
+state_utf8 false = ascii (codes "dormant") refl
 
 module _ (d : Data) (texts : HasTexts d) where
   abbrev m : Machine
@@ -146,6 +150,11 @@ module _ (d : Data) (texts : HasTexts d) where
   op_plain n (Post x) few is text = object_plain 0 (op_rows m n (Post x)) refl refl (mark_utf8 d texts x, (ascii (codes "post") refl, (number_plain 0 1 n (omega arith), tt)))
   op_plain n (Wait x) few is text = object_plain 0 (op_rows m n (Wait x)) refl refl (mark_utf8 d texts x, (ascii (codes "wait") refl, (number_plain 0 1 n (omega arith), tt)))
   op_plain n (Runtime x b) few is text = object_plain 0 (op_rows m n (Runtime x b)) refl refl (device_utf8 d texts x, (ascii (codes "runtime") refl, (number_plain 0 1 n (omega arith), (status_utf8 b, tt))))
+  op_plain n (Link s c) few is text =
+      object_plain 0 (op_rows m n (Link s c)) refl refl (device_utf8 d texts c, (ascii (codes "link") refl, (device_utf8 d texts s, (number_plain 0 1 n (omega arith), tt))))
+  op_plain n (LinkState s c b) few is text =
+      object_plain 0 (op_rows m n (LinkState s c b)) refl refl
+      (device_utf8 d texts c, (ascii (codes "link_state") refl, (device_utf8 d texts s, (number_plain 0 1 n (omega arith), (state_utf8 b, tt)))))
   op_plain n (Awake s) few is text = object_plain 0 (op_rows m n (Awake s)) refl refl (ascii (codes "awake") refl, (source_utf8 d texts s, (number_plain 0 1 n (omega arith), tt)))
   op_plain n (Relax s) few is text = object_plain 0 (op_rows m n (Relax s)) refl refl (ascii (codes "relax") refl, (source_utf8 d texts s, (number_plain 0 1 n (omega arith), tt)))
   op_plain n (Event s ms b) few is text =
@@ -195,8 +204,13 @@ module _ (d : Data) (texts : HasTexts d) where
       object_plain 2 (device_rows m (whole_device (devices_named d) o)) refl refl
       (truth_plain 2 (is_async x), (text_utf8 (codes "name") o h, (parent_plain x.parent, (status_plain (has_bit 4 x.flags), (truth_plain 2 (may_wake x), tt)))))
 
+  dormant_plain : (active : Bool) → MayBePlain 2 (cond active None (Some (string (codes "dormant"))))
+  dormant_plain true = tt
+  dormant_plain false = ascii (codes "dormant") refl
+
   link_plain : (o : Data) → IsPlain 3 (link_value m (link_of (devices_named d) o))
-  link_plain o = object_plain 2 (link_rows m (link_of (devices_named d) o)) refl refl (device_utf8 d texts _, (device_utf8 d texts _, tt))
+  link_plain o =
+      let x = link_of (devices_named d) o in object_plain 2 (link_rows m (link_of (devices_named d) o)) refl refl (device_utf8 d texts _, (dormant_plain x.active, (device_utf8 d texts _, tt)))
 
   integer_plain : (z : ℤ) → nat_le (nat_abs z) 1000 ≡ true → MayBePlain 2 (integer_unless_zero z)
   integer_plain (pos n) e = by (n == 0) (leb-true n 1000 e)

@@ -1,5 +1,5 @@
 -- What is written for the machine of a file that breaks no rule breaks none.
-use Rattle.std.proofs.Common.{◌≡◌, ◌∙◌, ◌&&◌, ◌+◌, ◌*◌, ℕ, List, [], ◌∷◌, map, length, codes, Bool, true, false, not, cond, bytes_eq, nat_le, find, sum_by, Option, Some, None, unwrap_or, refl, ap, ap₂}
+use Rattle.std.proofs.Common.{◌≡◌, ◌∙◌, ◌&&◌, ◌||◌, ◌+◌, ◌*◌, ℕ, List, [], ◌∷◌, map, length, codes, Bool, true, false, not, cond, bytes_eq, nat_le, find, sum_by, Option, Some, None, unwrap_or, refl, ap, ap₂}
 use Rattle.std.specs.List.{list_all, list_any}
 use Rattle.std.specs.Option.{option_or, option_map}
 use Rattle.std.proofs.lemmas.Bool.{and_parts, and_from, false≢true}
@@ -7,17 +7,17 @@ use Rattle.serde_json.specs.Data.{Data}
 use Rattle.serde_json.specs.Find.{get}
 use Rattle.sleep_model.specs.Answers.{is_for}
 use Rattle.sleep_model.specs.Order.{is_among, hanging, moved, parents_of}
-use Rattle.machine_file.specs.Look.{is_some_and, is_none_or, is_list, has_only, text_at, text_of}
+use Rattle.machine_file.specs.Look.{is_some_and, is_none_or, is_number, is_list, has_only}
 use Rattle.machine_file.specs.Members.{may_have, has_text, list_in, number_at, file_members}
 use Rattle.machine_file.specs.Places.{unless, first_not, first_not_after, first_item, first_operation_of, item_place}
 use Rattle.machine_file.specs.Form.{Named, first_row, member_forms, is_within, is_string, is_device_form, is_link_form, is_notifier_form, is_actor_form, is_answer_form, unformed_member, unformed_item}
 use Rattle.machine_file.specs.Names.{is_among_names, names_of_device, names_of_link, spells_name, own_name, devices_named, sources_named, repeated, misspelled_item}
-use Rattle.machine_file.specs.Rules.{name_of, is_version_one, is_name}
+use Rattle.machine_file.specs.Rules.{name_of, has_version, is_second, is_name}
 use Rattle.machine_file.specs.Spelled.{place_among, link_of}
 use Rattle.machine_file.specs.Devices.{has_parent_before, has_ends, is_same_link, is_new_link, closes_no_cycle, orphan, loose_link, repeated_link, cyclic_link}
 use Rattle.machine_file.specs.Operations.{is_formed, is_allowed, names_source, names_device, unformed_operation, forbidden_operation, sourceless_operation, deviceless_operation}
 use Rattle.machine_file.specs.Answering.{names_of_kind, has_its_phase, names_thing, is_ret_allowed, may_report, is_same_answer, sourceless_report, repeated_answer}
-use Rattle.machine_file.specs.Limits.{most_items, too_many, all_steps, script_steps, is_state_step, has_autosleep, autosleep_attempts, are_steps_few, are_reports_few, too_much}
+use Rattle.machine_file.specs.Limits.{most_items, too_many, all_steps, script_steps, is_state_step, is_link_step, has_autosleep, autosleep_attempts, are_steps_few, are_reports_few, too_much}
 use Rattle.machine_file.specs.Whole.{Rule, rules, first_of, first_broken, broken_at, whole_machine}
 use Rattle.machine_file.specs.Spelling.{list_unless_empty, machine_rows}
 use Rattle.file_read_back.proofs.Rows.{at_name, named}
@@ -137,10 +137,17 @@ module _ (d : Data) (unbroken : first_broken d ≡ None) where
       by None h = absurd (false≢true h)
       by (Some s) h = h
 
+  -- what is written says version 2
+  second : is_second v ≡ true
+  second = ap (is_some_and (is_number 2)) (at (codes "version"))
+
+  link_form_kept : (o : Data) → (names_of_link o ≡ true) × (has_ends (devices_named d) o ≡ true) → is_link_form (is_second v) (link_again d o) ≡ true
+  link_form_kept o k = ap (λ b. is_link_form b (link_again d o)) second ∙ (same_link d o k.0 k.1).form
+
   items_kept : unformed_item v ≡ None
   items_kept =
       or_none _ _ (written_pass (codes "devices") is_device_form v (device_again d) (list_in (codes "devices") d) (devices_list d) (weaker (KeptDevice d) (λ o. is_device_form (device_again d o) ≡ true) _ (λ o k. (same_device d o k).form) kept.devices))
-      (or_none _ _ (written_pass (codes "links") is_link_form v (link_again d) (list_in (codes "links") d) (links_list d) (weaker (λ o. (names_of_link o ≡ true) × (has_ends (devices_named d) o ≡ true)) (λ o. is_link_form (link_again d o) ≡ true) _ (λ o k. (same_link d o k.0 k.1).form) kept.links))
+      (or_none _ _ (written_pass (codes "links") (is_link_form (is_second v)) v (link_again d) (list_in (codes "links") d) (links_list d) (weaker (λ o. (names_of_link o ≡ true) × (has_ends (devices_named d) o ≡ true)) (λ o. is_link_form (is_second v) (link_again d o) ≡ true) _ link_form_kept kept.links))
       (or_none _ _ (written_pass (codes "syscore") is_string v text_again (list_in (codes "syscore") d) (syscore_list d) (string_each _ kept.syscore))
       (or_none _ _ (written_pass (codes "notifiers") is_notifier_form v notifier_again (list_in (codes "notifiers") d) (notifiers_list d) (weaker (λ o. (is_notifier_form o ≡ true) × (own_name o ≡ true)) (λ o. is_notifier_form (notifier_again o) ≡ true) _ (λ o k. (same_notifier o k.0 k.1).form) kept.notifiers))
       (or_none _ _ (written_pass (codes "sources") is_string v text_again (list_in (codes "sources") d) (sources_list d) (string_each _ kept.sources))
@@ -259,7 +266,9 @@ module _ (d : Data) (unbroken : first_broken d ≡ None) where
   op_pass test os h k = made_pass test (op_again d) os (weaker (KeptOp d) (λ o. test (op_again d o) ≡ true) os h k)
 
   formed_kept : unformed_operation v ≡ None
-  formed_kept = actor_pass is_formed (λ a k. op_pass (is_formed (actor_again d a)) (list_in (codes "script") a) (λ o q. (same_op d o q).form) k.ops)
+  formed_kept =
+      actor_pass (is_formed (is_second v))
+      (λ a k. op_pass (is_formed (is_second v) (actor_again d a)) (list_in (codes "script") a) (λ o q. ap (λ b. is_formed b (actor_again d a) (op_again d o)) second ∙ (same_op d o q).form) k.ops)
 
   source_kept : sourceless_operation v ≡ None
   source_kept =
@@ -270,8 +279,13 @@ module _ (d : Data) (unbroken : first_broken d ≡ None) where
   device_kept : deviceless_operation v ≡ None
   device_kept =
       actor_pass (λ a. names_device (devices_named v))
-      (λ a k. op_pass (names_device (devices_named v)) (list_in (codes "script") a)
-      (λ o q. ap₂ (λ ns w. is_none_or (is_among_names ns) w) (devices_named_same d kept) (same_op d o q).device ∙ q.device) k.ops)
+      (λ a k. op_pass (names_device (devices_named v)) (list_in (codes "script") a) (λ o q. named_devices o q ∙ q.device) k.ops)
+    where
+      named_devices : (o : Data) → KeptOp d o → names_device (devices_named v) (op_again d o) ≡ names_device (devices_named d) o
+      named_devices o q =
+          let names = devices_named_same d kept in
+          let same = same_op d o q in
+          λ i. is_none_or (is_among_names (names i)) (same.device i) && is_none_or (is_among_names (names i)) (same.supplier i) && is_none_or (is_among_names (names i)) (same.consumer i)
 
   abbrev actors : List Data
   actors = list_in (codes "actors") d
@@ -368,7 +382,9 @@ module _ (d : Data) (unbroken : first_broken d ≡ None) where
       let all = steps_same (λ o. true) (λ o k. refl) in
       let states = steps_same is_state_step (λ o k. (same_op d o k).word (codes "state")) in
       let count = ap length (devices_list d) ∙ length_alike (device_again d) (list_in (codes "devices") d) in
-      λ i. nat_le (all i) 200000 && nat_le ((states i + cycles_same i) * (count i + 50)) 100000
+      let added = steps_same is_link_step (λ o k. (same_op d o k).word (codes "link")) in
+      let written = ap length (links_list d) ∙ length_alike (link_again d) (list_in (codes "links") d) in
+      λ i. nat_le (all i) 200000 && nat_le ((states i + cycles_same i) * (count i + 50)) 100000 && nat_le (written i + added i) 4000
 
   few_reports_same : are_reports_few v ≡ are_reports_few d
   few_reports_same =
@@ -391,7 +407,7 @@ module _ (d : Data) (unbroken : first_broken d ≡ None) where
       none_broken rules v (
         kept_unless (has_only file_members v) (codes "top") (named file_members (machine_rows (whole_machine d)) refl refl),
         (
-          kept_unless (is_version_one v) (codes "version") (ap (is_some_and (Rattle.machine_file.specs.Look.is_number 1)) (at (codes "version"))),
+          kept_unless (has_version v) (codes "version") (ap (is_some_and (λ x. is_number 1 x || is_number 2 x)) (at (codes "version"))),
           (
             members_kept,
             (

@@ -1,13 +1,16 @@
 -- That a machine is read back from what is written for it, and that texts tell its logs apart.
-use Rattle.std.specs.Prelude.{◌≡◌, ◌≤◌, ℕ, None}
+use Rattle.std.specs.Prelude.{◌≡◌, ◌≤◌, ℕ, List, codes, true, false, bytes_eq, Some, None}
 use Rattle.serde_json.specs.Data.{Data}
+use Rattle.serde_json.specs.Find.{get}
 use Rattle.sleep_model.specs.declared.log.Log.{Log}
 use Rattle.sleep_model.specs.declared.machine.Machine.{Machine}
 use Rattle.sleep_model.specs.Fits.{IsWritable}
 use Rattle.sleep_model.specs.Text.{text}
+use Rattle.machine_file.specs.Look.{has_only}
+use Rattle.machine_file.specs.Members.{file_members}
 use Rattle.machine_file.specs.Whole.{first_broken, whole_machine, IsSpelled}
 use Rattle.log_text.specs.Named.{AreNamed}
-use Rattle.machine_file.specs.Spelling.{machine_value, ReadsBack}
+use Rattle.machine_file.specs.Spelling.{count, machine_value, ReadsBack}
 use Rattle.sleep_script.specs.Generated.{generated}
 
 -- the value that is written for what this value spells breaks no rule, and spells the same
@@ -17,6 +20,16 @@ SpellsAgain d = (first_broken (machine_value (whole_machine d)) ≡ None) × (wh
 -- so it is of each value that breaks no rule
 abbrev pub AllSpellAgain : Type 0
 AllSpellAgain = (d : Data) → first_broken d ≡ None → SpellsAgain d
+
+-- the second value is the first, but that it says version 2
+pub record IsSecondOf (d e : Data) : Type 0 where
+  pub version : get (codes "version") e ≡ Some (count 2)
+  pub members : has_only file_members e ≡ true
+  pub others : (name : List ℕ) → bytes_eq name (codes "version") ≡ false → get name e ≡ get name d
+
+-- where the first breaks no rule, the second breaks none and spells the same machine
+abbrev pub AllVersionsAlike : Type 0
+AllVersionsAlike = (d e : Data) → IsSecondOf d e → first_broken d ≡ None → (first_broken e ≡ None) × (whole_machine e ≡ whole_machine d)
 
 -- the names of each machine that a file spells are spelled as names are, and told apart
 abbrev pub AllNamed : Type 0

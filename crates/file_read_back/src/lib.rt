@@ -3,7 +3,7 @@
 #![tactic(auto)]
 
 ghost use Rattle.machine_file.specs.Spelling.{AllReadBack};
-ghost use Rattle.file_read_back.specs.Laws.{AllGenerated, AllNamed, AllSpellAgain, AllTold};
+ghost use Rattle.file_read_back.specs.Laws.{AllGenerated, AllNamed, AllSpellAgain, AllTold, AllVersionsAlike};
 
 #[cfg(test)]
 mod tests;
@@ -12,6 +12,11 @@ mod tests;
 /// spells that machine.
 pub fn values_spell_again()
     ensures { AllSpellAgain }
+{}
+
+/// A value without a broken rule breaks none as one of version 2, and spells the same machine.
+pub fn versions_spell_alike()
+    ensures { AllVersionsAlike }
 {}
 
 /// The bytes that are written for a machine that some file spells are accepted, and spell it.

@@ -22,44 +22,7 @@ use Rattle.sleep_model.specs.Calls.{calls_at, pieces_if, pieces_in, calls_of_tur
 use Rattle.sleep_model.specs.Path.{attempts, is_same}
 use Rattle.sleep_model.specs.Scripts.{Piece, Calls, Turns, times_over, operations, note_of, autosleep_pieces, call_or_turn, pieces_of, pieces}
 use Rattle.sleep_model.specs.Tasks.{is_mem, is_off}
-
--- ---- what holds of each item
-
-abbrev pub Each : {A : Type 0} → (A → Type 0) → List A → Type 0
-Each P [] = Unit {0}
-Each P (x ∷ xs) = P x × Each P xs
-
-each_append : {A : Type 0} (P : A → Type 0) (xs ys : List A) → Each P xs → Each P ys → Each P (xs ++ ys)
-each_append P [] ys h g = g
-each_append P (x ∷ xs) ys h g = (h.0, each_append P xs ys h.1 g)
-
-each_copy : {A : Type 0} (P : A → Type 0) (n : ℕ) (x : A) → P x → Each P (replicate n x)
-each_copy P zero x h = tt
-each_copy P (suc n) x h = (h, each_copy P n x h)
-
-each_times : {A : Type 0} (P : A → Type 0) (n : ℕ) (xs : List A) → Each P xs → Each P (times_over n xs)
-each_times P zero xs h = tt
-each_times P (suc n) xs h = each_append P (times_over n xs) xs (each_times P n xs h) h
-
-each_flat : {A B : Type 0} (P : A → Type 0) (Q : B → Type 0) (f : A → List B) → ((x : A) → P x → Each Q (f x)) → (xs : List A) → Each P xs → Each Q (flat_map f xs)
-each_flat P Q f g [] h = tt
-each_flat P Q f g (x ∷ xs) h = each_append Q (f x) (flat_map f xs) (g x h.0) (each_flat P Q f g xs h.1)
-
-each_get : {A : Type 0} (P : A → Type 0) (xs : List A) (i : ℕ) (x : A) → Each P xs → slice_get xs i ≡ Some x → P x
-each_get P [] i x h e = absurd (cc)
-each_get P (y ∷ ys) zero x h e = subst P (let same : y ≡ x = cc in same) h.0
-each_get P (y ∷ ys) (suc i) x h e = each_get P ys i x h.1 e
-
--- ---- operations
-
-each_step : (m : Machine) (steps : List Step) → AreSteps m steps → Each (λ s. IsOp m s.op) steps
-each_step m [] h = tt
-each_step m (s ∷ ss) h = (h.2, each_step m ss h.3)
-
-each_operation : (m : Machine) (s : Script) → AreSteps m s.steps → Each (IsOp m) (operations s)
-each_operation m s h =
-    each_times (IsOp m) s.repeat (flat_map (λ step. replicate step.times step.op) s.steps)
-    (each_flat (λ step. IsOp m step.op) (IsOp m) (λ step. replicate step.times step.op) (λ step o. each_copy (IsOp m) step.times step.op o) s.steps (each_step m s.steps h))
+use Rattle.sleep_laws.proofs.Operations.{Each, each_append, each_flat, each_get, each_operation, script_steps}
 
 -- the note of a call on a source of the machine, which is no expiry
 abbrev pub IsNoteOf : Machine → Kind → Type 0
@@ -91,11 +54,8 @@ each_piece m op.FreezePoint h = (tt, tt)
 each_piece m (op.Post mark) h = (tt, tt)
 each_piece m (op.Wait mark) h = (tt, tt)
 each_piece m (op.Runtime d to) h = (tt, tt)
-
-script_steps : (m : Machine) (scripts : List Script) (i : ℕ) (s : Script) → AreScripts m scripts → slice_get scripts i ≡ Some s → AreSteps m s.steps
-script_steps m [] i s h e = absurd (cc)
-script_steps m (t ∷ rest) zero s h e = subst (λ (x : Script). AreSteps m x.steps) (let same : t ≡ s = cc in same) h.2
-script_steps m (t ∷ rest) (suc i) s h e = script_steps m rest i s h.3 e
+each_piece m (op.Link supplier consumer) h = (tt, tt)
+each_piece m (op.LinkState supplier consumer active) h = (tt, tt)
 
 pieces_kept : (m : Machine) → IsAccepted m → (i : ℕ) → Each (IsPieceOf m) (pieces_in m i)
 pieces_kept m acc i = by_script (slice_get m.actors i) refl

@@ -36,7 +36,7 @@ use Rattle.sleep_model.specs.declared.machine.TaskKind.{TaskKind}
 use Rattle.sleep_model.specs.declared.machine.TaskKind.TheVariants as task
 use Rattle.sleep_model.specs.declared.word.EventNow.{EventNow}
 use Rattle.sleep_model.specs.Fits.{fits_kind, fits_froze, fits_actor, fits_word, fits_entry, fits_stats, fits_script, fits_cause, is_answer, is_word32, is_word32_if, is_word64}
-use Rattle.sleep_model.specs.Text.{body, space, device, source, notifier, syscore, mark, task as script_name, task_name, answer_text, cause_text, guard_text, froze_text, down_word, group_word, runtime_word, hard_word, prepare_text, error_text, actor_text, script_text, script_word, word_text, counts_text, times_text, waiting_text}
+use Rattle.sleep_model.specs.Text.{body, space, device, source, notifier, syscore, mark, task as script_name, task_name, answer_text, cause_text, guard_text, froze_text, down_word, group_word, runtime_word, link_word, hard_word, prepare_text, error_text, actor_text, script_text, script_word, word_text, counts_text, times_text, waiting_text}
 use Rattle.log_text.specs.Named.{AreNamed}
 use Rattle.log_text.proofs.Cuts.{is_without, without_append, decimal_no_newline}
 use Rattle.log_text.proofs.NumbersBack.{below32, below64}
@@ -89,6 +89,10 @@ runtime_clean : (b : Bool) → is_clean (runtime_word b) ≡ true
 runtime_clean true = refl
 runtime_clean false = refl
 
+link_clean : (b : Bool) → is_clean (link_word b) ≡ true
+link_clean true = refl
+link_clean false = refl
+
 hard_clean : (b : Bool) → is_clean (hard_word b) ≡ true
 hard_clean true = refl
 hard_clean false = refl
@@ -140,6 +144,14 @@ module _ (m : Machine) (named : AreNamed m) where
   body_clean (kind.Got x) f = mark_bytes m named 10 refl x f
   body_clean kind.Exit f = refl
   body_clean (kind.RuntimeAsk d to r) f = spaced (device m d ++ space ++ runtime_word to) (answer_text r) (spaced (device m d) (runtime_word to) (device_bytes m named 10 refl d f) (runtime_clean to)) (answer_clean r)
+  body_clean (kind.LinkAdd s c r) f =
+      let p = and_parts (nat_lt s (length m.devices)) (nat_lt c (length m.devices)) f in
+      spaced (device m s ++ space ++ device m c) (answer_text r) (spaced (device m s) (device m c) (device_bytes m named 10 refl s p.0) (device_bytes m named 10 refl c p.1)) (answer_clean r)
+  body_clean (kind.LinkState s c to r) f =
+      let p = and_parts (nat_lt s (length m.devices)) (nat_lt c (length m.devices)) f in
+      let ends = spaced (device m s) (device m c) (device_bytes m named 10 refl s p.0) (device_bytes m named 10 refl c p.1) in
+      spaced (device m s ++ space ++ device m c ++ space ++ link_word to) (answer_text r)
+      (spaced (device m s ++ space ++ device m c) (link_word to) ends (link_clean to)) (answer_clean r)
   body_clean kind.AutoRun f = refl
   body_clean (kind.AutoSaved c) f = number32 c f
   body_clean (kind.AutoUnsaved c) f = number32 c f

@@ -25,10 +25,10 @@ use Rattle.sleep_model.specs.declared.machine.PlatDo.TheVariants as down
 use Rattle.sleep_model.specs.declared.machine.PlatUndo.TheVariants as up
 use Rattle.sleep_model.specs.declared.machine.Script.{Script}
 use Rattle.sleep_model.specs.Fits.{fits_kind, fits_froze, is_answer, is_word32, is_word32_if}
-use Rattle.sleep_model.specs.Text.{body, space, device, device_name, source, source_names, notifier, notifier_name, syscore, mark, task, task_name, name_in, answer_text, cause_text, guard_text, froze_text, down_word, group_word, runtime_word, hard_word, prepare_text}
+use Rattle.sleep_model.specs.Text.{body, space, device, device_name, source, source_names, notifier, notifier_name, syscore, mark, task, task_name, name_in, answer_text, cause_text, guard_text, froze_text, down_word, group_word, runtime_word, link_word, hard_word, prepare_text}
 use Rattle.log_text.specs.Named.{AreNamed, device_names, notifier_names, script_names, is_name_byte}
 use Rattle.log_text.specs.Cutting.{word, rest, word32, word64}
-use Rattle.log_text.specs.Reading.{kind_in, device_in, source_in, mark_in, notifier_in, syscore_in, script_in, read_kind, save_kind, runtime_kind, event_kind, prepare_kind, schedule_kind, begin_kind, end_kind, skip_kind, attempt_kind, over_kind, notify_kind, failed_in, failed_end, froze_in, froze_kind, kind_by, task_by, platform_kind, cpu_kind, syscore_down}
+use Rattle.log_text.specs.Reading.{kind_in, device_in, source_in, mark_in, notifier_in, syscore_in, script_in, read_kind, save_kind, runtime_kind, link_kind, link_state_kind, link_state_to, event_kind, prepare_kind, schedule_kind, begin_kind, end_kind, skip_kind, attempt_kind, over_kind, notify_kind, failed_in, failed_end, froze_in, froze_kind, kind_by, task_by, platform_kind, cpu_kind, syscore_down}
 use Rattle.log_text.specs.Words.{answer_in, cause_in, phase_in, group_in}
 use Rattle.log_text.specs.declared.verb.Verb.TheVariants as verb
 use Rattle.log_text.proofs.Cuts.{is_without, before_at, behind_at, before_all, behind_none, decimal_no_space, name_without}
@@ -51,6 +51,9 @@ two a b = append_assoc a space b
 -- three
 pub three : (a b c : List ℕ) → a ++ space ++ b ++ space ++ c ≡ a ++ 32 ∷ (b ++ 32 ∷ c)
 three a b c = append_assoc (a ++ space ++ b) space c ∙ append_assoc (a ++ space) b (32 ∷ c) ∙ append_assoc a space (b ++ 32 ∷ c)
+
+four : (a b c d : List ℕ) → a ++ space ++ b ++ space ++ c ++ space ++ d ≡ a ++ 32 ∷ (b ++ 32 ∷ (c ++ 32 ∷ d))
+four a b c d = append_assoc (a ++ space ++ b ++ space ++ c) space d ∙ append_assoc (a ++ space ++ b ++ space) c (32 ∷ d) ∙ three a b (c ++ 32 ∷ d)
 
 device_is : (xs : List Device) (i : ℕ) → name_in (slice_get (map (λ d. d.name) xs) i) ≡ device_name (slice_get xs i)
 device_is [] i = refl
@@ -136,6 +139,26 @@ module _ (m : Machine) (named : AreNamed m) where
   runtime_back d false r f =
       let x = codes "active" ++ 32 ∷ answer_text r in
       rw (first (device m d) x (device_bytes 32 refl d f), second (device m d) x (device_bytes 32 refl d f), device_back d f) (ap (λ (q : Option Errno). Some (kind.RuntimeAsk d false q)) (answer_back r))
+
+  link_back : (s c : ℕ) (r : Option Errno) → nat_lt s (length m.devices) ≡ true → nat_lt c (length m.devices) ≡ true →
+      link_kind m (device m s ++ 32 ∷ (device m c ++ 32 ∷ answer_text r)) ≡ Some (kind.LinkAdd s c r)
+  link_back s c r f g =
+      let y = answer_text r in
+      let x = device m c ++ 32 ∷ y in
+      rw (first (device m s) x (device_bytes 32 refl s f), second (device m s) x (device_bytes 32 refl s f), device_back s f, first (device m c) y (device_bytes 32 refl c g), second (device m c) y (device_bytes 32 refl c g), device_back c g)
+      (ap (λ (q : Option Errno). Some (kind.LinkAdd s c q)) (answer_back r))
+
+  link_to_back : (s c : ℕ) (to : Bool) (r : Option Errno) → link_state_to (link_word to ++ 32 ∷ answer_text r) s c ≡ kind.LinkState s c to r
+  link_to_back s c true r = ap (kind.LinkState s c true) (answer_back r)
+  link_to_back s c false r = ap (kind.LinkState s c false) (answer_back r)
+
+  link_state_back : (s c : ℕ) (to : Bool) (r : Option Errno) → nat_lt s (length m.devices) ≡ true → nat_lt c (length m.devices) ≡ true →
+      link_state_kind m (device m s ++ 32 ∷ (device m c ++ 32 ∷ (link_word to ++ 32 ∷ answer_text r))) ≡ Some (kind.LinkState s c to r)
+  link_state_back s c to r f g =
+      let y = link_word to ++ 32 ∷ answer_text r in
+      let x = device m c ++ 32 ∷ y in
+      rw (first (device m s) x (device_bytes 32 refl s f), second (device m s) x (device_bytes 32 refl s f), device_back s f, first (device m c) y (device_bytes 32 refl c g), second (device m c) y (device_bytes 32 refl c g), device_back c g)
+      (ap Some (link_to_back s c to r))
 
   hard_back : (s ms : ℕ) (h : Bool) → Some (kind.Event s ms (bytes_eq (hard_word h) (codes "hard"))) ≡ Some (kind.Event s ms h)
   hard_back s ms true = refl
@@ -269,6 +292,12 @@ module _ (m : Machine) (named : AreNamed m) where
   kind_back (kind.Got x) f = ap (option_map kind.Got) (mark_back x f)
   kind_back kind.Exit f = refl
   kind_back (kind.RuntimeAsk d to r) f = ap (runtime_kind m) (three (device m d) (runtime_word to) (answer_text r)) ∙ runtime_back d to r f
+  kind_back (kind.LinkAdd s c r) f =
+      let p = and_parts (nat_lt s (length m.devices)) (nat_lt c (length m.devices)) f in
+      ap (link_kind m) (three (device m s) (device m c) (answer_text r)) ∙ link_back s c r p.0 p.1
+  kind_back (kind.LinkState s c to r) f =
+      let p = and_parts (nat_lt s (length m.devices)) (nat_lt c (length m.devices)) f in
+      ap (link_state_kind m) (four (device m s) (device m c) (link_word to) (answer_text r)) ∙ link_state_back s c to r p.0 p.1
   kind_back kind.AutoRun f = refl
   kind_back (kind.AutoSaved c) f = ap (option_map kind.AutoSaved) (word32_back c f)
   kind_back (kind.AutoUnsaved c) f = ap (option_map kind.AutoUnsaved) (word32_back c f)

@@ -83,6 +83,24 @@ runtime_kind m t =
     (λ d. kind.RuntimeAsk d (bytes_eq (word (rest t)) (codes "suspended")) (answer_in (rest (rest t))))
     (device_in m (word t))
 
+-- what stands behind `link`
+abbrev pub link_kind : Machine → List ℕ → Option Kind
+link_kind m t =
+    option_and_then
+    (λ s. option_map (λ c. kind.LinkAdd s c (answer_in (rest (rest t)))) (device_in m (word (rest t))))
+    (device_in m (word t))
+
+-- what stands behind the ends of `link_state`
+abbrev pub link_state_to : List ℕ → ℕ → ℕ → Kind
+link_state_to t s c = kind.LinkState s c (bytes_eq (word t) (codes "active")) (answer_in (rest t))
+
+-- what stands behind `link_state`
+abbrev pub link_state_kind : Machine → List ℕ → Option Kind
+link_state_kind m t =
+    option_and_then
+    (λ s. option_map (link_state_to (rest (rest t)) s) (device_in m (word (rest t))))
+    (device_in m (word t))
+
 -- what stands behind `event`
 abbrev pub event_kind : Machine → List ℕ → Option Kind
 event_kind m t =
@@ -237,6 +255,8 @@ task_by m verb.Post t = option_map kind.Post (mark_in m t)
 task_by m verb.Got t = option_map kind.Got (mark_in m t)
 task_by m verb.Exit t = Some kind.Exit
 task_by m verb.Runtime t = runtime_kind m t
+task_by m verb.Link t = link_kind m t
+task_by m verb.LinkState t = link_state_kind m t
 task_by m v t = auto_by m v t
 
 -- what stands behind a verb

@@ -58,7 +58,9 @@ task_verb w =
     else (if bytes_eq w (codes "post") then Some verb.Post
     else (if bytes_eq w (codes "got") then Some verb.Got
     else (if bytes_eq w (codes "exit") then Some verb.Exit
-    else (if bytes_eq w (codes "runtime") then Some verb.Runtime else auto_verb w))))))))))))
+    else (if bytes_eq w (codes "runtime") then Some verb.Runtime
+    else (if bytes_eq w (codes "link") then Some verb.Link
+    else (if bytes_eq w (codes "link_state") then Some verb.LinkState else auto_verb w))))))))))))))
 
 -- first words of entries, those of device phases first, since a log has most of them
 abbrev pub verb_of : List ℕ → Option Verb

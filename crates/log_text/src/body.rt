@@ -1,7 +1,8 @@
 ghost use Rattle.std.specs.Prelude.{◌≡◌, ◌++◌, OnOk};
-ghost use Rattle.sleep_model.specs.Text.{body, step_body, auto_body, source_body, phase_body, attempt_body, platform_body, froze_text, prepare_text};
+ghost use Rattle.sleep_model.specs.Text.{body, device, link_word, space, step_body, auto_body, source_body, phase_body, attempt_body, platform_body, froze_text, prepare_text};
 
 use crate::names::{device_name, mark_name, notifier_name, source_name, syscore_name, task_name};
+use crate::phases::{begin_text, end_text, schedule_text};
 use crate::writer::{LineWriter, Spelled, put};
 use sleep_base::Mem;
 use sleep_model::{FrozeEnd, Kind, Machine, Thaw};
@@ -29,6 +30,27 @@ pub fn put_body(out: &mut LineWriter, machine: &Machine, kind: Kind) -> Result<(
     }
 }
 
+/// The state of a link.
+fn link_word(active: bool) -> &'static str
+    ensures { result.now ≡ link_word active }
+{
+    if active { "active" } else { "dormant" }
+}
+
+/// Writes a verb of links, and both ends, each with the space behind it.
+fn put_ends(
+    out: &mut LineWriter,
+    machine: &Machine,
+    verb: &str,
+    supplier: u32,
+    consumer: u32,
+) -> Result<(), Mem>
+    ensures { OnOk result
+        (out.new ≡ out.old ++ (verb.now ++ device machine.now supplier ++ space ++ device machine.now consumer ++ space)) }
+{
+    put!(out; verb, device_name(machine, supplier), " ", device_name(machine, consumer), " ")
+}
+
 /// Writes what an entry of a task's other steps says.
 fn put_step(out: &mut LineWriter, machine: &Machine, kind: Kind) -> Result<(), Mem>
     ensures { OnOk result (out.new ≡ out.old ++ step_body machine.now kind) }
@@ -48,6 +70,23 @@ fn put_step(out: &mut LineWriter, machine: &Machine, kind: Kind) -> Result<(), M
         } => {
             let to = if to_suspended { "suspended" } else { "active" };
             put!(out; "runtime ", device_name(machine, device), " ", to, " ", r)
+        }
+        Kind::LinkAdd {
+            supplier,
+            consumer,
+            r,
+        } => {
+            put_ends(out, machine, "link ", supplier, consumer)?;
+            put!(out; r)
+        }
+        Kind::LinkState {
+            supplier,
+            consumer,
+            active,
+            r,
+        } => {
+            put_ends(out, machine, "link_state ", supplier, consumer)?;
+            put!(out; link_word(active), " ", r)
         }
         _ => put_auto(out, machine, kind),
     }
@@ -95,21 +134,21 @@ fn put_phase(out: &mut LineWriter, machine: &Machine, kind: Kind) -> Result<(), 
 {
     match kind {
         Kind::Prepare { device, r } => {
-            put!(out; "prepare ", device_name(machine, device), " ")?;
+            put!(out; "prepare ", device_name(machine, device), b' ')?;
             put_prepare_answer(out, r)
         }
         Kind::Complete(index) => put!(out; "complete ", device_name(machine, index)),
         Kind::Schedule(phase, index) => {
-            put!(out; "schedule ", phase, " ", device_name(machine, index))
+            put!(out; schedule_text(phase), device_name(machine, index))
         }
-        Kind::Begin(phase, index) => put!(out; "begin ", phase, " ", device_name(machine, index)),
+        Kind::Begin(phase, index) => put!(out; begin_text(phase), device_name(machine, index)),
         Kind::End(phase, index, r) => {
-            put!(out; "end ", phase, " ", device_name(machine, index), " ", r)
+            put!(out; end_text(phase), device_name(machine, index), b' ', r)
         }
         Kind::Skip(phase, index, cause) => {
-            put!(out; "skip ", phase, " ", device_name(machine, index), " ", cause)
+            put!(out; "skip ", phase, b' ', device_name(machine, index), b' ', cause)
         }
-        Kind::Done(phase, r) => put!(out; "done ", phase, " ", r),
+        Kind::Done(phase, r) => put!(out; "done ", phase, b' ', r),
         _ => put_attempt(out, machine, kind),
     }
 }

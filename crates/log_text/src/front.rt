@@ -26,6 +26,16 @@ impl LineFront {
         }
     }
 
+    /// The front of lines at the beginning, where nothing was registered.
+    pub fn start() -> Self {
+        let word = EventNow {
+            inpr: 0,
+            count: 0,
+            hard: 0,
+        };
+        LineFront::of(0, word)
+    }
+
     /// Goes on to that moment, in ms, and that word.
     #[inline(always)]
     pub fn move_to(&mut self, time: u64, word: EventNow)

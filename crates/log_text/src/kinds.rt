@@ -10,7 +10,10 @@ use crate::cut::{first_word, is};
 use crate::devices::{begin_kind, end_kind, prepare_kind, schedule_kind, skip_kind};
 use crate::meaning::{answer_in, group_in, phase_in, thaw_in};
 use crate::number::{word32, word64};
-use crate::steps::{autosleep_kind, event_kind, read_kind, runtime_kind, save_kind, state_kind};
+use crate::steps::{
+    autosleep_kind, event_kind, link_kind, link_state_kind, read_kind, runtime_kind, save_kind,
+    state_kind,
+};
 use crate::verb::{Verb, verb_of};
 use sleep_model::Kind;
 
@@ -63,6 +66,8 @@ fn task_by(book: &NameBook, verb: Verb, text: &[u8]) -> Option<Kind>
         Verb::Got => Some(Kind::Got(book.mark(text)?)),
         Verb::Exit => Some(Kind::Exit),
         Verb::Runtime => runtime_kind(book, text),
+        Verb::Link => link_kind(book, text),
+        Verb::LinkState => link_state_kind(book, text),
         _ => auto_by(book, verb, text),
     }
 }

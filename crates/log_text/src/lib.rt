@@ -18,9 +18,11 @@ mod laws;
 mod line;
 mod lines;
 mod log;
+mod maker;
 mod meaning;
 mod names;
 mod number;
+mod phases;
 mod places;
 mod read;
 mod reader;
@@ -34,8 +36,3 @@ pub use laws::{first_bad_line_is_one, text_tells_log, written_lines_are_good};
 pub use log::write_log;
 pub use names::source_name;
 pub use read::read_log;
-
-#[cfg(test)]
-mod reading_tests;
-#[cfg(test)]
-mod tests;

@@ -1,5 +1,6 @@
 ghost use Rattle.std.specs.Prelude.{◌≡◌, ◌++◌, OnOk, slice_get};
 ghost use Rattle.sleep_model.specs.Text.{actor_text, script_text, waiting_text, entry_line, source_line, counts_text, times_text, waiting_line};
+ghost use Rattle.log_text.specs.Front.{front_text, maker_text};
 
 use crate::body::put_body;
 use crate::front::LineFront;
@@ -9,8 +10,7 @@ use sleep_base::Mem;
 use sleep_model::{Actor, Entry, Machine, Stats, Waiting, Why};
 
 /// Writes who makes an entry.
-#[inline(always)]
-fn put_actor(out: &mut LineWriter, machine: &Machine, actor: Actor) -> Result<(), Mem>
+pub fn put_actor(out: &mut LineWriter, machine: &Machine, actor: Actor) -> Result<(), Mem>
     ensures { OnOk result (out.new ≡ out.old ++ actor_text machine.now actor) }
 {
     match actor {
@@ -49,6 +49,24 @@ pub fn put_entry(
     put!(out; " ")?;
     put_body(out, machine, entry.kind)?;
     put!(out; "\n")
+}
+
+/// Writes the line of an entry, whose front and maker are given as text.
+#[inline(always)]
+pub fn put_made(
+    out: &mut LineWriter,
+    machine: &Machine,
+    front: &[u8],
+    maker: &[u8],
+    entry: Entry,
+) -> Result<(), Mem>
+    requires front { front.now ≡ front_text entry.time entry.now }
+    requires maker { maker.now ≡ maker_text machine.now entry.actor }
+    ensures { OnOk result (out.new ≡ out.old ++ entry_line machine.now entry) }
+{
+    put!(out; front, maker)?;
+    put_body(out, machine, entry.kind)?;
+    put!(out; b'\n')
 }
 
 /// Writes the line of a wakeup source.

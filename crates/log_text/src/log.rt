@@ -2,10 +2,11 @@ ghost use Rattle.std.specs.Prelude.{◌≡◌, ◌++◌, OnOk, IfOk, flat_map};
 ghost use Rattle.sleep_model.specs.Text.{entry_line, source_lines, source_names, end_text, waiting_line, text};
 
 use crate::front::LineFront;
-use crate::line::{put_entry, put_source, put_waiting};
+use crate::line::{put_made, put_source, put_waiting};
+use crate::maker::LineMaker;
 use crate::writer::{LineWriter, Spelled, put};
 use sleep_base::Mem;
-use sleep_model::{Entry, EventNow, Log, LogEnd, Machine, Stats, Waiting};
+use sleep_model::{Entry, Log, LogEnd, Machine, Stats, Waiting};
 use std::alloc::Global;
 
 /// How many bytes the line of an entry usually has, at most.
@@ -17,27 +18,27 @@ pub fn write_log(alloc: Global, machine: &Machine, log: &Log) -> Result<Vec<u8>,
 {
     let room = log.entries.len().saturating_mul(USUAL_LINE);
     let mut out = LineWriter::with_room(alloc, room)?;
-    put_entries(&mut out, machine, log.entries.as_slice())?;
+    put_entries(alloc, &mut out, machine, log.entries.as_slice())?;
     put_sources(&mut out, machine, log.stats.as_slice())?;
     put_end(&mut out, machine, &log.end)?;
     Ok(out.into_vec())
 }
 
 /// Writes a line for each entry.
-fn put_entries(out: &mut LineWriter, machine: &Machine, entries: &[Entry]) -> Result<(), Mem>
+fn put_entries(
+    alloc: Global,
+    out: &mut LineWriter,
+    machine: &Machine,
+    entries: &[Entry],
+) -> Result<(), Mem>
     ensures { OnOk result (out.new ≡ out.old ++ flat_map (entry_line machine.now) entries.now) }
 {
-    let mut front = LineFront::of(
-        0,
-        EventNow {
-            inpr: 0,
-            count: 0,
-            hard: 0,
-        },
-    );
+    let mut front = LineFront::start();
+    let mut maker = LineMaker::new(alloc, machine)?;
     for entry in entries {
         front.move_to(entry.time, entry.now);
-        put_entry(out, machine, &front, *entry)?;
+        maker.move_to(entry.actor)?;
+        put_made(out, machine, front.text(), maker.text(), *entry)?;
     }
     Ok(())
 }

@@ -15,7 +15,7 @@ use crate::front::LineFront;
 use crate::line::{put_entry, put_source, put_waiting};
 use crate::writer::LineWriter;
 use sleep_base::Mem;
-use sleep_model::{Entry, EventNow, Stats, Waiting};
+use sleep_model::{Entry, Stats, Waiting};
 use std::alloc::Global;
 
 /// All but the last byte.
@@ -35,12 +35,7 @@ pub struct LineReader {
 impl LineReader {
     /// A reader of lines.
     pub fn new(alloc: Global) -> Result<Self, Mem> {
-        let now = EventNow {
-            inpr: 0,
-            count: 0,
-            hard: 0,
-        };
-        let front = LineFront::of(0, now);
+        let front = LineFront::start();
         let spelled = LineWriter::with_room(alloc, 0)?;
         Ok(LineReader { spelled, front })
     }

@@ -2,7 +2,7 @@ ghost use Rattle.std.specs.Prelude.{◌≡◌, true, IfSome, option_map};
 ghost use Rattle.sleep_model.specs.Fits.{fits_kind};
 ghost use Rattle.sleep_model.specs.declared.machine.Machine.{Machine};
 ghost use Rattle.log_text.specs.Cutting.{word, rest, word32};
-ghost use Rattle.log_text.specs.Reading.{read_kind, save_kind, state_kind, autosleep_kind, runtime_kind, event_kind};
+ghost use Rattle.log_text.specs.Reading.{read_kind, save_kind, state_kind, autosleep_kind, runtime_kind, link_kind, link_state_kind, event_kind};
 
 use crate::book::NameBook;
 use crate::cut::{first_word, is};
@@ -80,6 +80,40 @@ pub fn runtime_kind(book: &NameBook, text: &[u8]) -> Option<Kind>
     Some(Kind::RuntimeAsk {
         device,
         to_suspended: is(to, "suspended"),
+        r: answer_in(answer),
+    })
+}
+
+/// What stands behind `link`.
+pub fn link_kind(book: &NameBook, text: &[u8]) -> Option<Kind>
+    ensures kind { result ≡ link_kind book.now text.now }
+    ensures fits { IfSome result (λ k. fits_kind book.now k ≡ true) }
+{
+    let (supplier, rest) = first_word(text);
+    let (consumer, answer) = first_word(rest);
+    let supplier = book.device(supplier)?;
+    let consumer = book.device(consumer)?;
+    Some(Kind::LinkAdd {
+        supplier,
+        consumer,
+        r: answer_in(answer),
+    })
+}
+
+/// What stands behind `link_state`.
+pub fn link_state_kind(book: &NameBook, text: &[u8]) -> Option<Kind>
+    ensures kind { result ≡ link_state_kind book.now text.now }
+    ensures fits { IfSome result (λ k. fits_kind book.now k ≡ true) }
+{
+    let (supplier, rest) = first_word(text);
+    let (consumer, rest) = first_word(rest);
+    let (to, answer) = first_word(rest);
+    let supplier = book.device(supplier)?;
+    let consumer = book.device(consumer)?;
+    Some(Kind::LinkState {
+        supplier,
+        consumer,
+        active: is(to, "active"),
         r: answer_in(answer),
     })
 }

@@ -26,6 +26,8 @@ pub enum Verb {
     Got,
     Exit,
     Runtime,
+    Link,
+    LinkState,
     Run,
     Saved,
     Unsaved,
@@ -100,6 +102,8 @@ fn task_verb(word: &[u8]) -> Option<Verb>
         "got" => Got,
         "exit" => Exit,
         "runtime" => Runtime,
+        "link" => Link,
+        "link_state" => LinkState,
         _ => auto_verb(word)
     }
 }

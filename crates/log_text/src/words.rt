@@ -21,7 +21,7 @@ impl Spelled for Option<Errno> {
     #[inline(always)]
     fn write_to(self, out: &mut LineWriter) -> Result<(), Mem> {
         match self {
-            None => out.push_text("0"),
+            None => out.push_byte(b'0'),
             Some(error) => out.push_text(error.name()),
         }
     }

@@ -1,4 +1,4 @@
-ghost use Rattle.std.specs.Prelude.{decimal};
+ghost use Rattle.std.specs.Prelude.{decimal, ◌∷◌, []};
 
 use itoa::Buffer;
 use sleep_base::Mem;
@@ -20,7 +20,7 @@ impl Model for LineWriter {
 }
 
 impl LineWriter {
-    ghost use Rattle.std.specs.Prelude.{◌≡◌, ◌++◌, [], OnOk, IfOk};
+    ghost use Rattle.std.specs.Prelude.{◌≡◌, ◌++◌, ◌∷◌, [], OnOk, IfOk};
     ghost use Rattle.std.specs.Str.{bytes_eq};
 
     /// A writer that has written nothing, with room for so many bytes.
@@ -36,6 +36,14 @@ impl LineWriter {
         ensures { self.new ≡ [] }
     {
         self.bytes.clear();
+    }
+
+    /// All that was written so far.
+    #[inline(always)]
+    pub fn as_slice(&self) -> &[u8]
+        ensures { result.now ≡ self.now }
+    {
+        self.bytes.as_slice()
     }
 
     /// Whether just these bytes were written.
@@ -68,6 +76,15 @@ impl LineWriter {
         ensures { OnOk result (self.new ≡ self.old ++ text.now) }
     {
         self.push_bytes(text.as_bytes())
+    }
+
+    /// Writes this byte.
+    #[inline(always)]
+    pub fn push_byte(&mut self, byte: u8) -> Result<(), Mem>
+        ensures { OnOk result (self.new ≡ self.old ++ byte ∷ []) }
+    {
+        self.bytes.push(byte)?;
+        Ok(())
     }
 
     /// Writes the number in decimal.
@@ -119,6 +136,15 @@ impl Spelled for &[u8] {
     #[inline(always)]
     fn write_to(self, out: &mut LineWriter) -> Result<(), Mem> {
         out.push_bytes(self)
+    }
+}
+
+impl Spelled for u8 {
+    ghost spelling = { λ byte. byte ∷ [] };
+
+    #[inline(always)]
+    fn write_to(self, out: &mut LineWriter) -> Result<(), Mem> {
+        out.push_byte(self)
     }
 }
 

@@ -1,10 +1,11 @@
 -- What a value that breaks no rule spells is a machine that a file may spell.
-use Rattle.std.proofs.Common.{◌≡◌, ◌≤◌, ◌∙◌, ◌&&◌, ℕ, suc, Bool, true, false, cond, nat_le, List, [], ◌∷◌, length, map, codes, Option, Some, None, unwrap_or, option_map, option_and_then, refl, sym, ap, subst, arith}
+use Rattle.std.proofs.Common.{◌≡◌, ◌≤◌, ◌+◌, ◌∙◌, ◌&&◌, ℕ, suc, Bool, true, false, cond, nat_le, List, [], ◌∷◌, length, map, codes, Option, Some, None, unwrap_or, option_map, option_and_then, refl, sym, ap, subst, arith}
 use Rattle.std.proofs.lemmas.Bool.{and_parts, leb-true, true≢false}
 use Rattle.std.specs.Option.{option_or}
 use Rattle.serde_json.specs.Data.{Data}
 use Rattle.serde_json.specs.Find.{get, as_number, as_u64}
 use Rattle.sleep_model.specs.Accepted.{IsAccepted}
+use Rattle.sleep_model.specs.Places.{link_steps}
 use Rattle.machine_file.specs.Look.{is_some_and, is_none_or, text_of}
 use Rattle.machine_file.specs.Members.{may_have, list_in}
 use Rattle.machine_file.specs.Form.{Named, first_row, is_within, member_forms}
@@ -17,7 +18,7 @@ use Rattle.machine_file.specs.Spelled.{link_of}
 use Rattle.machine_file.specs.Whole.{Rule, rules, first_of, first_broken, broken_at, whole_machine, whole_notifier}
 use Rattle.machine_file.proofs.AnswersKept.{answers_kept}
 use Rattle.machine_file.proofs.LinksKept.{links_kept}
-use Rattle.machine_file.proofs.ScriptsKept.{scripts_kept, steps_kept}
+use Rattle.machine_file.proofs.ScriptsKept.{scripts_kept, steps_kept, links_few}
 
 -- ---- no rule is broken
 
@@ -110,7 +111,7 @@ accepted d h =
       cycles_most = cycles.1;
       devices = few (whole_device (devices_named d)) (list_in (codes "devices") d) 1000 counts.0;
       parents = linked.0;
-      few_links = few (link_of (devices_named d)) (list_in (codes "links") d) 4000 counts.1.0;
+      few_links = subst (λ (n : ℕ). n + link_steps (whole_machine d).actors ≤ 4000) (sym (length-mapped (link_of (devices_named d)) (list_in (codes "links") d))) (links_few d answers.1.1.1.1.0);
       links = linked.1;
       syscore = few text_of (list_in (codes "syscore") d) 32 counts.1.1.0;
       notifiers = few whole_notifier (list_in (codes "notifiers") d) 32 counts.1.1.1.0;

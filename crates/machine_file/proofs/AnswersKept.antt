@@ -26,7 +26,7 @@ use Rattle.machine_file.specs.Members.{must_have, may_have, has_text, items_of, 
 use Rattle.machine_file.specs.Places.{item_place, first_item}
 use Rattle.machine_file.specs.Form.{Named, row, first_in_lists, item_forms, unformed_item, is_string, is_one_of, is_within, is_time, is_truth, is_ret_form, is_plain_report, is_event_report, is_report_form, are_reports, is_answer_form, answerers, phases}
 use Rattle.machine_file.specs.Names.{is_among_names, names_in, texts_in, devices_named, sources_named}
-use Rattle.machine_file.specs.Rules.{name_of}
+use Rattle.machine_file.specs.Rules.{is_second, name_of}
 use Rattle.machine_file.specs.Spelled.{place_among}
 use Rattle.machine_file.specs.Devices.{whole_device}
 use Rattle.machine_file.specs.Operations.{names_source, ms_of, says}
@@ -52,7 +52,7 @@ lists_pass (k ∷ rows) r file zero h e =
 lists_pass (k ∷ rows) r file (suc i) h e = lists_pass rows r file i (omega arith) (either_none (first_item k.name k.is file) (first_in_lists rows file) e).1
 
 answers_formed : (d : Data) → unformed_item d ≡ None → list_all is_answer_form (list_in (codes "answers") d) ≡ true
-answers_formed d e = lists_pass item_forms (row (codes "answers") is_answer_form) d 6 (omega arith) e
+answers_formed d e = lists_pass (item_forms (is_second d)) (row (codes "answers") is_answer_form) d 6 (omega arith) e
 
 -- ---- things
 

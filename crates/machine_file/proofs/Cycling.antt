@@ -42,7 +42,7 @@ module _ (ps : List (Option ℕ)) (after : EachAfterParent 0 ps) (ls : List Link
 
   -- a link that was added closes nothing
   pub is_added : (v w : Linked) → Adding ps ls i v → Adds v l.supplier l.consumer (Ok tt) →
-      w ≡ record { parents = v.parents; links = record { supplier = l.supplier; consumer = l.consumer } ∷ v.links } → Adding ps ls (i + 1) w
+      w ≡ record { parents = v.parents; links = record { supplier = l.supplier; consumer = l.consumer; active = l.active } ∷ v.links } → Adding ps ls (i + 1) w
   is_added v w a h e =
       let answer : Adds linked_so l.supplier l.consumer (Ok tt) = subst (λ (u : Linked). Adds u l.supplier l.consumer (Ok tt)) a.is h in
       let apart : is_among (moved (length ps) (hanging ps earlier) l.consumer) l.supplier ≡ false = no_path_moved (hanging ps earlier) (length ps) l.consumer l.supplier answer.1 in
@@ -76,6 +76,8 @@ module _ (ps : List (Option ℕ)) (after : EachAfterParent 0 ps) (ls : List Link
   no_fault v link.Twice a h o =
       let answer : Adds linked_so l.supplier l.consumer (Err link.Twice) = subst (λ (u : Linked). Adds u l.supplier l.consumer (Err link.Twice)) a.is h in
       true≢false (sym answer.2 ∙ ready.new)
+  no_fault v link.NoLink a h o =
+      let answer : Adds linked_so l.supplier l.consumer (Err link.NoLink) = subst (λ (u : Linked). Adds u l.supplier l.consumer (Err link.NoLink)) a.is h in answer
   no_fault v (link.Cycle path) a h o = o
   no_fault v link.Mem a h o = o
 

@@ -1,11 +1,9 @@
 -- That what breaks no rule has room in a machine.
-use Rattle.std.proofs.Common.{◌≡◌, ◌<◌, ◌≤◌, ◌+◌, ◌*◌, ◌∙◌, ◌&&◌, ◌||◌, ◌++◌, ℕ, suc, Bool, true, false, cond, if◌then◌else◌, nat_le, sum_by, List, [], ◌∷◌, length, map, find, flat_map, bytes_eq, codes, unwrap_or, option_and_then, option_map, IfSome, Option, Some, None, refl, sym, ap, subst, arith, Ordering, Less, Equal, Greater}
-use Rattle.std.specs.List.{All, list_any, list_all, cons_option}
+use Rattle.std.proofs.Common.{◌≡◌, ◌<◌, ◌≤◌, ◌∙◌, ◌&&◌, ◌||◌, ℕ, Bool, true, false, not, cond, nat_le, List, [], ◌∷◌, length, find, bytes_eq, codes, unwrap_or, option_and_then, IfSome, Option, Some, None, refl, sym, ap, arith, Ordering, Less, Equal, Greater}
+use Rattle.std.specs.List.{list_any, list_all}
 use Rattle.std.specs.Ordering.{is_eq, nat_cmp, match_ordering}
 use Rattle.std.specs.Cmp.Lexicographic.{slice_cmp, bytes_decides}
-use Rattle.std.proofs.lemmas.Bool.{false≢true, and_parts, and_from, or_cases, leb-true}
-use Rattle.std.proofs.lemmas.List.Elements.{All-nil, All-cons}
-use Rattle.std.proofs.lemmas.List.Sums.{sum_by-cons}
+use Rattle.std.proofs.lemmas.Bool.{false≢true, and_parts, leb-true}
 use Rattle.std.proofs.lemmas.Map.Text.{is_eq-slice_cmp}
 use Rattle.serde_json.specs.Data.{Data, null, boolean, number, string, array, object, Members, no_members, member}
 use Rattle.serde_json.specs.Find.{get, get_member, as_number, as_u64, as_str}
@@ -15,7 +13,7 @@ use Rattle.machine_file.specs.Form.{is_within, is_truth, is_time}
 use Rattle.machine_file.specs.Names.{spells_name}
 use Rattle.machine_file.specs.Rules.{is_name_byte, is_name, name_of}
 use Rattle.machine_file.specs.Limits.{times_of}
-use Rattle.machine_file.specs.Operations.{Operation, operations, fits_row, is_formed, plain, has_count, has_short_text, is_state_form, has_length, has_mark, is_runtime_form, has_source, is_event_form}
+use Rattle.machine_file.specs.Operations.{Operation, operations, fits_row, is_formed, plain, has_count, has_short_text, is_state_form, has_length, has_mark, is_runtime_form, has_ends_named, is_link_state_form, changes_links, row_of, has_source, is_event_form}
 use Rattle.machine_file.specs.Fitting.{IsShort, FitsAt, FitsStep}
 
 -- ---- members that are not there
@@ -217,10 +215,16 @@ each_row o = (
                   (
                     λ e. bare_row o (codes "device" ∷ codes "to" ∷ []) (is_runtime_form o) e refl refl refl,
                     (
-                      λ e. bare_row o (codes "source" ∷ []) (has_source o) e refl refl refl,
+                      λ e. bare_row o (codes "supplier" ∷ codes "consumer" ∷ []) (has_ends_named o) e refl refl refl,
                       (
-                        λ e. bare_row o (codes "source" ∷ []) (has_source o) e refl refl refl,
-                        (λ e. long_row o (codes "source" ∷ codes "ms" ∷ codes "hard" ∷ []) (is_event_form o) e refl refl (event_form o), tt),
+                        λ e. bare_row o (codes "supplier" ∷ codes "consumer" ∷ codes "to" ∷ []) (is_link_state_form o) e refl refl refl,
+                        (
+                          λ e. bare_row o (codes "source" ∷ []) (has_source o) e refl refl refl,
+                          (
+                            λ e. bare_row o (codes "source" ∷ []) (has_source o) e refl refl refl,
+                            (λ e. long_row o (codes "source" ∷ codes "ms" ∷ codes "hard" ∷ []) (is_event_form o) e refl refl (event_form o), tt),
+                          ),
+                        ),
                       ),
                     ),
                   ),
@@ -234,5 +238,6 @@ each_row o = (
   ),
 )
 
-pub plain_operation : (actor o : Data) → is_formed actor o ≡ true → IsPlain o
-plain_operation actor o e = by_row o (λ r. has_text (codes "op") r.word o) operations (each_row o) e
+pub plain_operation : (second : Bool) (actor o : Data) → is_formed second actor o ≡ true → IsPlain o
+plain_operation second actor o e =
+    by_row o (λ r. has_text (codes "op") r.word o) operations (each_row o) (and_parts (second || not (changes_links o)) (is_some_and (fits_row o) (row_of o)) e).1

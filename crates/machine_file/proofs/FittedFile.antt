@@ -1,20 +1,20 @@
 -- That a file that breaks no rule has room in a machine.
-use Rattle.std.proofs.Common.{◌≡◌, ◌≤◌, ◌+◌, ◌*◌, ◌∙◌, ◌&&◌, ◌||◌, ◌==◌, ◌++◌, ◌⊎◌, inl, inr, ℕ, zero, suc, Bool, true, false, if◌then◌else◌, nat_le, sum_by, List, [], ◌∷◌, length, map, flat_map, codes, unwrap_or, option_and_then, IfSome, Option, Some, None, refl, sym, ap, arith, length-append}
+use Rattle.std.proofs.Common.{◌≡◌, ◌≤◌, ◌+◌, ◌*◌, ◌∙◌, ◌&&◌, ◌||◌, ◌==◌, ◌++◌, ◌⊎◌, inl, inr, ℕ, suc, Bool, true, false, if◌then◌else◌, sum_by, List, [], ◌∷◌, length, map, flat_map, codes, option_and_then, IfSome, Option, Some, None, refl, arith, length-append}
 use Rattle.std.specs.List.{All, list_all, cons_option}
-use Rattle.std.proofs.lemmas.Bool.{false≢true, and_parts, and_from, or_cases, eqb-true}
+use Rattle.std.proofs.lemmas.Bool.{and_parts, and_from, or_cases, eqb-true}
 use Rattle.std.proofs.lemmas.List.Elements.{All-nil, All-cons}
 use Rattle.std.proofs.lemmas.List.Folds.{list_all-append}
 use Rattle.std.proofs.lemmas.List.Sums.{sum_by-cons}
 use Rattle.std.proofs.lemmas.Nat.{mul-le}
 use Rattle.serde_json.specs.Data.{Data}
-use Rattle.serde_json.specs.Find.{get, as_number, as_u64, as_str}
+use Rattle.serde_json.specs.Find.{get, as_number, as_u64}
 use Rattle.sleep_base.specs.Errno.{name_of as error_name}
 use Rattle.sleep_model.specs.Answers.{errors}
 use Rattle.machine_file.specs.Look.{has_only, is_some_and, is_none_or, is_list, is_number, text_of}
 use Rattle.machine_file.specs.Members.{actor_members, answer_members, report_members, notifier_members, must_have, may_have, has_text, list_in, word_at}
 use Rattle.machine_file.specs.Form.{Named, is_string, is_truth, is_within, is_near, is_one_of, is_time, is_notifier_form, is_actor_form, kinds, answerers, phases, is_ret_form, is_plain_report, is_event_report, is_report_form, are_reports, is_answer_form, item_forms, member_forms}
 use Rattle.machine_file.specs.Names.{spells_name, names_of_device, own_name, item_names, is_among_names}
-use Rattle.machine_file.specs.Rules.{is_name}
+use Rattle.machine_file.specs.Rules.{is_name, is_second}
 use Rattle.machine_file.specs.Operations.{is_formed, marks_of, first_places, whole_marks}
 use Rattle.machine_file.specs.Limits.{times_of, repeat_of, times_if, script_steps}
 use Rattle.machine_file.specs.Whole.{rules, first_broken}
@@ -22,7 +22,7 @@ use Rattle.machine_file.specs.Fitting.{IsShort, HasShortName, FitsAt, FitsNotifi
 use Rattle.machine_file.proofs.Accepted.{keeps_all, all_pass}
 use Rattle.machine_file.proofs.AnswersKept.{text_no_number, reports_formed}
 use Rattle.machine_file.proofs.ScriptsKept.{EachList, each_list, each_item, each_operation, steps_few}
-use Rattle.machine_file.proofs.Fitted.{absent_fits, within_fits, least_or, short_text, short_name, short_spelled, IsPlain, plain_operation}
+use Rattle.machine_file.proofs.Fitted.{absent_fits, within_fits, least_or, short_text, short_name, short_spelled, plain_operation}
 
 -- ---- lists
 
@@ -48,8 +48,8 @@ all_both P one other each (x ∷ xs) e f =
 
 -- ---- actors
 
-abbrev is_formed_script : Data → Bool
-is_formed_script a = list_all (is_formed a) (list_in (codes "script") a)
+abbrev is_formed_script : Bool → Data → Bool
+is_formed_script second a = list_all (is_formed second a) (list_in (codes "script") a)
 
 repeats : (a : Data) → is_actor_form a ≡ true → may_have (codes "repeat") (is_within 1 1000) a ≡ true
 repeats a e =
@@ -57,41 +57,41 @@ repeats a e =
     let repeat = may_have (codes "repeat") (is_within 1 1000) a in
     (and_parts named repeat (and_parts (named && repeat) (may_have (codes "script") is_list a) e).0).1
 
-fits_script : (a : Data) → is_actor_form a ≡ true → own_name a ≡ true → is_formed_script a ≡ true → FitsScript a
-fits_script a form name script =
+fits_script : (second : Bool) (a : Data) → is_actor_form a ≡ true → own_name a ≡ true → is_formed_script second a ≡ true → FitsScript a
+fits_script second a form name script =
     record {
       name = short_name a name;
       repeat = within_fits 1 1000 (codes "repeat") a (omega arith) (repeats a form);
-      steps = all_of FitsStep (is_formed a) (λ o h. (plain_operation a o h).fits) (list_in (codes "script") a) script;
+      steps = all_of FitsStep (is_formed second a) (λ o h. (plain_operation second a o h).fits) (list_in (codes "script") a) script;
     }
 
-fits_scripts : (actors : List Data) → list_all is_actor_form actors ≡ true → list_all own_name actors ≡ true → list_all is_formed_script actors ≡ true → All FitsScript actors
-fits_scripts [] f n s = All-nil FitsScript
-fits_scripts (a ∷ actors) f n s =
+fits_scripts : (second : Bool) (actors : List Data) → list_all is_actor_form actors ≡ true → list_all own_name actors ≡ true → list_all (is_formed_script second) actors ≡ true → All FitsScript actors
+fits_scripts second [] f n s = All-nil FitsScript
+fits_scripts second (a ∷ actors) f n s =
     let fs = and_parts (is_actor_form a) (list_all is_actor_form actors) f in
     let ns = and_parts (own_name a) (list_all own_name actors) n in
-    let ss = and_parts (is_formed_script a) (list_all is_formed_script actors) s in
-    All-cons FitsScript a actors (fits_script a fs.0 ns.0 ss.0) (fits_scripts actors fs.1 ns.1 ss.1)
+    let ss = and_parts (is_formed_script second a) (list_all (is_formed_script second) actors) s in
+    All-cons FitsScript a actors (fits_script second a fs.0 ns.0 ss.0) (fits_scripts second actors fs.1 ns.1 ss.1)
 
 -- ---- marks
 
-script_marks : (a : Data) (os : List Data) → list_all (is_formed a) os ≡ true → list_all is_name (marks_of os) ≡ true
-script_marks a [] e = refl
-script_marks a (o ∷ os) e =
-    let both = and_parts (is_formed a o) (list_all (is_formed a) os) e in
-    by (word_at (codes "mark") o) (marks_of os) (plain_operation a o both.0).mark (script_marks a os both.1)
+script_marks : (second : Bool) (a : Data) (os : List Data) → list_all (is_formed second a) os ≡ true → list_all is_name (marks_of os) ≡ true
+script_marks second a [] e = refl
+script_marks second a (o ∷ os) e =
+    let both = and_parts (is_formed second a o) (list_all (is_formed second a) os) e in
+    by (word_at (codes "mark") o) (marks_of os) (plain_operation second a o both.0).mark (script_marks second a os both.1)
   where
     by : (w : Option (List ℕ)) (rest : List (List ℕ)) → is_none_or is_name w ≡ true → list_all is_name rest ≡ true → list_all is_name (cons_option w rest) ≡ true
     by None rest h r = r
     by (Some s) rest h r = and_from (is_name s) (list_all is_name rest) h r
 
-all_marks : (actors : List Data) → list_all is_formed_script actors ≡ true → list_all is_name (flat_map (λ a. marks_of (list_in (codes "script") a)) actors) ≡ true
-all_marks [] e = refl
-all_marks (a ∷ actors) e =
-    let both = and_parts (is_formed_script a) (list_all is_formed_script actors) e in
+all_marks : (second : Bool) (actors : List Data) → list_all (is_formed_script second) actors ≡ true → list_all is_name (flat_map (λ a. marks_of (list_in (codes "script") a)) actors) ≡ true
+all_marks second [] e = refl
+all_marks second (a ∷ actors) e =
+    let both = and_parts (is_formed_script second a) (list_all (is_formed_script second) actors) e in
     let rest = flat_map (λ b. marks_of (list_in (codes "script") b)) actors in
     list_all-append is_name (marks_of (list_in (codes "script") a)) rest
-    ∙ and_from (list_all is_name (marks_of (list_in (codes "script") a))) (list_all is_name rest) (script_marks a (list_in (codes "script") a) both.0) (all_marks actors both.1)
+    ∙ and_from (list_all is_name (marks_of (list_in (codes "script") a))) (list_all is_name rest) (script_marks second a (list_in (codes "script") a) both.0) (all_marks second actors both.1)
 
 -- names that pass, with one more
 with_more : (b : Bool) (test : List ℕ → Bool) (found : List (List ℕ)) (name : List ℕ) → list_all test found ≡ true → test name ≡ true →
@@ -128,31 +128,31 @@ marks_few (o ∷ os) = by (word_at (codes "mark") o) (marks_of os) (marks_few os
     by None rest h = omega arith
     by (Some s) rest h = omega arith
 
-script_few : (a : Data) (os : List Data) → list_all (is_formed a) os ≡ true → length os ≤ sum_by (times_if (λ o. true)) os
-script_few a [] e = omega arith
-script_few a (o ∷ os) e =
-    let both = and_parts (is_formed a o) (list_all (is_formed a) os) e in
-    let made : 1 ≤ times_of o = (plain_operation a o both.0).made in
-    let rest : length os ≤ sum_by (times_if (λ x. true)) os = script_few a os both.1 in
+script_few : (second : Bool) (a : Data) (os : List Data) → list_all (is_formed second a) os ≡ true → length os ≤ sum_by (times_if (λ o. true)) os
+script_few second a [] e = omega arith
+script_few second a (o ∷ os) e =
+    let both = and_parts (is_formed second a o) (list_all (is_formed second a) os) e in
+    let made : 1 ≤ times_of o = (plain_operation second a o both.0).made in
+    let rest : length os ≤ sum_by (times_if (λ x. true)) os = script_few second a os both.1 in
     let split : sum_by (times_if (λ x. true)) (o ∷ os) ≡ times_of o + sum_by (times_if (λ x. true)) os = sum_by-cons (times_if (λ x. true)) o os in
     omega (arith, made, rest, split)
 
 over : (n r s : ℕ) → n ≤ s → 1 ≤ r → n ≤ r * s
 over n r s h k = let p : 1 * n ≤ r * s = mul-le 1 n r s k h in omega (arith, p)
 
-all_few : (actors : List Data) → list_all is_actor_form actors ≡ true → list_all is_formed_script actors ≡ true →
+all_few : (second : Bool) (actors : List Data) → list_all is_actor_form actors ≡ true → list_all (is_formed_script second) actors ≡ true →
     length (flat_map (λ a. marks_of (list_in (codes "script") a)) actors) ≤ sum_by (script_steps (λ o. true)) actors
-all_few [] f s = omega arith
-all_few (a ∷ actors) f s =
+all_few second [] f s = omega arith
+all_few second (a ∷ actors) f s =
     let fs = and_parts (is_actor_form a) (list_all is_actor_form actors) f in
-    let ss = and_parts (is_formed_script a) (list_all is_formed_script actors) s in
+    let ss = and_parts (is_formed_script second a) (list_all (is_formed_script second) actors) s in
     let script = list_in (codes "script") a in
     let rest = flat_map (λ b. marks_of (list_in (codes "script") b)) actors in
     let own : length (marks_of script) ≤ length script = marks_few script in
-    let steps : length script ≤ sum_by (times_if (λ o. true)) script = script_few a script ss.0 in
+    let steps : length script ≤ sum_by (times_if (λ o. true)) script = script_few second a script ss.0 in
     let most : length script ≤ script_steps (λ o. true) a =
     over (length script) (repeat_of a) (sum_by (times_if (λ o. true)) script) steps (least_or 1000 (get (codes "repeat") a) (repeats a fs.0)) in
-    let others : length rest ≤ sum_by (script_steps (λ o. true)) actors = all_few actors fs.1 ss.1 in
+    let others : length rest ≤ sum_by (script_steps (λ o. true)) actors = all_few second actors fs.1 ss.1 in
     let joined : length (marks_of script ++ rest) ≡ length (marks_of script) + length rest = length-append (marks_of script) rest in
     let split : sum_by (script_steps (λ o. true)) (a ∷ actors) ≡ script_steps (λ o. true) a + sum_by (script_steps (λ o. true)) actors = sum_by-cons (script_steps (λ o. true)) a actors in
     omega (arith, own, most, others, joined, split)
@@ -225,15 +225,15 @@ pub fits_file : (d : Data) → first_broken d ≡ None → FitsFile d
 fits_file d h =
     let r = keeps_all rules d h in
     let members = all_pass (λ (f : Named (Data → Bool)). may_have f.name f.is d) member_forms r.1.1.0 in
-    let forms : EachList d item_forms = each_list d item_forms r.1.1.1.0 in
+    let forms : EachList d (item_forms (is_second d)) = each_list d (item_forms (is_second d)) r.1.1.1.0 in
     let spelled : EachList d item_names = each_list d item_names r.1.1.1.1.1.0 in
     let operations = r.1.1.1.1.1.1.1.1.1.1.1.1.1.1 in
     let actors = list_in (codes "actors") d in
     let actor_forms = each_item (codes "actors") is_actor_form d forms.1.1.1.1.1.0 in
-    let scripts : list_all is_formed_script actors ≡ true = each_operation is_formed 0 actors operations.0 in
+    let scripts : list_all (is_formed_script (is_second d)) actors ≡ true = each_operation (is_formed (is_second d)) 0 actors operations.0 in
     let much = operations.1.1.1.1.1.1.1.1.0 in
     let marks = flat_map (λ a. marks_of (list_in (codes "script") a)) actors in
-    let all : length marks ≤ sum_by (script_steps (λ o. true)) actors = all_few actors actor_forms scripts in
+    let all : length marks ≤ sum_by (script_steps (λ o. true)) actors = all_few (is_second d) actors actor_forms scripts in
     let first : length (first_places [] marks) ≤ 0 + length marks = first_few [] marks in
     let steps = steps_few d much in
     record {
@@ -245,8 +245,8 @@ fits_file d h =
           all_both FitsNotifier is_notifier_form own_name fits_notifier (list_in (codes "notifiers") d)
           (each_item (codes "notifiers") is_notifier_form d forms.1.1.1.0) (each_item (codes "notifiers") own_name d spelled.1.1.1.0);
       sources = all_passed IsShort text_of spells_name short_text (list_in (codes "sources") d) (each_item (codes "sources") spells_name d spelled.1.1.1.1.0);
-      marks = all_of IsShort is_name short_spelled (whole_marks d) (first_pass is_name [] marks refl (all_marks actors scripts));
+      marks = all_of IsShort is_name short_spelled (whole_marks d) (first_pass is_name [] marks refl (all_marks (is_second d) actors scripts));
       few_marks = omega (arith, all, first, steps);
-      scripts = fits_scripts actors actor_forms (each_item (codes "actors") own_name d spelled.1.1.1.1.1.0) scripts;
+      scripts = fits_scripts (is_second d) actors actor_forms (each_item (codes "actors") own_name d spelled.1.1.1.1.1.0) scripts;
       answers = all_of FitsAnswer is_answer_form fits_answer (list_in (codes "answers") d) (each_item (codes "answers") is_answer_form d forms.1.1.1.1.1.1.0);
     }

@@ -1,5 +1,5 @@
 -- The order of the rules, by groups.
-use Rattle.std.proofs.Common.{◌≡◌, ◌≤◌, ◌∙◌, ℕ, Bor, Bool, true, false, not, cond, nat_le, List, [], ◌∷◌, ◌++◌, length, drop, codes, find, is_some, Option, Some, None, refl, sym, ap, arith}
+use Rattle.std.proofs.Common.{◌≡◌, ◌≤◌, ◌∙◌, ℕ, Bor, Bool, true, false, not, cond, nat_le, List, [], ◌∷◌, ◌++◌, length, drop, codes, find, Option, Some, None, refl, sym, ap, arith}
 use Rattle.std.specs.Option.{option_or, option_map}
 use Rattle.serde_json.specs.Data.{Data}
 use Rattle.machine_file.specs.Whole.{Rule, rule, first_of, first_broken, broken_at}
@@ -12,7 +12,7 @@ use Rattle.machine_file.specs.declared.known.Known.{Known}
 use Rattle.machine_file.specs.Knows.{Knows, AreFew, texts}
 use Rattle.machine_file.specs.Form.{Named, row, first_row, unformed_member, unformed_item}
 use Rattle.machine_file.specs.Limits.{too_many, most_items}
-use Rattle.machine_file.specs.Rules.{name_of, is_version_one}
+use Rattle.machine_file.specs.Rules.{name_of, has_version}
 use Rattle.machine_file.specs.Names.{repeated_device}
 use Rattle.machine_file.specs.Places.{unless, item_place, first_not_after}
 use Rattle.machine_file.specs.Look.{text_of, has_only}
@@ -87,7 +87,7 @@ few_items d e =
 pub few_in : (d : Data) → broken_form d ≡ None → FewItems d
 few_in d e =
     let two = kept_rule (rule 2 (λ v. unless (has_only file_members v) (codes "top"))) (drop 1 form_rules) d (unfold_form d e) in
-    let three = kept_rule (rule 3 (λ v. unless (is_version_one v) (codes "version"))) (drop 2 form_rules) d two.1 in
+    let three = kept_rule (rule 3 (λ v. unless (has_version v) (codes "version"))) (drop 2 form_rules) d two.1 in
     let four = kept_rule (rule 4 unformed_member) (drop 3 form_rules) d three.1 in
     let five = kept_rule (rule 5 unformed_item) (drop 4 form_rules) d four.1 in
     let six = kept_rule (rule 6 too_many) (drop 5 form_rules) d five.1 in

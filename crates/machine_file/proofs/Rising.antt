@@ -2,7 +2,7 @@
 use Rattle.std.proofs.Common.{◌≡◌, ℕ, List, true, refl}
 use Rattle.sleep_model.specs.declared.machine.Machine.{Machine}
 use Rattle.sleep_model.specs.declared.machine.Op.{Op}
-use Rattle.sleep_model.specs.declared.machine.Op.TheVariants.{Read, Save, State, Autosleep, Sleep, SleepD, FreezePoint, Post, Wait, Runtime, Awake, Relax, Event}
+use Rattle.sleep_model.specs.declared.machine.Op.TheVariants.{Read, Save, State, Autosleep, Sleep, SleepD, FreezePoint, Post, Wait, Runtime, Link, LinkState, Awake, Relax, Event}
 use Rattle.sleep_model.specs.declared.machine.SourceCall.{SourceCall}
 use Rattle.sleep_model.specs.declared.machine.SourceCall.TheVariants as call
 use Rattle.machine_file.specs.Spelling.{op_rows, report_rows}
@@ -19,6 +19,8 @@ op_rising m n FreezePoint = refl
 op_rising m n (Post x) = refl
 op_rising m n (Wait x) = refl
 op_rising m n (Runtime d b) = refl
+op_rising m n (Link s c) = refl
+op_rising m n (LinkState s c b) = refl
 op_rising m n (Awake s) = refl
 op_rising m n (Relax s) = refl
 op_rising m n (Event s ms b) = refl

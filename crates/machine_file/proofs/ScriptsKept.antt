@@ -1,5 +1,5 @@
 -- What the scripts of a file that keeps the rules are.
-use Rattle.std.proofs.Common.{◌+◌, ◌*◌, ◌==◌, zero, sum_by, count_by, replicate, zero-mul, suc-mul, mul-zero, add-le-add, le_of_eq, le_trans, ◌≡◌, ◌<◌, ◌≤◌, ◌∙◌, ◌&&◌, ◌||◌, ◌++◌, ℕ, suc, Bool, true, false, cond, if◌then◌else◌, nat_le, List, [], ◌∷◌, length, map, find, flat_map, bytes_eq, codes, unwrap_or, is_some, option_and_then, option_map, IfSome, Option, Some, None, refl, sym, ap, subst, arith}
+use Rattle.std.proofs.Common.{◌+◌, ◌*◌, ◌==◌, zero, sum_by, count_by, replicate, zero-mul, suc-mul, mul-zero, add-le-add, le_of_eq, le_trans, ◌≡◌, ◌<◌, ◌≤◌, ◌∙◌, ◌&&◌, ◌||◌, ◌++◌, ℕ, suc, Bool, true, false, not, cond, if◌then◌else◌, nat_le, List, [], ◌∷◌, length, map, find, flat_map, bytes_eq, codes, unwrap_or, is_some, option_and_then, option_map, IfSome, Option, Some, None, refl, sym, ap, subst, arith}
 use Rattle.std.specs.List.{list_any, list_all, cons_option}
 use Rattle.std.specs.Option.{option_or}
 use Rattle.std.specs.Cmp.Lexicographic.{bytes_decides}
@@ -13,19 +13,19 @@ use Rattle.sleep_model.specs.declared.machine.Machine.{Machine}
 use Rattle.sleep_model.specs.declared.machine.Op.{Op}
 use Rattle.sleep_model.specs.declared.machine.Op.TheVariants.{Read}
 use Rattle.sleep_model.specs.declared.machine.Step.{Step}
-use Rattle.sleep_model.specs.Places.{all_operations, is_state, is_autosleep, most_attempts}
+use Rattle.sleep_model.specs.Places.{all_operations, is_state, is_autosleep, is_link_step, link_steps, most_attempts}
 use Rattle.sleep_model.specs.Scripts.{times_over, operations as made}
 use Rattle.sleep_model.specs.Accepted.{IsOp, AreSteps, AreScripts}
 use Rattle.machine_file.specs.Look.{has_only, is_list, is_text, is_some_and, is_none_or, text_at}
 use Rattle.machine_file.specs.Members.{actor_members, must_have, may_have, has_text, list_in, number_at, word_at}
 use Rattle.machine_file.specs.Places.{unless, first_not, first_item, first_operation_of, operation_place, item_place}
-use Rattle.machine_file.specs.Form.{Named, is_string, is_truth, is_within, is_one_of, is_time, is_actor_form, kinds, statuses, item_forms, first_in_lists, unformed_item}
+use Rattle.machine_file.specs.Form.{Named, is_string, is_truth, is_within, is_one_of, is_time, is_actor_form, kinds, statuses, link_states, item_forms, first_in_lists, unformed_item}
 use Rattle.machine_file.specs.Names.{spells_name, is_among_names, devices_named, sources_named}
-use Rattle.machine_file.specs.Rules.{is_name, name_of}
+use Rattle.machine_file.specs.Rules.{is_name, is_second, name_of}
 use Rattle.machine_file.specs.Spelled.{place_among}
 use Rattle.machine_file.specs.Devices.{whole_device}
-use Rattle.machine_file.specs.Operations.{Operation, operations, row_of, is_event_form, has_short_text, has_length, has_mark, has_source, fits_row, is_formed, names_source, names_device, unformed_operation, sourceless_operation, deviceless_operation, marks_of, first_places, whole_marks, Known, known_of, ms_of, spelled_op, whole_op, whole_step, whole_script}
-use Rattle.machine_file.specs.Limits.{times_of, repeat_of, times_if, script_steps, all_steps, is_state_step, has_autosleep, most_attempts as most_written, are_steps_few, are_reports_few, too_much}
+use Rattle.machine_file.specs.Operations.{Operation, operations, row_of, has_ends_named, changes_links, is_event_form, has_short_text, has_length, has_mark, has_source, fits_row, is_formed, names_source, names_device, names_device_at, unformed_operation, sourceless_operation, deviceless_operation, marks_of, first_places, whole_marks, Known, known_of, ms_of, spelled_op, whole_op, whole_step, whole_script}
+use Rattle.machine_file.specs.Limits.{times_of, repeat_of, times_if, script_steps, all_steps, is_state_step, is_link_step as adds_link, has_autosleep, most_attempts as most_written, are_links_few, are_steps_few, are_reports_few, too_much}
 use Rattle.machine_file.specs.Whole.{whole_machine}
 use Rattle.machine_file.proofs.Freshly.{all_pass, place_within}
 
@@ -54,7 +54,7 @@ each_list file (r ∷ rows) e = let both = none_or (first_item r.name r.is file)
 
 -- every actor is in form
 actors_formed : (d : Data) → unformed_item d ≡ None → list_all is_actor_form (list_in (codes "actors") d) ≡ true
-actors_formed d e = let rows : EachList d item_forms = each_list d item_forms e in each_item (codes "actors") is_actor_form d rows.1.1.1.1.1.0
+actors_formed d e = let rows : EachList d (item_forms (is_second d)) = each_list d (item_forms (is_second d)) e in each_item (codes "actors") is_actor_form d rows.1.1.1.1.1.0
 
 -- every operation of every actor passes
 pub each_operation : (test : Data → Data → Bool) (n : ℕ) (actors : List Data) → first_operation_of test n actors ≡ None →
@@ -153,6 +153,16 @@ row_form o (Some r) e =
     let both = and_parts times (r.form o) e in
     (both.1, (and_parts (has_only (codes "op" ∷ codes "times" ∷ r.members) o) (may_have (codes "times") (is_within 1 20000) o) both.0).1)
 
+-- an operation of the version is in form
+pub table_row : (second : Bool) (a o : Data) → is_formed second a o ≡ true → is_some_and (fits_row o) (row_of o) ≡ true
+table_row second a o e = (and_parts (second || not (changes_links o)) (is_some_and (fits_row o) (row_of o)) e).1
+
+table_rows : (second : Bool) (a : Data) (os : List Data) → list_all (is_formed second a) os ≡ true → list_all (λ o. is_some_and (fits_row o) (row_of o)) os ≡ true
+table_rows second a [] e = refl
+table_rows second a (o ∷ os) e =
+    let both = and_parts (is_formed second a o) (list_all (is_formed second a) os) e in
+    and_from (is_some_and (fits_row o) (row_of o)) (list_all (λ x. is_some_and (fits_row x) (row_of x)) os) (table_row second a o both.0) (table_rows second a os both.1)
+
 -- what is known of an operation of a file that keeps the rules
 record IsKept (known : Known) (o : Data) : Type 0 where
   form : is_some_and (fits_row o) (row_of o) ≡ true
@@ -173,10 +183,22 @@ module _ (m : Machine) (known : Known) (of : IsOf known m) where
         subst (λ (n : ℕ). place_among known.sources (text_at (codes "source") o) < n) of.sources
         (word_within known.sources (word_at (codes "source") o) (string_word (get (codes "source") o) e) kept.source)
 
-    device_within : must_have (codes "device") is_string o ≡ true → place_among known.devices (text_at (codes "device") o) < length m.devices
-    device_within e =
-        subst (λ (n : ℕ). place_among known.devices (text_at (codes "device") o) < n) of.devices
-        (word_within known.devices (word_at (codes "device") o) (string_word (get (codes "device") o) e) kept.device)
+    named_within : (member : List ℕ) → names_device_at member known.devices o ≡ true → must_have member is_string o ≡ true → place_among known.devices (text_at member o) < length m.devices
+    named_within member h e =
+        subst (λ (n : ℕ). place_among known.devices (text_at member o) < n) of.devices
+        (word_within known.devices (word_at member o) (string_word (get member o) e) h)
+
+    -- each device that it may name
+    named : (names_device_at (codes "device") known.devices o ≡ true) × (names_device_at (codes "supplier") known.devices o ≡ true) × (names_device_at (codes "consumer") known.devices o ≡ true)
+    named =
+        let two = and_parts (names_device_at (codes "device") known.devices o && names_device_at (codes "supplier") known.devices o) (names_device_at (codes "consumer") known.devices o) kept.device in
+        let one = and_parts (names_device_at (codes "device") known.devices o) (names_device_at (codes "supplier") known.devices o) two.0 in
+        (one.0, one.1, two.1)
+
+    ends_within : has_ends_named o ≡ true → (place_among known.devices (text_at (codes "supplier") o) < length m.devices) × (place_among known.devices (text_at (codes "consumer") o) < length m.devices)
+    ends_within e =
+        let both = and_parts (must_have (codes "supplier") is_string o) (must_have (codes "consumer") is_string o) e in
+        (named_within (codes "supplier") named.1 both.0, named_within (codes "consumer") named.2 both.1)
 
     mark_within : has_mark o ≡ true → place_among known.marks (text_at (codes "mark") o) < length m.marks
     mark_within e =
@@ -222,17 +244,25 @@ module _ (m : Machine) (known : Known) (of : IsOf known m) where
                       mark_within,
                       (
                         refl,
-                        λ e. device_within (and_parts (must_have (codes "device") is_string o) (must_have (codes "to") (is_one_of statuses) o) e).0,
+                        λ e. named_within (codes "device") named.0 (and_parts (must_have (codes "device") is_string o) (must_have (codes "to") (is_one_of statuses) o) e).0,
                         (
                           refl,
-                          source_within,
+                          ends_within,
                           (
                             refl,
-                            source_within,
+                            λ e. ends_within (and_parts (has_ends_named o) (must_have (codes "to") (is_one_of link_states) o) e).0,
                             (
                               refl,
-                              λ e. event_kept e,
-                              tt,
+                              source_within,
+                              (
+                                refl,
+                                source_within,
+                                (
+                                  refl,
+                                  λ e. event_kept e,
+                                  tt,
+                                ),
+                              ),
                             ),
                           ),
                         ),
@@ -285,19 +315,19 @@ module _ (m : Machine) (known : Known) (of : IsOf known m) where
       let front = and_parts (named && repeat) (may_have (codes "script") is_list a) e in
       number_in 1 1000 (get (codes "repeat") a) (and_parts named repeat front.0).1
 
-  scripts_kept_of : (actors : List Data) → list_all is_actor_form actors ≡ true →
-      list_all (λ a. list_all (is_formed a) (list_in (codes "script") a)) actors ≡ true →
+  scripts_kept_of : (second : Bool) (actors : List Data) → list_all is_actor_form actors ≡ true →
+      list_all (λ a. list_all (is_formed second a) (list_in (codes "script") a)) actors ≡ true →
       list_all (λ a. list_all (names_source known.sources) (list_in (codes "script") a)) actors ≡ true →
       list_all (λ a. list_all (names_device known.devices) (list_in (codes "script") a)) actors ≡ true →
       list_all (λ a. list_all (λ o. is_none_or (is_among_names known.marks) (word_at (codes "mark") o)) (list_in (codes "script") a)) actors ≡ true →
       AreScripts m (map (whole_script known) actors)
-  scripts_kept_of [] r f s v k = tt
-  scripts_kept_of (a ∷ actors) r f s v k =
+  scripts_kept_of second [] r f s v k = tt
+  scripts_kept_of second (a ∷ actors) r f s v k =
       let each = λ (test : Data → Data → Bool). list_all (λ b. list_all (test b) (list_in (codes "script") b)) actors in
       let own = λ (test : Data → Data → Bool). list_all (test a) (list_in (codes "script") a) in
       let marked = λ (b o : Data). is_none_or (is_among_names known.marks) (word_at (codes "mark") o) in
       let rs = and_parts (is_actor_form a) (list_all is_actor_form actors) r in
-      let fs = and_parts (own is_formed) (each is_formed) f in
+      let fs = and_parts (own (is_formed second)) (each (is_formed second)) f in
       let ss = and_parts (own (λ b. names_source known.sources)) (each (λ b. names_source known.sources)) s in
       let vs = and_parts (own (λ b. names_device known.devices)) (each (λ b. names_device known.devices)) v in
       let ks = and_parts (own marked) (each marked) k in
@@ -305,8 +335,8 @@ module _ (m : Machine) (known : Known) (of : IsOf known m) where
       let least = or_least 1 1000 1 (number_at (codes "repeat") a) range (omega arith) in (
         omega (arith, least),
         or_most 1 1000 1 (number_at (codes "repeat") a) range (omega arith),
-        steps_kept_of (list_in (codes "script") a) fs.0 ss.0 vs.0 ks.0,
-        scripts_kept_of actors rs.1 fs.1 ss.1 vs.1 ks.1,
+        steps_kept_of (list_in (codes "script") a) (table_rows second a (list_in (codes "script") a) fs.0) ss.0 vs.0 ks.0,
+        scripts_kept_of second actors rs.1 fs.1 ss.1 vs.1 ks.1,
       )
 
 -- ---- marks
@@ -388,8 +418,8 @@ pub scripts_kept : (d : Data) → unformed_item d ≡ None → unformed_operatio
     AreScripts (whole_machine d) (whole_machine d).actors
 scripts_kept d items forms sources devices =
     let actors = list_in (codes "actors") d in
-    scripts_kept_of (whole_machine d) (known_of d) (record { devices = devices_len d; sources = refl; marks = refl }) actors (actors_formed d items)
-    (each_operation is_formed 0 actors forms)
+    scripts_kept_of (whole_machine d) (known_of d) (record { devices = devices_len d; sources = refl; marks = refl }) (is_second d) actors (actors_formed d items)
+    (each_operation (is_formed (is_second d)) 0 actors forms)
     (each_operation (λ a. names_source (sources_named d)) 0 actors sources)
     (each_operation (λ a. names_device (devices_named d)) 0 actors devices)
     (marks_known (is_among_names (whole_marks d)) actors (each_found [] (flat_map (λ a. marks_of (list_in (codes "script") a)) actors)))
@@ -513,13 +543,19 @@ and_true false = refl
 state_told : (known : Known) (o : Data) → is_state (whole_op known o) ≡ is_state_step o
 state_told known o =
     found_as is_state (codes "state") (λ word. has_text (codes "op") word o) (spelled_op known o) (member_apart (get (codes "op") o)) refl
-    (refl, (refl, (refl, (refl, (refl, (refl, (refl, (refl, (refl, (refl, (refl, (refl, (refl, tt))))))))))))) ∙ and_true (has_text (codes "op") (codes "state") o)
+    (refl, (refl, (refl, (refl, (refl, (refl, (refl, (refl, (refl, (refl, (refl, (refl, (refl, (refl, (refl, tt))))))))))))))) ∙ and_true (has_text (codes "op") (codes "state") o)
 
 -- a write to autosleep is one in the file
 autosleep_told : (known : Known) (o : Data) → is_autosleep (whole_op known o) ≡ has_text (codes "op") (codes "autosleep") o
 autosleep_told known o =
     found_as is_autosleep (codes "autosleep") (λ word. has_text (codes "op") word o) (spelled_op known o) (member_apart (get (codes "op") o)) refl
-    (refl, (refl, (refl, (refl, (refl, (refl, (refl, (refl, (refl, (refl, (refl, (refl, (refl, tt))))))))))))) ∙ and_true (has_text (codes "op") (codes "autosleep") o)
+    (refl, (refl, (refl, (refl, (refl, (refl, (refl, (refl, (refl, (refl, (refl, (refl, (refl, (refl, (refl, tt))))))))))))))) ∙ and_true (has_text (codes "op") (codes "autosleep") o)
+
+-- a step that adds a link is one in the file
+link_told : (known : Known) (o : Data) → is_link_step (whole_op known o) ≡ adds_link o
+link_told known o =
+    found_as is_link_step (codes "link") (λ word. has_text (codes "op") word o) (spelled_op known o) (member_apart (get (codes "op") o)) refl
+    (refl, (refl, (refl, (refl, (refl, (refl, (refl, (refl, (refl, (refl, (refl, (refl, (refl, (refl, (refl, tt))))))))))))))) ∙ and_true (has_text (codes "op") (codes "link") o)
 
 -- ---- how much happens
 
@@ -550,12 +586,26 @@ rule_holds : (b : Bool) (place : List ℕ) (o : Option (List ℕ)) → option_or
 rule_holds true place o e = refl
 rule_holds false place o e = cc
 
+-- few steps, and few links
+much_holds : (d : Data) → too_much d ≡ None →
+    ((nat_le (all_steps (λ o. true) d) 200000 && nat_le (most_written d * (length (list_in (codes "devices") d) + 50)) 100000) ≡ true) × (are_links_few d ≡ true)
+much_holds d e =
+    and_parts (nat_le (all_steps (λ o. true) d) 200000 && nat_le (most_written d * (length (list_in (codes "devices") d) + 50)) 100000) (are_links_few d)
+    (rule_holds (are_steps_few d) (codes "actors") (unless (are_reports_few d) (codes "answers")) e)
+
 -- a file has at most 200000 steps
 pub steps_few : (d : Data) → too_much d ≡ None → all_steps (λ o. true) d ≤ 200000
 steps_few d e =
-    let few = rule_holds (are_steps_few d) (codes "actors") (unless (are_reports_few d) (codes "answers")) e in
     leb-true (all_steps (λ o. true) d) 200000
-    (and_parts (nat_le (all_steps (λ o. true) d) 200000) (nat_le (most_written d * (length (list_in (codes "devices") d) + 50)) 100000) few).0
+    (and_parts (nat_le (all_steps (λ o. true) d) 200000) (nat_le (most_written d * (length (list_in (codes "devices") d) + 50)) 100000) (much_holds d e).0).0
+
+-- the links of a file, and those that its scripts may add, are at most 4000
+pub links_few : (d : Data) → too_much d ≡ None → length (list_in (codes "links") d) + link_steps (whole_machine d).actors ≤ 4000
+links_few d e =
+    let actors = list_in (codes "actors") d in
+    let added : link_steps (map (whole_script (known_of d)) actors) ≡ all_steps adds_link d = count_scripts (known_of d) is_link_step adds_link (link_told (known_of d)) actors in
+    let few = leb-true (length (list_in (codes "links") d) + all_steps adds_link d) 4000 (much_holds d e).1 in
+    omega (arith, added, few)
 
 -- at most 200000 operations are made, and at most 100000 turns, of devices and 50 others, over all attempts
 pub steps_kept : (d : Data) → too_much d ≡ None →
@@ -563,8 +613,7 @@ pub steps_kept : (d : Data) → too_much d ≡ None →
 steps_kept d e =
     let actors = list_in (codes "actors") d in
     let devices = list_in (codes "devices") d in
-    let few = rule_holds (are_steps_few d) (codes "actors") (unless (are_reports_few d) (codes "answers")) e in
-    let both = and_parts (nat_le (all_steps (λ o. true) d) 200000) (nat_le (most_written d * (length devices + 50)) 100000) few in
+    let both = and_parts (nat_le (all_steps (λ o. true) d) 200000) (nat_le (most_written d * (length devices + 50)) 100000) (much_holds d e).0 in
     let steps = steps_few d e in
     let turns = leb-true (most_written d * (length devices + 50)) 100000 both.1 in
     let made_so : length (all_operations (map (whole_script (known_of d)) actors)) ≡ all_steps (λ o. true) d =

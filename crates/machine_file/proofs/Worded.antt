@@ -1,6 +1,5 @@
 -- Operations by their words.
 use Rattle.std.proofs.Common.{◌≡◌, ◌∙◌, ℕ, Bool, true, false, cond, List, [], ◌∷◌, map, find, bytes_eq, codes, unwrap_or, option_and_then, option_map, Option, Some, None, refl, sym, ap}
-use Rattle.std.proofs.lemmas.Bool.{false≢true}
 use Rattle.serde_json.specs.Data.{Data}
 use Rattle.serde_json.specs.Find.{get, as_str}
 use Rattle.sleep_model.specs.declared.machine.Op.{Op}
@@ -60,6 +59,8 @@ module _ (names : Known) (o : Data) where
   found word.Post = refl
   found word.Wait = refl
   found word.Runtime = refl
+  found word.Link = refl
+  found word.LinkState = refl
   found word.Awake = refl
   found word.Relax = refl
   found word.Event = refl

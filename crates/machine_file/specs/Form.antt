@@ -9,6 +9,7 @@ use Rattle.sleep_model.specs.Answers.{errors}
 use Rattle.machine_file.specs.Look.{is_some_and, is_number, is_list, has_only}
 use Rattle.machine_file.specs.Members.{must_have, may_have, has_text, items_of, device_members, link_members, notifier_members, actor_members, answer_members, report_members}
 use Rattle.machine_file.specs.Places.{first_item}
+use Rattle.machine_file.specs.Rules.{is_second}
 
 -- ---- single values
 
@@ -48,9 +49,15 @@ is_device_form d =
     has_only device_members d && must_have (codes "name") is_string d && may_have (codes "parent") is_string d && may_have (codes "async") is_truth d && may_have (codes "wakeup") is_truth d
     && may_have (codes "runtime") (is_one_of statuses) d
 
--- a link has both ends (struct device_link)
-abbrev pub is_link_form : Data → Bool
-is_link_form d = has_only link_members d && must_have (codes "supplier") is_string d && must_have (codes "consumer") is_string d
+-- the words of a link's state (DL_STATE_ACTIVE, DL_STATE_DORMANT)
+abbrev pub link_states : List (List ℕ)
+link_states = codes "active" ∷ codes "dormant" ∷ []
+
+-- a link has both ends; in a file of version 2 its state may be given (struct device_link)
+abbrev pub is_link_form : Bool → Data → Bool
+is_link_form second d =
+    has_only (link_members second) d && must_have (codes "supplier") is_string d && must_have (codes "consumer") is_string d
+    && may_have (codes "state") (is_one_of link_states) d
 
 -- a notifier has a name; its priority, -1000 to 1000, may be given (struct notifier_block)
 abbrev pub is_notifier_form : Data → Bool
@@ -126,11 +133,11 @@ member_forms =
     ∷ row (codes "answers") is_list
     ∷ []
 
--- the form of each list's items (own)
-abbrev pub item_forms : List (Named (Data → Bool))
-item_forms =
+-- the form of each list's items, in a file of version 2 or of version 1 (own)
+abbrev pub item_forms : Bool → List (Named (Data → Bool))
+item_forms second =
     row (codes "devices") is_device_form
-    ∷ row (codes "links") is_link_form
+    ∷ row (codes "links") (is_link_form second)
     ∷ row (codes "syscore") is_string
     ∷ row (codes "notifiers") is_notifier_form
     ∷ row (codes "sources") is_string
@@ -153,4 +160,4 @@ unformed_member file = first_row (λ r. may_have r.name r.is file) member_forms
 
 -- where an item has not its form
 abbrev pub unformed_item : Data → Option (List ℕ)
-unformed_item file = first_in_lists item_forms file
+unformed_item file = first_in_lists (item_forms (is_second file)) file

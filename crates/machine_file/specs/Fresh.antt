@@ -16,7 +16,7 @@ pub record IsFresh (parents : List (Option ℕ)) (before : List Link) (l : Link)
 
 -- what is read past the end
 abbrev pub no_link : Link
-no_link = record { supplier = 0; consumer = 0 }
+no_link = record { supplier = 0; consumer = 0; active = false }
 
 -- each is fresh beside those before it, and they are at most 4,000
 pub record AreFresh (parents : List (Option ℕ)) (links : List Link) : Type 0 where

@@ -9,7 +9,7 @@ use Rattle.machine_file.specs.Devices.{orphan, loose_link, repeated_link}
 use Rattle.machine_file.specs.Operations.{unformed_operation, forbidden_operation, sourceless_operation, deviceless_operation}
 use Rattle.machine_file.specs.Answering.{thingless_answer, forbidden_ret, forbidden_reports, sourceless_report, repeated_answer}
 use Rattle.machine_file.specs.Limits.{too_many, too_much}
-use Rattle.machine_file.specs.Rules.{is_version_one}
+use Rattle.machine_file.specs.Rules.{has_version}
 use Rattle.machine_file.specs.Look.{has_only}
 use Rattle.machine_file.specs.Whole.{Rule, rule}
 
@@ -17,7 +17,7 @@ use Rattle.machine_file.specs.Whole.{Rule, rule}
 abbrev pub form_rules : List Rule
 form_rules =
     rule 2 (λ d. unless (has_only file_members d) (codes "top"))
-    ∷ rule 3 (λ d. unless (is_version_one d) (codes "version"))
+    ∷ rule 3 (λ d. unless (has_version d) (codes "version"))
     ∷ rule 4 unformed_member
     ∷ rule 5 unformed_item
     ∷ rule 6 too_many

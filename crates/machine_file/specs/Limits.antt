@@ -63,9 +63,18 @@ autosleep_attempts file = if list_any has_autosleep (list_in (codes "actors") fi
 abbrev pub most_attempts : Data → ℕ
 most_attempts file = all_steps is_state_step file + autosleep_attempts file
 
--- at most 200000 steps, and at most 100000 turns, of devices and 50 others, over all attempts
+-- a step that adds a link (device_link_add)
+abbrev pub is_link_step : Data → Bool
+is_link_step o = has_text (codes "op") (codes "link") o
+
+-- at most 4000 links, those of the file and those that steps may add
+abbrev pub are_links_few : Data → Bool
+are_links_few file = nat_le (length (list_in (codes "links") file) + all_steps is_link_step file) 4000
+
+-- at most 200000 steps, and at most 100000 turns, of devices and 50 others, over all attempts; and few links
 abbrev pub are_steps_few : Data → Bool
 are_steps_few file = nat_le (all_steps (λ o. true) file) 200000 && nat_le (most_attempts file * (length (list_in (codes "devices") file) + 50)) 100000
+    && are_links_few file
 
 -- at most 10000 reports
 abbrev pub are_reports_few : Data → Bool

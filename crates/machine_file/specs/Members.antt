@@ -1,5 +1,5 @@
 -- Which members the objects of a machine file have, and what stands at them.
-use Rattle.std.specs.Prelude.{ℕ, List, [], ◌∷◌, codes, Bool, Option, option_and_then}
+use Rattle.std.specs.Prelude.{ℕ, List, [], ◌∷◌, codes, Bool, true, false, Option, option_and_then}
 use Rattle.serde_json.specs.Data.{Data, Items, no_items, item}
 use Rattle.serde_json.specs.Find.{get, as_number, as_u64, as_str, as_bool}
 use Rattle.machine_file.specs.Look.{is_some_and, is_none_or, is_text, list_at}
@@ -15,9 +15,10 @@ file_members =
 abbrev pub device_members : List (List ℕ)
 device_members = codes "name" ∷ codes "parent" ∷ codes "async" ∷ codes "wakeup" ∷ codes "runtime" ∷ []
 
--- the members of a link (struct device_link)
-abbrev pub link_members : List (List ℕ)
-link_members = codes "supplier" ∷ codes "consumer" ∷ []
+-- the members of a link, in a file of version 2 or of version 1 (struct device_link)
+abbrev pub link_members : Bool → List (List ℕ)
+link_members true = codes "supplier" ∷ codes "consumer" ∷ codes "state" ∷ []
+link_members false = codes "supplier" ∷ codes "consumer" ∷ []
 
 -- the members of a notifier (struct notifier_block)
 abbrev pub notifier_members : List (List ℕ)

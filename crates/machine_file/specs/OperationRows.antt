@@ -1,9 +1,9 @@
 -- The rows of the table of operations, and the tests of operations, by name.
-use Rattle.std.specs.Prelude.{ℕ, List, Bool, codes, [], ◌∷◌, bytes_eq, Option}
+use Rattle.std.specs.Prelude.{ℕ, List, Bool, not, codes, [], ◌∷◌, bytes_eq, Option}
 use Rattle.std.specs.List.{find}
 use Rattle.serde_json.specs.Data.{Data}
 use Rattle.sleep_model.specs.declared.machine.Op.{Op}
-use Rattle.sleep_model.specs.declared.machine.Op.TheVariants.{Read, Save, State, Autosleep, Sleep, SleepD, FreezePoint, Post, Wait, Runtime, Awake, Relax, Event}
+use Rattle.sleep_model.specs.declared.machine.Op.TheVariants.{Read, Save, State, Autosleep, Sleep, SleepD, FreezePoint, Post, Wait, Runtime, Link, LinkState, Awake, Relax, Event}
 use Rattle.machine_file.specs.declared.operations.Word.{Word}
 use Rattle.machine_file.specs.declared.operations.Word.TheVariants as word
 use Rattle.machine_file.specs.declared.operations.OperationTest.{OperationTest}
@@ -12,7 +12,7 @@ use Rattle.machine_file.specs.declared.known.Known.{Known}
 use Rattle.machine_file.specs.Knows.{texts}
 use Rattle.machine_file.specs.Look.{text_at}
 use Rattle.machine_file.specs.Members.{has_text, number_at}
-use Rattle.machine_file.specs.Operations.{Known as Names, ms_of, says, thing_at, Operation, operation, operations, users, tasks, everyone, plain, has_count, is_state_form, has_short_text, has_length, has_mark, is_runtime_form, has_source, is_event_form, is_formed, is_allowed, names_source, names_device}
+use Rattle.machine_file.specs.Operations.{Known as Names, ms_of, says, thing_at, Operation, operation, operations, users, tasks, everyone, plain, has_count, is_state_form, has_short_text, has_length, has_mark, is_runtime_form, has_ends_named, is_link_state_form, has_source, is_event_form, is_formed, is_allowed, names_source, names_device}
 
 -- the row of a word
 abbrev pub op_row : Word → Operation
@@ -26,6 +26,8 @@ op_row word.FreezePoint = operation (codes "freeze_point") [] plain tasks
 op_row word.Post = operation (codes "post") (codes "mark" ∷ []) has_mark everyone
 op_row word.Wait = operation (codes "wait") (codes "mark" ∷ []) has_mark everyone
 op_row word.Runtime = operation (codes "runtime") (codes "device" ∷ codes "to" ∷ []) is_runtime_form tasks
+op_row word.Link = operation (codes "link") (codes "supplier" ∷ codes "consumer" ∷ []) has_ends_named tasks
+op_row word.LinkState = operation (codes "link_state") (codes "supplier" ∷ codes "consumer" ∷ codes "to" ∷ []) is_link_state_form tasks
 op_row word.Awake = operation (codes "awake") (codes "source" ∷ []) has_source everyone
 op_row word.Relax = operation (codes "relax") (codes "source" ∷ []) has_source everyone
 op_row word.Event = operation (codes "event") (codes "source" ∷ codes "ms" ∷ codes "hard" ∷ []) is_event_form everyone
@@ -46,13 +48,15 @@ op_spelled word.FreezePoint names o = FreezePoint
 op_spelled word.Post names o = Post (thing_at (codes "mark") names.marks o)
 op_spelled word.Wait names o = Wait (thing_at (codes "mark") names.marks o)
 op_spelled word.Runtime names o = Runtime (thing_at (codes "device") names.devices o) (has_text (codes "to") (codes "suspended") o)
+op_spelled word.Link names o = Link (thing_at (codes "supplier") names.devices o) (thing_at (codes "consumer") names.devices o)
+op_spelled word.LinkState names o = LinkState (thing_at (codes "supplier") names.devices o) (thing_at (codes "consumer") names.devices o) (not (has_text (codes "to") (codes "dormant") o))
 op_spelled word.Awake names o = Awake (thing_at (codes "source") names.sources o)
 op_spelled word.Relax names o = Relax (thing_at (codes "source") names.sources o)
 op_spelled word.Event names o = Event (thing_at (codes "source") names.sources o) (ms_of o) (says (codes "hard") o)
 
 -- a test of an operation beside its actor
 abbrev pub operation_test : OperationTest → Known → Data → Data → Bool
-operation_test test.Formed k actor = is_formed actor
+operation_test (test.Formed second) k actor = is_formed second actor
 operation_test test.Allowed k actor = is_allowed actor
 operation_test test.Source k actor = names_source (texts k.sources)
 operation_test test.Device k actor = names_device (texts k.devices)

@@ -1,10 +1,10 @@
 -- The operations of scripts: their table, their rules, and what they spell.
-use Rattle.std.specs.Prelude.{ℕ, ◌++◌, List, [], ◌∷◌, length, codes, Bool, true, false, ◌&&◌, nat_le, map, filter_map, flat_map, Option, option_map, unwrap_or, if◌then◌else◌}
+use Rattle.std.specs.Prelude.{ℕ, ◌++◌, List, [], ◌∷◌, length, codes, Bool, true, false, not, ◌&&◌, ◌||◌, nat_le, map, filter_map, flat_map, Option, option_map, unwrap_or, if◌then◌else◌}
 use Rattle.std.specs.List.{find}
 use Rattle.serde_json.specs.Data.{Data}
 use Rattle.serde_json.specs.Find.{as_str}
 use Rattle.sleep_model.specs.declared.machine.Op.{Op}
-use Rattle.sleep_model.specs.declared.machine.Op.TheVariants.{Read, Save, State, Autosleep, Sleep, SleepD, FreezePoint, Post, Wait, Runtime, Awake, Relax, Event}
+use Rattle.sleep_model.specs.declared.machine.Op.TheVariants.{Read, Save, State, Autosleep, Sleep, SleepD, FreezePoint, Post, Wait, Runtime, Link, LinkState, Awake, Relax, Event}
 use Rattle.sleep_model.specs.declared.machine.Step.{Step}
 use Rattle.sleep_model.specs.declared.machine.Script.{Script}
 use Rattle.sleep_model.specs.declared.machine.TaskKind.{TaskKind}
@@ -12,10 +12,10 @@ use Rattle.sleep_model.specs.declared.machine.TaskKind.TheVariants.{User, Kthrea
 use Rattle.machine_file.specs.Look.{is_some_and, is_none_or, has_only, text_at}
 use Rattle.machine_file.specs.Members.{must_have, may_have, has_text, list_in, number_at, truth_at, word_at}
 use Rattle.machine_file.specs.Places.{first_operation}
-use Rattle.machine_file.specs.Form.{is_string, is_truth, is_within, is_one_of, is_time, statuses}
+use Rattle.machine_file.specs.Form.{is_string, is_truth, is_within, is_one_of, is_time, statuses, link_states}
 use Rattle.machine_file.specs.Names.{spells_name, is_among_names, sources_named, devices_named}
 use Rattle.machine_file.specs.Spelled.{place_among}
-use Rattle.machine_file.specs.Rules.{name_of}
+use Rattle.machine_file.specs.Rules.{name_of, is_second}
 
 -- ---- the table
 
@@ -70,6 +70,14 @@ has_mark o = must_have (codes "mark") spells_name o
 abbrev pub is_runtime_form : Data → Bool
 is_runtime_form o = must_have (codes "device") is_string o && must_have (codes "to") (is_one_of statuses) o
 
+-- the ends of a link (device_link_add)
+abbrev pub has_ends_named : Data → Bool
+has_ends_named o = must_have (codes "supplier") is_string o && must_have (codes "consumer") is_string o
+
+-- a state of a link (struct device_link, status)
+abbrev pub is_link_state_form : Data → Bool
+is_link_state_form o = has_ends_named o && must_have (codes "to") (is_one_of link_states) o
+
 -- a call on a source (pm_stay_awake, pm_relax)
 abbrev pub has_source : Data → Bool
 has_source o = must_have (codes "source") is_string o
@@ -91,6 +99,8 @@ operations =
     ∷ operation (codes "post") (codes "mark" ∷ []) has_mark everyone
     ∷ operation (codes "wait") (codes "mark" ∷ []) has_mark everyone
     ∷ operation (codes "runtime") (codes "device" ∷ codes "to" ∷ []) is_runtime_form tasks
+    ∷ operation (codes "link") (codes "supplier" ∷ codes "consumer" ∷ []) has_ends_named tasks
+    ∷ operation (codes "link_state") (codes "supplier" ∷ codes "consumer" ∷ codes "to" ∷ []) is_link_state_form tasks
     ∷ operation (codes "awake") (codes "source" ∷ []) has_source everyone
     ∷ operation (codes "relax") (codes "source" ∷ []) has_source everyone
     ∷ operation (codes "event") (codes "source" ∷ codes "ms" ∷ codes "hard" ∷ []) is_event_form everyone
@@ -106,9 +116,13 @@ row_of o = find (λ r. has_text (codes "op") r.word o) operations
 abbrev pub fits_row : Data → Operation → Bool
 fits_row o r = has_only (codes "op" ∷ codes "times" ∷ r.members) o && may_have (codes "times") (is_within 1 20000) o && r.form o
 
--- an operation of the table, in form
-abbrev pub is_formed : Data → Data → Bool
-is_formed actor o = is_some_and (fits_row o) (row_of o)
+-- it changes links, which a file of version 2 alone may ask for (device_link_add)
+abbrev pub changes_links : Data → Bool
+changes_links o = has_text (codes "op") (codes "link") o || has_text (codes "op") (codes "link_state") o
+
+-- an operation of the table, in form, in a file of version 2 or of version 1
+abbrev pub is_formed : Bool → Data → Data → Bool
+is_formed second actor o = (second || not (changes_links o)) && is_some_and (fits_row o) (row_of o)
 
 -- it is allowed to the actor's kind
 abbrev pub is_allowed : Data → Data → Bool
@@ -118,13 +132,19 @@ is_allowed actor o = is_some_and (λ r. is_among_names r.makers (text_at (codes 
 abbrev pub names_source : List (List ℕ) → Data → Bool
 names_source sources o = is_none_or (is_among_names sources) (word_at (codes "source") o)
 
--- the device that it names, if it names one, is of these
+-- the device that it names at that member, if it names one, is of these
+abbrev pub names_device_at : List ℕ → List (List ℕ) → Data → Bool
+names_device_at member devices o = is_none_or (is_among_names devices) (word_at member o)
+
+-- the devices that it names, if it names any, are of these
 abbrev pub names_device : List (List ℕ) → Data → Bool
-names_device devices o = is_none_or (is_among_names devices) (word_at (codes "device") o)
+names_device devices o =
+    names_device_at (codes "device") devices o && names_device_at (codes "supplier") devices o
+    && names_device_at (codes "consumer") devices o
 
 -- where an operation is none of the table, or has not its form
 abbrev pub unformed_operation : Data → Option (List ℕ)
-unformed_operation file = first_operation is_formed file
+unformed_operation file = first_operation (is_formed (is_second file)) file
 
 -- where an operation is not allowed to its maker
 abbrev pub forbidden_operation : Data → Option (List ℕ)
@@ -188,6 +208,8 @@ spelled_op known o =
     ∷ (codes "post", Post (thing_at (codes "mark") known.marks o))
     ∷ (codes "wait", Wait (thing_at (codes "mark") known.marks o))
     ∷ (codes "runtime", Runtime (thing_at (codes "device") known.devices o) (has_text (codes "to") (codes "suspended") o))
+    ∷ (codes "link", Link (thing_at (codes "supplier") known.devices o) (thing_at (codes "consumer") known.devices o))
+    ∷ (codes "link_state", LinkState (thing_at (codes "supplier") known.devices o) (thing_at (codes "consumer") known.devices o) (not (has_text (codes "to") (codes "dormant") o)))
     ∷ (codes "awake", Awake (thing_at (codes "source") known.sources o))
     ∷ (codes "relax", Relax (thing_at (codes "source") known.sources o))
     ∷ (codes "event", Event (thing_at (codes "source") known.sources o) (ms_of o) (says (codes "hard") o))

@@ -17,6 +17,10 @@ is_name s = nat_le 1 (length s) && nat_le (length s) 32 && list_all is_name_byte
 abbrev pub name_of : Data → List ℕ
 name_of d = text_at (codes "name") d
 
--- the version is there, and is 1
-abbrev pub is_version_one : Data → Bool
-is_version_one d = is_some_and (is_number 1) (get (codes "version") d)
+-- the version is there, and is 1 or 2
+abbrev pub has_version : Data → Bool
+has_version d = is_some_and (λ v. is_number 1 v || is_number 2 v) (get (codes "version") d)
+
+-- the version is there, and is 2: links may be dormant, and scripts may change them
+abbrev pub is_second : Data → Bool
+is_second d = is_some_and (is_number 2) (get (codes "version") d)

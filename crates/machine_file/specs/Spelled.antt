@@ -1,9 +1,10 @@
 -- What names in a machine file stand for.
-use Rattle.std.specs.Prelude.{ℕ, List, codes, Option, option_and_then, unwrap_or, position, bytes_eq}
+use Rattle.std.specs.Prelude.{ℕ, List, codes, not, Option, option_and_then, unwrap_or, position, bytes_eq}
 use Rattle.sleep_model.specs.declared.machine.Link.{Link}
 use Rattle.serde_json.specs.Data.{Data}
 use Rattle.serde_json.specs.Find.{get, as_str}
 use Rattle.machine_file.specs.Look.{text_at}
+use Rattle.machine_file.specs.Members.{has_text}
 
 -- the place of the device's parent among these names
 abbrev pub parent_of : List (List ℕ) → Data → Option ℕ
@@ -13,6 +14,10 @@ parent_of earlier d = option_and_then (λ s. position (bytes_eq s) earlier) (opt
 abbrev pub place_among : List (List ℕ) → List ℕ → ℕ
 place_among names name = unwrap_or (position (bytes_eq name) names) 0
 
--- a link between devices of these names
+-- a link between devices of these names, active unless it says that it is dormant (DL_STATE_DORMANT)
 abbrev pub link_of : List (List ℕ) → Data → Link
-link_of names l = record { supplier = place_among names (text_at (codes "supplier") l); consumer = place_among names (text_at (codes "consumer") l) }
+link_of names l = record {
+  supplier = place_among names (text_at (codes "supplier") l);
+  consumer = place_among names (text_at (codes "consumer") l);
+  active = not (has_text (codes "state") (codes "dormant") l);
+}

@@ -7,11 +7,11 @@ use Rattle.sleep_base.specs.declared.errno.Errno.{Errno}
 use Rattle.sleep_base.specs.Errno.{name_of as error_name}
 use Rattle.sleep_model.specs.declared.machine.Answer.{Answer}
 use Rattle.sleep_model.specs.declared.machine.Device.{Device}
-use Rattle.sleep_model.specs.declared.machine.Link.{Link}
+use Rattle.sleep_model.specs.declared.machine.Link.{Link as DeviceLink}
 use Rattle.sleep_model.specs.declared.machine.Machine.{Machine}
 use Rattle.sleep_model.specs.declared.machine.Notifier.{Notifier}
 use Rattle.sleep_model.specs.declared.machine.Op.{Op}
-use Rattle.sleep_model.specs.declared.machine.Op.TheVariants.{Read, Save, State, Autosleep, Sleep, SleepD, FreezePoint, Post, Wait, Runtime, Awake, Relax, Event}
+use Rattle.sleep_model.specs.declared.machine.Op.TheVariants.{Read, Save, State, Autosleep, Sleep, SleepD, FreezePoint, Post, Wait, Runtime, Link, LinkState, Awake, Relax, Event}
 use Rattle.sleep_model.specs.declared.machine.Report.{Report}
 use Rattle.sleep_model.specs.declared.machine.Script.{Script}
 use Rattle.sleep_model.specs.declared.machine.SourceCall.{SourceCall}
@@ -24,7 +24,7 @@ use Rattle.sleep_model.specs.declared.machine.What.TheVariants as what
 use Rattle.sleep_model.specs.Answers.{error_of_number}
 use Rattle.sleep_model.specs.Runtime.{has_bit, is_async, may_wake}
 use Rattle.phase_table.specs.Phases.{phase_name}
-use Rattle.sleep_model.specs.Text.{down_word, runtime_word, newline, device, source, syscore, notifier, mark}
+use Rattle.sleep_model.specs.Text.{down_word, runtime_word, link_word, newline, device, source, syscore, notifier, mark}
 use Rattle.machine_file.specs.Form.{Named, row}
 use Rattle.machine_file.specs.Whole.{SpellsWhole, IsSpelled}
 
@@ -95,11 +95,15 @@ abbrev pub device_value : Machine → Device → Data
 device_value m d = object_of (device_rows m d)
 
 -- the members of a link
-abbrev pub link_rows : Machine → Link → List (Named (Option Data))
-link_rows m l = text_row (codes "consumer") (device m l.consumer) ∷ text_row (codes "supplier") (device m l.supplier) ∷ []
+abbrev pub link_rows : Machine → DeviceLink → List (Named (Option Data))
+link_rows m l =
+    text_row (codes "consumer") (device m l.consumer)
+    ∷ row (codes "state") (if l.active then None else Some (string (codes "dormant")))
+    ∷ text_row (codes "supplier") (device m l.supplier)
+    ∷ []
 
 -- a link
-abbrev pub link_value : Machine → Link → Data
+abbrev pub link_value : Machine → DeviceLink → Data
 link_value m l = object_of (link_rows m l)
 
 -- a whole number, unless it is 0
@@ -142,6 +146,8 @@ op_rows m n FreezePoint = op_row (codes "freeze_point") ∷ times n ∷ []
 op_rows m n (Post x) = text_row (codes "mark") (mark m x) ∷ op_row (codes "post") ∷ times n ∷ []
 op_rows m n (Wait x) = text_row (codes "mark") (mark m x) ∷ op_row (codes "wait") ∷ times n ∷ []
 op_rows m n (Runtime d suspended) = text_row (codes "device") (device m d) ∷ op_row (codes "runtime") ∷ times n ∷ text_row (codes "to") (runtime_word suspended) ∷ []
+op_rows m n (Link supplier consumer) = text_row (codes "consumer") (device m consumer) ∷ op_row (codes "link") ∷ text_row (codes "supplier") (device m supplier) ∷ times n ∷ []
+op_rows m n (LinkState supplier consumer active) = text_row (codes "consumer") (device m consumer) ∷ op_row (codes "link_state") ∷ text_row (codes "supplier") (device m supplier) ∷ times n ∷ text_row (codes "to") (link_word active) ∷ []
 op_rows m n (Awake s) = op_row (codes "awake") ∷ text_row (codes "source") (source m s) ∷ times n ∷ []
 op_rows m n (Relax s) = op_row (codes "relax") ∷ text_row (codes "source") (source m s) ∷ times n ∷ []
 op_rows m n (Event s ms hard) = true_if (codes "hard") hard ∷ count_unless (codes "ms") 0 ms ∷ op_row (codes "event") ∷ text_row (codes "source") (source m s) ∷ times n ∷ []
@@ -228,7 +234,7 @@ machine_rows m =
     ∷ list_if (codes "notifiers") (map notifier_value m.notifiers)
     ∷ list_if (codes "sources") (map string m.sources)
     ∷ list_if (codes "syscore") (map string m.syscore)
-    ∷ always (codes "version") (count 1)
+    ∷ always (codes "version") (count 2)
     ∷ []
 
 -- the value of a machine

@@ -9,7 +9,7 @@ use Rattle.machine_file.specs.Names.{spells_name, names_of_device, names_of_link
 -- a test of an item of a list
 abbrev pub item_test : ItemTest → Data → Bool
 item_test test.DeviceForm = is_device_form
-item_test test.LinkForm = is_link_form
+item_test (test.LinkForm second) = is_link_form second
 item_test test.Text = is_string
 item_test test.NotifierForm = is_notifier_form
 item_test test.ActorForm = is_actor_form

@@ -15,7 +15,7 @@ use Rattle.machine_file.specs.Devices.{orphan, loose_link, repeated_link, cyclic
 use Rattle.machine_file.specs.Operations.{unformed_operation, forbidden_operation, sourceless_operation, deviceless_operation, whole_marks, whole_scripts}
 use Rattle.machine_file.specs.Answering.{thingless_answer, forbidden_ret, forbidden_reports, sourceless_report, repeated_answer, whole_answers}
 use Rattle.machine_file.specs.Limits.{too_many, too_much}
-use Rattle.machine_file.specs.Rules.{is_version_one, name_of}
+use Rattle.machine_file.specs.Rules.{has_version, name_of}
 use Rattle.machine_file.specs.Look.{has_only}
 
 -- ---- the rules
@@ -33,7 +33,7 @@ rule number broken = record { number = number; broken = broken }
 abbrev pub rules : List Rule
 rules =
     rule 2 (λ d. unless (has_only file_members d) (codes "top"))
-    ∷ rule 3 (λ d. unless (is_version_one d) (codes "version"))
+    ∷ rule 3 (λ d. unless (has_version d) (codes "version"))
     ∷ rule 4 unformed_member
     ∷ rule 5 unformed_item
     ∷ rule 6 too_many

@@ -12,7 +12,7 @@ ghost use Rattle.machine_file.specs.Fresh.{AreFresh, closes_nothing};
 ghost use Rattle.machine_file.specs.Knows.{Knows, texts};
 
 use crate::known::{Known, place_of_name};
-use crate::look::text_at;
+use crate::look::{has_text, text_at};
 use crate::place::{Member, items};
 use crate::places::Places;
 use device_links::{LinkFault, Links};
@@ -73,6 +73,7 @@ fn link_of<'v>(link: &'v Value, names: &Places<&'v str>) -> Link
     Link {
         supplier: place_among(names, text_at(link, "supplier")) as u32,
         consumer: place_among(names, text_at(link, "consumer")) as u32,
+        active: !has_text(link, "state", "dormant"),
     }
 }
 
@@ -120,7 +121,7 @@ pub(crate) fn add_links(
     let mut added = Links::new(alloc, parents)?;
     for i in 0..links.len() {
         let link = &links[i];
-        match added.add(link.supplier, link.consumer) {
+        match added.add_as(link.supplier, link.consumer, link.active) {
             Ok(()) => (),
             Err(LinkFault::Cycle(_)) => {
                 return Ok(Added {
@@ -129,7 +130,7 @@ pub(crate) fn add_links(
                 });
             }
             Err(LinkFault::Mem) => return Err(Mem),
-            Err(LinkFault::NoDevice | LinkFault::TooMany | LinkFault::Twice) => unreachable!(),
+            Err(_) => unreachable!(),
         }
     }
     Ok(Added {

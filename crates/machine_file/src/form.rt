@@ -3,7 +3,8 @@
 ghost use Rattle.std.specs.Prelude.{◌≡◌, codes, Option, nat_le, length, position, not};
 ghost use Rattle.std.specs.List.{list_all};
 ghost use Rattle.serde_json.specs.View.{view};
-ghost use Rattle.machine_file.specs.Members.{may_have, list_in};
+ghost use Rattle.machine_file.specs.Members.{may_have, list_in, link_members};
+ghost use Rattle.machine_file.specs.Look.{has_only};
 ghost use Rattle.machine_file.specs.Places.{first_not};
 ghost use Rattle.machine_file.specs.Form.{is_string, is_device_form, is_link_form, is_notifier_form, is_actor_form, is_ret_form, is_plain_report, is_event_report, is_report_form, are_reports, is_answer_form, unformed_member, unformed_item};
 ghost use Rattle.machine_file.specs.Broken.{place_of};
@@ -20,6 +21,9 @@ pub(crate) const DAY: u64 = 86_400_000;
 
 /// The words of a runtime status.
 pub(crate) const STATUSES: [&str; 2] = ["active", "suspended"];
+
+/// The words of a link's state.
+pub(crate) const LINK_STATES: [&str; 2] = ["active", "dormant"];
 
 // The names of all errors that an answer may be.
 const ERRORS: [&str; 7] = [
@@ -74,12 +78,24 @@ pub(crate) fn is_device_form(value: &Value) -> bool
         && may_be_one_of(value, "runtime", &STATUSES)
 }
 
-pub(crate) fn is_link_form(value: &Value) -> bool
-    ensures { result ≡ is_link_form (view value.now) }
+// Whether a link has none but its members: with a state in a file of version 2.
+fn has_link_members(value: &Value, second: bool) -> bool
+    ensures { result ≡ has_only (link_members second) (view value.now) }
 {
-    has_only(value, &["supplier", "consumer"])
+    if second {
+        has_only(value, &["supplier", "consumer", "state"])
+    } else {
+        has_only(value, &["supplier", "consumer"])
+    }
+}
+
+pub(crate) fn is_link_form(value: &Value, second: bool) -> bool
+    ensures { result ≡ is_link_form second (view value.now) }
+{
+    has_link_members(value, second)
         && must_be_text(value, "supplier")
         && must_be_text(value, "consumer")
+        && may_be_one_of(value, "state", &LINK_STATES)
 }
 
 pub(crate) fn is_notifier_form(value: &Value) -> bool

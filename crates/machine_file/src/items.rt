@@ -1,18 +1,18 @@
 //! The items of the file's lists: their form and their names.
 
-ghost use Rattle.std.specs.Prelude.{◌≡◌, not, position, length, nat_le};
+ghost use Rattle.std.specs.Prelude.{◌≡◌, not, position, length, nat_le, codes};
 ghost use Rattle.std.specs.List.{list_all};
 ghost use Rattle.serde_json.specs.View.{view};
 ghost use Rattle.machine_file.specs.Places.{first_not, first_item};
-ghost use Rattle.machine_file.specs.Form.{unformed_item};
+ghost use Rattle.machine_file.specs.Form.{is_link_form, unformed_item};
 ghost use Rattle.machine_file.specs.Names.{spells_name, names_of_device, names_of_link, own_name, misspelled_item};
 ghost use Rattle.machine_file.specs.Members.{must_have, may_have, list_in};
-ghost use Rattle.machine_file.specs.Rules.{is_name_byte, is_name};
+ghost use Rattle.machine_file.specs.Rules.{is_name_byte, is_name, is_second};
 ghost use Rattle.machine_file.specs.Broken.{member_name, place_of};
 ghost use Rattle.machine_file.specs.Tests.{item_test};
 
 use crate::form::{is_actor_form, is_answer_form, is_device_form, is_link_form, is_notifier_form};
-use crate::look::is_string;
+use crate::look::{has_number, is_string};
 use crate::place::{Member, Place, items};
 use serde_json::Value;
 
@@ -20,7 +20,8 @@ use serde_json::Value;
 #[derive(Clone, Copy)]
 pub(crate) enum ItemTest {
     DeviceForm,
-    LinkForm,
+    /// Of a file of version 2, or of version 1.
+    LinkForm(bool),
     Text,
     NotifierForm,
     ActorForm,
@@ -29,6 +30,13 @@ pub(crate) enum ItemTest {
     LinkNames,
     NameText,
     OwnName,
+}
+
+/// Whether the file is of version 2.
+pub(crate) fn is_second(tree: &Value) -> bool
+    ensures { result ≡ is_second (view tree.now) }
+{
+    has_number(tree, "version", 2)
 }
 
 fn is_name_byte(byte: u8) -> bool
@@ -84,7 +92,7 @@ fn passes(test: ItemTest, value: &Value) -> bool
 {
     match test {
         ItemTest::DeviceForm => is_device_form(value),
-        ItemTest::LinkForm => is_link_form(value),
+        ItemTest::LinkForm(second) => is_link_form(value, second),
         ItemTest::Text => is_string(value),
         ItemTest::NotifierForm => is_notifier_form(value),
         ItemTest::ActorForm => is_actor_form(value),
@@ -118,12 +126,19 @@ fn first_not(values: &[Value], test: ItemTest) -> Option<usize>
     values.iter().position(|value| !passes(test, value))
 }
 
+// The first link that has not its form, in a file of that version.
+fn unformed_link(tree: &Value) -> Option<Place>
+    ensures { place_of result ≡ first_item (codes "links") (is_link_form (is_second (view tree.now))) (view tree.now) }
+{
+    first_item(tree, Member::Links, ItemTest::LinkForm(is_second(tree)))
+}
+
 /// The first item that has not its form.
 pub(crate) fn unformed_item(tree: &Value) -> Option<Place>
     ensures { place_of result ≡ unformed_item (view tree.now) }
 {
     first_item(tree, Member::Devices, ItemTest::DeviceForm)
-        .or_else(|| first_item(tree, Member::Links, ItemTest::LinkForm))
+        .or_else(|| unformed_link(tree))
         .or_else(|| first_item(tree, Member::Syscore, ItemTest::Text))
         .or_else(|| first_item(tree, Member::Notifiers, ItemTest::NotifierForm))
         .or_else(|| first_item(tree, Member::Sources, ItemTest::Text))

@@ -24,8 +24,6 @@ mod replies;
 mod rules;
 mod scripts;
 mod spelling;
-#[cfg(test)]
-mod tests;
 mod texts;
 mod things;
 mod tree;

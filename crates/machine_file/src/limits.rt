@@ -4,7 +4,7 @@ ghost use Rattle.std.specs.Prelude.{◌≡◌, ◌+◌, ◌*◌, ◌||◌, lengt
 ghost use Rattle.std.specs.List.{list_any};
 ghost use Rattle.serde_json.specs.View.{view};
 ghost use Rattle.machine_file.specs.Members.{list_in, number_at, has_text};
-ghost use Rattle.machine_file.specs.Limits.{too_many, too_much, times_of, repeat_of, times_if, script_steps, all_steps, is_state_step, has_autosleep, autosleep_attempts, most_attempts, are_steps_few, are_reports_few};
+ghost use Rattle.machine_file.specs.Limits.{too_many, too_much, times_of, repeat_of, times_if, script_steps, all_steps, is_state_step, has_autosleep, autosleep_attempts, most_attempts, are_links_few, are_steps_few, are_reports_few};
 ghost use Rattle.machine_file.specs.Counted.{counts};
 ghost use Rattle.machine_file.specs.Broken.{member_name, place_of};
 
@@ -17,6 +17,7 @@ use serde_json::Value;
 pub(crate) enum Counted {
     All,
     State,
+    Link,
 }
 
 // More than any limit: what is larger counts as this much.
@@ -89,7 +90,8 @@ fn times_if(counted: Counted, operation: &Value) -> u64
     match counted {
         Counted::All => times_of(operation),
         Counted::State if has_text(operation, "op", "state") => times_of(operation),
-        Counted::State => 0,
+        Counted::Link if has_text(operation, "op", "link") => times_of(operation),
+        Counted::State | Counted::Link => 0,
     }
 }
 
@@ -168,13 +170,21 @@ fn most_attempts(tree: &Value) -> u64
     capped_sum(written, autosleep_attempts(tree))
 }
 
+fn are_links_few(tree: &Value) -> bool
+    ensures { result ≡ are_links_few (view tree.now) }
+{
+    let written = items(tree, Member::Links).len() as u64;
+    let added = all_steps(Counted::Link, items(tree, Member::Actors));
+    capped_sum(written, added) <= 4000
+}
+
 fn are_steps_few(tree: &Value) -> bool
     ensures { result ≡ are_steps_few (view tree.now) }
 {
     let steps = all_steps(Counted::All, items(tree, Member::Actors));
     let devices = items(tree, Member::Devices).len() as u64;
     let turns = capped_product(most_attempts(tree), devices.saturating_add(50));
-    steps <= 200_000 && turns <= 100_000
+    steps <= 200_000 && turns <= 100_000 && are_links_few(tree)
 }
 
 fn reports_of(answers: &[Value]) -> u64

@@ -1,23 +1,23 @@
 //! The operations of scripts: their form, who may make them, and what they name.
 
-ghost use Rattle.std.specs.Prelude.{◌≡◌, not, map, position, option_map, codes, ◌∷◌, nat_le, length};
+ghost use Rattle.std.specs.Prelude.{◌≡◌, ◌||◌, not, map, position, option_map, codes, ◌∷◌, nat_le, length};
 ghost use Rattle.serde_json.specs.View.{view};
 ghost use Rattle.serde_json.specs.Find.{as_str};
 ghost use Rattle.machine_file.specs.Look.{is_some_and, is_none_or, has_only};
 ghost use Rattle.machine_file.specs.Members.{must_have, may_have, list_in, word_at};
 ghost use Rattle.machine_file.specs.Places.{first_not, first_operation, first_operation_of};
 ghost use Rattle.machine_file.specs.Names.{is_among_names};
-ghost use Rattle.machine_file.specs.Operations.{is_formed, is_allowed, has_count, has_short_text, is_state_form, has_length, has_mark, is_runtime_form, has_source, is_event_form, row_of, fits_row, names_source, names_device, unformed_operation, forbidden_operation, sourceless_operation, deviceless_operation};
+ghost use Rattle.machine_file.specs.Operations.{is_formed, is_allowed, has_count, has_short_text, is_state_form, has_length, has_mark, is_runtime_form, has_ends_named, is_link_state_form, changes_links, has_source, is_event_form, row_of, fits_row, names_source, names_device, unformed_operation, forbidden_operation, sourceless_operation, deviceless_operation};
 ghost use Rattle.machine_file.specs.OperationRows.{op_row, row_named, operation_test};
 ghost use Rattle.machine_file.specs.Knows.{Knows, texts};
 ghost use Rattle.machine_file.specs.Broken.{place_of};
 
-use crate::form::{DAY, STATUSES};
+use crate::form::{DAY, LINK_STATES, STATUSES};
 use crate::items::must_be_name;
 use crate::known::{Known, contains};
 use crate::look::{
-    has_only, is_among, list_in, may_be_truth, may_be_within, must_be_one_of, must_be_text,
-    must_be_within, text_at, word_at,
+    has_only, has_text, is_among, list_in, may_be_truth, may_be_within, must_be_one_of,
+    must_be_text, must_be_within, text_at, word_at,
 };
 use crate::place::{Member, Place, items};
 use crate::places::Places;
@@ -36,6 +36,8 @@ pub(crate) enum Word {
     Post,
     Wait,
     Runtime,
+    Link,
+    LinkState,
     Awake,
     Relax,
     Event,
@@ -44,7 +46,8 @@ pub(crate) enum Word {
 /// A test of an operation beside its actor.
 #[derive(Clone, Copy)]
 pub(crate) enum OperationTest {
-    Formed,
+    /// In a file of version 2, or of version 1.
+    Formed(bool),
     Allowed,
     Source,
     Device,
@@ -83,6 +86,12 @@ fn word_named(text: &str) -> Option<Word>
     if text == "runtime" {
         return Some(Word::Runtime);
     }
+    if text == "link" {
+        return Some(Word::Link);
+    }
+    if text == "link_state" {
+        return Some(Word::LinkState);
+    }
     if text == "awake" {
         return Some(Word::Awake);
     }
@@ -117,6 +126,8 @@ fn has_members(operation: &Value, word: Word) -> bool
         Word::Sleep | Word::SleepD => has_only(operation, &["op", "times", "ms"]),
         Word::Post | Word::Wait => has_only(operation, &["op", "times", "mark"]),
         Word::Runtime => has_only(operation, &["op", "times", "device", "to"]),
+        Word::Link => has_only(operation, &["op", "times", "supplier", "consumer"]),
+        Word::LinkState => has_only(operation, &["op", "times", "supplier", "consumer", "to"]),
         Word::Awake | Word::Relax => has_only(operation, &["op", "times", "source"]),
         Word::Event => has_only(operation, &["op", "times", "source", "ms", "hard"]),
     }
@@ -141,6 +152,29 @@ fn is_short_text(value: &Value) -> bool
     }
 }
 
+// Whether both ends of a link are given.
+fn has_ends(operation: &Value) -> bool
+    ensures { result ≡ has_ends_named (view operation.now) }
+{
+    must_be_text(operation, "supplier") && must_be_text(operation, "consumer")
+}
+
+// Whether a file of that version, the second or not, may have an operation of that word.
+fn is_of_version(second: bool, operation: &Value) -> bool
+    ensures { result ≡ (second || not (changes_links (view operation.now))) }
+{
+    second || !(has_text(operation, "op", "link") || has_text(operation, "op", "link_state"))
+}
+
+// Whether the devices that it names, if it names any, are of these.
+fn names_devices<'v>(operation: &'v Value, names: &Places<&'v str>) -> bool
+    ensures { result ≡ names_device (texts names.now) (view operation.now) }
+{
+    names_one_of(operation, "device", names)
+        && names_one_of(operation, "supplier", names)
+        && names_one_of(operation, "consumer", names)
+}
+
 // Whether what the word asks for is given.
 fn has_form(operation: &Value, word: Word) -> bool
     ensures { result ≡ (op_row word).form (view operation.now) }
@@ -155,6 +189,8 @@ fn has_form(operation: &Value, word: Word) -> bool
         Word::Runtime => {
             must_be_text(operation, "device") && must_be_one_of(operation, "to", &STATUSES)
         }
+        Word::Link => has_ends(operation),
+        Word::LinkState => has_ends(operation) && must_be_one_of(operation, "to", &LINK_STATES),
         Word::Awake | Word::Relax => must_be_text(operation, "source"),
         Word::Event => {
             must_be_text(operation, "source")
@@ -172,13 +208,23 @@ fn is_formed(operation: &Value, word: Word) -> bool
         && has_form(operation, word)
 }
 
+// Whether the operation is one of the table, in form.
+fn is_of_table(operation: &Value) -> bool
+    ensures { result ≡ is_some_and (fits_row (view operation.now)) (row_of (view operation.now)) }
+{
+    match word_of(operation) {
+        Some(word) => is_formed(operation, word),
+        None => false,
+    }
+}
+
 // Whether an actor of that kind may make the operation.
 fn is_allowed(kind: &str, word: Word) -> bool
     ensures { result ≡ is_among_names (op_row word).makers kind.now }
 {
     match word {
         Word::Read | Word::Save | Word::State | Word::Autosleep => is_among(kind, &["user"]),
-        Word::SleepD | Word::FreezePoint | Word::Runtime => {
+        Word::SleepD | Word::FreezePoint | Word::Runtime | Word::Link | Word::LinkState => {
             is_among(kind, &["user", "kthread", "nofreeze"])
         }
         _ => is_among(kind, &["user", "kthread", "nofreeze", "irq"]),
@@ -204,16 +250,15 @@ fn passes<'v>(
     ensures { result ≡ operation_test test known.now (view actor.now) (view operation.now) }
 {
     match test {
-        OperationTest::Formed => match word_of(operation) {
-            Some(word) => is_formed(operation, word),
-            None => false,
-        },
+        OperationTest::Formed(second) => {
+            is_of_version(second, operation) && is_of_table(operation)
+        }
         OperationTest::Allowed => match word_of(operation) {
             Some(word) => is_allowed(text_at(actor, "kind"), word),
             None => false,
         },
         OperationTest::Source => names_one_of(operation, "source", &known.sources),
-        OperationTest::Device => names_one_of(operation, "device", &known.devices),
+        OperationTest::Device => names_devices(operation, &known.devices),
     }
 }
 

@@ -6,8 +6,8 @@ ghost use Rattle.machine_file.specs.Whole.{broken_at, first_of};
 ghost use Rattle.machine_file.specs.Look.{has_only};
 ghost use Rattle.std.specs.Option.{option_or};
 ghost use Rattle.machine_file.specs.Members.{file_members};
-ghost use Rattle.machine_file.specs.Rules.{is_version_one};
-ghost use Rattle.machine_file.specs.Operations.{sourceless_operation, deviceless_operation};
+ghost use Rattle.machine_file.specs.Rules.{has_version};
+ghost use Rattle.machine_file.specs.Operations.{unformed_operation, sourceless_operation, deviceless_operation};
 ghost use Rattle.machine_file.specs.Answering.{sourceless_report, thingless_answer};
 ghost use Rattle.machine_file.specs.Places.{unless};
 ghost use Rattle.machine_file.specs.Groups.{form_rules, device_rules, thing_rules, operation_rules, answer_rules};
@@ -16,7 +16,7 @@ ghost use Rattle.machine_file.specs.Broken.{place_of, broken_view};
 
 use crate::answers::{AnswerTest, first_answer, repeated_answer};
 use crate::form::unformed_member;
-use crate::items::{misspelled_item, unformed_item};
+use crate::items::{is_second, misspelled_item, unformed_item};
 use crate::known::{Known, repeated_actor, repeated_callback, repeated_device, repeated_source};
 use crate::limits::{too_many, too_much};
 use crate::look::{has_number, has_only};
@@ -70,9 +70,9 @@ fn top(tree: &Value) -> Option<Place>
 }
 
 fn version(tree: &Value) -> Option<Place>
-    ensures { place_of result ≡ unless (is_version_one (view tree.now)) (codes "version") }
+    ensures { place_of result ≡ unless (has_version (view tree.now)) (codes "version") }
 {
-    if has_number(tree, "version", 1) {
+    if has_number(tree, "version", 1) || has_number(tree, "version", 2) {
         None
     } else {
         Some(Place::Member(Member::Version))
@@ -122,6 +122,12 @@ pub(crate) fn thing_broken<'v>(
     Ok(callback.or(breaks(14, source)).or(breaks(15, actor)))
 }
 
+fn unformed_operation<'v>(tree: &'v Value, known: &Known<'v>) -> Option<Place>
+    ensures { place_of result ≡ unformed_operation (view tree.now) }
+{
+    first_operation(OperationTest::Formed(is_second(tree)), known, tree)
+}
+
 fn sourceless_operation<'v>(tree: &'v Value, known: &Known<'v>) -> Option<Place>
     requires { Knows known.now (view tree.now) }
     ensures { place_of result ≡ sourceless_operation (view tree.now) }
@@ -165,7 +171,7 @@ pub(crate) fn operation_broken<'v>(tree: &'v Value, known: &Known<'v>) -> Option
     requires { Knows known.now (view tree.now) }
     ensures { option_map broken_view result ≡ first_of operation_rules (view tree.now) }
 {
-    let form = breaks(16, first_operation(OperationTest::Formed, known, tree));
+    let form = breaks(16, unformed_operation(tree, known));
     let maker = breaks(17, first_operation(OperationTest::Allowed, known, tree));
     let source = breaks(18, sourceless(tree, known));
     let device = breaks(19, deviceless_operation(tree, known));

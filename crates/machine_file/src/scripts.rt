@@ -80,6 +80,27 @@ fn runtime_of<'v>(operation: &'v Value, known: &Known<'v>) -> Op
     }
 }
 
+fn link_of<'v>(operation: &'v Value, known: &Known<'v>) -> Op
+    requires { AreFew known.now }
+    ensures { result ≡ op_spelled word.Link (known_seen known.now) (view operation.now) }
+{
+    Op::Link {
+        supplier: thing_at(operation, "supplier", &known.devices),
+        consumer: thing_at(operation, "consumer", &known.devices),
+    }
+}
+
+fn link_state_of<'v>(operation: &'v Value, known: &Known<'v>) -> Op
+    requires { AreFew known.now }
+    ensures { result ≡ op_spelled word.LinkState (known_seen known.now) (view operation.now) }
+{
+    Op::LinkState {
+        supplier: thing_at(operation, "supplier", &known.devices),
+        consumer: thing_at(operation, "consumer", &known.devices),
+        active: !has_text(operation, "to", "dormant"),
+    }
+}
+
 fn event_of<'v>(operation: &'v Value, known: &Known<'v>) -> Op
     requires few { AreFew known.now }
     requires fits { FitsStep (view operation.now) }
@@ -132,6 +153,8 @@ fn op_as<'v>(alloc: Global, word: Word, operation: &'v Value, known: &Known<'v>)
             source: thing_at(operation, "source", &known.sources),
         },
         Word::Event => event_of(operation, known),
+        Word::Link => link_of(operation, known),
+        Word::LinkState => link_state_of(operation, known),
     };
     Ok(op)
 }

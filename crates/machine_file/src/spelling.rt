@@ -4,7 +4,7 @@
 ghost use Rattle.std.specs.Prelude.{◌≡◌, ◌∷◌, [], codes, fold, option_map, Some, None, if◌then◌else◌, OnOk};
 ghost use Rattle.serde_json.specs.Data.{string};
 ghost use Rattle.sleep_model.specs.Runtime.{has_bit};
-ghost use Rattle.sleep_model.specs.Text.{device, runtime_word};
+ghost use Rattle.sleep_model.specs.Text.{device, link_word, runtime_word};
 ghost use Rattle.machine_file.specs.Form.{row};
 ghost use Rattle.machine_file.specs.Spelling.{always, count, text_row, integer_unless_zero, device_value, link_value, notifier_value, kind_word, op_row, times as times_row, op_rows, step_value, script_value, report_rows, report_value};
 ghost use Rattle.machine_file.specs.Writing.{with_row};
@@ -65,9 +65,20 @@ impl Written for Link {
     fn write_to(&self, machine: &Machine, out: &mut JsonWriter) -> Result<(), Mem> {
         out.open_object()?;
         out.text("consumer", device_name(machine, self.consumer))?;
+        put_state(out, self.active)?;
         out.text("supplier", device_name(machine, self.supplier))?;
         out.close_object()
     }
+}
+
+// The state of a link, unless it is active.
+fn put_state(out: &mut JsonWriter, active: bool) -> Result<(), Mem>
+    ensures { OnOk result (out.new ≡ with_row out.old (row (codes "state") (if active then None else Some (string (codes "dormant"))))) }
+{
+    if active {
+        return Ok(());
+    }
+    out.text("state", b"dormant")
 }
 
 impl Written for Notifier {
@@ -135,6 +146,17 @@ fn put_op(out: &mut JsonWriter, machine: &Machine, times: u32, op: &Op) -> Resul
             put_word(out, "runtime", times)?;
             out.text("to", status_word(*to_suspended))
         }
+        Op::Link { supplier, consumer } => {
+            put_link(out, machine, "link", *supplier, *consumer, times)
+        }
+        Op::LinkState {
+            supplier,
+            consumer,
+            active,
+        } => {
+            put_link(out, machine, "link_state", *supplier, *consumer, times)?;
+            out.text("to", link_word(*active))
+        }
         Op::Awake { source } => put_source(out, "awake", source_name(machine, *source), times),
         Op::Relax { source } => put_source(out, "relax", source_name(machine, *source), times),
         Op::Event { source, ms, hard } => {
@@ -143,6 +165,29 @@ fn put_op(out: &mut JsonWriter, machine: &Machine, times: u32, op: &Op) -> Resul
             put_source(out, "event", source_name(machine, *source), times)
         }
     }
+}
+
+// A link's ends, and the word of what is made of it.
+fn put_link(
+    out: &mut JsonWriter,
+    machine: &Machine,
+    word: &str,
+    supplier: u32,
+    consumer: u32,
+    times: u32,
+) -> Result<(), Mem>
+    ensures { OnOk result (out.new ≡ fold with_row out.old (text_row (codes "consumer") (device machine.now consumer) ∷ op_row word.now ∷ text_row (codes "supplier") (device machine.now supplier) ∷ times_row times ∷ [])) }
+{
+    out.text("consumer", device_name(machine, consumer))?;
+    out.text("op", word.as_bytes())?;
+    out.text("supplier", device_name(machine, supplier))?;
+    out.number_unless("times", 1, u64::from(times))
+}
+
+fn link_word(active: bool) -> &'static [u8]
+    ensures { result.now ≡ link_word active }
+{
+    if active { b"active" } else { b"dormant" }
 }
 
 fn status_word(suspended: bool) -> &'static [u8]

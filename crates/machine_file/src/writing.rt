@@ -35,6 +35,6 @@ fn put_machine(out: &mut JsonWriter, machine: &Machine) -> Result<(), Mem>
     out.list("notifiers", machine, machine.notifiers.as_slice())?;
     out.list("sources", machine, machine.sources.as_slice())?;
     out.list("syscore", machine, machine.syscore.as_slice())?;
-    out.number("version", 1)?;
+    out.number("version", 2)?;
     out.close_object()
 }

@@ -1,6 +1,8 @@
+pub mod Boarded
 pub mod Calling
 mod Counted
 mod Freezing
+mod Linked
 mod Propers
 mod Reporting
 mod Seated

@@ -1,11 +1,12 @@
 -- The history as contracts see it: what the definitions read from the journal, and when an entry may be appended.
-use Rattle.std.specs.Prelude.{◌≡◌, ◌≤◌, ◌<◌, ◌+◌, ◌-◌, ◌^◌, ℕ, Bool, true, false, List, [], ◌∷◌, length, map, reverse, Option, Some, None}
+use Rattle.std.specs.Prelude.{◌≡◌, ◌≤◌, ◌<◌, ◌+◌, ◌-◌, ◌^◌, ℕ, Bool, true, false, List, [], ◌∷◌, length, map, Option, Some, None}
 use Rattle.phase_table.specs.declared.phase.Phase.TheVariants as phase
 use Rattle.sleep_model.specs.declared.entry.Entry.{Entry}
 use Rattle.sleep_model.specs.declared.entry.JournalEntry.{JournalEntry}
 use Rattle.sleep_model.specs.declared.entry.Actor.{Actor}
 use Rattle.sleep_model.specs.declared.entry.Kind.{Kind}
 use Rattle.sleep_model.specs.declared.entry.Kind.TheVariants as kind
+use Rattle.sleep_model.specs.declared.machine.Link.{Link}
 use Rattle.sleep_model.specs.declared.machine.Machine.{Machine}
 use Rattle.sleep_model.specs.declared.place.Seat.{Seat}
 use Rattle.sleep_model.specs.declared.word.Stamp.{Stamp}
@@ -17,14 +18,14 @@ use Rattle.sleep_model.specs.Guard.{in_force, forgotten}
 use Rattle.sleep_model.specs.Lock.{holder, is_on}
 use Rattle.sleep_model.specs.Marks.{raised}
 use Rattle.sleep_model.specs.Notifiers.{call_order, told, cpus_off, stopped}
-use Rattle.sleep_model.specs.Order.{parents_of}
+use Rattle.sleep_model.specs.Order.{links_after, links_at, parents_of}
 use Rattle.sleep_model.specs.Path.{attempts, attempts_after, maker}
 use Rattle.sleep_model.specs.Runtime.{is_async, statuses, leaves_alone, takes_late}
 use Rattle.sleep_model.specs.Seats.{seats}
 use Rattle.sleep_model.specs.Stands.{stands}
 use Rattle.sleep_model.specs.Table.{stage_of}
 use Rattle.attempt_room.specs.Room.{enough}
-use Rattle.async_board.specs.Boards.{BoardState}
+use Rattle.async_board.specs.Boards.{BoardState, first_board}
 use Rattle.platform_steps.specs.Steps.{Steps}
 use Rattle.autosleep_loop.specs.Autosleeps.{AutosleepState}
 use Rattle.sleep_state.specs.DeviceStates.{DeviceState}
@@ -68,7 +69,7 @@ devices_of m past = record {
 abbrev pub board_of : Machine → List Entry → BoardState
 board_of m past = record {
   parents = parents_of m.devices;
-  links = reverse m.links;
+  links = links_at m past;
   beside = map is_async m.devices;
   suspend = stands (length m.devices) phase.Suspend past;
   late = stands (length m.devices) phase.Late past;
@@ -123,6 +124,23 @@ pub record Admits (kept : Kept) (e : Entry) : Type 0 where
   pub runs : runs_after e.kind (runs (entries kept.past)) < 2 ^ 32
   pub seat : SeatIsSmall e.actor (seats (length kept.machine.actors) (entries kept.past))
   pub marks : MarksAreSmall e.kind (raised (length kept.machine.marks) (entries kept.past))
+
+-- an entry of that kind adds a link, or sets the state of one (device_link_add)
+abbrev pub Changes : Kind → Type 0
+Changes (kind.LinkAdd supplier consumer r) = r ≡ None
+Changes (kind.LinkState supplier consumer active r) = r ≡ None
+Changes _ = ⊥
+
+-- a board that is made anew for an entry of that kind which changes links, on which no device is prepared; none where it changes no link (device_link_add)
+abbrev pub Relinks : Machine → List Entry → Kind → Option BoardState → Type 0
+Relinks m past k None = (ls : List Link) → links_after k ls ≡ ls
+Relinks m past k (Some board) =
+    Changes k × (board ≡ first_board (parents_of m.devices) (links_after k (links_at m past)) (map is_async m.devices))
+
+-- the board that stands after an entry: one that was made for it, or the one that stood, moved by it
+abbrev pub Stands : Machine → List Entry → Entry → Option BoardState → Type 0
+Stands m past e None = links_after e.kind (links_at m past) ≡ links_at m past
+Stands m past e (Some board) = board ≡ board_of m (e ∷ past)
 
 -- the history after an entry
 abbrev pub after_entry : Kept → JournalEntry → Kept

@@ -1,6 +1,6 @@
-ghost use Rattle.std.specs.Prelude.{◌≡◌, map, IfOk};
+ghost use Rattle.std.specs.Prelude.{◌≡◌, map, unwrap_or, IfOk};
 ghost use Rattle.sleep_model.specs.Runtime.{is_async};
-ghost use Rattle.async_board.specs.Boards.{first_board};
+ghost use Rattle.async_board.specs.Boards.{first_board, board_after};
 ghost use Rattle.sleep_model.specs.Accepted.{IsAccepted};
 ghost use Rattle.sleep_core.specs.FirstParts.{AreFirst};
 
@@ -67,6 +67,16 @@ fn first_board(alloc: Global, devices: &[Device], links: Links) -> Result<Board,
     Board::wired(alloc, links, beside)
 }
 
+/// The board moves by an entry, or makes place for the one that was made for it.
+fn move_board(board: &mut Board, kind: Kind, relinked: Option<Board>)
+    ensures { board.new ≡ unwrap_or relinked (board_after kind board.old) }
+{
+    match relinked {
+        Some(new) => *board = new,
+        None => board.note(kind),
+    }
+}
+
 /// The parts that take memory, but for the board.
 #[derive(Drop)]
 struct Parts<'m> {
@@ -108,7 +118,8 @@ impl<'m> History<'m> {
     ghost use Rattle.sleep_model.specs.Accepted.{IsAccepted};
     ghost use Rattle.sleep_model.specs.Order.{parents_of};
     ghost use Rattle.sleep_state.specs.Places.{entries};
-    ghost use Rattle.sleep_core.specs.Histories.{Admits, after_entry, places_for, HasRoom, last_stamp, guard_of, path_of, devices_of, board_of, tasks_of, freezer_of, autosleep_of, steps_of, parts_of};
+    ghost use Rattle.sleep_core.specs.Numbered.{IsCounted};
+    ghost use Rattle.sleep_core.specs.Histories.{Admits, Relinks, Stands, after_entry, places_for, HasRoom, last_stamp, guard_of, path_of, devices_of, board_of, tasks_of, freezer_of, autosleep_of, steps_of, parts_of};
 
     /// The empty journal of a machine, and its parts before any entry.
     fn of_parts(machine: &'m Machine, journal: Journal, parts: Parts<'m>, board: Board) -> Self
@@ -154,9 +165,32 @@ impl<'m> History<'m> {
         Ok(History::of_parts(machine, journal, parts, board))
     }
 
-    /// Appends an entry in a reserved place.
-    pub fn append(&mut self, stamped: JournalEntry)
-        requires { Admits self.old stamped.entry }
+    /// The board that an entry which changes links wants; none where it changes none. `Mem` where there
+    /// is no memory.
+    pub fn relinked(&self, kind: Kind) -> Result<Option<Board>, Mem>
+        ensures ok { IfOk result (Relinks self.now.machine (entries self.now.past) kind) }
+        ensures err { OnErr result (IsCounted kind) }
+    {
+        match kind {
+            Kind::LinkAdd {
+                supplier,
+                consumer,
+                r: None,
+            } => Ok(Some(self.board.with_link(supplier, consumer)?)),
+            Kind::LinkState {
+                supplier,
+                consumer,
+                active,
+                r: None,
+            } => Ok(Some(self.board.with_state(supplier, consumer, active)?)),
+            _ => Ok(None),
+        }
+    }
+
+    /// Appends an entry in a reserved place, with the board that was made for it, if it changes links.
+    pub fn append(&mut self, stamped: JournalEntry, relinked: Option<Board>)
+        requires admits { Admits self.old stamped.entry }
+        requires board { Stands self.old.machine (entries self.old.past) stamped.entry relinked }
         ensures { self.new ≡ after_entry self.old stamped }
     {
         let Entry {
@@ -170,7 +204,7 @@ impl<'m> History<'m> {
         self.guard.note(kind, now);
         self.path.note(kind, actor, pos(now), time);
         self.devices.note(kind, actor);
-        self.board.note(kind);
+        move_board(&mut self.board, kind, relinked);
         self.tasks.note(actor, kind);
         self.freezer.note(actor, kind);
         self.autosleep.note(kind, actor);

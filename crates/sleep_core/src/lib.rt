@@ -6,6 +6,7 @@ mod auto;
 mod clock;
 mod due;
 mod history;
+mod linking;
 mod outside;
 mod pending;
 mod phases;

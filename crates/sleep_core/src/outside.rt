@@ -50,7 +50,7 @@ impl<'m> Core<'m> {
             actor: Actor::Time,
             kind: Kind::Jump,
         };
-        self.history.append(JournalEntry { stamp, entry });
+        self.history.append(JournalEntry { stamp, entry }, None);
         Ok(stamp)
     }
 
@@ -107,14 +107,14 @@ impl<'m> Core<'m> {
 
     /// The devices that hang right below one: its children, then its consumers, each once.
     pub fn below(&self, device: u32) -> &[u32]
-        ensures { result.now ≡ first_places (below self.now.machine device) }
+        ensures { result.now ≡ first_places (below self.now.machine (entries self.now.past) device) }
     {
         self.history.board().links().below(device)
     }
 
     /// The devices that one hangs right below: its parent, then its suppliers, each once.
     pub fn above(&self, device: u32) -> &[u32]
-        ensures { result.now ≡ first_places (above self.now.machine device) }
+        ensures { result.now ≡ first_places (above self.now.machine (entries self.now.past) device) }
     {
         self.history.board().links().above(device)
     }

@@ -74,6 +74,21 @@ impl<'m> Core<'m> {
                 to_suspended: *to_suspended,
                 r: self.runtime_due(*device, *to_suspended),
             }),
+            Op::Link { supplier, consumer } => Due::Makes(Kind::LinkAdd {
+                supplier: *supplier,
+                consumer: *consumer,
+                r: self.link_add_due(*supplier, *consumer),
+            }),
+            Op::LinkState {
+                supplier,
+                consumer,
+                active,
+            } => Due::Makes(Kind::LinkState {
+                supplier: *supplier,
+                consumer: *consumer,
+                active: *active,
+                r: self.link_state_due(*supplier, *consumer),
+            }),
             Op::Awake { .. } | Op::Relax { .. } | Op::Event { .. } => Due::Gone,
         }
     }

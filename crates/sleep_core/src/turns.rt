@@ -152,6 +152,10 @@ impl<'m> Core<'m> {
             return Err(CoreFault::Mem);
         }
         let reports = self.reports_in(kind);
+        let relinked = match self.history.relinked(kind) {
+            Ok(relinked) => relinked,
+            Err(_) => return Err(CoreFault::Mem),
+        };
         match self.history.make_room(own, kind) {
             Ok(()) => {}
             Err(_) => return Err(CoreFault::Mem),
@@ -164,7 +168,7 @@ impl<'m> Core<'m> {
             actor: who,
             kind,
         };
-        self.history.append(JournalEntry { stamp, entry });
+        self.history.append(JournalEntry { stamp, entry }, relinked);
         self.reports.add(who, reports);
         Ok(())
     }

@@ -73,7 +73,7 @@ side_makes m past time now who _ _ a (Made.Wakes s b e) h = ((h.1 ∙ ap is_some
 side_makes m past time now who _ _ a Made.Ends h = h.1
 side_makes m past time now who _ _ a _ h = h
 
-side_beside : (m : Machine) (past : List Entry) (time : ℕ) (now : EventNow) (who : Actor) (k : Kind) (s : Option Stage) → EntryMade m past now who k → is_device who ≡ false → Aside k → Side s past → Side s (entry_of time now who k ∷ past)
+side_beside : (m : Machine) (past : List Entry) (time : ℕ) (now : EventNow) (who : Actor) (k : Kind) (s : Option Stage) → EntryMade m past now who k → is_device who ≡ false → Aside s k → Side s past → Side s (entry_of time now who k ∷ past)
 side_beside m past time now who _ s x a Aside.Frozen h = h
 side_beside m past time now who _ s x a _ h = h
 
@@ -185,7 +185,7 @@ calm_own m past now x _ (DeviceMade.OwnRose _ (Some r) InResume b a s) h = h
 calm_own m past now x _ (DeviceMade.OwnRose _ (Some r) InEarly b a s) h = h
 calm_own m past now x _ (DeviceMade.OwnRose _ (Some r) InResumeNoirq b a s) h = h
 
-calm_aside : (past : List Entry) (now : EventNow) (k : Kind) → Aside k → IsCalm past → CalmAfter past now k
+calm_aside : (past : List Entry) (now : EventNow) (k : Kind) {s : Option Stage} → Aside s k → IsCalm past → CalmAfter past now k
 calm_aside past now _ Aside.Frozen h = h
 calm_aside past now _ _ h = h
 
@@ -207,7 +207,7 @@ answers_made m past now _ _ Made.Ends h = (refl, h.0)
 answers_made m past now _ _ (Made.Notifies x e) h = tt
 answers_made m past now _ _ _ h = tt
 
-answers_aside : (past : List Entry) (k : Kind) → Aside k → AnswersFailure past k
+answers_aside : (past : List Entry) (k : Kind) {s : Option Stage} → Aside s k → AnswersFailure past k
 answers_aside past _ Aside.Frozen = tt
 answers_aside past _ _ = tt
 

@@ -5,6 +5,8 @@ use Rattle.std.proofs.lemmas.Bool.Decides.{nat_tests}
 use Rattle.std.proofs.lemmas.List.{length-set, length-replicate, get_or-set_same, get_or-set_other, get_or_past, set_past}
 use Rattle.sleep_model.specs.declared.entry.Entry.{Entry}
 use Rattle.sleep_model.specs.declared.entry.Kind.{Kind}
+use Rattle.sleep_model.specs.declared.entry.Kind.TheVariants as kind
+use Rattle.sleep_model.specs.declared.machine.Link.{Link}
 use Rattle.sleep_model.specs.declared.machine.Machine.{Machine}
 use Rattle.sleep_model.specs.declared.place.Stand.{Stand}
 use Rattle.sleep_model.specs.declared.place.Stand.TheVariants as stand
@@ -12,7 +14,7 @@ use Rattle.phase_table.specs.declared.phase.Phase.{Phase}
 use Rattle.phase_table.specs.declared.phase.Phase.TheVariants as phase
 use Rattle.phase_table.specs.Phases.{mirror}
 use Rattle.sleep_model.specs.Devices.{stand_in}
-use Rattle.sleep_model.specs.Order.{is_among}
+use Rattle.sleep_model.specs.Order.{is_among, links_after, links_at, order, order_by, parents_of}
 use Rattle.sleep_model.specs.Stands.{stands, stands_after, stand_after, stand_at, device_of, by_phase, is_prepared}
 use Rattle.sleep_model.specs.Walk.{first_where, last_where, or_else}
 use Rattle.sleep_laws.proofs.Made.{Down, InSuspend, InLate, InNoirq, Up, InResume, InEarly, InResumeNoirq}
@@ -206,3 +208,15 @@ last_none test (x ∷ xs) e d m = by_rest (last_where test xs) refl (λ f. last_
     by_rest None l rest true t f c = absurd (some≢none x f)
     by_rest None l rest false t f (inl s) = subst (λ (y : ℕ). test y ≡ false) (eqb-true x d s) t
     by_rest None l rest false t f (inr k) = rest l k
+
+-- ---- links
+
+-- an entry of a device changes no link
+pub device_links : (k : Kind) (d : ℕ) → device_of k ≡ Some d → (ls : List Link) → links_after k ls ≡ ls
+device_links (kind.LinkAdd s c r) d e ls = absurd (some≢none d (sym e))
+device_links (kind.LinkState s c active r) d e ls = absurd (some≢none d (sym e))
+device_links _ d e ls = refl
+
+-- nor the order of the devices
+pub order_stays : (m : Machine) (past : List Entry) (e : Entry) (d : ℕ) → device_of e.kind ≡ Some d → order m (e ∷ past) ≡ order m past
+order_stays m past e d is = ap (order_by (parents_of m.devices)) (device_links e.kind d is (links_at m past))

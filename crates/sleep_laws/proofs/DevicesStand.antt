@@ -66,12 +66,12 @@ through_well stand.Scheduled h u = absurd (true≢false u)
 through_well stand.Suspending h u = absurd (true≢false u)
 through_well _ h u = never h
 
-below_well : (m : Machine) (past : List Entry) (moods : Phase → Mood) (full : Bool) (p : Phase) (d : ℕ) → Fines m past moods full → Down p → moods p ≡ Going → phase_failed past ≡ None → waits_below m past p d ≡ None → list_all (λ e. is_settled_well (stand_in m past p e)) (below m d) ≡ true
+below_well : (m : Machine) (past : List Entry) (moods : Phase → Mood) (full : Bool) (p : Phase) (d : ℕ) → Fines m past moods full → Down p → moods p ≡ Going → phase_failed past ≡ None → waits_below m past p d ≡ None → list_all (λ e. is_settled_well (stand_in m past p e)) (below m past d) ≡ true
 below_well m past moods full p d h i g f w =
-    all_pass (λ e. is_settled_well (stand_in m past p e)) (below m d) (λ x b.
+    all_pass (λ e. is_settled_well (stand_in m past p e)) (below m past d) (λ x b.
     let goes : when_going (errs past) (at (three m past x) p) ≡ true = subst (λ (a : Mood). allows a (errs past) (at (three m past x) p) ≡ true) g ((h x).allowed p i) in
     let well : when_going false (stand_in m past p x) ≡ true = subst (λ (s : Stand). when_going false s ≡ true) (at_is m past p x i) (subst (λ (r : Option Errno). when_going (is_some r) (at (three m past x) p) ≡ true) f goes) in
-    through_well (stand_in m past p x) well (first_none (λ e. is_unsettled (stand_in m past p e)) (below m d) w x b))
+    through_well (stand_in m past p x) well (first_none (λ e. is_unsettled (stand_in m past p e)) (below m past d) w x b))
 
 down_goes : (p : Phase) → Down p → in_down p p ≡ Going
 down_goes _ InSuspend = refl
@@ -101,7 +101,7 @@ own_dependents m past now d _ (DeviceMade.OwnBegins p i g f t a) h = λ q. below
 own_dependents m past now d _ (DeviceMade.OwnRises p u a w s n) h = λ q. never (sym (not_down p u) ∙ q)
 own_dependents m past now d _ _ h = tt
 
-aside_dependents : (m : Machine) (past : List Entry) (k : Kind) → Aside k → DependentsFirst m past k
+aside_dependents : (m : Machine) (past : List Entry) (k : Kind) {s : Option Stage} → Aside s k → DependentsFirst m past k
 aside_dependents m past _ Aside.Frozen = tt
 aside_dependents m past _ _ = tt
 
@@ -117,8 +117,8 @@ dependents_first m past e h = dependents_moved m past e.now e.actor e.kind h.1 (
 
 -- ---- suppliers come up first
 
-above_up : (m : Machine) (past : List Entry) (p : Phase) (d : ℕ) → waits_above m past p d ≡ None → list_all (λ e. not (is_low (stand_in m past p e))) (above m d) ≡ true
-above_up m past p d w = all_pass (λ e. not (is_low (stand_in m past p e))) (above m d) (λ x a. ap not (first_none (λ e. is_low (stand_in m past p e)) (above m d) w x a))
+above_up : (m : Machine) (past : List Entry) (p : Phase) (d : ℕ) → waits_above m past p d ≡ None → list_all (λ e. not (is_low (stand_in m past p e))) (above m past d) ≡ true
+above_up m past p d w = all_pass (λ e. not (is_low (stand_in m past p e))) (above m past d) (λ x a. ap not (first_none (λ e. is_low (stand_in m past p e)) (above m past d) w x a))
 
 maker_suppliers : (m : Machine) (past : List Entry) (now : EventNow) (there : Stage) (k : Kind) → Made m past now there k → SuppliersFirst m past k
 maker_suppliers m past now _ _ (Made.BeginsUp p d u c g n w) = λ q. above_up m past (mirror p) d w
@@ -130,7 +130,7 @@ own_suppliers m past now d _ (DeviceMade.OwnRises p u a w s n) = λ q. above_up 
 own_suppliers m past now d _ (DeviceMade.OwnBegins p i g f t a) = λ q. never (sym (not_up p i) ∙ q)
 own_suppliers m past now d _ _ = tt
 
-aside_suppliers : (m : Machine) (past : List Entry) (k : Kind) → Aside k → SuppliersFirst m past k
+aside_suppliers : (m : Machine) (past : List Entry) (k : Kind) {s : Option Stage} → Aside s k → SuppliersFirst m past k
 aside_suppliers m past _ Aside.Frozen = tt
 aside_suppliers m past _ _ = tt
 
@@ -148,13 +148,13 @@ suppliers_first m past e h = suppliers_moved m past e.now e.actor e.kind (moved 
 
 maker_owed : (m : Machine) (past : List Entry) (now : EventNow) (there : Stage) (k : Kind) → Made m past now there k → DeviceOwed m past k
 maker_owed m past now _ _ (Made.BeginsUp p d u c g n w) =
-    λ q. ap may_come_up (down_is (stand_in m past (mirror p) d) (and_left (is_down_in (stand_in m past (mirror p) d)) (not (is_async_device m d)) (first_found (λ y. is_down_in (stand_in m past (mirror p) y) && not (is_async_device m y)) (order m) d n).passes))
+    λ q. ap may_come_up (down_is (stand_in m past (mirror p) d) (and_left (is_down_in (stand_in m past (mirror p) d)) (not (is_async_device m d)) (first_found (λ y. is_down_in (stand_in m past (mirror p) y) && not (is_async_device m y)) (order m past) d n).passes))
   where
     and_left : (a b : Bool) → (a && b) ≡ true → a ≡ true
     and_left true b e = refl
     and_left false b e = never e
 maker_owed m past now _ _ (Made.BeginsDown p d i t e a) = λ q. never (sym (not_up p i) ∙ q)
-maker_owed m past now _ _ (Made.Completes d n) = (last_found (λ y. is_prepared (stand_in m past phase.Suspend y)) (order m) d n).passes
+maker_owed m past now _ _ (Made.Completes d n) = (last_found (λ y. is_prepared (stand_in m past phase.Suspend y)) (order m past) d n).passes
 maker_owed m past now _ _ _ = tt
 
 own_owed : (m : Machine) (past : List Entry) (now : EventNow) (d : ℕ) (k : Kind) → DeviceMade m past now d k → DeviceOwed m past k
@@ -162,7 +162,7 @@ own_owed m past now d _ (DeviceMade.OwnRises p u a w s n) = λ q. ap may_come_up
 own_owed m past now d _ (DeviceMade.OwnBegins p i g f t a) = λ q. never (sym (not_up p i) ∙ q)
 own_owed m past now d _ _ = tt
 
-aside_owed : (m : Machine) (past : List Entry) (k : Kind) → Aside k → DeviceOwed m past k
+aside_owed : (m : Machine) (past : List Entry) (k : Kind) {s : Option Stage} → Aside s k → DeviceOwed m past k
 aside_owed m past _ Aside.Frozen = tt
 aside_owed m past _ _ = tt
 
@@ -191,7 +191,7 @@ all_unprepared (suc n) (x ∷ xs) l h =
     let rest : xs ≡ replicate n stand.Unprepared = all_unprepared n xs (omega arith) (λ d. h (suc d)) in
     cc
 
-none_stands : (m : Machine) (past : List Entry) → Fines m past (λ q. Empty) false → (p : Phase) → Down p → NoneStands m p past
+pub none_stands : (m : Machine) (past : List Entry) → Fines m past (λ q. Empty) false → (p : Phase) → Down p → NoneStands m p past
 none_stands m past h p i = all_unprepared (length m.devices) (stands (length m.devices) p past) (stands_length (length m.devices) p past) (λ d. sym (at_is m past p d i) ∙ empty_is (at (three m past d) p) ((h d).allowed p i))
 
 maker_restored : (m : Machine) (past : List Entry) (now : EventNow) (there : Stage) (k : Kind) → Made m past now there k → Standing m past (Some there) → StandsRestored m past k
@@ -202,7 +202,7 @@ own_restored : (m : Machine) (past : List Entry) (now : EventNow) (d : ℕ) (k :
 own_restored m past now d _ (DeviceMade.OwnRises p u a w s n) = tt
 own_restored m past now d _ _ = tt
 
-aside_restored : (m : Machine) (past : List Entry) (k : Kind) → Aside k → StandsRestored m past k
+aside_restored : (m : Machine) (past : List Entry) (k : Kind) {s : Option Stage} → Aside s k → StandsRestored m past k
 aside_restored m past _ Aside.Frozen = tt
 aside_restored m past _ _ = tt
 
@@ -224,8 +224,8 @@ settled_down stand.Direct t h p a = a refl
 settled_down stand.Unprepared t h p a = never p
 settled_down _ t h p a = never h
 
-all_asleep : (m : Machine) (past : List Entry) → Fines m past (λ q. Settled) true → list_all (is_asleep m past) (order m) ≡ true
-all_asleep m past h = all_pass (is_asleep m past) (order m) (λ x o.
+all_asleep : (m : Machine) (past : List Entry) → Fines m past (λ q. Settled) true → list_all (is_asleep m past) (order m past) ≡ true
+all_asleep m past h = all_pass (is_asleep m past) (order m past) (λ x o.
     settled_down (stand_in m past phase.Noirq x) (stand_in m past phase.Suspend x) ((h x).allowed phase.Noirq InNoirq)
     ((h x).alike phase.Noirq InNoirq ∙ (h x).prepared o) ((h x).alone phase.Noirq InNoirq))
 
@@ -238,7 +238,7 @@ own_enters : (m : Machine) (past : List Entry) (now : EventNow) (d : ℕ) (k : K
 own_enters m past now d _ (DeviceMade.OwnRises p u a w s n) = tt
 own_enters m past now d _ _ = tt
 
-aside_enters : (m : Machine) (past : List Entry) (k : Kind) → Aside k → DevicesAsleep m past k
+aside_enters : (m : Machine) (past : List Entry) (k : Kind) {s : Option Stage} → Aside s k → DevicesAsleep m past k
 aside_enters m past _ Aside.Frozen = tt
 aside_enters m past _ _ = tt
 

@@ -113,7 +113,7 @@ module _ (m : Machine) (past : List Entry) (moods : Phase → Mood) (full : Bool
       ap (λ (x : Bool). cond x (work_by (stand_in m past phase.Suspend d) (stand_in m past phase.Late d) (stand_in m past phase.Noirq d)) Idle) a ∙ work_stands q i s d b w tells e
 
   -- a device that is prepared is of the order
-  in_order : (p : Phase) (d : ℕ) → Down p → is_prepared (stand_in m past p d) ≡ true → is_among (order m) d ≡ true
+  in_order : (p : Phase) (d : ℕ) → Down p → is_prepared (stand_in m past p d) ≡ true → is_among (order m past) d ≡ true
   in_order p d i e = (h d).of_order (sym ((h d).alike p i) ∙ (ap is_prepared (at_is m past p d i) ∙ e))
 
 down_settled : (p : Phase) (i : Down p) → SettledBefore (in_down p) p i
@@ -146,9 +146,9 @@ waits_made : (o : Option ℕ) (k : Kind) → is_made (after_device o (turn.Makes
 waits_made None k e = absurd (true≢false e)
 waits_made (Some d) k e = (d, refl)
 
-module _ (m : Machine) (ranks : IsRanked m) (past : List Entry) (now : EventNow) (p : Phase) (i : Down p) (h : Standing m past (Some (stage.Downs p))) (takes : TakesLast m past p) (calls : Calls m past p is_suspending) (free : callback past ≡ None) (stuck : (d : ℕ) → is_among (order m) d ≡ true → is_async_device m d ≡ true → StuckAt m past now d) where
-  apart : AllDifferent (order m)
-  apart = order_apart (below m) (order m) ranks
+module _ (m : Machine) (past : List Entry) (ranks : IsRanked m past) (now : EventNow) (p : Phase) (i : Down p) (h : Standing m past (Some (stage.Downs p))) (takes : TakesLast m past p) (calls : Calls m past p is_suspending) (free : callback past ≡ None) (stuck : (d : ℕ) → is_among (order m past) d ≡ true → is_async_device m d ≡ true → StuckAt m past now d) where
+  apart : AllDifferent (order m past)
+  apart = order_apart (below m past) (order m past) ranks
 
   goes : ℕ → Bool
   goes d = is_going_down (stand_in m past p d)
@@ -160,31 +160,31 @@ module _ (m : Machine) (ranks : IsRanked m) (past : List Entry) (now : EventNow)
       by_test true e = e
       by_test false e = absurd (subst (λ (o : Option Callback). IsCalled o d) free (calls d (ap is_suspending (at_is m past p d i) ∙ s) e))
 
-  prepared : (d : ℕ) → is_among (order m) d ≡ true → is_prepared (stand_in m past p d) ≡ true
+  prepared : (d : ℕ) → is_among (order m past) d ≡ true → is_prepared (stand_in m past p d) ≡ true
   prepared d o = ap is_prepared (sym (at_is m past p d i)) ∙ ((h.0 d).alike p i ∙ (h.0 d).prepared o)
 
   -- the last device that goes down can go on
-  last_goes : (g : ℕ) → last_where (λ d. is_going_down (stand_in m past p d)) (order m) ≡ Some g → ⊥
+  last_goes : (g : ℕ) → last_where (λ d. is_going_down (stand_in m past p d)) (order m past) ≡ Some g → ⊥
   last_goes g l =
-      let f : Found (λ d. is_going_down (stand_in m past p d)) (order m) g = last_found (λ d. is_going_down (stand_in m past p d)) (order m) g l in
+      let f : Found (λ d. is_going_down (stand_in m past p d)) (order m past) g = last_found (λ d. is_going_down (stand_in m past p d)) (order m past) g l in
       by_stand (stand_in m past p g) refl f.passes f.among
     where
-      suspending : stand_in m past p g ≡ stand.Suspending → is_among (order m) g ≡ true → ⊥
+      suspending : stand_in m past p g ≡ stand.Suspending → is_among (order m past) g ≡ true → ⊥
       suspending e o =
           let a : is_async_device m g ≡ true = is_sync g (ap is_suspending e) in
           let w : async_work m past g ≡ Within p = work_at m past (in_down p) true h.0 p i (down_settled p i) g stand.Suspending (Within p) (λ other. refl) e a in
           true≢false (subst (λ (x : AsyncWork). is_made (device_due m past now g x) ≡ false) w (stuck g o a))
 
-      waits : (e : ℕ) → is_among (order m) g ≡ true → stand_in m past p g ≡ stand.Scheduled → waits_below m past p g ≡ Some e → ⊥
+      waits : (e : ℕ) → is_among (order m past) g ≡ true → stand_in m past p g ≡ stand.Scheduled → waits_below m past p g ≡ Some e → ⊥
       waits e o s w =
-          let f : Found (λ x. is_unsettled (stand_in m past p x)) (below m g) e = first_found (λ x. is_unsettled (stand_in m past p x)) (below m g) e w in
-          let b : Behind (order m) g e = order_behind (below m) (order m) ranks g e o f.among in
-          let still : is_going_down (stand_in m past p e) ≡ false = last_behind (λ d. is_going_down (stand_in m past p d)) (order m) apart g e l b in
-          let ready : is_ready (stand_in m past p e) ≡ true = unsettled_ready (stand_in m past p e) f.passes (prepared e (behind_last (order m) g e b)) still in
+          let f : Found (λ x. is_unsettled (stand_in m past p x)) (below m past g) e = first_found (λ x. is_unsettled (stand_in m past p x)) (below m past g) e w in
+          let b : Behind (order m past) g e = order_behind (below m past) (order m past) ranks g e o f.among in
+          let still : is_going_down (stand_in m past p e) ≡ false = last_behind (λ d. is_going_down (stand_in m past p d)) (order m past) apart g e l b in
+          let ready : is_ready (stand_in m past p e) ≡ true = unsettled_ready (stand_in m past p e) f.passes (prepared e (behind_last (order m past) g e b)) still in
           let taken : is_ready (at (three m past e) p) ≡ false = takes g e b (ap is_ready (at_is m past p g i ∙ s)) in
           true≢false (sym ready ∙ (ap is_ready (sym (at_is m past p e i)) ∙ taken))
 
-      scheduled : stand_in m past p g ≡ stand.Scheduled → is_among (order m) g ≡ true → ⊥
+      scheduled : stand_in m past p g ≡ stand.Scheduled → is_among (order m past) g ≡ true → ⊥
       scheduled e o =
           let a : is_async_device m g ≡ true = (h.0 g).given p i (ap is_given (at_is m past p g i ∙ e)) in
           let w : async_work m past g ≡ Given p = work_at m past (in_down p) true h.0 p i (down_settled p i) g stand.Scheduled (Given p) (λ other. refl) e a in
@@ -197,23 +197,23 @@ module _ (m : Machine) (ranks : IsRanked m) (past : List Entry) (now : EventNow)
           down_given _ InLate x = x
           down_given _ InNoirq x = x
 
-      by_stand : (s : Stand) → stand_in m past p g ≡ s → is_going_down (stand_in m past p g) ≡ true → is_among (order m) g ≡ true → ⊥
+      by_stand : (s : Stand) → stand_in m past p g ≡ s → is_going_down (stand_in m past p g) ≡ true → is_among (order m past) g ≡ true → ⊥
       by_stand stand.Scheduled e t o = scheduled e o
       by_stand stand.Suspending e t o = suspending e o
       by_stand stand.Unprepared e t o = true≢false (sym t ∙ ap is_going_down e)
       by_stand _ e t o = true≢false (sym t ∙ ap is_going_down e)
 
   -- so none goes down
-  none_goes : (d : ℕ) → is_among (order m) d ≡ true → is_going_down (stand_in m past p d) ≡ true → ⊥
+  none_goes : (d : ℕ) → is_among (order m past) d ≡ true → is_going_down (stand_in m past p d) ≡ true → ⊥
   none_goes d o g =
-      let l = last_there (λ x. is_going_down (stand_in m past p x)) (order m) d o g in
+      let l = last_there (λ x. is_going_down (stand_in m past p x)) (order m past) d o g in
       last_goes l.0 l.1
 
   -- and the maker waits for none
   close_goes : (k : Kind) → is_made (after_device (waits_down m past p) (turn.Makes k)) ≡ false → ⊥
   close_goes k e =
       let w = waits_made (waits_down m past p) k e in
-      let f : Found (λ d. is_going_down (stand_in m past p d)) (order m) w.0 = first_found (λ d. is_going_down (stand_in m past p d)) (order m) w.0 w.1 in
+      let f : Found (λ d. is_going_down (stand_in m past p d)) (order m past) w.0 = first_found (λ d. is_going_down (stand_in m past p d)) (order m past) w.0 w.1 in
       none_goes w.0 f.among f.passes
 
   take_goes : (d : ℕ) → next_down m past p ≡ Some d → is_made (take_down m past now p d) ≡ false → ⊥
@@ -221,11 +221,11 @@ module _ (m : Machine) (ranks : IsRanked m) (past : List Entry) (now : EventNow)
     where
       below_goes : (x : ℕ) → waits_below m past p d ≡ Some x → ⊥
       below_goes x w =
-          let t : Found (λ y. is_ready (stand_in m past p y)) (order m) d = last_found (λ y. is_ready (stand_in m past p y)) (order m) d n in
-          let f : Found (λ y. is_unsettled (stand_in m past p y)) (below m d) x = first_found (λ y. is_unsettled (stand_in m past p y)) (below m d) x w in
-          let b : Behind (order m) d x = order_behind (below m) (order m) ranks d x t.among f.among in
-          let o : is_among (order m) x ≡ true = behind_last (order m) d x b in
-          none_goes x o (unsettled_goes (stand_in m past p x) f.passes (prepared x o) (last_behind (λ y. is_ready (stand_in m past p y)) (order m) apart d x n b))
+          let t : Found (λ y. is_ready (stand_in m past p y)) (order m past) d = last_found (λ y. is_ready (stand_in m past p y)) (order m past) d n in
+          let f : Found (λ y. is_unsettled (stand_in m past p y)) (below m past d) x = first_found (λ y. is_unsettled (stand_in m past p y)) (below m past d) x w in
+          let b : Behind (order m past) d x = order_behind (below m past) (order m past) ranks d x t.among f.among in
+          let o : is_among (order m past) x ≡ true = behind_last (order m past) d x b in
+          none_goes x o (unsettled_goes (stand_in m past p x) f.passes (prepared x o) (last_behind (λ y. is_ready (stand_in m past p y)) (order m past) apart d x n b))
 
       by_async : (b : Bool) → is_made (cond b (turn.Makes (kind.Schedule p d)) (after_device (waits_below m past p d) (turn.Makes (taken m past now p d)))) ≡ false → ⊥
       by_async true x = true≢false x
@@ -257,27 +257,27 @@ up_given m past now _ d InSuspend x = x
 up_given m past now _ d InLate x = x
 up_given m past now _ d InNoirq x = x
 
-module _ (m : Machine) (ranks : IsRanked m) (past : List Entry) (now : EventNow) (p : Phase) (u : Up p) (h : Standing m past (Some (stage.Ups p))) (calls : Calls m past (mirror p) is_resuming) (free : callback past ≡ None) (stuck : (d : ℕ) → is_among (order m) d ≡ true → is_async_device m d ≡ true → StuckAt m past now d) where
-  apart_up : AllDifferent (order m)
-  apart_up = order_apart (below m) (order m) ranks
+module _ (m : Machine) (past : List Entry) (ranks : IsRanked m past) (now : EventNow) (p : Phase) (u : Up p) (h : Standing m past (Some (stage.Ups p))) (calls : Calls m past (mirror p) is_resuming) (free : callback past ≡ None) (stuck : (d : ℕ) → is_among (order m past) d ≡ true → is_async_device m d ≡ true → StuckAt m past now d) where
+  apart_up : AllDifferent (order m past)
+  apart_up = order_apart (below m past) (order m past) ranks
 
   down_of : Down (mirror p)
   down_of = mirror_down p u
 
-  low_among : (d : ℕ) → is_low (stand_in m past (mirror p) d) ≡ true → is_among (order m) d ≡ true
+  low_among : (d : ℕ) → is_low (stand_in m past (mirror p) d) ≡ true → is_among (order m past) d ≡ true
   low_among d l = in_order m past (in_up p) false h.0 (mirror p) d (mirror_down p u) (low_prepared (stand_in m past (mirror p) d) l)
 
   -- the first device that is not up waits for none above it
-  first_free : (g : ℕ) → first_where (λ d. is_low (stand_in m past (mirror p) d)) (order m) ≡ Some g → (e : ℕ) → waits_above m past (mirror p) g ≡ Some e → ⊥
+  first_free : (g : ℕ) → first_where (λ d. is_low (stand_in m past (mirror p) d)) (order m past) ≡ Some g → (e : ℕ) → waits_above m past (mirror p) g ≡ Some e → ⊥
   first_free g l e w =
-      let f : Found (λ x. is_low (stand_in m past (mirror p) x)) (above m g) e = first_found (λ x. is_low (stand_in m past (mirror p) x)) (above m g) e w in
-      let b : Behind (order m) e g = order_behind (below m) (order m) ranks e g (low_among e f.passes) (above_below m g e f.among) in
-      true≢false (sym f.passes ∙ first_before (λ x. is_low (stand_in m past (mirror p) x)) (order m) apart_up g e l b)
+      let f : Found (λ x. is_low (stand_in m past (mirror p) x)) (above m past g) e = first_found (λ x. is_low (stand_in m past (mirror p) x)) (above m past g) e w in
+      let b : Behind (order m past) e g = order_behind (below m past) (order m past) ranks e g (low_among e f.passes) (above_below m past g e f.among) in
+      true≢false (sym f.passes ∙ first_before (λ x. is_low (stand_in m past (mirror p) x)) (order m past) apart_up g e l b)
 
   -- it can go on, unless it is a synchronous one that is down
-  first_goes : (g : ℕ) → first_where (λ d. is_low (stand_in m past (mirror p) d)) (order m) ≡ Some g → (stand_in m past (mirror p) g ≡ stand.Suspended → ⊥) → ⊥
+  first_goes : (g : ℕ) → first_where (λ d. is_low (stand_in m past (mirror p) d)) (order m past) ≡ Some g → (stand_in m past (mirror p) g ≡ stand.Suspended → ⊥) → ⊥
   first_goes g l down =
-      let f : Found (λ d. is_low (stand_in m past (mirror p) d)) (order m) g = first_found (λ d. is_low (stand_in m past (mirror p) d)) (order m) g l in
+      let f : Found (λ d. is_low (stand_in m past (mirror p) d)) (order m past) g = first_found (λ d. is_low (stand_in m past (mirror p) d)) (order m past) g l in
       by_stand (stand_in m past (mirror p) g) refl f.passes f.among
     where
       is_sync : is_resuming (stand_in m past (mirror p) g) ≡ true → is_async_device m g ≡ true
@@ -287,13 +287,13 @@ module _ (m : Machine) (ranks : IsRanked m) (past : List Entry) (now : EventNow)
           by_test true e = e
           by_test false e = absurd (subst (λ (o : Option Callback). IsCalled o g) free (calls g (ap is_resuming (at_is m past (mirror p) g (mirror_down p u)) ∙ s) e))
 
-      resuming : stand_in m past (mirror p) g ≡ stand.Resuming → is_among (order m) g ≡ true → ⊥
+      resuming : stand_in m past (mirror p) g ≡ stand.Resuming → is_among (order m past) g ≡ true → ⊥
       resuming e o =
           let a : is_async_device m g ≡ true = is_sync (ap is_resuming e) in
           let w : async_work m past g ≡ Within (mirror (mirror p)) = work_at m past (in_up p) false h.0 (mirror p) (mirror_down p u) (up_settled p u) g stand.Resuming (Within (mirror (mirror p))) (λ other. refl) e a in
           true≢false (subst (λ (x : AsyncWork). is_made (device_due m past now g x) ≡ false) w (stuck g o a))
 
-      rescheduled : stand_in m past (mirror p) g ≡ stand.Rescheduled → is_among (order m) g ≡ true → ⊥
+      rescheduled : stand_in m past (mirror p) g ≡ stand.Rescheduled → is_among (order m past) g ≡ true → ⊥
       rescheduled e o =
           let a : is_async_device m g ≡ true = (h.0 g).given (mirror p) (mirror_down p u) (ap is_given (at_is m past (mirror p) g (mirror_down p u) ∙ e)) in
           let w : async_work m past g ≡ Given (mirror (mirror p)) = work_at m past (in_up p) false h.0 (mirror p) (mirror_down p u) (up_settled p u) g stand.Rescheduled (Given (mirror (mirror p))) (λ other. refl) e a in
@@ -301,7 +301,7 @@ module _ (m : Machine) (ranks : IsRanked m) (past : List Entry) (now : EventNow)
           let d = waits_made (waits_above m past (mirror p) g) (kind.Begin (mirror (mirror p)) g) (up_given m past now (mirror p) g (mirror_down p u) s) in
           first_free g l d.0 d.1
 
-      by_stand : (s : Stand) → stand_in m past (mirror p) g ≡ s → is_low (stand_in m past (mirror p) g) ≡ true → is_among (order m) g ≡ true → ⊥
+      by_stand : (s : Stand) → stand_in m past (mirror p) g ≡ s → is_low (stand_in m past (mirror p) g) ≡ true → is_among (order m past) g ≡ true → ⊥
       by_stand stand.Suspended e t o = down e
       by_stand stand.Rescheduled e t o = rescheduled e o
       by_stand stand.Resuming e t o = resuming e o
@@ -309,17 +309,17 @@ module _ (m : Machine) (ranks : IsRanked m) (past : List Entry) (now : EventNow)
       by_stand _ e t o = true≢false (sym t ∙ ap is_low e)
 
   -- none is low, where none is down that has to be taken next
-  none_low : next_given m past (mirror p) ≡ None → ((g : ℕ) → first_where (λ d. is_low (stand_in m past (mirror p) d)) (order m) ≡ Some g → stand_in m past (mirror p) g ≡ stand.Suspended → is_async_device m g ≡ false → ⊥) → (d : ℕ) → is_among (order m) d ≡ true → is_low (stand_in m past (mirror p) d) ≡ true → ⊥
+  none_low : next_given m past (mirror p) ≡ None → ((g : ℕ) → first_where (λ d. is_low (stand_in m past (mirror p) d)) (order m past) ≡ Some g → stand_in m past (mirror p) g ≡ stand.Suspended → is_async_device m g ≡ false → ⊥) → (d : ℕ) → is_among (order m past) d ≡ true → is_low (stand_in m past (mirror p) d) ≡ true → ⊥
   none_low n sync d o low =
-      let l = first_there (λ x. is_low (stand_in m past (mirror p) x)) (order m) d o low in
+      let l = first_there (λ x. is_low (stand_in m past (mirror p) x)) (order m past) d o low in
       first_goes l.0 l.1 (λ e. by_async l.0 l.1 e (is_async_device m l.0) refl)
     where
-      by_async : (g : ℕ) → first_where (λ x. is_low (stand_in m past (mirror p) x)) (order m) ≡ Some g → stand_in m past (mirror p) g ≡ stand.Suspended → (b : Bool) → is_async_device m g ≡ b → ⊥
+      by_async : (g : ℕ) → first_where (λ x. is_low (stand_in m past (mirror p) x)) (order m past) ≡ Some g → stand_in m past (mirror p) g ≡ stand.Suspended → (b : Bool) → is_async_device m g ≡ b → ⊥
       by_async g l e false a = sync g l e a
       by_async g l e true a =
           let given : (is_down_in (stand_in m past (mirror p) g) && is_async_device m g) ≡ true = rw (e, a) refl in
-          let f : Found (λ x. is_low (stand_in m past (mirror p) x)) (order m) g = first_found (λ x. is_low (stand_in m past (mirror p) x)) (order m) g l in
-          true≢false (sym given ∙ first_none (λ x. is_down_in (stand_in m past (mirror p) x) && is_async_device m x) (order m) n g f.among)
+          let f : Found (λ x. is_low (stand_in m past (mirror p) x)) (order m past) g = first_found (λ x. is_low (stand_in m past (mirror p) x)) (order m past) g l in
+          true≢false (sym given ∙ first_none (λ x. is_down_in (stand_in m past (mirror p) x) && is_async_device m x) (order m past) n g f.among)
 
   -- the walk up goes on
   up_goes : is_made (up_due m past p (callback past)) ≡ false → ⊥
@@ -330,33 +330,33 @@ module _ (m : Machine) (ranks : IsRanked m) (past : List Entry) (now : EventNow)
 
       next_stands : (d : ℕ) → next_up m past (mirror p) ≡ Some d → is_low (stand_in m past (mirror p) d) ≡ true
       next_stands d n =
-          let f : Found (λ x. is_down_in (stand_in m past (mirror p) x) && not (is_async_device m x)) (order m) d = first_found (λ x. is_down_in (stand_in m past (mirror p) x) && not (is_async_device m x)) (order m) d n in
+          let f : Found (λ x. is_down_in (stand_in m past (mirror p) x) && not (is_async_device m x)) (order m past) d = first_found (λ x. is_down_in (stand_in m past (mirror p) x) && not (is_async_device m x)) (order m past) d n in
           ap is_low (down_is (stand_in m past (mirror p) d) (and_left (is_down_in (stand_in m past (mirror p) d)) (not (is_async_device m d)) f.passes))
 
-      is_of_order : (g : ℕ) → first_where (λ x. is_low (stand_in m past (mirror p) x)) (order m) ≡ Some g → is_among (order m) g ≡ true
-      is_of_order g l = (first_found (λ x. is_low (stand_in m past (mirror p) x)) (order m) g l).among
+      is_of_order : (g : ℕ) → first_where (λ x. is_low (stand_in m past (mirror p) x)) (order m past) ≡ Some g → is_among (order m past) g ≡ true
+      is_of_order g l = (first_found (λ x. is_low (stand_in m past (mirror p) x)) (order m past) g l).among
 
       -- no synchronous device is down where none is taken next
-      none_next : next_up m past (mirror p) ≡ None → (g : ℕ) → first_where (λ x. is_low (stand_in m past (mirror p) x)) (order m) ≡ Some g → stand_in m past (mirror p) g ≡ stand.Suspended → is_async_device m g ≡ false → ⊥
-      none_next n g l s a = true≢false (sym (sync_test g s a) ∙ first_none (λ x. is_down_in (stand_in m past (mirror p) x) && not (is_async_device m x)) (order m) n g (is_of_order g l))
+      none_next : next_up m past (mirror p) ≡ None → (g : ℕ) → first_where (λ x. is_low (stand_in m past (mirror p) x)) (order m past) ≡ Some g → stand_in m past (mirror p) g ≡ stand.Suspended → is_async_device m g ≡ false → ⊥
+      none_next n g l s a = true≢false (sym (sync_test g s a) ∙ first_none (λ x. is_down_in (stand_in m past (mirror p) x) && not (is_async_device m x)) (order m past) n g (is_of_order g l))
 
       -- the one that is taken next is the first that is down, and waits for none
-      waits_next : (d x : ℕ) → next_up m past (mirror p) ≡ Some d → waits_above m past (mirror p) d ≡ Some x → (g : ℕ) → first_where (λ y. is_low (stand_in m past (mirror p) y)) (order m) ≡ Some g → stand_in m past (mirror p) g ≡ stand.Suspended → is_async_device m g ≡ false → ⊥
-      waits_next d x n w g l s a = by_place (first_or_behind (λ y. is_down_in (stand_in m past (mirror p) y) && not (is_async_device m y)) (order m) d g n (sync_test g s a) (is_of_order g l))
+      waits_next : (d x : ℕ) → next_up m past (mirror p) ≡ Some d → waits_above m past (mirror p) d ≡ Some x → (g : ℕ) → first_where (λ y. is_low (stand_in m past (mirror p) y)) (order m past) ≡ Some g → stand_in m past (mirror p) g ≡ stand.Suspended → is_async_device m g ≡ false → ⊥
+      waits_next d x n w g l s a = by_place (first_or_behind (λ y. is_down_in (stand_in m past (mirror p) y) && not (is_async_device m y)) (order m past) d g n (sync_test g s a) (is_of_order g l))
         where
-          by_place : (d ≡ g) ⊎ Behind (order m) d g → ⊥
+          by_place : (d ≡ g) ⊎ Behind (order m past) d g → ⊥
           by_place (inl same) = first_free g l x (subst (λ (y : ℕ). waits_above m past (mirror p) y ≡ Some x) same w)
-          by_place (inr b) = true≢false (sym (next_stands d n) ∙ first_before (λ y. is_low (stand_in m past (mirror p) y)) (order m) apart_up g d l b)
+          by_place (inr b) = true≢false (sym (next_stands d n) ∙ first_before (λ y. is_low (stand_in m past (mirror p) y)) (order m past) apart_up g d l b)
 
       by_walk : (g o : Option ℕ) → next_given m past (mirror p) ≡ g → next_up m past (mirror p) ≡ o → is_made (walk_up m past p g o) ≡ false → ⊥
       by_walk (Some d) o f n x = true≢false x
       by_walk None None f n x =
           let w = waits_made (waits_up m past (mirror p)) (kind.Done p None) x in
-          let t : Found (λ y. is_low (stand_in m past (mirror p) y)) (order m) w.0 = first_found (λ y. is_low (stand_in m past (mirror p) y)) (order m) w.0 w.1 in
+          let t : Found (λ y. is_low (stand_in m past (mirror p) y)) (order m past) w.0 = first_found (λ y. is_low (stand_in m past (mirror p) y)) (order m past) w.0 w.1 in
           none_low f (none_next n) w.0 t.among t.passes
       by_walk None (Some d) f n x =
           let w = waits_made (waits_above m past (mirror p) d) (kind.Begin p d) x in
-          let t : Found (λ y. is_low (stand_in m past (mirror p) y)) (above m d) w.0 = first_found (λ y. is_low (stand_in m past (mirror p) y)) (above m d) w.0 w.1 in
+          let t : Found (λ y. is_low (stand_in m past (mirror p) y)) (above m past d) w.0 = first_found (λ y. is_low (stand_in m past (mirror p) y)) (above m past d) w.0 w.1 in
           none_low f (waits_next d w.0 n w.1) w.0 (low_among w.0 t.passes) t.passes
 
 -- ---- the stages
@@ -379,7 +379,7 @@ complete_goes : (o : Option ℕ) → is_made (complete_due o) ≡ false → ⊥
 complete_goes None e = true≢false e
 complete_goes (Some d) e = true≢false e
 
-module _ (m : Machine) (ranks : IsRanked m) (past : List Entry) (now : EventNow) (journal : JournalPart m past) (stuck : (d : ℕ) → is_among (order m) d ≡ true → is_async_device m d ≡ true → StuckAt m past now d) (awake : sleep_of past ≡ None) (unfrozen : freeze_since past ≡ None) where
+module _ (m : Machine) (past : List Entry) (ranks : IsRanked m past) (now : EventNow) (journal : JournalPart m past) (stuck : (d : ℕ) → is_among (order m past) d ≡ true → is_async_device m d ≡ true → StuckAt m past now d) (awake : sleep_of past ≡ None) (unfrozen : freeze_since past ≡ None) where
   freeze_goes : (g : Group) → is_made (freeze_due m past now g (freeze_since past)) ≡ false → ⊥
   freeze_goes g e = true≢false (subst (λ (o : Option ℕ). is_made (freeze_due m past now g o) ≡ false) unfrozen e)
 
@@ -393,7 +393,7 @@ module _ (m : Machine) (ranks : IsRanked m) (past : List Entry) (now : EventNow)
       here = subst (λ (s : Option Stage). Underway m s past) at (underway m past journal)
 
       by_callback : (o : Option Callback) → callback past ≡ o → ⊥
-      by_callback None f = let u = here in let w = u.1 i in down_goes m ranks past now p i u.0 w.0 w.1 f stuck e
+      by_callback None f = let u = here in let w = u.1 i in down_goes m past ranks now p i u.0 w.0 w.1 f stuck e
       by_callback (Some c) f = true≢false (subst (λ (o : Option Callback). is_made (down_due m past now p o) ≡ false) f e)
 
   walk_up_goes : (p : Phase) → stage_of past ≡ Some (stage.Ups p) → Up p → is_made (up_due m past p (callback past)) ≡ false → ⊥
@@ -403,7 +403,7 @@ module _ (m : Machine) (ranks : IsRanked m) (past : List Entry) (now : EventNow)
       here = subst (λ (s : Option Stage). Underway m s past) at (underway m past journal)
 
       by_callback : (o : Option Callback) → callback past ≡ o → ⊥
-      by_callback None f = let u = here in up_goes m ranks past now p i u.0 (u.1 i) f stuck e
+      by_callback None f = let u = here in up_goes m past ranks now p i u.0 (u.1 i) f stuck e
       by_callback (Some c) f = true≢false (subst (λ (o : Option Callback). is_made (up_due m past p o) ≡ false) f e)
 
   -- at each stage something is made
@@ -502,8 +502,8 @@ not_made : (m : Machine) (past : List Entry) (of : ℕ → List Entry) (now : Ev
 not_made m past of now who e = or_right_false (is_calling (length m.sources + 1) of who || nat_lt (made (length m.sources + 1) of who) (calls_due m who past)) (is_made (due m past who now)) e
 
 -- where nobody is enabled and no time is pending no attempt is open
-pub no_attempt : (m : Machine) → IsRanked m → (past : List Entry) → JournalPart m past → (of : ℕ → List Entry) (now : EventNow) → is_idle m past of now ≡ true → next_time m past of ≡ None → maker past ≡ None
-no_attempt m ranks past journal of now idle timeless = by_maker (maker past) refl (held m past journal).2 (maker_in m past journal)
+pub no_attempt : (m : Machine) (past : List Entry) → IsRanked m past → JournalPart m past → (of : ℕ → List Entry) (now : EventNow) → is_idle m past of now ≡ true → next_time m past of ≡ None → maker past ≡ None
+no_attempt m past ranks journal of now idle timeless = by_maker (maker past) refl (held m past journal).2 (maker_in m past journal)
   where
     scripts : Bool
     scripts = none_enabled m past of now actor.Script (length m.actors)
@@ -541,13 +541,13 @@ no_attempt m ranks past journal of now idle timeless = by_maker (maker past) ref
     unfrozen : freeze_since past ≡ None
     unfrozen = no_deadline (freeze_since past) (sooner_none (deadline_at (freeze_since past)) (sooner (pending_nap past) (next_sleep m past (length m.actors))) rest_none).0
 
-    stuck : (d : ℕ) → is_among (order m) d ≡ true → is_async_device m d ≡ true → StuckAt m past now d
+    stuck : (d : ℕ) → is_among (order m past) d ≡ true → is_async_device m d ≡ true → StuckAt m past now d
     stuck d o a =
         let e : is_made (due m past (actor.Dev d) now) ≡ false = not_made m past of now (actor.Dev d) (none_of m past of now actor.Dev (length m.devices) devices_idle d (async_there m d a)) in
         ap (λ b. is_made (cond b (attempt_due m past now) (own_due m past (actor.Dev d) now))) (sym (not_device_maker d (maker past) (stage_of past) (held m past journal).2)) ∙ e
 
     at_stage : (o : Option Stage) → stage_of past ≡ o → (w : Actor) → StageMaker (Some w) o → ProperIf o → is_made (due_at m past now o) ≡ false → ⊥
-    at_stage (Some here) e w s p x = stage_goes m ranks past now journal stuck awake unfrozen here e p x
+    at_stage (Some here) e w s p x = stage_goes m past ranks now journal stuck awake unfrozen here e p x
     at_stage None e (actor.Script i) s p x = s
     at_stage None e actor.Auto s p x = s
     at_stage None e (actor.Dev d) s p x = s

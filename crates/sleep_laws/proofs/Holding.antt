@@ -1,5 +1,5 @@
 -- One attempt at a time: its maker holds the lock, and so does the work from its save on.
-use Rattle.std.proofs.Common.{◌≡◌, ◌∙◌, ℕ, Bool, true, false, ◌==◌, List, [], ◌∷◌, Option, Some, None, cond, refl, sym, ap, subst}
+use Rattle.std.proofs.Common.{◌≡◌, ◌∙◌, ℕ, Bool, true, false, ◌==◌, List, [], ◌∷◌, Option, Some, None, is_some, cond, refl, sym, ap, subst}
 use Rattle.std.proofs.lemmas.Bool.{true≢false}
 use Rattle.sleep_base.specs.declared.errno.Errno.{Errno}
 use Rattle.sleep_model.specs.declared.entry.Actor.{Actor}
@@ -19,7 +19,9 @@ use Rattle.sleep_model.specs.declared.word.EventNow.{EventNow}
 use Rattle.sleep_model.specs.Autosleep.{work, work_after, work_step, looks_at, after_look, seen_count}
 use Rattle.sleep_model.specs.Devices.{is_device}
 use Rattle.sleep_model.specs.Legal.{JournalPart}
+use Rattle.sleep_model.specs.Links.{is_linked, is_dependent, add_answer, state_answer, link_add_due, link_state_due}
 use Rattle.sleep_model.specs.Lock.{holder, holder_after, let_go_by}
+use Rattle.sleep_model.specs.Order.{links_at, parents_of}
 use Rattle.sleep_model.specs.Path.{maker, maker_after, is_actor, is_same}
 use Rattle.sleep_model.specs.Table.{stage_of, stage_after}
 use Rattle.sleep_laws.proofs.Made.{Made, Comes, StepMade, TaskMade, WorkMade, DeviceMade, EntryMade, ByMaker, ByTask, ByWork, ByDevice, ByTime}
@@ -227,42 +229,46 @@ maker_none m past h e = no_maker (maker past) (stage_of past) (held m past h).2 
 
 -- ---- what an entry is to the open attempt
 
--- an entry of a task or of the work outside attempts, which touches none
-pub data Aside : Kind → Type 0 where
-  Frozen : Aside kind.Frozen
-  ReadWait : Aside kind.ReadWait
-  Read : (c : ℕ) → Aside (kind.Read c)
-  ReadIntr : Aside kind.ReadIntr
-  SaveWait : (c : ℕ) → Aside (kind.SaveWait c)
-  Saved : (c : ℕ) → Aside (kind.Saved c)
-  SaveErr : (c : ℕ) (r : Errno) → Aside (kind.SaveErr c r)
-  StateWait : Aside kind.StateWait
-  StateErr : (r : Errno) → Aside (kind.StateErr r)
-  StateUnsaved : Aside kind.StateUnsaved
-  AutoBad : Aside kind.AutoBad
-  AutoSet : (s : State) → Aside (kind.AutoSet s)
-  AutoDone : Aside kind.AutoDone
-  Sleep : (u : ℕ) → Aside (kind.Sleep u)
-  SleepD : (u : ℕ) → Aside (kind.SleepD u)
-  Slept : Aside kind.Slept
-  Pass : Aside kind.Pass
-  Post : (mark : ℕ) → Aside (kind.Post mark)
-  Got : (mark : ℕ) → Aside (kind.Got mark)
-  Exit : Aside kind.Exit
-  RuntimeAsk : (d : ℕ) (b : Bool) (r : Option Errno) → Aside (kind.RuntimeAsk d b r)
-  AutoRun : Aside kind.AutoRun
-  AutoSaved : (c : ℕ) → Aside (kind.AutoSaved c)
-  AutoUnsaved : (c : ℕ) → Aside (kind.AutoUnsaved c)
-  AutoAfter : (seen : Option ℕ) → Aside (kind.AutoAfter seen)
-  AutoAgain : Aside kind.AutoAgain
-  AutoOff : Aside kind.AutoOff
-  Jump : Aside kind.Jump
+-- an entry of a task or of the work outside attempts, at that stage of the open one, which touches none; links change only where none is open
+pub data Aside (s : Option Stage) : Kind → Type 0 where
+  Frozen : Aside s kind.Frozen
+  ReadWait : Aside s kind.ReadWait
+  Read : (c : ℕ) → Aside s (kind.Read c)
+  ReadIntr : Aside s kind.ReadIntr
+  SaveWait : (c : ℕ) → Aside s (kind.SaveWait c)
+  Saved : (c : ℕ) → Aside s (kind.Saved c)
+  SaveErr : (c : ℕ) (r : Errno) → Aside s (kind.SaveErr c r)
+  StateWait : Aside s kind.StateWait
+  StateErr : (r : Errno) → Aside s (kind.StateErr r)
+  StateUnsaved : Aside s kind.StateUnsaved
+  AutoBad : Aside s kind.AutoBad
+  AutoSet : (state : State) → Aside s (kind.AutoSet state)
+  AutoDone : Aside s kind.AutoDone
+  Sleep : (u : ℕ) → Aside s (kind.Sleep u)
+  SleepD : (u : ℕ) → Aside s (kind.SleepD u)
+  Slept : Aside s kind.Slept
+  Pass : Aside s kind.Pass
+  Post : (mark : ℕ) → Aside s (kind.Post mark)
+  Got : (mark : ℕ) → Aside s (kind.Got mark)
+  Exit : Aside s kind.Exit
+  RuntimeAsk : (d : ℕ) (b : Bool) (r : Option Errno) → Aside s (kind.RuntimeAsk d b r)
+  LinkAdded : (supplier consumer : ℕ) → s ≡ None → Aside s (kind.LinkAdd supplier consumer None)
+  LinkRefused : (supplier consumer : ℕ) (r : Errno) → Aside s (kind.LinkAdd supplier consumer (Some r))
+  LinkSet : (supplier consumer : ℕ) (active : Bool) → s ≡ None → Aside s (kind.LinkState supplier consumer active None)
+  LinkLeft : (supplier consumer : ℕ) (active : Bool) (r : Errno) → Aside s (kind.LinkState supplier consumer active (Some r))
+  AutoRun : Aside s kind.AutoRun
+  AutoSaved : (c : ℕ) → Aside s (kind.AutoSaved c)
+  AutoUnsaved : (c : ℕ) → Aside s (kind.AutoUnsaved c)
+  AutoAfter : (seen : Option ℕ) → Aside s (kind.AutoAfter seen)
+  AutoAgain : Aside s kind.AutoAgain
+  AutoOff : Aside s kind.AutoOff
+  Jump : Aside s kind.Jump
 
 -- what an entry is to the attempt: it begins one, where none is open; its maker makes it; it touches none; or a device makes it
 pub data Moved (m : Machine) (past : List Entry) (now : EventNow) : Actor → Kind → Type 0 where
   Opens : (who : Actor) (n : ℕ) (guarded : Option ℕ) → maker past ≡ None → stage_of past ≡ None → Moved m past now who (kind.Attempt n guarded)
   Makes : (who : Actor) (here there : Stage) (k : Kind) → is_device who ≡ false → stage_of past ≡ Some here → Comes m past here there → Made m past now there k → Moved m past now who k
-  Beside : (who : Actor) (k : Kind) → is_device who ≡ false → Aside k → Moved m past now who k
+  Beside : (who : Actor) (k : Kind) → is_device who ≡ false → Aside (stage_of past) k → Moved m past now who k
   Owns : (d : ℕ) (k : Kind) → DeviceMade m past now d k → Moved m past now (actor.Dev d) k
 
 no_device : (who : Actor) (o : Option Actor) (s : Option Stage) → is_actor who o ≡ true → StageMaker o s → is_device who ≡ false
@@ -274,6 +280,27 @@ no_device (actor.Dev d) None s a h = absurd (true≢false (sym a))
 no_device (actor.Dev d) (Some (actor.Dev e)) (Some s) a h = absurd h
 no_device (actor.Dev d) (Some (actor.Dev e)) None a h = absurd h
 no_device (actor.Dev d) (Some _) s a h = absurd (true≢false (sym a))
+
+pub add_free : (o : Option Actor) (linked dependent : Bool) → add_answer (is_some o) linked dependent ≡ None → o ≡ None
+add_free None linked dependent e = refl
+add_free (Some x) linked dependent e = absurd (some≢none _ e)
+
+pub state_free : (o : Option Actor) (linked : Bool) → state_answer (is_some o) linked ≡ None → o ≡ None
+state_free None linked e = refl
+state_free (Some x) linked e = absurd (some≢none _ e)
+
+-- a task changes links only where no attempt is open
+added_moved : (m : Machine) (past : List Entry) (now : EventNow) (i supplier consumer : ℕ) (r : Option Errno) → link_add_due m past supplier consumer ≡ r → StageMaker (maker past) (stage_of past) → Moved m past now (actor.Script i) (kind.LinkAdd supplier consumer r)
+added_moved m past now i supplier consumer (Some r) e h = Beside (actor.Script i) _ refl (Aside.LinkRefused supplier consumer r)
+added_moved m past now i supplier consumer None e h =
+    let free : maker past ≡ None = add_free (maker past) (is_linked (links_at m past) supplier consumer) (is_dependent (parents_of m.devices) (links_at m past) consumer supplier) e in
+    Beside (actor.Script i) _ refl (Aside.LinkAdded supplier consumer (no_stage (maker past) (stage_of past) h free))
+
+set_moved : (m : Machine) (past : List Entry) (now : EventNow) (i supplier consumer : ℕ) (active : Bool) (r : Option Errno) → link_state_due m past supplier consumer ≡ r → StageMaker (maker past) (stage_of past) → Moved m past now (actor.Script i) (kind.LinkState supplier consumer active r)
+set_moved m past now i supplier consumer active (Some r) e h = Beside (actor.Script i) _ refl (Aside.LinkLeft supplier consumer active r)
+set_moved m past now i supplier consumer active None e h =
+    let free : maker past ≡ None = state_free (maker past) (is_linked (links_at m past) supplier consumer) e in
+    Beside (actor.Script i) _ refl (Aside.LinkSet supplier consumer active (no_stage (maker past) (stage_of past) h free))
 
 step_moved : (m : Machine) (past : List Entry) (now : EventNow) (i : ℕ) (seat : Seat) (asked : Bool) (op : Option Op) (k : Kind) → StepMade m past now seat asked op k → Held (maker past) (holder past) (work past) (stage_of past) → Moved m past now (actor.Script i) k
 step_moved m past now i seat asked _ _ StepMade.Exits h = Beside (actor.Script i) kind.Exit refl Aside.Exit
@@ -303,6 +330,8 @@ step_moved m past now i seat asked _ _ (StepMade.SleptD ms u w e) h = Beside (ac
 step_moved m past now i seat asked _ _ StepMade.Passes h = Beside (actor.Script i) _ refl Aside.Pass
 step_moved m past now i seat asked _ _ (StepMade.Posts mark) h = Beside (actor.Script i) _ refl (Aside.Post mark)
 step_moved m past now i seat asked _ _ (StepMade.Gets mark) h = Beside (actor.Script i) _ refl (Aside.Got mark)
+step_moved m past now i seat asked _ _ (StepMade.AddsLink s c r e) h = added_moved m past now i s c r e h.2
+step_moved m past now i seat asked _ _ (StepMade.SetsLink s c active r e) h = set_moved m past now i s c active r e h.2
 step_moved m past now i seat asked _ _ (StepMade.AsksRuntime d s) h = Beside (actor.Script i) _ refl (Aside.RuntimeAsk d s _)
 
 work_moved : (m : Machine) (past : List Entry) (now : EventNow) (w : Work) (k : Kind) → WorkMade m past now w k → is_actor actor.Auto (maker past) ≡ false → Held (maker past) (holder past) w (stage_of past) → Moved m past now actor.Auto k
@@ -344,10 +373,10 @@ pub record Kept (m : Machine) (I : Option Stage → List Entry → Type 0) : Typ
   pub opens : (past : List Entry) (time : ℕ) (now : EventNow) (who : Actor) (n : ℕ) (guarded : Option ℕ) → I None past → I (Some stage.Notifies) (entry_of time now who (kind.Attempt n guarded) ∷ past)
   pub comes : (past : List Entry) (here there : Stage) → Comes m past here there → I (Some here) past → I (Some there) past
   pub makes : (past : List Entry) (time : ℕ) (now : EventNow) (who : Actor) (there : Stage) (k : Kind) → is_device who ≡ false → Made m past now there k → I (Some there) past → I (stage_after k (Some there)) (entry_of time now who k ∷ past)
-  pub beside : (past : List Entry) (time : ℕ) (now : EventNow) (who : Actor) (k : Kind) (s : Option Stage) → EntryMade m past now who k → is_device who ≡ false → Aside k → I s past → I s (entry_of time now who k ∷ past)
+  pub beside : (past : List Entry) (time : ℕ) (now : EventNow) (who : Actor) (k : Kind) (s : Option Stage) → EntryMade m past now who k → is_device who ≡ false → Aside s k → I s past → I s (entry_of time now who k ∷ past)
   pub owns : (past : List Entry) (time : ℕ) (now : EventNow) (d : ℕ) (k : Kind) (s : Option Stage) → DeviceMade m past now d k → I s past → I s (entry_of time now (actor.Dev d) k ∷ past)
 
-aside_stage : (k : Kind) (s : Option Stage) → Aside k → stage_after k s ≡ s
+aside_stage : (k : Kind) (s : Option Stage) → Aside s k → stage_after k s ≡ s
 aside_stage _ s Aside.Frozen = refl
 aside_stage _ s _ = refl
 

@@ -92,7 +92,7 @@ exact_makes m past time now who _ _ a Made.TellsFinish h = (h.0, h.1, refl, h.3)
 exact_makes m past time now who _ _ a Made.TellsEnd h = (h.0, refl, h.2, h.3)
 exact_makes m past time now who _ _ a _ h = h
 
-exact_beside : (m : Machine) (past : List Entry) (time : ℕ) (now : EventNow) (who : Actor) (k : Kind) (s : Option Stage) → EntryMade m past now who k → is_device who ≡ false → Aside k → Exact s past → Exact s (entry_of time now who k ∷ past)
+exact_beside : (m : Machine) (past : List Entry) (time : ℕ) (now : EventNow) (who : Actor) (k : Kind) (s : Option Stage) → EntryMade m past now who k → is_device who ≡ false → Aside s k → Exact s past → Exact s (entry_of time now who k ∷ past)
 exact_beside m past time now who _ s x a Aside.Frozen h = h
 exact_beside m past time now who _ s x a _ h = h
 

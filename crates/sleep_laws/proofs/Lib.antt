@@ -11,10 +11,12 @@ pub mod Held
 pub mod Holding
 pub mod Lawful
 pub mod Levels
+pub mod Linking
 pub mod Made
 pub mod Making
 pub mod MakingOwn
 pub mod Moods
+pub mod Operations
 pub mod Owing
 pub mod Passing
 pub mod Progress
@@ -23,6 +25,7 @@ pub mod Reaching
 pub mod Resting
 pub mod Restoring
 pub mod Standing
+pub mod Staying
 pub mod Stepping
 pub mod Telling
 pub mod Turning

@@ -36,6 +36,7 @@ use Rattle.sleep_model.specs.Devices.{callback, phase_failed, phase_error, is_di
 use Rattle.sleep_model.specs.Due.{is_over}
 use Rattle.sleep_model.specs.Freezer.{freezing, left}
 use Rattle.sleep_model.specs.Guard.{in_force, pending}
+use Rattle.sleep_model.specs.Links.{link_add_due, link_state_due}
 use Rattle.sleep_model.specs.Lock.{holder, is_on}
 use Rattle.sleep_model.specs.Notifiers.{next_called, next_posted, next_cpu_off, next_cpu_on, next_stopped, next_started}
 use Rattle.sleep_model.specs.Numbers.{time_of}
@@ -195,6 +196,8 @@ pub data StepMade (m : Machine) (past : List Entry) (now : EventNow) (seat : Sea
   Passes : StepMade m past now seat asked (Some op.FreezePoint) kind.Pass
   Posts : (mark : ℕ) → StepMade m past now seat asked (Some (op.Post mark)) (kind.Post mark)
   Gets : (mark : ℕ) → StepMade m past now seat asked (Some (op.Wait mark)) (kind.Got mark)
+  AddsLink : (supplier consumer : ℕ) (r : Option Errno) → link_add_due m past supplier consumer ≡ r → StepMade m past now seat asked (Some (op.Link supplier consumer)) (kind.LinkAdd supplier consumer r)
+  SetsLink : (supplier consumer : ℕ) (active : Bool) (r : Option Errno) → link_state_due m past supplier consumer ≡ r → StepMade m past now seat asked (Some (op.LinkState supplier consumer active)) (kind.LinkState supplier consumer active r)
   AsksRuntime : (d : ℕ) (to_suspended : Bool) → StepMade m past now seat asked (Some (op.Runtime d to_suspended)) (kind.RuntimeAsk d to_suspended (runtime_due m d to_suspended past))
 
 -- where script i stands (own)

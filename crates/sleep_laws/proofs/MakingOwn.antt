@@ -40,6 +40,7 @@ use Rattle.sleep_model.specs.Due.{is_over, due, own_due, script_due}
 use Rattle.sleep_model.specs.Freezer.{freezing}
 use Rattle.sleep_model.specs.Guard.{in_force, pending}
 use Rattle.sleep_model.specs.Legal.{JournalPart, JournalStep}
+use Rattle.sleep_model.specs.Links.{link_add_due, link_state_due}
 use Rattle.sleep_model.specs.Lock.{holder, is_on}
 use Rattle.sleep_model.specs.Marks.{mark_at, raised}
 use Rattle.sleep_model.specs.Numbers.{time_of}
@@ -125,6 +126,8 @@ step_made m past now seat asked (Some op.FreezePoint) = StepMade.Passes
 step_made m past now seat asked (Some (op.Post mark)) = StepMade.Posts mark
 step_made m past now seat asked (Some (op.Wait mark)) = only_if (StepMade m past now seat asked (Some (op.Wait mark))) (nat_lt 0 (mark_at (raised (length m.marks) past) mark)) _ _ (λ e. StepMade.Gets mark) (λ e. tt)
 step_made m past now seat asked (Some (op.Runtime d to_suspended)) = StepMade.AsksRuntime d to_suspended
+step_made m past now seat asked (Some (op.Link supplier consumer)) = StepMade.AddsLink supplier consumer (link_add_due m past supplier consumer) refl
+step_made m past now seat asked (Some (op.LinkState supplier consumer active)) = StepMade.SetsLink supplier consumer active (link_state_due m past supplier consumer) refl
 step_made m past now seat asked (Some (op.Awake s)) = tt
 step_made m past now seat asked (Some (op.Relax s)) = tt
 step_made m past now seat asked (Some (op.Event s ms hard)) = tt

@@ -1,5 +1,5 @@
 -- An undo stands only for what is owed, and a test that found a wakeup only where one is pending.
-use Rattle.std.proofs.Common.{◌≡◌, ℕ, true, List, ◌∷◌, Some, length, refl, sym}
+use Rattle.std.proofs.Common.{◌≡◌, ℕ, true, List, ◌∷◌, Option, Some, length, refl, sym}
 use Rattle.std.proofs.lemmas.Bool.{true≢false}
 use Rattle.sleep_base.specs.declared.errno.Errno.TheVariants.{EINVAL}
 use Rattle.sleep_model.specs.declared.entry.Actor.{Actor}
@@ -49,7 +49,7 @@ owed_own m past now x _ (DeviceMade.OwnBegins p w g f t e) d = d
 owed_own m past now x _ (DeviceMade.OwnRises p w b a s e) d = d
 owed_own m past now x _ _ d = tt
 
-owed_aside : (m : Machine) (past : List Entry) (k : Kind) → Aside k → Owed m past k
+owed_aside : (m : Machine) (past : List Entry) (k : Kind) {s : Option Stage} → Aside s k → Owed m past k
 owed_aside m past _ Aside.Frozen = tt
 owed_aside m past _ _ = tt
 
@@ -78,7 +78,7 @@ found_own : (m : Machine) (past : List Entry) (now : EventNow) (x : ℕ) (k : Ki
 found_own m past now x _ (DeviceMade.OwnFinds p w g f t e) = e
 found_own m past now x _ _ = tt
 
-found_aside : (past : List Entry) (now : EventNow) (k : Kind) → Aside k → FoundPending past now (count_part k)
+found_aside : (past : List Entry) (now : EventNow) (k : Kind) {s : Option Stage} → Aside s k → FoundPending past now (count_part k)
 found_aside past now _ (Aside.SaveErr c EINVAL) = tt
 found_aside past now _ _ = tt
 

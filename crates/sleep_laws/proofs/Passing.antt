@@ -27,35 +27,35 @@ use Rattle.sleep_laws.proofs.Boards.{Three, at, at_is, three, all_three, first_n
 use Rattle.sleep_laws.proofs.Holding.{Kept, Aside, at_stage, at_made}
 use Rattle.sleep_laws.proofs.Made.{Down, InSuspend, InLate, InNoirq, Made, Comes, AtOnce, PastNotifiers, PastCpus, PastParts, PastPartsUp, PastCpusUp, PastPosts, Breaks, Settles, Rises}
 use Rattle.sleep_laws.proofs.Moods.{Mood, Empty, Fresh, Going, Settled, Halted, Coming, Risen, in_down, in_up, in_suspend, allows, when_empty, when_going, empty_fresh, fresh_going, fresh_halted, fresh_risen, settled_coming, halted_coming, going_halted, going_settled, coming_risen}
-use Rattle.sleep_laws.proofs.Standing.{When, IsFine, unprepared_fine, fine_else, none_so, errs, Fines, Standing}
+use Rattle.sleep_laws.proofs.Standing.{When, IsFine, unprepared_fine, empty_fine, fine_else, none_so, errs, Fines, Standing}
 use Rattle.sleep_laws.proofs.Turning.{schedules_down, finds_down, leaves_down, begins_down, ends_down, schedules_up, begins_up, ends_up, prepares, completes, device_stands, free_call}
 
 -- ---- from one stage to another
 
 module _ (m : Machine) (past : List Entry) where
   -- the devices have come to something else
-  else_fines : (moods then : Phase → Mood) (full all after : Bool) → Fines m past moods full → ((x : ℕ) (q : Phase) → Down q → allows (moods q) (errs past) (at (three m past x) q) ≡ true → allows (then q) after (at (three m past x) q) ≡ true) → ((x : ℕ) → When all (is_among (order m) x ≡ true → is_prepared (stand_in m past phase.Suspend x) ≡ true)) → (x : ℕ) → IsFine (order m) (is_async_device m x) then all after x (three m past x)
+  else_fines : (moods then : Phase → Mood) (full all after : Bool) → Fines m past moods full → ((x : ℕ) (q : Phase) → Down q → allows (moods q) (errs past) (at (three m past x) q) ≡ true → allows (then q) after (at (three m past x) q) ≡ true) → ((x : ℕ) → When all (is_among (order m past) x ≡ true → is_prepared (stand_in m past phase.Suspend x) ≡ true)) → (x : ℕ) → IsFine (order m past) (is_async_device m x) then all after x (three m past x)
   else_fines moods then full all after h right every x =
-      fine_else (order m) (is_async_device m x) moods full (errs past) x (three m past x) (h x) then all after (λ q i. right x q i ((h x).allowed q i)) (every x)
+      fine_else (order m past) (is_async_device m x) moods full (errs past) x (three m past x) (h x) then all after (λ q i. right x q i ((h x).allowed q i)) (every x)
 
-  full_fine : (moods : Phase → Mood) → Fines m past moods true → (x : ℕ) → is_among (order m) x ≡ true → is_prepared (stand_in m past phase.Suspend x) ≡ true
+  full_fine : (moods : Phase → Mood) → Fines m past moods true → (x : ℕ) → is_among (order m past) x ≡ true → is_prepared (stand_in m past phase.Suspend x) ≡ true
   full_fine moods h x = (h x).prepared
 
   -- no device is given out and not through, where the walk down waits for none
   none_goes : (moods : Phase → Mood) (full : Bool) → Fines m past moods full → (p : Phase) → Down p → waits_down m past p ≡ None → (x : ℕ) → is_going_down (at (three m past x) p) ≡ false
   none_goes moods full h p i w x =
-      none_so (order m) (is_async_device m x) moods full (errs past) x (three m past x) (h x) is_going_down refl p i
-      (λ o. ap is_going_down (at_is m past p x i) ∙ first_none (λ d. is_going_down (stand_in m past p d)) (order m) w x o)
+      none_so (order m past) (is_async_device m x) moods full (errs past) x (three m past x) (h x) is_going_down refl p i
+      (λ o. ap is_going_down (at_is m past p x i) ∙ first_none (λ d. is_going_down (stand_in m past p d)) (order m past) w x o)
 
   none_ready : (moods : Phase → Mood) (full : Bool) → Fines m past moods full → (p : Phase) → Down p → next_down m past p ≡ None → (x : ℕ) → is_ready (at (three m past x) p) ≡ false
   none_ready moods full h p i n x =
-      none_so (order m) (is_async_device m x) moods full (errs past) x (three m past x) (h x) is_ready refl p i
-      (λ o. ap is_ready (at_is m past p x i) ∙ last_none (λ d. is_ready (stand_in m past p d)) (order m) n x o)
+      none_so (order m past) (is_async_device m x) moods full (errs past) x (three m past x) (h x) is_ready refl p i
+      (λ o. ap is_ready (at_is m past p x i) ∙ last_none (λ d. is_ready (stand_in m past p d)) (order m past) n x o)
 
   none_low : (moods : Phase → Mood) (full : Bool) → Fines m past moods full → (p : Phase) → Down p → waits_up m past p ≡ None → (x : ℕ) → is_low (at (three m past x) p) ≡ false
   none_low moods full h p i w x =
-      none_so (order m) (is_async_device m x) moods full (errs past) x (three m past x) (h x) is_low refl p i
-      (λ o. ap is_low (at_is m past p x i) ∙ first_none (λ d. is_low (stand_in m past p d)) (order m) w x o)
+      none_so (order m past) (is_async_device m x) moods full (errs past) x (three m past x) (h x) is_low refl p i
+      (λ o. ap is_low (at_is m past p x i) ∙ first_none (λ d. is_low (stand_in m past p d)) (order m past) w x o)
 
   -- a phase on the way down stops by an error, or settles
   stops : (moods : Phase → Mood) (full : Bool) → Fines m past moods full → (p : Phase) → Down p → moods p ≡ Going → waits_down m past p ≡ None → (x : ℕ) → allows Halted false (at (three m past x) p) ≡ true
@@ -115,7 +115,7 @@ module _ (m : Machine) (past : List Entry) (time : ℕ) (now : EventNow) (who : 
 
   prepared : next_prepared m past ≡ None → Standing m past (Some stage.Prepares) → Standing m (by (kind.Done phase.Prepare None) ∷ past) (Some (stage.Downs phase.Suspend))
   prepared n h = (
-    else_fines m past (λ q. Fresh) (in_down phase.Suspend) false true false h.0 allowed (λ x o. prepared_of (stand_in m past phase.Suspend x) (first_none (λ d. is_unprepared (stand_in m past phase.Suspend d)) (order m) n x o)),
+    else_fines m past (λ q. Fresh) (in_down phase.Suspend) false true false h.0 allowed (λ x o. prepared_of (stand_in m past phase.Suspend x) (first_none (λ d. is_unprepared (stand_in m past phase.Suspend d)) (order m past) n x o)),
     free_call m (callback past) stand.Suspending phase.Suspend (three m past) h.1,
   )
     where
@@ -230,7 +230,7 @@ module _ (m : Machine) (past : List Entry) (time : ℕ) (now : EventNow) (who : 
       allowed : (x : ℕ) (q : Phase) → Down q → allows Risen (errs past) (at (three m past x) q) ≡ true → allows Empty false (at (three m past x) q) ≡ true
       allowed x q i a =
           unprepared (at (three m past x) q)
-          ((h.0 x).alike q i ∙ none_so (order m) (is_async_device m x) (λ r. Risen) false (errs past) x (three m past x) (h.0 x) is_prepared refl phase.Suspend InSuspend (λ o. last_none (λ d. is_prepared (stand_in m past phase.Suspend d)) (order m) n x o))
+          ((h.0 x).alike q i ∙ none_so (order m past) (is_async_device m x) (λ r. Risen) false (errs past) x (three m past x) (h.0 x) is_prepared refl phase.Suspend InSuspend (λ o. last_none (λ d. is_prepared (stand_in m past phase.Suspend d)) (order m past) n x o))
 
   -- what the maker makes leaves the devices where they may stand at the stage after
   pub maker_stands : (there : Stage) (k : Kind) → Made m past now there k → Standing m past (Some there) → Standing m (by k ∷ past) (stage_after k (Some there))
@@ -286,7 +286,7 @@ starts_three : (m : Machine) (d : ℕ) → three m [] d ≡ all_three stand.Unpr
 starts_three m d = ap all_three (starts_unprepared (length m.devices) d)
 
 stands_starts : (m : Machine) → Standing m [] None
-stands_starts m = (λ d. subst (λ (t : Three). IsFine (order m) (is_async_device m d) (λ q. Empty) false false d t) (sym (starts_three m d)) (unprepared_fine (order m) (is_async_device m d) (λ q. Empty) false d), refl)
+stands_starts m = (λ d. subst (λ (t : Three). IsFine (order m []) (is_async_device m d) (λ q. Empty) false false d t) (sym (starts_three m d)) (unprepared_fine (order m []) (is_async_device m d) (λ q. Empty) false d), refl)
 
 stands_comes : (m : Machine) (past : List Entry) (here there : Stage) → Comes m past here there → Standing m past (Some here) → Standing m past (Some there)
 stands_comes m past _ _ (AtOnce s) h = h
@@ -297,8 +297,24 @@ stands_comes m past _ _ (PastPartsUp e) h = h
 stands_comes m past _ _ (PastCpusUp e) h = h
 stands_comes m past _ _ (PastPosts e) h = h
 
-stands_beside : (m : Machine) (past : List Entry) (time : ℕ) (now : EventNow) (who : Actor) (k : Kind) (s : Option Stage) → Aside k → Standing m past s → Standing m (record { time = time; now = now; actor = who; kind = k } ∷ past) s
+-- links change where no attempt is open, so that no phase has a device
+relinked : (m : Machine) (past : List Entry) (e : Entry) (s : Option Stage) → s ≡ None → ((d : ℕ) → three m (e ∷ past) d ≡ three m past d) → errs (e ∷ past) ≡ errs past → callback (e ∷ past) ≡ callback past → Standing m past s → Standing m (e ∷ past) s
+relinked m past e s none same failed calls h = subst (λ (o : Option Stage). Standing m (e ∷ past) o) (sym none) (by_none (subst (λ (o : Option Stage). Standing m past o) none h))
+  where
+    by_none : Standing m past None → Standing m (e ∷ past) None
+    by_none g = (
+      λ d. subst (λ (t : Three). IsFine (order m (e ∷ past)) (is_async_device m d) (λ q. Empty) false (errs (e ∷ past)) d t) (sym (same d))
+          (subst (λ (b : Bool). IsFine (order m (e ∷ past)) (is_async_device m d) (λ q. Empty) false b d (three m past d)) (sym failed)
+          (empty_fine (order m past) (order m (e ∷ past)) (is_async_device m d) (errs past) d (three m past d) (g.0 d))),
+      calls ∙ g.1,
+    )
+
+stands_beside : (m : Machine) (past : List Entry) (time : ℕ) (now : EventNow) (who : Actor) (k : Kind) (s : Option Stage) → Aside s k → Standing m past s → Standing m (record { time = time; now = now; actor = who; kind = k } ∷ past) s
 stands_beside m past time now who _ s Aside.Frozen h = h
+stands_beside m past time now who _ s (Aside.LinkAdded supplier consumer e) h =
+    relinked m past (record { time = time; now = now; actor = who; kind = kind.LinkAdd supplier consumer None }) s e (λ d. refl) refl refl h
+stands_beside m past time now who _ s (Aside.LinkSet supplier consumer active e) h =
+    relinked m past (record { time = time; now = now; actor = who; kind = kind.LinkState supplier consumer active None }) s e (λ d. refl) refl refl h
 stands_beside m past time now who _ s _ h = h
 
 pub stands_kept : (m : Machine) → Kept m (λ (s : Option Stage) (past : List Entry). Standing m past s)

@@ -1,14 +1,16 @@
 -- Which devices stand behind which in the order, and what a search finds there.
-use Rattle.std.proofs.Common.{◌≡◌, ◌≤◌, ◌<◌, ◌+◌, ◌∙◌, ℕ, Bool, true, false, ◌==◌, nat_lt, List, [], ◌∷◌, ◌⊎◌, inl, inr, length, reverse, slice_get, get_or, Option, Some, None, refl, sym, ap, subst, cond, arith}
+use Rattle.std.proofs.Common.{◌≡◌, ◌≤◌, ◌<◌, ◌+◌, ◌∙◌, ℕ, Bool, true, false, ◌==◌, nat_lt, List, [], ◌∷◌, ◌⊎◌, inl, inr, length, slice_get, get_or, Option, Some, None, refl, sym, ap, subst, cond, arith}
 use Rattle.std.proofs.lemmas.Bool.{eqb-true, true≢false, or_cases, or_left, or_right}
 use Rattle.std.proofs.lemmas.Bool.Decides.{nat_tests}
 use Rattle.std.proofs.lemmas.List.{get_or_past}
+use Rattle.sleep_model.specs.declared.entry.Entry.{Entry}
 use Rattle.sleep_model.specs.declared.machine.Machine.{Machine}
 use Rattle.sleep_model.specs.declared.machine.Link.{Link}
 use Rattle.sleep_model.specs.Links.{IsOrder, AreLinks}
-use Rattle.sleep_model.specs.Order.{is_among, is_parent, hanging, below, above, order, parents_of, parent_of, suppliers_of, consumers_of, children_from, EachAfterParent}
+use Rattle.sleep_model.specs.Order.{is_among, is_parent, hanging, below, above, order, links_at, active_of, parents_of, parent_of, suppliers_of, consumers_of, children_from, EachAfterParent}
 use Rattle.sleep_model.specs.Walk.{first_where, last_where, or_else}
 use Rattle.sleep_model.proofs.Acyclic.{order_ranked}
+use Rattle.sleep_model.proofs.Changing.{active_hanging, fewer_order}
 use Rattle.sleep_model.proofs.FirstPlaces.{suppliers_linked, consumers_linked, among_children, among_parent}
 use Rattle.sleep_model.proofs.Hanging.{among_app, among_first, among_rest, within_of}
 use Rattle.sleep_model.proofs.Walks.{AllDifferent}
@@ -115,22 +117,24 @@ child_of ps e d q = by_test (nat_lt d (length ps)) refl
         absurd (true≢false (sym q ∙ ap (is_parent e) (get_or_past ps d None outside)))
 
 -- what holds a device up has it hanging below
-pub above_below : (m : Machine) (d e : ℕ) → is_among (above m d) e ≡ true → is_among (below m e) d ≡ true
-above_below m d e h = by_cases (or_cases (is_among (parent_of (slice_get ps d)) e) (is_among (suppliers_of d ls) e) (sym (among_app (parent_of (slice_get ps d)) (suppliers_of d ls) e) ∙ h))
+pub above_below : (m : Machine) (past : List Entry) (d e : ℕ) → is_among (above m past d) e ≡ true → is_among (below m past e) d ≡ true
+above_below m past d e h = by_cases (or_cases (is_among (parent_of (slice_get ps d)) e) (is_among (suppliers_of d ls) e) (sym (among_app (parent_of (slice_get ps d)) (suppliers_of d ls) e) ∙ h))
   where
     ps : List (Option ℕ)
     ps = parents_of m.devices
 
     ls : List Link
-    ls = reverse m.links
+    ls = active_of (links_at m past)
 
-    by_cases : (is_among (parent_of (slice_get (parents_of m.devices) d)) e ≡ true) ⊎ (is_among (suppliers_of d (reverse m.links)) e ≡ true) → is_among (hanging (parents_of m.devices) (reverse m.links) e) d ≡ true
+    by_cases : (is_among (parent_of (slice_get (parents_of m.devices) d)) e ≡ true) ⊎ (is_among (suppliers_of d (active_of (links_at m past))) e ≡ true) → is_among (hanging (parents_of m.devices) (active_of (links_at m past)) e) d ≡ true
     by_cases (inl p) = among_app (children_from e 0 ps) (consumers_of e ls) d ∙ or_left (is_among (children_from e 0 ps) d) (is_among (consumers_of e ls) d) (child_of ps e d (sym (among_parent ps d e) ∙ p))
     by_cases (inr s) = among_app (children_from e 0 ps) (consumers_of e ls) d ∙ or_right (is_among (children_from e 0 ps) d) (is_among (consumers_of e ls) d) (consumers_linked ls e d ∙ (sym (suppliers_linked ls e d) ∙ s))
 
--- the devices of a machine stand in an order, each before all that hang right below it (dpm_list)
-abbrev pub IsRanked : Machine → Type 0
-IsRanked m = IsOrder (below m) (order m)
+-- the devices of a machine stand in an order, each before all that must sleep before it (dpm_list)
+abbrev pub IsRanked : Machine → List Entry → Type 0
+IsRanked m past = IsOrder (below m past) (order m past)
 
-pub ranked : (m : Machine) → EachAfterParent 0 (parents_of m.devices) → AreLinks (parents_of m.devices) (reverse m.links) → IsRanked m
-ranked m after links = order_ranked (parents_of m.devices) after (reverse m.links) links
+pub ranked : (m : Machine) (past : List Entry) → EachAfterParent 0 (parents_of m.devices) → AreLinks (parents_of m.devices) (links_at m past) → IsRanked m past
+ranked m past after links =
+    fewer_order (hanging (parents_of m.devices) (links_at m past)) (below m past) (active_hanging (parents_of m.devices) (links_at m past)) (order m past)
+    (order_ranked (parents_of m.devices) after (links_at m past) links)

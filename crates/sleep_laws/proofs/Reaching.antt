@@ -222,7 +222,7 @@ reached_makes m past time now who there k a x h = (
   same_then (list_all (is_so (stopped (length m.syscore) past)) (syscore_parts m) ≡ true) (parts_at (Some there)) (parts_at (stage_after k (Some there))) refl h.3,
 )
 
-reached_beside : (m : Machine) (past : List Entry) (time : ℕ) (now : EventNow) (who : Actor) (k : Kind) (s : Option Stage) → EntryMade m past now who k → is_device who ≡ false → Aside k → IsReached m s past → IsReached m s (entry_of time now who k ∷ past)
+reached_beside : (m : Machine) (past : List Entry) (time : ℕ) (now : EventNow) (who : Actor) (k : Kind) (s : Option Stage) → EntryMade m past now who k → is_device who ≡ false → Aside s k → IsReached m s past → IsReached m s (entry_of time now who k ∷ past)
 reached_beside m past time now who k s x a Aside.Frozen h = (
   if_same (left m group.User past ≡ []) (LeftAfter group.User m past who k) (user_at s) (left_step group.User m past who k refl) h.0,
   if_same (left m group.Kernel past ≡ []) (LeftAfter group.Kernel m past who k) (kernel_at s) (left_step group.Kernel m past who k refl) h.1,
@@ -247,7 +247,7 @@ reached_kept m = record { starts = (tt, tt, tt, tt); opens = λ past time now wh
 
 -- where the maker enters, all that sleep wants down is down, if the devices are
 abbrev pub DevicesAsleep : Machine → List Entry → Kind → Type 0
-DevicesAsleep m past (kind.Enter false) = list_all (is_asleep m past) (order m) ≡ true
+DevicesAsleep m past (kind.Enter false) = list_all (is_asleep m past) (order m past) ≡ true
 DevicesAsleep m past _ = Unit {0}
 
 enters_made : (m : Machine) (past : List Entry) (now : EventNow) (there : Stage) (k : Kind) → Made m past now there k → IsReached m (Some there) past → Exact (Some there) past → DevicesAsleep m past k → EntersDown m past k
@@ -255,7 +255,7 @@ enters_made m past now _ _ (Made.Enters e f) r x d = record { devices = d; user_
 enters_made m past now _ _ (Made.EntersNot e f) r x d = tt
 enters_made m past now _ _ _ r x d = tt
 
-enters_aside : (m : Machine) (past : List Entry) (k : Kind) → Aside k → EntersDown m past k
+enters_aside : (m : Machine) (past : List Entry) (k : Kind) {s : Option Stage} → Aside s k → EntersDown m past k
 enters_aside m past _ Aside.Frozen = tt
 enters_aside m past _ _ = tt
 

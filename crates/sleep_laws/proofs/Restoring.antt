@@ -193,7 +193,7 @@ undone_frozen m past time now _ s (ByDevice d _ a x) h = absurd (not_device m pa
     not_device : (m : Machine) (past : List Entry) (now : EventNow) (d : ℕ) → DeviceMade m past now d kind.Frozen → ⊥
     not_device m past now d x = elim x [ ]
 
-undone_beside : (m : Machine) (past : List Entry) (time : ℕ) (now : EventNow) (who : Actor) (k : Kind) (s : Option Stage) → EntryMade m past now who k → is_device who ≡ false → Aside k → IsUndone m s past → IsUndone m s (entry_of time now who k ∷ past)
+undone_beside : (m : Machine) (past : List Entry) (time : ℕ) (now : EventNow) (who : Actor) (k : Kind) (s : Option Stage) → EntryMade m past now who k → is_device who ≡ false → Aside s k → IsUndone m s past → IsUndone m s (entry_of time now who k ∷ past)
 undone_beside m past time now who _ s x a Aside.Frozen h = undone_frozen m past time now who s x h
 undone_beside m past time now who _ s x a _ h = h
 
@@ -226,7 +226,7 @@ restored_made : (m : Machine) (past : List Entry) (now : EventNow) (here there :
 restored_made m past now here _ _ h e c Made.Ends d = nothing_owed m past h here e c d.0 d.1 d.2
 restored_made m past now here _ _ h e c _ d = tt
 
-restored_aside : (m : Machine) (past : List Entry) (k : Kind) → Aside k → Restored m past k
+restored_aside : (m : Machine) (past : List Entry) (k : Kind) {s : Option Stage} → Aside s k → Restored m past k
 restored_aside m past _ Aside.Frozen = tt
 restored_aside m past _ _ = tt
 

@@ -16,7 +16,7 @@ use Rattle.phase_table.specs.Phases.{mirror, is_down}
 use Rattle.sleep_model.specs.Devices.{callback, phase_failed, error_in, is_async_device, stand_in}
 use Rattle.sleep_model.specs.Order.{order, is_among}
 use Rattle.sleep_model.specs.Stands.{is_prepared, is_ready, is_down_in, is_left_alone, ended_by, device_of}
-use Rattle.sleep_laws.proofs.Boards.{Three, at, at_is, three, three_after, moved_all, Change, Here, Away, all_three}
+use Rattle.sleep_laws.proofs.Boards.{order_stays, Three, at, at_is, three, three_after, moved_all, Change, Here, Away, all_three}
 use Rattle.sleep_laws.proofs.Made.{Down, InSuspend, InLate, InNoirq, Up, InResume, InEarly, InResumeNoirq}
 use Rattle.sleep_laws.proofs.Moods.{Mood, Empty, Fresh, Going, Settled, Halted, Coming, Risen, mood_if, in_down, in_up, allows, allows_unprepared, when_fresh, when_going, when_coming, unprepared_is, allows_more}
 
@@ -75,6 +75,21 @@ unprepared_fine o async moods error d = record {
   alone = λ q i e. absurd (true≢false (sym e ∙ ap is_left_alone (at_all q stand.Unprepared i)));
   prepared = tt;
   given = λ q i e. absurd (true≢false (sym e ∙ ap is_given (at_all q stand.Unprepared i)));
+}
+
+-- a device that no phase has stands rightly in any order
+empty_unprepared : (error : Bool) (s : Stand) → allows Empty error s ≡ true → is_prepared s ≡ false
+empty_unprepared error stand.Unprepared h = refl
+empty_unprepared error _ h = absurd (true≢false (sym h))
+
+pub empty_fine : (o after : List ℕ) (async error : Bool) (d : ℕ) (t : Three) → IsFine o async (λ q. Empty) false error d t → IsFine after async (λ q. Empty) false error d t
+empty_fine o after async error d t h = record {
+  allowed = h.allowed;
+  alike = h.alike;
+  of_order = λ e. absurd (true≢false (sym e ∙ empty_unprepared error t.suspend (h.allowed phase.Suspend InSuspend)));
+  alone = h.alone;
+  prepared = tt;
+  given = h.given;
 }
 
 -- a prepared one stands rightly where none is taken
@@ -163,7 +178,7 @@ errs past = is_some (phase_failed past)
 
 -- each device stands rightly
 abbrev pub Fines : Machine → List Entry → (Phase → Mood) → Bool → Type 0
-Fines m past moods full = (d : ℕ) → IsFine (order m) (is_async_device m d) moods full (errs past) d (three m past d)
+Fines m past moods full = (d : ℕ) → IsFine (order m past) (is_async_device m d) moods full (errs past) d (three m past d)
 
 -- the maker is inside the callback of a synchronous device, which stands so in phase p
 pub record Inside (m : Machine) (c : Callback) (s : Stand) (p : Phase) (stands : ℕ → Three) : Type 0 where
@@ -193,9 +208,10 @@ module _ (m : Machine) (past : List Entry) (e : Entry) (d : ℕ) (is : device_of
   pub turn : (p : Phase) → Down p → (b s : Stand) → stand_in m past p d ≡ b → is_prepared b ≡ true → is_left_alone b ≡ false → is_prepared s ≡ true → allows (moods p) (errs (e ∷ past)) s ≡ true → (errs past ≡ true → errs (e ∷ past) ≡ true) → (is_left_alone s ≡ true → is_left_alone (three_after e.kind (three m past d)).suspend ≡ true) → (is_given s ≡ true → is_async_device m d ≡ true) → ((q : Phase) → Down q → Change p s (three m past d) (three_after e.kind (three m past d)) q) → Fines m (e ∷ past) moods full
   turn p i b s stands was apart ready right more lone gives changes =
       let here : at (three m past d) p ≡ b = at_is m past p d i ∙ stands in
-      moved_all m past e d is (λ (x : ℕ) (t : Three). IsFine (order m) (is_async_device m x) moods full (errs (e ∷ past)) x t)
-      (λ x. fine_more (order m) (is_async_device m x) moods full (errs past) x (three m past x) (h x) (errs (e ∷ past)) more)
-      (fine_turn (order m) (is_async_device m d) moods full (errs past) d (three m past d) (h d) p i s (three_after e.kind (three m past d)) changes (errs (e ∷ past)) ready (ap is_prepared here ∙ was) (ap is_left_alone here ∙ apart) right more lone gives)
+      subst (λ (o : List ℕ). (x : ℕ) → IsFine o (is_async_device m x) moods full (errs (e ∷ past)) x (three m (e ∷ past) x)) (sym (order_stays m past e d is))
+      (moved_all m past e d is (λ (x : ℕ) (t : Three). IsFine (order m past) (is_async_device m x) moods full (errs (e ∷ past)) x t)
+      (λ x. fine_more (order m past) (is_async_device m x) moods full (errs past) x (three m past x) (h x) (errs (e ∷ past)) more)
+      (fine_turn (order m past) (is_async_device m d) moods full (errs past) d (three m past d) (h d) p i s (three_after e.kind (three m past d)) changes (errs (e ∷ past)) ready (ap is_prepared here ∙ was) (ap is_left_alone here ∙ apart) right more lone gives))
 
 -- ---- what the moods tell
 

@@ -36,12 +36,17 @@ order_by : (m : Machine) (past : List Entry) (who : Actor) (k : Kind) → is_jum
 order_by m past who kind.Jump e h = absurd (true≢false e)
 order_by m past who _ e h = h
 
+both : (a b : Bool) → a ≡ true → b ≡ true → (a && b) ≡ true
+both a b e f = rw (e, f) refl
+
 -- ---- a task
 
 step_of_op : (m : Machine) (past : List Entry) (now : EventNow) (seat : Seat) (asked : Bool) (o : Option Op) (k : Kind) → StepMade m past now seat asked o k → (is_of_op o k ≡ true) × (is_jump k ≡ false)
 step_of_op m past now seat asked _ _ (StepMade.Posts mark) = (same mark, refl)
 step_of_op m past now seat asked _ _ (StepMade.Gets mark) = (same mark, refl)
 step_of_op m past now seat asked _ _ (StepMade.AsksRuntime d s) = (same d, refl)
+step_of_op m past now seat asked _ _ (StepMade.AddsLink s c r e) = (both (s == s) (c == c) (same s) (same c), refl)
+step_of_op m past now seat asked _ _ (StepMade.SetsLink s c active r e) = (both (s == s) (c == c) (same s) (same c), refl)
 step_of_op m past now seat asked _ _ _ = (refl, refl)
 
 step_is_entry : (there of frozen : Bool) → there ≡ false → (of || frozen) ≡ true → (not there && (of || frozen)) ≡ true
@@ -63,9 +68,6 @@ work_order m past now _ _ (WorkMade.SavesNot c f v) = (same c, refl)
 work_order m past now _ _ _ = (refl, refl)
 
 -- ---- a device
-
-both : (a b : Bool) → a ≡ true → b ≡ true → (a && b) ≡ true
-both a b e f = rw (e, f) refl
 
 down_same : (p : Phase) → Down p → is_phase p p ≡ true
 down_same _ InSuspend = refl

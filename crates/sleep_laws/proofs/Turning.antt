@@ -56,7 +56,7 @@ module _ (m : Machine) (past : List Entry) (time : ℕ) (now : EventNow) (who : 
   by k = record { time = time; now = now; actor = who; kind = k }
 
   pub ready_stands : (p : Phase) (d : ℕ) → next_down m past p ≡ Some d → stand_in m past p d ≡ stand.Prepared
-  ready_stands p d n = ready_is (stand_in m past p d) (last_found (λ x. is_ready (stand_in m past p x)) (order m) d n).passes
+  ready_stands p d n = ready_is (stand_in m past p d) (last_found (λ x. is_ready (stand_in m past p x)) (order m past) d n).passes
 
   pub schedules_down : (p : Phase) (d : ℕ) → Down p → callback past ≡ None → next_down m past p ≡ Some d → is_async_device m d ≡ true → Standing m past (Some (stage.Downs p)) → Standing m (by (kind.Schedule p d) ∷ past) (Some (stage.Downs p))
   schedules_down p d i c n a h = (
@@ -128,12 +128,12 @@ module _ (m : Machine) (past : List Entry) (time : ℕ) (now : EventNow) (who : 
 
   pub given_stands : (p : Phase) (d : ℕ) → next_given m past p ≡ Some d → (stand_in m past p d ≡ stand.Suspended) × (is_async_device m d ≡ true)
   given_stands p d n =
-      let x = and_both (is_down_in (stand_in m past p d)) (is_async_device m d) (first_found (λ y. is_down_in (stand_in m past p y) && is_async_device m y) (order m) d n).passes in
+      let x = and_both (is_down_in (stand_in m past p d)) (is_async_device m d) (first_found (λ y. is_down_in (stand_in m past p y) && is_async_device m y) (order m past) d n).passes in
       (down_is (stand_in m past p d) x.0, x.1)
 
   pub up_stands : (p : Phase) (d : ℕ) → next_up m past p ≡ Some d → (stand_in m past p d ≡ stand.Suspended) × (is_async_device m d ≡ false)
   up_stands p d n =
-      let x = and_both (is_down_in (stand_in m past p d)) (not (is_async_device m d)) (first_found (λ y. is_down_in (stand_in m past p y) && not (is_async_device m y)) (order m) d n).passes in
+      let x = and_both (is_down_in (stand_in m past p d)) (not (is_async_device m d)) (first_found (λ y. is_down_in (stand_in m past p y) && not (is_async_device m y)) (order m past) d n).passes in
       (down_is (stand_in m past p d) x.0, not_true (is_async_device m d) x.1)
     where
       not_true : (b : Bool) → not b ≡ true → b ≡ false
@@ -175,23 +175,23 @@ module _ (m : Machine) (past : List Entry) (time : ℕ) (now : EventNow) (who : 
 
   -- ---- prepare and complete
 
-  prepares_fine : (d : ℕ) (r : ℤ) (error : Bool) → is_among (order m) d ≡ true → IsFine (order m) (is_async_device m d) (λ q. Fresh) false error d (three m past d) → IsFine (order m) (is_async_device m d) (λ q. Fresh) false error d (three_after (kind.Prepare d r) (three m past d))
-  prepares_fine d (pos r) error o h = prepared_fine (order m) (is_async_device m d) error d o
+  prepares_fine : (d : ℕ) (r : ℤ) (error : Bool) → is_among (order m past) d ≡ true → IsFine (order m past) (is_async_device m d) (λ q. Fresh) false error d (three m past d) → IsFine (order m past) (is_async_device m d) (λ q. Fresh) false error d (three_after (kind.Prepare d r) (three m past d))
+  prepares_fine d (pos r) error o h = prepared_fine (order m past) (is_async_device m d) error d o
   prepares_fine d (negsuc r) error o h = h
 
   pub prepares : (d : ℕ) (r : ℤ) → next_prepared m past ≡ Some d → Standing m past (Some stage.Prepares) → Standing m (by (kind.Prepare d r) ∷ past) (Some stage.Prepares)
   prepares d r n h =
       let error : Bool = errs (by (kind.Prepare d r) ∷ past) in
-      let fresh : (x : ℕ) → IsFine (order m) (is_async_device m x) (λ q. Fresh) false error x (three m past x) =
-      λ x. fine_else (order m) (is_async_device m x) (λ q. Fresh) false (errs past) x (three m past x) (h.0 x) (λ q. Fresh) false error (h.0 x).allowed tt in (
-        moved_all m past (by (kind.Prepare d r)) d refl (λ (x : ℕ) (t : Three). IsFine (order m) (is_async_device m x) (λ q. Fresh) false error x t) fresh
-            (prepares_fine d r error (first_found (λ x. is_unprepared (stand_in m past phase.Suspend x)) (order m) d n).among (fresh d)),
+      let fresh : (x : ℕ) → IsFine (order m past) (is_async_device m x) (λ q. Fresh) false error x (three m past x) =
+      λ x. fine_else (order m past) (is_async_device m x) (λ q. Fresh) false (errs past) x (three m past x) (h.0 x) (λ q. Fresh) false error (h.0 x).allowed tt in (
+        moved_all m past (by (kind.Prepare d r)) d refl (λ (x : ℕ) (t : Three). IsFine (order m past) (is_async_device m x) (λ q. Fresh) false error x t) fresh
+            (prepares_fine d r error (first_found (λ x. is_unprepared (stand_in m past phase.Suspend x)) (order m past) d n).among (fresh d)),
         h.1,
       )
 
   pub completes : (d : ℕ) → Standing m past (Some stage.Completes) → Standing m (by (kind.Complete d) ∷ past) (Some stage.Completes)
   completes d h = (
-    moved_all m past (by (kind.Complete d)) d refl (λ (x : ℕ) (t : Three). IsFine (order m) (is_async_device m x) (λ q. Risen) false (errs past) x t) h.0 (unprepared_fine (order m) (is_async_device m d) (λ q. Risen) (errs past) d),
+    moved_all m past (by (kind.Complete d)) d refl (λ (x : ℕ) (t : Three). IsFine (order m past) (is_async_device m x) (λ q. Risen) false (errs past) x t) h.0 (unprepared_fine (order m past) (is_async_device m d) (λ q. Risen) (errs past) d),
     h.1,
   )
 

@@ -7,6 +7,7 @@ use Rattle.sleep_model.specs.declared.entry.Actor.TheVariants as actor
 use Rattle.sleep_model.specs.declared.entry.Entry.{Entry}
 use Rattle.sleep_model.specs.declared.entry.Kind.{Kind}
 use Rattle.sleep_model.specs.declared.entry.Kind.TheVariants as kind
+use Rattle.sleep_model.specs.declared.machine.Link.{Link}
 use Rattle.sleep_model.specs.declared.machine.Machine.{Machine}
 use Rattle.sleep_model.specs.declared.place.Callback.{Callback}
 use Rattle.sleep_model.specs.declared.place.Stage.{Stage}
@@ -19,18 +20,19 @@ use Rattle.phase_table.specs.declared.phase.Phase.TheVariants as phase
 use Rattle.phase_table.specs.Phases.{mirror}
 use Rattle.sleep_model.specs.Devices.{callback, unless_own, is_device, is_async_device, stand_in, next_down, next_given}
 use Rattle.sleep_model.specs.Legal.{JournalPart}
-use Rattle.sleep_model.specs.Order.{order, is_among}
+use Rattle.sleep_model.specs.Order.{order, order_by, links_after, links_at, parents_of, is_among}
 use Rattle.sleep_model.specs.Stands.{is_prepared, is_ready, ended_by, device_of}
 use Rattle.sleep_model.specs.Table.{stage_of, stage_after}
 use Rattle.sleep_model.proofs.Ordering.{order_different}
 use Rattle.sleep_laws.proofs.Activity.{different}
-use Rattle.sleep_laws.proofs.Boards.{Three, at, at_is, three, three_after, moved, moved_other, moved_own, Change, Here, Away, turned, turned_down, turned_up, all_three, mirror_down}
+use Rattle.sleep_laws.proofs.Boards.{order_stays, Three, at, at_is, three, three_after, moved, moved_other, moved_own, Change, Here, Away, turned, turned_down, turned_up, all_three, mirror_down}
 use Rattle.sleep_laws.proofs.Holding.{Kept, Aside, at_stage}
 use Rattle.sleep_laws.proofs.Made.{Down, InSuspend, InLate, InNoirq, Up, Made, Comes, AtOnce, PastNotifiers, PastCpus, PastParts, PastPartsUp, PastCpusUp, PastPosts, AtTurn, DeviceMade}
 use Rattle.sleep_laws.proofs.Moods.{Mood, Fresh, Going, Settled, Halted, Risen, in_down, in_up, in_suspend, allows}
 use Rattle.sleep_laws.proofs.Passing.{maker_stands, stands_kept}
 use Rattle.sleep_laws.proofs.Ranks.{Behind, behind_first, last_behind}
 use Rattle.sleep_laws.proofs.Standing.{errs, Fines, Inside, Standing}
+use Rattle.sleep_laws.proofs.Telling.{some≢none}
 use Rattle.sleep_laws.proofs.Turning.{never, turned_at, turned_mirror, ready_stands, prepared_all, called, given_stands}
 
 -- inside a callback on the way down, or up (dpm_run_callback)
@@ -49,7 +51,7 @@ IsCalled (Some c) x = c.device ≡ x
 
 -- behind a device that phase p has taken each is taken
 abbrev pub TakesLast : Machine → List Entry → Phase → Type 0
-TakesLast m past p = (x e : ℕ) → Behind (order m) x e → is_ready (at (three m past x) p) ≡ false → is_ready (at (three m past e) p) ≡ false
+TakesLast m past p = (x e : ℕ) → Behind (order m past) x e → is_ready (at (three m past x) p) ≡ false → is_ready (at (three m past e) p) ≡ false
 
 -- a synchronous device that stands so is the one whose callback the maker runs
 abbrev pub Calls : Machine → List Entry → Phase → (Stand → Bool) → Type 0
@@ -92,10 +94,10 @@ none_called : (m : Machine) (past : List Entry) (p : Phase) (test : Stand → Bo
 none_called m past p test none after same x t a = absurd (true≢false (sym t ∙ (ap test (same x) ∙ none x)))
 
 -- all are fresh and prepared
-begins : (m : Machine) (past : List Entry) (moods : Phase → Mood) (full : Bool) → Fines m past moods full → ((x : ℕ) → is_among (order m) x ≡ true → is_prepared (stand_in m past phase.Suspend x) ≡ true) → (p : Phase) → Down p → moods p ≡ Fresh → TakesLast m past p
+begins : (m : Machine) (past : List Entry) (moods : Phase → Mood) (full : Bool) → Fines m past moods full → ((x : ℕ) → is_among (order m past) x ≡ true → is_prepared (stand_in m past phase.Suspend x) ≡ true) → (p : Phase) → Down p → moods p ≡ Fresh → TakesLast m past p
 begins m past moods full h every p i f x e b r =
     let fresh : allows Fresh (errs past) (at (three m past x) p) ≡ true = subst (λ (a : Mood). allows a (errs past) (at (three m past x) p) ≡ true) f ((h x).allowed p i) in
-    absurd (true≢false (sym (fresh_ready (at (three m past x) p) (errs past) fresh ((h x).alike p i ∙ every x (behind_first (order m) x e b))) ∙ r))
+    absurd (true≢false (sym (fresh_ready (at (three m past x) p) (errs past) fresh ((h x).alike p i ∙ every x (behind_first (order m past) x e b))) ∙ r))
 
 begins_apart : (m : Machine) (past : List Entry) (moods : Phase → Mood) (full : Bool) → Fines m past moods full → (p : Phase) → Down p → moods p ≡ Fresh → (x : ℕ) → is_suspending (at (three m past x) p) ≡ false
 begins_apart m past moods full h p i f x = fresh_apart (at (three m past x) p) (errs past) (subst (λ (a : Mood). allows a (errs past) (at (three m past x) p) ≡ true) f ((h x).allowed p i))
@@ -113,12 +115,15 @@ module _ (m : Machine) (past : List Entry) (e : Entry) (d : ℕ) (is : device_of
   -- a device that is taken, or goes on, keeps what is behind it taken
   module _ (p : Phase) (h : TakesLast m past p) where
     takes : next_down m past p ≡ Some d → Down p → is_ready (at (three m (e ∷ past) d) p) ≡ false → TakesLast m (e ∷ past) p
-    takes n i gone x y b r = by_second (y == d) refl
+    takes n i gone x y c r = by_second (y == d) refl
       where
+        b : Behind (order m past) x y
+        b = subst (λ (o : List ℕ). Behind o x y) (order_stays m past e d is) c
+
         by_first : (y == d) ≡ false → (t : Bool) → (x == d) ≡ t → is_ready (at (three m past y) p) ≡ false
         by_first a true s =
             let same : x ≡ d = eqb-true x d s in
-            ap is_ready (at_is m past p y i) ∙ last_behind (λ z. is_ready (stand_in m past p z)) (order m) (order_different m) d y n (subst (λ (z : ℕ). Behind (order m) z y) same b)
+            ap is_ready (at_is m past p y i) ∙ last_behind (λ z. is_ready (stand_in m past p z)) (order m past) (order_different m past) d y n (subst (λ (z : ℕ). Behind (order m past) z y) same b)
         by_first a false s = h x y b (ap (λ (t : Three). is_ready (at t p)) (sym (others x s)) ∙ r)
 
         by_second : (t : Bool) → (y == d) ≡ t → is_ready (at (three m (e ∷ past) y) p) ≡ false
@@ -126,7 +131,7 @@ module _ (m : Machine) (past : List Entry) (e : Entry) (d : ℕ) (is : device_of
         by_second false s = ap (λ (t : Three). is_ready (at t p)) (others y s) ∙ by_first s (x == d) refl
 
     goes_on : ((x : ℕ) → is_ready (at (three m (e ∷ past) x) p) ≡ is_ready (at (three m past x) p)) → TakesLast m (e ∷ past) p
-    goes_on same x y b r = same y ∙ h x y b (sym (same x) ∙ r)
+    goes_on same x y b r = same y ∙ h x y (subst (λ (o : List ℕ). Behind o x y) (order_stays m past e d is) b) (sym (same x) ∙ r)
 
   -- a device that moves in phase q between stands that are both taken leaves each as ready as it was
   same_ready : (q : Phase) (b s : Stand) → at (three m past d) q ≡ b → is_ready b ≡ false → is_ready s ≡ false → (p : Phase) → Change q s (three m past d) (three_after e.kind (three m past d)) p → (x : ℕ) → is_ready (at (three m (e ∷ past) x) p) ≡ is_ready (at (three m past x) p)
@@ -245,9 +250,11 @@ module _ (m : Machine) (past : List Entry) (time : ℕ) (now : EventNow) (who : 
       (ap is_resuming (stood_up p d u (kind.End p d r) stand.Resuming stand.Resumed (ended_by r) refl refl (sym (at_is m past (mirror p) d (mirror_down p u)) ∙ x.inside) refl h))
 
   -- a phase on the way down begins with all of the order fresh
-  starts_down : (k : Kind) (p : Phase) (i : Down p) (moods : Phase → Mood) (full : Bool) → Fines m past moods full → moods p ≡ Fresh → ((x : ℕ) → is_among (order m) x ≡ true → is_prepared (stand_in m past phase.Suspend x) ≡ true) → ((x : ℕ) → three m (by k ∷ past) x ≡ three m past x) → TakesLast m (by k ∷ past) p × Calls m (by k ∷ past) p is_suspending
-  starts_down k p i moods full h f every same = (
-    λ x e b r. ap (λ (t : Three). is_ready (at t p)) (same e) ∙ begins m past moods full h every p i f x e b (ap (λ (t : Three). is_ready (at t p)) (sym (same x)) ∙ r),
+  starts_down : (k : Kind) → ((ls : List Link) → links_after k ls ≡ ls) → (p : Phase) (i : Down p) (moods : Phase → Mood) (full : Bool) → Fines m past moods full → moods p ≡ Fresh → ((x : ℕ) → is_among (order m past) x ≡ true → is_prepared (stand_in m past phase.Suspend x) ≡ true) → ((x : ℕ) → three m (by k ∷ past) x ≡ three m past x) → TakesLast m (by k ∷ past) p × Calls m (by k ∷ past) p is_suspending
+  starts_down k links p i moods full h f every same = (
+    λ x e c r.
+        let b : Behind (order m past) x e = subst (λ (ls : List Link). Behind (order_by (parents_of m.devices) ls) x e) (links (links_at m past)) c in
+        ap (λ (t : Three). is_ready (at t p)) (same e) ∙ begins m past moods full h every p i f x e b (ap (λ (t : Three). is_ready (at t p)) (sym (same x)) ∙ r),
     none_called m past p is_suspending (begins_apart m past moods full h p i f) (by k ∷ past) (λ x. ap (λ (t : Three). at t p) (same x)),
   )
 
@@ -257,9 +264,9 @@ module _ (m : Machine) (past : List Entry) (time : ℕ) (now : EventNow) (who : 
   maker_walks : (there : Stage) (k : Kind) → Made m past now there k → Standing m past (Some there) → WalksAt m past there → WalksIf m (by k ∷ past) (stage_after k (Some there))
   maker_walks _ k (Made.Prepared f n) h w =
       let after : Standing m (by k ∷ past) (Some (stage.Downs phase.Suspend)) = maker_stands m past time now who task stage.Prepares k (Made.Prepared f n) h in
-      λ i. starts_down k phase.Suspend InSuspend (λ q. Fresh) false h.0 refl (λ x. (after.0 x).prepared) (λ x. refl)
-  maker_walks _ k Made.AsksPrepare h w = λ i. starts_down k phase.Late InLate (in_suspend Settled Fresh) true h.0 refl (λ x. (h.0 x).prepared) (λ x. refl)
-  maker_walks _ k (Made.LateEnds s) h w = λ i. starts_down k phase.Noirq InNoirq (in_down phase.Late) true h.0 refl (λ x. (h.0 x).prepared) (λ x. refl)
+      λ i. starts_down k (λ ls. refl) phase.Suspend InSuspend (λ q. Fresh) false h.0 refl (λ x. (after.0 x).prepared) (λ x. refl)
+  maker_walks _ k Made.AsksPrepare h w = λ i. starts_down k (λ ls. refl) phase.Late InLate (in_suspend Settled Fresh) true h.0 refl (λ x. (h.0 x).prepared) (λ x. refl)
+  maker_walks _ k (Made.LateEnds s) h w = λ i. starts_down k (λ ls. refl) phase.Noirq InNoirq (in_down phase.Late) true h.0 refl (λ x. (h.0 x).prepared) (λ x. refl)
   maker_walks _ k Made.TellsWake h w = λ u. starts_up k phase.Noirq InNoirq (λ q. Settled) false Settled settled_apart h.0 refl (λ x. refl)
   maker_walks _ k Made.TellsFinish h w = λ u. starts_up k phase.Suspend InSuspend (in_suspend Settled Risen) false Settled settled_apart h.0 refl (λ x. refl)
   maker_walks _ k Made.TellsRecover h w = λ u. starts_up k phase.Suspend InSuspend (in_suspend Halted Risen) false Halted halted_apart h.0 refl (λ x. refl)
@@ -324,10 +331,12 @@ walks_comes m past _ _ (PastPartsUp e) w = tt
 walks_comes m past _ _ (PastCpusUp e) w = tt
 walks_comes m past _ _ (PastPosts e) w = tt
 
-walks_beside : (m : Machine) (past : List Entry) (time : ℕ) (now : EventNow) (who : Actor) (k : Kind) (st : Option Stage) → Aside k → WalksIf m past st → WalksIf m (record { time = time; now = now; actor = who; kind = k } ∷ past) st
+walks_beside : (m : Machine) (past : List Entry) (time : ℕ) (now : EventNow) (who : Actor) (k : Kind) (st : Option Stage) → Aside st k → WalksIf m past st → WalksIf m (record { time = time; now = now; actor = who; kind = k } ∷ past) st
 walks_beside m past time now who _ (Some (stage.Downs p)) Aside.Frozen w = w
 walks_beside m past time now who _ (Some (stage.Ups p)) Aside.Frozen w = w
 walks_beside m past time now who _ None Aside.Frozen w = tt
+walks_beside m past time now who _ (Some (stage.Downs p)) (Aside.LinkAdded supplier consumer e) w = absurd (some≢none _ e)
+walks_beside m past time now who _ (Some (stage.Downs p)) (Aside.LinkSet supplier consumer active e) w = absurd (some≢none _ e)
 walks_beside m past time now who _ (Some (stage.Downs p)) _ w = w
 walks_beside m past time now who _ (Some (stage.Ups p)) _ w = w
 walks_beside m past time now who k None a w = tt

@@ -3,7 +3,7 @@ use Rattle.std.specs.Prelude.{◌≡◌, ◌⊎◌, true, List, reverse, None}
 use Rattle.sleep_model.specs.declared.entry.Entry.{Entry}
 use Rattle.sleep_model.specs.declared.log.Log.{Log}
 use Rattle.sleep_model.specs.declared.machine.Machine.{Machine}
-use Rattle.sleep_model.specs.Accepted.{IsAccepted}
+use Rattle.sleep_model.specs.Accepted.{IsAccepted, AreScripts}
 use Rattle.sleep_model.specs.Legal.{IsLegal, IsLegalLog, IsFinishedLog, IsStuckLog, is_idle, next_time}
 use Rattle.sleep_model.specs.Links.{AreLinks}
 use Rattle.sleep_model.specs.Numbers.{numbers}
@@ -12,10 +12,11 @@ use Rattle.sleep_model.specs.Parts.{journal}
 use Rattle.sleep_model.specs.Path.{maker}
 use Rattle.sleep_model.specs.Sources.{history}
 
--- each device is registered after its parent, and the links may be added in turn, so that no device hangs below itself (device_add, device_link_add)
+-- each device is registered after its parent, the links may be added in turn, so that no device hangs below itself, and the scripts name what is there (device_add, device_link_add)
 pub record IsOrdered (m : Machine) : Type 0 where
   pub parents : EachAfterParent 0 (parents_of m.devices)
   pub links : AreLinks (parents_of m.devices) (reverse m.links)
+  pub scripts : AreScripts m m.actors
 
 -- where nobody is enabled and no time is pending no attempt is open (system_transition_mutex)
 abbrev pub RestsClosed : Machine → List Entry → Type 0

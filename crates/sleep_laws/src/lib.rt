@@ -4,6 +4,7 @@
 mod ends;
 mod guarded;
 mod laws;
+mod links;
 
 pub use ends::{attempts_end_closed, attempts_rest_closed};
 pub use guarded::guarded_sleep;
@@ -12,3 +13,4 @@ pub use laws::{
     enters_only_with_all_down, found_tests_are_true, restored, steps_once_and_in_order,
     suppliers_first, undisturbed_attempts_enter, undo_only_what_is_owed,
 };
+pub use links::{links_stay_through_attempts, order_keeps_dependents_behind};

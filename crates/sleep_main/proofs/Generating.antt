@@ -20,7 +20,7 @@ use Rattle.sleep_main.specs.Endings.{Stream, Streams, Ended, EndsAs, GenEnded, I
 
 -- the links of a machine that a file may spell
 pub can_stand : (m : Machine) → IsAccepted m → CanStand (parents_of m.devices) m.links
-can_stand m a = record { few = a.few_links; linked = a.links }
+can_stand m a = record { few = omega (arith, a.few_links); linked = a.links }
 
 -- calls of sixteen places fill no source
 pub fills_none : (m : Machine) (s : ℕ) → ((s : ℕ) → places m s ≤ 16) → IsFull m s → ⊥

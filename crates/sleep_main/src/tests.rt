@@ -1,5 +1,5 @@
 use crate::rows::{
-    attempts, broken, devices, diamonds, events, failures, freezer, generated, laptop, many,
+    attempts, broken, devices, diamonds, events, failures, freezer, generated, laptop, links, many,
     sources, sysfs,
 };
 use crate::top::run_words;
@@ -131,6 +131,12 @@ fn failures_turn_back(rt: HostRuntime) -> Result<(), Fail> {
 #[test]
 fn devices_keep_their_order(rt: HostRuntime) -> Result<(), Fail> {
     expect_each(&rt, rt.alloc(), &devices::MACHINES)
+}
+
+/// Links that are dormant, and links that tasks add or set: between attempts alone.
+#[test]
+fn links_change_between_attempts(rt: HostRuntime) -> Result<(), Fail> {
+    expect_each(&rt, rt.alloc(), &links::MACHINES)
 }
 
 /// Tasks that freeze, and that do not in time; waits that the freezer interrupts, and waits without an end.

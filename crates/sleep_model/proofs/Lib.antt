@@ -1,4 +1,5 @@
 pub mod Acyclic
+pub mod Changing
 pub mod Children
 pub mod FirstPlaces
 pub mod Hanging

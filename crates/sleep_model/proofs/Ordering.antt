@@ -1,11 +1,12 @@
 -- The order of devices has each device once.
-use Rattle.std.proofs.Common.{◌≡◌, ◌∙◌, ℕ, Bool, true, false, not, ◌==◌, ◌||◌, List, [], ◌∷◌, ◌++◌, length, reverse, filter, refl, sym, ap, cond, Option, arith}
+use Rattle.std.proofs.Common.{◌≡◌, ◌∙◌, ℕ, Bool, true, false, not, ◌==◌, ◌||◌, List, [], ◌∷◌, ◌++◌, length, filter, refl, sym, ap, cond, Option, arith}
 use Rattle.std.proofs.lemmas.Bool.{true≢false}
 use Rattle.std.proofs.Math.Bool.{or-true}
 use Rattle.std.proofs.lemmas.Bool.Decides.{nat_tests}
+use Rattle.sleep_model.specs.declared.entry.Entry.{Entry}
 use Rattle.sleep_model.specs.declared.machine.Machine.{Machine}
 use Rattle.sleep_model.specs.declared.machine.Link.{Link}
-use Rattle.sleep_model.specs.Order.{is_among, parents_of, hanging, last_places, moved, order_by, order}
+use Rattle.sleep_model.specs.Order.{is_among, parents_of, hanging, last_places, moved, order_by, order, links_at}
 use Rattle.sleep_model.proofs.Walks.{AllDifferent, same_eq, run_different}
 
 -- what is not in a list is not in a part of it
@@ -82,5 +83,5 @@ order_by_different ds (l ∷ ls) =
     apart ms d false e m = last_among ms d e
 
 -- the devices of the order are different
-pub order_different : (m : Machine) → AllDifferent (order m)
-order_different m = order_by_different (parents_of m.devices) (reverse m.links)
+pub order_different : (m : Machine) (past : List Entry) → AllDifferent (order m past)
+order_different m past = order_by_different (parents_of m.devices) (links_at m past)

@@ -15,7 +15,7 @@ use Rattle.phase_table.specs.declared.phase.Phase.TheVariants as phase
 use Rattle.sleep_model.specs.Answers.{errno_with, errors}
 use Rattle.sleep_model.specs.Links.{AreLinks}
 use Rattle.sleep_model.specs.Order.{EachAfterParent, parents_of}
-use Rattle.sleep_model.specs.Places.{all_operations, most_attempts}
+use Rattle.sleep_model.specs.Places.{all_operations, link_steps, most_attempts}
 
 -- ---- numbers that name things
 
@@ -29,6 +29,8 @@ IsOp m (op.SleepD ms) = ms ≤ 86400000
 IsOp m (op.Post mark) = mark < length m.marks
 IsOp m (op.Wait mark) = mark < length m.marks
 IsOp m (op.Runtime d to_suspended) = d < length m.devices
+IsOp m (op.Link supplier consumer) = (supplier < length m.devices) × (consumer < length m.devices)
+IsOp m (op.LinkState supplier consumer active) = (supplier < length m.devices) × (consumer < length m.devices)
 IsOp m (op.Awake s) = s < length m.sources
 IsOp m (op.Relax s) = s < length m.sources
 IsOp m (op.Event s ms hard) = (s < length m.sources) × (ms ≤ 86400000)
@@ -92,7 +94,7 @@ pub record IsAccepted (m : Machine) : Type 0 where
   pub cycles_most : m.auto_cycles ≤ 1000
   pub devices : length m.devices ≤ 1000
   pub parents : EachAfterParent 0 (parents_of m.devices)
-  pub few_links : length m.links ≤ 4000
+  pub few_links : length m.links + link_steps m.actors ≤ 4000
   pub links : AreLinks (parents_of m.devices) (reverse m.links)
   pub syscore : length m.syscore ≤ 32
   pub notifiers : length m.notifiers ≤ 32

@@ -134,7 +134,7 @@ stand_in m past p d = stand_at (stands (length m.devices) p past) d
 abbrev pub is_direct_now : Machine → List Entry → ℕ → Bool
 is_direct_now m past d =
     is_so (willing (length m.devices) past) d && is_so (statuses m.devices past) d && not (may_wake_device m d)
-    && list_all (λ e. is_left_alone (stand_in m past phase.Suspend e)) (below m d)
+    && list_all (λ e. is_left_alone (stand_in m past phase.Suspend e)) (below m past d)
 
 -- phase p leaves d alone: suspend by what is so now, late and noirq where suspend did (__device_suspend, __device_suspend_late, direct_complete)
 abbrev pub is_direct : Machine → List Entry → Phase → ℕ → Bool
@@ -156,15 +156,15 @@ after_device (Some d) next = Waits (why.Device d)
 
 -- the first device below d that is not through with phase p (dpm_wait_for_subordinate)
 abbrev pub waits_below : Machine → List Entry → Phase → ℕ → Option ℕ
-waits_below m past p d = first_where (λ e. is_unsettled (stand_in m past p e)) (below m d)
+waits_below m past p d = first_where (λ e. is_unsettled (stand_in m past p e)) (below m past d)
 
 -- the first device that is given out and not through with phase p (async_synchronize_full)
 abbrev pub waits_down : Machine → List Entry → Phase → Option ℕ
-waits_down m past p = first_where (λ d. is_going_down (stand_in m past p d)) (order m)
+waits_down m past p = first_where (λ d. is_going_down (stand_in m past p d)) (order m past)
 
 -- the device that the walk down takes next: the last that the phase has not taken (dpm_suspend)
 abbrev pub next_down : Machine → List Entry → Phase → Option ℕ
-next_down m past p = last_where (λ d. is_ready (stand_in m past p d)) (order m)
+next_down m past p = last_where (λ d. is_ready (stand_in m past p d)) (order m past)
 
 -- the walk down at that device: an asynchronous one is scheduled, another waits for all below it (__device_suspend, dpm_async_fn)
 abbrev pub take_down : Machine → List Entry → EventNow → Phase → ℕ → Due
@@ -195,19 +195,19 @@ unless_failed (Some r) p d next = kind.Skip p d skip.Error
 
 -- the first device above d that is not yet up (dpm_wait_for_superior)
 abbrev pub waits_above : Machine → List Entry → Phase → ℕ → Option ℕ
-waits_above m past p d = first_where (λ e. is_low (stand_in m past p e)) (above m d)
+waits_above m past p d = first_where (λ e. is_low (stand_in m past p e)) (above m past d)
 
 -- the first asynchronous device that is down and not yet given out (dpm_resume, dpm_async_fn)
 abbrev pub next_given : Machine → List Entry → Phase → Option ℕ
-next_given m past p = first_where (λ d. is_down_in (stand_in m past p d) && is_async_device m d) (order m)
+next_given m past p = first_where (λ d. is_down_in (stand_in m past p d) && is_async_device m d) (order m past)
 
 -- the first synchronous device that is down (dpm_resume)
 abbrev pub next_up : Machine → List Entry → Phase → Option ℕ
-next_up m past p = first_where (λ d. is_down_in (stand_in m past p d) && not (is_async_device m d)) (order m)
+next_up m past p = first_where (λ d. is_down_in (stand_in m past p d) && not (is_async_device m d)) (order m past)
 
 -- the first device that is not yet up (async_synchronize_full)
 abbrev pub waits_up : Machine → List Entry → Phase → Option ℕ
-waits_up m past p = first_where (λ d. is_low (stand_in m past p d)) (order m)
+waits_up m past p = first_where (λ d. is_low (stand_in m past p d)) (order m past)
 
 -- the walk up between callbacks: first it schedules, then each synchronous device waits for all above it (dpm_resume)
 abbrev pub walk_up : Machine → List Entry → Phase → Option ℕ → Option ℕ → Due
@@ -224,7 +224,7 @@ up_due m past p None = walk_up m past p (next_given m past (mirror p)) (next_up 
 
 -- the device that is prepared next (dpm_prepare)
 abbrev pub next_prepared : Machine → List Entry → Option ℕ
-next_prepared m past = first_where (λ d. is_unprepared (stand_in m past phase.Suspend d)) (order m)
+next_prepared m past = first_where (λ d. is_unprepared (stand_in m past phase.Suspend d)) (order m past)
 
 -- prepare goes forward, and an error ends it (dpm_prepare)
 abbrev pub prepare_due : Machine → List Entry → Option Errno → Option ℕ → Due
@@ -234,7 +234,7 @@ prepare_due m past error next = Makes (kind.Done phase.Prepare error)
 
 -- the device that is completed next (dpm_complete)
 abbrev pub next_completed : Machine → List Entry → Option ℕ
-next_completed m past = last_where (λ d. is_prepared (stand_in m past phase.Suspend d)) (order m)
+next_completed m past = last_where (λ d. is_prepared (stand_in m past phase.Suspend d)) (order m past)
 
 -- complete goes backward over the prepared devices (dpm_complete)
 abbrev pub complete_due : Option ℕ → Due

@@ -53,6 +53,10 @@ fits_kind m (kind.SleepD until) = is_word64 until
 fits_kind m (kind.Post mark) = nat_lt mark (length m.marks)
 fits_kind m (kind.Got mark) = nat_lt mark (length m.marks)
 fits_kind m (kind.RuntimeAsk d to_suspended r) = nat_lt d (length m.devices)
+fits_kind m (kind.LinkAdd supplier consumer r) =
+    nat_lt supplier (length m.devices) && nat_lt consumer (length m.devices)
+fits_kind m (kind.LinkState supplier consumer active r) =
+    nat_lt supplier (length m.devices) && nat_lt consumer (length m.devices)
 fits_kind m (kind.AutoSaved c) = is_word32 c
 fits_kind m (kind.AutoUnsaved c) = is_word32 c
 fits_kind m (kind.AutoAfter c) = is_word32_if c

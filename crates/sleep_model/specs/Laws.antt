@@ -46,13 +46,13 @@ use Rattle.sleep_model.specs.Stands.{stands, is_prepared, is_down_in, is_left_al
 -- a device begins to go down only where all below it are down in that phase, or were left alone (dpm_wait_for_subordinate)
 abbrev pub DependentsFirst : Machine → List Entry → Kind → Type 0
 DependentsFirst m past (kind.Begin p d) =
-    is_down p ≡ true → list_all (λ e. is_settled_well (stand_in m past p e)) (below m d) ≡ true
+    is_down p ≡ true → list_all (λ e. is_settled_well (stand_in m past p e)) (below m past d) ≡ true
 DependentsFirst m past _ = Unit {0}
 
 -- a device begins to come up only where none above it is still down in that phase, or inside a callback (dpm_wait_for_superior)
 abbrev pub SuppliersFirst : Machine → List Entry → Kind → Type 0
 SuppliersFirst m past (kind.Begin p d) =
-    is_up p ≡ true → list_all (λ e. not (is_low (stand_in m past (mirror p) e))) (above m d) ≡ true
+    is_up p ≡ true → list_all (λ e. not (is_low (stand_in m past (mirror p) e))) (above m past d) ≡ true
 SuppliersFirst m past _ = Unit {0}
 
 -- ---- what is owed
@@ -113,7 +113,7 @@ is_asleep m past d = is_down_in (stand_in m past phase.Noirq d) || is_left_alone
 
 -- all is down that sleep wants down (suspend_enter)
 pub record AllDown (m : Machine) (past : List Entry) : Type 0 where
-  pub devices : list_all (is_asleep m past) (order m) ≡ true
+  pub devices : list_all (is_asleep m past) (order m past) ≡ true
   pub user_tasks : left m group.User past ≡ []
   pub kernel_tasks : left m group.Kernel past ≡ []
   pub cpus : list_all (is_so (cpus_off m.cpus past)) (other_cpus m) ≡ true
@@ -288,6 +288,16 @@ abbrev pub is_runtime_of : ℕ → Kind → Bool
 is_runtime_of d (kind.RuntimeAsk e to_suspended r) = e == d
 is_runtime_of d _ = false
 
+-- a new link between those two
+abbrev pub is_link_add_of : ℕ → ℕ → Kind → Bool
+is_link_add_of supplier consumer (kind.LinkAdd s c r) = s == supplier && c == consumer
+is_link_add_of supplier consumer _ = false
+
+-- a state of the link between those two
+abbrev pub is_link_state_of : ℕ → ℕ → Kind → Bool
+is_link_state_of supplier consumer (kind.LinkState s c active r) = s == supplier && c == consumer
+is_link_state_of supplier consumer _ = false
+
 -- an exit
 abbrev pub is_exit : Kind → Bool
 is_exit kind.Exit = true
@@ -306,6 +316,8 @@ is_of_op (Some op.FreezePoint) k = is_pass k
 is_of_op (Some (op.Post mark)) k = is_post_of mark k
 is_of_op (Some (op.Wait mark)) k = is_got_of mark k
 is_of_op (Some (op.Runtime d to_suspended)) k = is_runtime_of d k
+is_of_op (Some (op.Link supplier consumer)) k = is_link_add_of supplier consumer k
+is_of_op (Some (op.LinkState supplier consumer active)) k = is_link_state_of supplier consumer k
 is_of_op (Some _) k = false
 
 -- that a task freezes, which it may do between entries of its operations

@@ -1,7 +1,12 @@
 -- Links that are added in turn, paths below, and orders that keep to both (drivers/base/core.c, device_link_add).
-use Rattle.std.specs.Prelude.{◌≡◌, ◌<◌, ℕ, Bool, true, false, not, ◌==◌, ◌&&◌, ◌||◌, List, [], ◌∷◌, length, filter, Option}
+use Rattle.std.specs.Prelude.{◌≡◌, ◌<◌, ℕ, Bool, true, false, not, ◌==◌, ◌||◌, List, [], ◌∷◌, length, filter, Option, Some, None, is_some, if◌then◌else◌}
+use Rattle.sleep_base.specs.declared.errno.Errno.{Errno}
+use Rattle.sleep_base.specs.declared.errno.Errno.TheVariants.{EBUSY, ENODEV, EINVAL}
+use Rattle.sleep_model.specs.declared.entry.Entry.{Entry}
 use Rattle.sleep_model.specs.declared.machine.Link.{Link}
-use Rattle.sleep_model.specs.Order.{is_among, hanging, moved}
+use Rattle.sleep_model.specs.declared.machine.Machine.{Machine}
+use Rattle.sleep_model.specs.Order.{is_among, parents_of, is_link, links_at, hanging, moved}
+use Rattle.sleep_model.specs.Path.{maker}
 
 -- each of the devices is among those
 abbrev pub AllAmong : List ℕ → List ℕ → Type 0
@@ -31,13 +36,38 @@ IsPath hang (x ∷ xs) from to = (x ≡ from) × LeadsTo hang x xs to
 -- the link stands among these
 abbrev pub is_linked : List Link → ℕ → ℕ → Bool
 is_linked [] supplier consumer = false
-is_linked (l ∷ ls) supplier consumer =
-    ((l.supplier == supplier) && (l.consumer == consumer)) || is_linked ls supplier consumer
+is_linked (l ∷ ls) supplier consumer = is_link supplier consumer l || is_linked ls supplier consumer
+
+-- the supplier is the consumer or hangs below it, by children and all links (device_is_dependent)
+abbrev pub is_dependent : List (Option ℕ) → List Link → ℕ → ℕ → Bool
+is_dependent parents links consumer supplier =
+    is_among (moved (length parents) (hanging parents links) consumer) supplier
 
 -- links, the newest first, as they may be added in turn: between registered devices, none twice, and none whose supplier hangs below its consumer (device_link_add)
 abbrev pub AreLinks : List (Option ℕ) → List Link → Type 0
 AreLinks parents [] = Unit {0}
 AreLinks parents (l ∷ earlier) =
     (l.supplier < length parents) × (l.consumer < length parents) × (is_linked earlier l.supplier l.consumer ≡ false)
-    × (is_among (moved (length parents) (hanging parents earlier) l.consumer) l.supplier ≡ false)
-    × AreLinks parents earlier
+    × (is_dependent parents earlier l.consumer l.supplier ≡ false) × AreLinks parents earlier
+
+-- ---- what a task that changes links is answered
+
+-- a link is refused while an attempt is open, else where it stands already or would close a cycle (device_link_add; EBUSY is own)
+abbrev pub add_answer : Bool → Bool → Bool → Option Errno
+add_answer underway linked dependent =
+    if underway then Some EBUSY else if linked || dependent then Some EINVAL else None
+
+-- what is answered at a place where a link is to be added (device_link_add)
+abbrev pub link_add_due : Machine → List Entry → ℕ → ℕ → Option Errno
+link_add_due m past supplier consumer =
+    add_answer (is_some (maker past)) (is_linked (links_at m past) supplier consumer)
+    (is_dependent (parents_of m.devices) (links_at m past) consumer supplier)
+
+-- a link's state is refused while an attempt is open, else where that link does not stand (device_links_driver_bound; the errors are own)
+abbrev pub state_answer : Bool → Bool → Option Errno
+state_answer underway linked = if underway then Some EBUSY else if linked then None else Some ENODEV
+
+-- what is answered at a place where a link's state is to be set (device_links_driver_bound)
+abbrev pub link_state_due : Machine → List Entry → ℕ → ℕ → Option Errno
+link_state_due m past supplier consumer =
+    state_answer (is_some (maker past)) (is_linked (links_at m past) supplier consumer)

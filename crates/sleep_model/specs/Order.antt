@@ -1,6 +1,10 @@
--- The order of devices, and which must go first (drivers/base/power/main.c, dpm_list; drivers/base/core.c, device_link_add).
-use Rattle.std.specs.Prelude.{◌<◌, ℕ, zero, suc, Bool, false, not, ◌==◌, ◌||◌, List, [], ◌∷◌, ◌++◌, length, map, reverse, filter, flat_map, if◌then◌else◌, Option, Some, None, IfSome, option_to_list, slice_get}
+-- The order of devices at a place, and which must go first (drivers/base/power/main.c, dpm_list; drivers/base/core.c, device_link_add).
+use Rattle.std.specs.Prelude.{◌<◌, ℕ, zero, suc, Bool, true, false, not, ◌==◌, ◌&&◌, ◌||◌, List, [], ◌∷◌, ◌++◌, length, map, reverse, filter, flat_map, if◌then◌else◌, Option, Some, None, IfSome, option_to_list, slice_get}
 use Rattle.std.specs.List.{range_with_len}
+use Rattle.sleep_base.specs.declared.errno.Errno.{Errno}
+use Rattle.sleep_model.specs.declared.entry.Entry.{Entry}
+use Rattle.sleep_model.specs.declared.entry.Kind.{Kind}
+use Rattle.sleep_model.specs.declared.entry.Kind.TheVariants as kind
 use Rattle.sleep_model.specs.declared.machine.Machine.{Machine}
 use Rattle.sleep_model.specs.declared.machine.Device.{Device}
 use Rattle.sleep_model.specs.declared.machine.Link.{Link}
@@ -9,6 +13,41 @@ use Rattle.sleep_model.specs.declared.machine.Link.{Link}
 abbrev pub is_among : List ℕ → ℕ → Bool
 is_among [] d = false
 is_among (x ∷ xs) d = (x == d) || is_among xs d
+
+-- ---- links
+
+-- a link between these two (device_link_add)
+abbrev pub is_link : ℕ → ℕ → Link → Bool
+is_link supplier consumer l = (l.supplier == supplier) && (l.consumer == consumer)
+
+-- a link, which that state is set for where it is between these two (struct device_link, status)
+abbrev pub with_state : ℕ → ℕ → Bool → Link → Link
+with_state supplier consumer active l = if is_link supplier consumer l then record l { active = active } else l
+
+-- links, the newest first, after one is asked for and answered so: 0 adds it, active (device_link_add)
+abbrev pub links_added : ℕ → ℕ → Option Errno → List Link → List Link
+links_added supplier consumer None before = record { supplier = supplier; consumer = consumer; active = true } ∷ before
+links_added supplier consumer (Some r) before = before
+
+-- links after a state is asked for and answered so: 0 sets it (device_links_driver_bound)
+abbrev pub links_set : ℕ → ℕ → Bool → Option Errno → List Link → List Link
+links_set supplier consumer active None before = map (with_state supplier consumer active) before
+links_set supplier consumer active (Some r) before = before
+
+-- links after an entry
+abbrev pub links_after : Kind → List Link → List Link
+links_after (kind.LinkAdd supplier consumer r) before = links_added supplier consumer r before
+links_after (kind.LinkState supplier consumer active r) before = links_set supplier consumer active r before
+links_after _ before = before
+
+-- the links, the newest first: the file's, then those that were added (struct device_link)
+abbrev pub links_at : Machine → List Entry → List Link
+links_at m [] = reverse m.links
+links_at m (e ∷ past) = links_after e.kind (links_at m past)
+
+-- the links that are not dormant (DL_STATE_ACTIVE)
+abbrev pub active_of : List Link → List Link
+active_of links = filter (λ l. l.active) links
 
 -- ---- who must go first
 
@@ -45,9 +84,9 @@ suppliers_of d (l ∷ earlier) = suppliers_of d earlier ++ (if l.consumer == d t
 abbrev pub hanging : List (Option ℕ) → List Link → ℕ → List ℕ
 hanging parents links d = children_from d 0 parents ++ consumers_of d links
 
--- the devices that must sleep before d does (dpm_wait_for_subordinate)
-abbrev pub below : Machine → ℕ → List ℕ
-below m d = hanging (parents_of m.devices) (reverse m.links) d
+-- the devices that must sleep before d does, by the links that are active (dpm_wait_for_subordinate)
+abbrev pub below : Machine → List Entry → ℕ → List ℕ
+below m past d = hanging (parents_of m.devices) (active_of (links_at m past)) d
 
 -- the parent at a place of the list, if there is one (struct device, parent)
 abbrev pub parent_of : Option (Option ℕ) → List ℕ
@@ -58,9 +97,9 @@ parent_of (Some p) = option_to_list p
 abbrev pub holding : List (Option ℕ) → List Link → ℕ → List ℕ
 holding parents links d = parent_of (slice_get parents d) ++ suppliers_of d links
 
--- the devices that must be awake before d is: its parent, and its suppliers (dpm_wait_for_superior)
-abbrev pub above : Machine → ℕ → List ℕ
-above m d = holding (parents_of m.devices) (reverse m.links) d
+-- the devices that must be awake before d is: its parent, and its suppliers by the links that are active (dpm_wait_for_superior)
+abbrev pub above : Machine → List Entry → ℕ → List ℕ
+above m past d = holding (parents_of m.devices) (active_of (links_at m past)) d
 
 -- ---- the order
 
@@ -84,6 +123,6 @@ order_by parents [] = range_with_len 0 (length parents)
 order_by parents (l ∷ earlier) =
     moved_last (moved (length parents) (hanging parents (l ∷ earlier)) l.consumer) (order_by parents earlier)
 
--- the devices in the order of their registration, moved by the links in turn (dpm_list)
-abbrev pub order : Machine → List ℕ
-order m = order_by (parents_of m.devices) (reverse m.links)
+-- the devices in the order of their registration, moved by the links in turn, dormant ones too (dpm_list)
+abbrev pub order : Machine → List Entry → List ℕ
+order m past = order_by (parents_of m.devices) (links_at m past)

@@ -3,7 +3,7 @@ use Rattle.std.specs.Prelude.{ℕ, zero, suc, ◌+◌, ◌*◌, Bool, true, fals
 use Rattle.sleep_model.specs.declared.machine.Answer.{Answer}
 use Rattle.sleep_model.specs.declared.machine.Machine.{Machine}
 use Rattle.sleep_model.specs.declared.machine.Op.{Op}
-use Rattle.sleep_model.specs.declared.machine.Op.TheVariants.{State, Autosleep, Awake, Relax, Event}
+use Rattle.sleep_model.specs.declared.machine.Op.TheVariants.{State, Autosleep, Link, Awake, Relax, Event}
 use Rattle.sleep_model.specs.declared.machine.Script.{Script}
 use Rattle.sleep_model.specs.declared.machine.SourceCall.{SourceCall}
 use Rattle.sleep_model.specs.declared.machine.SourceCall.TheVariants as call
@@ -47,6 +47,15 @@ is_state _ = false
 abbrev pub is_autosleep : Op → Bool
 is_autosleep (Autosleep text) = true
 is_autosleep _ = false
+
+-- a step that adds a link (device_link_add)
+abbrev pub is_link_step : Op → Bool
+is_link_step (Link supplier consumer) = true
+is_link_step _ = false
+
+-- how many links the scripts may add (own)
+abbrev pub link_steps : List Script → ℕ
+link_steps scripts = count_by is_link_step (all_operations scripts)
 
 -- how many attempts may be begun: one a write to the state, and one a run of the autosleep work where autosleep is written (own)
 abbrev pub most_attempts : Machine → ℕ

@@ -41,6 +41,8 @@ seat_part kind.Pass = Steps
 seat_part (kind.Post mark) = Steps
 seat_part (kind.Got mark) = Steps
 seat_part (kind.RuntimeAsk device to_suspended r) = Steps
+seat_part (kind.LinkAdd supplier consumer r) = Steps
+seat_part (kind.LinkState supplier consumer active r) = Steps
 seat_part kind.Exit = Exits
 seat_part _ = Stays
 

@@ -20,6 +20,7 @@ use Rattle.sleep_model.specs.declared.place.Due.TheVariants.{Makes, Waits, Gone}
 use Rattle.sleep_model.specs.Word.{visible}
 use Rattle.sleep_model.specs.Numbers.{time_of}
 use Rattle.sleep_model.specs.Guard.{in_force}
+use Rattle.sleep_model.specs.Links.{link_add_due, link_state_due}
 use Rattle.sleep_model.specs.Lock.{holder, is_on}
 use Rattle.sleep_model.specs.Marks.{mark_at, raised}
 use Rattle.sleep_model.specs.Runtime.{runtime_due}
@@ -102,6 +103,10 @@ step_due m past now seat asked (Some (op.Post mark)) = Makes (kind.Post mark)
 step_due m past now seat asked (Some (op.Wait mark)) = mark_due mark (mark_at (raised (length m.marks) past) mark)
 step_due m past now seat asked (Some (op.Runtime d to_suspended)) =
     Makes (kind.RuntimeAsk d to_suspended (runtime_due m d to_suspended past))
+step_due m past now seat asked (Some (op.Link supplier consumer)) =
+    Makes (kind.LinkAdd supplier consumer (link_add_due m past supplier consumer))
+step_due m past now seat asked (Some (op.LinkState supplier consumer active)) =
+    Makes (kind.LinkState supplier consumer active (link_state_due m past supplier consumer))
 step_due m past now seat asked (Some _) = Gone
 
 -- a frozen task waits, and so does a task while the machine sleeps; one that is asked to freeze does so where it may (try_to_freeze)

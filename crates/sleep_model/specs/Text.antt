@@ -141,6 +141,11 @@ abbrev pub runtime_word : Bool → List ℕ
 runtime_word true = codes "suspended"
 runtime_word false = codes "active"
 
+-- the state of a link
+abbrev pub link_word : Bool → List ℕ
+link_word true = codes "active"
+link_word false = codes "dormant"
+
 -- whether an event is hard
 abbrev pub hard_word : Bool → List ℕ
 hard_word true = codes "hard"
@@ -256,6 +261,11 @@ step_body m (kind.Got x) = codes "got " ++ mark m x
 step_body m kind.Exit = codes "exit"
 step_body m (kind.RuntimeAsk d to r) =
     codes "runtime " ++ device m d ++ space ++ runtime_word to ++ space ++ answer_text r
+step_body m (kind.LinkAdd supplier consumer r) =
+    codes "link " ++ device m supplier ++ space ++ device m consumer ++ space ++ answer_text r
+step_body m (kind.LinkState supplier consumer active r) =
+    codes "link_state " ++ device m supplier ++ space ++ device m consumer ++ space ++ link_word active ++ space
+    ++ answer_text r
 step_body m k = auto_body m k
 
 -- what an entry says

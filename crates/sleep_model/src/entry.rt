@@ -82,6 +82,17 @@ pub enum Kind {
         to_suspended: bool,
         r: Option<Errno>,
     },
+    LinkAdd {
+        supplier: u32,
+        consumer: u32,
+        r: Option<Errno>,
+    },
+    LinkState {
+        supplier: u32,
+        consumer: u32,
+        active: bool,
+        r: Option<Errno>,
+    },
     AutoRun,
     AutoSaved(u32),
     AutoUnsaved(u32),

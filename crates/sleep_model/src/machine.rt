@@ -41,6 +41,9 @@ pub struct Device {
 pub struct Link {
     pub supplier: u32,
     pub consumer: u32,
+    /// Else it is dormant: neither waits for the other, and the order of devices keeps it
+    /// (`DL_STATE_ACTIVE`, `DL_STATE_DORMANT`).
+    pub active: bool,
 }
 
 /// A notifier of sleep (`kernel/power/main.c`, `pm_notifier_call_chain_robust`).
@@ -83,22 +86,59 @@ pub enum Op {
     /// Reads `/sys/power/wakeup_count`.
     Read,
     /// Writes `/sys/power/wakeup_count`: the given number, else the one that this task last read, else 0.
-    Save { count: Option<u32> },
+    Save {
+        count: Option<u32>,
+    },
     /// Writes `/sys/power/state`; with `if_saved` only where this task's last save was ok.
-    State { text: Text, if_saved: bool },
+    State {
+        text: Text,
+        if_saved: bool,
+    },
     /// Writes `/sys/power/autosleep`.
-    Autosleep { text: Text },
+    Autosleep {
+        text: Text,
+    },
     /// Sleeps so that it can be frozen meanwhile.
-    Sleep { ms: u32 },
+    Sleep {
+        ms: u32,
+    },
     /// Sleeps uninterruptibly.
-    SleepD { ms: u32 },
+    SleepD {
+        ms: u32,
+    },
     FreezePoint,
-    Post { mark: u32 },
-    Wait { mark: u32 },
-    Runtime { device: u32, to_suspended: bool },
-    Awake { source: u32 },
-    Relax { source: u32 },
-    Event { source: u32, ms: u32, hard: bool },
+    Post {
+        mark: u32,
+    },
+    Wait {
+        mark: u32,
+    },
+    Runtime {
+        device: u32,
+        to_suspended: bool,
+    },
+    /// Adds a device link, which is active (`drivers/base/core.c`, `device_link_add`).
+    Link {
+        supplier: u32,
+        consumer: u32,
+    },
+    /// Makes a device link active or dormant (`drivers/base/core.c`, `device_links_driver_bound`).
+    LinkState {
+        supplier: u32,
+        consumer: u32,
+        active: bool,
+    },
+    Awake {
+        source: u32,
+    },
+    Relax {
+        source: u32,
+    },
+    Event {
+        source: u32,
+        ms: u32,
+        hard: bool,
+    },
 }
 
 /// A call on a wakeup source (`drivers/base/power/wakeup.c`).

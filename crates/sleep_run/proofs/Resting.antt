@@ -50,7 +50,7 @@ try_then first second third false false h g = g ∙ h
 
 -- where nobody goes on and no moment is pending no attempt is open
 pub closes : (m : Machine) → IsAccepted m → (past : List Entry) → IsLegal m past → next_time m (journal past) (λ s. history s past) ≡ None → is_resting m past ≡ true → maker (journal past) ≡ None
-closes m acc past legal none rests = rests_closed m (record { parents = acc.parents; links = acc.links }) past legal rests none
+closes m acc past legal none rests = rests_closed m (record { parents = acc.parents; links = acc.links; scripts = acc.scripts }) past legal rests none
 
 gone_false : (a : Bool) (o : Option Actor) → (a && is_none o) ≡ false → o ≡ None → a ≡ false
 gone_false true None h e = h

@@ -11,7 +11,7 @@ use Rattle.sleep_model.specs.declared.machine.Step.{Step}
 use Rattle.sleep_model.specs.Accepted.{IsAccepted, AreScripts, AreSteps}
 use Rattle.sleep_model.specs.Links.{AreLinks, is_linked}
 use Rattle.sleep_model.specs.Order.{EachAfterParent, parents_of}
-use Rattle.sleep_model.specs.Places.{places, op_places, all_operations, most_attempts}
+use Rattle.sleep_model.specs.Places.{places, op_places, all_operations, link_steps, most_attempts}
 use Rattle.sleep_script.specs.Generated.{drawn, draw, drawn_parent, drawn_device, drawn_links, sleeper, drawn_event, behind_links, generated}
 use Rattle.sleep_script.proofs.Rising.{AreRising, not_below}
 
@@ -65,13 +65,13 @@ module _ (ps : List (Option ℕ)) (after : EachAfterParent 0 ps) where
     pub rising : AreRising (reverse ls)
 
   one_more : (u v : ℕ) (ls : List Link) → u < length ps → v < length ps → Stand ls → (b : Bool) → (nat_lt u v && not (list_any (λ (l : Link). l.supplier == u && l.consumer == v) ls)) ≡ b
-      → Stand (cond b (ls ++ record { supplier = u; consumer = v } ∷ []) ls)
+      → Stand (cond b (ls ++ record { supplier = u; consumer = v; active = true } ∷ []) ls)
   one_more u v ls hu hv s false e = s
   one_more u v ls hu hv s true e =
       let both = and_parts (nat_lt u v) (not (list_any (λ (l : Link). l.supplier == u && l.consumer == v) ls)) e in
       let up : u < v = ltb-true u v both.0 in
       let apart : is_linked (reverse ls) u v ≡ false = linked_any u v (reverse ls) ∙ (any_reverse (λ (l : Link). l.supplier == u && l.consumer == v) ls ∙ not-true _ both.1) in
-      let back : reverse (ls ++ record { supplier = u; consumer = v } ∷ []) ≡ record { supplier = u; consumer = v } ∷ reverse ls = reverse-append ls (record { supplier = u; consumer = v } ∷ []) in
+      let back : reverse (ls ++ record { supplier = u; consumer = v; active = true } ∷ []) ≡ record { supplier = u; consumer = v; active = true } ∷ reverse ls = reverse-append ls (record { supplier = u; consumer = v; active = true } ∷ []) in
       record {
         linked = subst (AreLinks ps) (sym back) (hu, hv, apart, not_below ps after (reverse ls) s.rising (length ps) u v up, s.linked);
         rising = subst AreRising (sym back) (up, s.rising);
@@ -122,6 +122,7 @@ accepted seed devices some few =
     let after = each_after seed 0 devices in
     let links = stand (map (drawn_parent seed) (range_with_len 0 devices)) after seed devices (length-map-range_with_len (drawn_parent seed) 0 devices) some (devices / 4) in
     let tries = few_links seed devices (devices / 4) in
+    let added : link_steps (generated seed devices).actors ≡ 0 = refl in
     let attempts : most_attempts (generated seed devices) ≡ 4 = refl in
     let steps : length (all_operations (generated seed devices).actors) ≡ 20 = refl in
     record {
@@ -132,7 +133,7 @@ accepted seed devices some few =
       cycles_most = omega arith;
       devices = omega (arith, count);
       parents = subst (EachAfterParent 0) (sym same) after;
-      few_links = omega (arith, tries);
+      few_links = omega (arith, tries, added);
       links = subst (λ (ps : List (Option ℕ)). AreLinks ps (reverse (generated seed devices).links)) (sym same) links.linked;
       syscore = omega arith;
       notifiers = omega arith;

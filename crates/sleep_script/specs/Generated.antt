@@ -30,7 +30,7 @@ drawn_device seed devices i = record { name = codes "d" ++ decimal i; parent = d
 -- a link from that supplier to that consumer, after these
 abbrev pub with_link : ℕ → ℕ → List Link → List Link
 with_link u v links =
-    if nat_lt u v && not (list_any (λ l. l.supplier == u && l.consumer == v) links) then links ++ record { supplier = u; consumer = v } ∷ [] else links
+    if nat_lt u v && not (list_any (λ l. l.supplier == u && l.consumer == v) links) then links ++ record { supplier = u; consumer = v; active = true } ∷ [] else links
 
 -- the links after n tries; each draws its supplier and its consumer, and gives one where the first is the smaller and they have none (own)
 abbrev pub drawn_links : ℕ → ℕ → ℕ → List Link

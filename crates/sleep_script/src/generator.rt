@@ -1,7 +1,7 @@
 //! Machines that are made of a seed.
 
-ghost use Rattle.std.specs.Prelude.{◌≡◌, ◌<◌, ◌≤◌, ◌+◌, ◌*◌, ◌/◌, ◌++◌, ℕ, IfOk, OnOk, codes, decimal, length, map, if◌then◌else◌};
-ghost use Rattle.std.specs.List.{range_with_len};
+ghost use Rattle.std.specs.Prelude.{◌≡◌, ◌==◌, ◌&&◌, ◌<◌, ◌≤◌, ◌+◌, ◌*◌, ◌/◌, ◌++◌, ℕ, IfOk, OnOk, codes, decimal, length, map, if◌then◌else◌};
+ghost use Rattle.std.specs.List.{list_any, range_with_len};
 ghost use Rattle.sleep_model.specs.Accepted.{IsAccepted};
 ghost use Rattle.sleep_model.specs.Places.{places};
 ghost use Rattle.sleep_script.specs.Generated.{drawn_parent, drawn_device, with_link, drawn_links, once, sleeper, drawn_event, line, behind_links, generated};
@@ -85,13 +85,23 @@ fn draw_devices(alloc: Global, draws: &mut Draws, count: u32) -> Result<Vec<Devi
     Ok(devices)
 }
 
-/// Puts a link from a lesser to a greater device behind the others, where it does not stand.
-fn add_link(links: &mut Vec<Link>, link: Link) -> Result<(), Mem>
-    ensures { OnOk result
-        (links.new.items ≡ with_link link.supplier link.consumer links.old.items) }
+// Whether a link of that supplier and that consumer is among these.
+fn is_linked(links: &[Link], supplier: u32, consumer: u32) -> bool
+    ensures { result ≡ list_any (λ l. l.supplier == supplier && l.consumer == consumer) links.now }
 {
-    if link.supplier < link.consumer && !links.contains(&link) {
-        links.push(link)?;
+    links.iter().any(|link| link.supplier == supplier && link.consumer == consumer)
+}
+
+/// Puts a link from a lesser to a greater device behind the others, where it does not stand.
+fn add_link(links: &mut Vec<Link>, supplier: u32, consumer: u32) -> Result<(), Mem>
+    ensures { OnOk result (links.new.items ≡ with_link supplier consumer links.old.items) }
+{
+    if supplier < consumer && !is_linked(links, supplier, consumer) {
+        links.push(Link {
+            supplier,
+            consumer,
+            active: true,
+        })?;
     }
     Ok(())
 }
@@ -110,7 +120,7 @@ fn draw_links(alloc: Global, draws: &mut Draws, devices: u32) -> Result<Vec<Link
     for _ in 0..devices / 4 {
         let supplier = draws.draw(devices);
         let consumer = draws.draw(devices);
-        add_link(&mut links, Link { supplier, consumer })?;
+        add_link(&mut links, supplier, consumer)?;
     }
     Ok(links)
 }

@@ -127,10 +127,12 @@ fn twenty_devices_are_generated(rt: HostRuntime) -> Result<(), Fail> {
         Link {
             supplier: 3,
             consumer: 6,
+            active: true,
         },
         Link {
             supplier: 12,
             consumer: 19,
+            active: true,
         },
     ];
     assert_eq!(rt; machine.links.as_slice(), links.as_slice());

@@ -28,6 +28,8 @@ pub(crate) fn ends_turn(kind: Kind) -> bool
             | Kind::Post(_)
             | Kind::Got(_)
             | Kind::RuntimeAsk { .. }
+            | Kind::LinkAdd { .. }
+            | Kind::LinkState { .. }
     )
 }
 

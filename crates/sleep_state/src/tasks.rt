@@ -98,7 +98,9 @@ fn seat_after(kind: Kind, seat: Seat) -> Seat
         | Kind::Pass
         | Kind::Post(_)
         | Kind::Got(_)
-        | Kind::RuntimeAsk { .. } => next_step(seat),
+        | Kind::RuntimeAsk { .. }
+        | Kind::LinkAdd { .. }
+        | Kind::LinkState { .. } => next_step(seat),
         Kind::Exit => Seat {
             exited: true,
             ..seat

@@ -244,13 +244,13 @@ end_up _ InResumeNoirq d r t = refl
 module _ (m : Machine) (past : List Entry) where
   -- a device that a walk down takes is prepared
   next_stands : (p : Phase) (d : ℕ) → next_down m past p ≡ Some d → stand_in m past p d ≡ stand.Prepared
-  next_stands p d n = ready_is (stand_in m past p d) (last_found (λ y. is_ready (stand_in m past p y)) (order m) d n).passes
+  next_stands p d n = ready_is (stand_in m past p d) (last_found (λ y. is_ready (stand_in m past p y)) (order m past) d n).passes
 
   given_stands : (p : Phase) (d : ℕ) → next_given m past p ≡ Some d → stand_in m past p d ≡ stand.Suspended
-  given_stands p d n = down_is (stand_in m past p d) (and_parts (is_down_in (stand_in m past p d)) (is_async_device m d) (first_found (λ y. is_down_in (stand_in m past p y) && is_async_device m y) (order m) d n).passes).0
+  given_stands p d n = down_is (stand_in m past p d) (and_parts (is_down_in (stand_in m past p d)) (is_async_device m d) (first_found (λ y. is_down_in (stand_in m past p y) && is_async_device m y) (order m past) d n).passes).0
 
   up_stands : (p : Phase) (d : ℕ) → next_up m past p ≡ Some d → stand_in m past p d ≡ stand.Suspended
-  up_stands p d n = down_is (stand_in m past p d) (and_parts (is_down_in (stand_in m past p d)) (not (is_async_device m d)) (first_found (λ y. is_down_in (stand_in m past p y) && not (is_async_device m y)) (order m) d n).passes).0
+  up_stands p d n = down_is (stand_in m past p d) (and_parts (is_down_in (stand_in m past p d)) (not (is_async_device m d)) (first_found (λ y. is_down_in (stand_in m past p y) && not (is_async_device m y)) (order m past) d n).passes).0
 
   at_down : (p : Phase) (i : Down p) (d : ℕ) → at (three m past d) (board p) ≡ stand_in m past p d
   at_down p i d = at_board m past p (Goes p i) d ∙ ap (λ q. stand_in m past q d) (board_goes p i)
@@ -299,7 +299,7 @@ module _ (m : Machine) (past : List Entry) (time : ℕ) (now : EventNow) (who : 
   maker_fresh _ k (Made.Completes d n) l h = moves m past (by k) d refl (λ x b. refl) 24 24 (omega arith) (λ q j e. absurd (let high = (six_rank q j).1 in omega arith)) h
   maker_fresh _ k _ l h = λ p x i y. h p x i (still_less l y)
 
-  aside_fresh : (k : Kind) (st : Option Stage) → Aside k → Fresh m (rank_if st) past → Fresh m (rank_if (stage_after k st)) (by k ∷ past)
+  aside_fresh : (k : Kind) (st : Option Stage) → Aside st k → Fresh m (rank_if st) past → Fresh m (rank_if (stage_after k st)) (by k ∷ past)
   aside_fresh _ st Aside.Frozen h = h
   aside_fresh _ st _ h = h
 
@@ -368,7 +368,7 @@ device_once m past now d _ j (DeviceMade.OwnRises p u a w s n) h x b =
     begun_is x p d past b (h p d (Comes p u) (During (ap rank_if (risen_stage m past j p d u s)) (low_may m past p d u stand.Rescheduled s refl)))
 device_once m past now d _ j _ h x b = absurd (true≢false (sym b))
 
-aside_once : (k : Kind) → Aside k → (x : What) → begins x k ≡ false
+aside_once : (k : Kind) {s : Option Stage} → Aside s k → (x : What) → begins x k ≡ false
 aside_once _ Aside.Frozen x = refl
 aside_once _ _ x = refl
 

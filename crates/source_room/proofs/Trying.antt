@@ -202,7 +202,7 @@ no_attempt : (m : Machine) (past : List Entry) (now : EventNow) (there : Stage) 
 no_attempt m past now _ _ Made.Ends = refl
 no_attempt m past now _ _ _ = refl
 
-aside_attempt : (k : Kind) → Aside k → is_attempt k ≡ false
+aside_attempt : (k : Kind) {st : Option Stage} → Aside st k → is_attempt k ≡ false
 aside_attempt _ Aside.Frozen = refl
 aside_attempt _ _ = refl
 

@@ -8,6 +8,8 @@ pub mod Freezing
 pub mod Laptop
 pub mod LaptopDown
 pub mod LaptopUp
+pub mod LinkTexts
+pub mod Links
 pub mod Merging
 pub mod Rounds
 pub mod Terms

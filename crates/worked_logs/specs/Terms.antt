@@ -1,5 +1,5 @@
 -- Short words for the terms of machines and logs.
-use Rattle.std.specs.Prelude.{ℕ, List, [], ℤ, Option}
+use Rattle.std.specs.Prelude.{ℕ, true, false, List, [], ℤ, Option}
 use Rattle.sleep_model.specs.declared.entry.Actor.{Actor}
 use Rattle.sleep_model.specs.declared.entry.Entry.{Entry}
 use Rattle.sleep_model.specs.declared.entry.Kind.{Kind}
@@ -34,9 +34,13 @@ entry time now who kind = record { time = time; now = now; actor = who; kind = k
 abbrev pub device : List ℕ → Option ℕ → ℕ → Device
 device name parent flags = record { name = name; parent = parent; flags = record { 0 = flags } }
 
--- a link of that supplier and that consumer
+-- an active link of that supplier and that consumer
 abbrev pub link : ℕ → ℕ → Link
-link supplier consumer = record { supplier = supplier; consumer = consumer }
+link supplier consumer = record { supplier = supplier; consumer = consumer; active = true }
+
+-- a dormant link of that supplier and that consumer
+abbrev pub dormant : ℕ → ℕ → Link
+dormant supplier consumer = record { supplier = supplier; consumer = consumer; active = false }
 
 -- a notifier with that priority
 abbrev pub notifier : List ℕ → ℤ → Notifier

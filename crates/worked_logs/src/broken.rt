@@ -1,7 +1,7 @@
 //! Broken copies of whole worked logs: each breaks one rule, and no run may write it.
 
 ghost use Rattle.std.specs.Prelude.{None, Some, false, negsuc, pos, true};
-ghost use Rattle.sleep_base.specs.declared.errno.Errno.TheVariants.{EACCES, EAGAIN};
+ghost use Rattle.sleep_base.specs.declared.errno.Errno.TheVariants.{EACCES, EAGAIN, ENODEV};
 ghost use Rattle.sleep_model.specs.declared.entry.Actor.TheVariants as actor;
 ghost use Rattle.sleep_model.specs.declared.entry.FrozeEnd.TheVariants as froze;
 ghost use Rattle.sleep_model.specs.declared.entry.Group.TheVariants as group;
@@ -15,6 +15,7 @@ ghost use Rattle.worked_logs.specs.Counts.{calls_of_a_line_machine, calls_of_a_l
 ghost use Rattle.worked_logs.specs.Devices.{asynchronous_child_machine, asynchronous_child, asynchronous_child_entries, direct_complete_machine, direct_complete, direct_complete_entries, runtime_requests_machine, runtime_requests, runtime_requests_entries};
 ghost use Rattle.worked_logs.specs.Failures.{notifier_fails_machine, notifier_fails, notifier_fails_entries, prepare_fails_machine, prepare_fails, prepare_fails_entries, syscore_step_fails_machine, syscore_step_fails, syscore_step_fails_entries};
 ghost use Rattle.worked_logs.specs.Freezing.{freeze_times_out_machine, freeze_times_out, freeze_times_out_entries, kernel_freeze_times_out_machine, kernel_freeze_times_out, kernel_freeze_times_out_entries};
+ghost use Rattle.worked_logs.specs.Links.{active_link_machine, active_link, active_link_entries, link_added_machine, link_added, link_added_entries, links_in_an_attempt_machine, links_in_an_attempt, links_in_an_attempt_entries, links_without_an_attempt_machine, links_without_an_attempt, links_without_an_attempt_entries};
 ghost use Rattle.worked_logs.specs.Merging.{Merges, two_workers};
 ghost use Rattle.worked_logs.specs.Timers.{event_expires_machine, event_expires, event_expires_entries};
 
@@ -186,6 +187,24 @@ pub fn broken_event_expires()
     ensures finish { IsLegalLog event_expires_machine (with_entries event_expires (left_out 10 event_expires_entries)) → ⊥ }
     // The line reports another length.
     ensures call { IsLegalLog event_expires_machine (with_entries event_expires (says 6 (kind.Event 0 70 false) event_expires_entries)) → ⊥ }
+{}
+
+/// Copies of logs whose links change, each broken in one place.
+pub fn broken_links()
+    // A link that closes a cycle is added.
+    ensures cycle { IsLegalLog link_added_machine (with_entries link_added (says 1 (kind.LinkAdd 0 1 None) link_added_entries)) → ⊥ }
+    // The order stays as it was before the link.
+    ensures order { IsLegalLog link_added_machine (with_entries link_added (exchanged 8 link_added_entries)) → ⊥ }
+    // A supplier suspends while its consumer does, and their link is active.
+    ensures waits { IsLegalLog active_link_machine (with_entries active_link (exchanged 11 active_link_entries)) → ⊥ }
+    // A link is added while an attempt is open.
+    ensures inside { IsLegalLog links_in_an_attempt_machine (with_entries links_in_an_attempt (says 3 (kind.LinkAdd 1 0 None) links_in_an_attempt_entries)) → ⊥ }
+    // The state of a link is asked for while an attempt is open, and that the link is missing is told first.
+    ensures missing { IsLegalLog links_in_an_attempt_machine (with_entries links_in_an_attempt (says 5 (kind.LinkState 1 0 false (Some ENODEV)) links_in_an_attempt_entries)) → ⊥ }
+    // A link that stands is told to be missing.
+    ensures stands { IsLegalLog links_without_an_attempt_machine (with_entries links_without_an_attempt (says 4 (kind.LinkState 1 0 false (Some ENODEV)) links_without_an_attempt_entries)) → ⊥ }
+    // A step that sets a state is left out.
+    ensures step { IsLegalLog links_without_an_attempt_machine (with_entries links_without_an_attempt (left_out 4 links_without_an_attempt_entries)) → ⊥ }
 {}
 
 /// Copies of the entries of two workers with stamps that do not fit.

@@ -6,6 +6,7 @@ ghost use Rattle.worked_logs.specs.Rounds.{one_worker};
 ghost use Rattle.worked_logs.specs.Attempts.{nothing_machine, nothing_entries, smallest_attempt_machine, smallest_attempt_entries, parent_and_child_machine, parent_and_child_entries, three_generations_machine, three_generations_entries, event_after_save_machine, event_after_save_entries, event_stops_syscore_machine, event_stops_syscore_entries, event_stops_a_device_machine, event_stops_a_device_entries, event_stops_a_processor_machine, event_stops_a_processor_entries, event_in_progress_machine, event_in_progress_entries, hard_event_machine, hard_event_entries, callback_reports_machine, callback_reports_entries, event_wakes_machine, event_wakes_entries};
 ghost use Rattle.worked_logs.specs.Failures.{callback_fails_in_noirq_machine, callback_fails_in_noirq_entries, prepare_fails_machine, prepare_fails_entries, asynchronous_callback_fails_machine, asynchronous_callback_fails_entries, syscore_step_fails_machine, syscore_step_fails_entries, platform_begin_fails_machine, platform_begin_fails_entries, platform_prepare_late_fails_machine, platform_prepare_late_fails_entries, notifier_fails_machine, notifier_fails_entries};
 ghost use Rattle.worked_logs.specs.Devices.{first_link_machine, first_link_entries, two_links_machine, two_links_entries, asynchronous_child_machine, asynchronous_child_entries, direct_complete_machine, direct_complete_entries, wakeup_is_not_direct_machine, wakeup_is_not_direct_entries, suspended_before_the_attempt_machine, suspended_before_the_attempt_entries, runtime_requests_machine, runtime_requests_entries};
+ghost use Rattle.worked_logs.specs.Links.{link_added_machine, link_added_entries, dormant_link_machine, dormant_link_entries, active_link_machine, active_link_entries, links_in_an_attempt_machine, links_in_an_attempt_entries, links_without_an_attempt_machine, links_without_an_attempt_entries};
 ghost use Rattle.worked_logs.specs.Freezing.{freeze_times_out_machine, freeze_times_out_entries, kernel_freeze_times_out_machine, kernel_freeze_times_out_entries, read_interrupted_machine, read_interrupted_entries, save_interrupted_machine, save_interrupted_entries};
 ghost use Rattle.worked_logs.specs.Counts.{event_before_save_machine, event_before_save_entries, event_before_plain_attempt_machine, event_before_plain_attempt_entries, read_waits_machine, read_waits_entries, stuck_read_machine, stuck_read_entries, stuck_mark_machine, stuck_mark_entries, state_texts_machine, state_texts_entries, state_unsaved_machine, state_unsaved_entries, sleep_alone_machine, sleep_alone_entries, calls_of_a_line_machine, calls_of_a_line_entries};
 ghost use Rattle.worked_logs.specs.Timers.{event_expires_machine, event_expires_entries, event_stays_active_machine, event_stays_active_entries};
@@ -139,6 +140,31 @@ pub fn suspended_before_the_attempt_is_made()
 /// Requests at run time while the device is prepared, and after its late suspend began.
 pub fn runtime_requests_is_made()
     ensures { one_worker runtime_requests_machine 60 ≡ runtime_requests_entries }
+{}
+
+/// A task links two devices and then sleeps: the supplier is prepared first, and suspends last.
+pub fn link_added_is_made()
+    ensures { one_worker link_added_machine 60 ≡ link_added_entries }
+{}
+
+/// A link that is dormant: the asynchronous consumer and its supplier suspend beside one another.
+pub fn dormant_link_is_made()
+    ensures { one_worker dormant_link_machine 64 ≡ dormant_link_entries }
+{}
+
+/// The same link, active: the supplier waits for its consumer.
+pub fn active_link_is_made()
+    ensures { one_worker active_link_machine 64 ≡ active_link_entries }
+{}
+
+/// Links that a task would change while an attempt is open: both are refused.
+pub fn links_in_an_attempt_is_made()
+    ensures { one_worker links_in_an_attempt_machine 63 ≡ links_in_an_attempt_entries }
+{}
+
+/// The same changes without an attempt.
+pub fn links_without_an_attempt_is_made()
+    ensures { one_worker links_without_an_attempt_machine 7 ≡ links_without_an_attempt_entries }
 {}
 
 /// A task that sleeps uninterruptibly: freezing gives up, first by its time and then by an event.

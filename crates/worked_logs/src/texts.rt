@@ -5,11 +5,13 @@ ghost use Rattle.sleep_model.specs.Text.{text};
 ghost use Rattle.worked_logs.specs.Attempts.{event_stops_a_processor_machine, event_stops_a_processor, hard_event_machine, hard_event};
 ghost use Rattle.worked_logs.specs.Failures.{prepare_fails_machine, prepare_fails, asynchronous_callback_fails_machine, asynchronous_callback_fails, syscore_step_fails_machine, syscore_step_fails, notifier_fails_machine, notifier_fails};
 ghost use Rattle.worked_logs.specs.Devices.{asynchronous_child_machine, asynchronous_child, direct_complete_machine, direct_complete, runtime_requests_machine, runtime_requests};
+ghost use Rattle.worked_logs.specs.Links.{link_added_machine, link_added, links_in_an_attempt_machine, links_in_an_attempt};
 ghost use Rattle.worked_logs.specs.Freezing.{freeze_times_out_machine, freeze_times_out, kernel_freeze_times_out_machine, kernel_freeze_times_out, read_interrupted_machine, read_interrupted, save_interrupted_machine, save_interrupted};
 ghost use Rattle.worked_logs.specs.Counts.{event_before_save_machine, event_before_save, stuck_read_machine, stuck_read, stuck_mark_machine, stuck_mark, state_texts_machine, state_texts, state_unsaved_machine, state_unsaved};
 ghost use Rattle.worked_logs.specs.Timers.{event_expires_machine, event_expires};
 ghost use Rattle.worked_logs.specs.Autosleep.{autosleep_machine, autosleep};
 ghost use Rattle.worked_logs.specs.Texts.{event_stops_a_processor_text, hard_event_text, prepare_fails_text, asynchronous_callback_fails_text, syscore_step_fails_text, notifier_fails_text, asynchronous_child_text, direct_complete_text, runtime_requests_text, freeze_times_out_text, kernel_freeze_times_out_text, read_interrupted_text, save_interrupted_text, event_before_save_text, stuck_read_text, stuck_mark_text, state_texts_text, state_unsaved_text, event_expires_text, autosleep_text};
+ghost use Rattle.worked_logs.specs.LinkTexts.{link_added_text, links_in_an_attempt_text};
 
 /// An event after the first processor is off: the second stays on.
 #[tactic(auto, unfolding(crate::proofs::Numerals::digits))]
@@ -63,6 +65,18 @@ pub fn direct_complete_is_written()
 #[tactic(auto, unfolding(crate::proofs::Numerals::digits))]
 pub fn runtime_requests_is_written()
     ensures { text runtime_requests_machine runtime_requests ≡ runtime_requests_text }
+{}
+
+/// A task links two devices and then sleeps: the supplier is prepared first, and suspends last.
+#[tactic(auto, unfolding(crate::proofs::Numerals::digits))]
+pub fn link_added_is_written()
+    ensures { text link_added_machine link_added ≡ link_added_text }
+{}
+
+/// Links that a task would change while an attempt is open: both are refused.
+#[tactic(auto, unfolding(crate::proofs::Numerals::digits))]
+pub fn links_in_an_attempt_is_written()
+    ensures { text links_in_an_attempt_machine links_in_an_attempt ≡ links_in_an_attempt_text }
 {}
 
 /// A task that sleeps uninterruptibly: freezing gives up, first by its time and then by an event.

@@ -6,6 +6,7 @@ ghost use Rattle.sleep_model.specs.Legal.{IsLegalLog, IsFinishedLog, IsStuckLog}
 ghost use Rattle.worked_logs.specs.Attempts.{nothing_machine, nothing, smallest_attempt_machine, smallest_attempt, parent_and_child_machine, parent_and_child, three_generations_machine, three_generations, event_after_save_machine, event_after_save, event_stops_syscore_machine, event_stops_syscore, event_stops_a_device_machine, event_stops_a_device, event_stops_a_processor_machine, event_stops_a_processor, event_in_progress_machine, event_in_progress, hard_event_machine, hard_event, callback_reports_machine, callback_reports, event_wakes_machine, event_wakes};
 ghost use Rattle.worked_logs.specs.Failures.{callback_fails_in_noirq_machine, callback_fails_in_noirq, prepare_fails_machine, prepare_fails, asynchronous_callback_fails_machine, asynchronous_callback_fails, syscore_step_fails_machine, syscore_step_fails, platform_begin_fails_machine, platform_begin_fails, platform_prepare_late_fails_machine, platform_prepare_late_fails, notifier_fails_machine, notifier_fails};
 ghost use Rattle.worked_logs.specs.Devices.{first_link_machine, first_link, two_links_machine, two_links, asynchronous_child_machine, asynchronous_child, direct_complete_machine, direct_complete, wakeup_is_not_direct_machine, wakeup_is_not_direct, suspended_before_the_attempt_machine, suspended_before_the_attempt, runtime_requests_machine, runtime_requests};
+ghost use Rattle.worked_logs.specs.Links.{link_added_machine, link_added, dormant_link_machine, dormant_link, active_link_machine, active_link, links_in_an_attempt_machine, links_in_an_attempt, links_without_an_attempt_machine, links_without_an_attempt};
 ghost use Rattle.worked_logs.specs.Freezing.{freeze_times_out_machine, freeze_times_out, kernel_freeze_times_out_machine, kernel_freeze_times_out, read_interrupted_machine, read_interrupted, save_interrupted_machine, save_interrupted};
 ghost use Rattle.worked_logs.specs.Counts.{event_before_save_machine, event_before_save, event_before_plain_attempt_machine, event_before_plain_attempt, read_waits_machine, read_waits, stuck_read_machine, stuck_read, stuck_mark_machine, stuck_mark, state_texts_machine, state_texts, state_unsaved_machine, state_unsaved, sleep_alone_machine, sleep_alone, calls_of_a_line_machine, calls_of_a_line};
 ghost use Rattle.worked_logs.specs.Timers.{event_expires_machine, event_expires, event_stays_active_machine, event_stays_active};
@@ -192,6 +193,41 @@ pub fn runtime_requests_is_legal()
     ensures legal { IsLegalLog runtime_requests_machine runtime_requests }
     ensures writable { IsWritable runtime_requests_machine runtime_requests }
     ensures finished { IsFinishedLog runtime_requests_machine runtime_requests }
+{}
+
+/// A task links two devices and then sleeps: the supplier is prepared first, and suspends last.
+pub fn link_added_is_legal()
+    ensures legal { IsLegalLog link_added_machine link_added }
+    ensures writable { IsWritable link_added_machine link_added }
+    ensures finished { IsFinishedLog link_added_machine link_added }
+{}
+
+/// A link that is dormant: the asynchronous consumer and its supplier suspend beside one another.
+pub fn dormant_link_is_legal()
+    ensures legal { IsLegalLog dormant_link_machine dormant_link }
+    ensures writable { IsWritable dormant_link_machine dormant_link }
+    ensures finished { IsFinishedLog dormant_link_machine dormant_link }
+{}
+
+/// The same link, active: the supplier waits for its consumer.
+pub fn active_link_is_legal()
+    ensures legal { IsLegalLog active_link_machine active_link }
+    ensures writable { IsWritable active_link_machine active_link }
+    ensures finished { IsFinishedLog active_link_machine active_link }
+{}
+
+/// Links that a task would change while an attempt is open: both are refused.
+pub fn links_in_an_attempt_is_legal()
+    ensures legal { IsLegalLog links_in_an_attempt_machine links_in_an_attempt }
+    ensures writable { IsWritable links_in_an_attempt_machine links_in_an_attempt }
+    ensures finished { IsFinishedLog links_in_an_attempt_machine links_in_an_attempt }
+{}
+
+/// The same changes without an attempt.
+pub fn links_without_an_attempt_is_legal()
+    ensures legal { IsLegalLog links_without_an_attempt_machine links_without_an_attempt }
+    ensures writable { IsWritable links_without_an_attempt_machine links_without_an_attempt }
+    ensures finished { IsFinishedLog links_without_an_attempt_machine links_without_an_attempt }
 {}
 
 /// A task that sleeps uninterruptibly: freezing gives up, first by its time and then by an event.

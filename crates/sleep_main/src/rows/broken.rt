@@ -16,7 +16,7 @@ pub(crate) const FILES: [(&str, &str); 29] = [
     ),
     // No version, or another one.
     (r#"{}"#, "machine: rule 3: version\n"),
-    (r#"{"version":2}"#, "machine: rule 3: version\n"),
+    (r#"{"version":3}"#, "machine: rule 3: version\n"),
     // A number out of its range, and a device without a name.
     (r#"{"version":1,"cpus":65}"#, "machine: rule 4: cpus\n"),
     (

@@ -24,7 +24,7 @@ pub(crate) const ASKED: [([&str; 4], &str); 5] = [
 
 /// The file of the machine of seed 0 with one device.
 pub(crate) const ONE_DEVICE: &str = "\
-{\"actors\":[{\"kind\":\"user\",\"name\":\"sleeper\",\"repeat\":4,\"script\":[{\"op\":\"read\"},{\"op\":\"save\"},{\"if_saved\":true,\"op\":\"state\",\"text\":\"mem\"}]},{\"kind\":\"irq\",\"name\":\"line\",\"script\":[{\"ms\":289,\"op\":\"sleep\"},{\"op\":\"event\",\"source\":\"s2\"},{\"ms\":677,\"op\":\"sleep\"},{\"op\":\"event\",\"source\":\"s0\"},{\"ms\":904,\"op\":\"sleep\"},{\"op\":\"event\",\"source\":\"s1\"},{\"ms\":428,\"op\":\"sleep\"},{\"op\":\"event\",\"source\":\"s2\"}]}],\"devices\":[{\"name\":\"d0\"}],\"sources\":[\"s0\",\"s1\",\"s2\"],\"version\":1}
+{\"actors\":[{\"kind\":\"user\",\"name\":\"sleeper\",\"repeat\":4,\"script\":[{\"op\":\"read\"},{\"op\":\"save\"},{\"if_saved\":true,\"op\":\"state\",\"text\":\"mem\"}]},{\"kind\":\"irq\",\"name\":\"line\",\"script\":[{\"ms\":289,\"op\":\"sleep\"},{\"op\":\"event\",\"source\":\"s2\"},{\"ms\":677,\"op\":\"sleep\"},{\"op\":\"event\",\"source\":\"s0\"},{\"ms\":904,\"op\":\"sleep\"},{\"op\":\"event\",\"source\":\"s1\"},{\"ms\":428,\"op\":\"sleep\"},{\"op\":\"event\",\"source\":\"s2\"}]}],\"devices\":[{\"name\":\"d0\"}],\"sources\":[\"s0\",\"s1\",\"s2\"],\"version\":2}
 ";
 
 /// The line of a run of the machine of seed 7 with 1,000 devices.

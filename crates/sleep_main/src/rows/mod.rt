@@ -9,6 +9,7 @@ pub(crate) mod failures;
 pub(crate) mod freezer;
 pub(crate) mod generated;
 pub(crate) mod laptop;
+pub(crate) mod links;
 pub(crate) mod many;
 pub(crate) mod sources;
 pub(crate) mod sysfs;

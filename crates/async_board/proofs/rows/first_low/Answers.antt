@@ -1,6 +1,6 @@
 -- The row has each device once.
 use Rattle.std.proofs.Common.{◌∙◌}
-use Rattle.sleep_model.specs.Order.{holding}
+use Rattle.sleep_model.specs.Order.{active_of, holding}
 use Rattle.sleep_model.specs.Stands.{is_low, stand_at}
 use Rattle.async_board.proofs.Searched.{found_once}
 use Rattle.async_board.proofs.rows.first_low.Goals as goal
@@ -8,4 +8,4 @@ use Rattle.async_board.proofs.rows.first_low.Goals as goal
 pub returns : goal.returns
 returns c =
     c.find_low.ensures
-    ∙ found_once (λ e. is_low (stand_at c.args.stands.now e)) (holding c.args.links.now.parents c.args.links.now.links c.args.device) c.above-row.result.now c.above-row.ensures
+    ∙ found_once (λ e. is_low (stand_at c.args.stands.now e)) (holding c.args.links.now.parents (active_of c.args.links.now.links) c.args.device) c.above-row.result.now c.above-row.ensures

@@ -1,13 +1,13 @@
 -- The rows and the stands are those of the links.
 use Rattle.std.proofs.Common.{◌∙◌, sym, ap}
-use Rattle.sleep_model.specs.Order.{is_among, hanging}
+use Rattle.sleep_model.specs.Order.{active_of, is_among, hanging}
 use Rattle.sleep_model.specs.Stands.{is_low}
 use Rattle.async_board.proofs.Waiting.{first_different}
 use Rattle.async_board.proofs.Layouts.{above_few, above_moved}
 use Rattle.async_board.proofs.walk.move_above.Goals as goal
 
 pub shift-requires-clause-apart : goal.shift-requires-clause-apart
-shift-requires-clause-apart c = rw c.below-below.ensures (first_different (hanging c.args.links.now.parents c.args.links.now.links c.args.device))
+shift-requires-clause-apart c = rw c.below-below.ensures (first_different (hanging c.args.links.now.parents (active_of c.args.links.now.links) c.args.device))
 
 pub shift-requires-clause-few : goal.shift-requires-clause-few
 shift-requires-clause-few c w i x l m =

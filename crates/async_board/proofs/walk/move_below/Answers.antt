@@ -1,19 +1,21 @@
 -- The rows and the stands are those of the links.
 use Rattle.std.proofs.Common.{◌∙◌, List, ℕ, sym, ap, subst}
 use Rattle.sleep_model.specs.Links.{IsOrder}
-use Rattle.sleep_model.specs.Order.{is_among, hanging, holding}
+use Rattle.sleep_model.specs.Order.{active_of, is_among, hanging, holding}
+use Rattle.sleep_model.proofs.Changing.{active_hanging, fewer_order}
 use Rattle.sleep_model.specs.Stands.{is_unsettled}
 use Rattle.async_board.proofs.Waiting.{first_different}
 use Rattle.async_board.proofs.Layouts.{below_few, below_moved}
 use Rattle.async_board.proofs.walk.move_below.Goals as goal
 
 pub shift-requires-clause-apart : goal.shift-requires-clause-apart
-shift-requires-clause-apart c = rw c.above-above.ensures (first_different (holding c.args.links.now.parents c.args.links.now.links c.args.device))
+shift-requires-clause-apart c = rw c.above-above.ensures (first_different (holding c.args.links.now.parents (active_of c.args.links.now.links) c.args.device))
 
 pub shift-requires-clause-few : goal.shift-requires-clause-few
 shift-requires-clause-few c w i x l m =
     below_few c.args.links.now.parents c.args.links.now.links c.args.stands.now c.args.device c.args.after c.args.counts.now.items c.requires.size c.requires.within
-    (subst (λ (xs : List ℕ). IsOrder (hanging c.args.links.now.parents c.args.links.now.links) xs) c.order-order.ensures.order c.order-order.ensures.ranked)
+    (fewer_order (hanging c.args.links.now.parents c.args.links.now.links) (hanging c.args.links.now.parents (active_of c.args.links.now.links)) (active_hanging c.args.links.now.parents c.args.links.now.links) _
+    (subst (λ (xs : List ℕ). IsOrder (hanging c.args.links.now.parents c.args.links.now.links) xs) c.order-order.ensures.order c.order-order.ensures.ranked))
     (λ y k. ap (λ xs. is_among xs y) (sym c.order-order.ensures.order) ∙ c.order-order.ensures.covers y k)
     (λ y k. c.order-order.ensures.within y (ap (λ xs. is_among xs y) c.order-order.ensures.order ∙ k))
     c.requires.known

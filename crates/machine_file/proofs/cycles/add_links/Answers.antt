@@ -21,7 +21,7 @@ loop-i-preserved c =
     let within : c.loop-i.i < length c.args.links.now = omega arith in
     let l = get_or c.args.links.now c.loop-i.i no_link in
     is_added c.args.parents.now c.requires.after c.args.links.now c.requires.fresh c.loop-i.i within l (get_or_default c.args.links.now c.loop-i.i no_link l within) refl
-    c.loop-i.added c.add.new.self c.loop-i.invariant c.in-Ok.ensures.answer c.in-Ok.ensures.ok
+    c.loop-i.added c.add_as.new.self c.loop-i.invariant c.in-Ok.ensures.answer c.in-Ok.ensures.ok
 
 pub returns-in-Some-clause-cycle : goal.returns-in-Some-clause-cycle
 returns-in-Some-clause-cycle c =

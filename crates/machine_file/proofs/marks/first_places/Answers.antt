@@ -1,4 +1,4 @@
-use Rattle.std.proofs.Common.{◌∙◌, ℕ, List, Bor, Vec, Global, true, false, sym, ap}
+use Rattle.std.proofs.Common.{◌∙◌, ℕ, List, Bor, Vec, Global, sym, ap}
 use Rattle.machine_file.specs.Knows.{texts}
 use Rattle.machine_file.proofs.Marked.{first_again, first_new}
 use Rattle.machine_file.proofs.marks.first_places.Goals as goal

@@ -8,12 +8,12 @@ use Rattle.device_links.proofs.links.Links.find.Goals as goal
 
 pub walk-requires-clause-walkable : goal.walk-requires-clause-walkable
 walk-requires-clause-walkable c =
-    let k = c.self.invariant in
+    let k = c.self.invariant.kept in
     walkable c.self.inside.parents.items (reverse c.self.inside.links.items) k.after k.linked c.self.inside.hanging k.all_hanging
 
 pub returns : goal.returns
 returns c =
-    let k = c.self.invariant in
+    let k = c.self.invariant.kept in
     let ps = c.self.inside.parents.items in
     let ls = reverse c.self.inside.links.items in
     let t = c.self.inside.hanging in

@@ -7,7 +7,7 @@ use Rattle.device_links.proofs.links.Links.order.Goals as goal
 
 pub returns-clause-ranked : goal.returns-clause-ranked
 returns-clause-ranked c =
-    let k = c.self.invariant in
+    let k = c.self.invariant.kept in
     let ps = c.self.inside.parents.items in
     let ls = reverse c.self.inside.links.items in
     subst (λ (v : Linked). IsOrder (hanging v.parents v.links) c.deref.result.now) c.self.view_is
@@ -15,7 +15,7 @@ returns-clause-ranked c =
 
 pub returns-clause-covers : goal.returns-clause-covers
 returns-clause-covers c =
-    let k = c.self.invariant in
+    let k = c.self.invariant.kept in
     let ps = c.self.inside.parents.items in
     let ls = reverse c.self.inside.links.items in
     subst (λ (v : Linked). (d : ℕ) → d < length v.parents → is_among c.deref.result.now d ≡ true) c.self.view_is
@@ -23,7 +23,7 @@ returns-clause-covers c =
 
 pub returns-clause-within : goal.returns-clause-within
 returns-clause-within c =
-    let k = c.self.invariant in
+    let k = c.self.invariant.kept in
     let ps = c.self.inside.parents.items in
     let ls = reverse c.self.inside.links.items in
     subst (λ (v : Linked). (d : ℕ) → is_among c.deref.result.now d ≡ true → d < length v.parents) c.self.view_is
@@ -31,7 +31,7 @@ returns-clause-within c =
 
 pub returns-clause-count : goal.returns-clause-count
 returns-clause-count c =
-    let k = c.self.invariant in
+    let k = c.self.invariant.kept in
     let ps = c.self.inside.parents.items in
     let ls = reverse c.self.inside.links.items in
     subst (λ (v : Linked). length c.deref.result.now ≡ length v.parents) c.self.view_is (ap length (c.deref.ensures.value ∙ k.ordered) ∙ order_length ps k.after ls k.linked)

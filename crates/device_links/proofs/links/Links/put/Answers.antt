@@ -1,11 +1,14 @@
-use Rattle.std.proofs.Common.{◌≡◌, ◌++◌, ◌∷◌, ◌∙◌, [], Some, None, length, filter, not, get_or, cond, reverse, ap, sym, subst, refl, false}
-use Rattle.std.proofs.lemmas.List.{reverse-append, get_or_default}
-use Rattle.sleep_model.specs.Order.{is_parent, hanging}
-use Rattle.device_rows.specs.Table.{hung}
+use Rattle.std.proofs.Common.{◌≡◌, ◌≤◌, ℕ, List, arith, ◌++◌, ◌∷◌, ◌∙◌, [], Some, None, length, filter, not, get_or, cond, reverse, ap, sym, subst, refl, false}
+use Rattle.std.proofs.lemmas.List.{reverse-append}
+use Rattle.sleep_model.specs.declared.machine.Link.{Link}
+use Rattle.sleep_model.specs.Order.{hanging, holding}
+use Rattle.device_rows.specs.Table.{hung, places_at}
 use Rattle.device_links.specs.Linked.{Linked}
 use Rattle.device_links.specs.Walks.{IsWalked}
 use Rattle.device_links.specs.Adds.{IsOpen}
-use Rattle.device_links.proofs.Kept.{kept_more, kept_as}
+use Rattle.device_links.specs.Kept.{HavePlaces}
+use Rattle.device_links.specs.Passes.{is_left_out}
+use Rattle.device_links.proofs.Kept.{kept_more, kept_as, places_more, hanging_count, holding_count}
 use Rattle.device_links.proofs.links.Links.put.Goals as goal
 
 pub invariant_of-self-2 : goal.invariant_of-self-2
@@ -18,15 +21,30 @@ invariant_of-self-2 c =
     let d = l.consumer in
     let marks = c.args.marks.now in
     let found = c.args.below.now in
-    let k = c.self.invariant in
+    let k = c.self.invariant.kept in
     let open' = subst (λ (v : Linked). IsOpen v s d) (sym c.self.view_is) c.requires.open in
     let w = subst (λ (v : Linked). IsWalked (length v.parents) (hanging v.parents v.links) d s found marks) (sym c.self.view_is) c.requires.walked in
-    let known = c.is_parent-is_child.result in
-    let is : known ≡ is_parent s (get_or ps d None) = c.is_parent-is_child.ensures ∙ ap (is_parent s) (c.index.ensures ∙ get_or_default ps d c.index.result.now None open'.stand.1) in
+    let left_out = c.is_left_out-left_out.result in
+    let is : left_out ≡ is_left_out ps l = c.is_left_out-left_out.ensures ∙ ap (λ qs. is_left_out qs l) c.deref-2.ensures.value in
     let links : reverse c.push-3.new.self.items ≡ l ∷ ls = ap reverse (c.in-Ok.ensures.items ∙ ap (λ xs. xs ++ l ∷ []) c.reserve.ensures.items) ∙ reverse-append old.links.items (l ∷ []) in
-    let hangs = c.push.ensures ∙ ap (λ r. hung r (Some s) d) c.make_room.ensures.rows in
-    let below = c.push_unless.ensures ∙ ap (λ r. cond known r (hung r (Some s) d)) c.make_room-2.ensures.rows in
-    let suppliers = c.push-2.ensures ∙ ap (λ r. hung r (Some d) s) c.make_room-3.ensures.rows in
-    let above = c.push_unless-2.ensures ∙ ap (λ r. cond known r (hung r (Some d) s)) c.make_room-4.ensures.rows in
+    let hangs = c.push.ensures.rows ∙ ap (λ r. hung r (Some s) d) c.make_room.ensures.rows in
+    let below = c.push_unless.ensures.rows ∙ ap (λ r. cond left_out r (hung r (Some s) d)) c.make_near.ensures.rows in
+    let suppliers = c.push-2.ensures.rows ∙ ap (λ r. hung r (Some d) s) c.make_room-2.ensures.rows in
+    let above = c.push_unless-2.ensures.rows ∙ ap (λ r. cond left_out r (hung r (Some d) s)) c.make_near-2.ensures.rows in
     let order = c.in_ok-order.ensures ∙ ap (λ xs. filter (λ x. not (get_or marks x false)) xs ++ found) c.deref.ensures.value in
-    kept_as refl (sym links) (sym hangs) (sym below) (sym suppliers) (sym above) (sym order) (kept_more ps ls old.hanging.rows old.below.rows old.suppliers.rows old.above.rows old.order.items k l open' found marks w known is)
+    let seen = c.push_unless.new.table in
+    let seen' = c.push_unless-2.new.table in
+    let more_below : (x : ℕ) → places_at old.below x ≤ places_at seen x = λ x. let p = c.make_near.ensures.places x in let q = c.push_unless.ensures.places x in omega (arith, p, q) in
+    let more_above : (x : ℕ) → places_at old.above x ≤ places_at seen' x = λ x. let p = c.make_near-2.ensures.places x in let q = c.push_unless-2.ensures.places x in omega (arith, p, q) in
+    let fits_below : length (hanging ps (l ∷ ls) s) ≤ places_at seen s =
+    let p = c.in_ok-make_near.ensures.made in let q = c.push_unless.ensures.places s in let n = c.places_for-most_below.ensures in let e = ap length (k.all_hanging.each s) in let m = hanging_count ps l ls in
+    omega (arith, p, q, n, e, m) in
+    let fits_above : length (holding ps (l ∷ ls) d) ≤ places_at seen' d =
+    let p = c.in_ok-make_near-2.ensures.made in let q = c.push_unless-2.ensures.places d in let n = c.places_for-most_above.ensures in let e = ap length (k.all_suppliers.each d) in let m = holding_count ps l ls in
+    omega (arith, p, q, n, e, m) in
+    let places : HavePlaces ps (reverse c.push-3.new.self.items) seen seen' =
+    subst (λ (x : List Link). HavePlaces ps x seen seen') (sym links) (places_more ps k.after l ls old.below old.above seen seen' c.self.invariant.places more_below fits_below more_above fits_above) in
+    record {
+      kept = kept_as refl (sym links) (sym hangs) (sym below) (sym suppliers) (sym above) (sym order) (kept_more ps ls old.hanging.rows old.below.rows old.suppliers.rows old.above.rows old.order.items k l open' found marks w left_out is);
+      places = places;
+    }

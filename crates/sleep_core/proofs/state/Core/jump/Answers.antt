@@ -1,4 +1,4 @@
-use Rattle.std.proofs.Common.{◌≡◌, ◌∙◌, ◌<◌, map, ap, sym, subst, arith}
+use Rattle.std.proofs.Common.{◌≡◌, ◌∙◌, ◌<◌, map, refl, ap, sym, subst, arith}
 use Rattle.sleep_model.specs.declared.machine.Machine.{Machine}
 use Rattle.sleep_model.specs.Numbers.{time_of}
 use Rattle.sleep_model.specs.Runtime.{may_wake}
@@ -11,11 +11,14 @@ use Rattle.sleep_core.proofs.Turning.{admits_jump, core_jumped}
 use Rattle.sleep_core.proofs.state.Core.jump.Goals as goal
 
 pub append-requires : goal.append-requires
-append-requires c =
-    admits_jump c.self.inside.history c.reserve.new.self c.args.to c.args.seen c.self.invariant.core c.in_ok-reserve.ensures.machine c.in_ok-reserve.ensures.past
-    (omega (arith, c.in_ok-reserve.ensures.ok, c.room-places.ensures.room))
-    (omega (arith, c.runs-runs.type_inv, c.runs-runs.ensures, ap (λ (a : AutosleepState). a.runs) c.autosleep.ensures))
-    (omega (arith, c.len-made.ensures.len, c.len-made.ensures.small))
+append-requires c = record {
+  admits =
+      admits_jump c.self.inside.history c.reserve.new.self c.args.to c.args.seen c.self.invariant.core c.in_ok-reserve.ensures.machine c.in_ok-reserve.ensures.past
+      (omega (arith, c.in_ok-reserve.ensures.ok, c.room-places.ensures.room))
+      (omega (arith, c.runs-runs.type_inv, c.runs-runs.ensures, ap (λ (a : AutosleepState). a.runs) c.autosleep.ensures))
+      (omega (arith, c.len-made.ensures.len, c.len-made.ensures.small));
+  board = refl;
+}
 
 pub invariant_of-self-2 : goal.invariant_of-self-2
 invariant_of-self-2 c =

@@ -1,9 +1,10 @@
 use Rattle.std.proofs.Common.{◌≡◌, ◌∙◌, ◌<◌, ◌^◌, ◌||◌, List, length, map, ap, ap₂, refl, sym, subst, arith}
+use Rattle.sleep_model.specs.declared.entry.Entry.{Entry}
 use Rattle.sleep_model.specs.declared.entry.JournalEntry.{JournalEntry}
 use Rattle.sleep_model.specs.declared.place.Due.TheVariants.{Makes}
 use Rattle.sleep_model.specs.declared.machine.Machine.{Machine}
 use Rattle.sleep_model.specs.Runtime.{may_wake}
-use Rattle.sleep_core.specs.Histories.{Kept}
+use Rattle.sleep_core.specs.Histories.{Kept, Stands}
 use Rattle.sleep_model.specs.Devices.{is_device}
 use Rattle.sleep_model.specs.Due.{due}
 use Rattle.sleep_model.specs.Numbers.{time_of}
@@ -13,6 +14,7 @@ use Rattle.sleep_state.specs.Places.{entries}
 use Rattle.sleep_core.specs.Cores.{CoreState, IsActor}
 use Rattle.sleep_core.specs.Numbered.{Leaves}
 use Rattle.sleep_core.specs.Reports.{reported_by, counts_after}
+use Rattle.sleep_core.proofs.Linked.{stands_then}
 use Rattle.sleep_core.proofs.Reporting.{reported_few, counts_more}
 use Rattle.sleep_core.proofs.Turning.{counted_outside, admits_more, core_more}
 use Rattle.sleep_core.proofs.state.Core.make.Goals as goal
@@ -23,13 +25,27 @@ returns-then-not-leaves-clause-err c =
     let outside = counted_outside s.machine (entries s.past) c.args.now c.args.who c.args.kind c.requires.due c.if-not-leaves.ensures.counted in
     (outside.0, outside.1, refl)
 
+pub returns-in-Err-clause-err : goal.returns-in-Err-clause-err
+returns-in-Err-clause-err c =
+    let s = c.args.self.now in
+    let outside = counted_outside s.machine (entries s.past) c.args.now c.args.who c.args.kind c.requires.due c.in-Err.ensures.err in
+    (outside.0, outside.1, refl)
+
 pub append-requires : goal.append-requires
 append-requires c =
-    admits_more c.self.inside.history c.make_room.new.self (record { time = c.time.result; now = c.args.now; actor = c.args.who; kind = c.args.kind }) c.is_own-own.result c.self.invariant.core
-    (subst (λ (s : CoreState). due s.machine (entries s.past) c.args.who c.args.now ≡ Makes c.args.kind) (sym c.self.view_is) c.requires.due)
-    (subst (λ (s : CoreState). Leaves s.machine c.args.kind (entries s.past)) (sym c.self.view_is) c.if-not-leaves.ensures.fits)
-    (subst (λ (s : CoreState). c.is_own-own.result ≡ (is_actor c.args.who (maker (entries s.past)) || is_device c.args.who)) (sym c.self.view_is) c.is_own-own.ensures)
-    c.in-Ok.ensures.ok (omega (arith, c.len-made.ensures.len, c.len-made.ensures.small))
+    let h = c.self.inside.history in
+    let has = c.in-Ok-make_room.ensures.ok in
+    let e : Entry = record { time = c.time.result; now = c.args.now; actor = c.args.who; kind = c.args.kind } in
+    let makes = subst (λ (s : CoreState). due s.machine (entries s.past) c.args.who c.args.now ≡ Makes c.args.kind) (sym c.self.view_is) c.requires.due in
+    record {
+      admits = admits_more h c.make_room.new.self e c.is_own-own.result c.self.invariant.core makes
+          (subst (λ (s : CoreState). Leaves s.machine c.args.kind (entries s.past)) (sym c.self.view_is) c.if-not-leaves.ensures.fits)
+          (subst (λ (s : CoreState). c.is_own-own.result ≡ (is_actor c.args.who (maker (entries s.past)) || is_device c.args.who)) (sym c.self.view_is) c.is_own-own.ensures)
+          has (omega (arith, c.len-made.ensures.len, c.len-made.ensures.small));
+      board = subst (λ (x : Machine). Stands x (entries c.make_room.new.self.past) e c.in-Ok.relinked) (sym has.machine)
+          (subst (λ (xs : List JournalEntry). Stands h.machine (entries xs) e c.in-Ok.relinked) (sym has.past)
+          (stands_then h.machine (entries h.past) c.self.invariant.core.legal c.time.result c.args.now c.args.who c.args.kind makes c.in-Ok.relinked c.in-Ok.ensures.ok));
+    }
 
 pub add-requires : goal.add-requires
 add-requires c =
@@ -42,7 +58,7 @@ add-requires c =
 pub invariant_of-self-2 : goal.invariant_of-self-2
 invariant_of-self-2 c =
     let h = c.self.inside.history in
-    let has = c.in-Ok.ensures.ok in
+    let has = c.in-Ok-make_room.ensures.ok in
     let same : c.append.new.self.machine ≡ h.machine = ap (λ (k : Kept). k.machine) c.append.ensures ∙ has.machine in
     record {
       core = core_more h c.make_room.new.self c.append.new.self (record { stamp = c.args.stamp; entry = record { time = c.time.result; now = c.args.now; actor = c.args.who; kind = c.args.kind } }) c.is_own-own.result c.self.invariant.core

@@ -1,0 +1,147 @@
+-- What is kept of links whose state is set.
+use Rattle.std.proofs.Common.{◌≡◌, ◌<◌, ◌≤◌, ◌∙◌, ℕ, Bool, true, false, ◌==◌, ◌&&◌, List, [], ◌∷◌, ◌++◌, length, map, reverse, get_or, set, slice_get, Option, Some, None, refl, sym, ap, subst, cond, arith, length-set}
+use Rattle.std.proofs.lemmas.Bool.{true≢false, eqb-true, eqb-false}
+use Rattle.std.proofs.lemmas.List.{append-nil, length-map, reverse-append, get_or-set_same, get_or-set_other}
+use Rattle.sleep_model.specs.declared.machine.Link.{Link}
+use Rattle.sleep_model.specs.Links.{first_places, is_linked}
+use Rattle.sleep_model.specs.Order.{is_link, with_state, active_of, children_from, consumers_of, suppliers_of, parent_of, hanging, holding}
+use Rattle.sleep_model.proofs.Changing.{same_supplier, same_consumer, suppliers_kept, hanging_kept, links_kept, order_kept}
+use Rattle.device_rows.specs.Table.{Table, places_at}
+use Rattle.device_links.specs.declared.fault.LinkFault.{LinkFault}
+use Rattle.device_links.specs.declared.fault.LinkFault.TheVariants as fault
+use Rattle.device_links.specs.Adds.{Stand, Lacks}
+use Rattle.device_links.specs.Kept.{IsTableOf, IsKept, IsWhole, HavePlaces, near_below, near_above}
+use Rattle.device_links.specs.Linked.{Linked}
+use Rattle.device_links.specs.Passes.{AreApart}
+use Rattle.device_links.proofs.Ordered.{linked_apart}
+use Rattle.device_links.proofs.RowsMade.{table_same}
+
+-- the newest first, as they were
+pub reversed_map : {A : Type 0} (f : A → A) (xs : List A) → reverse (map f xs) ≡ map f (reverse xs)
+reversed_map f [] = refl
+reversed_map {A = A} f (x ∷ xs) =
+    reverse-append (f x ∷ []) (map f xs) ∙ (ap (λ ys. ys ++ f x ∷ []) (reversed_map f xs) ∙ (sym (mapped (reverse xs)) ∙ ap (map f) (sym (reverse-append (x ∷ []) xs))))
+  where
+    mapped : (ys : List A) → map f (ys ++ x ∷ []) ≡ map f ys ++ f x ∷ []
+    mapped [] = refl
+    mapped (y ∷ ys) = ap (λ zs. f y ∷ zs) (mapped ys)
+
+-- these parents and links
+abbrev pub linked : List (Option ℕ) → List Link → Linked
+linked ps ls = record { parents = ps; links = ls }
+
+-- where nothing is lacking the link stands
+pub stands_then : (l : Linked) (supplier consumer : ℕ) (o : Option LinkFault) → ((x : LinkFault) → o ≡ Some x → ⊥) → Lacks l supplier consumer o → Stand l supplier consumer × (is_linked l.links supplier consumer ≡ true)
+stands_then l supplier consumer None f h = h
+stands_then l supplier consumer (Some x) f h = absurd (f x refl)
+
+-- one row is made anew
+table_set : (n : ℕ) (f g : ℕ → List ℕ) (rows : List (List ℕ)) → IsTableOf n f rows → (r : ℕ) → r < n → ((d : ℕ) → (r == d) ≡ false → g d ≡ f d) → IsTableOf n g (set rows r (g r))
+table_set n f g rows h r l other = record {
+  count = length-set rows r (g r) ∙ h.count;
+  each = λ d. by_test d (r == d) refl;
+}
+  where
+    by_test : (d : ℕ) (b : Bool) → (r == d) ≡ b → get_or (set rows r (g r)) d [] ≡ g d
+    by_test d true e =
+        subst (λ (k : ℕ). get_or (set rows r (g r)) k [] ≡ g k) (eqb-true r d e) (get_or-set_same rows r (g r) [] (omega (arith, h.count)))
+    by_test d false e = get_or-set_other rows r d (g r) [] (λ k. eqb-false r d e (sym k)) ∙ (h.each d ∙ sym (other d e))
+
+and_first : (a b : Bool) → (a && b) ≡ true → a ≡ true
+and_first true b e = refl
+and_first false b e = absurd (true≢false (sym e))
+
+and_second : (a b : Bool) → (a && b) ≡ true → b ≡ true
+and_second true b e = e
+and_second false b e = absurd (true≢false (sym e))
+
+module _ (s c : ℕ) (to : Bool) where
+  -- others see the same
+  one_consumer : (d : ℕ) (b : Bool) (l : Link) (ls : List Link) → (l.supplier == d) ≡ false → consumers_of d (cond b (l ∷ ls) ls) ≡ consumers_of d ls
+  one_consumer d true l ls e = ap (λ t. consumers_of d ls ++ cond t (l.consumer ∷ []) []) e ∙ append-nil (consumers_of d ls)
+  one_consumer d false l ls e = refl
+
+  one_supplier : (d : ℕ) (b : Bool) (l : Link) (ls : List Link) → (l.consumer == d) ≡ false → suppliers_of d (cond b (l ∷ ls) ls) ≡ suppliers_of d ls
+  one_supplier d true l ls e = ap (λ t. suppliers_of d ls ++ cond t (l.supplier ∷ []) []) e ∙ append-nil (suppliers_of d ls)
+  one_supplier d false l ls e = refl
+
+  consumers_other : (d : ℕ) → (s == d) ≡ false → (ls : List Link) → consumers_of d (active_of (map (with_state s c to) ls)) ≡ consumers_of d (active_of ls)
+  consumers_other d apart [] = refl
+  consumers_other d apart (l ∷ ls) = by_test (consumers_other d apart ls) (is_link s c l) refl
+    where
+      rest : List Link
+      rest = active_of (map (with_state s c to) ls)
+
+      by_state : consumers_of d (active_of (map (with_state s c to) ls)) ≡ consumers_of d (active_of ls) → (b : Bool) → consumers_of d (cond b (l ∷ active_of (map (with_state s c to) ls)) (active_of (map (with_state s c to) ls))) ≡ consumers_of d (cond b (l ∷ active_of ls) (active_of ls))
+      by_state same true = ap (λ xs. xs ++ cond (l.supplier == d) (l.consumer ∷ []) []) same
+      by_state same false = same
+
+      by_test : consumers_of d (active_of (map (with_state s c to) ls)) ≡ consumers_of d (active_of ls) → (t : Bool) → is_link s c l ≡ t → consumers_of d (cond (cond t (record l { active = to }) l).active (cond t (record l { active = to }) l ∷ active_of (map (with_state s c to) ls)) (active_of (map (with_state s c to) ls))) ≡ consumers_of d (cond l.active (l ∷ active_of ls) (active_of ls))
+      by_test same false e = by_state same l.active
+      by_test same true e =
+          let is : l.supplier ≡ s = eqb-true l.supplier s (and_first (l.supplier == s) (l.consumer == c) e) in
+          let other : (l.supplier == d) ≡ false = ap (λ x. x == d) is ∙ apart in
+          one_consumer d to (record l { active = to }) rest other ∙ (same ∙ sym (one_consumer d l.active l (active_of ls) other))
+
+  suppliers_other : (d : ℕ) → (c == d) ≡ false → (ls : List Link) → suppliers_of d (active_of (map (with_state s c to) ls)) ≡ suppliers_of d (active_of ls)
+  suppliers_other d apart [] = refl
+  suppliers_other d apart (l ∷ ls) = by_test (suppliers_other d apart ls) (is_link s c l) refl
+    where
+      rest : List Link
+      rest = active_of (map (with_state s c to) ls)
+
+      by_state : suppliers_of d (active_of (map (with_state s c to) ls)) ≡ suppliers_of d (active_of ls) → (b : Bool) → suppliers_of d (cond b (l ∷ active_of (map (with_state s c to) ls)) (active_of (map (with_state s c to) ls))) ≡ suppliers_of d (cond b (l ∷ active_of ls) (active_of ls))
+      by_state same true = ap (λ xs. xs ++ cond (l.consumer == d) (l.supplier ∷ []) []) same
+      by_state same false = same
+
+      by_test : suppliers_of d (active_of (map (with_state s c to) ls)) ≡ suppliers_of d (active_of ls) → (t : Bool) → is_link s c l ≡ t → suppliers_of d (cond (cond t (record l { active = to }) l).active (cond t (record l { active = to }) l ∷ active_of (map (with_state s c to) ls)) (active_of (map (with_state s c to) ls))) ≡ suppliers_of d (cond l.active (l ∷ active_of ls) (active_of ls))
+      by_test same false e = by_state same l.active
+      by_test same true e =
+          let is : l.consumer ≡ c = eqb-true l.consumer c (and_second (l.supplier == s) (l.consumer == c) e) in
+          let other : (l.consumer == d) ≡ false = ap (λ x. x == d) is ∙ apart in
+          one_supplier d to (record l { active = to }) rest other ∙ (same ∙ sym (one_supplier d l.active l (active_of ls) other))
+
+  module _ (ps : List (Option ℕ)) (ls : List Link) where
+    hanging_same : (d : ℕ) → hanging ps (map (with_state s c to) ls) d ≡ hanging ps ls d
+    hanging_same d = ap (λ (hang : ℕ → List ℕ). hang d) (hanging_kept (with_state s c to) (same_supplier s c to) (same_consumer s c to) ps ls)
+
+    holding_same : (d : ℕ) → holding ps (map (with_state s c to) ls) d ≡ holding ps ls d
+    holding_same d = ap (λ xs. parent_of (slice_get ps d) ++ xs) (suppliers_kept (with_state s c to) (same_supplier s c to) (same_consumer s c to) d ls)
+
+    pub set_apart : (hangs below suppliers above : List (List ℕ)) (order : List ℕ) → IsKept ps ls hangs below suppliers above order → AreApart ps (map (with_state s c to) ls)
+    set_apart hangs below suppliers above order k = linked_apart ps (map (with_state s c to) ls) (links_kept (with_state s c to) (same_supplier s c to) (same_consumer s c to) ps ls k.linked)
+
+    pub set_below : (below above : Table) → HavePlaces ps ls below above → (d : ℕ) → length (hanging ps (map (with_state s c to) ls) d) ≤ places_at below d
+    set_below below above h d = let e = ap length (hanging_same d) in let l = h.below d in omega (arith, e, l)
+
+    pub set_above : (below above : Table) → HavePlaces ps ls below above → (d : ℕ) → length (holding ps (map (with_state s c to) ls) d) ≤ places_at above d
+    set_above below above h d = let e = ap length (holding_same d) in let l = h.above d in omega (arith, e, l)
+
+    -- all is kept where the rows of both ends are made anew
+    pub whole_set : (hangs : List (List ℕ)) (below : Table) (suppliers : List (List ℕ)) (above : Table) (order : List ℕ) → IsWhole ps ls hangs below suppliers above order → s < length ps → c < length ps → (below' above' : Table)
+        → below'.rows ≡ set below.rows s (near_below ps (map (with_state s c to) ls) s) → ((d : ℕ) → places_at below d ≤ places_at below' d)
+        → above'.rows ≡ set above.rows c (near_above ps (map (with_state s c to) ls) c) → ((d : ℕ) → places_at above d ≤ places_at above' d)
+        → IsWhole ps (map (with_state s c to) ls) hangs below' suppliers above' order
+    whole_set hangs below suppliers above order w sl cl below' above' b bp a ap' = record {
+      kept = record {
+        numbered = w.kept.numbered;
+        after = w.kept.after;
+        few = omega (arith, w.kept.few, length-map ls (with_state s c to));
+        linked = links_kept (with_state s c to) (same_supplier s c to) (same_consumer s c to) ps ls w.kept.linked;
+        all_hanging = table_same (length ps) (hanging ps ls) (hanging ps (map (with_state s c to) ls)) hangs w.kept.all_hanging hanging_same;
+        once_below =
+            subst (IsTableOf (length ps) (near_below ps (map (with_state s c to) ls))) (sym b)
+            (table_set (length ps) (near_below ps ls) (near_below ps (map (with_state s c to) ls)) below.rows w.kept.once_below s sl
+            (λ d e. ap (λ xs. first_places (children_from d 0 ps ++ xs)) (consumers_other d e ls)));
+        all_suppliers = table_same (length ps) (λ d. suppliers_of d ls) (λ d. suppliers_of d (map (with_state s c to) ls)) suppliers w.kept.all_suppliers (λ d. suppliers_kept (with_state s c to) (same_supplier s c to) (same_consumer s c to) d ls);
+        once_above =
+            subst (IsTableOf (length ps) (near_above ps (map (with_state s c to) ls))) (sym a)
+            (table_set (length ps) (near_above ps ls) (near_above ps (map (with_state s c to) ls)) above.rows w.kept.once_above c cl
+            (λ d e. ap (λ xs. first_places (parent_of (slice_get ps d) ++ xs)) (suppliers_other d e ls)));
+        ordered = w.kept.ordered ∙ sym (order_kept (with_state s c to) (same_supplier s c to) (same_consumer s c to) ps ls);
+      };
+      places = record {
+        below = λ d. let l = set_below below above w.places d in let m = bp d in omega (arith, l, m);
+        above = λ d. let l = set_above below above w.places d in let m = ap' d in omega (arith, l, m);
+      };
+    }

@@ -1,0 +1,16 @@
+-- Marks that spread in the order of devices to all that hangs below a marked one.
+use Rattle.std.specs.Prelude.{ℕ, Bool, true, false, List, [], ◌∷◌, if◌then◌else◌, slice_index_or, slice_set}
+
+-- these marks, and each device of the row
+abbrev pub marked : List ℕ → List Bool → List Bool
+marked [] marks = marks
+marked (x ∷ xs) marks = marked xs (slice_set marks x true)
+
+-- the marks after one device: where it is marked, all that hangs right below it is
+abbrev pub spread_by : (ℕ → List ℕ) → ℕ → List Bool → List Bool
+spread_by hang d marks = if slice_index_or marks d false then marked (hang d) marks else marks
+
+-- the marks after these devices in turn
+abbrev pub spread : (ℕ → List ℕ) → List ℕ → List Bool → List Bool
+spread hang [] marks = marks
+spread hang (d ∷ ds) marks = spread hang ds (spread_by hang d marks)

@@ -1,0 +1,10 @@
+//! Tests of machine files and of logs as texts. They stand apart from the crates that they try, so that those are proved
+//! once. No program stands on this crate.
+#![tactic(auto)]
+
+#[cfg(test)]
+mod log_tests;
+#[cfg(test)]
+mod machine_tests;
+#[cfg(test)]
+mod reading_tests;

@@ -1,0 +1,443 @@
+use bitflags::Flags;
+use machine_file::{MachineFault, ReadMachine, read_machine};
+use sleep_model::{Op, Phase, SourceCall, What};
+use std::alloc::{AllocError, Global};
+use std::process::Abort;
+use std::test::Fail;
+
+// A file with these further members, and one actor that makes these operations.
+fn file(alloc: Global, more: &str, operations: &str) -> Result<String, AllocError> {
+    format!(in alloc;
+        "{{\"version\":1{more},\"actors\":[{{\"name\":\"w\",\"kind\":\"user\",\"script\":[{operations}]}}]}}"
+    )
+}
+
+// The number of the rule that is named, and 0 where none is.
+fn rule_of(read: &Result<ReadMachine, MachineFault>) -> u8 {
+    match read {
+        Err(MachineFault::Rule { rule, .. }) => *rule,
+        _ => 0,
+    }
+}
+
+fn place_of(read: &Result<ReadMachine, MachineFault>) -> &str {
+    match read {
+        Err(MachineFault::Rule { place, .. }) => place.as_str(),
+        Err(MachineFault::Mem) => "no memory",
+        Ok(_) => "",
+    }
+}
+
+// That a file breaks that rule first, and there; rule 0 is none.
+fn expect(rt: &impl Abort, alloc: Global, text: &str, rule: u8, place: &str) {
+    let read = read_machine(alloc, text.as_bytes());
+    assert_eq!(rt; rule_of(&read), rule, "{text}");
+    assert_eq!(rt; place_of(&read), place, "{text}");
+}
+
+/// Files that are none: the first rule that they break, and where.
+#[test]
+fn files_that_are_none(rt: HostRuntime) {
+    for (text, rule, place) in [
+        ("not JSON", 1u8, "json"),
+        ("[]", 2, "top"),
+        (r#"{"version":1,"sleep":1}"#, 2, "top"),
+        (r#"{"actors":[]}"#, 3, "version"),
+        (r#"{"version":3}"#, 3, "version"),
+        (r#"{"version":1,"cpus":65}"#, 4, "cpus"),
+        (r#"{"version":1,"cpus":1.0}"#, 4, "cpus"),
+        (r#"{"version":1,"actors":{}}"#, 4, "actors"),
+    ] {
+        expect(&rt, rt.alloc(), text, rule, place);
+    }
+}
+
+/// Each rule on the members of a file, by a file that breaks it alone, and where.
+#[test]
+fn members_that_break_a_rule(rt: HostRuntime) -> Result<(), Fail> {
+    for (more, rule, place) in [
+        (r#","devices":[{"name":"a"},{"name":1}]"#, 5u8, "devices[1]"),
+        (
+            r#","syscore":["t","t","t","t","t","t","t","t","t","t","t","t","t","t","t","t","t","t","t","t","t","t","t","t","t","t","t","t","t","t","t","t","t"]"#,
+            6,
+            "syscore",
+        ),
+        (r#","devices":[{"name":"A"}]"#, 7, "devices[0]"),
+        (r#","devices":[{"name":"a"},{"name":"a"}]"#, 8, "devices[1]"),
+        (
+            r#","devices":[{"name":"a","parent":"b"},{"name":"b"}]"#,
+            9,
+            "devices[0]",
+        ),
+        (
+            r#","devices":[{"name":"a"}],"links":[{"supplier":"a","consumer":"b"}]"#,
+            10,
+            "links[0]",
+        ),
+        (
+            r#","devices":[{"name":"a"}],"links":[{"supplier":"a","consumer":"a"}]"#,
+            11,
+            "links[0]",
+        ),
+        (
+            r#","devices":[{"name":"a"},{"name":"b","parent":"a"}],"links":[{"supplier":"a","consumer":"b"},{"supplier":"b","consumer":"a"}]"#,
+            12,
+            "links[1]",
+        ),
+        (
+            r#","notifiers":[{"name":"a"},{"name":"b"},{"name":"a"}]"#,
+            13,
+            "notifiers[2]",
+        ),
+        (r#","sources":["a","autosleep"]"#, 14, "sources[1]"),
+        (r#","sources":["a","b","b"]"#, 14, "sources[2]"),
+        (
+            r#","answers":[{"what":"syscore","name":"a"}]"#,
+            20,
+            "answers[0]",
+        ),
+        (
+            r#","answers":[{"what":"platform","name":"begin","ret":1}]"#,
+            21,
+            "answers[0]",
+        ),
+        (
+            r#","sources":["s"],"answers":[{"what":"platform","name":"begin","reports":[{"call":"awake","source":"s"}]}]"#,
+            22,
+            "answers[0]",
+        ),
+        (
+            r#","answers":[{"what":"platform","name":"begin","attempt":2},{"what":"platform","name":"begin"},{"what":"platform","name":"begin","attempt":2}]"#,
+            23,
+            "answers[2]",
+        ),
+    ] {
+        let text = file(rt.alloc(), more, "")?;
+        expect(&rt, rt.alloc(), text.as_str(), rule, place);
+    }
+    Ok(())
+}
+
+/// Each rule on operations, by a script that breaks it alone, and where.
+#[test]
+fn operations_that_break_a_rule(rt: HostRuntime) -> Result<(), Fail> {
+    for (operations, rule, place) in [
+        (r#"{"op":"read"},{"op":"fly"}"#, 16u8, "actors[0].script[1]"),
+        (r#"{"op":"read","count":1}"#, 16, "actors[0].script[0]"),
+        (r#"{"op":"sleep","ms":0}"#, 16, "actors[0].script[0]"),
+        (
+            r#"{"op":"read"},{"op":"read"},{"op":"event","source":"s"}"#,
+            18,
+            "actors[0].script[2]",
+        ),
+        (
+            r#"{"op":"runtime","device":"d","to":"active"}"#,
+            19,
+            "actors[0].script[0]",
+        ),
+        (
+            r#"{"op":"state","text":"mem","times":2000},{"op":"read"}"#,
+            0,
+            "",
+        ),
+        (r#"{"op":"state","text":"mem","times":2001}"#, 24, "actors"),
+        (r#"{"op":"post","mark":"M"}"#, 16, "actors[0].script[0]"),
+    ] {
+        let text = file(rt.alloc(), "", operations)?;
+        expect(&rt, rt.alloc(), text.as_str(), rule, place);
+    }
+    Ok(())
+}
+
+/// Files of version 2, whose links have states and whose scripts change links; a file of version 1 has neither.
+#[test]
+fn links_that_change(rt: HostRuntime) {
+    for (text, rule, place) in [
+        (
+            r#"{"version":2,"devices":[{"name":"a"},{"name":"b"}],"links":[{"supplier":"a","consumer":"b","state":"dormant"}]}"#,
+            0u8,
+            "",
+        ),
+        (
+            r#"{"version":1,"devices":[{"name":"a"},{"name":"b"}],"links":[{"supplier":"a","consumer":"b","state":"active"}]}"#,
+            5,
+            "links[0]",
+        ),
+        (
+            r#"{"version":2,"devices":[{"name":"a"},{"name":"b"}],"links":[{"supplier":"a","consumer":"b","state":"off"}]}"#,
+            5,
+            "links[0]",
+        ),
+        (
+            r#"{"version":2,"devices":[{"name":"a"},{"name":"b"}],"actors":[{"name":"w","kind":"user","script":[{"op":"link","supplier":"a","consumer":"b"},{"op":"link_state","supplier":"a","consumer":"b","to":"dormant"}]}]}"#,
+            0,
+            "",
+        ),
+        (
+            r#"{"version":1,"devices":[{"name":"a"},{"name":"b"}],"actors":[{"name":"w","kind":"user","script":[{"op":"link","supplier":"a","consumer":"b"}]}]}"#,
+            16,
+            "actors[0].script[0]",
+        ),
+        (
+            r#"{"version":1,"devices":[{"name":"a"},{"name":"b"}],"actors":[{"name":"w","kind":"user","script":[{"op":"link_state","supplier":"a","consumer":"b","to":"active"}]}]}"#,
+            16,
+            "actors[0].script[0]",
+        ),
+        (
+            r#"{"version":2,"devices":[{"name":"a"},{"name":"b"}],"actors":[{"name":"w","kind":"user","script":[{"op":"link_state","supplier":"a","consumer":"b"}]}]}"#,
+            16,
+            "actors[0].script[0]",
+        ),
+        (
+            r#"{"version":2,"devices":[{"name":"a"},{"name":"b"}],"actors":[{"name":"l","kind":"irq","script":[{"op":"link","supplier":"a","consumer":"b"}]}]}"#,
+            17,
+            "actors[0].script[0]",
+        ),
+        (
+            r#"{"version":2,"devices":[{"name":"a"},{"name":"b"}],"actors":[{"name":"w","kind":"user","script":[{"op":"link","supplier":"a","consumer":"c"}]}]}"#,
+            19,
+            "actors[0].script[0]",
+        ),
+        (
+            r#"{"version":2,"devices":[{"name":"a"},{"name":"b"}],"actors":[{"name":"w","kind":"user","script":[{"op":"link","supplier":"a","consumer":"b","times":4000}]}]}"#,
+            0,
+            "",
+        ),
+        (
+            r#"{"version":2,"devices":[{"name":"a"},{"name":"b"}],"links":[{"supplier":"b","consumer":"a"}],"actors":[{"name":"w","kind":"user","script":[{"op":"link","supplier":"a","consumer":"b","times":4000}]}]}"#,
+            24,
+            "actors",
+        ),
+    ] {
+        expect(&rt, rt.alloc(), text, rule, place);
+    }
+}
+
+/// An operation that its maker may not make, which is tested behind the form of all.
+#[test]
+fn makers_that_break_a_rule(rt: HostRuntime) {
+    for (text, rule, place) in [
+        (
+            r#"{"version":1,"actors":[{"name":"l","kind":"irq","script":[{"op":"sleep","ms":1},{"op":"read"}]}]}"#,
+            17u8,
+            "actors[0].script[1]",
+        ),
+        (
+            r#"{"version":1,"actors":[{"name":"l","kind":"irq","script":[{"op":"read"},{"op":"fly"}]}]}"#,
+            16,
+            "actors[0].script[1]",
+        ),
+    ] {
+        expect(&rt, rt.alloc(), text, rule, place);
+    }
+}
+
+// A machine with something of each list.
+fn machine(alloc: Global) -> Result<ReadMachine, Fail> {
+    let more = r#","alarm_ms":7,"cpus":4,"auto_cycles":3,
+        "devices":[{"name":"bus"},{"name":"usb","parent":"bus","async":true,"runtime":"suspended"},{"name":"clk","wakeup":true}],
+        "links":[{"supplier":"clk","consumer":"usb"}],
+        "syscore":["irq","clock"],"notifiers":[{"name":"n","priority":-5}],"sources":["lid"],
+        "answers":[{"what":"device","name":"usb","phase":"late","attempt":2,"ret":"EIO"},{"what":"syscore","name":"clock","ret":"EBUSY"}]"#;
+    let operations = r#"{"op":"read"},{"op":"save"},{"op":"event","source":"lid"},
+        {"op":"runtime","device":"clk","to":"suspended"},{"op":"state","text":"mem"}"#;
+    let text = file(alloc, more, operations)?;
+    Ok(read_machine(alloc, text.as_str().as_bytes())?)
+}
+
+/// Numbers and devices are read as they are written.
+#[test]
+fn numbers_and_devices_are_read(rt: HostRuntime) -> Result<(), Fail> {
+    let read = machine(rt.alloc())?;
+    assert_eq!(rt; read.machine.alarm_ms, 7);
+    assert_eq!(rt; read.machine.cpus, 4);
+    assert_eq!(rt; read.machine.auto_cycles, 3);
+    let [bus, usb, clk] = read.machine.devices.as_slice() else {
+        return Err(Fail::from("three devices"));
+    };
+    for (device, parent, flags) in [(bus, None, 0u8), (usb, Some(0u32), 5), (clk, None, 2)] {
+        assert_eq!(rt; device.parent, parent);
+        assert_eq!(rt; device.flags.bits(), flags);
+    }
+    Ok(())
+}
+
+/// Links are read, and added in turn.
+#[test]
+fn links_are_read(rt: HostRuntime) -> Result<(), Fail> {
+    let read = machine(rt.alloc())?;
+    let [link] = read.machine.links.as_slice() else {
+        return Err(Fail::from("one link"));
+    };
+    assert_eq!(rt; link.supplier, 2);
+    assert_eq!(rt; link.consumer, 1);
+    assert_eq!(rt; read.links.order(), [0u32, 2, 1].as_slice());
+    Ok(())
+}
+
+/// A link's state is read, and what a script makes of links.
+#[test]
+fn changes_of_links_are_read(rt: HostRuntime) -> Result<(), Fail> {
+    let text = r#"{"version":2,"devices":[{"name":"a"},{"name":"b"}],
+        "links":[{"supplier":"b","consumer":"a","state":"dormant"}],
+        "actors":[{"name":"w","kind":"user","script":[{"op":"link_state","supplier":"b","consumer":"a","to":"active"},{"op":"link","supplier":"a","consumer":"b"}]}]}"#;
+    let read = read_machine(rt.alloc(), text.as_bytes())?;
+    let [link] = read.machine.links.as_slice() else {
+        return Err(Fail::from("one link"));
+    };
+    assert!(rt; !link.active);
+    let [actor] = read.machine.actors.as_slice() else {
+        return Err(Fail::from("one actor"));
+    };
+    let [state, added] = actor.steps.as_slice() else {
+        return Err(Fail::from("two steps"));
+    };
+    assert!(rt;
+        matches!(
+            &state.op,
+            Op::LinkState {
+                supplier: 1,
+                consumer: 0,
+                active: true
+            }
+        )
+    );
+    assert!(rt;
+        matches!(
+            &added.op,
+            Op::Link {
+                supplier: 0,
+                consumer: 1
+            }
+        )
+    );
+    Ok(())
+}
+
+/// Notifiers and answers are read.
+#[test]
+fn notifiers_and_answers_are_read(rt: HostRuntime) -> Result<(), Fail> {
+    let read = machine(rt.alloc())?;
+    let [notifier] = read.machine.notifiers.as_slice() else {
+        return Err(Fail::from("one notifier"));
+    };
+    assert_eq!(rt; notifier.priority, -5);
+    let [late, core] = read.machine.answers.as_slice() else {
+        return Err(Fail::from("two answers"));
+    };
+    assert_eq!(rt; late.what, What::Device(1, Phase::Late));
+    assert_eq!(rt; late.attempt, Some(2));
+    assert_eq!(rt; late.ret, -5);
+    assert_eq!(rt; core.what, What::Syscore(1));
+    assert_eq!(rt; core.ret, -16);
+    Ok(())
+}
+
+/// Operations are read.
+#[test]
+fn operations_are_read(rt: HostRuntime) -> Result<(), Fail> {
+    let read = machine(rt.alloc())?;
+    let [actor] = read.machine.actors.as_slice() else {
+        return Err(Fail::from("one actor"));
+    };
+    let [_, _, event, runtime, state] = actor.steps.as_slice() else {
+        return Err(Fail::from("five steps"));
+    };
+    assert!(rt;
+        matches!(
+            &event.op,
+            Op::Event {
+                source: 0,
+                ms: 0,
+                hard: false
+            }
+        )
+    );
+    assert!(rt;
+        matches!(
+            &runtime.op,
+            Op::Runtime {
+                device: 2,
+                to_suspended: true
+            }
+        )
+    );
+    assert!(rt;
+        matches!(
+            &state.op,
+            Op::State {
+                if_saved: false,
+                ..
+            }
+        )
+    );
+    Ok(())
+}
+
+// Two writers that share marks, and a callback that reports.
+fn shared(alloc: Global) -> Result<ReadMachine, Fail> {
+    let text = r#"{"version":1,"devices":[{"name":"nic"}],"sources":["lan","lid"],
+        "actors":[
+            {"name":"w","kind":"user","script":[{"op":"wait","mark":"b"},{"op":"state","text":"mem","if_saved":true,"times":3}]},
+            {"name":"v","kind":"user","script":[{"op":"autosleep","text":"mem"},{"op":"sleep","ms":20},{"op":"post","mark":"a"},{"op":"post","mark":"b"}]}],
+        "answers":[{"what":"device","name":"nic","phase":"late","reports":[{"call":"event","source":"lid","ms":9,"hard":true},{"call":"relax","source":"lan"}]}]}"#;
+    Ok(read_machine(alloc, text.as_bytes())?)
+}
+
+/// Marks stand in the order of their first use, and are named by their numbers.
+#[test]
+fn marks_are_read(rt: HostRuntime) -> Result<(), Fail> {
+    let read = shared(rt.alloc())?;
+    let [first, second] = read.machine.marks.as_slice() else {
+        return Err(Fail::from("two marks"));
+    };
+    assert_eq!(rt; first.bytes(), b"b".as_slice());
+    assert_eq!(rt; second.bytes(), b"a".as_slice());
+    let [_, other] = read.machine.actors.as_slice() else {
+        return Err(Fail::from("two actors"));
+    };
+    let [_, sleep, one, two] = other.steps.as_slice() else {
+        return Err(Fail::from("four steps"));
+    };
+    assert!(rt; matches!(&sleep.op, Op::Sleep { ms: 20 }));
+    assert!(rt; matches!(&one.op, Op::Post { mark: 1 }));
+    assert!(rt; matches!(&two.op, Op::Post { mark: 0 }));
+    Ok(())
+}
+
+/// Each of two writers has its own script.
+#[test]
+fn writers_are_read(rt: HostRuntime) -> Result<(), Fail> {
+    let read = shared(rt.alloc())?;
+    let [one, other] = read.machine.actors.as_slice() else {
+        return Err(Fail::from("two actors"));
+    };
+    let [wait, state] = one.steps.as_slice() else {
+        return Err(Fail::from("two steps"));
+    };
+    assert!(rt; matches!(&wait.op, Op::Wait { mark: 0 }));
+    assert!(rt; matches!(&state.op, Op::State { if_saved: true, .. }));
+    assert_eq!(rt; state.times, 3);
+    let [autosleep, ..] = other.steps.as_slice() else {
+        return Err(Fail::from("a step"));
+    };
+    assert!(rt; matches!(&autosleep.op, Op::Autosleep { .. }));
+    Ok(())
+}
+
+/// Reports are read, in their order.
+#[test]
+fn reports_are_read(rt: HostRuntime) -> Result<(), Fail> {
+    let read = shared(rt.alloc())?;
+    let [answer] = read.machine.answers.as_slice() else {
+        return Err(Fail::from("one answer"));
+    };
+    let [event, relax] = answer.reports.as_slice() else {
+        return Err(Fail::from("two reports"));
+    };
+    assert_eq!(rt; event.source, 1);
+    assert!(rt; matches!(&event.call, SourceCall::Event { ms: 9, hard: true }));
+    assert_eq!(rt; relax.source, 0);
+    assert!(rt; matches!(&relax.call, SourceCall::Relax));
+    Ok(())
+}

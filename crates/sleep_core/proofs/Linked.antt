@@ -1,0 +1,101 @@
+-- Links change where no attempt is open, so that a board that is made anew is the board then.
+use Rattle.std.proofs.Common.{◌≡◌, ◌≤◌, ◌∙◌, ℕ, Bool, true, false, List, ◌∷◌, length, map, replicate, Option, Some, None, is_some, refl, sym, ap, subst, arith}
+use Rattle.std.proofs.lemmas.List.{length-map}
+use Rattle.phase_table.specs.declared.phase.Phase.{Phase}
+use Rattle.phase_table.specs.declared.phase.Phase.TheVariants as phase
+use Rattle.sleep_base.specs.declared.errno.Errno.{Errno}
+use Rattle.sleep_model.specs.declared.entry.Actor.{Actor}
+use Rattle.sleep_model.specs.declared.entry.Entry.{Entry}
+use Rattle.sleep_model.specs.declared.entry.Kind.{Kind}
+use Rattle.sleep_model.specs.declared.entry.Kind.TheVariants as kind
+use Rattle.sleep_model.specs.declared.machine.Link.{Link}
+use Rattle.sleep_model.specs.declared.machine.Machine.{Machine}
+use Rattle.sleep_model.specs.declared.machine.Op.{Op}
+use Rattle.sleep_model.specs.declared.place.Due.TheVariants.{Makes}
+use Rattle.sleep_model.specs.declared.place.Seat.{Seat}
+use Rattle.sleep_model.specs.declared.place.Stage.{Stage}
+use Rattle.sleep_model.specs.declared.place.Stand.{Stand}
+use Rattle.sleep_model.specs.declared.place.Stand.TheVariants as stand
+use Rattle.sleep_model.specs.declared.place.Work.{Work}
+use Rattle.sleep_model.specs.declared.word.EventNow.{EventNow}
+use Rattle.sleep_model.specs.Accepted.{IsAccepted}
+use Rattle.sleep_model.specs.Due.{due}
+use Rattle.sleep_model.specs.Laws.{NoneStands}
+use Rattle.sleep_model.specs.Legal.{JournalPart}
+use Rattle.sleep_model.specs.Links.{is_linked, is_dependent}
+use Rattle.sleep_model.specs.Order.{links_after, links_at, parents_of}
+use Rattle.sleep_model.specs.Path.{maker}
+use Rattle.sleep_model.specs.Runtime.{is_async}
+use Rattle.sleep_model.specs.Stands.{stands}
+use Rattle.sleep_laws.proofs.DevicesStand.{none_stands}
+use Rattle.sleep_laws.proofs.Holding.{add_free, state_free, stage_none}
+use Rattle.sleep_laws.proofs.Made.{Made, StepMade, TaskMade, WorkMade, DeviceMade, EntryMade, ByMaker, ByTask, ByWork, ByDevice, ByTime, Down, InSuspend, InLate, InNoirq}
+use Rattle.sleep_laws.proofs.MakingOwn.{made}
+use Rattle.sleep_laws.proofs.Passing.{standing}
+use Rattle.sleep_laws.proofs.Standing.{Standing}
+use Rattle.async_board.specs.Boards.{BoardState, first_board}
+use Rattle.sleep_core.specs.Histories.{Changes, Relinks, Stands, board_of}
+
+-- an accepted machine has few devices
+pub few_parents : (m : Machine) → IsAccepted m → length (parents_of m.devices) ≤ 1024
+few_parents m acc = omega (arith, length-map m.devices (λ x. x.parent), acc.devices)
+
+-- ---- who changes links
+
+maker_unlinked : (m : Machine) (past : List Entry) (now : EventNow) (here : Stage) (k : Kind) → Made m past now here k → Changes k → ⊥
+maker_unlinked m past now _ _ Made.Ends h = h
+maker_unlinked m past now _ _ _ h = h
+
+device_unlinked : (m : Machine) (past : List Entry) (now : EventNow) (d : ℕ) (k : Kind) → DeviceMade m past now d k → Changes k → ⊥
+device_unlinked m past now d _ (DeviceMade.OwnEnds p r down beside work stands) h = h
+device_unlinked m past now d _ _ h = h
+
+work_unlinked : (m : Machine) (past : List Entry) (now : EventNow) (w : Work) (k : Kind) → WorkMade m past now w k → Changes k → ⊥
+work_unlinked m past now _ _ WorkMade.Runs h = h
+work_unlinked m past now _ _ _ h = h
+
+step_closed : (m : Machine) (past : List Entry) (now : EventNow) (seat : Seat) (asked : Bool) (o : Option Op) (k : Kind) → StepMade m past now seat asked o k → Changes k → maker past ≡ None
+step_closed m past now seat asked _ _ (StepMade.AddsLink s c r e) h =
+    add_free (maker past) (is_linked (links_at m past) s c) (is_dependent (parents_of m.devices) (links_at m past) c s) (e ∙ h)
+step_closed m past now seat asked _ _ (StepMade.SetsLink s c active r e) h = state_free (maker past) (is_linked (links_at m past) s c) (e ∙ h)
+step_closed m past now seat asked _ _ _ h = absurd h
+
+entry_closed : (m : Machine) (past : List Entry) (now : EventNow) (who : Actor) (k : Kind) → EntryMade m past now who k → Changes k → maker past ≡ None
+entry_closed m past now who k (ByMaker _ here there _ maker at comes x) h = absurd (maker_unlinked m past now there k x h)
+entry_closed m past now _ _ (ByTask i _ not (TaskMade.Freezes s go f)) h = absurd h
+entry_closed m past now _ k (ByTask i _ not (TaskMade.Steps s _ o go e x)) h = step_closed m past now _ _ o k x h
+entry_closed m past now _ k (ByWork w _ not awake goes at x) h = absurd (work_unlinked m past now w k x h)
+entry_closed m past now _ k (ByDevice d _ not x) h = absurd (device_unlinked m past now d k x h)
+entry_closed m past now _ _ ByTime h = absurd h
+
+-- ---- the board
+
+-- where no attempt is open no device is prepared
+unprepared : (m : Machine) (past : List Entry) → JournalPart m past → maker past ≡ None → (p : Phase) → Down p → NoneStands m p past
+unprepared m past legal none p i = none_stands m past (subst (Standing m past) (stage_none m past legal none) (standing m past legal)).0 p i
+
+board_linked : (m : Machine) (past : List Entry) → JournalPart m past → maker past ≡ None → (ls : List Link)
+    → first_board (parents_of m.devices) ls (map is_async m.devices)
+    ≡ record { parents = parents_of m.devices; links = ls; beside = map is_async m.devices; suspend = stands (length m.devices) phase.Suspend past; late = stands (length m.devices) phase.Late past; noirq = stands (length m.devices) phase.Noirq past }
+board_linked m past legal none ls =
+    let a = unprepared m past legal none phase.Suspend InSuspend in
+    let b = unprepared m past legal none phase.Late InLate in
+    let c = unprepared m past legal none phase.Noirq InNoirq in
+    let n = length-map m.devices (λ x. x.parent) in
+    ap (λ (k : ℕ). with_stands (replicate k stand.Unprepared) (replicate k stand.Unprepared) (replicate k stand.Unprepared)) n
+    ∙ (ap (λ (ss : List Stand). with_stands ss (replicate (length m.devices) stand.Unprepared) (replicate (length m.devices) stand.Unprepared)) (sym a)
+    ∙ (ap (λ (ss : List Stand). with_stands (stands (length m.devices) phase.Suspend past) ss (replicate (length m.devices) stand.Unprepared)) (sym b)
+    ∙ ap (λ (ss : List Stand). with_stands (stands (length m.devices) phase.Suspend past) (stands (length m.devices) phase.Late past) ss) (sym c)))
+  where
+    with_stands : List Stand → List Stand → List Stand → BoardState
+    with_stands x y z = record { parents = parents_of m.devices; links = ls; beside = map is_async m.devices; suspend = x; late = y; noirq = z }
+
+-- a board that was made for an entry that is due is the board behind it
+relinked : (m : Machine) (past : List Entry) → JournalPart m past → (time : ℕ) (now : EventNow) (who : Actor) (k : Kind) (board : BoardState) → maker past ≡ None → Changes k → board ≡ first_board (parents_of m.devices) (links_after k (links_at m past)) (map is_async m.devices) → board ≡ board_of m (record { time = time; now = now; actor = who; kind = k } ∷ past)
+relinked m past legal time now who (kind.LinkAdd s c r) board none h e = e ∙ board_linked m past legal none (links_after (kind.LinkAdd s c r) (links_at m past))
+relinked m past legal time now who (kind.LinkState s c active r) board none h e = e ∙ board_linked m past legal none (links_after (kind.LinkState s c active r) (links_at m past))
+relinked m past legal time now who _ board none h e = absurd h
+
+pub stands_then : (m : Machine) (past : List Entry) → JournalPart m past → (time : ℕ) (now : EventNow) (who : Actor) (k : Kind) → due m past who now ≡ Makes k → (o : Option BoardState) → Relinks m past k o → Stands m past (record { time = time; now = now; actor = who; kind = k }) o
+stands_then m past legal time now who k makes None h = h (links_at m past)
+stands_then m past legal time now who k makes (Some board) h = relinked m past legal time now who k board (entry_closed m past now who k (made m past now who k makes) h.0) h.0 h.1
