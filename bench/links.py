@@ -1,14 +1,15 @@
 #!/usr/bin/env python3
-"""Times the reading of machines with more and more links.
+"""Times machines with more and more links.
 
 usage: links.py [PROGRAM]
 
-Two machines of 1,000 devices, whose one task does nothing, so that the reading of the machine is all
-there is:
+Three machines of 1,000 devices. The one task of the first two does nothing, so that the reading of the
+machine is all there is:
 
   chain   each device hangs below the one before, and the links go in the order that moves most: each
           link's consumer stands high in the chain, so that nearly all devices are moved
   wide    all devices hang below the first, and each link moves one
+  script  the chain, whose links the task adds one by one: each costs a pass over the devices too
 
 Prints the processor time of the best of some runs, less that of the machine without links, for each link, and
 how it compares with the row before. One link costs at most a walk over what hangs below its consumer and one
@@ -47,17 +48,29 @@ def wide(count):
     return machine(devices, sorted(set(links)))
 
 
+def script(count):
+    """The chain, whose links a task adds."""
+    built = chain(count)
+    steps = [{"op": "link", **link} for link in built["links"]]
+    return built | {"version": 2, "links": [], "actors": [built["actors"][0] | {"script": steps}]}
+
+
+def links_of(built):
+    """How many links a machine has, or adds."""
+    return len(built["links"]) + len(built["actors"][0].get("script", []))
+
+
 def main():
     program = sys.argv[1] if len(sys.argv) > 1 else PROGRAM
     print(f"{'machine':>8} {'links':>6} {'us/link':>8} {'ratio':>6}")
-    for name, make in (("chain", chain), ("wide", wide)):
+    for name, make in (("chain", chain), ("wide", wide), ("script", script)):
         base, _ = timed(program, make(0))
         before = None
         for count in (1000, 2000, 4000):
             built = make(count)
             seconds, _ = timed(program, built)
-            each = max(seconds - base, 0.0) / len(built["links"]) * 1e6
-            print(f"{name:>8} {len(built['links']):>6} {each:>8.2f} {f'{each / before:.2f}' if before else '-':>6}")
+            each = max(seconds - base, 0.0) / links_of(built) * 1e6
+            print(f"{name:>8} {links_of(built):>6} {each:>8.2f} {f'{each / before:.2f}' if before else '-':>6}")
             before = each
 
 

@@ -1,8 +1,9 @@
 -- The place of each device in an order of different devices.
 use Rattle.std.proofs.Common.{◌≡◌, ◌<◌, ◌+◌, ◌∙◌, ℕ, zero, suc, true, ◌==◌, ◌⊎◌, inl, inr, List, [], ◌∷◌, length, get_or, set, sym, ap, subst, arith, get_or-set_same, get_or-set_other, below_more}
-use Rattle.std.proofs.lemmas.Bool.{false≢true, eqb-true, or_cases}
+use Rattle.std.proofs.lemmas.Bool.{cases_eq, false≢true, eqb-true, or_cases}
 use Rattle.sleep_model.specs.Order.{is_among}
 use Rattle.sleep_model.proofs.Walks.{AllDifferent}
+use Rattle.async_board.specs.Counts.{IsLengths}
 use Rattle.async_board.specs.Walks.{IsPlaced}
 use Rattle.async_board.proofs.Counting.{among_at}
 
@@ -42,3 +43,26 @@ placed_all order places covers size once = record {
   where
     at : (d : ℕ) (f : (i : ℕ) × (i < length order) × (get_or order i 0 ≡ d)) → get_or places d 0 ≡ f.0
     at d f = ap (λ x. get_or places x 0) (sym f.2) ∙ once f.0 f.1
+
+-- one more device has its number
+pub numbers_more : (f : ℕ → ℕ) (order numbers : List ℕ) (i : ℕ) → get_or order i 0 < length numbers
+    → ((j : ℕ) → j < i → get_or numbers (get_or order j 0) 0 ≡ f (get_or order j 0)) → (j : ℕ) → j < i + 1 → get_or (set numbers (get_or order i 0) (f (get_or order i 0))) (get_or order j 0) 0 ≡ f (get_or order j 0)
+numbers_more f order numbers i within h =
+    below_more (λ j. get_or (set numbers (get_or order i 0) (f (get_or order i 0))) (get_or order j 0) 0 ≡ f (get_or order j 0)) i
+    (λ j m. by_device j m (cases_eq (get_or order j 0) (get_or order i 0)))
+    here
+  where
+    here : get_or (set numbers (get_or order i 0) (f (get_or order i 0))) (get_or order i 0) 0 ≡ f (get_or order i 0)
+    here = get_or-set_same numbers (get_or order i 0) (f (get_or order i 0)) 0 within
+
+    by_device : (j : ℕ) → j < i → (get_or order j 0 ≡ get_or order i 0) ⊎ (get_or order j 0 ≡ get_or order i 0 → ⊥) → get_or (set numbers (get_or order i 0) (f (get_or order i 0))) (get_or order j 0) 0 ≡ f (get_or order j 0)
+    by_device j m (inl e) = subst (λ (d : ℕ). get_or (set numbers (get_or order i 0) (f (get_or order i 0))) d 0 ≡ f d) (sym e) here
+    by_device j m (inr other) = get_or-set_other numbers (get_or order i 0) (get_or order j 0) (f (get_or order i 0)) 0 other ∙ h j m
+
+-- all devices have the lengths of their rows
+pub lengths_all : (row : ℕ → List ℕ) (order numbers : List ℕ) (n : ℕ) → n ≡ length order → ((d : ℕ) → d < length order → is_among order d ≡ true) → length numbers ≡ n
+    → ((i : ℕ) → i < length order → get_or numbers (get_or order i 0) 0 ≡ length (row (get_or order i 0))) → IsLengths n row numbers
+lengths_all row order numbers n e covers size h = record {
+  size = size;
+  each = λ d l. let f = found order d (covers d (omega (arith, e, l))) in subst (λ (x : ℕ). get_or numbers x 0 ≡ length (row x)) f.2 (h f.0 f.1);
+}

@@ -3,6 +3,9 @@ use Rattle.std.specs.Prelude.{◌≡◌, ◌≢◌, ◌<◌, ◌≤◌, ℕ, Boo
 use Rattle.sleep_model.specs.declared.place.Stand.{Stand}
 use Rattle.async_board.specs.declared.pick.Pick.TheVariants as pick
 use Rattle.async_board.specs.declared.cursors.Cursors.{Cursors}
+use Rattle.async_board.specs.declared.cursors.Moved.{Moved}
+use Rattle.sleep_model.specs.Stands.{stand_at}
+use Rattle.sleep_model.specs.Walk.{is_so}
 use Rattle.async_board.specs.Picks.{is_picked, IsPassed, IsAhead}
 
 -- none of the places before this one passes, but place k may
@@ -14,6 +17,13 @@ pub record IsPassedBut (k : ℕ) (p : ℕ → Bool) (xs : List ℕ) (at : ℕ) :
 pub record IsAheadBut (k : ℕ) (p : ℕ → Bool) (xs : List ℕ) (at : ℕ) : Type 0 where
   pub fits : at ≤ length xs
   pub behind : (i : ℕ) → at ≤ i → i < length xs → i ≢ k → p (slice_index_or xs i 0) ≡ false
+
+-- the device at place k, as it stands now
+pub record IsMoved (flags : List Bool) (stands : List Stand) (order : List ℕ) (k : ℕ) (m : Moved) : Type 0 where
+  pub within : k < length order
+  pub place : m.place ≡ k
+  pub stand : m.stand ≡ stand_at stands (slice_index_or order k 0)
+  pub beside : m.beside ≡ is_so flags (slice_index_or order k 0)
 
 -- the cursors of devices that stand so in this order
 pub record AreCursors (beside : List Bool) (stands : List Stand) (order : List ℕ) (c : Cursors) : Type 0 where

@@ -50,3 +50,9 @@ pub record IsWalk (l : Layout) (w : Walk) : Type 0 where
   pub cursors : AreCursors l.beside.items w.stands.items (order_of l) w.cursors
   pub below : IsBelow l.links.parents l.links.links w.stands.items w.open_below.items
   pub above : IsAbove l.links.parents l.links.links w.stands.items w.open_above.items
+
+-- a pair of phases has places for n devices
+pub record IsSized (n : ℕ) (w : Walk) : Type 0 where
+  pub stands : length w.stands.items ≡ n
+  pub below : length w.open_below.items ≡ n
+  pub above : length w.open_above.items ≡ n

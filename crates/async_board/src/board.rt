@@ -1,13 +1,14 @@
-ghost use Rattle.std.specs.Prelude.{◌≡◌, Some};
+ghost use Rattle.std.specs.Prelude.{◌≡◌, Some, length, replicate};
 ghost use Rattle.sleep_model.specs.Stands.{stand_at, stands_after, device_of};
 ghost use Rattle.sleep_model.specs.Walk.{is_so};
 ghost use Rattle.async_board.specs.Cursors.{AreCursors};
-ghost use Rattle.async_board.specs.Walks.{IsLayout, IsWalk, IsBelow, IsAbove};
+ghost use Rattle.sleep_model.specs.declared.place.Stand.TheVariants as stand;
+ghost use Rattle.async_board.specs.Walks.{IsLayout, IsSized, IsWalk, IsBelow, IsAbove};
 
 use crate::pick::{Look, Pick, first_picked, is_so, last_picked, stand_at};
 use crate::rows::{all_left_alone, count_at, first_low, first_unsettled, is_none};
 use crate::stand::{device_of, may_move, stand_after, work_in};
-use crate::walk::{Layout, Walk, places_of, put};
+use crate::walk::{Layout, Walk, fill_places, places_of, put};
 use device_links::Links;
 use sleep_base::Mem;
 use sleep_model::{AsyncWork, Kind, Phase, Stand};
@@ -71,8 +72,30 @@ fn move_in(walk: &mut Walk, layout: &Layout, p: Phase, kind: Kind, device: u32)
     }
 }
 
+// Begins anew over links that have changed: no device is prepared.
+fn begin_anew(layout: &mut Layout, suspend: &mut Walk, late: &mut Walk, noirq: &mut Walk)
+    requires places { length layout.old.places.items ≡ length layout.old.links.parents }
+    requires suspend { IsSized (length layout.old.links.parents) suspend.old }
+    requires late { IsSized (length layout.old.links.parents) late.old }
+    requires noirq { IsSized (length layout.old.links.parents) noirq.old }
+    ensures links { layout.new.links ≡ layout.old.links }
+    ensures beside { layout.new.beside ≡ layout.old.beside }
+    ensures laid { IsLayout layout.new }
+    ensures suspended { suspend.new.stands.items ≡ replicate (length layout.old.links.parents) stand.Unprepared }
+    ensures lated { late.new.stands.items ≡ replicate (length layout.old.links.parents) stand.Unprepared }
+    ensures noirqed { noirq.new.stands.items ≡ replicate (length layout.old.links.parents) stand.Unprepared }
+    ensures suspend { IsWalk layout.new suspend.new }
+    ensures late { IsWalk layout.new late.new }
+    ensures noirq { IsWalk layout.new noirq.new }
+{
+    fill_places(&mut layout.places, layout.links.order());
+    suspend.restart(layout);
+    late.restart(layout);
+    noirq.restart(layout);
+}
+
 impl Board {
-    ghost use Rattle.std.specs.Prelude.{◌≡◌, ◌<◌, IfOk, None, is_none, length};
+    ghost use Rattle.std.specs.Prelude.{◌≡◌, ◌<◌, IfOk, OnOk, OnErr, None, is_none, length};
     ghost use Rattle.sleep_model.specs.Order.{links_added, links_set};
     ghost use Rattle.async_board.specs.Boards.{first_board, board_after, stands_on, order_on, next_prepared_on, next_completed_on, next_down_on, waits_down_on, next_given_on, next_up_on, waits_up_on, waits_below_on, waits_above_on, open_below_on, open_above_on, all_left_alone_on, work_on};
 
@@ -117,37 +140,46 @@ impl Board {
         &self.layout.links
     }
 
-    // A board over other links of the same devices, on which no device is prepared.
-    fn over(&self, links: Links) -> Result<Board, Mem>
-        ensures { IfOk result (λ b. b ≡ first_board links.parents links.links self.now.beside) }
+    /// Adds a link that is active, after which no device is prepared (`device_link_add`). `Mem` if there
+    /// is no memory for it, or where the link cannot be added; nothing has changed then.
+    pub fn add_link(&mut self, supplier: u32, consumer: u32) -> Result<(), Mem>
+        ensures ok { OnOk result (self.new ≡ first_board self.old.parents
+            (links_added supplier consumer None self.old.links) self.old.beside) }
+        ensures err { OnErr result (self.new ≡ self.old) }
     {
-        let beside = &self.layout.beside;
-        let alloc = *beside.allocator();
-        Board::wired(alloc, links, Vec::from_slice(alloc, beside)?)
-    }
-
-    /// A board with one link more, which is active, on which no device is prepared (`device_link_add`).
-    /// `Mem` if there is no memory for it, or where the link cannot be added.
-    pub fn with_link(&self, supplier: u32, consumer: u32) -> Result<Board, Mem>
-        ensures { IfOk result (λ b. b ≡ first_board self.now.parents
-            (links_added supplier consumer None self.now.links) self.now.beside) }
-    {
-        let mut links = self.layout.links.copy()?;
-        match links.add(supplier, consumer) {
-            Ok(()) => self.over(links),
+        let _devices = self.layout.links.order().len();
+        match self.layout.links.add(supplier, consumer) {
+            Ok(()) => {
+                begin_anew(
+                    &mut self.layout,
+                    &mut self.suspend,
+                    &mut self.late,
+                    &mut self.noirq,
+                );
+                Ok(())
+            }
             Err(_) => Err(Mem),
         }
     }
 
-    /// A board with the state of a link set, on which no device is prepared (`struct device_link`,
-    /// `status`). `Mem` if there is no memory for it, or where there is no such link.
-    pub fn with_state(&self, supplier: u32, consumer: u32, active: bool) -> Result<Board, Mem>
-        ensures { IfOk result (λ b. b ≡ first_board self.now.parents
-            (links_set supplier consumer active None self.now.links) self.now.beside) }
+    /// Sets the state of a link, after which no device is prepared (`struct device_link`, `status`).
+    /// `Mem` where there is no such link; nothing has changed then.
+    pub fn set_link(&mut self, supplier: u32, consumer: u32, active: bool) -> Result<(), Mem>
+        ensures ok { OnOk result (self.new ≡ first_board self.old.parents
+            (links_set supplier consumer active None self.old.links) self.old.beside) }
+        ensures err { OnErr result (self.new ≡ self.old) }
     {
-        let mut links = self.layout.links.copy()?;
-        match links.set_active(supplier, consumer, active) {
-            Ok(()) => self.over(links),
+        let _devices = self.layout.links.order().len();
+        match self.layout.links.set_active(supplier, consumer, active) {
+            Ok(()) => {
+                begin_anew(
+                    &mut self.layout,
+                    &mut self.suspend,
+                    &mut self.late,
+                    &mut self.noirq,
+                );
+                Ok(())
+            }
             Err(_) => Err(Mem),
         }
     }

@@ -1,11 +1,11 @@
 //! Where the devices stand in a pair of phases.
 
-ghost use Rattle.std.specs.Prelude.{◌≡◌, ◌<◌, ◌∷◌, ℕ, true, IfOk, length, replicate, slice_index, slice_set};
+ghost use Rattle.std.specs.Prelude.{◌≡◌, ◌<◌, ℕ, true, IfOk, length, replicate, slice_index, slice_set};
 ghost use Rattle.sleep_model.specs.Order.{active_of, is_among, hanging, holding, order_by};
 ghost use Rattle.sleep_model.proofs.Walks.{AllDifferent};
 ghost use Rattle.sleep_model.specs.Links.{first_places};
 ghost use Rattle.sleep_model.specs.declared.place.Stand.TheVariants as stand;
-ghost use Rattle.async_board.specs.Walks.{IsPlaced, IsBelow, IsAbove, IsLayout, IsWalk, order_of, failed_after};
+ghost use Rattle.async_board.specs.Walks.{IsPlaced, IsBelow, IsAbove, IsLayout, IsSized, IsWalk, order_of, failed_after};
 ghost use Rattle.async_board.specs.Counts.{IsLengths};
 ghost use Rattle.async_board.specs.Cursors.{AreCursors, AreCursorsBut};
 
@@ -18,7 +18,7 @@ use sleep_base::Mem;
 use sleep_model::Stand;
 use std::alloc::Global;
 
-/// What never changes: the links, the place of each device in their order, and which devices are
+/// What no attempt changes: the links, the place of each device in their order, and which devices are
 /// asynchronous.
 #[derive(Drop)]
 pub(crate) struct Layout {
@@ -39,6 +39,19 @@ pub(crate) struct Walk {
     pub(crate) open_above: Vec<usize>,
 }
 
+/// Gives each device its place in an order that has each once.
+pub(crate) fn fill_places(places: &mut [usize], order: &[u32])
+    requires size { length places.old ≡ length order.now }
+    requires different { AllDifferent order.now }
+    requires covers { (d : ℕ) → d < length order.now → is_among order.now d ≡ true }
+    requires within { (d : ℕ) → is_among order.now d ≡ true → d < length order.now }
+    ensures { IsPlaced order.now places.new }
+{
+    for (place, device) in order.iter().enumerate() {
+        places[*device as usize] = place;
+    }
+}
+
 /// The place of each device in an order that has each once.
 pub(crate) fn places_of(alloc: Global, order: &[u32]) -> Result<Vec<usize>, Mem>
     requires different { AllDifferent order.now }
@@ -47,10 +60,29 @@ pub(crate) fn places_of(alloc: Global, order: &[u32]) -> Result<Vec<usize>, Mem>
     ensures { IfOk result (λ v. IsPlaced order.now v.items) }
 {
     let mut places = vec![in alloc; 0; order.len()]?;
-    for (place, device) in order.iter().enumerate() {
-        places[*device as usize] = place;
-    }
+    fill_places(&mut places, order);
     Ok(places)
+}
+
+// Counts how many devices hang right below each.
+fn count_below(counts: &mut [usize], links: &Links)
+    requires size { length counts.old ≡ length links.now.parents }
+    ensures { IsLengths (length links.now.parents)
+        (λ d. first_places (hanging links.now.parents (active_of links.now.links) d)) counts.new }
+{
+    let order = links.order();
+    for device in order {
+        counts[*device as usize] = links.below(*device).len();
+    }
+}
+
+// Counts how many devices hang right below each, anew.
+fn recount_below(counts: &mut Vec<usize>, links: &Links)
+    requires size { length counts.old.items ≡ length links.now.parents }
+    ensures { IsLengths (length links.now.parents)
+        (λ d. first_places (hanging links.now.parents (active_of links.now.links) d)) counts.new.items }
+{
+    count_below(counts, links);
 }
 
 // How many devices hang right below each.
@@ -58,20 +90,28 @@ fn counts_below(alloc: Global, links: &Links) -> Result<Vec<usize>, Mem>
     ensures { IfOk result (λ v. IsLengths (length links.now.parents)
         (λ d. first_places (hanging links.now.parents (active_of links.now.links) d)) v.items) }
 {
-    let count = links.order().len();
-    if count > u32::MAX as usize {
-        return Err(Mem);
-    }
-    let mut counts = Vec::new(alloc);
-    for device in 0..count as u32 {
-        counts.push(links.below(device).len())?;
-    }
+    let mut counts = vec![in alloc; 0; links.order().len()]?;
+    recount_below(&mut counts, links);
     Ok(counts)
+}
+
+// Where the searches begin among so many devices, none of which is prepared.
+fn first_cursors(count: usize) -> Cursors
+    ensures { result ≡ record { unprepared = 0; going = 0; given = 0; up = 0; low = 0; ready = count; prepared = count } }
+{
+    Cursors {
+        unprepared: 0,
+        going: 0,
+        given: 0,
+        up: 0,
+        low: 0,
+        ready: count,
+        prepared: count,
+    }
 }
 
 impl Walk {
     /// No device is prepared. `Mem` if there is no memory for it.
-    #[tactic(auto, using(crate::proofs::Stood::fresh_walk))]
     pub(crate) fn new(alloc: Global, layout: &Layout) -> Result<Walk, Mem>
         requires { IsLayout layout.now }
         ensures stands { IfOk result (λ w. w.stands.items
@@ -81,19 +121,25 @@ impl Walk {
         let count = layout.links.order().len();
         Ok(Walk {
             stands: vec![in alloc; Stand::Unprepared; count]?,
-            cursors: Cursors {
-                unprepared: 0,
-                going: 0,
-                given: 0,
-                up: 0,
-                low: 0,
-                ready: count,
-                prepared: count,
-            },
+            cursors: first_cursors(count),
             failed: false,
             open_below: counts_below(alloc, &layout.links)?,
             open_above: vec![in alloc; 0; count]?,
         })
+    }
+
+    /// Begins anew over a layout of as many devices: none is prepared.
+    pub(crate) fn restart(&mut self, layout: &Layout)
+        requires { IsSized (length layout.now.links.parents) self.old }
+        ensures stands { self.new.stands.items
+            ≡ replicate (length layout.now.links.parents) stand.Unprepared }
+        ensures kept { IsWalk layout.now self.new }
+    {
+        self.stands.fill(Stand::Unprepared);
+        self.cursors = first_cursors(layout.links.order().len());
+        self.failed = false;
+        recount_below(&mut self.open_below, &layout.links);
+        self.open_above.fill(0);
     }
 }
 

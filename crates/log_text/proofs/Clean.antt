@@ -1,9 +1,8 @@
 -- No name, number or word has a newline, so each line ends at its own.
-use Rattle.std.proofs.Common.{◌≡◌, ◌∙◌, ℕ, ◌==◌, ◌+◌, ◌<◌, ◌^◌, Bool, true, false, ◌&&◌, nat_lt, nat_le, List, [], ◌∷◌, ◌++◌, codes, decimal, length, Option, Some, None, ℤ, pos, negsuc, zero, suc, refl, sym, ap, arith}
-use Rattle.std.specs.Prelude.{slice_get, if◌then◌else◌}
+use Rattle.std.proofs.Common.{◌≡◌, ◌∙◌, ℕ, ◌==◌, Bool, true, false, ◌&&◌, nat_lt, nat_le, List, ◌++◌, codes, decimal, length, Option, Some, None, ℤ, pos, negsuc, suc, refl, sym, ap, arith}
+use Rattle.std.specs.Prelude.{if◌then◌else◌}
 use Rattle.std.proofs.lemmas.Bool.{and_parts}
 use Rattle.std.proofs.lemmas.Bool.Decides.{nat_tests}
-use Rattle.std.proofs.lemmas.Fmt.{decimal_digit}
 use Rattle.sleep_base.specs.declared.errno.Errno.{Errno}
 use Rattle.sleep_base.specs.declared.errno.Errno.TheVariants.{EINTR}
 use Rattle.sleep_base.specs.Errno.{name_of}
@@ -36,7 +35,7 @@ use Rattle.sleep_model.specs.declared.machine.TaskKind.{TaskKind}
 use Rattle.sleep_model.specs.declared.machine.TaskKind.TheVariants as task
 use Rattle.sleep_model.specs.declared.word.EventNow.{EventNow}
 use Rattle.sleep_model.specs.Fits.{fits_kind, fits_froze, fits_actor, fits_word, fits_entry, fits_stats, fits_script, fits_cause, is_answer, is_word32, is_word32_if, is_word64}
-use Rattle.sleep_model.specs.Text.{body, space, device, source, notifier, syscore, mark, task as script_name, task_name, answer_text, cause_text, guard_text, froze_text, down_word, group_word, runtime_word, link_word, hard_word, prepare_text, error_text, actor_text, script_text, script_word, word_text, counts_text, times_text, waiting_text}
+use Rattle.sleep_model.specs.Text.{body, space, device, source, notifier, syscore, task as script_name, task_name, answer_text, cause_text, guard_text, froze_text, down_word, group_word, runtime_word, link_word, hard_word, prepare_text, actor_text, script_text, script_word, word_text, counts_text, times_text, waiting_text}
 use Rattle.log_text.specs.Named.{AreNamed}
 use Rattle.log_text.proofs.Cuts.{is_without, without_append, decimal_no_newline}
 use Rattle.log_text.proofs.NumbersBack.{below32, below64}

@@ -1,9 +1,7 @@
 -- The line of an entry is read back.
-use Rattle.std.proofs.Common.{◌≡◌, ◌∙◌, ℕ, zero, suc, ◌+◌, ◌<◌, ◌^◌, Bool, true, false, ◌&&◌, nat_lt, nat_le, List, [], ◌∷◌, ◌++◌, codes, decimal, length, Option, Some, None, refl, sym, ap, arith, append_assoc}
-use Rattle.std.specs.Prelude.{slice_get, option_map, option_and_then}
-use Rattle.std.specs.Str.{bytes_eq}
+use Rattle.std.proofs.Common.{◌≡◌, ◌∙◌, ℕ, zero, suc, ◌<◌, true, ◌&&◌, List, [], ◌∷◌, ◌++◌, codes, decimal, length, Option, Some, refl, sym, ap, arith, append_assoc}
+use Rattle.std.specs.Prelude.{slice_get, option_map}
 use Rattle.std.proofs.lemmas.Bool.{and_parts}
-use Rattle.std.proofs.lemmas.Bool.Decides.{nat_tests}
 use Rattle.sleep_model.specs.declared.entry.Actor.{Actor}
 use Rattle.sleep_model.specs.declared.entry.Actor.TheVariants as actor
 use Rattle.sleep_model.specs.declared.entry.Entry.{Entry}
@@ -14,11 +12,11 @@ use Rattle.sleep_model.specs.declared.machine.TaskKind.{TaskKind}
 use Rattle.sleep_model.specs.declared.machine.TaskKind.TheVariants as task
 use Rattle.sleep_model.specs.declared.word.EventNow.{EventNow}
 use Rattle.sleep_model.specs.Fits.{fits_entry, fits_actor, fits_word, fits_kind, is_word32, is_word64}
-use Rattle.sleep_model.specs.Text.{body, space, newline, actor_text, script_text, script_word, task_name, word_text, entry_line, device, source}
+use Rattle.sleep_model.specs.Text.{body, space, newline, actor_text, script_text, script_word, task_name, word_text, entry_line}
 use Rattle.log_text.specs.Named.{AreNamed}
-use Rattle.log_text.specs.Cutting.{before, behind, word, rest, word32, word64, without_last}
-use Rattle.log_text.specs.Reading.{now_in, actor_in, kind_in, said_in, entry_in, device_in, source_in, script_in}
-use Rattle.log_text.proofs.Cuts.{is_without, before_at, behind_at, before_all, behind_none, without_append, decimal_no_space, decimal_no_slash, last_off}
+use Rattle.log_text.specs.Cutting.{without_last}
+use Rattle.log_text.specs.Reading.{now_in, actor_in, said_in, entry_in, script_in}
+use Rattle.log_text.proofs.Cuts.{is_without, before_at, behind_at, without_append, decimal_no_space, decimal_no_slash, last_off}
 use Rattle.log_text.proofs.NumbersBack.{word32_back, word64_back, below32, below64}
 use Rattle.log_text.proofs.KindsBack.{less, three, first, second, device_back, device_bytes, source_back, source_bytes, task_back, task_bytes, kind_back}
 

@@ -1,6 +1,6 @@
 -- What an entry says is read back.
-use Rattle.std.proofs.Common.{◌≡◌, ◌∙◌, ℕ, zero, suc, ◌+◌, ◌<◌, ◌≤◌, ◌^◌, Bool, true, false, ◌&&◌, nat_lt, nat_le, List, [], ◌∷◌, ◌++◌, codes, decimal, length, map, Option, Some, None, refl, sym, ap, arith, append_assoc}
-use Rattle.std.specs.Prelude.{slice_get, option_map, option_and_then, ℤ}
+use Rattle.std.proofs.Common.{◌≡◌, ◌∙◌, ℕ, zero, suc, ◌<◌, ◌≤◌, Bool, true, false, nat_lt, nat_le, List, [], ◌∷◌, ◌++◌, codes, decimal, length, map, Option, Some, None, refl, sym, ap, arith, append_assoc}
+use Rattle.std.specs.Prelude.{slice_get, option_map, ℤ}
 use Rattle.std.specs.Str.{bytes_eq}
 use Rattle.std.proofs.lemmas.Bool.{and_parts}
 use Rattle.std.proofs.lemmas.Bool.Decides.{nat_tests}
@@ -27,14 +27,14 @@ use Rattle.sleep_model.specs.declared.machine.Script.{Script}
 use Rattle.sleep_model.specs.Fits.{fits_kind, fits_froze, is_answer, is_word32, is_word32_if}
 use Rattle.sleep_model.specs.Text.{body, space, device, device_name, source, source_names, notifier, notifier_name, syscore, mark, task, task_name, name_in, answer_text, cause_text, guard_text, froze_text, down_word, group_word, runtime_word, link_word, hard_word, prepare_text}
 use Rattle.log_text.specs.Named.{AreNamed, device_names, notifier_names, script_names, is_name_byte}
-use Rattle.log_text.specs.Cutting.{word, rest, word32, word64}
-use Rattle.log_text.specs.Reading.{kind_in, device_in, source_in, mark_in, notifier_in, syscore_in, script_in, read_kind, save_kind, runtime_kind, link_kind, link_state_kind, link_state_to, event_kind, prepare_kind, schedule_kind, begin_kind, end_kind, skip_kind, attempt_kind, over_kind, notify_kind, failed_in, failed_end, froze_in, froze_kind, kind_by, task_by, platform_kind, cpu_kind, syscore_down}
+use Rattle.log_text.specs.Cutting.{word, rest, word32}
+use Rattle.log_text.specs.Reading.{kind_in, device_in, source_in, mark_in, notifier_in, syscore_in, script_in, read_kind, save_kind, runtime_kind, link_kind, link_state_kind, link_state_to, event_kind, prepare_kind, schedule_kind, begin_kind, end_kind, skip_kind, attempt_kind, over_kind, notify_kind, failed_in, failed_end, froze_in, froze_kind, kind_by, task_by, platform_kind, syscore_down}
 use Rattle.log_text.specs.Words.{answer_in, cause_in, phase_in, group_in}
 use Rattle.log_text.specs.declared.verb.Verb.TheVariants as verb
-use Rattle.log_text.proofs.Cuts.{is_without, before_at, behind_at, before_all, behind_none, decimal_no_space, name_without}
+use Rattle.log_text.proofs.Cuts.{is_without, before_at, behind_at, decimal_no_space, name_without}
 use Rattle.log_text.proofs.NumbersBack.{word32_back, word64_back, below32}
 use Rattle.log_text.proofs.Finds.{place_back, bytes_of}
-use Rattle.log_text.proofs.WordsBack.{errno_back, answer_back, phase_back, cause_back, group_back, down_back, phase_plain, group_plain, down_plain, save_err, state_err, prepare_back}
+use Rattle.log_text.proofs.WordsBack.{answer_back, phase_back, cause_back, group_back, phase_plain, group_plain, save_err, state_err, prepare_back}
 
 -- the first word of two
 pub first : (w x : List ℕ) → is_without 32 w ≡ true → word (w ++ 32 ∷ x) ≡ w

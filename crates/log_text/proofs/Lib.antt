@@ -18,3 +18,4 @@ pub mod TextLines
 pub mod OneLog
 pub mod NoBadLine
 pub mod ReadBack
+pub mod Held

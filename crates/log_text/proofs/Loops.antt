@@ -1,5 +1,5 @@
 -- One line more is read, or the first bad line is found.
-use Rattle.std.proofs.Common.{◌≡◌, ◌≢◌, ◌∙◌, ◌⊎◌, inl, inr, ℕ, suc, ◌+◌, ◌<◌, ◌≤◌, Bool, true, false, ◌&&◌, List, [], ◌∷◌, ◌++◌, length, take, drop, get_or, codes, flat_map, refl, sym, ap, subst, arith, append_assoc, append-nil}
+use Rattle.std.proofs.Common.{◌≡◌, ◌∙◌, inl, inr, ℕ, ◌+◌, ◌<◌, ◌≤◌, Bool, true, List, [], ◌∷◌, ◌++◌, length, take, drop, get_or, codes, flat_map, refl, sym, ap, subst, arith, append_assoc, append-nil}
 use Rattle.std.specs.List.{list_all}
 use Rattle.std.proofs.lemmas.Bool.{and_parts, and_from}
 use Rattle.std.proofs.lemmas.List.{drop_more, take_more, drop_all, take_all, length-take, length-append}
@@ -12,7 +12,7 @@ use Rattle.sleep_model.specs.Text.{entry_line, source_line, source_lines, source
 use Rattle.log_text.specs.declared.fault.LogFault.{LogFault}
 use Rattle.log_text.specs.declared.fault.LogFault.TheVariants.{Line, Mem}
 use Rattle.log_text.specs.Faults.{AtLine, IsNoSource}
-use Rattle.log_text.specs.Grammar.{lines, IsEntryLine, IsSourceLine, IsStuckLine, IsBadEntry, IsBadSource, IsBadEnd, IsBadStuck}
+use Rattle.log_text.specs.Grammar.{lines, IsEntryLine, IsStuckLine, IsBadEntry, IsBadSource, IsBadEnd, IsBadStuck}
 
 -- what holds of a fault's line, and what follows
 pub at_line : (P Q : ℕ → Type 0) (e : LogFault) → ((n : ℕ) → P n → Q n) → AtLine e P → AtLine e Q

@@ -1,5 +1,5 @@
 -- The text of a log that can be written has no bad line, and a text has one first bad line at most.
-use Rattle.std.proofs.Common.{◌≡◌, ◌∙◌, ◌⊎◌, inl, inr, ℕ, zero, suc, ◌+◌, ◌<◌, Bool, true, false, ◌&&◌, List, [], ◌∷◌, ◌++◌, codes, length, map, refl, sym, ap, arith, subst, append-nil}
+use Rattle.std.proofs.Common.{◌≡◌, ◌∙◌, inl, inr, ℕ, ◌+◌, true, List, [], ◌∷◌, ◌++◌, length, map, refl, sym, arith, subst}
 use Rattle.std.specs.List.{list_all}
 use Rattle.std.proofs.lemmas.Bool.{and_parts}
 use Rattle.sleep_model.specs.declared.entry.Entry.{Entry}
@@ -9,10 +9,10 @@ use Rattle.sleep_model.specs.declared.log.LogEnd.TheVariants.{Finished, Stuck}
 use Rattle.sleep_model.specs.declared.log.Stats.{Stats}
 use Rattle.sleep_model.specs.declared.log.Waiting.{Waiting}
 use Rattle.sleep_model.specs.declared.machine.Machine.{Machine}
-use Rattle.sleep_model.specs.Fits.{fits_entry, fits_stats, fits_end, fits_script, fits_cause, is_filled, IsWritable}
-use Rattle.sleep_model.specs.Text.{entry_line, source_line, source_names, waiting_line, text}
+use Rattle.sleep_model.specs.Fits.{fits_entry, fits_stats, fits_end, fits_script, fits_cause, IsWritable}
+use Rattle.sleep_model.specs.Text.{entry_line, source_names, waiting_line, text}
 use Rattle.log_text.specs.Named.{AreNamed}
-use Rattle.log_text.specs.Grammar.{lines, finished_line, IsEntryLine, IsSourceLine, IsStuckLine, IsBadBehind, IsBadStuck, IsBadEnd, IsBadSource, IsBadEntry, IsFirstBad}
+use Rattle.log_text.specs.Grammar.{lines, IsBadBehind, IsBadStuck, IsBadEnd, IsBadSource, IsBadEntry, IsFirstBad}
 use Rattle.log_text.proofs.TextLines.{source_rows, end_rows, fits_waiting, lines_text}
 use Rattle.log_text.proofs.OneLog.{IsOther, untrue, not_finished, sources_other, counted}
 

@@ -1,5 +1,5 @@
 -- Where keys stand in a list.
-use Rattle.std.proofs.Common.{◌≡◌, ◌<◌, ◌≤◌, ◌+◌, ◌∙◌, ℕ, zero, suc, Bool, true, false, not, cond, nat_lt, if◌then◌else◌, List, [], ◌∷◌, length, drop, get_or, position, Option, Some, None, refl, sym, ap, arith, drop-cons}
+use Rattle.std.proofs.Common.{◌≡◌, ◌<◌, ◌+◌, ◌∙◌, ℕ, suc, Bool, true, false, not, cond, nat_lt, List, ◌∷◌, length, drop, get_or, position, Option, Some, None, refl, sym, ap, arith, drop-cons}
 use Rattle.std.specs.Cmp.{IsEquivalence}
 use Rattle.std.specs.List.{position_or_len}
 use Rattle.std.specs.Option.{option_map}

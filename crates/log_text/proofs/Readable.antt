@@ -1,5 +1,5 @@
 -- A line that is no entry's, source's or stuck script's.
-use Rattle.std.proofs.Common.{◌≡◌, ◌≢◌, ◌∙◌, ℕ, ◌+◌, ◌<◌, ◌≤◌, Bool, true, false, List, [], ◌∷◌, ◌++◌, length, drop, bytes_eq, codes, Option, Some, None, refl, sym, ap, arith}
+use Rattle.std.proofs.Common.{◌≡◌, ◌∙◌, ℕ, ◌+◌, ◌<◌, ◌≤◌, true, false, List, ◌++◌, length, drop, bytes_eq, codes, Option, Some, None, sym, ap, arith}
 use Rattle.std.specs.Cmp.Lexicographic.{bytes_decides}
 use Rattle.std.proofs.lemmas.List.{length-append}
 use Rattle.sleep_model.specs.declared.entry.Entry.{Entry}
@@ -7,7 +7,7 @@ use Rattle.sleep_model.specs.declared.log.Stats.{Stats}
 use Rattle.sleep_model.specs.declared.log.Waiting.{Waiting}
 use Rattle.sleep_model.specs.declared.machine.Machine.{Machine}
 use Rattle.sleep_model.specs.Fits.{fits_stats}
-use Rattle.sleep_model.specs.Text.{entry_line, source_line, waiting_line, counts_text, times_text, newline}
+use Rattle.sleep_model.specs.Text.{entry_line, source_line, waiting_line, counts_text, times_text}
 use Rattle.log_text.specs.Named.{AreNamed}
 use Rattle.log_text.specs.Cutting.{without_last}
 use Rattle.log_text.specs.Grammar.{IsEntryLine, IsSourceLine, IsStuckLine}

@@ -1,11 +1,10 @@
 -- Names are told apart by their bytes.
-use Rattle.std.proofs.Common.{◌≡◌, ◌-◌, ◌∙◌, ◌++◌, ◌<◌, ◌≤◌, ℕ, List, Bool, true, false, length, replicate, bytes_eq, position, sym, ap, Option, Some, None}
+use Rattle.std.proofs.Common.{◌≡◌, ◌-◌, ◌∙◌, ◌++◌, ℕ, List, Bool, true, length, replicate, bytes_eq, position, sym, ap}
 use Rattle.std.specs.Cmp.Lexicographic.{bytes_decides}
 use Rattle.std.proofs.lemmas.Bool.{and_parts, and_from, eqb-true, eq-eqb}
 use Rattle.std.proofs.lemmas.Bool.Decides.{same_from_decides}
 use Rattle.std.proofs.lemmas.List.{append_cancel_right}
 use Rattle.sleep_model.specs.contracts.name.NamePartialEq.TheImpl.{eq-value}
-use Rattle.log_text.specs.Cutting.{place_in}
 
 -- the bytes with zeros up to 32
 abbrev padded : List ℕ → List ℕ

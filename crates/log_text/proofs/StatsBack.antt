@@ -1,8 +1,7 @@
 -- The lines of sources and of stuck scripts are read back.
-use Rattle.std.proofs.Common.{◌≡◌, ◌∙◌, ℕ, ◌+◌, ◌-◌, ◌<◌, ◌≤◌, Bool, true, false, ◌&&◌, List, [], ◌∷◌, ◌++◌, codes, decimal, length, take, drop, Option, Some, None, refl, sym, ap, arith, append_assoc}
-use Rattle.std.specs.Prelude.{slice_get, option_map, option_and_then, nat_lt}
+use Rattle.std.proofs.Common.{◌≡◌, ◌∙◌, ℕ, true, List, ◌∷◌, ◌++◌, codes, decimal, length, drop, Option, Some, refl, sym, ap, append_assoc}
+use Rattle.std.specs.Prelude.{option_map, nat_lt}
 use Rattle.std.proofs.lemmas.Bool.{and_parts}
-use Rattle.std.proofs.lemmas.List.{length-append}
 use Rattle.std.proofs.Math.Seq.{drop-append_seam}
 use Rattle.sleep_model.specs.declared.entry.Actor.{Actor}
 use Rattle.sleep_model.specs.declared.entry.Actor.TheVariants as actor
@@ -15,10 +14,10 @@ use Rattle.sleep_model.specs.declared.machine.Script.{Script}
 use Rattle.sleep_model.specs.declared.machine.TaskKind.{TaskKind}
 use Rattle.sleep_model.specs.declared.machine.TaskKind.TheVariants as task
 use Rattle.sleep_model.specs.Fits.{fits_stats, fits_script, fits_cause, is_word32, is_word64}
-use Rattle.sleep_model.specs.Text.{space, newline, actor_text, script_text, script_word, task_name, counts_text, times_text, source_line, waiting_text, waiting_line, mark}
+use Rattle.sleep_model.specs.Text.{space, newline, actor_text, script_text, script_word, task_name, times_text, source_line, waiting_text, waiting_line}
 use Rattle.log_text.specs.Named.{AreNamed}
-use Rattle.log_text.specs.Cutting.{behind, word, rest, word32, word64, without_last}
-use Rattle.log_text.specs.Reading.{times_in, stats_in, why_in, waiting_in, script_in, mark_in}
+use Rattle.log_text.specs.Cutting.{behind, without_last}
+use Rattle.log_text.specs.Reading.{times_in, stats_in, why_in, waiting_in, script_in}
 use Rattle.log_text.proofs.Cuts.{is_without, decimal_no_space, last_off}
 use Rattle.log_text.proofs.NumbersBack.{word32_back, word64_back, below32, below64}
 use Rattle.log_text.proofs.KindsBack.{less, two, three, first, second, mark_back, task_back, task_bytes}

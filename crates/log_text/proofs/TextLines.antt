@@ -1,5 +1,5 @@
 -- The lines of a log's text are its entries', its sources' and its end's.
-use Rattle.std.proofs.Common.{◌≡◌, ◌∙◌, ℕ, zero, suc, ◌+◌, ◌==◌, Bool, true, false, not, ◌&&◌, List, [], ◌∷◌, ◌++◌, codes, decimal, length, map, flat_map, if◌then◌else◌, refl, sym, ap, arith, append_assoc, append-nil}
+use Rattle.std.proofs.Common.{◌≡◌, ◌∙◌, ℕ, ◌==◌, Bool, true, false, not, ◌&&◌, List, [], ◌∷◌, ◌++◌, codes, decimal, map, flat_map, if◌then◌else◌, refl, sym, ap, append_assoc, append-nil}
 use Rattle.std.specs.List.{list_all, onto_first}
 use Rattle.std.proofs.lemmas.Bool.{and_parts}
 use Rattle.sleep_model.specs.declared.entry.Entry.{Entry}
@@ -11,9 +11,9 @@ use Rattle.sleep_model.specs.declared.log.Waiting.{Waiting}
 use Rattle.sleep_model.specs.declared.machine.Machine.{Machine}
 use Rattle.sleep_model.specs.Fits.{fits_entry, fits_stats, fits_end, fits_script, fits_cause, is_filled, IsWritable}
 use Rattle.sleep_model.specs.Text.{newline, space, word_text, actor_text, body, counts_text, times_text, waiting_text, entry_line, source_line, source_lines, source_names, waiting_line, end_text, text}
-use Rattle.log_text.specs.Named.{AreNamed, are_names, are_distinct, is_name, is_name_long, is_name_byte}
+use Rattle.log_text.specs.Named.{AreNamed, are_distinct, is_name, is_name_long, is_name_byte}
 use Rattle.log_text.specs.Grammar.{lines, finished_line}
-use Rattle.log_text.proofs.Cuts.{is_without, name_without}
+use Rattle.log_text.proofs.Cuts.{name_without}
 use Rattle.log_text.proofs.Clean.{is_clean, entry_clean, source_clean, stuck_clean}
 
 -- a line: no newline, and then one

@@ -1,5 +1,5 @@
 -- Closed words are read back.
-use Rattle.std.proofs.Common.{◌≡◌, ◌∙◌, ℕ, zero, suc, ◌==◌, ◌+◌, ◌-◌, ◌<◌, ◌≤◌, Bool, true, false, List, [], ◌∷◌, ◌++◌, codes, decimal, if◌then◌else◌, Option, Some, None, is_some, ℤ, pos, negsuc, refl, sym, ap, subst, arith, nat_le}
+use Rattle.std.proofs.Common.{◌≡◌, ℕ, zero, suc, ◌==◌, ◌≤◌, Bool, true, false, List, [], ◌∷◌, if◌then◌else◌, Option, Some, None, is_some, ℤ, pos, negsuc, refl, ap, arith}
 use Rattle.std.proofs.lemmas.Bool.{eqb-true}
 use Rattle.std.proofs.lemmas.Bool.Decides.{nat_tests}
 use Rattle.std.proofs.lemmas.Fmt.{decimal_digit}
@@ -19,7 +19,7 @@ use Rattle.sleep_model.specs.declared.machine.PlatDo.TheVariants as down
 use Rattle.sleep_model.specs.Answers.{errno_with, errors}
 use Rattle.sleep_model.specs.Fits.{is_answer}
 use Rattle.sleep_model.specs.Text.{answer_text, prepare_text, error_text, cause_text, group_word, down_word}
-use Rattle.log_text.specs.Words.{errno_in, answer_in, prepare_in, error_number, phase_in, cause_in, group_in, down_in}
+use Rattle.log_text.specs.Words.{errno_in, answer_in, prepare_in, phase_in, cause_in, group_in, down_in}
 use Rattle.log_text.specs.Reading.{save_kind, state_kind}
 use Rattle.log_text.proofs.Cuts.{is_without}
 

@@ -1,4 +1,4 @@
--- The front of an entry's line: its moment and the word, which lines in a row often share.
+-- The front of an entry's line: its moment and the word, which lines in a row often share, and who makes it.
 use Rattle.std.specs.Prelude.{ℕ, List, ◌++◌, decimal}
 use Rattle.sleep_model.specs.declared.word.EventNow.{EventNow}
 use Rattle.sleep_model.specs.declared.entry.Actor.{Actor}

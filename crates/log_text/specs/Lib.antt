@@ -5,5 +5,6 @@ pub mod Front
 pub mod Grammar
 pub mod Named
 pub mod Reading
+pub mod Ready
 pub mod Verbs
 pub mod Words

@@ -1,5 +1,5 @@
 -- What a line has to say, if it is an entry's line at all: read leniently, since a line counts only where the entry spells it.
-use Rattle.std.specs.Prelude.{ℕ, List, ◌++◌, codes, Bool, Option, Some, None, option_map, option_and_then, if◌then◌else◌}
+use Rattle.std.specs.Prelude.{ℕ, List, codes, Option, Some, None, option_map, option_and_then, if◌then◌else◌}
 use Rattle.std.specs.Str.{bytes_eq}
 use Rattle.sleep_model.specs.declared.word.EventNow.{EventNow}
 use Rattle.sleep_model.specs.declared.entry.Actor.{Actor}
@@ -20,7 +20,7 @@ use Rattle.sleep_model.specs.Text.{source_names}
 use Rattle.log_text.specs.declared.verb.Verb.{Verb}
 use Rattle.log_text.specs.declared.verb.Verb.TheVariants as verb
 use Rattle.log_text.specs.Named.{device_names, notifier_names, script_names}
-use Rattle.log_text.specs.Cutting.{before, behind, word, rest, without_last, word32, word64, place_in}
+use Rattle.log_text.specs.Cutting.{before, behind, word, rest, word32, word64, place_in}
 use Rattle.log_text.specs.Words.{errno_in, answer_in, prepare_in, phase_in, cause_in, group_in, thaw_in, down_in}
 use Rattle.log_text.specs.Verbs.{verb_of}
 

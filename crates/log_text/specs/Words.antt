@@ -1,5 +1,5 @@
 -- What the closed words of a log mean: of two words told apart, the last one stands for any other.
-use Rattle.std.specs.Prelude.{ℕ, ℤ, pos, negsuc, List, codes, Option, Some, None, if◌then◌else◌, ◌-◌}
+use Rattle.std.specs.Prelude.{ℕ, ℤ, pos, negsuc, List, codes, Option, Some, None, if◌then◌else◌}
 use Rattle.std.specs.Str.{bytes_eq}
 use Rattle.sleep_base.specs.declared.errno.Errno.{Errno}
 use Rattle.sleep_base.specs.declared.errno.Errno.TheVariants.{EINTR, EIO, EAGAIN, EACCES, EBUSY, ENODEV, EINVAL}

@@ -1,16 +1,19 @@
 ghost use Rattle.std.specs.Prelude.{◌≡◌, ◌++◌, OnOk};
-ghost use Rattle.sleep_model.specs.Text.{body, device, link_word, space, step_body, auto_body, source_body, phase_body, attempt_body, platform_body, froze_text, prepare_text};
+ghost use Rattle.sleep_model.specs.declared.entry.Kind.TheVariants as kind;
+ghost use Rattle.sleep_model.specs.Text.{answer_text, body, device, link_word, space, step_body, auto_body, source_body, phase_body, attempt_body, platform_body, froze_text, prepare_text};
 
 use crate::names::{device_name, mark_name, notifier_name, source_name, syscore_name, task_name};
-use crate::phases::{begin_text, end_text, schedule_text};
+use crate::phases::{put_begin, put_end, put_schedule};
+use crate::ready::ReadyNames;
 use crate::writer::{LineWriter, Spelled, put};
-use sleep_base::Mem;
+use sleep_base::{Errno, Mem};
 use sleep_model::{FrozeEnd, Kind, Machine, Thaw};
 
 /// Writes what an entry says.
 #[tactic(auto, using(std::proofs::Common::append_assoc))]
-pub fn put_body(out: &mut LineWriter, machine: &Machine, kind: Kind) -> Result<(), Mem>
-    ensures { OnOk result (out.new ≡ out.old ++ body machine.now kind) }
+#[inline(always)]
+pub fn put_body(out: &mut LineWriter, names: &ReadyNames, kind: Kind) -> Result<(), Mem>
+    ensures { OnOk result (out.new ≡ out.old ++ body names.now kind) }
 {
     match kind {
         Kind::Frozen => put!(out; "frozen"),
@@ -26,7 +29,7 @@ pub fn put_body(out: &mut LineWriter, machine: &Machine, kind: Kind) -> Result<(
         Kind::AutoBad => put!(out; "autosleep EINVAL"),
         Kind::AutoSet(state) => put!(out; "autosleep set ", state),
         Kind::AutoDone => put!(out; "autosleep done"),
-        _ => put_step(out, machine, kind),
+        _ => put_step(out, names, kind),
     }
 }
 
@@ -37,24 +40,43 @@ fn link_word(active: bool) -> &'static str
     if active { "active" } else { "dormant" }
 }
 
-/// Writes a verb of links, and both ends, each with the space behind it.
-fn put_ends(
+/// Writes which consumer's link was set, to which state, and the answer.
+#[tactic(auto, using(std::proofs::Common::append_assoc))]
+fn put_set(
     out: &mut LineWriter,
     machine: &Machine,
-    verb: &str,
+    consumer: u32,
+    active: bool,
+    r: Option<Errno>,
+) -> Result<(), Mem>
+    ensures { OnOk result (out.new ≡ out.old ++ (device machine.now consumer ++ space ++ link_word active ++ space ++ answer_text r)) }
+{
+    put!(out; device_name(machine, consumer), " ", link_word(active), " ", r)
+}
+
+/// Writes what an entry that sets the state of a link says.
+#[tactic(auto, using(std::proofs::Common::append_assoc))]
+fn put_link_state(
+    out: &mut LineWriter,
+    machine: &Machine,
     supplier: u32,
     consumer: u32,
+    active: bool,
+    r: Option<Errno>,
 ) -> Result<(), Mem>
-    ensures { OnOk result
-        (out.new ≡ out.old ++ (verb.now ++ device machine.now supplier ++ space ++ device machine.now consumer ++ space)) }
+    ensures { OnOk result (out.new ≡ out.old ++ step_body machine.now (kind.LinkState supplier consumer active r)) }
 {
-    put!(out; verb, device_name(machine, supplier), " ", device_name(machine, consumer), " ")
+    put!(out; "link_state ", device_name(machine, supplier), " ")?;
+    put_set(out, machine, consumer, active, r)?;
+    Ok(())
 }
 
 /// Writes what an entry of a task's other steps says.
-fn put_step(out: &mut LineWriter, machine: &Machine, kind: Kind) -> Result<(), Mem>
-    ensures { OnOk result (out.new ≡ out.old ++ step_body machine.now kind) }
+#[inline(always)]
+fn put_step(out: &mut LineWriter, names: &ReadyNames, kind: Kind) -> Result<(), Mem>
+    ensures { OnOk result (out.new ≡ out.old ++ step_body names.now kind) }
 {
+    let machine = names.machine();
     match kind {
         Kind::Sleep(ms) => put!(out; "sleep ", ms),
         Kind::SleepD(ms) => put!(out; "sleep_d ", ms),
@@ -76,25 +98,22 @@ fn put_step(out: &mut LineWriter, machine: &Machine, kind: Kind) -> Result<(), M
             consumer,
             r,
         } => {
-            put_ends(out, machine, "link ", supplier, consumer)?;
-            put!(out; r)
+            put!(out; "link ", device_name(machine, supplier), " ", device_name(machine, consumer), " ", r)
         }
         Kind::LinkState {
             supplier,
             consumer,
             active,
             r,
-        } => {
-            put_ends(out, machine, "link_state ", supplier, consumer)?;
-            put!(out; link_word(active), " ", r)
-        }
-        _ => put_auto(out, machine, kind),
+        } => put_link_state(out, machine, supplier, consumer, active, r),
+        _ => put_auto(out, names, kind),
     }
 }
 
 /// Writes what an entry of the autosleep work says.
-fn put_auto(out: &mut LineWriter, machine: &Machine, kind: Kind) -> Result<(), Mem>
-    ensures { OnOk result (out.new ≡ out.old ++ auto_body machine.now kind) }
+#[inline(always)]
+fn put_auto(out: &mut LineWriter, names: &ReadyNames, kind: Kind) -> Result<(), Mem>
+    ensures { OnOk result (out.new ≡ out.old ++ auto_body names.now kind) }
 {
     match kind {
         Kind::AutoRun => put!(out; "run"),
@@ -104,14 +123,16 @@ fn put_auto(out: &mut LineWriter, machine: &Machine, kind: Kind) -> Result<(), M
         Kind::AutoAfter(None) => put!(out; "after busy"),
         Kind::AutoAgain => put!(out; "again"),
         Kind::AutoOff => put!(out; "off"),
-        _ => put_source(out, machine, kind),
+        _ => put_source(out, names, kind),
     }
 }
 
 /// Writes what an entry of a wakeup source or of time says.
-fn put_source(out: &mut LineWriter, machine: &Machine, kind: Kind) -> Result<(), Mem>
-    ensures { OnOk result (out.new ≡ out.old ++ source_body machine.now kind) }
+#[inline(always)]
+fn put_source(out: &mut LineWriter, names: &ReadyNames, kind: Kind) -> Result<(), Mem>
+    ensures { OnOk result (out.new ≡ out.old ++ source_body names.now kind) }
 {
+    let machine = names.machine();
     match kind {
         Kind::Awake(index) => put!(out; "awake ", source_name(machine, index)),
         Kind::Relax(index) => put!(out; "relax ", source_name(machine, index)),
@@ -124,14 +145,27 @@ fn put_source(out: &mut LineWriter, machine: &Machine, kind: Kind) -> Result<(),
         Kind::Finish(index) => put!(out; "finish ", source_name(machine, index)),
         Kind::Hard(index) => put!(out; "hard ", source_name(machine, index)),
         Kind::Jump => put!(out; "jump"),
-        _ => put_phase(out, machine, kind),
+        _ => put_phase(out, names, kind),
+    }
+}
+
+/// Writes an answer behind a space.
+#[inline(always)]
+fn put_answer(out: &mut LineWriter, r: Option<Errno>) -> Result<(), Mem>
+    ensures { OnOk result (out.new ≡ out.old ++ (space ++ answer_text r)) }
+{
+    match r {
+        None => put!(out; " 0"),
+        Some(error) => put!(out; b' ', error),
     }
 }
 
 /// Writes what an entry of a device phase says.
-fn put_phase(out: &mut LineWriter, machine: &Machine, kind: Kind) -> Result<(), Mem>
-    ensures { OnOk result (out.new ≡ out.old ++ phase_body machine.now kind) }
+#[inline(always)]
+fn put_phase(out: &mut LineWriter, names: &ReadyNames, kind: Kind) -> Result<(), Mem>
+    ensures { OnOk result (out.new ≡ out.old ++ phase_body names.now kind) }
 {
+    let machine = names.machine();
     match kind {
         Kind::Prepare { device, r } => {
             put!(out; "prepare ", device_name(machine, device), b' ')?;
@@ -139,11 +173,17 @@ fn put_phase(out: &mut LineWriter, machine: &Machine, kind: Kind) -> Result<(), 
         }
         Kind::Complete(index) => put!(out; "complete ", device_name(machine, index)),
         Kind::Schedule(phase, index) => {
-            put!(out; schedule_text(phase), device_name(machine, index))
+            put_schedule(out, phase)?;
+            names.put_device(out, index)
         }
-        Kind::Begin(phase, index) => put!(out; begin_text(phase), device_name(machine, index)),
+        Kind::Begin(phase, index) => {
+            put_begin(out, phase)?;
+            names.put_device(out, index)
+        }
         Kind::End(phase, index, r) => {
-            put!(out; end_text(phase), device_name(machine, index), b' ', r)
+            put_end(out, phase)?;
+            names.put_device(out, index)?;
+            put_answer(out, r)
         }
         Kind::Skip(phase, index, cause) => {
             put!(out; "skip ", phase, b' ', device_name(machine, index), b' ', cause)

@@ -59,6 +59,32 @@ impl Digits {
         self.start = write_digits(number, &mut self.bytes, self.start);
     }
 
+    /// Puts the number of 32 bits in decimal before the text.
+    #[inline]
+    #[tactic(auto, using(std::proofs::lemmas::Fmt::decimal_digit))]
+    pub fn put_short(&mut self, number: u32)
+        requires { length self.old + 10 ≤ 88 }
+        ensures text { self.new ≡ decimal number ++ self.old }
+        ensures len { length self.new ≤ length self.old + 10 }
+    {
+        // Most numbers of a word have one digit.
+        if number < 10 {
+            self.put(b'0' + number as u8);
+        } else {
+            self.put_digits(u64::from(number));
+        }
+    }
+
+    /// Puts a number that fits 32 bits in decimal before the text, also where it is long.
+    fn put_digits(&mut self, number: u64)
+        requires room { length self.old + 10 ≤ 88 }
+        requires fits { number < 4294967296 }
+        ensures text { self.new ≡ decimal number ++ self.old }
+        ensures len { length self.new ≤ length self.old + 10 }
+    {
+        self.start = write_digits(number, &mut self.bytes, self.start);
+    }
+
     /// The text.
     #[inline]
     pub fn as_bytes(&self) -> &[u8]

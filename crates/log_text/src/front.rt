@@ -1,7 +1,8 @@
-ghost use Rattle.std.specs.Prelude.{◌≡◌};
+ghost use Rattle.std.specs.Prelude.{◌≡◌, ◌≤◌, length};
 ghost use Rattle.log_text.specs.Front.{front_text};
 
 use crate::digits::Digits;
+use crate::short::ShortText;
 use sleep_model::EventNow;
 
 /// The front of an entry's line, its moment and the word, kept since lines in a row often share it.
@@ -9,7 +10,7 @@ use sleep_model::EventNow;
 pub struct LineFront {
     time: u64,
     word: EventNow,
-    text: Digits,
+    text: ShortText,
     ghost spelled: { text ≡ front_text time word },
 }
 
@@ -22,7 +23,7 @@ impl LineFront {
         LineFront {
             time,
             word,
-            text: spell(time, word),
+            text: ShortText::of(spell(time, word).as_bytes()),
         }
     }
 
@@ -43,31 +44,41 @@ impl LineFront {
         ensures word { self.new.word ≡ word }
     {
         if self.time != time || self.word != word {
-            *self = LineFront::of(time, word);
+            self.respell(time, word);
         }
+    }
+
+    /// Spells this front.
+    #[inline(never)]
+    fn respell(&mut self, time: u64, word: EventNow)
+        ensures time { self.new.time ≡ time }
+        ensures word { self.new.word ≡ word }
+    {
+        *self = LineFront::of(time, word);
     }
 
     /// Its text.
     #[inline(always)]
-    pub fn text(&self) -> &[u8]
+    pub fn text(&self) -> &ShortText
         ensures { result.now ≡ front_text self.now.time self.now.word }
     {
-        self.text.as_bytes()
+        &self.text
     }
 }
 
 /// Spells the moment and the word, each with the space behind it.
 #[tactic(auto, using(std::proofs::Common::append_assoc))]
 fn spell(time: u64, word: EventNow) -> Digits
-    ensures { result ≡ front_text time word }
+    ensures text { result ≡ front_text time word }
+    ensures few { length result ≤ 56 }
 {
     let mut text = Digits::new();
     text.put(b' ');
-    text.put_number(u64::from(word.hard));
+    text.put_short(word.hard);
     text.put(b'/');
-    text.put_number(u64::from(word.count));
+    text.put_short(word.count);
     text.put(b'/');
-    text.put_number(u64::from(word.inpr));
+    text.put_short(word.inpr);
     text.put(b' ');
     text.put_number(time);
     text

@@ -1,71 +1,44 @@
-ghost use Rattle.std.specs.Prelude.{◌≡◌, ◌++◌, OnOk, slice_get};
-ghost use Rattle.sleep_model.specs.Text.{actor_text, script_text, waiting_text, entry_line, source_line, counts_text, times_text, waiting_line};
-ghost use Rattle.log_text.specs.Front.{front_text, maker_text};
+ghost use Rattle.std.specs.Prelude.{◌≡◌, ◌++◌, OnOk};
+ghost use Rattle.log_text.specs.Front.{maker_text};
+ghost use Rattle.sleep_model.specs.Text.{waiting_text, entry_line, source_line, counts_text, times_text, waiting_line};
 
 use crate::body::put_body;
 use crate::front::LineFront;
-use crate::names::{device_name, mark_name, source_name};
+use crate::names::{mark_name, source_name};
+use crate::ready::ReadyNames;
 use crate::writer::{LineWriter, Spelled, put};
 use sleep_base::Mem;
 use sleep_model::{Actor, Entry, Machine, Stats, Waiting, Why};
 
-/// Writes who makes an entry.
-pub fn put_actor(out: &mut LineWriter, machine: &Machine, actor: Actor) -> Result<(), Mem>
-    ensures { OnOk result (out.new ≡ out.old ++ actor_text machine.now actor) }
+/// Writes who makes an entry, with the space behind it.
+#[inline(always)]
+fn put_maker(out: &mut LineWriter, names: &ReadyNames, actor: Actor) -> Result<(), Mem>
+    ensures { OnOk result (out.new ≡ out.old ++ maker_text names.now actor) }
 {
     match actor {
-        Actor::Script(index) => put_script(out, machine, index),
-        Actor::Auto => put!(out; "auto"),
-        Actor::Dev(index) => put!(out; "dev:", device_name(machine, index)),
-        Actor::Timer(index) => put!(out; "timer:", source_name(machine, index)),
-        Actor::Time => put!(out; "time"),
-    }
-}
-
-/// Writes which task or interrupt line it is.
-#[inline(always)]
-fn put_script(out: &mut LineWriter, machine: &Machine, index: u32) -> Result<(), Mem>
-    ensures { OnOk result (out.new ≡ out.old ++ script_text (slice_get machine.now.actors index)) }
-{
-    match machine.actors.as_slice().get(index as usize) {
-        None => Ok(()),
-        Some(script) => put!(out; script.kind, script.name.bytes()),
+        Actor::Script(index) => names.put_script_maker(out, index),
+        Actor::Auto => put!(out; "auto "),
+        Actor::Dev(index) => names.put_device_maker(out, index),
+        Actor::Timer(index) => put!(out; "timer:", source_name(names.machine(), index), b' '),
+        Actor::Time => put!(out; "time "),
     }
 }
 
 /// Writes the line of an entry, whose front is given.
+#[inline(always)]
 pub fn put_entry(
     out: &mut LineWriter,
-    machine: &Machine,
+    names: &ReadyNames,
     front: &LineFront,
     entry: Entry,
 ) -> Result<(), Mem>
     requires time { front.now.time ≡ entry.time }
     requires word { front.now.word ≡ entry.now }
-    ensures { OnOk result (out.new ≡ out.old ++ entry_line machine.now entry) }
+    ensures { OnOk result (out.new ≡ out.old ++ entry_line names.now entry) }
 {
     put!(out; front.text())?;
-    put_actor(out, machine, entry.actor)?;
-    put!(out; " ")?;
-    put_body(out, machine, entry.kind)?;
-    put!(out; "\n")
-}
-
-/// Writes the line of an entry, whose front and maker are given as text.
-#[inline(always)]
-pub fn put_made(
-    out: &mut LineWriter,
-    machine: &Machine,
-    front: &[u8],
-    maker: &[u8],
-    entry: Entry,
-) -> Result<(), Mem>
-    requires front { front.now ≡ front_text entry.time entry.now }
-    requires maker { maker.now ≡ maker_text machine.now entry.actor }
-    ensures { OnOk result (out.new ≡ out.old ++ entry_line machine.now entry) }
-{
-    put!(out; front, maker)?;
-    put_body(out, machine, entry.kind)?;
+    put_maker(out, names, entry.actor)?;
+    put_body(out, names, entry.kind)?;
     put!(out; b'\n')
 }
 
@@ -95,13 +68,12 @@ fn put_times(out: &mut LineWriter, stats: &Stats) -> Result<(), Mem>
 }
 
 /// Writes the line of a script that never exits.
-pub fn put_waiting(out: &mut LineWriter, machine: &Machine, waiting: &Waiting) -> Result<(), Mem>
-    ensures { OnOk result (out.new ≡ out.old ++ waiting_line machine.now waiting.now) }
+pub fn put_waiting(out: &mut LineWriter, names: &ReadyNames, waiting: &Waiting) -> Result<(), Mem>
+    ensures { OnOk result (out.new ≡ out.old ++ waiting_line names.now waiting.now) }
 {
     put!(out; "stuck ")?;
-    put_actor(out, machine, waiting.actor)?;
-    put!(out; " ")?;
-    put_why(out, machine, waiting.why)?;
+    put_maker(out, names, waiting.actor)?;
+    put_why(out, names.machine(), waiting.why)?;
     put!(out; "\n")
 }
 

@@ -2,8 +2,8 @@ ghost use Rattle.std.specs.Prelude.{◌≡◌, ◌++◌, OnOk, IfOk, flat_map};
 ghost use Rattle.sleep_model.specs.Text.{entry_line, source_lines, source_names, end_text, waiting_line, text};
 
 use crate::front::LineFront;
-use crate::line::{put_made, put_source, put_waiting};
-use crate::maker::LineMaker;
+use crate::line::{put_entry, put_source, put_waiting};
+use crate::ready::{ReadyNames, device_makers, device_texts, script_makers};
 use crate::writer::{LineWriter, Spelled, put};
 use sleep_base::Mem;
 use sleep_model::{Entry, Log, LogEnd, Machine, Stats, Waiting};
@@ -18,27 +18,25 @@ pub fn write_log(alloc: Global, machine: &Machine, log: &Log) -> Result<Vec<u8>,
 {
     let room = log.entries.len().saturating_mul(USUAL_LINE);
     let mut out = LineWriter::with_room(alloc, room)?;
-    put_entries(alloc, &mut out, machine, log.entries.as_slice())?;
+    let devices = device_texts(alloc, machine.devices.as_slice())?;
+    let makers = device_makers(alloc, machine.devices.as_slice())?;
+    let scripts = script_makers(alloc, machine.actors.as_slice())?;
+    let (devices, makers, scripts) = (devices.as_slice(), makers.as_slice(), scripts.as_slice());
+    let names = ReadyNames::of(machine, devices, makers, scripts);
+    put_entries(&mut out, &names, log.entries.as_slice())?;
     put_sources(&mut out, machine, log.stats.as_slice())?;
-    put_end(&mut out, machine, &log.end)?;
-    Ok(out.into_vec())
+    put_end(&mut out, &names, &log.end)?;
+    out.into_vec()
 }
 
 /// Writes a line for each entry.
-fn put_entries(
-    alloc: Global,
-    out: &mut LineWriter,
-    machine: &Machine,
-    entries: &[Entry],
-) -> Result<(), Mem>
-    ensures { OnOk result (out.new ≡ out.old ++ flat_map (entry_line machine.now) entries.now) }
+fn put_entries(out: &mut LineWriter, names: &ReadyNames, entries: &[Entry]) -> Result<(), Mem>
+    ensures { OnOk result (out.new ≡ out.old ++ flat_map (entry_line names.now) entries.now) }
 {
     let mut front = LineFront::start();
-    let mut maker = LineMaker::new(alloc, machine)?;
     for entry in entries {
         front.move_to(entry.time, entry.now);
-        maker.move_to(entry.actor)?;
-        put_made(out, machine, front.text(), maker.text(), *entry)?;
+        put_entry(out, names, &front, *entry)?;
     }
     Ok(())
 }
@@ -58,21 +56,21 @@ fn put_sources(out: &mut LineWriter, machine: &Machine, stats: &[Stats]) -> Resu
 }
 
 /// Writes how the run ended: a line for each script that never exits, if there are any.
-fn put_end(out: &mut LineWriter, machine: &Machine, end: &LogEnd) -> Result<(), Mem>
-    ensures { OnOk result (out.new ≡ out.old ++ end_text machine.now end.now) }
+fn put_end(out: &mut LineWriter, names: &ReadyNames, end: &LogEnd) -> Result<(), Mem>
+    ensures { OnOk result (out.new ≡ out.old ++ end_text names.now end.now) }
 {
     match end {
         LogEnd::Finished => put!(out; "finished", "\n"),
-        LogEnd::Stuck(waiting) => put_stuck(out, machine, waiting.as_slice()),
+        LogEnd::Stuck(waiting) => put_stuck(out, names, waiting.as_slice()),
     }
 }
 
 /// Writes a line for each script that never exits.
-fn put_stuck(out: &mut LineWriter, machine: &Machine, waiting: &[Waiting]) -> Result<(), Mem>
-    ensures { OnOk result (out.new ≡ out.old ++ flat_map (waiting_line machine.now) waiting.now) }
+fn put_stuck(out: &mut LineWriter, names: &ReadyNames, waiting: &[Waiting]) -> Result<(), Mem>
+    ensures { OnOk result (out.new ≡ out.old ++ flat_map (waiting_line names.now) waiting.now) }
 {
     for stuck in waiting {
-        put_waiting(out, machine, stuck)?;
+        put_waiting(out, names, stuck)?;
     }
     Ok(())
 }

@@ -1,61 +1,66 @@
-//! The beginnings of what most entries of device phases say, ready with their spaces.
+//! The beginnings of what most entries of device phases say, each written at one go.
 
-ghost use Rattle.std.specs.Prelude.{◌≡◌, ◌++◌, codes};
+ghost use Rattle.std.specs.Prelude.{◌≡◌, ◌++◌, codes, OnOk};
 ghost use Rattle.phase_table.specs.Phases.{phase_name};
 ghost use Rattle.sleep_model.specs.Text.{space};
 
+use crate::writer::LineWriter;
+use sleep_base::Mem;
 use sleep_model::Phase;
 
-/// `begin` and the phase, each with the space behind it.
-pub fn begin_text(phase: Phase) -> &'static str
-    ensures { result.now ≡ codes "begin " ++ phase_name phase ++ space }
+/// Writes `begin` and the phase, each with the space behind it.
+#[inline(always)]
+pub fn put_begin(out: &mut LineWriter, phase: Phase) -> Result<(), Mem>
+    ensures { OnOk result (out.new ≡ out.old ++ (codes "begin " ++ phase_name phase ++ space)) }
 {
     match phase {
-        Phase::Prepare => "begin prepare ",
-        Phase::Suspend => "begin suspend ",
-        Phase::Late => "begin late ",
-        Phase::Noirq => "begin noirq ",
-        Phase::Syscore => "begin syscore ",
-        Phase::SyscoreResume => "begin syscore_resume ",
-        Phase::ResumeNoirq => "begin resume_noirq ",
-        Phase::Early => "begin early ",
-        Phase::Resume => "begin resume ",
-        Phase::Complete => "begin complete ",
+        Phase::Prepare => out.push_text("begin prepare "),
+        Phase::Suspend => out.push_text("begin suspend "),
+        Phase::Late => out.push_text("begin late "),
+        Phase::Noirq => out.push_text("begin noirq "),
+        Phase::Syscore => out.push_text("begin syscore "),
+        Phase::SyscoreResume => out.push_text("begin syscore_resume "),
+        Phase::ResumeNoirq => out.push_text("begin resume_noirq "),
+        Phase::Early => out.push_text("begin early "),
+        Phase::Resume => out.push_text("begin resume "),
+        Phase::Complete => out.push_text("begin complete "),
     }
 }
 
-/// `end` and the phase, each with the space behind it.
-pub fn end_text(phase: Phase) -> &'static str
-    ensures { result.now ≡ codes "end " ++ phase_name phase ++ space }
+/// Writes `end` and the phase, each with the space behind it.
+#[inline(always)]
+pub fn put_end(out: &mut LineWriter, phase: Phase) -> Result<(), Mem>
+    ensures { OnOk result (out.new ≡ out.old ++ (codes "end " ++ phase_name phase ++ space)) }
 {
     match phase {
-        Phase::Prepare => "end prepare ",
-        Phase::Suspend => "end suspend ",
-        Phase::Late => "end late ",
-        Phase::Noirq => "end noirq ",
-        Phase::Syscore => "end syscore ",
-        Phase::SyscoreResume => "end syscore_resume ",
-        Phase::ResumeNoirq => "end resume_noirq ",
-        Phase::Early => "end early ",
-        Phase::Resume => "end resume ",
-        Phase::Complete => "end complete ",
+        Phase::Prepare => out.push_text("end prepare "),
+        Phase::Suspend => out.push_text("end suspend "),
+        Phase::Late => out.push_text("end late "),
+        Phase::Noirq => out.push_text("end noirq "),
+        Phase::Syscore => out.push_text("end syscore "),
+        Phase::SyscoreResume => out.push_text("end syscore_resume "),
+        Phase::ResumeNoirq => out.push_text("end resume_noirq "),
+        Phase::Early => out.push_text("end early "),
+        Phase::Resume => out.push_text("end resume "),
+        Phase::Complete => out.push_text("end complete "),
     }
 }
 
-/// `schedule` and the phase, each with the space behind it.
-pub fn schedule_text(phase: Phase) -> &'static str
-    ensures { result.now ≡ codes "schedule " ++ phase_name phase ++ space }
+/// Writes `schedule` and the phase, each with the space behind it.
+#[inline(always)]
+pub fn put_schedule(out: &mut LineWriter, phase: Phase) -> Result<(), Mem>
+    ensures { OnOk result (out.new ≡ out.old ++ (codes "schedule " ++ phase_name phase ++ space)) }
 {
     match phase {
-        Phase::Prepare => "schedule prepare ",
-        Phase::Suspend => "schedule suspend ",
-        Phase::Late => "schedule late ",
-        Phase::Noirq => "schedule noirq ",
-        Phase::Syscore => "schedule syscore ",
-        Phase::SyscoreResume => "schedule syscore_resume ",
-        Phase::ResumeNoirq => "schedule resume_noirq ",
-        Phase::Early => "schedule early ",
-        Phase::Resume => "schedule resume ",
-        Phase::Complete => "schedule complete ",
+        Phase::Prepare => out.push_text("schedule prepare "),
+        Phase::Suspend => out.push_text("schedule suspend "),
+        Phase::Late => out.push_text("schedule late "),
+        Phase::Noirq => out.push_text("schedule noirq "),
+        Phase::Syscore => out.push_text("schedule syscore "),
+        Phase::SyscoreResume => out.push_text("schedule syscore_resume "),
+        Phase::ResumeNoirq => out.push_text("schedule resume_noirq "),
+        Phase::Early => out.push_text("schedule early "),
+        Phase::Resume => out.push_text("schedule resume "),
+        Phase::Complete => out.push_text("schedule complete "),
     }
 }

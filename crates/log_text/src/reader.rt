@@ -13,6 +13,7 @@ use crate::ends::{stats_in, waiting_in};
 use crate::entries::entry_in;
 use crate::front::LineFront;
 use crate::line::{put_entry, put_source, put_waiting};
+use crate::ready::ReadyNames;
 use crate::writer::LineWriter;
 use sleep_base::Mem;
 use sleep_model::{Entry, Stats, Waiting};
@@ -46,8 +47,9 @@ impl LineReader {
     {
         self.spelled.clear();
         self.front.move_to(entry.time, entry.now);
-        put_entry(&mut self.spelled, book.machine(), &self.front, entry)?;
-        Ok(self.spelled.is(line))
+        let names = ReadyNames::none(book.machine());
+        put_entry(&mut self.spelled, &names, &self.front, entry)?;
+        self.spelled.is(line)
     }
 
     /// The entry of a line, which fits the machine. None where it is no entry's line.
@@ -73,7 +75,7 @@ impl LineReader {
     {
         self.spelled.clear();
         put_source(&mut self.spelled, name, stats)?;
-        Ok(self.spelled.is(line))
+        self.spelled.is(line)
     }
 
     /// The statistics of a line of the source of that name. None where it is no such line.
@@ -102,8 +104,9 @@ impl LineReader {
         ensures { IfOk result (λ b. b ≡ bytes_eq (waiting_line book.now waiting.now) line.now) }
     {
         self.spelled.clear();
-        put_waiting(&mut self.spelled, book.machine(), waiting)?;
-        Ok(self.spelled.is(line))
+        let names = ReadyNames::none(book.machine());
+        put_waiting(&mut self.spelled, &names, waiting)?;
+        self.spelled.is(line)
     }
 
     /// The script of the machine that never exits that a line names. None where it is no such line.

@@ -1,10 +1,11 @@
+ghost use Rattle.std.specs.Prelude.{◌≡◌, ◌≤◌, length};
 ghost use Rattle.sleep_base.specs.Errno.{name_of};
 ghost use Rattle.phase_table.specs.Phases.{phase_name};
-ghost use Rattle.sleep_model.specs.Text.{answer_text, cause_text, script_word, state_word, group_word, down_word, up_word, word_text};
+ghost use Rattle.sleep_model.specs.Text.{answer_text, cause_text, script_word, state_word, group_word, down_word, up_word};
 
-use crate::writer::{LineWriter, Spelled, put};
+use crate::writer::{LineWriter, Spelled};
 use sleep_base::{Errno, Mem};
-use sleep_model::{EventNow, Group, Phase, PlatDo, PlatUndo, SkipCause, State, TaskKind};
+use sleep_model::{Group, Phase, PlatDo, PlatUndo, SkipCause, State, TaskKind};
 
 impl Spelled for Errno {
     ghost spelling = { name_of };
@@ -101,23 +102,12 @@ impl Spelled for PlatUndo {
 }
 
 /// What stands before a script's name.
-impl Spelled for TaskKind {
-    ghost spelling = { script_word };
-
-    #[inline(always)]
-    fn write_to(self, out: &mut LineWriter) -> Result<(), Mem> {
-        out.push_text(match self {
-            TaskKind::Irq => "irq:",
-            _ => "task:",
-        })
-    }
-}
-
-impl Spelled for EventNow {
-    ghost spelling = { word_text };
-
-    #[inline(always)]
-    fn write_to(self, out: &mut LineWriter) -> Result<(), Mem> {
-        put!(out; self.inpr, "/", self.count, "/", self.hard)
+pub fn script_word(kind: TaskKind) -> &'static str
+    ensures word { result.now ≡ script_word kind }
+    ensures few { length result.now ≤ 5 }
+{
+    match kind {
+        TaskKind::Irq => "irq:",
+        _ => "task:",
     }
 }

@@ -1,22 +1,31 @@
 ghost use Rattle.std.specs.Prelude.{decimal, ◌∷◌, []};
 
+use crate::short::{SHORT, ShortText};
 use itoa::Buffer;
 use sleep_base::Mem;
 use std::alloc::Global;
 use std::marker::Model;
 
-/// Bytes that grow at their end, and that contracts see as their list.
+/// How many bytes are held before they go behind the others.
+const HELD: usize = 1024;
+
+/// Bytes that grow at their end, and that contracts see as their list. The last ones are held in place, where a short
+/// text costs little.
 #[derive(Drop)]
 pub struct LineWriter {
     bytes: Vec<u8>,
+    held: [u8; 1024],
+    used: usize,
 }
 
 impl Model for LineWriter {
-    ghost use Rattle.std.specs.Prelude.{ℕ, List};
+    ghost use Rattle.std.specs.Prelude.{ℕ, List, ◌++◌, ◌≤◌, take};
 
     ghost Value = { List ℕ };
 
-    ghost view = { λ w. w.bytes.items };
+    ghost view = { λ w. w.bytes.items ++ take w.used w.held };
+
+    ghost invariant = { λ w. w.used ≤ 1024 };
 }
 
 impl LineWriter {
@@ -28,7 +37,11 @@ impl LineWriter {
         ensures { IfOk result (λ w. w ≡ []) }
     {
         let bytes = Vec::with_capacity(alloc, room)?;
-        Ok(LineWriter { bytes })
+        Ok(LineWriter {
+            bytes,
+            held: [0; 1024],
+            used: 0,
+        })
     }
 
     /// Forgets what was written.
@@ -36,29 +49,26 @@ impl LineWriter {
         ensures { self.new ≡ [] }
     {
         self.bytes.clear();
-    }
-
-    /// All that was written so far.
-    #[inline(always)]
-    pub fn as_slice(&self) -> &[u8]
-        ensures { result.now ≡ self.now }
-    {
-        self.bytes.as_slice()
+        self.used = 0;
     }
 
     /// Whether just these bytes were written.
-    pub fn is(&self, bytes: &[u8]) -> bool
-        ensures { result ≡ bytes_eq self.now bytes.now }
+    pub fn is(&mut self, bytes: &[u8]) -> Result<bool, Mem>
+        ensures { IfOk result (λ b. b ≡ bytes_eq self.old bytes.now) }
     {
-        self.bytes.as_slice() == bytes
+        self.bytes.extend_from_slice(&self.held[..self.used])?;
+        self.used = 0;
+        Ok(self.bytes.as_slice() == bytes)
     }
 
     /// All that was written.
-    pub fn into_vec(self) -> Vec<u8>
-        ensures { result.items ≡ self }
+    pub fn into_vec(self) -> Result<Vec<u8>, Mem>
+        ensures { IfOk result (λ v. v.items ≡ self) }
     {
-        let LineWriter { bytes } = self;
-        bytes
+        let LineWriter { bytes, held, used } = self;
+        let mut all = bytes;
+        all.extend_from_slice(&held[..used])?;
+        Ok(all)
     }
 
     /// Writes these bytes.
@@ -66,7 +76,36 @@ impl LineWriter {
     pub fn push_bytes(&mut self, bytes: &[u8]) -> Result<(), Mem>
         ensures { OnOk result (self.new ≡ self.old ++ bytes.now) }
     {
+        if bytes.len() > HELD - self.used {
+            return self.push_behind(bytes);
+        }
+        self.held[self.used..self.used + bytes.len()].copy_from_slice(bytes);
+        self.used += bytes.len();
+        Ok(())
+    }
+
+    /// Writes these bytes behind those that are held.
+    #[cold]
+    #[inline(never)]
+    fn push_behind(&mut self, bytes: &[u8]) -> Result<(), Mem>
+        ensures { OnOk result (self.new ≡ self.old ++ bytes.now) }
+    {
+        self.bytes.extend_from_slice(&self.held[..self.used])?;
+        self.used = 0;
         self.bytes.extend_from_slice(bytes)?;
+        Ok(())
+    }
+
+    /// Writes this text.
+    #[inline(always)]
+    pub fn push_short(&mut self, text: &ShortText) -> Result<(), Mem>
+        ensures { OnOk result (self.new ≡ self.old ++ text.now) }
+    {
+        if self.used > HELD - SHORT {
+            return self.push_behind(text.as_bytes());
+        }
+        self.held[self.used..self.used + SHORT].copy_from_slice(text.room());
+        self.used += text.len();
         Ok(())
     }
 
@@ -83,7 +122,11 @@ impl LineWriter {
     pub fn push_byte(&mut self, byte: u8) -> Result<(), Mem>
         ensures { OnOk result (self.new ≡ self.old ++ byte ∷ []) }
     {
-        self.bytes.push(byte)?;
+        if self.used == HELD {
+            return self.push_behind(&[byte]);
+        }
+        self.held[self.used] = byte;
+        self.used += 1;
         Ok(())
     }
 
@@ -95,8 +138,7 @@ impl LineWriter {
     {
         // Most numbers of a log have one digit.
         if number < 10 {
-            self.bytes.push(b'0' + number as u8)?;
-            return Ok(());
+            return self.push_byte(b'0' + number as u8);
         }
         self.push_digits(number)
     }
@@ -136,6 +178,15 @@ impl Spelled for &[u8] {
     #[inline(always)]
     fn write_to(self, out: &mut LineWriter) -> Result<(), Mem> {
         out.push_bytes(self)
+    }
+}
+
+impl Spelled for &ShortText {
+    ghost spelling = { λ text. text.now };
+
+    #[inline(always)]
+    fn write_to(self, out: &mut LineWriter) -> Result<(), Mem> {
+        out.push_short(self)
     }
 }
 

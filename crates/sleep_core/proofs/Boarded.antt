@@ -1,11 +1,24 @@
 -- The board behind an entry.
-use Rattle.std.proofs.Common.{◌≡◌, List, ◌∷◌, Option, Some, None, unwrap_or}
+use Rattle.std.proofs.Common.{◌≡◌, ℕ, List, ◌∷◌, Some, None, refl}
+use Rattle.sleep_model.specs.declared.entry.Actor.{Actor}
 use Rattle.sleep_model.specs.declared.entry.Entry.{Entry}
+use Rattle.sleep_model.specs.declared.entry.Kind.{Kind}
+use Rattle.sleep_model.specs.declared.entry.Kind.TheVariants as kind
 use Rattle.sleep_model.specs.declared.machine.Machine.{Machine}
-use Rattle.async_board.specs.Boards.{BoardState, board_after}
+use Rattle.sleep_model.specs.declared.word.EventNow.{EventNow}
 use Rattle.async_board.proofs.Told.{board_next}
-use Rattle.sleep_core.specs.Histories.{Stands, board_of}
+use Rattle.sleep_core.specs.Histories.{Settles, board_of, moved_board}
 
-pub moved_board : (m : Machine) (past : List Entry) (e : Entry) (o : Option BoardState) → Stands m past e o → unwrap_or o (board_after e.kind (board_of m past)) ≡ board_of m (e ∷ past)
-moved_board m past e None h = board_next m past e h
-moved_board m past e (Some board) h = h
+-- an entry at that time, of that maker and kind
+abbrev entry_of : ℕ → EventNow → Actor → Kind → Entry
+entry_of time now who k = record { time = time; now = now; actor = who; kind = k }
+
+by_kind : (m : Machine) (past : List Entry) (time : ℕ) (now : EventNow) (who : Actor) (k : Kind) → Settles m past (entry_of time now who k) → moved_board k (board_of m past) ≡ board_of m (entry_of time now who k ∷ past)
+by_kind m past time now who (kind.LinkAdd s c None) h = h refl
+by_kind m past time now who (kind.LinkAdd s c (Some r)) h = board_next m past (entry_of time now who (kind.LinkAdd s c (Some r))) refl
+by_kind m past time now who (kind.LinkState s c active None) h = h refl
+by_kind m past time now who (kind.LinkState s c active (Some r)) h = board_next m past (entry_of time now who (kind.LinkState s c active (Some r))) refl
+by_kind m past time now who k h = board_next m past (entry_of time now who k) refl
+
+pub board_moves : (m : Machine) (past : List Entry) (e : Entry) → Settles m past e → moved_board e.kind (board_of m past) ≡ board_of m (e ∷ past)
+board_moves m past e h = by_kind m past e.time e.now e.actor e.kind h

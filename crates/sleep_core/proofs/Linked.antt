@@ -1,9 +1,8 @@
--- Links change where no attempt is open, so that a board that is made anew is the board then.
-use Rattle.std.proofs.Common.{◌≡◌, ◌≤◌, ◌∙◌, ℕ, Bool, true, false, List, ◌∷◌, length, map, replicate, Option, Some, None, is_some, refl, sym, ap, subst, arith}
+-- Links change where no attempt is open, so that a board that begins anew is the board then.
+use Rattle.std.proofs.Common.{◌≡◌, ◌≤◌, ◌∙◌, ℕ, Bool, List, ◌∷◌, length, map, replicate, Option, None, sym, ap, subst, arith}
 use Rattle.std.proofs.lemmas.List.{length-map}
 use Rattle.phase_table.specs.declared.phase.Phase.{Phase}
 use Rattle.phase_table.specs.declared.phase.Phase.TheVariants as phase
-use Rattle.sleep_base.specs.declared.errno.Errno.{Errno}
 use Rattle.sleep_model.specs.declared.entry.Actor.{Actor}
 use Rattle.sleep_model.specs.declared.entry.Entry.{Entry}
 use Rattle.sleep_model.specs.declared.entry.Kind.{Kind}
@@ -34,7 +33,7 @@ use Rattle.sleep_laws.proofs.MakingOwn.{made}
 use Rattle.sleep_laws.proofs.Passing.{standing}
 use Rattle.sleep_laws.proofs.Standing.{Standing}
 use Rattle.async_board.specs.Boards.{BoardState, first_board}
-use Rattle.sleep_core.specs.Histories.{Changes, Relinks, Stands, board_of}
+use Rattle.sleep_core.specs.Histories.{Changes, Settles, board_of}
 
 -- an accepted machine has few devices
 pub few_parents : (m : Machine) → IsAccepted m → length (parents_of m.devices) ≤ 1024
@@ -90,12 +89,11 @@ board_linked m past legal none ls =
     with_stands : List Stand → List Stand → List Stand → BoardState
     with_stands x y z = record { parents = parents_of m.devices; links = ls; beside = map is_async m.devices; suspend = x; late = y; noirq = z }
 
--- a board that was made for an entry that is due is the board behind it
-relinked : (m : Machine) (past : List Entry) → JournalPart m past → (time : ℕ) (now : EventNow) (who : Actor) (k : Kind) (board : BoardState) → maker past ≡ None → Changes k → board ≡ first_board (parents_of m.devices) (links_after k (links_at m past)) (map is_async m.devices) → board ≡ board_of m (record { time = time; now = now; actor = who; kind = k } ∷ past)
-relinked m past legal time now who (kind.LinkAdd s c r) board none h e = e ∙ board_linked m past legal none (links_after (kind.LinkAdd s c r) (links_at m past))
-relinked m past legal time now who (kind.LinkState s c active r) board none h e = e ∙ board_linked m past legal none (links_after (kind.LinkState s c active r) (links_at m past))
-relinked m past legal time now who _ board none h e = absurd h
-
-pub stands_then : (m : Machine) (past : List Entry) → JournalPart m past → (time : ℕ) (now : EventNow) (who : Actor) (k : Kind) → due m past who now ≡ Makes k → (o : Option BoardState) → Relinks m past k o → Stands m past (record { time = time; now = now; actor = who; kind = k }) o
-stands_then m past legal time now who k makes None h = h (links_at m past)
-stands_then m past legal time now who k makes (Some board) h = relinked m past legal time now who k board (entry_closed m past now who k (made m past now who k makes) h.0) h.0 h.1
+-- where an entry that is due changes links, no device is prepared
+pub settles : (m : Machine) (past : List Entry) → JournalPart m past → (time : ℕ) (now : EventNow) (who : Actor) (k : Kind) → due m past who now ≡ Makes k → Settles m past (record { time = time; now = now; actor = who; kind = k })
+settles m past legal time now who k makes h = by_kind k h (entry_closed m past now who k (made m past now who k makes) h)
+  where
+    by_kind : (j : Kind) → Changes j → maker past ≡ None → first_board (parents_of m.devices) (links_after j (links_at m past)) (map is_async m.devices) ≡ board_of m (record { time = time; now = now; actor = who; kind = j } ∷ past)
+    by_kind (kind.LinkAdd s c r) h none = board_linked m past legal none (links_after (kind.LinkAdd s c r) (links_at m past))
+    by_kind (kind.LinkState s c active r) h none = board_linked m past legal none (links_after (kind.LinkState s c active r) (links_at m past))
+    by_kind _ h none = absurd h

@@ -32,7 +32,7 @@ use Rattle.attempt_room.specs.Room.{needed, enough, is_attempt}
 use Rattle.attempt_room.proofs.Needing.{none_needed, due_own_spends, due_attempt_needs, due_needs_nothing, jump_needs_nothing}
 use Rattle.sleep_state.specs.Places.{entries}
 use Rattle.sleep_core.specs.CoreFields.{SleptEarly, FrozeEarly, IsCore}
-use Rattle.sleep_core.specs.Cores.{IsActor}
+use Rattle.sleep_core.specs.Cores.{CoreState, IsActor}
 use Rattle.sleep_core.specs.Histories.{Kept, Admits, HasRoom, places_for, after_entry}
 use Rattle.sleep_core.specs.Numbered.{Leaves, IsCounted}
 
@@ -161,6 +161,30 @@ room_suffices m past legal accepted e room places makes fits true is own other =
 room_suffices m past legal accepted e room places makes fits false is own other =
     let none : (is_actor e.actor (maker past) ≡ false) × (is_device e.actor ≡ false) = either (is_actor e.actor (maker past)) (is_device e.actor) is in
     other_room m past legal e room places makes fits none.0 none.1 (other refl) (is_attempt e.kind) refl
+
+-- a core with more room is one
+pub core_kept : (h reserved : Kept) → IsCore h → reserved.machine ≡ h.machine → reserved.past ≡ h.past → h.room ≤ reserved.room → IsCore reserved
+core_kept h reserved is machine past grows =
+    let there : IsCore (record h { room = reserved.room }) = record {
+      accepted = is.accepted;
+      legal = is.legal;
+      room = omega (arith, is.room, grows);
+      few = is.few;
+      early = is.early;
+      slept = is.slept;
+      froze = is.froze;
+    } in
+    subst (λ (xs : List JournalEntry). IsCore (record { machine = reserved.machine; past = xs; room = reserved.room })) (sym past)
+    (subst (λ (m : Machine). IsCore (record { machine = m; past = h.past; room = reserved.room })) (sym machine) there)
+
+-- a core as contracts see it
+abbrev seen_core : Machine → List JournalEntry → CoreState
+seen_core m past = record { machine = m; past = past }
+
+-- contracts see no room
+pub core_seen : (h reserved new : Kept) → reserved.machine ≡ h.machine → reserved.past ≡ h.past → new ≡ reserved → seen_core new.machine new.past ≡ seen_core h.machine h.past
+core_seen h reserved new machine past same =
+    ap (λ (k : Kept). seen_core k.machine k.past) same ∙ (ap (λ m. seen_core m reserved.past) machine ∙ ap (seen_core h.machine) past)
 
 -- the core after an entry that was due, in the room that was made for it
 pub core_more : (h reserved new : Kept) (j : JournalEntry) (own : Bool) → IsCore h → IsActor h.machine j.entry.actor → due h.machine (entries h.past) j.entry.actor j.entry.now ≡ Makes j.entry.kind → j.entry.time ≡ time_of (entries h.past) → Leaves h.machine j.entry.kind (entries h.past) → own ≡ (is_actor j.entry.actor (maker (entries h.past)) || is_device j.entry.actor) → HasRoom own j.entry.kind h reserved → new ≡ after_entry reserved j → IsCore new

@@ -6,7 +6,6 @@ use Rattle.sleep_model.specs.declared.entry.JournalEntry.{JournalEntry}
 use Rattle.sleep_model.specs.declared.entry.Actor.{Actor}
 use Rattle.sleep_model.specs.declared.entry.Kind.{Kind}
 use Rattle.sleep_model.specs.declared.entry.Kind.TheVariants as kind
-use Rattle.sleep_model.specs.declared.machine.Link.{Link}
 use Rattle.sleep_model.specs.declared.machine.Machine.{Machine}
 use Rattle.sleep_model.specs.declared.place.Seat.{Seat}
 use Rattle.sleep_model.specs.declared.word.Stamp.{Stamp}
@@ -18,14 +17,14 @@ use Rattle.sleep_model.specs.Guard.{in_force, forgotten}
 use Rattle.sleep_model.specs.Lock.{holder, is_on}
 use Rattle.sleep_model.specs.Marks.{raised}
 use Rattle.sleep_model.specs.Notifiers.{call_order, told, cpus_off, stopped}
-use Rattle.sleep_model.specs.Order.{links_after, links_at, parents_of}
+use Rattle.sleep_model.specs.Order.{links_added, links_after, links_at, links_set, parents_of}
 use Rattle.sleep_model.specs.Path.{attempts, attempts_after, maker}
 use Rattle.sleep_model.specs.Runtime.{is_async, statuses, leaves_alone, takes_late}
 use Rattle.sleep_model.specs.Seats.{seats}
 use Rattle.sleep_model.specs.Stands.{stands}
 use Rattle.sleep_model.specs.Table.{stage_of}
 use Rattle.attempt_room.specs.Room.{enough}
-use Rattle.async_board.specs.Boards.{BoardState, first_board}
+use Rattle.async_board.specs.Boards.{BoardState, board_after, first_board}
 use Rattle.platform_steps.specs.Steps.{Steps}
 use Rattle.autosleep_loop.specs.Autosleeps.{AutosleepState}
 use Rattle.sleep_state.specs.DeviceStates.{DeviceState}
@@ -131,16 +130,18 @@ Changes (kind.LinkAdd supplier consumer r) = r ≡ None
 Changes (kind.LinkState supplier consumer active r) = r ≡ None
 Changes _ = ⊥
 
--- a board that is made anew for an entry of that kind which changes links, on which no device is prepared; none where it changes no link (device_link_add)
-abbrev pub Relinks : Machine → List Entry → Kind → Option BoardState → Type 0
-Relinks m past k None = (ls : List Link) → links_after k ls ≡ ls
-Relinks m past k (Some board) =
-    Changes k × (board ≡ first_board (parents_of m.devices) (links_after k (links_at m past)) (map is_async m.devices))
+-- a board after an entry: where links change it begins anew, with no device prepared (device_link_add)
+abbrev pub moved_board : Kind → BoardState → BoardState
+moved_board (kind.LinkAdd supplier consumer None) board =
+    first_board board.parents (links_added supplier consumer None board.links) board.beside
+moved_board (kind.LinkState supplier consumer active None) board =
+    first_board board.parents (links_set supplier consumer active None board.links) board.beside
+moved_board k board = board_after k board
 
--- the board that stands after an entry: one that was made for it, or the one that stood, moved by it
-abbrev pub Stands : Machine → List Entry → Entry → Option BoardState → Type 0
-Stands m past e None = links_after e.kind (links_at m past) ≡ links_at m past
-Stands m past e (Some board) = board ≡ board_of m (e ∷ past)
+-- no device is prepared where an entry changes links, so that the board begins anew behind it
+abbrev pub Settles : Machine → List Entry → Entry → Type 0
+Settles m past e =
+    Changes e.kind → first_board (parents_of m.devices) (links_after e.kind (links_at m past)) (map is_async m.devices) ≡ board_of m (e ∷ past)
 
 -- the history after an entry
 abbrev pub after_entry : Kept → JournalEntry → Kept
@@ -158,5 +159,6 @@ places_for m k (Some who) room = room + 1
 pub record HasRoom (own : Bool) (k : Kind) (old new : Kept) : Type 0 where
   pub machine : new.machine ≡ old.machine
   pub past : new.past ≡ old.past
+  pub grows : old.room ≤ new.room
   pub own_room : own ≡ true → new.room ≡ old.room
   pub other_room : own ≡ false → places_for old.machine k (maker (entries old.past)) old.room ≤ new.room

@@ -1,8 +1,10 @@
-ghost use Rattle.std.specs.Prelude.{◌≡◌, map, unwrap_or, IfOk};
+ghost use Rattle.std.specs.Prelude.{◌≡◌, map, IfOk, OnOk, OnErr};
 ghost use Rattle.sleep_model.specs.Runtime.{is_async};
-ghost use Rattle.async_board.specs.Boards.{first_board, board_after};
+ghost use Rattle.async_board.specs.Boards.{first_board};
 ghost use Rattle.sleep_model.specs.Accepted.{IsAccepted};
 ghost use Rattle.sleep_core.specs.FirstParts.{AreFirst};
+ghost use Rattle.sleep_core.specs.Histories.{moved_board};
+ghost use Rattle.sleep_core.specs.Numbered.{IsCounted};
 
 use crate::clock::time_after;
 use async_board::Board;
@@ -67,13 +69,28 @@ fn first_board(alloc: Global, devices: &[Device], links: Links) -> Result<Board,
     Board::wired(alloc, links, beside)
 }
 
-/// The board moves by an entry, or makes place for the one that was made for it.
-fn move_board(board: &mut Board, kind: Kind, relinked: Option<Board>)
-    ensures { board.new ≡ unwrap_or relinked (board_after kind board.old) }
+/// The board moves by an entry; where links change, it begins anew. `Mem` where there is no memory for a
+/// link more; nothing has changed then.
+fn move_board(board: &mut Board, kind: Kind) -> Result<(), Mem>
+    ensures ok { OnOk result (board.new ≡ moved_board kind board.old) }
+    ensures err { OnErr result (IsCounted kind × (board.new ≡ board.old)) }
 {
-    match relinked {
-        Some(new) => *board = new,
-        None => board.note(kind),
+    match kind {
+        Kind::LinkAdd {
+            supplier,
+            consumer,
+            r: None,
+        } => board.add_link(supplier, consumer),
+        Kind::LinkState {
+            supplier,
+            consumer,
+            active,
+            r: None,
+        } => board.set_link(supplier, consumer, active),
+        _ => {
+            board.note(kind);
+            Ok(())
+        }
     }
 }
 
@@ -119,7 +136,7 @@ impl<'m> History<'m> {
     ghost use Rattle.sleep_model.specs.Order.{parents_of};
     ghost use Rattle.sleep_state.specs.Places.{entries};
     ghost use Rattle.sleep_core.specs.Numbered.{IsCounted};
-    ghost use Rattle.sleep_core.specs.Histories.{Admits, Relinks, Stands, after_entry, places_for, HasRoom, last_stamp, guard_of, path_of, devices_of, board_of, tasks_of, freezer_of, autosleep_of, steps_of, parts_of};
+    ghost use Rattle.sleep_core.specs.Histories.{Admits, Settles, after_entry, places_for, HasRoom, last_stamp, guard_of, path_of, devices_of, board_of, tasks_of, freezer_of, autosleep_of, steps_of, parts_of};
 
     /// The empty journal of a machine, and its parts before any entry.
     fn of_parts(machine: &'m Machine, journal: Journal, parts: Parts<'m>, board: Board) -> Self
@@ -165,33 +182,13 @@ impl<'m> History<'m> {
         Ok(History::of_parts(machine, journal, parts, board))
     }
 
-    /// The board that an entry which changes links wants; none where it changes none. `Mem` where there
-    /// is no memory.
-    pub fn relinked(&self, kind: Kind) -> Result<Option<Board>, Mem>
-        ensures ok { IfOk result (Relinks self.now.machine (entries self.now.past) kind) }
-        ensures err { OnErr result (IsCounted kind) }
-    {
-        match kind {
-            Kind::LinkAdd {
-                supplier,
-                consumer,
-                r: None,
-            } => Ok(Some(self.board.with_link(supplier, consumer)?)),
-            Kind::LinkState {
-                supplier,
-                consumer,
-                active,
-                r: None,
-            } => Ok(Some(self.board.with_state(supplier, consumer, active)?)),
-            _ => Ok(None),
-        }
-    }
-
-    /// Appends an entry in a reserved place, with the board that was made for it, if it changes links.
-    pub fn append(&mut self, stamped: JournalEntry, relinked: Option<Board>)
+    /// Appends an entry in a reserved place. `Mem` where it adds a link, for which there is no memory; nothing
+    /// has changed then.
+    pub fn append(&mut self, stamped: JournalEntry) -> Result<(), Mem>
         requires admits { Admits self.old stamped.entry }
-        requires board { Stands self.old.machine (entries self.old.past) stamped.entry relinked }
-        ensures { self.new ≡ after_entry self.old stamped }
+        requires board { Settles self.old.machine (entries self.old.past) stamped.entry }
+        ensures ok { OnOk result (self.new ≡ after_entry self.old stamped) }
+        ensures err { OnErr result (IsCounted stamped.entry.kind × (self.new ≡ self.old)) }
     {
         let Entry {
             time,
@@ -199,18 +196,19 @@ impl<'m> History<'m> {
             actor,
             kind,
         } = stamped.entry;
+        move_board(&mut self.board, kind)?;
         self.last = stamped.stamp;
         self.time = time_after(kind, time, self.time);
         self.guard.note(kind, now);
         self.path.note(kind, actor, pos(now), time);
         self.devices.note(kind, actor);
-        move_board(&mut self.board, kind, relinked);
         self.tasks.note(actor, kind);
         self.freezer.note(actor, kind);
         self.autosleep.note(kind, actor);
         self.platform.note(kind);
         self.syscore.note(kind);
         self.journal.put(stamped);
+        Ok(())
     }
 
     /// Sees that at least so many places are reserved. After an error nothing has changed.

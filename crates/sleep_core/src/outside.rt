@@ -50,8 +50,11 @@ impl<'m> Core<'m> {
             actor: Actor::Time,
             kind: Kind::Jump,
         };
-        self.history.append(JournalEntry { stamp, entry }, None);
-        Ok(stamp)
+        match self.history.append(JournalEntry { stamp, entry }) {
+            Ok(()) => Ok(stamp),
+            // A jump changes no link.
+            Err(_) => unreachable!(),
+        }
     }
 
     /// How many calls on sources a script has to have made before its next entry, by its plan.

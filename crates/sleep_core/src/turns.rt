@@ -152,10 +152,6 @@ impl<'m> Core<'m> {
             return Err(CoreFault::Mem);
         }
         let reports = self.reports_in(kind);
-        let relinked = match self.history.relinked(kind) {
-            Ok(relinked) => relinked,
-            Err(_) => return Err(CoreFault::Mem),
-        };
         match self.history.make_room(own, kind) {
             Ok(()) => {}
             Err(_) => return Err(CoreFault::Mem),
@@ -168,9 +164,13 @@ impl<'m> Core<'m> {
             actor: who,
             kind,
         };
-        self.history.append(JournalEntry { stamp, entry }, relinked);
-        self.reports.add(who, reports);
-        Ok(())
+        match self.history.append(JournalEntry { stamp, entry }) {
+            Ok(()) => {
+                self.reports.add(who, reports);
+                Ok(())
+            }
+            Err(_) => Err(CoreFault::Mem),
+        }
     }
 
     /// The turn of an actor that saw this word.

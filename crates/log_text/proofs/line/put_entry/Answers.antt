@@ -5,5 +5,5 @@ use Rattle.log_text.proofs.line.put_entry.Goals as goal
 pub returns : goal.returns
 returns c =
     rw
-    (c.in_ok-write_to-3.ensures, c.in_ok-put_body.ensures, c.in_ok-write_to-2.ensures, c.in_ok-put_actor.ensures, c.in_ok-write_to.ensures, c.text.ensures, c.requires.time, c.requires.word)
+    (c.in_ok-write_to-2.ensures, c.in_ok-put_body.ensures, c.in_ok-put_maker.ensures, c.in_ok-write_to.ensures, c.text.ensures, c.requires.time, c.requires.word)
     (simp append_assoc)

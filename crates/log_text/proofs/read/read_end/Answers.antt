@@ -1,4 +1,4 @@
-use Rattle.std.proofs.Common.{◌≡◌, ◌∙◌, sym, length, arith, true, false, bytes_eq}
+use Rattle.std.proofs.Common.{◌≡◌, ◌∙◌, sym, length, arith, true, bytes_eq}
 use Rattle.std.proofs.lemmas.Bool.Decides.{nat_tests}
 use Rattle.log_text.specs.Grammar.{finished_line}
 use Rattle.log_text.proofs.Finished.{finished_text, finished_bad}

@@ -1,4 +1,4 @@
-use Rattle.std.proofs.Common.{◌≡◌, ℕ, subst, IfOk, IfErr}
+use Rattle.std.proofs.Common.{◌≡◌, subst, IfOk, IfErr}
 use Rattle.std.specs.Prelude.{IsOkUnless}
 use Rattle.sleep_model.specs.declared.log.Log.{Log}
 use Rattle.sleep_model.specs.declared.machine.Machine.{Machine}

@@ -1,4 +1,4 @@
-use Rattle.std.proofs.Common.{◌≡◌, ◌∙◌, ◌≤◌, ◌<◌, ◌+◌, ◌++◌, ◌∷◌, [], sym, ap, length, get_or, arith}
+use Rattle.std.proofs.Common.{◌≡◌, ◌≤◌, ◌<◌, ◌++◌, ◌∷◌, [], ap, length, get_or, arith}
 use Rattle.log_text.proofs.Loops.{one_source, no_source_there, last_source_text, last_source_bad, no_last_source}
 use Rattle.log_text.proofs.read.read_sources.Goals as goal
 

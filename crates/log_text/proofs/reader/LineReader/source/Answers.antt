@@ -1,4 +1,4 @@
-use Rattle.std.proofs.Common.{◌≡◌, ◌∙◌, ◌+◌, sym, drop, length, Option, None, Some}
+use Rattle.std.proofs.Common.{◌≡◌, ◌∙◌, ◌+◌, sym, drop, length, Some}
 use Rattle.sleep_model.specs.Text.{source_line}
 use Rattle.log_text.specs.Cutting.{without_last}
 use Rattle.log_text.specs.Reading.{stats_in}

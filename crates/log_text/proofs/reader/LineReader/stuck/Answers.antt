@@ -1,4 +1,4 @@
-use Rattle.std.proofs.Common.{◌≡◌, ◌∙◌, sym, drop, Option, None, Some}
+use Rattle.std.proofs.Common.{◌≡◌, ◌∙◌, sym, drop, None, Some}
 use Rattle.log_text.specs.Cutting.{without_last}
 use Rattle.log_text.specs.Reading.{waiting_in}
 use Rattle.log_text.proofs.Readable.{no_stuck, other_stuck}

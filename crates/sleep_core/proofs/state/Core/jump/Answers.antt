@@ -1,4 +1,4 @@
-use Rattle.std.proofs.Common.{◌≡◌, ◌∙◌, ◌<◌, map, refl, ap, sym, subst, arith}
+use Rattle.std.proofs.Common.{◌≡◌, ◌∙◌, ◌<◌, map, ap, sym, subst, arith}
 use Rattle.sleep_model.specs.declared.machine.Machine.{Machine}
 use Rattle.sleep_model.specs.Numbers.{time_of}
 use Rattle.sleep_model.specs.Runtime.{may_wake}
@@ -17,19 +17,19 @@ append-requires c = record {
       (omega (arith, c.in_ok-reserve.ensures.ok, c.room-places.ensures.room))
       (omega (arith, c.runs-runs.type_inv, c.runs-runs.ensures, ap (λ (a : AutosleepState). a.runs) c.autosleep.ensures))
       (omega (arith, c.len-made.ensures.len, c.len-made.ensures.small));
-  board = refl;
+  board = λ h. absurd h;
 }
 
 pub invariant_of-self-2 : goal.invariant_of-self-2
 invariant_of-self-2 c =
     let h = c.self.inside.history in
-    let same : c.append.new.self.machine ≡ h.machine = ap (λ (k : Kept). k.machine) c.append.ensures ∙ c.in_ok-reserve.ensures.machine in
+    let same : c.append.new.self.machine ≡ h.machine = ap (λ (k : Kept). k.machine) c.in-Ok.ensures.ok ∙ c.in_ok-reserve.ensures.machine in
     record {
       core = core_jumped h c.reserve.new.self c.append.new.self _ c.args.to c.args.seen c.self.invariant.core c.in_ok-reserve.ensures.machine c.in_ok-reserve.ensures.past
           (omega (arith, c.in_ok-reserve.ensures.ok, c.room-places.ensures.room))
-          (subst (λ (s : CoreState). time_of (entries s.past) < c.args.to) (sym c.self.view_is) c.requires.later) c.requires.small c.append.ensures;
+          (subst (λ (s : CoreState). time_of (entries s.past) < c.args.to) (sym c.self.view_is) c.requires.later) c.requires.small c.in-Ok.ensures.ok;
       plans_are = c.self.invariant.plans_are ∙ ap (λ (m : Machine). m.actors) (sym same);
       answers_are = c.self.invariant.answers_are ∙ ap (λ (m : Machine). m.answers) (sym same);
       wakeup_is = c.self.invariant.wakeup_is ∙ ap (λ (m : Machine). map may_wake m.devices) (sym same);
-      reports_are = c.self.invariant.reports_are ∙ sym (counts_more h c.reserve.new.self c.append.new.self _ c.in_ok-reserve.ensures.machine c.in_ok-reserve.ensures.past c.append.ensures);
+      reports_are = c.self.invariant.reports_are ∙ sym (counts_more h c.reserve.new.self c.append.new.self _ c.in_ok-reserve.ensures.machine c.in_ok-reserve.ensures.past c.in-Ok.ensures.ok);
     }

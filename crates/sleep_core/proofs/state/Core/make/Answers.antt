@@ -4,7 +4,7 @@ use Rattle.sleep_model.specs.declared.entry.JournalEntry.{JournalEntry}
 use Rattle.sleep_model.specs.declared.place.Due.TheVariants.{Makes}
 use Rattle.sleep_model.specs.declared.machine.Machine.{Machine}
 use Rattle.sleep_model.specs.Runtime.{may_wake}
-use Rattle.sleep_core.specs.Histories.{Kept, Stands}
+use Rattle.sleep_core.specs.Histories.{Kept, Settles}
 use Rattle.sleep_model.specs.Devices.{is_device}
 use Rattle.sleep_model.specs.Due.{due}
 use Rattle.sleep_model.specs.Numbers.{time_of}
@@ -12,11 +12,12 @@ use Rattle.sleep_model.specs.Calls.{calls_due, report_calls}
 use Rattle.sleep_model.specs.Path.{attempts, is_actor, maker}
 use Rattle.sleep_state.specs.Places.{entries}
 use Rattle.sleep_core.specs.Cores.{CoreState, IsActor}
+use Rattle.sleep_core.specs.CoreFields.{IsCore}
 use Rattle.sleep_core.specs.Numbered.{Leaves}
-use Rattle.sleep_core.specs.Reports.{reported_by, counts_after}
-use Rattle.sleep_core.proofs.Linked.{stands_then}
+use Rattle.sleep_core.specs.Reports.{reported_by, counts_after, counts_of}
+use Rattle.sleep_core.proofs.Linked.{settles}
 use Rattle.sleep_core.proofs.Reporting.{reported_few, counts_more}
-use Rattle.sleep_core.proofs.Turning.{counted_outside, admits_more, core_more}
+use Rattle.sleep_core.proofs.Turning.{counted_outside, admits_more, core_more, core_kept, core_seen}
 use Rattle.sleep_core.proofs.state.Core.make.Goals as goal
 
 pub returns-then-not-leaves-clause-err : goal.returns-then-not-leaves-clause-err
@@ -25,16 +26,18 @@ returns-then-not-leaves-clause-err c =
     let outside = counted_outside s.machine (entries s.past) c.args.now c.args.who c.args.kind c.requires.due c.if-not-leaves.ensures.counted in
     (outside.0, outside.1, refl)
 
-pub returns-in-Err-clause-err : goal.returns-in-Err-clause-err
-returns-in-Err-clause-err c =
+pub returns-in-Err-append-clause-err : goal.returns-in-Err-append-clause-err
+returns-in-Err-append-clause-err c =
     let s = c.args.self.now in
-    let outside = counted_outside s.machine (entries s.past) c.args.now c.args.who c.args.kind c.requires.due c.in-Err.ensures.err in
-    (outside.0, outside.1, refl)
+    let has = c.in-Ok.ensures.ok in
+    let same = c.in-Err-append.ensures.err in
+    let outside = counted_outside s.machine (entries s.past) c.args.now c.args.who c.args.kind c.requires.due same.0 in
+    (outside.0, outside.1, core_seen c.self.inside.history c.make_room.new.self c.append.new.self has.machine has.past same.1 ∙ c.self.view_is)
 
 pub append-requires : goal.append-requires
 append-requires c =
     let h = c.self.inside.history in
-    let has = c.in-Ok-make_room.ensures.ok in
+    let has = c.in-Ok.ensures.ok in
     let e : Entry = record { time = c.time.result; now = c.args.now; actor = c.args.who; kind = c.args.kind } in
     let makes = subst (λ (s : CoreState). due s.machine (entries s.past) c.args.who c.args.now ≡ Makes c.args.kind) (sym c.self.view_is) c.requires.due in
     record {
@@ -42,9 +45,9 @@ append-requires c =
           (subst (λ (s : CoreState). Leaves s.machine c.args.kind (entries s.past)) (sym c.self.view_is) c.if-not-leaves.ensures.fits)
           (subst (λ (s : CoreState). c.is_own-own.result ≡ (is_actor c.args.who (maker (entries s.past)) || is_device c.args.who)) (sym c.self.view_is) c.is_own-own.ensures)
           has (omega (arith, c.len-made.ensures.len, c.len-made.ensures.small));
-      board = subst (λ (x : Machine). Stands x (entries c.make_room.new.self.past) e c.in-Ok.relinked) (sym has.machine)
-          (subst (λ (xs : List JournalEntry). Stands h.machine (entries xs) e c.in-Ok.relinked) (sym has.past)
-          (stands_then h.machine (entries h.past) c.self.invariant.core.legal c.time.result c.args.now c.args.who c.args.kind makes c.in-Ok.relinked c.in-Ok.ensures.ok));
+      board = subst (λ (x : Machine). Settles x (entries c.make_room.new.self.past) e) (sym has.machine)
+          (subst (λ (xs : List JournalEntry). Settles h.machine (entries xs) e) (sym has.past)
+          (settles h.machine (entries h.past) c.self.invariant.core.legal c.time.result c.args.now c.args.who c.args.kind makes));
     }
 
 pub add-requires : goal.add-requires
@@ -55,11 +58,11 @@ add-requires c =
     (subst (λ (s : CoreState). IsActor s.machine c.args.who) (sym c.self.view_is) c.requires.actor)
     (subst (λ (s : CoreState). calls_due s.machine c.args.who (entries s.past) < 2 ^ 32) (sym c.self.view_is) c.requires.calls))
 
-pub invariant_of-self-2 : goal.invariant_of-self-2
-invariant_of-self-2 c =
+pub invariant_of-self-in-Ok-append : goal.invariant_of-self-in-Ok-append
+invariant_of-self-in-Ok-append c =
     let h = c.self.inside.history in
-    let has = c.in-Ok-make_room.ensures.ok in
-    let same : c.append.new.self.machine ≡ h.machine = ap (λ (k : Kept). k.machine) c.append.ensures ∙ has.machine in
+    let has = c.in-Ok.ensures.ok in
+    let same : c.append.new.self.machine ≡ h.machine = ap (λ (k : Kept). k.machine) c.in-Ok-append.ensures.ok ∙ has.machine in
     record {
       core = core_more h c.make_room.new.self c.append.new.self (record { stamp = c.args.stamp; entry = record { time = c.time.result; now = c.args.now; actor = c.args.who; kind = c.args.kind } }) c.is_own-own.result c.self.invariant.core
           (subst (λ (s : CoreState). IsActor s.machine c.args.who) (sym c.self.view_is) c.requires.actor)
@@ -67,7 +70,7 @@ invariant_of-self-2 c =
           (c.time.ensures ∙ ap (λ (xs : List JournalEntry). time_of (entries xs)) has.past)
           (subst (λ (s : CoreState). Leaves s.machine c.args.kind (entries s.past)) (sym c.self.view_is) c.if-not-leaves.ensures.fits)
           (subst (λ (s : CoreState). c.is_own-own.result ≡ (is_actor c.args.who (maker (entries s.past)) || is_device c.args.who)) (sym c.self.view_is) c.is_own-own.ensures)
-          has c.append.ensures;
+          has c.in-Ok-append.ensures.ok;
       plans_are = c.self.invariant.plans_are ∙ ap (λ (m : Machine). m.actors) (sym same);
       answers_are = c.self.invariant.answers_are ∙ ap (λ (m : Machine). m.answers) (sym same);
       wakeup_is = c.self.invariant.wakeup_is ∙ ap (λ (m : Machine). map may_wake m.devices) (sym same);
@@ -76,5 +79,20 @@ invariant_of-self-2 c =
           ∙ (ap₂ (λ n r. counts_after c.args.who n r)
           (subst (λ (s : CoreState). c.reports_in-reports.result ≡ length (report_calls s.machine (attempts (entries s.past)) c.args.kind)) (sym c.self.view_is) c.reports_in-reports.ensures)
           c.self.invariant.reports_are
-          ∙ sym (counts_more h c.make_room.new.self c.append.new.self (record { stamp = c.args.stamp; entry = record { time = c.time.result; now = c.args.now; actor = c.args.who; kind = c.args.kind } }) has.machine has.past c.append.ensures));
+          ∙ sym (counts_more h c.make_room.new.self c.append.new.self (record { stamp = c.args.stamp; entry = record { time = c.time.result; now = c.args.now; actor = c.args.who; kind = c.args.kind } }) has.machine has.past c.in-Ok-append.ensures.ok));
+    }
+
+pub invariant_of-self-in-Err-append : goal.invariant_of-self-in-Err-append
+invariant_of-self-in-Err-append c =
+    let h = c.self.inside.history in
+    let has = c.in-Ok.ensures.ok in
+    let kept = c.in-Err-append.ensures.err.1 in
+    let same : c.append.new.self.machine ≡ h.machine = ap (λ (k : Kept). k.machine) kept ∙ has.machine in
+    let past : c.append.new.self.past ≡ h.past = ap (λ (k : Kept). k.past) kept ∙ has.past in
+    record {
+      core = subst (λ (k : Kept). IsCore k) (sym kept) (core_kept h c.make_room.new.self c.self.invariant.core has.machine has.past has.grows);
+      plans_are = c.self.invariant.plans_are ∙ ap (λ (m : Machine). m.actors) (sym same);
+      answers_are = c.self.invariant.answers_are ∙ ap (λ (m : Machine). m.answers) (sym same);
+      wakeup_is = c.self.invariant.wakeup_is ∙ ap (λ (m : Machine). map may_wake m.devices) (sym same);
+      reports_are = c.self.invariant.reports_are ∙ ap₂ (λ m (xs : List JournalEntry). counts_of m (entries xs)) (sym same) (sym past);
     }

@@ -2,21 +2,21 @@
 use Rattle.std.proofs.Common.{◌<◌, ◌∙◌, length, get_or, arith, length-set}
 use Rattle.async_board.proofs.Counting.{among_at}
 use Rattle.async_board.proofs.Places.{places_more, placed_all}
-use Rattle.async_board.proofs.walk.places_of.Goals as goal
+use Rattle.async_board.proofs.walk.fill_places.Goals as goal
 
-pub index_mut-requires : goal.index_mut-requires
-index_mut-requires c =
+pub bounds-places-device : goal.bounds-places-device
+bounds-places-device c =
     let within : get_or c.args.order.now c.loop-place.place 0 < length c.args.order.now = c.requires.within _ (among_at c.args.order.now c.loop-place.place c.loop-place-test.true) in
-    omega (arith, c.loop-place.invariant.0, c.loop-place.places.ok)
+    omega (arith, within, c.loop-place.invariant.0)
 
 pub loop-place-preserved : goal.loop-place-preserved
 loop-place-preserved c =
     let order = c.args.order.now in
-    let places = c.loop-place.places.items in
+    let places = c.loop-place.places in
     let within : get_or order c.loop-place.place 0 < length order = c.requires.within _ (among_at order c.loop-place.place c.loop-place-test.true) in (
       length-set places (get_or order c.loop-place.place 0) c.loop-place.place ∙ c.loop-place.invariant.0,
       places_more order places c.loop-place.place c.requires.different c.loop-place-test.true (omega (arith, within, c.loop-place.invariant.0)) c.loop-place.invariant.1,
     )
 
 pub returns : goal.returns
-returns c = placed_all c.args.order.now c.loop-place.places.items c.requires.covers c.loop-place.invariant.0 (λ i l. c.loop-place.invariant.1 i (omega (arith, c.loop-place-test.false)))
+returns c = placed_all c.args.order.now c.loop-place.places c.requires.covers c.loop-place.invariant.0 (λ i l. c.loop-place.invariant.1 i (omega (arith, c.loop-place-test.false)))

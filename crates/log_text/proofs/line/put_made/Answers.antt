@@ -1,9 +1,0 @@
--- The parts that were written, one after another.
-use Rattle.std.proofs.Common.{append_assoc}
-use Rattle.log_text.proofs.line.put_made.Goals as goal
-
-pub returns : goal.returns
-returns c =
-    rw
-    (c.in_ok-write_to-3.ensures, c.in_ok-put_body.ensures, c.in_ok-write_to-2.ensures, c.in_ok-write_to.ensures, c.requires.maker, c.requires.front)
-    (simp append_assoc)

@@ -1,0 +1,77 @@
+//! Short texts that are copied with all of their room, since a copy of a known size costs least.
+
+ghost use Rattle.std.specs.Prelude.{take};
+
+use std::marker::Model;
+
+/// How many bytes a short text has at most.
+pub const SHORT: usize = 56;
+
+/// A short text at the beginning of its room, that contracts see as the list of its bytes.
+#[derive(Drop)]
+pub struct ShortText {
+    room: [u8; 56],
+    len: usize,
+}
+
+impl Model for ShortText {
+    ghost use Rattle.std.specs.Prelude.{ℕ, List, ◌≤◌, take};
+
+    ghost Value = { List ℕ };
+
+    ghost view = { λ t. take t.len t.room };
+
+    ghost invariant = { λ t. t.len ≤ 56 };
+}
+
+impl ShortText {
+    ghost use Rattle.std.specs.Prelude.{◌≡◌, ◌+◌, ◌≤◌, ◌++◌, length, take};
+
+    /// The text of these bytes.
+    pub fn of(bytes: &[u8]) -> Self
+        requires { length bytes.now ≤ 56 }
+        ensures { result ≡ bytes.now }
+    {
+        let mut room = [0; 56];
+        room[..bytes.len()].copy_from_slice(bytes);
+        ShortText {
+            room,
+            len: bytes.len(),
+        }
+    }
+
+    /// Puts these bytes behind the text.
+    pub fn push(&mut self, bytes: &[u8])
+        requires { length self.old + length bytes.now ≤ 56 }
+        ensures { self.new ≡ self.old ++ bytes.now }
+    {
+        let len = self.len + bytes.len();
+        self.room[self.len..len].copy_from_slice(bytes);
+        self.len = len;
+    }
+
+    /// The text.
+    pub fn as_bytes(&self) -> &[u8]
+        ensures { result.now ≡ self.now }
+    {
+        &self.room[..self.len]
+    }
+
+    /// The text with all of its room behind it.
+    #[inline(always)]
+    pub fn room(&self) -> &[u8; 56]
+        ensures text { take (length self.now) result.now ≡ self.now }
+        ensures len { length result.now ≡ 56 }
+    {
+        &self.room
+    }
+
+    /// How long the text is.
+    #[inline(always)]
+    pub fn len(&self) -> usize
+        ensures len { result ≡ length self.now }
+        ensures most { result ≤ 56 }
+    {
+        self.len
+    }
+}
