@@ -141,7 +141,7 @@ impl<'m> Run<'m> {
                 kind: Kind::Jump,
             },
         );
-        self.waiters.stir_time();
+        self.waiters.stir_time(to);
         Ok(())
     }
 

@@ -11,6 +11,8 @@ use std::alloc::Global;
 /// before time jumps.
 #[derive(Drop)]
 pub(crate) struct Waiters {
+    /// How many scripts there are.
+    many: u32,
     scripts: Asks,
     /// Scripts that wait for events to end, for a wakeup, for the machine to wake, or as makers of an attempt
     /// for tasks.
@@ -21,8 +23,10 @@ pub(crate) struct Waiters {
     maker: Option<u32>,
     for_mark: Asks,
     for_lock: Asks,
-    /// Scripts that sleep, or are frozen.
-    for_long: Asks,
+    /// Scripts that sleep, and until when each does, in ms.
+    asleep: Asks,
+    until: Vec<u64>,
+    frozen: Asks,
     auto: bool,
     devices: Asks,
     /// The asynchronous devices.
@@ -54,13 +58,16 @@ impl Waiters {
             all.insert(script as u32);
         }
         Ok(Waiters {
+            many: scripts as u32,
             scripts: all,
             for_word: Asks::new(alloc, scripts)?,
             awaited: None,
             maker: None,
             for_mark: Asks::new(alloc, scripts)?,
             for_lock: Asks::new(alloc, scripts)?,
-            for_long: Asks::new(alloc, scripts)?,
+            asleep: Asks::new(alloc, scripts)?,
+            until: vec![in alloc; 0; scripts]?,
+            frozen: Asks::new(alloc, scripts)?,
             auto: true,
             devices: Asks::new(alloc, devices.len())?,
             beside: beside_of(alloc, devices)?,
@@ -98,12 +105,29 @@ impl Waiters {
         match why {
             Why::Mark(_) => self.for_mark.insert(script),
             Why::LockHeld => self.for_lock.insert(script),
-            Why::Until(_) | Why::Frozen => self.for_long.insert(script),
+            Why::Until(moment) => self.script_sleeps(script, moment),
+            Why::Frozen => self.frozen.insert(script),
             Why::Device(device) => {
                 self.awaited = Some(device);
                 self.maker = Some(script);
             }
             _ => self.for_word.insert(script),
+        }
+    }
+
+    /// The script sleeps until that moment, in ms.
+    fn script_sleeps(&mut self, script: u32, moment: u64) {
+        if let Some(until) = self.until.get_mut(script as usize) {
+            *until = moment;
+        }
+        self.asleep.insert(script);
+    }
+
+    /// Whether the script sleeps no longer than to that moment, in ms.
+    fn has_slept(&self, script: u32, now: u64) -> bool {
+        match self.until.get(script as usize) {
+            Some(until) => *until <= now,
+            None => true,
         }
     }
 
@@ -184,13 +208,34 @@ impl Waiters {
         self.auto = true;
     }
 
-    /// Whatever may have ended: tasks are asked to freeze or let go, the machine wakes.
-    fn stir_scripts(&mut self) {
+    /// Scripts that wait, but for those that sleep or are frozen.
+    fn stir_awake(&mut self) {
         self.stir_word();
         self.stir_marks();
         self.stir_lock();
-        self.scripts.take(&mut self.for_long);
         self.stir_any_maker();
+    }
+
+    /// Whatever may have ended: tasks are asked to freeze or let go, the machine wakes.
+    fn stir_scripts(&mut self) {
+        self.stir_awake();
+        self.scripts.take(&mut self.asleep);
+        self.scripts.take(&mut self.frozen);
+    }
+
+    /// Scripts that sleep no longer than to that moment, in ms.
+    fn stir_slept(&mut self, now: u64) {
+        let mut from = 0;
+        for _ in 0..self.many {
+            let Some(script) = self.asleep.next(from, self.many) else {
+                break;
+            };
+            if self.has_slept(script, now) {
+                self.asleep.remove(script);
+                self.scripts.insert(script);
+            }
+            from = script + 1;
+        }
     }
 
     /// After an entry: scripts and the work, as far as it may have ended their waits.
@@ -206,15 +251,17 @@ impl Waiters {
         }
     }
 
-    /// Time has jumped: everybody is to be asked but devices, which wait for no moment.
-    pub(crate) fn stir_time(&mut self) {
-        self.stir_scripts();
+    /// Time has jumped to that moment, in ms. Devices wait for none, nor do frozen scripts.
+    pub(crate) fn stir_time(&mut self, now: u64) {
+        self.stir_awake();
+        self.stir_slept(now);
         self.timers = true;
     }
 
     /// Everybody is to be asked.
     pub(crate) fn stir_all(&mut self) {
-        self.stir_time();
+        self.stir_scripts();
+        self.timers = true;
         self.devices.add(&self.beside);
     }
 }
