@@ -1,15 +1,24 @@
 -- What each device waits for, after one device has moved.
-use Rattle.std.proofs.Common.{◌≡◌, ◌<◌, ◌∙◌, ℕ, Bool, true, false, List, length, get_or, set, Option, sym, ap, subst, arith, length-set}
+use Rattle.std.proofs.Common.{◌≡◌, ◌<◌, ◌+◌, ◌&&◌, ◌∙◌, ℕ, Bool, true, false, List, length, get_or, set, Option, refl, sym, ap, subst, arith, length-set}
+use Rattle.std.proofs.Math.Bool.{beq, not}
+use Rattle.std.proofs.lemmas.Bool.{true≢false}
 use Rattle.sleep_model.specs.declared.machine.Link.{Link}
 use Rattle.sleep_model.specs.declared.place.Stand.{Stand}
 use Rattle.sleep_model.specs.Order.{active_of, is_among, hanging, holding, order_by}
 use Rattle.sleep_model.specs.Links.{first_places, IsOrder}
 use Rattle.sleep_model.specs.Stands.{stand_at, is_unsettled, is_low}
 use Rattle.sleep_model.proofs.FirstPlaces.{among_first_places}
-use Rattle.async_board.specs.Counts.{AreShifted}
+use Rattle.async_board.specs.Counts.{one, AreShifted}
 use Rattle.async_board.specs.Walks.{IsBelow, IsAbove}
 use Rattle.async_board.proofs.Stood.{others_stand, stands_anew, low_within}
 use Rattle.async_board.proofs.Waiting.{first_different, above_across, below_across, order_hangs, count_moved, count_some, count_few}
+
+-- a test that is not another than before
+as_before : (was is : Bool) → not (beq was is) ≡ false → was ≡ is
+as_before true true e = refl
+as_before true false e = absurd (true≢false e)
+as_before false true e = absurd (true≢false e)
+as_before false false e = refl
 
 module _ (ps : List (Option ℕ)) (ls : List Link) (stands : List Stand) (d : ℕ) (s : Stand) (counts : List ℕ) (size : length stands ≡ length ps) (within : d < length ps) where
   d_stands : d < length stands
@@ -37,6 +46,12 @@ module _ (ps : List (Option ℕ)) (ls : List Link) (stands : List Stand) (d : �
       (subst (λ (x : Bool). AreShifted row x (is_unsettled (stand_at (set stands d s) d)) counts new) b
       (subst (λ (x : Bool). AreShifted row was x counts new) (c ∙ sym (ap is_unsettled (stands_anew stands d s d_stands))) t)))
 
+  -- it is not through as little as before
+  pub below_same : IsBelow ps ls stands counts → (was is : Bool) → was ≡ is_unsettled (stand_at stands d) → is ≡ is_unsettled s → not (beq was is) ≡ false → IsBelow ps ls (set stands d s) counts
+  below_same h was is a b e =
+      below_moved h (first_places (holding ps (active_of ls) d)) was is counts refl a b
+      (record { size = refl; each = λ x l. ap (λ v. get_or counts x 0 + one (v && is_among (first_places (holding ps (active_of ls) d)) x)) (as_before was is e) })
+
   -- on the way up
   pub above_some : IsAbove ps ls stands counts → is_low (stand_at stands d) ≡ true → (x : ℕ) → x < length counts → is_among (first_places (hanging ps (active_of ls) d)) x ≡ true → 0 < get_or counts x 0
   above_some h was =
@@ -57,3 +72,9 @@ module _ (ps : List (Option ℕ)) (ls : List Link) (stands : List Stand) (d : �
       (subst (λ (r : List ℕ). AreShifted r (is_low (stand_at stands d)) (is_low (stand_at (set stands d s) d)) counts new) a
       (subst (λ (x : Bool). AreShifted row x (is_low (stand_at (set stands d s) d)) counts new) b
       (subst (λ (x : Bool). AreShifted row was x counts new) (c ∙ sym (ap is_low (stands_anew stands d s d_stands))) t)))
+
+  -- it is up as little as before
+  pub above_same : IsAbove ps ls stands counts → (was is : Bool) → was ≡ is_low (stand_at stands d) → is ≡ is_low s → not (beq was is) ≡ false → IsAbove ps ls (set stands d s) counts
+  above_same h was is a b e =
+      above_moved h (first_places (hanging ps (active_of ls) d)) was is counts refl a b
+      (record { size = refl; each = λ x l. ap (λ v. get_or counts x 0 + one (v && is_among (first_places (hanging ps (active_of ls) d)) x)) (as_before was is e) })

@@ -17,9 +17,10 @@ use Rattle.async_board.specs.Counts.{IsLengths}
 use Rattle.async_board.specs.declared.pick.Pick.{Pick}
 use Rattle.async_board.specs.declared.pick.Pick.TheVariants as pick
 use Rattle.async_board.specs.declared.cursors.Cursors.{Cursors}
+use Rattle.async_board.specs.declared.cursors.Moved.{Moved}
 use Rattle.sleep_model.specs.Walk.{is_so}
 use Rattle.async_board.specs.Picks.{picks, is_picked, IsPassed, IsAhead}
-use Rattle.async_board.specs.Cursors.{IsPassedBut, IsAheadBut, AreCursors, AreCursorsBut}
+use Rattle.async_board.specs.Cursors.{IsPassedBut, IsAheadBut, IsMoved, AreCursors, AreCursorsBut}
 use Rattle.async_board.specs.Walks.{IsPlaced, IsBelow, IsAbove, IsWalk, order_of}
 
 -- a device that is put where it stands moves nothing
@@ -51,29 +52,47 @@ module _ (beside : List Bool) (stands : List Stand) (order places : List ℕ) (d
   unfolding is_picked
   picked_same what x ne = ap (λ t. picks what t (is_so beside x)) (others_stand stands d x s ne)
 
-  passed_but : (what : Pick) (at : ℕ) → IsPassed (is_picked what beside stands) order at → IsPassedBut (get_or places d 0) (is_picked what beside (set stands d s)) order at
-  passed_but what at h = record {
-    fits = h.fits;
-    before = λ i l ne. picked_same what (get_or order i 0) (other i (let f : at ≤ length order = h.fits in omega arith) ne) ∙ h.before i l;
-  }
+  module _ (m : Moved) (place : m.place ≡ get_or places d 0) (before : m.before ≡ stand_at stands d) (flag : m.beside ≡ is_so beside d) (within : d < length order) where
+    device_here : get_or order m.place 0 ≡ d
+    device_here = ap (λ i. get_or order i 0) place ∙ placed.here d within
 
-  ahead_but : (what : Pick) (at : ℕ) → IsAhead (is_picked what beside stands) order at → IsAheadBut (get_or places d 0) (is_picked what beside (set stands d s)) order at
-  ahead_but what at h = record {
-    fits = h.fits;
-    behind = λ i l m ne. picked_same what (get_or order i 0) (other i m ne) ∙ h.behind i l m;
-  }
+    was_here : (what : Pick) → picks what m.before m.beside ≡ is_picked what beside stands (get_or order m.place 0)
+    unfolding is_picked
+    was_here what = ap (λ t. picks what t m.beside) before ∙ (ap (λ b. picks what (stand_at stands d) b) flag ∙ ap (λ x. picks what (stand_at stands x) (is_so beside x)) (sym device_here))
 
-  -- the cursors, where the device that moved may pass or not
-  pub cursors_but : (c : Cursors) → AreCursors beside stands order c → AreCursorsBut (get_or places d 0) beside (set stands d s) order c
-  cursors_but c h = record {
-    unprepared = passed_but pick.Unprepared c.unprepared h.unprepared;
-    going = passed_but pick.Going c.going h.going;
-    given = passed_but pick.Given c.given h.given;
-    up = passed_but pick.Up c.up h.up;
-    low = passed_but pick.Low c.low h.low;
-    ready = ahead_but pick.Ready c.ready h.ready;
-    prepared = ahead_but pick.Prepared c.prepared h.prepared;
-  }
+    passed_but : (what : Pick) (at : ℕ) → IsPassed (is_picked what beside stands) order at → IsPassedBut m.place (picks what m.before m.beside) (is_picked what beside (set stands d s)) order at
+    passed_but what at h = record {
+      fits = h.fits;
+      before = λ i l ne. picked_same what (get_or order i 0) (other i (let f : at ≤ length order = h.fits in omega arith) (λ e. ne (e ∙ sym place))) ∙ h.before i l;
+      here = λ l. was_here what ∙ h.before m.place l;
+    }
+
+    ahead_but : (what : Pick) (at : ℕ) → IsAhead (is_picked what beside stands) order at → IsAheadBut m.place (picks what m.before m.beside) (is_picked what beside (set stands d s)) order at
+    ahead_but what at h = record {
+      fits = h.fits;
+      behind = λ i l k ne. picked_same what (get_or order i 0) (other i k (λ e. ne (e ∙ sym place))) ∙ h.behind i l k;
+      here = λ l. was_here what ∙ h.behind m.place l (rw place (placed.within d within));
+    }
+
+    -- the cursors, from before the device moved
+    pub cursors_but : (c : Cursors) → AreCursors beside stands order c → AreCursorsBut m beside (set stands d s) order c
+    cursors_but c h = record {
+      unprepared = passed_but pick.Unprepared c.unprepared h.unprepared;
+      going = passed_but pick.Going c.going h.going;
+      given = passed_but pick.Given c.given h.given;
+      up = passed_but pick.Up c.up h.up;
+      low = passed_but pick.Low c.low h.low;
+      ready = ahead_but pick.Ready c.ready h.ready;
+      prepared = ahead_but pick.Prepared c.prepared h.prepared;
+    }
+
+    -- the device that moved, as it stands now
+    pub is_moved : m.after ≡ s → d < length stands → IsMoved beside (set stands d s) order m
+    is_moved after l = record {
+      within = rw place (placed.within d within);
+      after = after ∙ (sym (stands_anew stands d s l) ∙ ap (stand_at (set stands d s)) (sym device_here));
+      beside = flag ∙ ap (is_so beside) (sym device_here);
+    }
 
 -- ---- the first stands
 
@@ -108,31 +127,59 @@ fresh_above ps ls = record {
   each = λ d l. zeros (length ps) d ∙ ap length (sym (none_pass (λ x. is_low (stand_at (replicate (length ps) stand.Unprepared) x)) (first_places (holding ps (active_of ls) d)) (λ x. ap is_low (fresh_stands (length ps) x))));
 }
 
+-- what a device that is not prepared is found by
+abbrev is_first_found : Pick → Bool
+is_first_found pick.Unprepared = true
+is_first_found _ = false
+
 fresh_passed : (p : ℕ → Bool) (xs : List ℕ) → IsPassed p xs 0
 fresh_passed p xs = record { fits = omega arith; before = λ i l. absurd (omega arith) }
 
-fresh_ahead : (p : ℕ → Bool) (xs : List ℕ) → IsAhead p xs (length xs)
-fresh_ahead p xs = record { fits = omega arith; behind = λ i l m. absurd (omega arith) }
+-- what no device is that is not prepared
+fresh_none : (what : Pick) (beside : List Bool) (n x : ℕ) → ((b : Bool) → picks what stand.Unprepared b ≡ false) → is_picked what beside (replicate n stand.Unprepared) x ≡ false
+unfolding is_picked
+fresh_none what beside n x h = ap (λ t. picks what t (is_so beside x)) (fresh_stands n x) ∙ h (is_so beside x)
 
-pub fresh_cursors : (beside : List Bool) (stands : List Stand) (order : List ℕ) (n : ℕ) → n ≡ length order
-    → AreCursors beside stands order (record { unprepared = 0; going = 0; given = 0; up = 0; low = 0; ready = n; prepared = n })
-fresh_cursors beside stands order n e = record {
-  unprepared = fresh_passed (is_picked pick.Unprepared beside stands) order;
-  going = fresh_passed (is_picked pick.Going beside stands) order;
-  given = fresh_passed (is_picked pick.Given beside stands) order;
-  up = fresh_passed (is_picked pick.Up beside stands) order;
-  low = fresh_passed (is_picked pick.Low beside stands) order;
-  ready = subst (λ (k : ℕ). IsAhead (is_picked pick.Ready beside stands) order k) (sym e) (fresh_ahead (is_picked pick.Ready beside stands) order);
-  prepared = subst (λ (k : ℕ). IsAhead (is_picked pick.Prepared beside stands) order k) (sym e) (fresh_ahead (is_picked pick.Prepared beside stands) order);
+fresh_beyond : (p : ℕ → Bool) (xs : List ℕ) → ((x : ℕ) → p x ≡ false) → IsPassed p xs (length xs)
+fresh_beyond p xs h = record { fits = omega arith; before = λ i l. h (get_or xs i 0) }
+
+fresh_ahead : (p : ℕ → Bool) (xs : List ℕ) → ((x : ℕ) → p x ≡ false) → IsAhead p xs 0
+fresh_ahead p xs h = record { fits = omega arith; behind = λ i l m. h (get_or xs i 0) }
+
+no_picks : (what : Pick) → is_first_found what ≡ false → (b : Bool) → picks what stand.Unprepared b ≡ false
+unfolding picks
+no_picks pick.Unprepared e b = absurd (false≢true (sym e))
+no_picks pick.Prepared e b = refl
+no_picks pick.Ready e b = refl
+no_picks pick.Going e b = refl
+no_picks pick.Given e b = refl
+no_picks pick.Up e b = refl
+no_picks pick.Low e b = refl
+
+pub fresh_cursors : (beside : List Bool) (m : ℕ) (order : List ℕ) (n : ℕ) → n ≡ length order
+    → AreCursors beside (replicate m stand.Unprepared) order (record { unprepared = 0; going = n; given = n; up = n; low = n; ready = 0; prepared = 0 })
+fresh_cursors beside m order n e = record {
+  unprepared = fresh_passed (is_picked pick.Unprepared beside (replicate m stand.Unprepared)) order;
+  going = beyond pick.Going refl;
+  given = beyond pick.Given refl;
+  up = beyond pick.Up refl;
+  low = beyond pick.Low refl;
+  ready = fresh_ahead (is_picked pick.Ready beside (replicate m stand.Unprepared)) order (λ x. fresh_none pick.Ready beside m x (no_picks pick.Ready refl));
+  prepared = fresh_ahead (is_picked pick.Prepared beside (replicate m stand.Unprepared)) order (λ x. fresh_none pick.Prepared beside m x (no_picks pick.Prepared refl));
 }
+  where
+    beyond : (what : Pick) → is_first_found what ≡ false → IsPassed (is_picked what beside (replicate m stand.Unprepared)) order n
+    beyond what f = subst (λ (k : ℕ). IsPassed (is_picked what beside (replicate m stand.Unprepared)) order k) (sym e) (fresh_beyond (is_picked what beside (replicate m stand.Unprepared)) order (λ x. fresh_none what beside m x (no_picks what f)))
 
 -- a walk in which no device is prepared
 pub fresh_walk : (l : Layout) (w : Walk) (n : ℕ) → n ≡ length (order_of l) → n ≡ length l.links.parents → w.stands.items ≡ replicate n stand.Unprepared
-    → w.cursors ≡ record { unprepared = 0; going = 0; given = 0; up = 0; low = 0; ready = n; prepared = n }
+    → w.cursors ≡ record { unprepared = 0; going = n; given = n; up = n; low = n; ready = 0; prepared = 0 }
     → IsLengths (length l.links.parents) (λ d. first_places (hanging l.links.parents (active_of l.links.links) d)) w.open_below.items → w.open_above.items ≡ replicate n 0 → IsWalk l w
 fresh_walk l w n e f stands cursors below above = record {
   size = ap length stands ∙ (length-replicate n stand.Unprepared ∙ f);
-  cursors = subst (λ (c : Cursors). AreCursors l.beside.items w.stands.items (order_of l) c) (sym cursors) (fresh_cursors l.beside.items w.stands.items (order_of l) n e);
+  cursors =
+      subst (λ (ss : List Stand). AreCursors l.beside.items ss (order_of l) w.cursors) (sym stands)
+      (subst (λ (c : Cursors). AreCursors l.beside.items (replicate n stand.Unprepared) (order_of l) c) (sym cursors) (fresh_cursors l.beside.items n (order_of l) n e));
   below = subst (λ (ss : List Stand). IsBelow l.links.parents l.links.links ss w.open_below.items) (sym fresh) (fresh_below l.links.parents l.links.links w.open_below.items below);
   above =
       subst (λ (ss : List Stand). IsAbove l.links.parents l.links.links ss w.open_above.items) (sym fresh)

@@ -7,7 +7,7 @@ ghost use Rattle.async_board.specs.Walks.{IsLayout, IsSized, IsWalk, IsBelow, Is
 
 use crate::pick::{Look, Pick, first_picked, is_so, last_picked, stand_at};
 use crate::rows::{all_left_alone, count_at, first_low, first_unsettled, is_none};
-use crate::stand::{device_of, may_move, stand_after, work_in};
+use crate::stand::{device_of, moves_by, stand_after, work_in};
 use crate::walk::{Layout, Walk, fill_places, places_of, put};
 use device_links::Links;
 use sleep_base::Mem;
@@ -41,7 +41,7 @@ impl Model for Board {
     ghost invariant = { AreKept };
 }
 
-// Moves the device of an entry in a pair of phases that it may be of.
+// Moves the device of an entry in a pair of phases.
 #[tactic(auto, using(crate::proofs::Stood::stands_stay))]
 fn move_by(walk: &mut Walk, layout: &Layout, p: Phase, kind: Kind, device: u32)
     requires laid { IsLayout layout.now }
@@ -53,22 +53,7 @@ fn move_by(walk: &mut Walk, layout: &Layout, p: Phase, kind: Kind, device: u32)
     let before = stand_at(&walk.stands, device);
     let after = stand_after(p, kind, before);
     if after != before {
-        put(walk, layout, device, after);
-    }
-}
-
-// Moves the device of an entry in a pair of phases. Most entries are of one pair alone.
-#[inline]
-#[tactic(auto, using(crate::proofs::Stood::stands_stay))]
-fn move_in(walk: &mut Walk, layout: &Layout, p: Phase, kind: Kind, device: u32)
-    requires laid { IsLayout layout.now }
-    requires kept { IsWalk layout.now walk.old }
-    ensures stands { walk.new.stands.items
-        ≡ stands_after p kind (Some device) walk.old.stands.items }
-    ensures kept { IsWalk layout.now walk.new }
-{
-    if may_move(p, kind) {
-        move_by(walk, layout, p, kind, device);
+        put(walk, layout, device, before, after);
     }
 }
 
@@ -81,9 +66,9 @@ fn begin_anew(layout: &mut Layout, suspend: &mut Walk, late: &mut Walk, noirq: &
     ensures links { layout.new.links ≡ layout.old.links }
     ensures beside { layout.new.beside ≡ layout.old.beside }
     ensures laid { IsLayout layout.new }
-    ensures suspended { suspend.new.stands.items ≡ replicate (length layout.old.links.parents) stand.Unprepared }
-    ensures lated { late.new.stands.items ≡ replicate (length layout.old.links.parents) stand.Unprepared }
-    ensures noirqed { noirq.new.stands.items ≡ replicate (length layout.old.links.parents) stand.Unprepared }
+    ensures suspend_anew { suspend.new.stands.items ≡ replicate (length layout.old.links.parents) stand.Unprepared }
+    ensures late_anew { late.new.stands.items ≡ replicate (length layout.old.links.parents) stand.Unprepared }
+    ensures noirq_anew { noirq.new.stands.items ≡ replicate (length layout.old.links.parents) stand.Unprepared }
     ensures suspend { IsWalk layout.new suspend.new }
     ensures late { IsWalk layout.new late.new }
     ensures noirq { IsWalk layout.new noirq.new }
@@ -122,14 +107,22 @@ impl Board {
     }
 
     /// Takes down what an entry does to its device.
+    #[tactic(auto, using(crate::proofs::Stood::stands_stay))]
     pub fn note(&mut self, kind: Kind)
         ensures { self.new ≡ board_after kind self.old }
     {
         if let Some(device) = device_of(kind) {
             let layout = &self.layout;
-            move_in(&mut self.suspend, layout, Phase::Suspend, kind, device);
-            move_in(&mut self.late, layout, Phase::Late, kind, device);
-            move_in(&mut self.noirq, layout, Phase::Noirq, kind, device);
+            let moves = moves_by(kind);
+            if moves.suspend {
+                move_by(&mut self.suspend, layout, Phase::Suspend, kind, device);
+            }
+            if moves.late {
+                move_by(&mut self.late, layout, Phase::Late, kind, device);
+            }
+            if moves.noirq {
+                move_by(&mut self.noirq, layout, Phase::Noirq, kind, device);
+            }
         }
     }
 

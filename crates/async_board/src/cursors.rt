@@ -1,11 +1,10 @@
 //! Where the searches among the devices begin, moved with each device that stands otherwise.
 
-ghost use Rattle.std.specs.Prelude.{◌<◌, length};
-ghost use Rattle.async_board.specs.Picks.{is_picked, IsPassed, IsAhead};
+ghost use Rattle.async_board.specs.Picks.{picks, is_picked, IsPassed, IsAhead};
 ghost use Rattle.async_board.specs.declared.pick.Pick.TheVariants as pick;
 ghost use Rattle.async_board.specs.Cursors.{IsPassedBut, IsAheadBut, IsMoved, AreCursors, AreCursorsBut};
 
-use crate::pick::{Look, Pick, first_from, is_so, last_before, picks, stand_at};
+use crate::pick::{Look, Pick, first_from, last_before, picks};
 use sleep_model::Stand;
 
 /// A place in the order for each search: no device before it is looked for or, where the last one
@@ -21,102 +20,114 @@ pub(crate) struct Cursors {
     pub(crate) prepared: usize,
 }
 
-/// The device that has moved: its place in the order, where it stands now, and whether it is asynchronous.
+/// The device that has moved: its place in the order, where it stood before and where it stands now,
+/// and whether it is asynchronous.
 #[derive(Clone, Copy)]
-struct Moved {
-    place: usize,
-    stand: Stand,
-    beside: bool,
+pub(crate) struct Moved {
+    pub(crate) place: usize,
+    pub(crate) before: Stand,
+    pub(crate) after: Stand,
+    pub(crate) beside: bool,
 }
 
-// The device at a place that has moved.
-#[inline]
-fn moved_at(look: &Look<'_>, place: usize) -> Moved
-    requires { place < length look.now.order.now }
-    ensures { IsMoved look.now.beside.now look.now.stands.now look.now.order.now place result }
-{
-    let device = look.order[place];
-    Moved {
-        place,
-        stand: stand_at(look.stands, device),
-        beside: is_so(look.beside, device),
-    }
-}
-
-// The cursor of a first device, after a device has moved.
-#[inline]
-#[tactic(auto, using(crate::proofs::Moved::passed_now, crate::proofs::Moved::moved_here))]
-fn first_after(look: &Look<'_>, what: Pick, moved: Moved, at: usize) -> usize
-    requires here { IsMoved look.now.beside.now look.now.stands.now look.now.order.now moved.place moved }
-    requires but { IsPassedBut moved.place (is_picked what look.now.beside.now look.now.stands.now)
-        look.now.order.now at }
+// Moves the cursor of a first device, after a device has moved. Most moves leave it where it is: the
+// device is looked for as little, or as much, as before.
+#[inline(always)]
+#[tactic(auto, using(crate::proofs::Moved::passed_now, crate::proofs::Moved::passed_still, crate::proofs::Moved::moved_here))]
+fn move_first(at: &mut usize, look: &Look<'_>, what: Pick, moved: Moved)
+    requires here { IsMoved look.now.beside.now look.now.stands.now look.now.order.now moved }
+    requires but { IsPassedBut moved.place (picks what moved.before moved.beside)
+        (is_picked what look.now.beside.now look.now.stands.now) look.now.order.now at.old }
     ensures { IsPassed (is_picked what look.now.beside.now look.now.stands.now)
-        look.now.order.now result }
+        look.now.order.now at.new }
 {
-    if picks(what, moved.stand, moved.beside) {
-        at.min(moved.place)
-    } else if moved.place == at {
-        first_from(look, what, at)
-    } else {
-        at
+    let was = picks(what, moved.before, moved.beside);
+    let is = picks(what, moved.after, moved.beside);
+    if was == is {
+        return;
+    }
+    if is {
+        *at = (*at).min(moved.place);
+    } else if moved.place == *at {
+        *at = first_from(look, what, moved.place + 1);
     }
 }
 
-// The cursor of the devices that are given out and not through, after a device has moved. While the
-// walk gives out, towards the order's head, it follows the walk; it moves on once the walk is over,
+// Moves the cursor of the devices that are given out and not through, after a device has moved. While
+// the walk gives out, towards the order's head, it follows the walk; it moves on once the walk is over,
 // and nobody asks before.
-#[inline]
-fn going_after(look: &Look<'_>, moved: Moved, at: usize, is_over: bool) -> usize
-    requires here { IsMoved look.now.beside.now look.now.stands.now look.now.order.now moved.place moved }
-    requires but { IsPassedBut moved.place (is_picked pick.Going look.now.beside.now look.now.stands.now)
-        look.now.order.now at }
+#[inline(always)]
+#[tactic(auto, using(crate::proofs::Moved::passed_now, crate::proofs::Moved::moved_here))]
+fn move_going(at: &mut usize, look: &Look<'_>, moved: Moved, is_over: bool)
+    requires here { IsMoved look.now.beside.now look.now.stands.now look.now.order.now moved }
+    requires but { IsPassedBut moved.place (picks pick.Going moved.before moved.beside)
+        (is_picked pick.Going look.now.beside.now look.now.stands.now) look.now.order.now at.old }
     ensures { IsPassed (is_picked pick.Going look.now.beside.now look.now.stands.now)
-        look.now.order.now result }
+        look.now.order.now at.new }
 {
-    if is_over {
-        first_after(look, Pick::Going, moved, at)
-    } else {
-        at.min(moved.place)
+    if !is_over || picks(Pick::Going, moved.after, moved.beside) {
+        *at = (*at).min(moved.place);
+    } else if moved.place == *at {
+        *at = first_from(look, Pick::Going, moved.place + 1);
     }
 }
 
-// The cursor of a last device, after a device has moved.
-#[inline]
-#[tactic(auto, using(crate::proofs::Moved::ahead_now, crate::proofs::Moved::moved_here))]
-fn last_after(look: &Look<'_>, what: Pick, moved: Moved, at: usize) -> usize
-    requires here { IsMoved look.now.beside.now look.now.stands.now look.now.order.now moved.place moved }
-    requires but { IsAheadBut moved.place (is_picked what look.now.beside.now look.now.stands.now)
-        look.now.order.now at }
+// Moves the cursors of the devices that are down, after a device has moved. One of the two alone looks
+// for it: the first if it is asynchronous, else the second.
+#[inline(always)]
+fn move_down(given: &mut usize, up: &mut usize, look: &Look<'_>, moved: Moved)
+    requires here { IsMoved look.now.beside.now look.now.stands.now look.now.order.now moved }
+    requires given { IsPassedBut moved.place (picks pick.Given moved.before moved.beside)
+        (is_picked pick.Given look.now.beside.now look.now.stands.now) look.now.order.now given.old }
+    requires up { IsPassedBut moved.place (picks pick.Up moved.before moved.beside)
+        (is_picked pick.Up look.now.beside.now look.now.stands.now) look.now.order.now up.old }
+    ensures given { IsPassed (is_picked pick.Given look.now.beside.now look.now.stands.now)
+        look.now.order.now given.new }
+    ensures up { IsPassed (is_picked pick.Up look.now.beside.now look.now.stands.now)
+        look.now.order.now up.new }
+{
+    if moved.beside {
+        move_first(given, look, Pick::Given, moved);
+    } else {
+        move_first(up, look, Pick::Up, moved);
+    }
+}
+
+// Moves the cursor of a last device, after a device has moved. Most moves leave it where it is.
+#[inline(always)]
+#[tactic(auto, using(crate::proofs::Moved::ahead_now, crate::proofs::Moved::ahead_still, crate::proofs::Moved::moved_here))]
+fn move_last(at: &mut usize, look: &Look<'_>, what: Pick, moved: Moved)
+    requires here { IsMoved look.now.beside.now look.now.stands.now look.now.order.now moved }
+    requires but { IsAheadBut moved.place (picks what moved.before moved.beside)
+        (is_picked what look.now.beside.now look.now.stands.now) look.now.order.now at.old }
     ensures { IsAhead (is_picked what look.now.beside.now look.now.stands.now)
-        look.now.order.now result }
+        look.now.order.now at.new }
 {
-    if picks(what, moved.stand, moved.beside) {
-        at.max(moved.place + 1)
-    } else if moved.place + 1 == at {
-        last_before(look, what, at)
-    } else {
-        at
+    let was = picks(what, moved.before, moved.beside);
+    let is = picks(what, moved.after, moved.beside);
+    if was == is {
+        return;
+    }
+    if is {
+        *at = (*at).max(moved.place + 1);
+    } else if moved.place + 1 == *at {
+        *at = last_before(look, what, moved.place);
     }
 }
 
-/// The cursors after the device at this place has moved. `failed`: a device has failed on the way
-/// down, so that the walk gives out no more.
-pub(crate) fn cursors_after(look: &Look<'_>, place: usize, before: Cursors, failed: bool) -> Cursors
-    requires within { place < length look.now.order.now }
-    requires but { AreCursorsBut place look.now.beside.now look.now.stands.now
-        look.now.order.now before }
-    ensures { AreCursors look.now.beside.now look.now.stands.now look.now.order.now result }
+/// Moves the cursors after a device has moved. `failed`: a device has failed on the way down, so that
+/// the walk gives out no more.
+pub(crate) fn move_cursors(cursors: &mut Cursors, look: &Look<'_>, moved: Moved, failed: bool)
+    requires here { IsMoved look.now.beside.now look.now.stands.now look.now.order.now moved }
+    requires but { AreCursorsBut moved look.now.beside.now look.now.stands.now
+        look.now.order.now cursors.old }
+    ensures { AreCursors look.now.beside.now look.now.stands.now look.now.order.now cursors.new }
 {
-    let moved = moved_at(look, place);
-    let ready = last_after(look, Pick::Ready, moved, before.ready);
-    let is_over = failed || ready == 0;
-    Cursors {
-        unprepared: first_after(look, Pick::Unprepared, moved, before.unprepared),
-        going: going_after(look, moved, before.going, is_over),
-        given: first_after(look, Pick::Given, moved, before.given),
-        up: first_after(look, Pick::Up, moved, before.up),
-        low: first_after(look, Pick::Low, moved, before.low),
-        ready,
-        prepared: last_after(look, Pick::Prepared, moved, before.prepared),
-    }
+    move_first(&mut cursors.unprepared, look, Pick::Unprepared, moved);
+    move_last(&mut cursors.prepared, look, Pick::Prepared, moved);
+    move_last(&mut cursors.ready, look, Pick::Ready, moved);
+    let is_over = failed || cursors.ready == 0;
+    move_going(&mut cursors.going, look, moved, is_over);
+    move_down(&mut cursors.given, &mut cursors.up, look, moved);
+    move_first(&mut cursors.low, look, Pick::Low, moved);
 }

@@ -36,6 +36,7 @@ pub(crate) struct Look<'a> {
 }
 
 /// Whether a device that stands there, asynchronous or not, is looked for.
+#[inline(always)]
 #[tactic(auto, unfolding(crate::specs::Picks::picks))]
 pub(crate) fn picks(pick: Pick, stand: Stand, beside: bool) -> bool
     ensures { result ≡ picks pick stand beside }
@@ -72,6 +73,7 @@ pub(crate) fn is_so(flags: &[bool], device: u32) -> bool
 }
 
 /// Whether the device is looked for.
+#[inline]
 #[tactic(auto, unfolding(crate::specs::Picks::is_picked))]
 pub(crate) fn is_picked(look: &Look<'_>, pick: Pick, device: u32) -> bool
     ensures { result ≡ is_picked pick look.now.beside.now look.now.stands.now device }

@@ -4,6 +4,7 @@ ghost use Rattle.std.specs.Prelude.{◌≡◌};
 ghost use Rattle.std.specs.Bool.{OnFalse};
 ghost use Rattle.sleep_model.specs.declared.place.Stand.{Stand};
 ghost use Rattle.sleep_model.specs.Devices.{work_in};
+ghost use Rattle.phase_table.specs.declared.phase.Phase.TheVariants as phase;
 ghost use Rattle.sleep_model.specs.Stands as stands;
 
 use sleep_base::Errno;
@@ -75,16 +76,50 @@ fn is_of(p: Phase, q: Phase) -> bool
     false
 }
 
-/// Whether the device of an entry may stand otherwise after it, for a phase on the way down and its mirror.
-pub(crate) fn may_move(p: Phase, kind: Kind) -> bool
-    ensures { OnFalse result ((before : Stand) → stands.stand_after p kind before ≡ before) }
+/// The pairs of phases in which a device may stand otherwise after an entry.
+#[derive(Clone, Copy)]
+pub(crate) struct Moves {
+    pub(crate) suspend: bool,
+    pub(crate) late: bool,
+    pub(crate) noirq: bool,
+}
+
+// The pair of phases that a phase is of.
+fn moves_in(q: Phase) -> Moves
+    ensures suspend { OnFalse result.suspend ((down up other : Stand) →
+        stands.by_phase phase.Suspend q down up other ≡ other) }
+    ensures late { OnFalse result.late ((down up other : Stand) →
+        stands.by_phase phase.Late q down up other ≡ other) }
+    ensures noirq { OnFalse result.noirq ((down up other : Stand) →
+        stands.by_phase phase.Noirq q down up other ≡ other) }
+{
+    Moves {
+        suspend: is_of(Phase::Suspend, q),
+        late: is_of(Phase::Late, q),
+        noirq: is_of(Phase::Noirq, q),
+    }
+}
+
+/// The pairs of phases in which the device of an entry may stand otherwise after it. Most entries
+/// are of one pair alone.
+pub(crate) fn moves_by(kind: Kind) -> Moves
+    ensures suspend { OnFalse result.suspend ((before : Stand) →
+        stands.stand_after phase.Suspend kind before ≡ before) }
+    ensures late { OnFalse result.late ((before : Stand) →
+        stands.stand_after phase.Late kind before ≡ before) }
+    ensures noirq { OnFalse result.noirq ((before : Stand) →
+        stands.stand_after phase.Noirq kind before ≡ before) }
 {
     match kind {
-        Kind::Schedule(q, _) => is_of(p, q),
-        Kind::Begin(q, _) => is_of(p, q),
-        Kind::End(q, ..) => is_of(p, q),
-        Kind::Skip(q, ..) => is_of(p, q),
-        _ => true,
+        Kind::Schedule(q, _) => moves_in(q),
+        Kind::Begin(q, _) => moves_in(q),
+        Kind::End(q, ..) => moves_in(q),
+        Kind::Skip(q, ..) => moves_in(q),
+        _ => Moves {
+            suspend: true,
+            late: true,
+            noirq: true,
+        },
     }
 }
 

@@ -1,17 +1,18 @@
 //! Where the devices stand in a pair of phases.
 
-ghost use Rattle.std.specs.Prelude.{◌≡◌, ◌<◌, ℕ, true, IfOk, length, replicate, slice_index, slice_set};
+ghost use Rattle.std.specs.Prelude.{◌≡◌, ◌<◌, ℕ, true, IfOk, length, replicate, slice_set};
 ghost use Rattle.sleep_model.specs.Order.{active_of, is_among, hanging, holding, order_by};
 ghost use Rattle.sleep_model.proofs.Walks.{AllDifferent};
 ghost use Rattle.sleep_model.specs.Links.{first_places};
+ghost use Rattle.sleep_model.specs.Stands.{stand_at};
 ghost use Rattle.sleep_model.specs.declared.place.Stand.TheVariants as stand;
 ghost use Rattle.async_board.specs.Walks.{IsPlaced, IsBelow, IsAbove, IsLayout, IsSized, IsWalk, order_of, failed_after};
 ghost use Rattle.async_board.specs.Counts.{IsLengths};
-ghost use Rattle.async_board.specs.Cursors.{AreCursors, AreCursorsBut};
+ghost use Rattle.async_board.specs.Cursors.{AreCursors};
 
 use crate::counts::shift;
-use crate::cursors::{Cursors, cursors_after};
-use crate::pick::{Look, stand_at};
+use crate::cursors::{Cursors, Moved, move_cursors};
+use crate::pick::{Look, is_so};
 use crate::stand::{is_low, is_unsettled};
 use device_links::Links;
 use sleep_base::Mem;
@@ -95,18 +96,19 @@ fn counts_below(alloc: Global, links: &Links) -> Result<Vec<usize>, Mem>
     Ok(counts)
 }
 
-// Where the searches begin among so many devices, none of which is prepared.
+// Where the searches begin among so many devices, none of which is prepared. Each cursor stands at
+// what it looks for from the outset, so that only a move of such a device can concern it.
 fn first_cursors(count: usize) -> Cursors
-    ensures { result ≡ record { unprepared = 0; going = 0; given = 0; up = 0; low = 0; ready = count; prepared = count } }
+    ensures { result ≡ record { unprepared = 0; going = count; given = count; up = count; low = count; ready = 0; prepared = 0 } }
 {
     Cursors {
         unprepared: 0,
-        going: 0,
-        given: 0,
-        up: 0,
-        low: 0,
-        ready: count,
-        prepared: count,
+        going: count,
+        given: count,
+        up: count,
+        low: count,
+        ready: 0,
+        prepared: 0,
     }
 }
 
@@ -154,73 +156,99 @@ fn failed_after(after: Stand, before: bool) -> bool
     }
 }
 
-// How many devices below each are not through, before this device moves.
+// How many devices below each are not through, once this device has moved among those that stand so.
 #[tactic(auto, using(crate::proofs::Layouts::below_some))]
-fn move_below(counts: &mut Vec<usize>, links: &Links, stands: &[Stand], device: u32, after: Stand)
+fn move_below(
+    counts: &mut Vec<usize>,
+    links: &Links,
+    stands: &[Stand],
+    device: u32,
+    before: Stand,
+    after: Stand,
+)
     requires size { length stands.now ≡ length links.now.parents }
     requires within { device < length links.now.parents }
+    requires before { before ≡ stand_at stands.now device }
     requires known { IsBelow links.now.parents links.now.links stands.now counts.old.items }
     ensures { IsBelow links.now.parents links.now.links
         (slice_set stands.now device after) counts.new.items }
 {
     let _order = links.order();
-    let above = links.above(device);
-    let was = is_unsettled(stand_at(stands, device));
-    shift(counts, above, was, is_unsettled(after));
+    let was = is_unsettled(before);
+    let is = is_unsettled(after);
+    if was != is {
+        let above = links.above(device);
+        shift(counts, above, was, is);
+    }
 }
 
-// How many devices above each are not up, before this device moves.
+// How many devices above each are not up, once this device has moved among those that stand so.
 #[tactic(auto, using(crate::proofs::Layouts::above_some))]
-fn move_above(counts: &mut Vec<usize>, links: &Links, stands: &[Stand], device: u32, after: Stand)
+fn move_above(
+    counts: &mut Vec<usize>,
+    links: &Links,
+    stands: &[Stand],
+    device: u32,
+    before: Stand,
+    after: Stand,
+)
     requires size { length stands.now ≡ length links.now.parents }
     requires within { device < length links.now.parents }
+    requires before { before ≡ stand_at stands.now device }
     requires known { IsAbove links.now.parents links.now.links stands.now counts.old.items }
     ensures { IsAbove links.now.parents links.now.links
         (slice_set stands.now device after) counts.new.items }
 {
-    let below = links.below(device);
-    let was = is_low(stand_at(stands, device));
-    shift(counts, below, was, is_low(after));
+    let was = is_low(before);
+    let is = is_low(after);
+    if was != is {
+        let below = links.below(device);
+        shift(counts, below, was, is);
+    }
 }
 
-// The cursors after this device, which stood elsewhere before, has moved.
-fn move_cursors(
-    layout: &Layout,
-    stands: &[Stand],
-    device: u32,
-    before: Cursors,
-    failed: bool,
-) -> Cursors
-    requires laid { IsLayout layout.now }
-    requires within { device < length (order_of layout.now) }
-    requires but { AreCursorsBut (slice_index layout.now.places.items device)
-        layout.now.beside.items stands.now (order_of layout.now) before }
-    ensures { AreCursors layout.now.beside.items stands.now (order_of layout.now) result }
-{
-    let look = Look {
-        order: layout.links.order(),
-        stands,
-        beside: layout.beside.as_slice(),
-    };
-    cursors_after(&look, layout.places[device as usize], before, failed)
-}
-
-/// Moves a device to where it stands from now on; nothing where there is no such device.
-#[tactic(auto, using(crate::proofs::Stood::cursors_but))]
-pub(crate) fn put(walk: &mut Walk, layout: &Layout, device: u32, after: Stand)
+/// Moves a device from where it stands to where it stands from now on; nothing where there is no such
+/// device.
+pub(crate) fn put(walk: &mut Walk, layout: &Layout, device: u32, before: Stand, after: Stand)
     requires laid { IsLayout layout.now }
     requires kept { IsWalk layout.now walk.old }
+    requires before { before ≡ stand_at walk.old.stands.items device }
     ensures stands { walk.new.stands.items ≡ slice_set walk.old.stands.items device after }
     ensures kept { IsWalk layout.now walk.new }
 {
     let number = device as usize;
     if number < walk.stands.len() {
         let links = &layout.links;
-        let _order = links.order();
-        move_below(&mut walk.open_below, links, &walk.stands, device, after);
-        move_above(&mut walk.open_above, links, &walk.stands, device, after);
+        let order = links.order();
+        let moved = Moved {
+            place: layout.places[number],
+            before,
+            after,
+            beside: is_so(&layout.beside, device),
+        };
+        move_below(
+            &mut walk.open_below,
+            links,
+            &walk.stands,
+            device,
+            before,
+            after,
+        );
+        move_above(
+            &mut walk.open_above,
+            links,
+            &walk.stands,
+            device,
+            before,
+            after,
+        );
         walk.failed = failed_after(after, walk.failed);
         walk.stands[number] = after;
-        walk.cursors = move_cursors(layout, &walk.stands, device, walk.cursors, walk.failed);
+        let look = Look {
+            order,
+            stands: walk.stands.as_slice(),
+            beside: layout.beside.as_slice(),
+        };
+        move_cursors(&mut walk.cursors, &look, moved, walk.failed);
     }
 }

@@ -3,7 +3,7 @@ use Rattle.std.proofs.Common.{◌∙◌, sym, ap}
 use Rattle.sleep_model.specs.Order.{active_of, is_among, hanging}
 use Rattle.sleep_model.specs.Stands.{is_low}
 use Rattle.async_board.proofs.Waiting.{first_different}
-use Rattle.async_board.proofs.Layouts.{above_few, above_moved}
+use Rattle.async_board.proofs.Layouts.{above_few, above_moved, above_same}
 use Rattle.async_board.proofs.walk.move_above.Goals as goal
 
 pub shift-requires-clause-apart : goal.shift-requires-clause-apart
@@ -12,9 +12,14 @@ shift-requires-clause-apart c = rw c.below-below.ensures (first_different (hangi
 pub shift-requires-clause-few : goal.shift-requires-clause-few
 shift-requires-clause-few c w i x l m =
     above_few c.args.links.now.parents c.args.links.now.links c.args.stands.now c.args.device c.args.after c.args.counts.now.items c.requires.size c.requires.within c.requires.known
-    (ap is_low (sym c.stand_at.ensures) ∙ (sym c.is_low-was.ensures ∙ w)) (sym c.is_low.ensures ∙ i) x l (ap (λ xs. is_among xs x) (sym c.below-below.ensures) ∙ m)
+    (ap is_low (sym c.requires.before) ∙ (sym c.is_low-was.ensures ∙ w)) (sym c.is_low-is.ensures ∙ i) x l (ap (λ xs. is_among xs x) (sym c.below-below.ensures) ∙ m)
 
-pub returns : goal.returns
-returns c =
+pub returns-then-was-is : goal.returns-then-was-is
+returns-then-was-is c =
     above_moved c.args.links.now.parents c.args.links.now.links c.args.stands.now c.args.device c.args.after c.args.counts.now.items c.requires.size c.requires.within c.requires.known
-    c.below-below.result.now c.is_low-was.result c.is_low.result c.shift.new.counts.items c.below-below.ensures (c.is_low-was.ensures ∙ ap is_low c.stand_at.ensures) c.is_low.ensures c.shift.ensures
+    c.below-below.result.now c.is_low-was.result c.is_low-is.result c.shift.new.counts.items c.below-below.ensures (c.is_low-was.ensures ∙ ap is_low c.requires.before) c.is_low-is.ensures c.shift.ensures
+
+pub returns-else-was-is : goal.returns-else-was-is
+returns-else-was-is c =
+    above_same c.args.links.now.parents c.args.links.now.links c.args.stands.now c.args.device c.args.after c.args.counts.now.items c.requires.size c.requires.within c.requires.known
+    c.is_low-was.result c.is_low-is.result (c.is_low-was.ensures ∙ ap is_low c.requires.before) c.is_low-is.ensures c.if-was-is.false

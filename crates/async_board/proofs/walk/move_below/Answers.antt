@@ -5,7 +5,7 @@ use Rattle.sleep_model.specs.Order.{active_of, is_among, hanging, holding}
 use Rattle.sleep_model.proofs.Changing.{active_hanging, fewer_order}
 use Rattle.sleep_model.specs.Stands.{is_unsettled}
 use Rattle.async_board.proofs.Waiting.{first_different}
-use Rattle.async_board.proofs.Layouts.{below_few, below_moved}
+use Rattle.async_board.proofs.Layouts.{below_few, below_moved, below_same}
 use Rattle.async_board.proofs.walk.move_below.Goals as goal
 
 pub shift-requires-clause-apart : goal.shift-requires-clause-apart
@@ -19,9 +19,14 @@ shift-requires-clause-few c w i x l m =
     (λ y k. ap (λ xs. is_among xs y) (sym c.order-order.ensures.order) ∙ c.order-order.ensures.covers y k)
     (λ y k. c.order-order.ensures.within y (ap (λ xs. is_among xs y) c.order-order.ensures.order ∙ k))
     c.requires.known
-    (ap is_unsettled (sym c.stand_at.ensures) ∙ (sym c.is_unsettled-was.ensures ∙ w)) (sym c.is_unsettled.ensures ∙ i) x l (ap (λ xs. is_among xs x) (sym c.above-above.ensures) ∙ m)
+    (ap is_unsettled (sym c.requires.before) ∙ (sym c.is_unsettled-was.ensures ∙ w)) (sym c.is_unsettled-is.ensures ∙ i) x l (ap (λ xs. is_among xs x) (sym c.above-above.ensures) ∙ m)
 
-pub returns : goal.returns
-returns c =
+pub returns-then-was-is : goal.returns-then-was-is
+returns-then-was-is c =
     below_moved c.args.links.now.parents c.args.links.now.links c.args.stands.now c.args.device c.args.after c.args.counts.now.items c.requires.size c.requires.within c.requires.known
-    c.above-above.result.now c.is_unsettled-was.result c.is_unsettled.result c.shift.new.counts.items c.above-above.ensures (c.is_unsettled-was.ensures ∙ ap is_unsettled c.stand_at.ensures) c.is_unsettled.ensures c.shift.ensures
+    c.above-above.result.now c.is_unsettled-was.result c.is_unsettled-is.result c.shift.new.counts.items c.above-above.ensures (c.is_unsettled-was.ensures ∙ ap is_unsettled c.requires.before) c.is_unsettled-is.ensures c.shift.ensures
+
+pub returns-else-was-is : goal.returns-else-was-is
+returns-else-was-is c =
+    below_same c.args.links.now.parents c.args.links.now.links c.args.stands.now c.args.device c.args.after c.args.counts.now.items c.requires.size c.requires.within c.requires.known
+    c.is_unsettled-was.result c.is_unsettled-is.result (c.is_unsettled-was.ensures ∙ ap is_unsettled c.requires.before) c.is_unsettled-is.ensures c.if-was-is.false
