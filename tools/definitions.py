@@ -58,6 +58,7 @@ SECTIONS = [
     ("sleep_model", "The laws of sleep", "`drivers/base/power/main.c`, `kernel/power/suspend.c`", ["Laws"]),
     ("sleep_laws", "What the laws are proved of", "own", ["Laws", "Ends"]),
     ("sleep_model", "The one log of separate histories", "own", ["Merge"]),
+    ("sleep_model", "A journal, and a log's entries, as the code keeps them", "own", ["Journals", "JournalFields", "Woven", "ReaderFields"]),
     ("sleep_model", "Which logs can be written, and how many places a source needs", "own", ["Fits", "Places"]),
     ("source_room", "What a source's history keeps to", "own", ["Room"]),
     ("sleep_model", "The text of a log", "own", ["NameBytes", "Text"]),
@@ -94,7 +95,7 @@ SECTIONS = [
     ("merge_laws", "Lists that are right by themselves, and what they merge to", "own", ["Apart", "Fitting", "Merging", "Owned"]),
     ("log_text", "The grammar of a log, and its first bad line", "own", ["Grammar", "Named"]),
     ("log_merge", "The one log, read run by run", "own", ["Rests", "ReaderFields", "Orders", "Journals"]),
-    ("sleep_run", "A whole run", "own", ["Runs", "RunFields", "Tries", "Waits", "Called", "Firsts", "JobsOf"]),
+    ("sleep_run", "A whole run", "own", ["Runs", "RunFields", "Tries", "AllEntries", "Waits", "Called", "Firsts", "JobsOf"]),
     ("sleep_main", "How the program ends", "own", ["Words", "Endings", "Counting"]),
 ]
 

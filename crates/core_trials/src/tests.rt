@@ -7,7 +7,7 @@ use event_word::{EventTable, Events, PlainEvents};
 use machine_file::{ReadMachine, read_machine};
 use sleep_base::Errno;
 use sleep_core::{Core, CoreTurn};
-use sleep_model::{Actor, JournalEntry, Kind, Machine, Stamp, Why};
+use sleep_model::{Actor, EntryList, Kind, Machine, Stamp, Why};
 use std::alloc::Global;
 use std::sync::Wait;
 use std::test::Fail;
@@ -87,7 +87,7 @@ struct Alone {
     waits: Option<Why>,
     next_time: Option<u64>,
     whole: bool,
-    journal: Vec<JournalEntry>,
+    entries: EntryList,
 }
 
 // The turns of one actor of a machine alone, up to its first wait or its end, with that word.
@@ -108,18 +108,21 @@ fn run_alone<R: Wait, E: Events>(
         waits,
         next_time: core.next_time(),
         whole: core.whole(),
-        journal: core.into_journal(),
+        entries: EntryList::of_parts(core.into_journal(), Vec::new(alloc)),
     })
 }
 
-// The journal of the manager of the family alone, with that word.
-fn journal_of<R: Wait, E: Events>(
-    rt: &R,
-    alloc: Global,
-    events: &mut E,
-) -> Result<Vec<JournalEntry>, Fail> {
-    let Alone { journal, .. } = run_alone(rt, alloc, events, FAMILY, MANAGER)?;
-    Ok(journal)
+// What the manager of the family does alone, with that word, in order.
+fn kinds_of<R: Wait, E: Events>(rt: &R, alloc: Global, events: &mut E) -> Result<Vec<Kind>, Fail> {
+    let Alone { entries, .. } = run_alone(rt, alloc, events, FAMILY, MANAGER)?;
+    let mut kinds = Vec::new(alloc);
+    let mut reader = entries.reader();
+    for _ in 0..entries.len() {
+        if let Some(entry) = reader.next() {
+            kinds.push(entry.kind)?;
+        }
+    }
+    Ok(kinds)
 }
 
 // What an actor of a machine waits for, after its first turns, where no event comes.
@@ -128,17 +131,17 @@ fn waits_for<R: Wait>(rt: &R, alloc: Global, file: &str, who: Actor) -> Result<O
 }
 
 // Whether the machine entered sleep.
-fn entered(journal: &[JournalEntry]) -> bool {
-    journal
+fn entered(kinds: &[Kind]) -> bool {
+    kinds
         .iter()
-        .any(|j| matches!(j.entry.kind, Kind::Enter { busy: false }))
+        .any(|kind| matches!(kind, Kind::Enter { busy: false }))
 }
 
 // Whether an attempt was given up, as a wakeup was pending.
-fn was_busy(journal: &[JournalEntry]) -> bool {
-    journal.iter().any(|j| {
+fn was_busy(kinds: &[Kind]) -> bool {
+    kinds.iter().any(|kind| {
         matches!(
-            j.entry.kind,
+            kind,
             Kind::Over {
                 r: Some(Errno::EBUSY),
                 ..
@@ -150,8 +153,8 @@ fn was_busy(journal: &[JournalEntry]) -> bool {
 /// Without events the attempt enters.
 #[test]
 fn a_quiet_attempt_enters(rt: HostRuntime) -> Result<(), Fail> {
-    let journal = journal_of(&rt, rt.alloc(), &mut PlainEvents::new())?;
-    assert!(rt; entered(journal.as_slice()));
+    let kinds = kinds_of(&rt, rt.alloc(), &mut PlainEvents::new())?;
+    assert!(rt; entered(kinds.as_slice()));
     Ok(())
 }
 
@@ -160,10 +163,10 @@ fn a_quiet_attempt_enters(rt: HostRuntime) -> Result<(), Fail> {
 fn a_quiet_attempt_enters_over_the_table(rt: HostRuntime) -> Result<(), Fail> {
     let (table, _seats, look) = EventTable::new(rt.alloc(), 1)?;
     let mut look = look.on(&table);
-    let journal = journal_of(&rt, rt.alloc(), &mut look)?;
-    assert!(rt; entered(journal.as_slice()));
-    let plain = journal_of(&rt, rt.alloc(), &mut PlainEvents::new())?;
-    assert_eq!(rt; journal.len(), plain.len());
+    let kinds = kinds_of(&rt, rt.alloc(), &mut look)?;
+    assert!(rt; entered(kinds.as_slice()));
+    let plain = kinds_of(&rt, rt.alloc(), &mut PlainEvents::new())?;
+    assert_eq!(rt; kinds.len(), plain.len());
     Ok(())
 }
 
@@ -171,26 +174,26 @@ fn a_quiet_attempt_enters_over_the_table(rt: HostRuntime) -> Result<(), Fail> {
 /// guards, enters.
 #[test]
 fn a_plain_attempt_enters(rt: HostRuntime) -> Result<(), Fail> {
-    let journal = journal_of(&rt, rt.alloc(), &mut MovingWord::new(0, false))?;
-    assert!(rt; entered(journal.as_slice()));
+    let kinds = kinds_of(&rt, rt.alloc(), &mut MovingWord::new(0, false))?;
+    assert!(rt; entered(kinds.as_slice()));
     Ok(())
 }
 
 /// Such events behind a save that was answered: the attempt is given up.
 #[test]
 fn a_guarded_attempt_is_given_up(rt: HostRuntime) -> Result<(), Fail> {
-    let journal = journal_of(&rt, rt.alloc(), &mut MovingWord::new(3, false))?;
-    assert!(rt; was_busy(journal.as_slice()));
-    assert!(rt; !entered(journal.as_slice()));
+    let kinds = kinds_of(&rt, rt.alloc(), &mut MovingWord::new(3, false))?;
+    assert!(rt; was_busy(kinds.as_slice()));
+    assert!(rt; !entered(kinds.as_slice()));
     Ok(())
 }
 
 /// Hard events between any two turns: the attempt is given up, whether a count guards it or not.
 #[test]
 fn hard_events_end_an_attempt(rt: HostRuntime) -> Result<(), Fail> {
-    let journal = journal_of(&rt, rt.alloc(), &mut MovingWord::new(0, true))?;
-    assert!(rt; was_busy(journal.as_slice()));
-    assert!(rt; !entered(journal.as_slice()));
+    let kinds = kinds_of(&rt, rt.alloc(), &mut MovingWord::new(0, true))?;
+    assert!(rt; was_busy(kinds.as_slice()));
+    assert!(rt; !entered(kinds.as_slice()));
     Ok(())
 }
 

@@ -84,7 +84,7 @@ pub trait Bump: Events {
 
 /// Looks until the word's position is at least `floor`.
 #[tactic(auto, using(crate::proofs::Looking::not_grown, crate::proofs::Looking::grew, crate::proofs::Looking::still_grown))]
-pub fn look_from<R: Wait, E: Events>(rt: &R, events: &mut E, floor: u64) -> EventNow
+fn look_on<R: Wait, E: Events>(rt: &R, events: &mut E, floor: u64) -> EventNow
     ensures told { IsTold (E.tells events.old) result }
     ensures tells { E.tells events.new ≡ E.tells events.old }
     ensures grows { GrewTo result (E.looked events.old) (E.looked events.new) }
@@ -102,4 +102,25 @@ pub fn look_from<R: Wait, E: Events>(rt: &R, events: &mut E, floor: u64) -> Even
         }
     }
     unreachable!()
+}
+
+/// Looks until the word's position is at least `floor`, which the first look nearly always finds.
+#[inline(always)]
+#[tactic(auto, using(crate::proofs::Looking::grew_once, crate::proofs::Looking::grew_on))]
+pub fn look_from<R: Wait, E: Events>(rt: &R, events: &mut E, floor: u64) -> EventNow
+    ensures told { IsTold (E.tells events.old) result }
+    ensures tells { E.tells events.new ≡ E.tells events.old }
+    ensures grows { GrewTo result (E.looked events.old) (E.looked events.new) }
+    ensures made { E.made events.new ≡ E.made events.old }
+    ensures can { E.can events.new ≡ E.can events.old }
+    ensures root { E.root events.new ≡ E.root events.old }
+    ensures low { floor ≤ position result }
+    ensures rises { E.floor events.old ≤ position result }
+    ensures floor { E.floor events.new ≡ position result }
+{
+    let now = events.look();
+    if pos(now) < floor {
+        return look_on(rt, events, floor);
+    }
+    now
 }

@@ -1,8 +1,8 @@
 use log_text::write_log;
 use sleep_base::Errno;
 use sleep_model::{
-    Actor, Device, DeviceFlags, Entry, EventNow, FrozeEnd, Group, Kind, ListOf, Log, LogEnd,
-    Machine, Name, Phase, Script, SkipCause, Stats, TaskKind, Waiting, Why,
+    Actor, Device, DeviceFlags, Entry, EntryList, EventNow, FrozeEnd, Group, Kind, ListOf, Log,
+    LogEnd, Machine, Name, Phase, Script, SkipCause, Stats, TaskKind, Waiting, Why,
 };
 use std::alloc::Global;
 use std::process::Abort;
@@ -98,8 +98,10 @@ fn made(time: u64, count: u32, actor: Actor, kind: Kind) -> Entry {
 fn assert_lines(rt: &impl Abort, alloc: Global, rows: &[(Entry, &str)]) -> Result<(), Fail> {
     let machine = machine(alloc)?;
     for (entry, line) in rows {
+        let mut entries = EntryList::new(alloc);
+        entries.push(*entry)?;
         let log = Log {
-            entries: ListOf::of_vec(vec![in alloc; *entry]?),
+            entries,
             stats: ListOf::of_vec(Vec::new(alloc)),
             end: LogEnd::Stuck(ListOf::of_vec(Vec::new(alloc))),
         };
@@ -211,7 +213,7 @@ fn writes_sources_and_end(rt: HostRuntime) -> Result<(), Fail> {
     let alloc = rt.alloc();
     let machine = machine(alloc)?;
     let finished = Log {
-        entries: ListOf::of_vec(Vec::new(alloc)),
+        entries: EntryList::new(alloc),
         stats: ListOf::of_vec(vec![in alloc; stats(1, 50), stats(0, 0)]?),
         end: LogEnd::Finished,
     };
@@ -231,7 +233,7 @@ fn writes_who_is_stuck(rt: HostRuntime) -> Result<(), Fail> {
     let why = Why::InProgress;
     let read = Waiting { actor, why };
     let stuck = Log {
-        entries: ListOf::of_vec(Vec::new(alloc)),
+        entries: EntryList::new(alloc),
         stats: ListOf::of_vec(Vec::new(alloc)),
         end: LogEnd::Stuck(ListOf::of_vec(vec![in alloc; mark, read]?)),
     };

@@ -6,12 +6,12 @@ ghost use Rattle.log_merge.specs.Rests.{bare};
 
 use crate::reader::LogReader;
 use sleep_base::Mem;
-use sleep_model::{Entry, EntryList, JournalEntry, SourceList};
+use sleep_model::{EntryList, JournalEntry, SourceList};
 use std::alloc::Global;
 
 /// These entries, and those of a run of the journal behind them. `Mem` where there is no memory.
-fn with_run(mut entries: Vec<Entry>, run: &[JournalEntry]) -> Result<Vec<Entry>, Mem>
-    ensures { IfOk result (λ all. all.items ≡ entries.items ++ bare run.now) }
+fn with_run(mut entries: EntryList, run: &[JournalEntry]) -> Result<EntryList, Mem>
+    ensures { IfOk result (λ all. all ≡ entries ++ bare run.now) }
 {
     for entry in run {
         entries.push(entry.entry)?;
@@ -30,11 +30,10 @@ pub fn merge(
     ensures { IfOk result (λ log. log ≡ merge journal.now histories.now) }
 {
     let mut reader = LogReader::new(alloc, journal, histories)?;
-    let room = Vec::with_capacity(alloc, reader.remaining())?;
-    let mut entries = with_run(room, reader.run())?;
+    let mut entries = with_run(EntryList::new(alloc), reader.run())?;
     while let Some(entry) = reader.next() {
         entries.push(*entry)?;
         entries = with_run(entries, reader.run())?;
     }
-    Ok(EntryList::of_vec(entries))
+    Ok(entries)
 }

@@ -58,12 +58,14 @@ pub(crate) fn merged(
 
 /// Whether a log has the entries of these times, in this order.
 fn has_times(log: &EntryList, times: &[u64]) -> bool {
-    log.len() == times.len()
-        && log
-            .as_slice()
-            .iter()
-            .zip(times)
-            .all(|(entry, time)| entry.time == *time)
+    let mut reader = log.reader();
+    for time in times {
+        match reader.next() {
+            Some(entry) if entry.time == *time => {}
+            _ => return false,
+        }
+    }
+    log.len() == times.len() && reader.next().is_none()
 }
 
 /// A look stands before a step of its position, whoever made it, and the entries behind the step after it.

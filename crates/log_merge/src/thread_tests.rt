@@ -48,12 +48,14 @@ fn burst<R: Threads + Sync>(
 
 /// Whether the one log of ten thousand steps has each position once, in order.
 fn is_in_order(log: &EntryList) -> bool {
-    log.len() == 10_000
-        && log
-            .as_slice()
-            .iter()
-            .enumerate()
-            .all(|(i, entry)| entry.time == i as u64)
+    let mut reader = log.reader();
+    for time in 0..10_000 {
+        match reader.next() {
+            Some(entry) if entry.time == time => {}
+            _ => return false,
+        }
+    }
+    log.len() == 10_000 && reader.next().is_none()
 }
 
 #[test]
@@ -99,7 +101,11 @@ fn two_workers_overlap(rt: HostRuntime) -> Result<(), Fail> {
     let one = |i: usize| meet(&rt, alloc, &next, &both, i);
     let made = thread::map_indices(&rt, alloc, 2, &one)?;
     let log = log_of(alloc, made)?;
-    let [a, b, c, d] = log.as_slice() else {
+    assert_eq!(rt; log.len(), 4);
+    let mut reader = log.reader();
+    let firsts = (reader.next(), reader.next());
+    let seconds = (reader.next(), reader.next());
+    let ((Some(a), Some(b)), (Some(c), Some(d))) = (firsts, seconds) else {
         return Err("four steps were made".into());
     };
     assert!(rt; a.actor != b.actor && c.actor != d.actor);

@@ -18,4 +18,5 @@ pub mod TextLines
 pub mod OneLog
 pub mod NoBadLine
 pub mod ReadBack
-pub mod Held
+pub mod Holding
+pub mod DeviceLines

@@ -3,7 +3,6 @@ ghost use Rattle.sleep_model.specs.declared.entry.Kind.TheVariants as kind;
 ghost use Rattle.sleep_model.specs.Text.{answer_text, body, device, link_word, space, step_body, auto_body, source_body, phase_body, attempt_body, platform_body, froze_text, prepare_text};
 
 use crate::names::{device_name, mark_name, notifier_name, source_name, syscore_name, task_name};
-use crate::phases::{put_begin, put_end, put_schedule};
 use crate::ready::ReadyNames;
 use crate::writer::{LineWriter, Spelled, put};
 use sleep_base::{Errno, Mem};
@@ -149,17 +148,6 @@ fn put_source(out: &mut LineWriter, names: &ReadyNames, kind: Kind) -> Result<()
     }
 }
 
-/// Writes an answer behind a space.
-#[inline(always)]
-fn put_answer(out: &mut LineWriter, r: Option<Errno>) -> Result<(), Mem>
-    ensures { OnOk result (out.new ≡ out.old ++ (space ++ answer_text r)) }
-{
-    match r {
-        None => put!(out; " 0"),
-        Some(error) => put!(out; b' ', error),
-    }
-}
-
 /// Writes what an entry of a device phase says.
 #[inline(always)]
 fn put_phase(out: &mut LineWriter, names: &ReadyNames, kind: Kind) -> Result<(), Mem>
@@ -173,17 +161,13 @@ fn put_phase(out: &mut LineWriter, names: &ReadyNames, kind: Kind) -> Result<(),
         }
         Kind::Complete(index) => put!(out; "complete ", device_name(machine, index)),
         Kind::Schedule(phase, index) => {
-            put_schedule(out, phase)?;
-            names.put_device(out, index)
+            put!(out; "schedule ", phase, b' ', device_name(machine, index))
         }
         Kind::Begin(phase, index) => {
-            put_begin(out, phase)?;
-            names.put_device(out, index)
+            put!(out; "begin ", phase, b' ', device_name(machine, index))
         }
         Kind::End(phase, index, r) => {
-            put_end(out, phase)?;
-            names.put_device(out, index)?;
-            put_answer(out, r)
+            put!(out; "end ", phase, b' ', device_name(machine, index), b' ', r)
         }
         Kind::Skip(phase, index, cause) => {
             put!(out; "skip ", phase, b' ', device_name(machine, index), b' ', cause)

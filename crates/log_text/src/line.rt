@@ -1,11 +1,13 @@
-ghost use Rattle.std.specs.Prelude.{◌≡◌, ◌++◌, OnOk};
+ghost use Rattle.std.specs.Prelude.{◌≡◌, ◌++◌, OnOk, slice_get};
 ghost use Rattle.log_text.specs.Front.{maker_text};
-ghost use Rattle.sleep_model.specs.Text.{waiting_text, entry_line, source_line, counts_text, times_text, waiting_line};
+ghost use Rattle.sleep_model.specs.Text.{script_text, waiting_text, entry_line, source_line, counts_text, times_text, waiting_line};
 
 use crate::body::put_body;
+use crate::device_words::device_words;
 use crate::front::LineFront;
-use crate::names::{mark_name, source_name};
+use crate::names::{device_name, mark_name, source_name};
 use crate::ready::ReadyNames;
+use crate::words::script_word;
 use crate::writer::{LineWriter, Spelled, put};
 use sleep_base::Mem;
 use sleep_model::{Actor, Entry, Machine, Stats, Waiting, Why};
@@ -15,13 +17,47 @@ use sleep_model::{Actor, Entry, Machine, Stats, Waiting, Why};
 fn put_maker(out: &mut LineWriter, names: &ReadyNames, actor: Actor) -> Result<(), Mem>
     ensures { OnOk result (out.new ≡ out.old ++ maker_text names.now actor) }
 {
+    if let Some(text) = names.maker(actor) {
+        return out.push_short(text);
+    }
+    let machine = names.machine();
     match actor {
-        Actor::Script(index) => names.put_script_maker(out, index),
+        Actor::Script(index) => {
+            put_script(out, machine, index)?;
+            put!(out; b' ')
+        }
         Actor::Auto => put!(out; "auto "),
-        Actor::Dev(index) => names.put_device_maker(out, index),
-        Actor::Timer(index) => put!(out; "timer:", source_name(names.machine(), index), b' '),
+        Actor::Dev(index) => put!(out; "dev:", device_name(machine, index), b' '),
+        Actor::Timer(index) => put!(out; "timer:", source_name(machine, index), b' '),
         Actor::Time => put!(out; "time "),
     }
+}
+
+/// Writes which script it is.
+fn put_script(out: &mut LineWriter, machine: &Machine, index: u32) -> Result<(), Mem>
+    ensures { OnOk result (out.new ≡ out.old ++ script_text (slice_get machine.now.actors index)) }
+{
+    match machine.actors.as_slice().get(index as usize) {
+        None => Ok(()),
+        Some(script) => put!(out; script_word(script.kind), script.name.bytes()),
+    }
+}
+
+/// Writes the line of an entry part by part, whose front is given.
+fn put_parts(
+    out: &mut LineWriter,
+    names: &ReadyNames,
+    front: &LineFront,
+    entry: Entry,
+) -> Result<(), Mem>
+    requires time { front.now.time ≡ entry.time }
+    requires word { front.now.word ≡ entry.now }
+    ensures { OnOk result (out.new ≡ out.old ++ entry_line names.now entry) }
+{
+    put!(out; front.text())?;
+    put_maker(out, names, entry.actor)?;
+    put_body(out, names, entry.kind)?;
+    put!(out; b'\n')
 }
 
 /// Writes the line of an entry, whose front is given.
@@ -36,10 +72,13 @@ pub fn put_entry(
     requires word { front.now.word ≡ entry.now }
     ensures { OnOk result (out.new ≡ out.old ++ entry_line names.now entry) }
 {
-    put!(out; front.text())?;
-    put_maker(out, names, entry.actor)?;
-    put_body(out, names, entry.kind)?;
-    put!(out; b'\n')
+    if let Some(maker) = names.maker(entry.actor)
+        && let Some(words) = device_words(entry.kind)
+        && let Some(device) = names.device(words.device)
+    {
+        return out.push_line(front.text(), maker, &words, device);
+    }
+    put_parts(out, names, front, entry)
 }
 
 /// Writes the line of a wakeup source.

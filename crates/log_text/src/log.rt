@@ -6,7 +6,7 @@ use crate::line::{put_entry, put_source, put_waiting};
 use crate::ready::{ReadyNames, device_makers, device_texts, script_makers};
 use crate::writer::{LineWriter, Spelled, put};
 use sleep_base::Mem;
-use sleep_model::{Entry, Log, LogEnd, Machine, Stats, Waiting};
+use sleep_model::{EntryList, Log, LogEnd, Machine, Stats, Waiting};
 use std::alloc::Global;
 
 /// How many bytes the line of an entry usually has, at most.
@@ -23,20 +23,21 @@ pub fn write_log(alloc: Global, machine: &Machine, log: &Log) -> Result<Vec<u8>,
     let scripts = script_makers(alloc, machine.actors.as_slice())?;
     let (devices, makers, scripts) = (devices.as_slice(), makers.as_slice(), scripts.as_slice());
     let names = ReadyNames::of(machine, devices, makers, scripts);
-    put_entries(&mut out, &names, log.entries.as_slice())?;
+    put_entries(&mut out, &names, &log.entries)?;
     put_sources(&mut out, machine, log.stats.as_slice())?;
     put_end(&mut out, &names, &log.end)?;
     out.into_vec()
 }
 
 /// Writes a line for each entry.
-fn put_entries(out: &mut LineWriter, names: &ReadyNames, entries: &[Entry]) -> Result<(), Mem>
+fn put_entries(out: &mut LineWriter, names: &ReadyNames, entries: &EntryList) -> Result<(), Mem>
     ensures { OnOk result (out.new ≡ out.old ++ flat_map (entry_line names.now) entries.now) }
 {
     let mut front = LineFront::start();
-    for entry in entries {
+    let mut reader = entries.reader();
+    while let Some(entry) = reader.next() {
         front.move_to(entry.time, entry.now);
-        put_entry(out, names, &front, *entry)?;
+        put_entry(out, names, &front, entry)?;
     }
     Ok(())
 }

@@ -15,7 +15,7 @@ use crate::fault::LogFault;
 use crate::lines::{first_line, next_number};
 use crate::reader::LineReader;
 use sleep_base::Mem;
-use sleep_model::{Entry, ListOf, Log, LogEnd, Machine, Stats, Waiting};
+use sleep_model::{EntryList, ListOf, Log, LogEnd, Machine, Stats, Waiting};
 use std::alloc::Global;
 
 /// The entries at the beginning of a log's text, what stands behind their lines, and the number of
@@ -25,13 +25,13 @@ fn read_entries<'a>(
     book: &NameBook,
     reader: &mut LineReader,
     bytes: &'a [u8],
-) -> Result<(Vec<Entry>, &'a [u8], u32), Mem>
-    ensures text { IfOk result (λ r. bytes.now ≡ flat_map (entry_line book.now) r.0.items ++ r.1.now) }
-    ensures fits { IfOk result (λ r. list_all (fits_entry book.now) r.0.items ≡ true) }
+) -> Result<(EntryList, &'a [u8], u32), Mem>
+    ensures text { IfOk result (λ r. bytes.now ≡ flat_map (entry_line book.now) r.0 ++ r.1.now) }
+    ensures fits { IfOk result (λ r. list_all (fits_entry book.now) r.0 ≡ true) }
     ensures bad { IfOk result (λ r. AreNamed book.now → (bad : ℕ) →
         IsBadSource book.now (source_names book.now) (lines r.1.now) r.2 bad → IsFirstBad book.now bytes.now bad) }
 {
-    let mut entries = Vec::new(alloc);
+    let mut entries = EntryList::new(alloc);
     let mut left = bytes;
     let mut number = 1;
     while !left.is_empty() {
@@ -171,11 +171,11 @@ fn read_behind(
     alloc: Global,
     book: &NameBook,
     reader: &mut LineReader,
-    entries: Vec<Entry>,
+    entries: EntryList,
     bytes: &[u8],
     first: u32,
 ) -> Result<Log, LogFault>
-    ensures entries { IfOk result (λ log. log.entries ≡ entries.items) }
+    ensures entries { IfOk result (λ log. log.entries ≡ entries) }
     ensures text { IfOk result (λ log. bytes.now ≡ source_lines (source_names book.now) log.stats ++ end_text book.now log.end) }
     ensures count { IfOk result (λ log. length log.stats ≡ length book.now.sources + 1) }
     ensures counts { IfOk result (λ log. list_all fits_stats log.stats ≡ true) }
@@ -185,7 +185,7 @@ fn read_behind(
     match read_sources(alloc, book.machine(), reader, bytes, first) {
         Ok((stats, left, number)) => match read_end(alloc, book, reader, left, number) {
             Ok(end) => Ok(Log {
-                entries: ListOf::of_vec(entries),
+                entries,
                 stats: ListOf::of_vec(stats),
                 end,
             }),

@@ -1,15 +1,13 @@
 //! A machine with names that are ready to be copied.
 
-ghost use Rattle.std.specs.Prelude.{◌≡◌, ◌≤◌, ◌++◌, ℕ, IfOk, OnOk, length, slice_get, codes};
+ghost use Rattle.std.specs.Prelude.{◌≡◌, ◌≤◌, ◌++◌, ℕ, IfOk, length, slice_get, codes};
 ghost use Rattle.std.specs.Option.{ForSome};
 ghost use Rattle.sleep_model.specs.Text.{device_name, script_text, space};
 
-use crate::names::device_name;
 use crate::short::ShortText;
 use crate::words::script_word;
-use crate::writer::{LineWriter, Spelled, put};
 use sleep_base::Mem;
-use sleep_model::{Device, Machine, Script};
+use sleep_model::{Actor, Device, Machine, Script};
 use std::alloc::Global;
 use std::marker::Model;
 
@@ -38,7 +36,7 @@ impl<'a> Model for ReadyNames<'a> {
 }
 
 impl<'a> ReadyNames<'a> {
-    ghost use Rattle.std.specs.Prelude.{◌≡◌, ◌++◌, ℕ, OnOk, slice_get};
+    ghost use Rattle.std.specs.Prelude.{◌≡◌, ℕ, IfSome, slice_get};
     ghost use Rattle.std.specs.Option.{ForSome};
     ghost use Rattle.sleep_model.specs.declared.entry.Actor.TheVariants as actor;
     ghost use Rattle.sleep_model.specs.Text.{device};
@@ -83,50 +81,24 @@ impl<'a> ReadyNames<'a> {
         self.machine
     }
 
-    /// Writes the name of the device with that number.
+    /// The name of the device with that number, where it is ready.
     #[inline(always)]
-    pub fn put_device(&self, out: &mut LineWriter, index: u32) -> Result<(), Mem>
-        ensures { OnOk result (out.new ≡ out.old ++ device self.now index) }
+    pub fn device(&self, index: u32) -> Option<&'a ShortText>
+        ensures { IfSome result (λ t. t.now ≡ device self.now index) }
     {
-        match self.devices.get(index as usize) {
-            Some(text) => out.push_short(text),
-            None => out.push_bytes(device_name(self.machine, index)),
-        }
+        self.devices.get(index as usize)
     }
 
-    /// Writes the device with that number as who makes an entry, with the space behind it.
+    /// Who makes an entry, with the space behind it, where it is ready.
     #[inline(always)]
-    pub fn put_device_maker(&self, out: &mut LineWriter, index: u32) -> Result<(), Mem>
-        ensures { OnOk result (out.new ≡ out.old ++ maker_text self.now (actor.Dev index)) }
+    pub fn maker(&self, who: Actor) -> Option<&'a ShortText>
+        ensures { IfSome result (λ t. t.now ≡ maker_text self.now who) }
     {
-        match self.makers.get(index as usize) {
-            Some(text) => out.push_short(text),
-            None => put!(out; "dev:", device_name(self.machine, index), b' '),
+        match who {
+            Actor::Script(index) => self.scripts.get(index as usize),
+            Actor::Dev(index) => self.makers.get(index as usize),
+            _ => None,
         }
-    }
-
-    /// Writes the script with that number as who makes an entry, with the space behind it.
-    #[inline(always)]
-    pub fn put_script_maker(&self, out: &mut LineWriter, index: u32) -> Result<(), Mem>
-        ensures { OnOk result (out.new ≡ out.old ++ maker_text self.now (actor.Script index)) }
-    {
-        match self.scripts.get(index as usize) {
-            Some(text) => out.push_short(text),
-            None => {
-                put_script(out, self.machine, index)?;
-                put!(out; b' ')
-            }
-        }
-    }
-}
-
-/// Writes which script it is.
-fn put_script(out: &mut LineWriter, machine: &Machine, index: u32) -> Result<(), Mem>
-    ensures { OnOk result (out.new ≡ out.old ++ script_text (slice_get machine.now.actors index)) }
-{
-    match machine.actors.as_slice().get(index as usize) {
-        None => Ok(()),
-        Some(script) => put!(out; script_word(script.kind), script.name.bytes()),
     }
 }
 

@@ -1,31 +1,42 @@
-ghost use Rattle.std.specs.Prelude.{decimal, ◌∷◌, []};
+ghost use Rattle.std.specs.Prelude.{decimal, ◌≡◌, ◌++◌, ◌∷◌, [], OnOk};
 
+use crate::device_words::DeviceWords;
+use crate::held::HeldBytes;
 use crate::short::{SHORT, ShortText};
 use itoa::Buffer;
 use sleep_base::Mem;
 use std::alloc::Global;
 use std::marker::Model;
 
-/// How many bytes are held before they go behind the others.
-const HELD: usize = 1024;
+/// The most bytes that a line of pieces takes, with all of their room.
+const LINE: usize = 216;
 
 /// Bytes that grow at their end, and that contracts see as their list. The last ones are held in place, where a short
 /// text costs little.
 #[derive(Drop)]
 pub struct LineWriter {
     bytes: Vec<u8>,
-    held: [u8; 1024],
-    used: usize,
+    held: HeldBytes,
 }
 
 impl Model for LineWriter {
-    ghost use Rattle.std.specs.Prelude.{ℕ, List, ◌++◌, ◌≤◌, take};
+    ghost use Rattle.std.specs.Prelude.{ℕ, List, ◌++◌};
 
     ghost Value = { List ℕ };
 
-    ghost view = { λ w. w.bytes.items ++ take w.used w.held };
+    ghost view = { λ w. w.bytes.items ++ w.held };
+}
 
-    ghost invariant = { λ w. w.used ≤ 1024 };
+/// Puts the bytes that are held behind the others.
+#[cold]
+#[inline(never)]
+fn pass_on(bytes: &mut Vec<u8>, held: &mut HeldBytes) -> Result<(), Mem>
+    ensures joined { OnOk result (bytes.new.items ≡ bytes.old.items ++ held.old) }
+    ensures none_held { OnOk result (held.new ≡ []) }
+{
+    bytes.extend_from_slice(held.as_bytes())?;
+    held.clear();
+    Ok(())
 }
 
 impl LineWriter {
@@ -39,8 +50,7 @@ impl LineWriter {
         let bytes = Vec::with_capacity(alloc, room)?;
         Ok(LineWriter {
             bytes,
-            held: [0; 1024],
-            used: 0,
+            held: HeldBytes::new(),
         })
     }
 
@@ -49,15 +59,14 @@ impl LineWriter {
         ensures { self.new ≡ [] }
     {
         self.bytes.clear();
-        self.used = 0;
+        self.held.clear();
     }
 
     /// Whether just these bytes were written.
     pub fn is(&mut self, bytes: &[u8]) -> Result<bool, Mem>
         ensures { IfOk result (λ b. b ≡ bytes_eq self.old bytes.now) }
     {
-        self.bytes.extend_from_slice(&self.held[..self.used])?;
-        self.used = 0;
+        pass_on(&mut self.bytes, &mut self.held)?;
         Ok(self.bytes.as_slice() == bytes)
     }
 
@@ -65,9 +74,9 @@ impl LineWriter {
     pub fn into_vec(self) -> Result<Vec<u8>, Mem>
         ensures { IfOk result (λ v. v.items ≡ self) }
     {
-        let LineWriter { bytes, held, used } = self;
+        let LineWriter { bytes, held } = self;
         let mut all = bytes;
-        all.extend_from_slice(&held[..used])?;
+        all.extend_from_slice(held.as_bytes())?;
         Ok(all)
     }
 
@@ -76,11 +85,10 @@ impl LineWriter {
     pub fn push_bytes(&mut self, bytes: &[u8]) -> Result<(), Mem>
         ensures { OnOk result (self.new ≡ self.old ++ bytes.now) }
     {
-        if bytes.len() > HELD - self.used {
+        if bytes.len() > self.held.left() {
             return self.push_behind(bytes);
         }
-        self.held[self.used..self.used + bytes.len()].copy_from_slice(bytes);
-        self.used += bytes.len();
+        self.held.put(bytes);
         Ok(())
     }
 
@@ -90,8 +98,7 @@ impl LineWriter {
     fn push_behind(&mut self, bytes: &[u8]) -> Result<(), Mem>
         ensures { OnOk result (self.new ≡ self.old ++ bytes.now) }
     {
-        self.bytes.extend_from_slice(&self.held[..self.used])?;
-        self.used = 0;
+        pass_on(&mut self.bytes, &mut self.held)?;
         self.bytes.extend_from_slice(bytes)?;
         Ok(())
     }
@@ -101,11 +108,28 @@ impl LineWriter {
     pub fn push_short(&mut self, text: &ShortText) -> Result<(), Mem>
         ensures { OnOk result (self.new ≡ self.old ++ text.now) }
     {
-        if self.used > HELD - SHORT {
+        if self.held.left() < SHORT {
             return self.push_behind(text.as_bytes());
         }
-        self.held[self.used..self.used + SHORT].copy_from_slice(text.room());
-        self.used += text.len();
+        self.held.put_short(text);
+        Ok(())
+    }
+
+    /// Writes a line of these pieces.
+    #[inline(always)]
+    pub fn push_line(
+        &mut self,
+        front: &ShortText,
+        maker: &ShortText,
+        words: &DeviceWords,
+        device: &ShortText,
+    ) -> Result<(), Mem>
+        ensures { OnOk result (self.new ≡ self.old ++ (front.now ++ maker.now ++ words.now.verb ++ words.now.phase ++ device.now ++ words.now.behind)) }
+    {
+        if self.held.left() < LINE {
+            pass_on(&mut self.bytes, &mut self.held)?;
+        }
+        self.held.put_line(front, maker, words, device);
         Ok(())
     }
 
@@ -122,11 +146,10 @@ impl LineWriter {
     pub fn push_byte(&mut self, byte: u8) -> Result<(), Mem>
         ensures { OnOk result (self.new ≡ self.old ++ byte ∷ []) }
     {
-        if self.used == HELD {
+        if self.held.left() == 0 {
             return self.push_behind(&[byte]);
         }
-        self.held[self.used] = byte;
-        self.used += 1;
+        self.held.put_byte(byte);
         Ok(())
     }
 

@@ -1,13 +1,16 @@
 -- What a phase on the way down looks at in the core.
-use Rattle.std.specs.Prelude.{◌≡◌, ℕ, Option, length, map, if◌then◌else◌}
+use Rattle.std.specs.Prelude.{◌≡◌, ℕ, Bool, true, false, ◌&&◌, is_none, length, map, if◌then◌else◌}
 use Rattle.phase_table.specs.declared.phase.Phase.{Phase}
 use Rattle.phase_table.specs.Phases.{is_down, mirror}
+use Rattle.sleep_model.specs.declared.place.Stand.{Stand}
+use Rattle.sleep_model.specs.declared.place.Stand.TheVariants as stand
 use Rattle.sleep_model.specs.declared.word.EventNow.{EventNow}
 use Rattle.sleep_model.specs.Devices.{willing}
 use Rattle.sleep_model.specs.Guard.{pending}
 use Rattle.sleep_model.specs.Runtime.{may_wake, statuses}
+use Rattle.sleep_model.specs.Stands.{stand_at}
 use Rattle.async_board.specs.AtPlaces.{board_at}
-use Rattle.async_board.specs.Boards.{BoardState, waits_below_on, waits_above_on}
+use Rattle.async_board.specs.Boards.{BoardState, stands_on, waits_below_on, waits_above_on}
 use Rattle.phase_suspend.specs.declared.down.DownEnv.{DownEnv}
 use Rattle.sleep_state.specs.Places.{entries}
 use Rattle.sleep_core.specs.Cores.{CoreState}
@@ -20,6 +23,18 @@ pub record AreSeen (core : CoreState) (now : EventNow) (env : DownEnv) : Type 0 
   pub wakeup_are : env.wakeup.now ≡ map may_wake core.machine.devices
   pub pending_is : env.pending ≡ pending (entries core.past) now
 
--- the first device that d waits for in phase p: below it on the way down (dpm_wait_for_subordinate), above it on the way up (dpm_wait_for_superior)
-abbrev pub waits_for_on : BoardState → Phase → ℕ → Option ℕ
-waits_for_on board p d = if is_down p then waits_below_on board p d else waits_above_on board (mirror p) d
+-- device d was given out on the way down, and has not begun (async_schedule_dev)
+abbrev pub is_scheduled : Stand → Bool
+is_scheduled stand.Scheduled = true
+is_scheduled _ = false
+
+-- so on the way up
+abbrev pub is_rescheduled : Stand → Bool
+is_rescheduled stand.Rescheduled = true
+is_rescheduled _ = false
+
+-- device d was given out in phase p, has not begun, and waits for no other (dpm_async_fn)
+abbrev pub is_ready_on : BoardState → Phase → ℕ → Bool
+is_ready_on board p d =
+    if is_down p then is_scheduled (stand_at (stands_on board p) d) && is_none (waits_below_on board p d)
+    else is_rescheduled (stand_at (stands_on board (mirror p)) d) && is_none (waits_above_on board (mirror p) d)

@@ -12,8 +12,8 @@ use autosleep_loop::Autosleep;
 use device_links::Links;
 use platform_steps::Platform;
 use sleep_base::Mem;
-use sleep_model::{Device, DeviceFlags, Entry, JournalEntry, Kind, Machine, Stamp, pos};
-use sleep_state::{Devices, Journal, Path, Tasks};
+use sleep_model::{Device, DeviceFlags, Entry, Journal, JournalEntry, Kind, Machine, Stamp, pos};
+use sleep_state::{Devices, Path, Tasks};
 use std::alloc::{AllocError, Global};
 use std::marker::Model;
 use syscore_ops::Syscore;
@@ -357,11 +357,11 @@ impl<'m> History<'m> {
         self.journal.room()
     }
 
-    /// The entries, the oldest first.
-    pub fn into_entries(self) -> Vec<JournalEntry>
-        ensures { reverse result.items ≡ self.entry.past }
+    /// The entries.
+    pub fn into_journal(self) -> Journal
+        ensures { result.past ≡ self.entry.past }
     {
         let History { journal, .. } = self;
-        journal.into_entries()
+        journal
     }
 }

@@ -1,6 +1,6 @@
 //! What a run asks of the core between turns: jumps of time, calls that are due, and whether all is over.
 
-ghost use Rattle.std.specs.Prelude.{◌≡◌, ◌≤◌, ◌<◌, ◌+◌, ◌-◌, ◌^◌, ◌||◌, nat_lt, is_none, length, reverse, IfOk, OnErr};
+ghost use Rattle.std.specs.Prelude.{◌≡◌, ◌≤◌, ◌<◌, ◌+◌, ◌-◌, ◌^◌, ◌||◌, nat_lt, length, IfOk, OnErr};
 ghost use Rattle.sleep_model.specs.Calls.{calls_due, pieces_in};
 ghost use Rattle.sleep_model.specs.Due.{due, is_over};
 ghost use Rattle.sleep_model.specs.Legal.{JournalPart, is_made};
@@ -11,14 +11,30 @@ ghost use Rattle.sleep_model.specs.Seats.{seat_at, seats};
 ghost use Rattle.sleep_model.specs.Word.{position};
 ghost use Rattle.sleep_state.specs.Places.{entries};
 ghost use Rattle.async_board.specs.AtPlaces.{board_at};
-ghost use Rattle.sleep_core.specs.Seen.{waits_for_on};
+ghost use Rattle.sleep_core.specs.Seen.{is_scheduled, is_rescheduled, is_ready_on};
 ghost use Rattle.script_plan.specs.Plans.{calls_before};
 ghost use Rattle.sleep_core.specs.Cores.{IsActor, with_entry, next_stamp, jump_entry};
 ghost use Rattle.sleep_core.specs.Histories.{last_stamp};
 
 use crate::state::Core;
 use sleep_base::Mem;
-use sleep_model::{Actor, Due, Entry, EventNow, JournalEntry, Kind, Phase, Stamp, pos};
+use sleep_model::{
+    Actor, Due, Entry, EventNow, Journal, JournalEntry, Kind, Phase, Stamp, Stand, pos,
+};
+
+/// Whether a device that stands there was given out on the way down, and has not begun.
+fn is_scheduled(stand: Stand) -> bool
+    ensures { result ≡ is_scheduled stand }
+{
+    matches!(stand, Stand::Scheduled)
+}
+
+/// So on the way up.
+fn is_rescheduled(stand: Stand) -> bool
+    ensures { result ≡ is_rescheduled stand }
+{
+    matches!(stand, Stand::Rescheduled)
+}
 
 impl<'m> Core<'m> {
     /// Time jumps to `to` ms, later than now, as seen at a word that was looked at. That the moment is the
@@ -101,6 +117,14 @@ impl<'m> Core<'m> {
         self.now()
     }
 
+    /// How many entries the journal has. A journal has fewer than 2^63.
+    pub fn len(&self) -> usize
+        ensures len { result ≡ length self.now.past }
+        ensures small { result < 2 ^ 63 }
+    {
+        self.history.len()
+    }
+
     /// Whether every script has exited and no attempt is open.
     pub fn whole(&self) -> bool
         ensures { result ≡ is_over self.now.machine (entries self.now.past) }
@@ -122,24 +146,26 @@ impl<'m> Core<'m> {
         self.history.board().links().above(device)
     }
 
-    /// Whether a device waits for no other in a phase: for none right below it on the way down
-    /// (`dpm_wait_for_subordinate`), for none right above it on the way up (`dpm_wait_for_superior`).
-    pub fn is_free(&self, phase: Phase, device: u32) -> bool
-        ensures { result ≡ is_none (waits_for_on (board_at self.now.machine (entries self.now.past)) phase device) }
+    /// Whether an asynchronous device was given out in a phase, has not begun, and waits for no other: for none right
+    /// below it on the way down (`dpm_wait_for_subordinate`), for none right above it on the way up
+    /// (`dpm_wait_for_superior`).
+    pub fn is_ready(&self, phase: Phase, device: u32) -> bool
+        ensures { result ≡ is_ready_on (board_at self.now.machine (entries self.now.past)) phase device }
     {
         let board = self.board();
         if phase.is_down() {
-            board.is_free_below(phase, device)
+            is_scheduled(board.stand(phase, device)) && board.is_free_below(phase, device)
         } else {
-            board.is_free_above(phase.mirror(), device)
+            let down = phase.mirror();
+            is_rescheduled(board.stand(down, device)) && board.is_free_above(down, device)
         }
     }
 
-    /// The journal, the oldest entry first.
-    pub fn into_journal(self) -> Vec<JournalEntry>
-        ensures { reverse result.items ≡ self.entry.past }
+    /// The journal.
+    pub fn into_journal(self) -> Journal
+        ensures { result.past ≡ self.entry.past }
     {
         let Core { history, .. } = self;
-        history.into_entries()
+        history.into_journal()
     }
 }

@@ -1,9 +1,10 @@
 ghost use Rattle.std.specs.Prelude.{◌≡◌, ◌++◌, IfOk, OnOk};
-ghost use Rattle.sleep_main.specs.Counting.{attempts_in, begins_attempt, begins_sleep, count_line, counted, counts_of, entered_in, line_end};
+ghost use Rattle.sleep_main.specs.Counting.{begins_attempt, begins_sleep, count_line, counted, counts_of, line_end};
+ghost use Rattle.sleep_model.specs.Places.{one_if};
 
 use itoa::Buffer;
 use sleep_base::Mem;
-use sleep_model::{Entry, Kind, Log};
+use sleep_model::{Kind, Log};
 use std::alloc::Global;
 
 /// How many entries a log has, and what became of its attempts.
@@ -36,37 +37,27 @@ fn begins_sleep(kind: Kind) -> bool
     }
 }
 
-/// How many attempts begin in these entries.
-#[tactic(auto, using(crate::proofs::Counted::attempts_counted))]
-fn attempts_in(entries: &[Entry]) -> usize
-    ensures { result ≡ attempts_in entries.now }
+/// 1 where it is so, else 0.
+fn one_if(so: bool) -> usize
+    ensures { result ≡ one_if so }
 {
-    entries
-        .iter()
-        .filter(|entry| begins_attempt(entry.kind))
-        .count()
-}
-
-/// How often the machine enters sleep in these entries.
-#[tactic(auto, using(crate::proofs::Counted::entered_counted))]
-fn entered_in(entries: &[Entry]) -> usize
-    ensures { result ≡ entered_in entries.now }
-{
-    entries
-        .iter()
-        .filter(|entry| begins_sleep(entry.kind))
-        .count()
+    if so { 1 } else { 0 }
 }
 
 /// The numbers of a log.
 pub fn counts_of(log: &Log) -> Counts
     ensures { result ≡ counts_of log.now }
 {
-    let entries = log.entries.as_slice();
-    let attempts = attempts_in(entries);
-    let entered = entered_in(entries);
+    let entries = log.entries.len();
+    let mut attempts = 0;
+    let mut entered = 0;
+    let mut reader = log.entries.reader();
+    while let Some(entry) = reader.next() {
+        attempts += one_if(begins_attempt(entry.kind));
+        entered += one_if(begins_sleep(entry.kind));
+    }
     Counts {
-        entries: entries.len(),
+        entries,
         attempts,
         entered,
         aborted: attempts.saturating_sub(entered),

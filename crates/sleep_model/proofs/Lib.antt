@@ -3,8 +3,10 @@ pub mod Changing
 pub mod Children
 pub mod FirstPlaces
 pub mod Hanging
+pub mod Journals
 pub mod Ordering
 pub mod Padding
 pub mod Paths
 pub mod Searches
 pub mod Walks
+pub mod Weaving

@@ -8,6 +8,8 @@ pub mod Due
 pub mod Fits
 pub mod Freezer
 pub mod Guard
+pub mod JournalFields
+pub mod Journals
 pub mod Laws
 pub mod Legal
 pub mod Links
@@ -21,6 +23,7 @@ pub mod Order
 pub mod Parts
 pub mod Path
 pub mod Places
+pub mod ReaderFields
 pub mod Runtime
 pub mod Scripts
 pub mod Seats
@@ -32,3 +35,4 @@ pub mod Tasks
 pub mod Text
 pub mod Walk
 pub mod Word
+pub mod Woven

@@ -181,6 +181,3 @@ pub struct SourceEntry {
 
 /// The history of a wakeup source.
 pub type SourceList = ListOf<SourceEntry>;
-
-/// Entries in the order of a log.
-pub type EntryList = ListOf<Entry>;

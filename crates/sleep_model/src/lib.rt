@@ -3,7 +3,9 @@
 
 mod answer;
 mod entry;
+mod entry_list;
 mod flags;
+mod journal;
 mod list;
 mod log;
 mod machine;
@@ -15,10 +17,12 @@ mod word;
 
 pub use answer::error_of_number;
 pub use entry::{
-    Actor, Entry, EntryList, FrozeEnd, Group, JournalEntry, Kind, SkipCause, SourceEntry,
-    SourceList, State, Thaw,
+    Actor, Entry, FrozeEnd, Group, JournalEntry, Kind, SkipCause, SourceEntry, SourceList, State,
+    Thaw,
 };
+pub use entry_list::{EntryList, EntryReader, OtherEntry};
 pub use flags::DeviceFlags;
+pub use journal::Journal;
 pub use list::ListOf;
 pub use log::{Log, LogEnd, Move, Runtime, Stats, Waiting, Want, Why};
 pub use machine::{

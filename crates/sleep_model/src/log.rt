@@ -1,4 +1,5 @@
-use crate::entry::{Actor, EntryList, Kind};
+use crate::entry::{Actor, Kind};
+use crate::entry_list::EntryList;
 use crate::list::ListOf;
 use crate::machine::SourceCall;
 

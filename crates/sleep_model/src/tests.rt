@@ -46,3 +46,49 @@ fn flags_are_told_apart(rt: HostRuntime) {
     assert!(rt; flags.contains(DeviceFlags::ASYNC));
     assert!(rt; !flags.contains(DeviceFlags::WAKEUP));
 }
+
+// An entry at that moment, with that stamp.
+fn entry_at(time: u64, pos: u64, tick: u64) -> JournalEntry {
+    let now = EventNow {
+        inpr: 0,
+        count: 0,
+        hard: pos as u32,
+    };
+    let entry = Entry {
+        time,
+        now,
+        actor: Actor::Auto,
+        kind: Kind::Pass,
+    };
+    let stamp = Stamp { pos, tick };
+    JournalEntry { stamp, entry }
+}
+
+/// The entries of a journal are read in order, and each of the others behind as many of them as it says: the
+/// journal's share moments, have moments of their own, and have ticks far apart.
+#[test]
+fn a_log_has_the_journal_and_the_others(rt: HostRuntime) -> Result<(), Fail> {
+    let mut journal = Journal::new(rt.alloc());
+    journal.reserve(4)?;
+    for (time, pos, tick) in [(10, 0, 1), (10, 0, 2), (10, 0, 1 << 40), (20, 1, 1 << 41)] {
+        assert!(rt; journal.room() > 0);
+        journal.put(entry_at(time, pos, tick));
+    }
+    assert_eq!(rt; (journal.len(), journal.room()), (4, 0));
+    let mut others = Vec::new(rt.alloc());
+    for (before, time) in [(0usize, 5), (2, 15), (2, 16)] {
+        let JournalEntry { entry, .. } = entry_at(time, 0, 0);
+        others.push(OtherEntry { before, entry })?;
+    }
+    let mut list = EntryList::of_parts(journal, others);
+    let JournalEntry { entry, .. } = entry_at(30, 0, 0);
+    list.push(entry)?;
+    assert_eq!(rt; list.len(), 8);
+    let mut reader = list.reader();
+    for time in [5, 10, 10, 15, 16, 10, 20, 30] {
+        let read = reader.next().map(|entry| entry.time);
+        assert_eq!(rt; read, Some(time));
+    }
+    assert!(rt; reader.next().is_none());
+    Ok(())
+}

@@ -1,3 +1,4 @@
+pub mod AllEntries
 pub mod JobsKept
 pub mod Resting
 pub mod Running

@@ -1,8 +1,10 @@
 -- Turns, calls and jumps keep what a run keeps.
-use Rattle.std.proofs.Common.{◌≡◌, ◌≤◌, ◌<◌, ◌+◌, ◌++◌, ◌∙◌, ℕ, Bool, true, not, ◌&&◌, ◌||◌, nat_lt, List, [], ◌∷◌, length, reverse, Option, Some, slice_get, slice_set, slice_index_or, zero, suc, ◌^◌, length-drop, cond, false, refl, sym, ap, ap₂, subst, arith}
+use Rattle.std.proofs.Common.{◌≡◌, ◌≤◌, ◌<◌, ◌+◌, ◌++◌, ◌∙◌, ℕ, Bool, true, not, ◌&&◌, ◌||◌, nat_lt, List, [], ◌∷◌, length, Option, Some, slice_get, slice_set, slice_index_or, zero, suc, ◌^◌, length-drop, refl, sym, ap, ap₂, subst, arith}
 use Rattle.sleep_model.specs.declared.entry.Actor.{Actor}
 use Rattle.sleep_model.specs.declared.entry.Actor.TheVariants as actor
 use Rattle.sleep_model.specs.declared.entry.Entry.{Entry}
+use Rattle.sleep_model.specs.declared.entry.JournalEntry.{JournalEntry}
+use Rattle.sleep_model.specs.declared.entry_list.OtherEntry.{OtherEntry}
 use Rattle.sleep_model.specs.declared.entry.Kind.{Kind}
 use Rattle.sleep_model.specs.declared.entry.Kind.TheVariants as kind
 use Rattle.sleep_model.specs.declared.machine.Machine.{Machine}
@@ -39,6 +41,7 @@ use Rattle.source_room.proofs.Keeping.{histories_keep}
 use Rattle.wakeup_source.specs.declared.call_by.CallBy.{CallBy}
 use Rattle.wakeup_source.specs.SourceStates.{SourceState, bare, latest}
 use Rattle.wakeup_source.specs.Told.{word_after, MayCall, source_call}
+use Rattle.sleep_run.specs.AllEntries.{all_of}
 use Rattle.sleep_run.specs.Called.{IsMade}
 use Rattle.sleep_run.specs.Firsts.{first_sources, CallsNext}
 use Rattle.sleep_run.specs.JobsOf.{JobsState, job_at, with_job, first_jobs}
@@ -51,13 +54,14 @@ pub told_same : (one other : EventNow) → Some one ≡ Some other → one ≡ o
 told_same one other e = cc
 
 -- at first nothing is done
-pub running_first : (m : Machine) (core : CoreState) (word : EventNow) (sources : List SourceState) (jobs : JobsState) (items : List Entry) → IsAccepted m → core ≡ record { machine = m; past = [] }
-    → word ≡ record { inpr = 0; count = 0; hard = 0 } → sources ≡ first_sources (length m.sources + 1) → jobs ≡ first_jobs m → items ≡ []
-    → IsRunning m (reverse items) core word sources jobs (record { pos = 0; tick = 0 })
-running_first m core word sources jobs items acc new none are own empty =
+pub running_first : (m : Machine) (core : CoreState) (word : EventNow) (sources : List SourceState) (jobs : JobsState) (others : List OtherEntry) → IsAccepted m → core ≡ record { machine = m; past = [] }
+    → word ≡ record { inpr = 0; count = 0; hard = 0 } → sources ≡ first_sources (length m.sources + 1) → jobs ≡ first_jobs m → others ≡ []
+    → IsRunning m (all_of core.past others) core word sources jobs (record { pos = 0; tick = 0 })
+running_first m core word sources jobs others acc new none are own empty =
     let past : core.past ≡ [] = ap (λ (c : CoreState). c.past) new in
     let last : last_stamp core.past ≡ record { pos = 0; tick = 0 } = ap last_stamp past in
-    subst (λ (xs : List Entry). IsRunning m (reverse xs) core word sources jobs (record { pos = 0; tick = 0 })) (sym empty)
+    let all : all_of core.past others ≡ [] = ap₂ all_of past empty in
+    subst (λ (xs : List Entry). IsRunning m xs core word sources jobs (record { pos = 0; tick = 0 })) (sym all)
     (record {
       accepted = acc;
       machine_is = ap (λ (c : CoreState). c.machine) new;
@@ -135,16 +139,12 @@ module _ (m : Machine) (past : List Entry) (core : CoreState) (word : EventNow) 
   pub none_left : (who : Actor) → IsActor m who → calls_made m past who ≡ calls_due m who (journal past) → (job_at jobs who).pending ≡ []
   none_left who a own = (all_made m who (journal past) (calls_made m past who) (job_at jobs who) (r.jobs_are.each who a)).1 own
 
-  shorter : (xs : List Entry) → length (journal xs) ≤ length xs
-  shorter [] = omega arith
-  shorter (e ∷ xs) = by_part (is_kept (part_of e.kind)) (shorter xs)
-    where
-      by_part : (b : Bool) → length (journal xs) ≤ length xs → length (cond b (e ∷ journal xs) (journal xs)) ≤ suc (length xs)
-      by_part true h = omega (arith, h)
-      by_part false h = omega (arith, h)
+  counted : (xs : List JournalEntry) → length (entries xs) ≡ length xs
+  counted [] = refl
+  counted (e ∷ xs) = ap suc (counted xs)
 
-  pub few_turns : (who : Actor) → IsActor m who → (job_at jobs who).turns ≤ length past
-  few_turns who a = omega (arith, (r.jobs_are.each who a).turns_are, turns_few who (journal past), shorter past)
+  pub few_turns : (who : Actor) → IsActor m who → (job_at jobs who).turns ≤ length core.past
+  few_turns who a = omega (arith, (r.jobs_are.each who a).turns_are, turns_few who (journal past), ap length r.journal_is, counted core.past)
 
   -- ---- a jump of time
 

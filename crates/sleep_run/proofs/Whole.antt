@@ -77,8 +77,3 @@ few_steps (call.Event ms hard) (Some t) = omega (arith, ends hard (ms == 0))
 
 pub few_entries : (s : ℕ) (c : SourceCall) (who : Actor) (time : ℕ) (word : EventNow) (own : List Entry) → length (source_call s c who time word own) ≤ 4
 few_entries s c who time word own = omega (arith, steps_length s who time word (makes c (since own)) (note_entry s c who time word ∷ []), few_steps c (since own))
-
--- entries that gain the tail of a history
-pub gained : (old kept new more : List Entry) (tail now : List SourceEntry) (n : ℕ) → new ≡ kept ++ map unstamped tail → kept ≡ old → tail ≡ drop n now → reverse (map unstamped (drop n now)) ≡ more → reverse new ≡ more ++ reverse old
-gained old kept new more tail now n added same is rest =
-    ap reverse added ∙ (reverse-append kept (map unstamped tail) ∙ (ap (λ xs. reverse (map unstamped tail) ++ reverse xs) same ∙ ap (λ xs. xs ++ reverse old) (ap (λ xs. reverse (map unstamped xs)) is ∙ rest)))

@@ -1,3 +1,4 @@
+pub mod AllEntries
 pub mod Called
 pub mod Firsts
 pub mod JobsOf

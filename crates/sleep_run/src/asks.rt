@@ -69,19 +69,11 @@ impl Asks {
         other.full = 0;
     }
 
-    /// Whether the number is in it.
-    pub(crate) fn has(&self, number: u32) -> bool {
-        match self.words.get((number / 64) as usize) {
-            Some(word) => *word & (1 << (number % 64)) != 0,
-            None => false,
-        }
-    }
-
     /// The first from a number on that is in it, of so many.
     pub(crate) fn next(&self, from: u32, many: u32) -> Option<u32>
         ensures { IfSome result (λ n. n < many) }
     {
-        if self.full < word_bit(from) {
+        if from >= many || self.full < word_bit(from) {
             return None;
         }
         let mut mask = u64::MAX << (from % 64);

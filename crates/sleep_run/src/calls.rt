@@ -7,9 +7,10 @@ ghost use Rattle.event_word.specs.Steps.{has_places};
 ghost use Rattle.wakeup_source.specs.SourceStates.{bare, latest};
 ghost use Rattle.wakeup_source.specs.Told.{source_call, word_after, MayCall};
 ghost use Rattle.sleep_run.specs.Called.{IsMade};
+ghost use Rattle.sleep_run.specs.AllEntries.{behind, ArePutBehind};
 
 use event_word::PlainEvents;
-use sleep_model::{Entry, SourceCall, SourceEntry, Stamp};
+use sleep_model::{OtherEntry, SourceCall, SourceEntry, Stamp};
 use std::sync::Wait;
 use wakeup_source::{CallBy, SourceFault, WakeSource};
 
@@ -41,41 +42,35 @@ fn make<R: Wait>(
     }
 }
 
-/// Appends an entry where there is room for it.
-pub(crate) fn append(entries: &mut Vec<Entry>, entry: Entry)
-    requires { vec_len entries.old < vec_capacity entries.old }
-    ensures items { entries.new.items ≡ entries.old.items ++ entry ∷ [] }
-    ensures room { vec_capacity entries.old ≤ vec_capacity entries.new }
-{
-    if entries.push(entry).is_err() {
-        unreachable!()
-    }
-}
-
-/// What stands behind so many entries.
-fn behind(history: &[SourceEntry], many: usize) -> &[SourceEntry]
+/// What a source made after so many entries.
+fn made_since(history: &[SourceEntry], many: usize) -> &[SourceEntry]
     requires { many ≤ length history.now }
     ensures { result.now ≡ drop many history.now }
 {
     &history[many..]
 }
 
-/// Appends entries of a source without their stamps, where there is room for them.
-fn append_all(entries: &mut Vec<Entry>, made: &[SourceEntry])
-    requires { vec_len entries.old + length made.now ≤ vec_capacity entries.old }
-    ensures { entries.new.items ≡ entries.old.items ++ map (λ e. e.entry) made.now }
+/// Puts entries of a source, without their stamps, behind so many of a journal, where there is room for them.
+fn put_behind(others: &mut Vec<OtherEntry>, made: &[SourceEntry], before: usize)
+    requires { vec_len others.old + length made.now ≤ vec_capacity others.old }
+    ensures { others.new.items ≡ others.old.items ++ behind before made.now }
 {
     for one in made {
-        append(entries, one.entry);
+        let entry = one.entry;
+        if others.push(OtherEntry { before, entry }).is_err() {
+            unreachable!()
+        }
     }
 }
 
-/// A whole call on a source, whose entries go behind all others. After an error nothing has changed.
+/// A whole call on a source, whose entries go behind all others and so many of the journal. After an error
+/// nothing has changed.
 pub(crate) fn make_whole<R: Wait>(
     rt: &R,
     source: &mut WakeSource<60000>,
     events: &mut PlainEvents,
-    entries: &mut Vec<Entry>,
+    others: &mut Vec<OtherEntry>,
+    before: usize,
     by: CallBy,
     call: SourceCall,
 ) -> Result<Stamp, SourceFault>
@@ -84,15 +79,15 @@ pub(crate) fn make_whole<R: Wait>(
     requires can { has_places events.old (makes call (since (bare source.old.past))) ≡ true }
     requires may { MayCall call (bare source.old.past) by.now }
     ensures made { IfOk result (IsMade by call events.old events.new source.old source.new) }
-    ensures entries { OnOk result (reverse entries.new.items
-        ≡ source_call source.old.id call by.actor by.now events.old (bare source.old.past) ++ reverse entries.old.items) }
+    ensures entries { OnOk result (ArePutBehind before
+        (source_call source.old.id call by.actor by.now events.old (bare source.old.past)) others.old.items others.new.items) }
     ensures room { OnOk result (length source.old.past + 4 ≤ most_entries) }
     ensures full { result ≡ Err SourceFault.Full → most_entries < length source.old.past + 4 }
-    ensures err { OnErr result ((source.new ≡ source.old) × (events.new ≡ events.old) × (entries.new.items ≡ entries.old.items)) }
+    ensures err { OnErr result ((source.new ≡ source.old) × (events.new ≡ events.old) × (others.new.items ≡ others.old.items)) }
 {
-    entries.reserve(4)?;
-    let before = source.history().len();
+    others.reserve(4)?;
+    let made = source.history().len();
     let stamp = make(rt, source, events, by, call)?;
-    append_all(entries, behind(source.history(), before));
+    put_behind(others, made_since(source.history(), made), before);
     Ok(stamp)
 }

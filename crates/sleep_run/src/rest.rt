@@ -4,13 +4,10 @@ ghost use Rattle.std.specs.Prelude.{◌≡◌, ◌≤◌, ◌<◌, ◌^◌, ◌+
 ghost use Rattle.sleep_run.specs.Waits.{waits_of, all_stats};
 ghost use Rattle.wakeup_source.specs.SourceStates.{bare, latest};
 
-use crate::calls::append;
 use crate::run::{Run, RunFault, wait_unless};
 use event_word::Events;
 use sleep_base::Mem;
-use sleep_model::{
-    Actor, Due, Entry, EntryList, EventNow, Kind, ListOf, Log, LogEnd, Stats, Waiting,
-};
+use sleep_model::{Actor, Due, EntryList, EventNow, ListOf, Log, LogEnd, Stats, Waiting};
 use std::alloc::{AllocError, Global};
 use std::sync::Wait;
 use wakeup_source::WakeSource;
@@ -56,11 +53,11 @@ fn push_waiting(those: &mut Vec<Waiting>, script: u32, due: Due) -> Result<(), A
 }
 
 /// The log of these entries.
-fn log_of(entries: Vec<Entry>, stats: Vec<Stats>, end: LogEnd) -> Log
-    ensures { result ≡ record { entries = entries.items; stats = stats.items; end = end } }
+fn log_of(entries: EntryList, stats: Vec<Stats>, end: LogEnd) -> Log
+    ensures { result ≡ record { entries = entries; stats = stats.items; end = end } }
 {
     Log {
-        entries: EntryList::of_vec(entries),
+        entries,
         stats: ListOf::of_vec(stats),
         end,
     }
@@ -129,18 +126,8 @@ impl<'m> Run<'m> {
         ensures fault { IfErr result (Fails self.old.machine) }
     {
         wait_unless(rt, to <= LAST_MOMENT && self.floor.tick < u64::MAX);
-        self.entries.reserve(1)?;
         let now = self.events.look();
         self.floor = self.core.jump(now, to, self.floor)?;
-        append(
-            &mut self.entries,
-            Entry {
-                time: to,
-                now,
-                actor: Actor::Time,
-                kind: Kind::Jump,
-            },
-        );
         self.waiters.stir_time(to);
         Ok(())
     }
@@ -207,11 +194,11 @@ impl<'m> Run<'m> {
     }
 
     /// All entries, in the order in which they were made.
-    fn into_entries(self) -> Vec<Entry>
-        ensures { reverse result.items ≡ self.entry.past }
+    fn into_entries(self) -> EntryList
+        ensures { reverse result ≡ self.entry.past }
     {
-        let Run { entries, .. } = self;
-        entries
+        let Run { core, others, .. } = self;
+        EntryList::of_parts(core.into_journal(), others)
     }
 
     /// How a run that is over ended, and the statistics of all sources then.

@@ -5,15 +5,15 @@ ghost use Rattle.sleep_run.specs.declared.run.RunFault.TheVariants as fault;
 ghost use Rattle.sleep_model.specs.Accepted.{IsAccepted};
 ghost use Rattle.sleep_run.specs.Firsts.{first_sources, run_fault};
 
-use crate::calls::{append, make_whole};
+use crate::calls::make_whole;
 use crate::jobs::Jobs;
 use crate::waiters::Waiters;
 use answer_book::AnswerBook;
 use device_links::Links;
-use event_word::{Events, PlainEvents};
+use event_word::PlainEvents;
 use sleep_base::Mem;
 use sleep_core::{Core, CoreFault, CoreTurn};
-use sleep_model::{Actor, Entry, Kind, Log, Machine, SourceCall, Stamp, Why};
+use sleep_model::{Actor, Kind, Log, Machine, OtherEntry, Phase, SourceCall, Stamp, Why};
 use std::alloc::{AllocError, Global};
 use std::marker::Model;
 use std::sync::Wait;
@@ -78,8 +78,8 @@ pub(crate) struct Run<'m> {
     pub(crate) machine: &'m Machine,
     pub(crate) core: Core<'m>,
     pub(crate) events: PlainEvents,
-    /// All entries, the sources' too, in the order in which they were made.
-    pub(crate) entries: Vec<Entry>,
+    /// The sources' entries, each behind as many of the core's journal as it says.
+    pub(crate) others: Vec<OtherEntry>,
     /// The wakeup sources, `autosleep` last.
     pub(crate) sources: Vec<WakeSource<60000>>,
     pub(crate) jobs: Jobs<'m>,
@@ -148,23 +148,33 @@ fn fault_of(fault: SourceFault, source: u32) -> RunFault
     }
 }
 
-/// After an entry: the devices that may have something to do by it. One may that waited for a device right below
-/// it on the way down, or right above it on the way up, and now waits for none.
+/// After an entry: the asynchronous devices that may have something to do by it. One may that is given out and waits
+/// for none: at once, or once the last is through that it waited for, right below it on the way down, right
+/// above it on the way up. A device that is through has nothing to do.
 fn stir_devices(core: &Core<'_>, waiters: &mut Waiters, kind: Kind) {
-    let (Kind::End(phase, device, _) | Kind::Skip(phase, device, _)) = kind else {
-        return;
-    };
     if waiters.are_in_step() {
         return;
     }
-    let waiting = if phase.is_down() {
-        core.above(device)
-    } else {
-        core.below(device)
-    };
-    for other in waiting {
-        if waiters.is_beside(*other) && core.is_free(phase, *other) {
-            waiters.stir_device(*other);
+    match kind {
+        Kind::Schedule(phase, device) => stir_ready(core, waiters, phase, &[device]),
+        Kind::End(phase, device, _) | Kind::Skip(phase, device, _) => {
+            waiters.device_waits(device);
+            let waiting = if phase.is_down() {
+                core.above(device)
+            } else {
+                core.below(device)
+            };
+            stir_ready(core, waiters, phase, waiting);
+        }
+        _ => {}
+    }
+}
+
+/// Those of these devices are asked that are given out in that phase and wait for none.
+fn stir_ready(core: &Core<'_>, waiters: &mut Waiters, phase: Phase, devices: &[u32]) {
+    for device in devices {
+        if core.is_ready(phase, *device) {
+            waiters.stir_device(*device);
         }
     }
 }
@@ -192,20 +202,20 @@ impl<'m> Run<'m> {
         sources: Vec<WakeSource<60000>>,
         jobs: Jobs<'m>,
         waiters: Waiters,
-        entries: Vec<Entry>,
+        others: Vec<OtherEntry>,
     ) -> Self
         requires accepted { IsAccepted machine.now }
         requires core { core ≡ record { machine = machine.now; past = [] } }
         requires sources { sources.items ≡ first_sources (length machine.now.sources + 1) }
         requires jobs { jobs ≡ first_jobs machine.now }
-        requires entries { entries.items ≡ [] }
+        requires others { others.items ≡ [] }
         ensures { result ≡ record { machine = machine.now; past = [] } }
     {
         Run {
             machine,
             core,
             events: PlainEvents::new(),
-            entries,
+            others,
             sources,
             jobs,
             floor: Stamp { pos: 0, tick: 0 },
@@ -229,8 +239,8 @@ impl<'m> Run<'m> {
         let jobs = Jobs::new(alloc, machine, book)?;
         let waiters = all_waiters(alloc, machine)?;
         let core = Core::new(alloc, machine, links)?;
-        let entries = Vec::new(alloc);
-        Ok(Run::of_parts(machine, core, sources, jobs, waiters, entries))
+        let others = Vec::new(alloc);
+        Ok(Run::of_parts(machine, core, sources, jobs, waiters, others))
     }
 
     /// An actor makes the call on a source that is next, as a whole: its note, and all steps that it makes.
@@ -252,8 +262,10 @@ impl<'m> Run<'m> {
             floor: self.floor,
             now: self.core.time(),
         };
+        let before = self.core.len();
         let one = &mut self.sources[source as usize];
-        match make_whole(rt, one, &mut self.events, &mut self.entries, by, call) {
+        let others = &mut self.others;
+        match make_whole(rt, one, &mut self.events, others, before, by, call) {
             Ok(stamp) => {
                 self.floor = stamp;
                 self.jobs.told_call(who, stamp);
@@ -277,15 +289,11 @@ impl<'m> Run<'m> {
             floor: self.floor,
             now: self.core.time(),
         };
+        let before = self.core.len();
         let one = &mut self.sources[source as usize];
-        match make_whole(
-            rt,
-            one,
-            &mut self.events,
-            &mut self.entries,
-            by,
-            SourceCall::Expire,
-        ) {
+        let others = &mut self.others;
+        let call = SourceCall::Expire;
+        match make_whole(rt, one, &mut self.events, others, before, by, call) {
             Ok(stamp) => {
                 self.floor = stamp;
                 self.waiters.stir_word();
@@ -310,8 +318,9 @@ impl<'m> Run<'m> {
         ensures machine { self.new.machine ≡ self.old.machine }
         ensures after { AfterAsking self.old self.new result }
     {
+        // A journal is shorter than 2^63, so the job's number of turns stays in its range.
+        let _made = self.core.len();
         let calls = self.jobs.calls(who);
-        self.entries.reserve(1)?;
         let time = self.core.time();
         let turn = self
             .core
@@ -322,16 +331,6 @@ impl<'m> Run<'m> {
                 kind,
                 attempt,
             } => {
-                let now = self.events.look();
-                append(
-                    &mut self.entries,
-                    Entry {
-                        time,
-                        now,
-                        actor: who,
-                        kind,
-                    },
-                );
                 self.floor = stamp;
                 self.jobs.told_turn(who, stamp, kind, attempt);
                 self.heed(kind);

@@ -164,11 +164,6 @@ impl Waiters {
         self.beside.is_empty()
     }
 
-    /// Whether the device is asynchronous.
-    pub(crate) fn is_beside(&self, device: u32) -> bool {
-        self.beside.has(device)
-    }
-
     /// An asynchronous device may have something to do.
     pub(crate) fn stir_device(&mut self, device: u32) {
         self.devices.insert(device);
@@ -246,7 +241,6 @@ impl Waiters {
             Kind::Freeze(_) | Kind::Thaw(_) | Kind::Wake { .. } => self.stir_scripts(),
             Kind::Frozen | Kind::Exit => self.stir_word(),
             Kind::End(_, device, _) | Kind::Skip(_, device, _) => self.stir_maker(device),
-            Kind::Schedule(_, device) => self.stir_device(device),
             _ => {}
         }
     }

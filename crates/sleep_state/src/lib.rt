@@ -2,13 +2,11 @@
 #![tactic(auto)]
 
 mod devices;
-mod journal;
 mod path;
 mod tasks;
 #[cfg(test)]
 mod tests;
 
 pub use devices::Devices;
-pub use journal::Journal;
 pub use path::{Path, behind, busy_error};
 pub use tasks::Tasks;

@@ -1,8 +1,8 @@
 use super::*;
 use sleep_base::Errno;
 use sleep_model::{
-    Actor, Device, DeviceFlags, Entry, EventNow, FrozeEnd, Group, JournalEntry, Kind, Name, Phase,
-    PlatDo, PlatUndo, SkipCause, Stage, Stamp, Thaw,
+    Actor, Device, DeviceFlags, FrozeEnd, Group, Kind, Name, Phase, PlatDo, PlatUndo, SkipCause,
+    Stage, Thaw,
 };
 use std::alloc::Global;
 use std::test::Fail;
@@ -211,36 +211,6 @@ fn devices_keep_what_they_answer(rt: HostRuntime) -> Result<(), Fail> {
     };
     devices.note(ask, TASK);
     assert!(rt; !devices.statuses().is_set(1));
-    Ok(())
-}
-
-/// A journal gives its entries back, the oldest first, and takes one where a place is reserved.
-#[test]
-fn a_journal_keeps_its_entries(rt: HostRuntime) -> Result<(), Fail> {
-    let mut journal = Journal::new(rt.alloc());
-    journal.reserve(2)?;
-    for time in [10, 20] {
-        assert!(rt; journal.room() > 0);
-        let now = EventNow {
-            inpr: 0,
-            count: 0,
-            hard: 0,
-        };
-        let entry = Entry {
-            time,
-            now,
-            actor: TASK,
-            kind: Kind::Pass,
-        };
-        let stamp = Stamp { pos: 0, tick: 0 };
-        journal.put(JournalEntry { stamp, entry });
-    }
-    assert_eq!(rt; journal.len(), 2);
-    let entries = journal.into_entries();
-    for (at, time) in [(0, 10), (1, 20)] {
-        assert!(rt; at < entries.len());
-        assert_eq!(rt; entries[at].entry.time, time);
-    }
     Ok(())
 }
 

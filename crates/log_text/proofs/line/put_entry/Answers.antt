@@ -1,9 +1,15 @@
--- The parts that were written, one after another.
-use Rattle.std.proofs.Common.{append_assoc}
+-- The pieces are the line.
+use Rattle.std.proofs.Common.{◌≡◌, ◌++◌, ℕ, List, OnOk, subst, refl}
+use Rattle.log_text.specs.Front.{front_text}
+use Rattle.log_text.proofs.DeviceLines.{device_line}
 use Rattle.log_text.proofs.line.put_entry.Goals as goal
 
 pub returns : goal.returns
 returns c =
-    rw
-    (c.in_ok-write_to-2.ensures, c.in_ok-put_body.ensures, c.in_ok-put_maker.ensures, c.in_ok-write_to.ensures, c.text.ensures, c.requires.time, c.requires.word)
-    (simp append_assoc)
+    let e = c.args.entry in
+    let words = c.in-Some-device_words.words in
+    let front : c.text.result.now ≡ front_text e.time e.now = rw (c.text.ensures, c.requires.time, c.requires.word) refl in
+    subst (λ (line : List ℕ). OnOk c.push_line.result (c.push_line.new.self ≡ c.args.out.now ++ line))
+    (device_line c.args.names.now e words.device c.text.result.now c.in-Some.maker.now words.verb words.phase c.in-Some-device.device.now words.behind
+    front c.in-Some.ensures c.in-Some-device.ensures (c.in-Some-device_words.ensures c.args.names.now))
+    c.push_line.ensures

@@ -8,8 +8,8 @@ use Rattle.log_text.proofs.read.read_entries.Given as goal
 -- the entries so far are the text up to what is left, and the first bad line is the first bad one there
 abbrev pub invariant-loop-line : goal.invariant-loop-line
 invariant-loop-line l =
-    (l.bytes ≡ flat_map (entry_line l.book) l.entries.items ++ l.left)
-    × (list_all (fits_entry l.book) l.entries.items ≡ true)
+    (l.bytes ≡ flat_map (entry_line l.book) l.entries ++ l.left)
+    × (list_all (fits_entry l.book) l.entries ≡ true)
     × ((n : ℕ) → IsBadEntry l.book (lines l.left) l.number n → IsBadEntry l.book (lines l.bytes) 1 n)
 
 abbrev pub decreases-loop-line : goal.decreases-loop-line

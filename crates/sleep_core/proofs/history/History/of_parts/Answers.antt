@@ -2,7 +2,8 @@
 use Rattle.std.proofs.Common.{◌≡◌, ◌∙◌, [], sym, ap, arith}
 use Rattle.sleep_model.specs.Numbers.{time_of}
 use Rattle.async_board.proofs.Told.{board_first}
-use Rattle.sleep_state.specs.Places.{Places, entries}
+use Rattle.sleep_model.specs.Journals.{Places}
+use Rattle.sleep_state.specs.Places.{entries}
 use Rattle.sleep_core.specs.Histories.{last_stamp, guard_of, path_of, devices_of, board_of, tasks_of, freezer_of, autosleep_of, steps_of, parts_of}
 use Rattle.sleep_core.proofs.Freezing.{freezer_first}
 use Rattle.sleep_core.proofs.history.History.of_parts.Goals as goal

@@ -7,6 +7,6 @@ use Rattle.sleep_run.proofs.run.Run.into_log.Goals as goal
 
 pub returns-in-Ok : goal.returns-in-Ok
 returns-in-Ok c =
-    let accepted = subst (λ (s : RunState). IsAccepted s.machine) c.self.view_is c.self.invariant.accepted in
-    let legal = subst (λ (s : RunState). IsLegal s.machine s.past) c.self.view_is c.self.invariant.legal in
-    run_is c.args.self c.into_entries.result.items c.in-Ok.stats.items c.in-Ok.end _ accepted legal c.into_entries.ensures c.in-Ok.ensures.stats c.in-Ok.ensures.end c.log_of.ensures
+    let accepted = subst (λ (s : RunState). IsAccepted s.machine) c.self.view_is c.self.invariant.0.accepted in
+    let legal = subst (λ (s : RunState). IsLegal s.machine s.past) c.self.view_is c.self.invariant.0.legal in
+    run_is c.args.self c.into_entries.result c.in-Ok.stats.items c.in-Ok.end _ accepted legal c.into_entries.ensures c.in-Ok.ensures.stats c.in-Ok.ensures.end c.log_of.ensures

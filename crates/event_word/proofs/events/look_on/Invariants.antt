@@ -1,6 +1,6 @@
 use Rattle.std.proofs.Common.{◌≡◌, ◌≤◌}
 use Rattle.event_word.specs.Looks.{HasGrown}
-use Rattle.event_word.proofs.events.look_from.Given as goal
+use Rattle.event_word.proofs.events.look_on.Given as goal
 
 abbrev pub invariant-loop : goal.invariant-loop
 invariant-loop g l = record {

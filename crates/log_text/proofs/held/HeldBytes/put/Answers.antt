@@ -1,0 +1,11 @@
+-- The bytes stand behind those that were held.
+use Rattle.std.proofs.Common.{◌≤◌, length, sym, arith}
+use Rattle.log_text.proofs.Holding.{held_bytes}
+use Rattle.log_text.proofs.held.HeldBytes.put.Goals as goal
+
+pub returns : goal.returns
+returns c =
+    let within : c.self.inside.used ≤ length c.self.inside.room = omega (arith, c.self.invariant, c.self.told) in
+    rw
+    (c.copy_from_slice.ensures.after, sym c.self.view_is)
+    (held_bytes c.self.inside.room c.args.bytes.now c.self.inside.used _ within)

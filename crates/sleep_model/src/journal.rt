@@ -1,0 +1,186 @@
+//! The journal of a machine, kept short: entries in a row mostly share their moment and the word.
+
+ghost use Rattle.std.specs.Prelude.{◌≡◌, ◌≤◌, ◌<◌, ◌+◌, ◌^◌, IfSome, length, vec_len, vec_capacity};
+ghost use Rattle.sleep_model.specs.Journals.{IsShared, IsFound, IsOf, entry_of, moment_at};
+
+use crate::entry::{Actor, Entry, JournalEntry, Kind};
+use crate::word::{EventNow, Stamp};
+use std::alloc::{AllocError, Global};
+use std::marker::Model;
+
+/// When entries in a row were made, in ms, the word that they saw, and the stamp of the first.
+#[derive(Clone, Copy)]
+pub(crate) struct Moment {
+    time: u64,
+    now: EventNow,
+    stamp: Stamp,
+}
+
+/// An entry: the number of its moment, how many ticks it stands behind that moment's first, who made it,
+/// and what it was.
+#[derive(Clone, Copy)]
+pub(crate) struct Made {
+    moment: u32,
+    ticks: u32,
+    actor: Actor,
+    kind: Kind,
+}
+
+/// The entries made so far, with places reserved for more. Contracts see the entries, the newest first.
+#[derive(Drop)]
+pub struct Journal {
+    moments: Vec<Moment>,
+    made: Vec<Made>,
+    room: usize,
+}
+
+impl Model for Journal {
+    ghost use Rattle.sleep_model.specs.Journals.{Places};
+
+    ghost Value = { Places };
+
+    ghost use Rattle.sleep_model.specs.JournalFields.{places, AreKept};
+
+    ghost view = { places };
+
+    ghost invariant = { AreKept };
+}
+
+/// How many ticks an entry stands behind the first of that moment, if it is of that moment.
+#[inline(always)]
+fn ticks_behind(moment: Moment, one: JournalEntry) -> Option<u32>
+    ensures { IfSome result (λ ticks. IsShared moment one ticks) }
+{
+    let JournalEntry { stamp, entry } = one;
+    if moment.time != entry.time || moment.now != entry.now || moment.stamp.pos != stamp.pos {
+        return None;
+    }
+    let ticks = stamp.tick.checked_sub(moment.stamp.tick)?;
+    if ticks > u64::from(u32::MAX) {
+        return None;
+    }
+    Some(ticks as u32)
+}
+
+/// The entry's moment, the last or a new one, and how many ticks the entry stands behind its first.
+#[inline(always)]
+#[tactic(auto, using(crate::proofs::Journals::found_last, crate::proofs::Journals::found_new))]
+fn found(moments: &mut Vec<Moment>, one: JournalEntry) -> (u32, u32)
+    requires room { vec_len moments.old < vec_capacity moments.old }
+    requires few { length moments.old.items + 1 < 2 ^ 32 }
+    ensures found { IsFound one moments.old.items moments.new.items result.0 result.1 }
+    ensures len { vec_len moments.new ≤ vec_len moments.old + 1 }
+    ensures capacity { vec_capacity moments.new ≡ vec_capacity moments.old }
+    ensures small { one.stamp.tick < 2 ^ 64 }
+{
+    let count = moments.len();
+    if count > 0 {
+        if let Some(ticks) = ticks_behind(moments[count - 1], one) {
+            return (count as u32 - 1, ticks);
+        }
+    }
+    moments.push_reserved(Moment {
+        time: one.entry.time,
+        now: one.entry.now,
+        stamp: one.stamp,
+    });
+    (count as u32, 0)
+}
+
+/// The entry that was made so.
+#[inline(always)]
+pub(crate) fn entry_at(moments: &[Moment], made: &Made) -> JournalEntry
+    requires { IsOf moments.now made.now }
+    ensures { result ≡ entry_of (moment_at moments.now made.now.moment) made.now }
+{
+    let Moment { time, now, stamp } = moments[made.moment as usize];
+    JournalEntry {
+        stamp: Stamp {
+            pos: stamp.pos,
+            tick: stamp.tick + u64::from(made.ticks),
+        },
+        entry: Entry {
+            time,
+            now,
+            actor: made.actor,
+            kind: made.kind,
+        },
+    }
+}
+
+impl Journal {
+    ghost use Rattle.std.specs.Prelude.{◌≡◌, ◌≤◌, ◌<◌, ◌+◌, ◌-◌, ◌^◌, [], ◌∷◌, length, reverse, IsOk, OnOk, OnErr};
+    ghost use Rattle.sleep_model.specs.Journals.{items_of, AreOf};
+
+    /// An empty journal without a reserved place.
+    pub fn new(alloc: Global) -> Self
+        ensures { result ≡ record { past = []; room = 0 } }
+    {
+        Journal {
+            moments: Vec::new(alloc),
+            made: Vec::new(alloc),
+            room: 0,
+        }
+    }
+
+    /// Sees that at least so many places are reserved. After an error nothing has changed.
+    pub fn reserve(&mut self, places: usize) -> Result<(), AllocError>
+        ensures past { self.new.past ≡ self.old.past }
+        ensures room { self.old.room ≤ self.new.room }
+        ensures ok { OnOk result (places ≤ self.new.room) }
+        ensures enough { places ≤ self.old.room → IsOk result }
+        ensures err { OnErr result (self.new ≡ self.old) }
+    {
+        if self.room < places {
+            // A moment's number has to fit.
+            if u32::MAX as usize - self.moments.len() <= places {
+                return Err(AllocError);
+            }
+            self.moments.reserve(places)?;
+            self.made.reserve(places)?;
+            self.room = places;
+        }
+        Ok(())
+    }
+
+    /// How many entries there are. A vector has fewer than 2^63.
+    pub fn len(&self) -> usize
+        ensures len { result ≡ length self.now.past }
+        ensures small { result < 2 ^ 63 }
+    {
+        self.made.len()
+    }
+
+    /// How many places are reserved.
+    pub fn room(&self) -> usize
+        ensures room { result ≡ self.now.room }
+        ensures small { result < 2 ^ 63 }
+    {
+        self.room
+    }
+
+    /// Appends an entry in a reserved place.
+    #[inline(always)]
+    pub fn put(&mut self, one: JournalEntry)
+        requires { 0 < self.old.room }
+        ensures { self.new ≡ record { past = one ∷ self.old.past; room = self.old.room - 1 } }
+    {
+        let (moment, ticks) = found(&mut self.moments, one);
+        let Entry { actor, kind, .. } = one.entry;
+        self.made.push_reserved(Made {
+            moment,
+            ticks,
+            actor,
+            kind,
+        });
+        self.room -= 1;
+    }
+
+    /// The moments, and the entries of them, the oldest first.
+    pub(crate) fn parts(&self) -> (&[Moment], &[Made])
+        ensures items { items_of result.0.now result.1.now ≡ reverse self.now.past }
+        ensures kept { AreOf result.0.now result.1.now }
+    {
+        (self.moments.as_slice(), self.made.as_slice())
+    }
+}
