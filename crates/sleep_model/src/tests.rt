@@ -47,12 +47,12 @@ fn flags_are_told_apart(rt: HostRuntime) {
     assert!(rt; !flags.contains(DeviceFlags::WAKEUP));
 }
 
-// An entry at that moment, with that stamp.
-fn entry_at(time: u64, pos: u64, tick: u64) -> JournalEntry {
+// An entry at that moment, behind so many hard events, with that tick.
+fn entry_at(time: u64, hard: u32, tick: u64) -> JournalEntry {
     let now = EventNow {
         inpr: 0,
         count: 0,
-        hard: pos as u32,
+        hard,
     };
     let entry = Entry {
         time,
@@ -60,7 +60,10 @@ fn entry_at(time: u64, pos: u64, tick: u64) -> JournalEntry {
         actor: Actor::Auto,
         kind: Kind::Pass,
     };
-    let stamp = Stamp { pos, tick };
+    let stamp = Stamp {
+        pos: u64::from(hard),
+        tick,
+    };
     JournalEntry { stamp, entry }
 }
 
@@ -70,9 +73,9 @@ fn entry_at(time: u64, pos: u64, tick: u64) -> JournalEntry {
 fn a_log_has_the_journal_and_the_others(rt: HostRuntime) -> Result<(), Fail> {
     let mut journal = Journal::new(rt.alloc());
     journal.reserve(4)?;
-    for (time, pos, tick) in [(10, 0, 1), (10, 0, 2), (10, 0, 1 << 40), (20, 1, 1 << 41)] {
+    for (time, hard, tick) in [(10, 0, 1), (10, 0, 2), (10, 0, 1 << 40), (20, 1, 1 << 41)] {
         assert!(rt; journal.room() > 0);
-        journal.put(entry_at(time, pos, tick));
+        journal.put(entry_at(time, hard, tick));
     }
     assert_eq!(rt; (journal.len(), journal.room()), (4, 0));
     let mut others = Vec::new(rt.alloc());
