@@ -218,17 +218,6 @@ impl Links {
         consumer == supplier || comes_to(&self.hanging, &self.order, consumer, supplier)
     }
 
-    /// The same links anew. `Mem` if there is no memory for them.
-    pub fn copy(&self) -> Result<Links, Mem>
-        ensures { IfOk result (λ l. l ≡ self.now) }
-    {
-        let alloc = *self.order.allocator();
-        match Links::with_links(alloc, &self.parents, &self.links)? {
-            Some(links) => Ok(links),
-            None => unreachable!(),
-        }
-    }
-
     // Why the link is refused before anything is walked.
     fn refusal(&self, supplier: u32, consumer: u32) -> Option<LinkFault>
         ensures { Refuses self.now supplier consumer result }

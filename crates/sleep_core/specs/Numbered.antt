@@ -15,7 +15,7 @@ pub record Leaves (m : Machine) (k : Kind) (past : List Entry) : Type 0 where
   pub runs : runs_after k (runs past) < 2 ^ 32
   pub marks : MarksAreSmall k (raised (length m.marks) past)
 
--- the entry raises such a number, or wants boards made anew: it begins an attempt, lets the work run, raises a mark, or changes links
+-- the entry raises such a number, or may want memory for a link: it begins an attempt, lets the work run, raises a mark, or changes links
 abbrev pub IsCounted : Kind → Type 0
 IsCounted (kind.Attempt n guarded) = Unit {0}
 IsCounted kind.AutoRun = Unit {0}
