@@ -4,13 +4,13 @@ use Rattle.std.specs.List.{range_with_len}
 use Rattle.std.proofs.lemmas.Bool.{eqb-true}
 use Rattle.std.proofs.lemmas.List.{append-nil, length-map, length-replicate}
 use Rattle.sleep_model.specs.declared.machine.Link.{Link}
-use Rattle.sleep_model.specs.Order.{is_among, is_parent, children_from, suppliers_of, parent_of, hanging, holding, EachAfterParent, moved, last_places, order_by}
-use Rattle.sleep_model.specs.Links.{AreLinks, first_places}
+use Rattle.sleep_model.specs.Order.{is_among, children_from, suppliers_of, parent_of, hanging, holding, EachAfterParent, order_by}
+use Rattle.sleep_model.specs.Links.{AreLinks, is_dependent}
 use Rattle.sleep_model.proofs.Hanging.{among_first, among_rest}
-use Rattle.sleep_model.proofs.Acyclic.{order_ranked, order_within, links_descend, hanging_within, others_same, moved_before}
-use Rattle.sleep_model.proofs.FirstPlaces.{first_places_push, first_children, first_parent, hanging_new, holding_new, holding_other, suppliers_new, suppliers_other, hangs_already, holds_already}
+use Rattle.sleep_model.proofs.Acyclic.{order_ranked, links_descend, hanging_within, others_same}
+use Rattle.sleep_model.proofs.FirstPlaces.{hanging_new, holding_new, holding_other, suppliers_new, suppliers_other}
 use Rattle.device_rows.specs.Table.{Table, row_at, places_at, hung}
-use Rattle.device_links.specs.Walks.{IsWalkable, IsWalked, AreMarks}
+use Rattle.device_links.specs.Walks.{IsWalkable, AreMarks}
 use Rattle.device_links.specs.Kept.{IsTableOf, IsKept, IsWhole, HavePlaces, near_below, near_above}
 use Rattle.device_links.specs.Passes.{is_left_out}
 use Rattle.device_links.specs.Adds.{IsOpen}
@@ -63,15 +63,15 @@ by_marks n marks ds m (x ∷ xs) h =
 
 -- with one more link
 pub kept_more : (ps : List (Option ℕ)) (ls : List Link) (hangs below suppliers above : List (List ℕ)) (order : List ℕ) → IsKept ps ls hangs below suppliers above order
-    → (l : Link) → IsOpen (record { parents = ps; links = ls }) l.supplier l.consumer → (found : List ℕ) (marks : List Bool) → IsWalked (length ps) (hanging ps ls) l.consumer l.supplier found marks
+    → (l : Link) → IsOpen (record { parents = ps; links = ls }) l.supplier l.consumer → is_dependent ps ls l.consumer l.supplier ≡ false → (order' : List ℕ) → order' ≡ order_by ps (l ∷ ls)
     → (left_out : Bool) → left_out ≡ is_left_out ps l
     → IsKept ps (l ∷ ls) (hung hangs (Some l.supplier) l.consumer) (cond left_out below (hung below (Some l.supplier) l.consumer)) (hung suppliers (Some l.consumer) l.supplier) (cond left_out above (hung above (Some l.consumer) l.supplier))
-    (filter (λ d. not (get_or marks d false)) order ++ found)
-kept_more ps ls hangs below suppliers above order k l open' found marks w left_out is = record {
+    order'
+kept_more ps ls hangs below suppliers above order k l open' missing order' ordered' left_out is = record {
   numbered = k.numbered;
   after = k.after;
   few = omega (arith, open'.few);
-  linked = (open'.stand.0, open'.stand.1, open'.new, w.missing, k.linked);
+  linked = (open'.stand.0, open'.stand.1, open'.new, missing, k.linked);
   all_hanging = table_push (length ps) (hanging ps ls) (hanging ps (l ∷ ls)) hangs k.all_hanging l.supplier l.consumer open'.stand.0 (hanging_new ps l ls) (λ d e. others_same ps k.after l ls d e);
   once_below = table_unless (length ps) (near_below ps ls) (near_below ps (l ∷ ls)) below k.once_below left_out l.supplier l.consumer open'.stand.0
       (below_here ps l ls open'.stand.1 open'.new ∙ ap (λ b. cond b (near_below ps ls l.supplier) (near_below ps ls l.supplier ++ l.consumer ∷ [])) (sym is))
@@ -80,11 +80,7 @@ kept_more ps ls hangs below suppliers above order k l open' found marks w left_o
   once_above = table_unless (length ps) (near_above ps ls) (near_above ps (l ∷ ls)) above k.once_above left_out l.consumer l.supplier open'.stand.1
       (above_here ps l ls open'.new ∙ ap (λ b. cond b (near_above ps ls l.consumer) (near_above ps ls l.consumer ++ l.supplier ∷ [])) (sym is))
       (λ d e. above_other ps l ls d e);
-  ordered =
-      ap (λ xs. filter (λ d. not (get_or marks d false)) xs ++ found) k.ordered
-      ∙ (ap (λ xs. xs ++ found) (by_marks (length ps) marks (moved (length ps) (hanging ps ls) l.consumer) w.marked (order_by ps ls) (order_within ps k.after ls k.linked))
-      ∙ (ap (λ xs. filter (λ d. not (is_among (moved (length ps) (hanging ps ls) l.consumer) d)) (order_by ps ls) ++ xs) w.places
-      ∙ ap (λ m. filter (λ d. not (is_among m d)) (order_by ps ls) ++ last_places m) (sym (moved_before ps k.after l ls w.missing))));
+  ordered = ordered';
 }
 
 -- the places, where the tables have no fewer

@@ -1,6 +1,7 @@
 mod Acyclicly
 mod InPlace
 mod Kept
+mod Moving
 mod Near
 mod Refilling
 mod RowsMade

@@ -1,6 +1,7 @@
 pub mod Adds
 pub mod Kept
 pub mod Linked
+pub mod Moves
 pub mod Passes
 pub mod Spread
 pub mod Walks

@@ -5,6 +5,7 @@ mod at_once;
 mod depends;
 mod env;
 mod fault;
+mod first;
 mod links;
 mod states;
 mod tables;

@@ -1,9 +1,11 @@
 ghost use Rattle.std.specs.Prelude.{◌≡◌, ◌<◌, ◌≤◌, ℕ, OnOk, Some, length, slice_index, if◌then◌else◌};
 ghost use Rattle.device_rows.specs.Table.{hung, places_at};
+ghost use Rattle.device_links.specs.Moves.{after_move};
 
 use crate::at_once::{Tables, tables_of};
 use crate::depends::comes_to;
 use crate::fault::{DevList, LinkFault};
+use crate::first::stands_first;
 use crate::states::{refill_above, refill_below, set_state};
 use crate::tables::{children_of, is_left_out, moved_last, parents_of, places_for, registered};
 use crate::visits::order_of;
@@ -51,7 +53,9 @@ impl Links {
     ghost use Rattle.device_links.specs.Walks.{Finds, IsWalked};
     ghost use Rattle.device_links.specs.Adds.{Adds, IsOpen, Lacks, Refuses, Sets, with_link, with_set};
     ghost use Rattle.device_links.specs.Kept.{near_below, near_above};
+    ghost use Rattle.device_links.specs.Moves.{Leaves, Moves, after_move};
     ghost use Rattle.device_links.specs.Passes.{Makes};
+    ghost use Rattle.std.specs.Bool.{OnTrue};
 
     /// Devices with these parents, in the order of their registration, and no links. `Mem` if
     /// there is no memory for them, or more of them than device numbers.
@@ -142,18 +146,14 @@ impl Links {
         if let Some(fault) = self.refusal(supplier, consumer) {
             return Err(fault);
         }
-        match self.find(supplier, consumer)? {
-            Found::Reached(path) => Err(LinkFault::Cycle(DevList::of_vec(path))),
-            Found::Passed(below, marks) => {
-                let link = Link {
-                    supplier,
-                    consumer,
-                    active,
-                };
-                self.put(link, &below, &marks)?;
-                Ok(())
-            }
-        }
+        let link = Link {
+            supplier,
+            consumer,
+            active,
+        };
+        let moved = self.moved_by(link)?;
+        self.put(link, moved)?;
+        Ok(())
     }
 
     /// Makes a link active or dormant (`struct device_link`, `status`). The order stays, and it takes
@@ -215,6 +215,9 @@ impl Links {
         requires { length self.now.parents ≤ 1024 }
         ensures { result ≡ is_dependent self.now.parents self.now.links consumer supplier }
     {
+        if stands_first(&self.order, supplier, consumer) {
+            return false;
+        }
         consumer == supplier || comes_to(&self.hanging, &self.order, consumer, supplier)
     }
 
@@ -258,17 +261,51 @@ impl Links {
         walk(*self.order.allocator(), &self.hanging, consumer, supplier)
     }
 
-    // Puts the link behind the others, and what the walk below its consumer found at the end of
-    // the order.
-    fn put(&mut self, link: Link, below: &[u32], marks: &[bool]) -> Result<(), Mem>
+    // Whether a link leaves the order as it is: the newest one has moved this consumer to its end, and the
+    // supplier stands before it. A device's driver mostly adds the links to all its suppliers in a row.
+    fn stays_by(&self, link: Link) -> bool
+        ensures { OnTrue result (Leaves self.now link (order_by self.now.parents self.now.links)) }
+    {
+        match self.links.last() {
+            Some(newest) if newest.consumer == link.consumer => {
+                stands_first(&self.order, link.supplier, link.consumer)
+            }
+            _ => false,
+        }
+    }
+
+    // The order in which a link has moved its consumer, and all that hangs below it, to the end; `None` where the
+    // order stays as it is.
+    fn moved_by(&self, link: Link) -> Result<Option<Vec<u32>>, LinkFault>
+        requires { link.consumer < length self.now.parents }
+        ensures { Moves self.now link result }
+    {
+        if self.stays_by(link) {
+            return Ok(None);
+        }
+        match self.find(link.supplier, link.consumer)? {
+            Found::Reached(path) => Err(LinkFault::Cycle(DevList::of_vec(path))),
+            Found::Passed(below, marks) => Ok(Some(self.moved_last(link, &below, &marks)?)),
+        }
+    }
+
+    // The order in which what a walk below the consumer found has moved to the end.
+    fn moved_last(&self, link: Link, below: &[u32], marks: &[bool]) -> Result<Vec<u32>, Mem>
+        requires { IsWalked (length self.now.parents)
+            (hanging self.now.parents self.now.links) link.consumer link.supplier below.now marks.now }
+        ensures { IfOk result (λ order. Leaves self.now link order.items) }
+    {
+        moved_last(*self.order.allocator(), &self.order, marks, below)
+    }
+
+    // Puts the link behind the others, and takes the order that it leaves where that is another.
+    fn put(&mut self, link: Link, moved: Option<Vec<u32>>) -> Result<(), Mem>
         requires open { IsOpen self.old link.supplier link.consumer }
-        requires walked { IsWalked (length self.old.parents)
-            (hanging self.old.parents self.old.links) link.consumer link.supplier below.now marks.now }
+        requires leaves { Leaves self.old link (after_move moved (order_by self.old.parents self.old.links)) }
         ensures ok { OnOk result
             (self.new ≡ record { parents = self.old.parents; links = link ∷ self.old.links }) }
         ensures err { OnErr result (self.new ≡ self.old) }
     {
-        let order = moved_last(*self.order.allocator(), &self.order, marks, below)?;
         let left_out = is_left_out(&self.parents, link);
         let most_below = places_for(&self.hanging, link.supplier);
         let most_above = places_for(&self.suppliers, link.consumer);
@@ -281,11 +318,20 @@ impl Links {
         self.suppliers.push(link.consumer, link.supplier);
         push_unless(&mut self.below, left_out, link.supplier, link.consumer);
         push_unless(&mut self.above, left_out, link.consumer, link.supplier);
-        self.order = order;
+        take_order(&mut self.order, moved);
         match self.links.push(link) {
             Ok(()) => Ok(()),
             Err(_) => unreachable!(),
         }
+    }
+}
+
+// Takes the order that a move left, if there was one.
+fn take_order(order: &mut Vec<u32>, moved: Option<Vec<u32>>)
+    ensures { order.new.items ≡ after_move moved order.old.items }
+{
+    if let Some(moved) = moved {
+        *order = moved;
     }
 }
 

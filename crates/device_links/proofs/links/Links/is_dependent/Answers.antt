@@ -2,9 +2,12 @@ use Rattle.std.proofs.Common.{◌≡◌, ◌≤◌, ◌∙◌, ◌==◌, ℕ, Li
 use Rattle.std.proofs.lemmas.Bool.{ne_eqb}
 use Rattle.sleep_model.specs.Links.{is_dependent}
 use Rattle.sleep_model.specs.Order.{hanging}
+use Rattle.std.specs.Bool.{OnTrue}
 use Rattle.device_links.specs.Linked.{Linked}
 use Rattle.device_links.specs.Spread.{spread}
 use Rattle.device_links.proofs.Kept.{hang_is}
+use Rattle.device_links.specs.Moves.{StandsFirst}
+use Rattle.device_links.proofs.Moving.{apart_by}
 use Rattle.device_links.proofs.Spreading.{comes}
 use Rattle.device_links.proofs.links.Links.is_dependent.Goals as goal
 
@@ -20,6 +23,18 @@ returns-else-consumer-supplier c =
     let apart : (from == to) ≡ false = ne_eqb from to (λ e. omega arith) in
     subst (λ (v : Linked). c.comes_to.result ≡ is_dependent v.parents v.links from to) c.self.view_is
     (c.comes_to.ensures
-    ∙ (ap (λ (hang : ℕ → List ℕ). get_or (spread hang c.deref.result.now (set (replicate 1024 false) from true)) to false) (hang_is ps ls old.hanging k.all_hanging)
-    ∙ (ap (λ (ds : List ℕ). get_or (spread (hanging ps ls) ds (set (replicate 1024 false) from true)) to false) (c.deref.ensures.value ∙ k.ordered)
+    ∙ (ap (λ (hang : ℕ → List ℕ). get_or (spread hang c.deref-else-consumer-supplier.result.now (set (replicate 1024 false) from true)) to false) (hang_is ps ls old.hanging k.all_hanging)
+    ∙ (ap (λ (ds : List ℕ). get_or (spread (hanging ps ls) ds (set (replicate 1024 false) from true)) to false) (c.deref-else-consumer-supplier.ensures.value ∙ k.ordered)
     ∙ comes ps k.after ls k.linked 1024 from to few apart)))
+
+pub returns-then-stands_first : goal.returns-then-stands_first
+returns-then-stands_first c =
+    let old = c.self.inside in
+    let k = c.self.invariant.kept in
+    let ps = old.parents.items in
+    let ls = reverse old.links.items in
+    let from = c.args.consumer in
+    let to = c.args.supplier in
+    let first = subst (λ (o : List ℕ). OnTrue c.stands_first.result (StandsFirst o to from)) (c.deref.ensures.value ∙ k.ordered) c.stands_first.ensures in
+    subst (λ (v : Linked). false ≡ is_dependent v.parents v.links from to) c.self.view_is
+    (sym (apart_by ps k.after ls k.linked to from c.stands_first.result first c.if-stands_first.true))

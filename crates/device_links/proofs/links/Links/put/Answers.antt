@@ -1,10 +1,10 @@
-use Rattle.std.proofs.Common.{◌≡◌, ◌≤◌, ℕ, List, arith, ◌++◌, ◌∷◌, ◌∙◌, [], Some, None, length, filter, not, get_or, cond, reverse, ap, sym, subst, refl, false}
+use Rattle.std.proofs.Common.{◌≡◌, ◌≤◌, ℕ, List, arith, ◌++◌, ◌∷◌, ◌∙◌, [], Some, length, cond, reverse, ap, sym, subst, refl}
 use Rattle.std.proofs.lemmas.List.{reverse-append}
 use Rattle.sleep_model.specs.declared.machine.Link.{Link}
-use Rattle.sleep_model.specs.Order.{hanging, holding}
+use Rattle.sleep_model.specs.Order.{hanging, holding, order_by}
 use Rattle.device_rows.specs.Table.{hung, places_at}
 use Rattle.device_links.specs.Linked.{Linked}
-use Rattle.device_links.specs.Walks.{IsWalked}
+use Rattle.device_links.specs.Moves.{Leaves, after_move}
 use Rattle.device_links.specs.Adds.{IsOpen}
 use Rattle.device_links.specs.Kept.{HavePlaces}
 use Rattle.device_links.specs.Passes.{is_left_out}
@@ -19,19 +19,17 @@ invariant_of-self-2 c =
     let l = c.args.link in
     let s = l.supplier in
     let d = l.consumer in
-    let marks = c.args.marks.now in
-    let found = c.args.below.now in
     let k = c.self.invariant.kept in
     let open' = subst (λ (v : Linked). IsOpen v s d) (sym c.self.view_is) c.requires.open in
-    let w = subst (λ (v : Linked). IsWalked (length v.parents) (hanging v.parents v.links) d s found marks) (sym c.self.view_is) c.requires.walked in
+    let leaves = subst (λ (v : Linked). Leaves v l (after_move c.args.moved (order_by v.parents v.links))) (sym c.self.view_is) c.requires.leaves in
     let left_out = c.is_left_out-left_out.result in
-    let is : left_out ≡ is_left_out ps l = c.is_left_out-left_out.ensures ∙ ap (λ qs. is_left_out qs l) c.deref-2.ensures.value in
+    let is : left_out ≡ is_left_out ps l = c.is_left_out-left_out.ensures ∙ ap (λ qs. is_left_out qs l) c.deref.ensures.value in
     let links : reverse c.push-3.new.self.items ≡ l ∷ ls = ap reverse (c.in-Ok.ensures.items ∙ ap (λ xs. xs ++ l ∷ []) c.reserve.ensures.items) ∙ reverse-append old.links.items (l ∷ []) in
     let hangs = c.push.ensures.rows ∙ ap (λ r. hung r (Some s) d) c.make_room.ensures.rows in
     let below = c.push_unless.ensures.rows ∙ ap (λ r. cond left_out r (hung r (Some s) d)) c.make_near.ensures.rows in
     let suppliers = c.push-2.ensures.rows ∙ ap (λ r. hung r (Some d) s) c.make_room-2.ensures.rows in
     let above = c.push_unless-2.ensures.rows ∙ ap (λ r. cond left_out r (hung r (Some d) s)) c.make_near-2.ensures.rows in
-    let order = c.in_ok-order.ensures ∙ ap (λ xs. filter (λ x. not (get_or marks x false)) xs ++ found) c.deref.ensures.value in
+    let order = c.take_order.ensures ∙ ap (after_move c.args.moved) k.ordered in
     let seen = c.push_unless.new.table in
     let seen' = c.push_unless-2.new.table in
     let more_below : (x : ℕ) → places_at old.below x ≤ places_at seen x = λ x. let p = c.make_near.ensures.places x in let q = c.push_unless.ensures.places x in omega (arith, p, q) in
@@ -45,6 +43,6 @@ invariant_of-self-2 c =
     let places : HavePlaces ps (reverse c.push-3.new.self.items) seen seen' =
     subst (λ (x : List Link). HavePlaces ps x seen seen') (sym links) (places_more ps k.after l ls old.below old.above seen seen' c.self.invariant.places more_below fits_below more_above fits_above) in
     record {
-      kept = kept_as refl (sym links) (sym hangs) (sym below) (sym suppliers) (sym above) (sym order) (kept_more ps ls old.hanging.rows old.below.rows old.suppliers.rows old.above.rows old.order.items k l open' found marks w left_out is);
+      kept = kept_as refl (sym links) (sym hangs) (sym below) (sym suppliers) (sym above) (sym order) (kept_more ps ls old.hanging.rows old.below.rows old.suppliers.rows old.above.rows old.order.items k l open' leaves.missing (after_move c.args.moved (order_by ps ls)) leaves.ordered left_out is);
       places = places;
     }
