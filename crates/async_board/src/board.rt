@@ -7,7 +7,7 @@ ghost use Rattle.async_board.specs.Walks.{IsLayout, IsSized, IsWalk, IsBelow, Is
 
 use crate::pick::{Look, Pick, first_picked, is_so, last_picked, stand_at};
 use crate::rows::{all_left_alone, count_at, first_low, first_unsettled, is_none};
-use crate::stand::{device_of, moves_by, stand_after, work_in};
+use crate::stand::{ended_by, skipped_for, work_in};
 use crate::walk::{Layout, Walk, fill_places, places_of, put};
 use device_links::Links;
 use sleep_base::Mem;
@@ -41,22 +41,6 @@ impl Model for Board {
     ghost invariant = { AreKept };
 }
 
-// Moves the device of an entry in a pair of phases.
-#[tactic(auto, using(crate::proofs::Stood::stands_stay))]
-fn move_by(walk: &mut Walk, layout: &Layout, p: Phase, kind: Kind, device: u32)
-    requires laid { IsLayout layout.now }
-    requires kept { IsWalk layout.now walk.old }
-    ensures stands { walk.new.stands.items
-        ≡ stands_after p kind (Some device) walk.old.stands.items }
-    ensures kept { IsWalk layout.now walk.new }
-{
-    let before = stand_at(&walk.stands, device);
-    let after = stand_after(p, kind, before);
-    if after != before {
-        put(walk, layout, device, before, after);
-    }
-}
-
 // Begins anew over links that have changed: no device is prepared.
 fn begin_anew(layout: &mut Layout, suspend: &mut Walk, late: &mut Walk, noirq: &mut Walk)
     requires places { length layout.old.places.items ≡ length layout.old.links.parents }
@@ -82,7 +66,7 @@ fn begin_anew(layout: &mut Layout, suspend: &mut Walk, late: &mut Walk, noirq: &
 impl Board {
     ghost use Rattle.std.specs.Prelude.{◌≡◌, ◌<◌, IfOk, OnOk, OnErr, None, is_none, length};
     ghost use Rattle.sleep_model.specs.Order.{links_added, links_set};
-    ghost use Rattle.async_board.specs.Boards.{first_board, board_after, stands_on, order_on, next_prepared_on, next_completed_on, next_down_on, waits_down_on, next_given_on, next_up_on, waits_up_on, waits_below_on, waits_above_on, open_below_on, open_above_on, all_left_alone_on, work_on};
+    ghost use Rattle.async_board.specs.Boards.{first_board, board_after, put_in_all, put_in, skip_in, stands_on, order_on, next_prepared_on, next_completed_on, next_down_on, waits_down_on, next_given_on, next_up_on, waits_up_on, waits_below_on, waits_above_on, open_below_on, open_above_on, all_left_alone_on, work_on};
 
     /// A board over these links, on which no device is prepared; `beside` says for each device
     /// whether it is asynchronous. `Mem` if there is no memory for it.
@@ -106,23 +90,64 @@ impl Board {
         })
     }
 
+    // Puts a device there in each pair of phases.
+    fn put_in_all(&mut self, device: u32, after: Stand)
+        ensures { self.new ≡ put_in_all device after self.old }
+    {
+        put(&mut self.suspend, &self.layout, device, after);
+        put(&mut self.late, &self.layout, device, after);
+        put(&mut self.noirq, &self.layout, device, after);
+    }
+
+    // Puts a device there, in the pair of phases that this one is of: on the way down or on the way up.
+    #[inline(always)]
+    #[tactic(auto, using(crate::proofs::Stood::stands_stay))]
+    fn put_in(&mut self, q: Phase, device: u32, down: Stand, up: Stand)
+        ensures { self.new ≡ put_in q device down up self.old }
+    {
+        match q {
+            Phase::Suspend => put(&mut self.suspend, &self.layout, device, down),
+            Phase::Late => put(&mut self.late, &self.layout, device, down),
+            Phase::Noirq => put(&mut self.noirq, &self.layout, device, down),
+            Phase::ResumeNoirq => put(&mut self.noirq, &self.layout, device, up),
+            Phase::Early => put(&mut self.late, &self.layout, device, up),
+            Phase::Resume => put(&mut self.suspend, &self.layout, device, up),
+            _ => (),
+        }
+    }
+
+    // Puts a device there that a phase on the way down skips.
+    #[tactic(auto, using(crate::proofs::Stood::stands_stay))]
+    fn skip_in(&mut self, q: Phase, device: u32, down: Stand)
+        ensures { self.new ≡ skip_in q device down self.old }
+    {
+        match q {
+            Phase::Suspend => put(&mut self.suspend, &self.layout, device, down),
+            Phase::Late => put(&mut self.late, &self.layout, device, down),
+            Phase::Noirq => put(&mut self.noirq, &self.layout, device, down),
+            _ => (),
+        }
+    }
+
     /// Takes down what an entry does to its device.
     #[tactic(auto, using(crate::proofs::Stood::stands_stay))]
     pub fn note(&mut self, kind: Kind)
         ensures { self.new ≡ board_after kind self.old }
     {
-        if let Some(device) = device_of(kind) {
-            let layout = &self.layout;
-            let moves = moves_by(kind);
-            if moves.suspend {
-                move_by(&mut self.suspend, layout, Phase::Suspend, kind, device);
+        match kind {
+            Kind::Prepare { device, r } => {
+                if r >= 0 {
+                    self.put_in_all(device, Stand::Prepared);
+                }
             }
-            if moves.late {
-                move_by(&mut self.late, layout, Phase::Late, kind, device);
+            Kind::Complete(device) => self.put_in_all(device, Stand::Unprepared),
+            Kind::Schedule(q, device) => {
+                self.put_in(q, device, Stand::Scheduled, Stand::Rescheduled)
             }
-            if moves.noirq {
-                move_by(&mut self.noirq, layout, Phase::Noirq, kind, device);
-            }
+            Kind::Begin(q, device) => self.put_in(q, device, Stand::Suspending, Stand::Resuming),
+            Kind::End(q, device, r) => self.put_in(q, device, ended_by(r), Stand::Resumed),
+            Kind::Skip(q, device, cause) => self.skip_in(q, device, skipped_for(cause)),
+            _ => (),
         }
     }
 

@@ -146,6 +146,7 @@ impl Walk {
 }
 
 // Whether the walk on the way down gives out no more: a device has failed since it was prepared.
+#[inline(always)]
 fn failed_after(after: Stand, before: bool) -> bool
     ensures { result ≡ failed_after after before }
 {
@@ -157,6 +158,7 @@ fn failed_after(after: Stand, before: bool) -> bool
 }
 
 // How many devices below each are not through, once this device has moved among those that stand so.
+#[inline(always)]
 #[tactic(auto, using(crate::proofs::Layouts::below_some))]
 fn move_below(
     counts: &mut Vec<usize>,
@@ -183,6 +185,7 @@ fn move_below(
 }
 
 // How many devices above each are not up, once this device has moved among those that stand so.
+#[inline(always)]
 #[tactic(auto, using(crate::proofs::Layouts::above_some))]
 fn move_above(
     counts: &mut Vec<usize>,
@@ -207,48 +210,108 @@ fn move_above(
     }
 }
 
-/// Moves a device from where it stands to where it stands from now on; nothing where there is no such
-/// device.
-pub(crate) fn put(walk: &mut Walk, layout: &Layout, device: u32, before: Stand, after: Stand)
+// Moves a device that stands there. Where the compiler knows both stands, what this move cannot change
+// is left out.
+#[inline(always)]
+fn move_device(walk: &mut Walk, layout: &Layout, device: u32, before: Stand, after: Stand)
     requires laid { IsLayout layout.now }
     requires kept { IsWalk layout.now walk.old }
+    requires within { device < length walk.old.stands.items }
     requires before { before ≡ stand_at walk.old.stands.items device }
     ensures stands { walk.new.stands.items ≡ slice_set walk.old.stands.items device after }
     ensures kept { IsWalk layout.now walk.new }
 {
     let number = device as usize;
-    if number < walk.stands.len() {
-        let links = &layout.links;
-        let order = links.order();
-        let moved = Moved {
-            place: layout.places[number],
-            before,
-            after,
-            beside: is_so(&layout.beside, device),
-        };
-        move_below(
-            &mut walk.open_below,
-            links,
-            &walk.stands,
-            device,
-            before,
-            after,
-        );
-        move_above(
-            &mut walk.open_above,
-            links,
-            &walk.stands,
-            device,
-            before,
-            after,
-        );
-        walk.failed = failed_after(after, walk.failed);
-        walk.stands[number] = after;
-        let look = Look {
-            order,
-            stands: walk.stands.as_slice(),
-            beside: layout.beside.as_slice(),
-        };
-        move_cursors(&mut walk.cursors, &look, moved, walk.failed);
+    let links = &layout.links;
+    let order = links.order();
+    let moved = Moved {
+        place: layout.places[number],
+        before,
+        after,
+        beside: is_so(&layout.beside, device),
+    };
+    move_below(
+        &mut walk.open_below,
+        links,
+        &walk.stands,
+        device,
+        before,
+        after,
+    );
+    move_above(
+        &mut walk.open_above,
+        links,
+        &walk.stands,
+        device,
+        before,
+        after,
+    );
+    walk.failed = failed_after(after, walk.failed);
+    walk.stands[number] = after;
+    let look = Look {
+        order,
+        stands: walk.stands.as_slice(),
+        beside: layout.beside.as_slice(),
+    };
+    move_cursors(&mut walk.cursors, &look, moved, walk.failed);
+}
+
+// Moves a device that stands there, by a move that is rare.
+#[inline(never)]
+fn move_otherwise(walk: &mut Walk, layout: &Layout, device: u32, before: Stand, after: Stand)
+    requires laid { IsLayout layout.now }
+    requires kept { IsWalk layout.now walk.old }
+    requires within { device < length walk.old.stands.items }
+    requires before { before ≡ stand_at walk.old.stands.items device }
+    ensures stands { walk.new.stands.items ≡ slice_set walk.old.stands.items device after }
+    ensures kept { IsWalk layout.now walk.new }
+{
+    move_device(walk, layout, device, before, after);
+}
+
+/// Moves a device from where it stands to where it stands from now on; nothing where there is no such
+/// device. The moves of an undisturbed attempt are told apart here, so that each pays for what it
+/// changes alone.
+pub(crate) fn put(walk: &mut Walk, layout: &Layout, device: u32, after: Stand)
+    requires laid { IsLayout layout.now }
+    requires kept { IsWalk layout.now walk.old }
+    ensures stands { walk.new.stands.items ≡ slice_set walk.old.stands.items device after }
+    ensures kept { IsWalk layout.now walk.new }
+{
+    if (device as usize) < walk.stands.len() {
+        let before = walk.stands[device as usize];
+        match (before, after) {
+            (Stand::Unprepared, Stand::Prepared) => {
+                move_device(walk, layout, device, Stand::Unprepared, Stand::Prepared)
+            }
+            (Stand::Prepared, Stand::Scheduled) => {
+                move_device(walk, layout, device, Stand::Prepared, Stand::Scheduled)
+            }
+            (Stand::Prepared, Stand::Suspending) => {
+                move_device(walk, layout, device, Stand::Prepared, Stand::Suspending)
+            }
+            (Stand::Scheduled, Stand::Suspending) => {
+                move_device(walk, layout, device, Stand::Scheduled, Stand::Suspending)
+            }
+            (Stand::Suspending, Stand::Suspended) => {
+                move_device(walk, layout, device, Stand::Suspending, Stand::Suspended)
+            }
+            (Stand::Suspended, Stand::Rescheduled) => {
+                move_device(walk, layout, device, Stand::Suspended, Stand::Rescheduled)
+            }
+            (Stand::Suspended, Stand::Resuming) => {
+                move_device(walk, layout, device, Stand::Suspended, Stand::Resuming)
+            }
+            (Stand::Rescheduled, Stand::Resuming) => {
+                move_device(walk, layout, device, Stand::Rescheduled, Stand::Resuming)
+            }
+            (Stand::Resuming, Stand::Resumed) => {
+                move_device(walk, layout, device, Stand::Resuming, Stand::Resumed)
+            }
+            (Stand::Resumed, Stand::Unprepared) => {
+                move_device(walk, layout, device, Stand::Resumed, Stand::Unprepared)
+            }
+            _ => move_otherwise(walk, layout, device, before, after),
+        }
     }
 }
