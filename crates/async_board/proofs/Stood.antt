@@ -88,20 +88,20 @@ module _ (beside : List Bool) (stands : List Stand) (order places : List ℕ) (d
 
 -- ---- the first stands
 
-fresh_stands : (n d : ℕ) → stand_at (replicate n stand.Unprepared) d ≡ stand.Unprepared
+pub fresh_stands : (n d : ℕ) → stand_at (replicate n stand.Unprepared) d ≡ stand.Unprepared
 fresh_stands zero d = refl
 fresh_stands (suc n) zero = refl
 fresh_stands (suc n) (suc d) = fresh_stands n d
 
-all_pass : (p : ℕ → Bool) (xs : List ℕ) → ((x : ℕ) → p x ≡ true) → filter p xs ≡ xs
+pub all_pass : (p : ℕ → Bool) (xs : List ℕ) → ((x : ℕ) → p x ≡ true) → filter p xs ≡ xs
 all_pass p [] h = refl
 all_pass p (x ∷ xs) h = ap (λ b. cond b (x ∷ filter p xs) (filter p xs)) (h x) ∙ ap (λ ys. x ∷ ys) (all_pass p xs h)
 
-none_pass : (p : ℕ → Bool) (xs : List ℕ) → ((x : ℕ) → p x ≡ false) → filter p xs ≡ []
+pub none_pass : (p : ℕ → Bool) (xs : List ℕ) → ((x : ℕ) → p x ≡ false) → filter p xs ≡ []
 none_pass p [] h = refl
 none_pass p (x ∷ xs) h = ap (λ b. cond b (x ∷ filter p xs) (filter p xs)) (h x) ∙ none_pass p xs h
 
-zeros : (n d : ℕ) → get_or {A = ℕ} (replicate n 0) d 0 ≡ 0
+pub zeros : (n d : ℕ) → get_or {A = ℕ} (replicate n 0) d 0 ≡ 0
 zeros zero d = refl
 zeros (suc n) zero = refl
 zeros (suc n) (suc d) = zeros n d

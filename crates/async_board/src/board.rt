@@ -3,7 +3,7 @@ ghost use Rattle.sleep_model.specs.Stands.{stand_at, stands_after, device_of};
 ghost use Rattle.sleep_model.specs.Walk.{is_so};
 ghost use Rattle.async_board.specs.Cursors.{AreCursors};
 ghost use Rattle.sleep_model.specs.declared.place.Stand.TheVariants as stand;
-ghost use Rattle.async_board.specs.Walks.{IsLayout, IsSized, IsWalk, IsBelow, IsAbove};
+ghost use Rattle.async_board.specs.Walks.{IsWalk, IsBelow, IsAbove, MayRestart};
 
 use crate::pick::{Look, Pick, first_picked, is_so, last_picked, stand_at};
 use crate::rows::{all_left_alone, count_at, first_low, first_unsettled, is_none};
@@ -41,26 +41,21 @@ impl Model for Board {
     ghost invariant = { AreKept };
 }
 
-// Begins anew over links that have changed: no device is prepared.
-fn begin_anew(layout: &mut Layout, suspend: &mut Walk, late: &mut Walk, noirq: &mut Walk)
-    requires places { length layout.old.places.items ≡ length layout.old.links.parents }
-    requires suspend { IsSized (length layout.old.links.parents) suspend.old }
-    requires late { IsSized (length layout.old.links.parents) late.old }
-    requires noirq { IsSized (length layout.old.links.parents) noirq.old }
-    ensures links { layout.new.links ≡ layout.old.links }
-    ensures beside { layout.new.beside ≡ layout.old.beside }
-    ensures laid { IsLayout layout.new }
-    ensures suspend_anew { suspend.new.stands.items ≡ replicate (length layout.old.links.parents) stand.Unprepared }
-    ensures late_anew { late.new.stands.items ≡ replicate (length layout.old.links.parents) stand.Unprepared }
-    ensures noirq_anew { noirq.new.stands.items ≡ replicate (length layout.old.links.parents) stand.Unprepared }
-    ensures suspend { IsWalk layout.new suspend.new }
-    ensures late { IsWalk layout.new late.new }
-    ensures noirq { IsWalk layout.new noirq.new }
+// Begins anew, no device prepared, over links that have changed right below this supplier alone.
+fn begin_anew(layout: &Layout, supplier: u32, suspend: &mut Walk, late: &mut Walk, noirq: &mut Walk)
+    requires suspend { MayRestart layout.now supplier suspend.old }
+    requires late { MayRestart layout.now supplier late.old }
+    requires noirq { MayRestart layout.now supplier noirq.old }
+    ensures suspend_anew { suspend.new.stands.items ≡ replicate (length layout.now.links.parents) stand.Unprepared }
+    ensures late_anew { late.new.stands.items ≡ replicate (length layout.now.links.parents) stand.Unprepared }
+    ensures noirq_anew { noirq.new.stands.items ≡ replicate (length layout.now.links.parents) stand.Unprepared }
+    ensures suspend { IsWalk layout.now suspend.new }
+    ensures late { IsWalk layout.now late.new }
+    ensures noirq { IsWalk layout.now noirq.new }
 {
-    fill_places(&mut layout.places, layout.links.order());
-    suspend.restart(layout);
-    late.restart(layout);
-    noirq.restart(layout);
+    suspend.restart(layout, supplier);
+    late.restart(layout, supplier);
+    noirq.restart(layout, supplier);
 }
 
 impl Board {
@@ -168,8 +163,11 @@ impl Board {
         let _devices = self.layout.links.order().len();
         match self.layout.links.add(supplier, consumer) {
             Ok(()) => {
+                let layout = &mut self.layout;
+                fill_places(&mut layout.places, layout.links.order());
                 begin_anew(
-                    &mut self.layout,
+                    layout,
+                    supplier,
                     &mut self.suspend,
                     &mut self.late,
                     &mut self.noirq,
@@ -191,7 +189,8 @@ impl Board {
         match self.layout.links.set_active(supplier, consumer, active) {
             Ok(()) => {
                 begin_anew(
-                    &mut self.layout,
+                    &self.layout,
+                    supplier,
                     &mut self.suspend,
                     &mut self.late,
                     &mut self.noirq,

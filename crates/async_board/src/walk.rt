@@ -1,12 +1,12 @@
 //! Where the devices stand in a pair of phases.
 
-ghost use Rattle.std.specs.Prelude.{◌≡◌, ◌<◌, ℕ, true, IfOk, length, replicate, slice_set};
+ghost use Rattle.std.specs.Prelude.{◌≡◌, ◌≢◌, ◌<◌, ℕ, true, IfOk, length, replicate, slice_index_or, slice_set};
 ghost use Rattle.sleep_model.specs.Order.{active_of, is_among, hanging, holding, order_by};
 ghost use Rattle.sleep_model.proofs.Walks.{AllDifferent};
 ghost use Rattle.sleep_model.specs.Links.{first_places};
 ghost use Rattle.sleep_model.specs.Stands.{stand_at};
 ghost use Rattle.sleep_model.specs.declared.place.Stand.TheVariants as stand;
-ghost use Rattle.async_board.specs.Walks.{IsPlaced, IsBelow, IsAbove, IsLayout, IsSized, IsWalk, order_of, failed_after};
+ghost use Rattle.async_board.specs.Walks.{IsPlaced, IsBelow, IsAbove, IsLayout, IsWalk, MayRestart, order_of, failed_after};
 ghost use Rattle.async_board.specs.Counts.{IsLengths};
 ghost use Rattle.async_board.specs.Cursors.{AreCursors};
 
@@ -86,6 +86,21 @@ fn recount_below(counts: &mut Vec<usize>, links: &Links)
     count_below(counts, links);
 }
 
+// Counts how many devices hang right below one, anew, where the others have their counts.
+fn recount_at(counts: &mut Vec<usize>, links: &Links, device: u32)
+    requires size { length counts.old.items ≡ length links.now.parents }
+    requires others { (d : ℕ) → d < length links.now.parents → d ≢ device →
+        slice_index_or counts.old.items d 0
+        ≡ length (first_places (hanging links.now.parents (active_of links.now.links) d)) }
+    ensures { IsLengths (length links.now.parents)
+        (λ d. first_places (hanging links.now.parents (active_of links.now.links) d)) counts.new.items }
+{
+    let number = device as usize;
+    if number < counts.len() {
+        counts[number] = links.below(device).len();
+    }
+}
+
 // How many devices hang right below each.
 fn counts_below(alloc: Global, links: &Links) -> Result<Vec<usize>, Mem>
     ensures { IfOk result (λ v. IsLengths (length links.now.parents)
@@ -130,18 +145,37 @@ impl Walk {
         })
     }
 
-    /// Begins anew over a layout of as many devices: none is prepared.
-    pub(crate) fn restart(&mut self, layout: &Layout)
-        requires { IsSized (length layout.now.links.parents) self.old }
+    // Has each device not prepared, and counts what each waits for. Where none was prepared, which one
+    // cursor tells, only what hangs below the supplier has changed.
+    fn settle(&mut self, layout: &Layout, supplier: u32)
+        requires { MayRestart layout.now supplier self.old }
+        ensures stands { self.new.stands.items
+            ≡ replicate (length layout.now.links.parents) stand.Unprepared }
+        ensures below { IsLengths (length layout.now.links.parents)
+            (λ d. first_places (hanging layout.now.links.parents (active_of layout.now.links.links) d))
+            self.new.open_below.items }
+        ensures above { self.new.open_above.items ≡ replicate (length layout.now.links.parents) 0 }
+    {
+        let links = &layout.links;
+        if self.cursors.prepared == 0 {
+            recount_at(&mut self.open_below, links, supplier);
+        } else {
+            self.stands.fill(Stand::Unprepared);
+            recount_below(&mut self.open_below, links);
+            self.open_above.fill(0);
+        }
+    }
+
+    /// Begins anew, no device prepared, over links that have changed right below this supplier alone.
+    pub(crate) fn restart(&mut self, layout: &Layout, supplier: u32)
+        requires { MayRestart layout.now supplier self.old }
         ensures stands { self.new.stands.items
             ≡ replicate (length layout.now.links.parents) stand.Unprepared }
         ensures kept { IsWalk layout.now self.new }
     {
-        self.stands.fill(Stand::Unprepared);
+        self.settle(layout, supplier);
         self.cursors = first_cursors(layout.links.order().len());
         self.failed = false;
-        recount_below(&mut self.open_below, &layout.links);
-        self.open_above.fill(0);
     }
 }
 
