@@ -7,7 +7,7 @@ ghost use Rattle.async_board.specs.Walks.{IsWalk, IsBelow, IsAbove, MayRestart};
 
 use crate::pick::{Look, Pick, first_picked, is_so, last_picked, stand_at};
 use crate::rows::{all_left_alone, count_at, first_low, first_unsettled, is_none};
-use crate::stand::{ended_by, skipped_for, work_in};
+use crate::stand::{ended_by, is_at_work, skipped_for, work_in};
 use crate::walk::{Layout, Walk, fill_places, places_of, put};
 use device_links::Links;
 use sleep_base::Mem;
@@ -395,16 +395,18 @@ impl Board {
     pub fn work(&self, device: u32) -> AsyncWork
         ensures { result ≡ work_on self.now device }
     {
-        if self.is_beside(device) {
-            let noirq = work_in(
-                Phase::Noirq,
-                self.stand(Phase::Noirq, device),
-                AsyncWork::Idle,
-            );
-            let late = work_in(Phase::Late, self.stand(Phase::Late, device), noirq);
-            work_in(Phase::Suspend, self.stand(Phase::Suspend, device), late)
-        } else {
-            AsyncWork::Idle
+        if !self.is_beside(device) {
+            return AsyncWork::Idle;
         }
+        let suspend = self.stand(Phase::Suspend, device);
+        if is_at_work(suspend) {
+            return work_in(Phase::Suspend, suspend, AsyncWork::Idle);
+        }
+        let late = self.stand(Phase::Late, device);
+        if is_at_work(late) {
+            return work_in(Phase::Late, late, AsyncWork::Idle);
+        }
+        let noirq = self.stand(Phase::Noirq, device);
+        work_in(Phase::Noirq, noirq, AsyncWork::Idle)
     }
 }

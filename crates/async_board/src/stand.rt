@@ -1,7 +1,11 @@
 //! What an entry does to the stand of its device, and tests of a stand.
 
 ghost use Rattle.std.specs.Prelude.{◌≡◌};
+ghost use Rattle.std.specs.Bool.{OnFalse, OnTrue};
+ghost use Rattle.phase_table.specs.declared.phase.Phase.{Phase};
 ghost use Rattle.sleep_model.specs.Devices.{work_in};
+ghost use Rattle.sleep_model.specs.declared.place.AsyncWork.{AsyncWork};
+ghost use Rattle.sleep_model.specs.declared.place.AsyncWork.TheVariants.{Idle};
 ghost use Rattle.sleep_model.specs.Stands as stands;
 
 use sleep_base::Errno;
@@ -89,6 +93,18 @@ pub(crate) fn work_in(p: Phase, stand: Stand, other: AsyncWork) -> AsyncWork
         Stand::Resuming => AsyncWork::Inside(p.mirror()),
         _ => other,
     }
+}
+
+/// Whether the device is given out or inside its callback, on the way down or up.
+#[inline]
+pub(crate) fn is_at_work(stand: Stand) -> bool
+    ensures yes { OnTrue result ((p : Phase) (other : AsyncWork) → work_in p stand other ≡ work_in p stand Idle) }
+    ensures no { OnFalse result ((p : Phase) (other : AsyncWork) → work_in p stand other ≡ other) }
+{
+    matches!(
+        stand,
+        Stand::Scheduled | Stand::Suspending | Stand::Rescheduled | Stand::Resuming
+    )
 }
 
 /// Whether the device is not prepared (`power.is_prepared`).

@@ -179,15 +179,16 @@ impl Walk {
     }
 }
 
-// Whether the walk on the way down gives out no more: a device has failed since it was prepared.
+// Notes whether the walk on the way down gives out no more, once a device has moved to there: one has
+// failed since it was prepared.
 #[inline(always)]
-fn failed_after(after: Stand, before: bool) -> bool
-    ensures { result ≡ failed_after after before }
+fn note_failure(failed: &mut bool, after: Stand)
+    ensures { failed.new ≡ failed_after after failed.old }
 {
     match after {
-        Stand::Failed => true,
-        Stand::Prepared => false,
-        _ => before,
+        Stand::Failed => *failed = true,
+        Stand::Prepared => *failed = false,
+        _ => (),
     }
 }
 
@@ -280,7 +281,7 @@ fn move_device(walk: &mut Walk, layout: &Layout, device: u32, before: Stand, aft
         before,
         after,
     );
-    walk.failed = failed_after(after, walk.failed);
+    note_failure(&mut walk.failed, after);
     walk.stands[number] = after;
     let look = Look {
         order,
@@ -303,9 +304,49 @@ fn move_otherwise(walk: &mut Walk, layout: &Layout, device: u32, before: Stand, 
     move_device(walk, layout, device, before, after);
 }
 
+// A callback on the way down has answered 0: those above may go down, and those below are kept down.
+#[inline(never)]
+fn end_down(walk: &mut Walk, layout: &Layout, device: u32)
+    requires laid { IsLayout layout.now }
+    requires kept { IsWalk layout.now walk.old }
+    requires within { device < length walk.old.stands.items }
+    requires before { stand.Suspending ≡ stand_at walk.old.stands.items device }
+    ensures stands { walk.new.stands.items ≡ slice_set walk.old.stands.items device stand.Suspended }
+    ensures kept { IsWalk layout.now walk.new }
+{
+    move_device(walk, layout, device, Stand::Suspending, Stand::Suspended);
+}
+
+// A callback on the way up has ended: those below may come up.
+#[inline(never)]
+fn end_up(walk: &mut Walk, layout: &Layout, device: u32)
+    requires laid { IsLayout layout.now }
+    requires kept { IsWalk layout.now walk.old }
+    requires within { device < length walk.old.stands.items }
+    requires before { stand.Resuming ≡ stand_at walk.old.stands.items device }
+    ensures stands { walk.new.stands.items ≡ slice_set walk.old.stands.items device stand.Resumed }
+    ensures kept { IsWalk layout.now walk.new }
+{
+    move_device(walk, layout, device, Stand::Resuming, Stand::Resumed);
+}
+
+// A device that is up is completed: those above wait for it again, in the attempt to come.
+#[inline(never)]
+fn complete(walk: &mut Walk, layout: &Layout, device: u32)
+    requires laid { IsLayout layout.now }
+    requires kept { IsWalk layout.now walk.old }
+    requires within { device < length walk.old.stands.items }
+    requires before { stand.Resumed ≡ stand_at walk.old.stands.items device }
+    ensures stands { walk.new.stands.items ≡ slice_set walk.old.stands.items device stand.Unprepared }
+    ensures kept { IsWalk layout.now walk.new }
+{
+    move_device(walk, layout, device, Stand::Resumed, Stand::Unprepared);
+}
+
 /// Moves a device from where it stands to where it stands from now on; nothing where there is no such
 /// device. The moves of an undisturbed attempt are told apart here, so that each pays for what it
-/// changes alone.
+/// changes alone; those that go over rows of devices are functions of their own, so that the short ones
+/// save no registers for them.
 pub(crate) fn put(walk: &mut Walk, layout: &Layout, device: u32, after: Stand)
     requires laid { IsLayout layout.now }
     requires kept { IsWalk layout.now walk.old }
@@ -327,9 +368,7 @@ pub(crate) fn put(walk: &mut Walk, layout: &Layout, device: u32, after: Stand)
             (Stand::Scheduled, Stand::Suspending) => {
                 move_device(walk, layout, device, Stand::Scheduled, Stand::Suspending)
             }
-            (Stand::Suspending, Stand::Suspended) => {
-                move_device(walk, layout, device, Stand::Suspending, Stand::Suspended)
-            }
+            (Stand::Suspending, Stand::Suspended) => end_down(walk, layout, device),
             (Stand::Suspended, Stand::Rescheduled) => {
                 move_device(walk, layout, device, Stand::Suspended, Stand::Rescheduled)
             }
@@ -339,12 +378,8 @@ pub(crate) fn put(walk: &mut Walk, layout: &Layout, device: u32, after: Stand)
             (Stand::Rescheduled, Stand::Resuming) => {
                 move_device(walk, layout, device, Stand::Rescheduled, Stand::Resuming)
             }
-            (Stand::Resuming, Stand::Resumed) => {
-                move_device(walk, layout, device, Stand::Resuming, Stand::Resumed)
-            }
-            (Stand::Resumed, Stand::Unprepared) => {
-                move_device(walk, layout, device, Stand::Resumed, Stand::Unprepared)
-            }
+            (Stand::Resuming, Stand::Resumed) => end_up(walk, layout, device),
+            (Stand::Resumed, Stand::Unprepared) => complete(walk, layout, device),
             _ => move_otherwise(walk, layout, device, before, after),
         }
     }
