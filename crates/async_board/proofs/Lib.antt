@@ -3,6 +3,7 @@ pub mod Layouts
 pub mod Moved
 pub mod Picked
 pub mod Places
+pub mod Rested
 pub mod Searched
 pub mod Stood
 pub mod Told

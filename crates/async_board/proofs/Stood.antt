@@ -1,5 +1,4 @@
 -- What is seen of the others after one device has moved.
-use Rattle.std.specs.Prelude.{if◌then◌else◌}
 use Rattle.std.proofs.Common.{◌≡◌, ◌≢◌, ◌<◌, ◌≤◌, ◌∙◌, ℕ, zero, suc, Option, Bool, true, false, List, [], ◌∷◌, length, filter, replicate, get_or, set, cond, refl, sym, ap, subst, arith, get_or-set_same, get_or-set_other}
 use Rattle.std.proofs.lemmas.Bool.{false≢true}
 use Rattle.sleep_model.specs.declared.place.Stand.{Stand}
@@ -8,9 +7,7 @@ use Rattle.std.proofs.lemmas.List.{length-replicate, set-get_or}
 use Rattle.sleep_model.specs.declared.machine.Link.{Link}
 use Rattle.sleep_model.specs.Order.{active_of, hanging, holding}
 use Rattle.sleep_model.specs.Links.{first_places}
-use Rattle.sleep_model.specs.Stands.{stand_at, is_low, is_unsettled, by_phase}
-use Rattle.phase_table.specs.declared.phase.Phase.{Phase}
-use Rattle.phase_table.specs.Phases.{is_phase, mirror}
+use Rattle.sleep_model.specs.Stands.{stand_at, is_low, is_unsettled}
 use Rattle.async_board.specs.declared.walk.Layout.{Layout}
 use Rattle.async_board.specs.declared.walk.Walk.{Walk}
 use Rattle.async_board.specs.Counts.{IsLengths}
@@ -26,11 +23,6 @@ use Rattle.async_board.specs.Walks.{IsPlaced, IsBelow, IsAbove, IsWalk, order_of
 -- a device that is put where it stands moves nothing
 pub stands_stay : (stands : List Stand) (d : ℕ) (after : Stand) → after ≡ stand_at stands d → set stands d after ≡ stands
 stands_stay stands d after e = ap (set stands d) e ∙ set-get_or stands d stand.Unprepared
-
--- a phase that is neither of a pair changes nothing there
-pub neither : (p q : Phase) → is_phase q p ≡ false → is_phase q (mirror p) ≡ false → (down up other : Stand) → by_phase p q down up other ≡ other
-neither p q here there down up other =
-    ap (λ b. if b then down else if is_phase q (mirror p) then up else other) here ∙ ap (λ b. if b then up else other) there
 
 pub others_stand : (stands : List Stand) (d x : ℕ) (s : Stand) → (x ≡ d → ⊥) → stand_at (set stands d s) x ≡ stand_at stands x
 others_stand stands d x s ne = get_or-set_other stands d x s stand.Unprepared ne
@@ -96,20 +88,20 @@ module _ (beside : List Bool) (stands : List Stand) (order places : List ℕ) (d
 
 -- ---- the first stands
 
-fresh_stands : (n d : ℕ) → stand_at (replicate n stand.Unprepared) d ≡ stand.Unprepared
+pub fresh_stands : (n d : ℕ) → stand_at (replicate n stand.Unprepared) d ≡ stand.Unprepared
 fresh_stands zero d = refl
 fresh_stands (suc n) zero = refl
 fresh_stands (suc n) (suc d) = fresh_stands n d
 
-all_pass : (p : ℕ → Bool) (xs : List ℕ) → ((x : ℕ) → p x ≡ true) → filter p xs ≡ xs
+pub all_pass : (p : ℕ → Bool) (xs : List ℕ) → ((x : ℕ) → p x ≡ true) → filter p xs ≡ xs
 all_pass p [] h = refl
 all_pass p (x ∷ xs) h = ap (λ b. cond b (x ∷ filter p xs) (filter p xs)) (h x) ∙ ap (λ ys. x ∷ ys) (all_pass p xs h)
 
-none_pass : (p : ℕ → Bool) (xs : List ℕ) → ((x : ℕ) → p x ≡ false) → filter p xs ≡ []
+pub none_pass : (p : ℕ → Bool) (xs : List ℕ) → ((x : ℕ) → p x ≡ false) → filter p xs ≡ []
 none_pass p [] h = refl
 none_pass p (x ∷ xs) h = ap (λ b. cond b (x ∷ filter p xs) (filter p xs)) (h x) ∙ none_pass p xs h
 
-zeros : (n d : ℕ) → get_or {A = ℕ} (replicate n 0) d 0 ≡ 0
+pub zeros : (n d : ℕ) → get_or {A = ℕ} (replicate n 0) d 0 ≡ 0
 zeros zero d = refl
 zeros (suc n) zero = refl
 zeros (suc n) (suc d) = zeros n d

@@ -1,5 +1,5 @@
 -- A board as contracts see it, and what is asked of it.
-use Rattle.std.specs.Prelude.{ℕ, Bool, not, ◌&&◌, List, length, filter, replicate, if◌then◌else◌, Option}
+use Rattle.std.specs.Prelude.{ℕ, Bool, not, ◌&&◌, List, length, filter, replicate, slice_set, if◌then◌else◌, Option}
 use Rattle.std.specs.List.{list_all}
 use Rattle.phase_table.specs.declared.phase.Phase.{Phase}
 use Rattle.phase_table.specs.declared.phase.Phase.TheVariants as phase
@@ -12,7 +12,7 @@ use Rattle.sleep_model.specs.declared.place.AsyncWork.TheVariants.{Idle}
 use Rattle.sleep_model.specs.Devices.{work_by}
 use Rattle.sleep_model.specs.Links.{first_places}
 use Rattle.sleep_model.specs.Order.{active_of, hanging, holding, order_by}
-use Rattle.sleep_model.specs.Stands.{stands_after, device_of, stand_at, is_unprepared, is_prepared, is_ready, is_unsettled, is_going_down, is_down_in, is_left_alone, is_low}
+use Rattle.sleep_model.specs.Stands.{stands_after, device_of, stand_at, by_phase, is_unprepared, is_prepared, is_ready, is_unsettled, is_going_down, is_down_in, is_left_alone, is_low}
 use Rattle.sleep_model.specs.Walk.{is_so, first_where, last_where}
 
 -- the parent of each device, the links, the newest first, which devices are asynchronous, and where each stands in the three pairs of phases
@@ -41,6 +41,30 @@ board_after k board = record board {
   suspend = stands_after phase.Suspend k (device_of k) board.suspend;
   late = stands_after phase.Late k (device_of k) board.late;
   noirq = stands_after phase.Noirq k (device_of k) board.noirq;
+}
+
+-- a board after a device was put there in each pair of phases
+abbrev pub put_in_all : ℕ → Stand → BoardState → BoardState
+put_in_all d after board = record board {
+  suspend = slice_set board.suspend d after;
+  late = slice_set board.late d after;
+  noirq = slice_set board.noirq d after;
+}
+
+-- a board after a device was put there by phase q, on the way down or on the way up, in the pair that phase q is of
+abbrev pub put_in : Phase → ℕ → Stand → Stand → BoardState → BoardState
+put_in q d down up board = record board {
+  suspend = slice_set board.suspend d (by_phase phase.Suspend q down up (stand_at board.suspend d));
+  late = slice_set board.late d (by_phase phase.Late q down up (stand_at board.late d));
+  noirq = slice_set board.noirq d (by_phase phase.Noirq q down up (stand_at board.noirq d));
+}
+
+-- a board after a device was put there by phase q, if that is one on the way down
+abbrev pub skip_in : Phase → ℕ → Stand → BoardState → BoardState
+skip_in q d down board = record board {
+  suspend = slice_set board.suspend d (by_phase phase.Suspend q down (stand_at board.suspend d) (stand_at board.suspend d));
+  late = slice_set board.late d (by_phase phase.Late q down (stand_at board.late d) (stand_at board.late d));
+  noirq = slice_set board.noirq d (by_phase phase.Noirq q down (stand_at board.noirq d) (stand_at board.noirq d));
 }
 
 -- where each device stands in phase p, one on the way down, and its mirror

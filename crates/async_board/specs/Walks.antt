@@ -1,5 +1,5 @@
 -- What is kept of a pair of phases.
-use Rattle.std.specs.Prelude.{◌≡◌, ◌<◌, ℕ, Bool, true, false, List, length, Option, slice_index_or}
+use Rattle.std.specs.Prelude.{◌≡◌, ◌≢◌, ◌<◌, ℕ, Bool, true, false, List, length, replicate, Option, slice_index_or}
 use Rattle.sleep_model.specs.declared.machine.Link.{Link}
 use Rattle.sleep_model.specs.declared.place.Stand.{Stand}
 use Rattle.sleep_model.specs.declared.place.Stand.TheVariants as stand
@@ -56,3 +56,15 @@ pub record IsSized (n : ℕ) (w : Walk) : Type 0 where
   pub stands : length w.stands.items ≡ n
   pub below : length w.open_below.items ≡ n
   pub above : length w.open_above.items ≡ n
+
+-- no device is prepared, and each but one has the count of those right below it by the links of the layout
+pub record IsRested (l : Layout) (but : ℕ) (w : Walk) : Type 0 where
+  pub stands : w.stands.items ≡ replicate (length l.links.parents) stand.Unprepared
+  pub above : w.open_above.items ≡ replicate (length l.links.parents) 0
+  pub below : (d : ℕ) → d < length l.links.parents → d ≢ but
+      → slice_index_or w.open_below.items d 0 ≡ length (first_places (hanging l.links.parents (active_of l.links.links) d))
+
+-- a pair of phases may begin anew over a layout whose links have changed right below this supplier alone: where no device is prepared, only the supplier's count may be another
+pub record MayRestart (l : Layout) (supplier : ℕ) (w : Walk) : Type 0 where
+  pub size : IsSized (length l.links.parents) w
+  pub rest : w.cursors.prepared ≡ 0 → IsRested l supplier w

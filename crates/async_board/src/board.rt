@@ -3,11 +3,11 @@ ghost use Rattle.sleep_model.specs.Stands.{stand_at, stands_after, device_of};
 ghost use Rattle.sleep_model.specs.Walk.{is_so};
 ghost use Rattle.async_board.specs.Cursors.{AreCursors};
 ghost use Rattle.sleep_model.specs.declared.place.Stand.TheVariants as stand;
-ghost use Rattle.async_board.specs.Walks.{IsLayout, IsSized, IsWalk, IsBelow, IsAbove};
+ghost use Rattle.async_board.specs.Walks.{IsWalk, IsBelow, IsAbove, MayRestart};
 
 use crate::pick::{Look, Pick, first_picked, is_so, last_picked, stand_at};
 use crate::rows::{all_left_alone, count_at, first_low, first_unsettled, is_none};
-use crate::stand::{device_of, moves_by, stand_after, work_in};
+use crate::stand::{ended_by, is_at_work, skipped_for, work_in};
 use crate::walk::{Layout, Walk, fill_places, places_of, put};
 use device_links::Links;
 use sleep_base::Mem;
@@ -41,48 +41,27 @@ impl Model for Board {
     ghost invariant = { AreKept };
 }
 
-// Moves the device of an entry in a pair of phases.
-#[tactic(auto, using(crate::proofs::Stood::stands_stay))]
-fn move_by(walk: &mut Walk, layout: &Layout, p: Phase, kind: Kind, device: u32)
-    requires laid { IsLayout layout.now }
-    requires kept { IsWalk layout.now walk.old }
-    ensures stands { walk.new.stands.items
-        ≡ stands_after p kind (Some device) walk.old.stands.items }
-    ensures kept { IsWalk layout.now walk.new }
+// Begins anew, no device prepared, over links that have changed right below this supplier alone.
+fn begin_anew(layout: &Layout, supplier: u32, suspend: &mut Walk, late: &mut Walk, noirq: &mut Walk)
+    requires suspend { MayRestart layout.now supplier suspend.old }
+    requires late { MayRestart layout.now supplier late.old }
+    requires noirq { MayRestart layout.now supplier noirq.old }
+    ensures suspend_anew { suspend.new.stands.items ≡ replicate (length layout.now.links.parents) stand.Unprepared }
+    ensures late_anew { late.new.stands.items ≡ replicate (length layout.now.links.parents) stand.Unprepared }
+    ensures noirq_anew { noirq.new.stands.items ≡ replicate (length layout.now.links.parents) stand.Unprepared }
+    ensures suspend { IsWalk layout.now suspend.new }
+    ensures late { IsWalk layout.now late.new }
+    ensures noirq { IsWalk layout.now noirq.new }
 {
-    let before = stand_at(&walk.stands, device);
-    let after = stand_after(p, kind, before);
-    if after != before {
-        put(walk, layout, device, before, after);
-    }
-}
-
-// Begins anew over links that have changed: no device is prepared.
-fn begin_anew(layout: &mut Layout, suspend: &mut Walk, late: &mut Walk, noirq: &mut Walk)
-    requires places { length layout.old.places.items ≡ length layout.old.links.parents }
-    requires suspend { IsSized (length layout.old.links.parents) suspend.old }
-    requires late { IsSized (length layout.old.links.parents) late.old }
-    requires noirq { IsSized (length layout.old.links.parents) noirq.old }
-    ensures links { layout.new.links ≡ layout.old.links }
-    ensures beside { layout.new.beside ≡ layout.old.beside }
-    ensures laid { IsLayout layout.new }
-    ensures suspend_anew { suspend.new.stands.items ≡ replicate (length layout.old.links.parents) stand.Unprepared }
-    ensures late_anew { late.new.stands.items ≡ replicate (length layout.old.links.parents) stand.Unprepared }
-    ensures noirq_anew { noirq.new.stands.items ≡ replicate (length layout.old.links.parents) stand.Unprepared }
-    ensures suspend { IsWalk layout.new suspend.new }
-    ensures late { IsWalk layout.new late.new }
-    ensures noirq { IsWalk layout.new noirq.new }
-{
-    fill_places(&mut layout.places, layout.links.order());
-    suspend.restart(layout);
-    late.restart(layout);
-    noirq.restart(layout);
+    suspend.restart(layout, supplier);
+    late.restart(layout, supplier);
+    noirq.restart(layout, supplier);
 }
 
 impl Board {
     ghost use Rattle.std.specs.Prelude.{◌≡◌, ◌<◌, IfOk, OnOk, OnErr, None, is_none, length};
     ghost use Rattle.sleep_model.specs.Order.{links_added, links_set};
-    ghost use Rattle.async_board.specs.Boards.{first_board, board_after, stands_on, order_on, next_prepared_on, next_completed_on, next_down_on, waits_down_on, next_given_on, next_up_on, waits_up_on, waits_below_on, waits_above_on, open_below_on, open_above_on, all_left_alone_on, work_on};
+    ghost use Rattle.async_board.specs.Boards.{first_board, board_after, put_in_all, put_in, skip_in, stands_on, order_on, next_prepared_on, next_completed_on, next_down_on, waits_down_on, next_given_on, next_up_on, waits_up_on, waits_below_on, waits_above_on, open_below_on, open_above_on, all_left_alone_on, work_on};
 
     /// A board over these links, on which no device is prepared; `beside` says for each device
     /// whether it is asynchronous. `Mem` if there is no memory for it.
@@ -106,23 +85,64 @@ impl Board {
         })
     }
 
+    // Puts a device there in each pair of phases.
+    fn put_in_all(&mut self, device: u32, after: Stand)
+        ensures { self.new ≡ put_in_all device after self.old }
+    {
+        put(&mut self.suspend, &self.layout, device, after);
+        put(&mut self.late, &self.layout, device, after);
+        put(&mut self.noirq, &self.layout, device, after);
+    }
+
+    // Puts a device there, in the pair of phases that this one is of: on the way down or on the way up.
+    #[inline(always)]
+    #[tactic(auto, using(crate::proofs::Stood::stands_stay))]
+    fn put_in(&mut self, q: Phase, device: u32, down: Stand, up: Stand)
+        ensures { self.new ≡ put_in q device down up self.old }
+    {
+        match q {
+            Phase::Suspend => put(&mut self.suspend, &self.layout, device, down),
+            Phase::Late => put(&mut self.late, &self.layout, device, down),
+            Phase::Noirq => put(&mut self.noirq, &self.layout, device, down),
+            Phase::ResumeNoirq => put(&mut self.noirq, &self.layout, device, up),
+            Phase::Early => put(&mut self.late, &self.layout, device, up),
+            Phase::Resume => put(&mut self.suspend, &self.layout, device, up),
+            _ => (),
+        }
+    }
+
+    // Puts a device there that a phase on the way down skips.
+    #[tactic(auto, using(crate::proofs::Stood::stands_stay))]
+    fn skip_in(&mut self, q: Phase, device: u32, down: Stand)
+        ensures { self.new ≡ skip_in q device down self.old }
+    {
+        match q {
+            Phase::Suspend => put(&mut self.suspend, &self.layout, device, down),
+            Phase::Late => put(&mut self.late, &self.layout, device, down),
+            Phase::Noirq => put(&mut self.noirq, &self.layout, device, down),
+            _ => (),
+        }
+    }
+
     /// Takes down what an entry does to its device.
     #[tactic(auto, using(crate::proofs::Stood::stands_stay))]
     pub fn note(&mut self, kind: Kind)
         ensures { self.new ≡ board_after kind self.old }
     {
-        if let Some(device) = device_of(kind) {
-            let layout = &self.layout;
-            let moves = moves_by(kind);
-            if moves.suspend {
-                move_by(&mut self.suspend, layout, Phase::Suspend, kind, device);
+        match kind {
+            Kind::Prepare { device, r } => {
+                if r >= 0 {
+                    self.put_in_all(device, Stand::Prepared);
+                }
             }
-            if moves.late {
-                move_by(&mut self.late, layout, Phase::Late, kind, device);
+            Kind::Complete(device) => self.put_in_all(device, Stand::Unprepared),
+            Kind::Schedule(q, device) => {
+                self.put_in(q, device, Stand::Scheduled, Stand::Rescheduled)
             }
-            if moves.noirq {
-                move_by(&mut self.noirq, layout, Phase::Noirq, kind, device);
-            }
+            Kind::Begin(q, device) => self.put_in(q, device, Stand::Suspending, Stand::Resuming),
+            Kind::End(q, device, r) => self.put_in(q, device, ended_by(r), Stand::Resumed),
+            Kind::Skip(q, device, cause) => self.skip_in(q, device, skipped_for(cause)),
+            _ => (),
         }
     }
 
@@ -143,8 +163,11 @@ impl Board {
         let _devices = self.layout.links.order().len();
         match self.layout.links.add(supplier, consumer) {
             Ok(()) => {
+                let layout = &mut self.layout;
+                fill_places(&mut layout.places, layout.links.order());
                 begin_anew(
-                    &mut self.layout,
+                    layout,
+                    supplier,
                     &mut self.suspend,
                     &mut self.late,
                     &mut self.noirq,
@@ -166,7 +189,8 @@ impl Board {
         match self.layout.links.set_active(supplier, consumer, active) {
             Ok(()) => {
                 begin_anew(
-                    &mut self.layout,
+                    &self.layout,
+                    supplier,
                     &mut self.suspend,
                     &mut self.late,
                     &mut self.noirq,
@@ -371,16 +395,18 @@ impl Board {
     pub fn work(&self, device: u32) -> AsyncWork
         ensures { result ≡ work_on self.now device }
     {
-        if self.is_beside(device) {
-            let noirq = work_in(
-                Phase::Noirq,
-                self.stand(Phase::Noirq, device),
-                AsyncWork::Idle,
-            );
-            let late = work_in(Phase::Late, self.stand(Phase::Late, device), noirq);
-            work_in(Phase::Suspend, self.stand(Phase::Suspend, device), late)
-        } else {
-            AsyncWork::Idle
+        if !self.is_beside(device) {
+            return AsyncWork::Idle;
         }
+        let suspend = self.stand(Phase::Suspend, device);
+        if is_at_work(suspend) {
+            return work_in(Phase::Suspend, suspend, AsyncWork::Idle);
+        }
+        let late = self.stand(Phase::Late, device);
+        if is_at_work(late) {
+            return work_in(Phase::Late, late, AsyncWork::Idle);
+        }
+        let noirq = self.stand(Phase::Noirq, device);
+        work_in(Phase::Noirq, noirq, AsyncWork::Idle)
     }
 }

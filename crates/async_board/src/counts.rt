@@ -6,9 +6,9 @@ ghost use Rattle.sleep_model.proofs.Walks.{AllDifferent};
 ghost use Rattle.async_board.specs.Counts.{IsLoweredAt, IsRaisedAt, AreLowered, AreRaised, AreShifted};
 
 // One less at that place, where there is one.
-fn lower_at(counts: &mut Vec<usize>, device: u32)
-    requires { device < length counts.old.items → 0 < slice_index counts.old.items device }
-    ensures { IsLoweredAt device counts.old.items counts.new.items }
+fn lower_at(counts: &mut [usize], device: u32)
+    requires { device < length counts.old → 0 < slice_index counts.old device }
+    ensures { IsLoweredAt device counts.old counts.new }
 {
     let place = device as usize;
     if place < counts.len() {
@@ -17,10 +17,10 @@ fn lower_at(counts: &mut Vec<usize>, device: u32)
 }
 
 // One more at that place, where there is one.
-fn raise_at(counts: &mut Vec<usize>, device: u32)
-    requires { device < length counts.old.items →
-        slice_index counts.old.items device < length counts.old.items }
-    ensures { IsRaisedAt device counts.old.items counts.new.items }
+fn raise_at(counts: &mut [usize], device: u32)
+    requires { device < length counts.old →
+        slice_index counts.old device < length counts.old }
+    ensures { IsRaisedAt device counts.old counts.new }
 {
     let place = device as usize;
     if place < counts.len() {
@@ -30,11 +30,11 @@ fn raise_at(counts: &mut Vec<usize>, device: u32)
 
 // One less for each of these devices.
 #[tactic(auto, using(crate::proofs::Counting::lowered_more, crate::proofs::Counting::lowered_all))]
-fn lower(counts: &mut Vec<usize>, row: &[u32])
+fn lower(counts: &mut [usize], row: &[u32])
     requires apart { AllDifferent row.now }
-    requires some { (d : ℕ) → d < length counts.old.items → is_among row.now d ≡ true →
-        0 < slice_index counts.old.items d }
-    ensures { AreLowered row.now counts.old.items counts.new.items }
+    requires some { (d : ℕ) → d < length counts.old → is_among row.now d ≡ true →
+        0 < slice_index counts.old d }
+    ensures { AreLowered row.now counts.old counts.new }
 {
     for device in row {
         lower_at(counts, *device);
@@ -43,11 +43,11 @@ fn lower(counts: &mut Vec<usize>, row: &[u32])
 
 // One more for each of these devices.
 #[tactic(auto, using(crate::proofs::Counting::raised_more, crate::proofs::Counting::raised_all))]
-fn raise(counts: &mut Vec<usize>, row: &[u32])
+fn raise(counts: &mut [usize], row: &[u32])
     requires apart { AllDifferent row.now }
-    requires few { (d : ℕ) → d < length counts.old.items → is_among row.now d ≡ true →
-        slice_index counts.old.items d < length counts.old.items }
-    ensures { AreRaised row.now counts.old.items counts.new.items }
+    requires few { (d : ℕ) → d < length counts.old → is_among row.now d ≡ true →
+        slice_index counts.old d < length counts.old }
+    ensures { AreRaised row.now counts.old counts.new }
 {
     for device in row {
         raise_at(counts, *device);

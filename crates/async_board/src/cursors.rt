@@ -57,7 +57,7 @@ fn move_first(at: &mut usize, look: &Look<'_>, what: Pick, moved: Moved)
 // the walk gives out, towards the order's head, it follows the walk; it moves on once the walk is over,
 // and nobody asks before.
 #[inline(always)]
-#[tactic(auto, using(crate::proofs::Moved::passed_now, crate::proofs::Moved::moved_here))]
+#[tactic(auto, using(crate::proofs::Moved::passed_now, crate::proofs::Moved::passed_still, crate::proofs::Moved::moved_here))]
 fn move_going(at: &mut usize, look: &Look<'_>, moved: Moved, is_over: bool)
     requires here { IsMoved look.now.beside.now look.now.stands.now look.now.order.now moved }
     requires but { IsPassedBut moved.place (picks pick.Going moved.before moved.beside)
@@ -65,7 +65,12 @@ fn move_going(at: &mut usize, look: &Look<'_>, moved: Moved, is_over: bool)
     ensures { IsPassed (is_picked pick.Going look.now.beside.now look.now.stands.now)
         look.now.order.now at.new }
 {
-    if !is_over || picks(Pick::Going, moved.after, moved.beside) {
+    let was = picks(Pick::Going, moved.before, moved.beside);
+    let is = picks(Pick::Going, moved.after, moved.beside);
+    if was == is {
+        return;
+    }
+    if !is_over || is {
         *at = (*at).min(moved.place);
     } else if moved.place == *at {
         *at = first_from(look, Pick::Going, moved.place + 1);
@@ -117,6 +122,7 @@ fn move_last(at: &mut usize, look: &Look<'_>, what: Pick, moved: Moved)
 
 /// Moves the cursors after a device has moved. `failed`: a device has failed on the way down, so that
 /// the walk gives out no more.
+#[inline(always)]
 pub(crate) fn move_cursors(cursors: &mut Cursors, look: &Look<'_>, moved: Moved, failed: bool)
     requires here { IsMoved look.now.beside.now look.now.stands.now look.now.order.now moved }
     requires but { AreCursorsBut moved look.now.beside.now look.now.stands.now

@@ -1,10 +1,11 @@
 //! What an entry does to the stand of its device, and tests of a stand.
 
 ghost use Rattle.std.specs.Prelude.{◌≡◌};
-ghost use Rattle.std.specs.Bool.{OnFalse};
-ghost use Rattle.sleep_model.specs.declared.place.Stand.{Stand};
+ghost use Rattle.std.specs.Bool.{OnFalse, OnTrue};
+ghost use Rattle.phase_table.specs.declared.phase.Phase.{Phase};
 ghost use Rattle.sleep_model.specs.Devices.{work_in};
-ghost use Rattle.phase_table.specs.declared.phase.Phase.TheVariants as phase;
+ghost use Rattle.sleep_model.specs.declared.place.AsyncWork.{AsyncWork};
+ghost use Rattle.sleep_model.specs.declared.place.AsyncWork.TheVariants.{Idle};
 ghost use Rattle.sleep_model.specs.Stands as stands;
 
 use sleep_base::Errno;
@@ -16,7 +17,9 @@ fn prepared_by(r: i32, before: Stand) -> Stand
     if r >= 0 { Stand::Prepared } else { before }
 }
 
-fn ended_by(r: Option<Errno>) -> Stand
+/// Where a device stands on the way down once its callback has answered (`dpm_run_callback`).
+#[inline]
+pub(crate) fn ended_by(r: Option<Errno>) -> Stand
     ensures { result ≡ stands.ended_by r }
 {
     match r {
@@ -25,7 +28,8 @@ fn ended_by(r: Option<Errno>) -> Stand
     }
 }
 
-fn skipped_for(cause: SkipCause) -> Stand
+/// Where a device stands that is skipped on the way down (`__device_suspend`).
+pub(crate) fn skipped_for(cause: SkipCause) -> Stand
     ensures { result ≡ stands.skipped_for cause }
 {
     match cause {
@@ -62,67 +66,6 @@ pub fn stand_after(p: Phase, kind: Kind, before: Stand) -> Stand
     }
 }
 
-/// Whether a phase is that one on the way down, or its mirror.
-#[tactic(auto, using(crate::proofs::Stood::neither))]
-fn is_of(p: Phase, q: Phase) -> bool
-    ensures { OnFalse result ((down up other : Stand) → stands.by_phase p q down up other ≡ other) }
-{
-    if q == p {
-        return true;
-    }
-    if q == p.mirror() {
-        return true;
-    }
-    false
-}
-
-/// The pairs of phases in which a device may stand otherwise after an entry.
-#[derive(Clone, Copy)]
-pub(crate) struct Moves {
-    pub(crate) suspend: bool,
-    pub(crate) late: bool,
-    pub(crate) noirq: bool,
-}
-
-// The pair of phases that a phase is of.
-fn moves_in(q: Phase) -> Moves
-    ensures suspend { OnFalse result.suspend ((down up other : Stand) →
-        stands.by_phase phase.Suspend q down up other ≡ other) }
-    ensures late { OnFalse result.late ((down up other : Stand) →
-        stands.by_phase phase.Late q down up other ≡ other) }
-    ensures noirq { OnFalse result.noirq ((down up other : Stand) →
-        stands.by_phase phase.Noirq q down up other ≡ other) }
-{
-    Moves {
-        suspend: is_of(Phase::Suspend, q),
-        late: is_of(Phase::Late, q),
-        noirq: is_of(Phase::Noirq, q),
-    }
-}
-
-/// The pairs of phases in which the device of an entry may stand otherwise after it. Most entries
-/// are of one pair alone.
-pub(crate) fn moves_by(kind: Kind) -> Moves
-    ensures suspend { OnFalse result.suspend ((before : Stand) →
-        stands.stand_after phase.Suspend kind before ≡ before) }
-    ensures late { OnFalse result.late ((before : Stand) →
-        stands.stand_after phase.Late kind before ≡ before) }
-    ensures noirq { OnFalse result.noirq ((before : Stand) →
-        stands.stand_after phase.Noirq kind before ≡ before) }
-{
-    match kind {
-        Kind::Schedule(q, _) => moves_in(q),
-        Kind::Begin(q, _) => moves_in(q),
-        Kind::End(q, ..) => moves_in(q),
-        Kind::Skip(q, ..) => moves_in(q),
-        _ => Moves {
-            suspend: true,
-            late: true,
-            noirq: true,
-        },
-    }
-}
-
 /// The device that an entry is of. None where it is of no device.
 pub fn device_of(kind: Kind) -> Option<u32>
     ensures { result ≡ stands.device_of kind }
@@ -150,6 +93,18 @@ pub(crate) fn work_in(p: Phase, stand: Stand, other: AsyncWork) -> AsyncWork
         Stand::Resuming => AsyncWork::Inside(p.mirror()),
         _ => other,
     }
+}
+
+/// Whether the device is given out or inside its callback, on the way down or up.
+#[inline]
+pub(crate) fn is_at_work(stand: Stand) -> bool
+    ensures yes { OnTrue result ((p : Phase) (other : AsyncWork) → work_in p stand other ≡ work_in p stand Idle) }
+    ensures no { OnFalse result ((p : Phase) (other : AsyncWork) → work_in p stand other ≡ other) }
+{
+    matches!(
+        stand,
+        Stand::Scheduled | Stand::Suspending | Stand::Rescheduled | Stand::Resuming
+    )
 }
 
 /// Whether the device is not prepared (`power.is_prepared`).

@@ -1,12 +1,12 @@
 //! Where the devices stand in a pair of phases.
 
-ghost use Rattle.std.specs.Prelude.{◌≡◌, ◌<◌, ℕ, true, IfOk, length, replicate, slice_set};
+ghost use Rattle.std.specs.Prelude.{◌≡◌, ◌≢◌, ◌<◌, ℕ, true, IfOk, length, replicate, slice_index_or, slice_set};
 ghost use Rattle.sleep_model.specs.Order.{active_of, is_among, hanging, holding, order_by};
 ghost use Rattle.sleep_model.proofs.Walks.{AllDifferent};
 ghost use Rattle.sleep_model.specs.Links.{first_places};
 ghost use Rattle.sleep_model.specs.Stands.{stand_at};
 ghost use Rattle.sleep_model.specs.declared.place.Stand.TheVariants as stand;
-ghost use Rattle.async_board.specs.Walks.{IsPlaced, IsBelow, IsAbove, IsLayout, IsSized, IsWalk, order_of, failed_after};
+ghost use Rattle.async_board.specs.Walks.{IsPlaced, IsBelow, IsAbove, IsLayout, IsWalk, MayRestart, order_of, failed_after};
 ghost use Rattle.async_board.specs.Counts.{IsLengths};
 ghost use Rattle.async_board.specs.Cursors.{AreCursors};
 
@@ -86,6 +86,21 @@ fn recount_below(counts: &mut Vec<usize>, links: &Links)
     count_below(counts, links);
 }
 
+// Counts how many devices hang right below one, anew, where the others have their counts.
+fn recount_at(counts: &mut Vec<usize>, links: &Links, device: u32)
+    requires size { length counts.old.items ≡ length links.now.parents }
+    requires others { (d : ℕ) → d < length links.now.parents → d ≢ device →
+        slice_index_or counts.old.items d 0
+        ≡ length (first_places (hanging links.now.parents (active_of links.now.links) d)) }
+    ensures { IsLengths (length links.now.parents)
+        (λ d. first_places (hanging links.now.parents (active_of links.now.links) d)) counts.new.items }
+{
+    let number = device as usize;
+    if number < counts.len() {
+        counts[number] = links.below(device).len();
+    }
+}
+
 // How many devices hang right below each.
 fn counts_below(alloc: Global, links: &Links) -> Result<Vec<usize>, Mem>
     ensures { IfOk result (λ v. IsLengths (length links.now.parents)
@@ -130,33 +145,55 @@ impl Walk {
         })
     }
 
-    /// Begins anew over a layout of as many devices: none is prepared.
-    pub(crate) fn restart(&mut self, layout: &Layout)
-        requires { IsSized (length layout.now.links.parents) self.old }
+    // Has each device not prepared, and counts what each waits for. Where none was prepared, which one
+    // cursor tells, only what hangs below the supplier has changed.
+    fn settle(&mut self, layout: &Layout, supplier: u32)
+        requires { MayRestart layout.now supplier self.old }
+        ensures stands { self.new.stands.items
+            ≡ replicate (length layout.now.links.parents) stand.Unprepared }
+        ensures below { IsLengths (length layout.now.links.parents)
+            (λ d. first_places (hanging layout.now.links.parents (active_of layout.now.links.links) d))
+            self.new.open_below.items }
+        ensures above { self.new.open_above.items ≡ replicate (length layout.now.links.parents) 0 }
+    {
+        let links = &layout.links;
+        if self.cursors.prepared == 0 {
+            recount_at(&mut self.open_below, links, supplier);
+        } else {
+            self.stands.fill(Stand::Unprepared);
+            recount_below(&mut self.open_below, links);
+            self.open_above.fill(0);
+        }
+    }
+
+    /// Begins anew, no device prepared, over links that have changed right below this supplier alone.
+    pub(crate) fn restart(&mut self, layout: &Layout, supplier: u32)
+        requires { MayRestart layout.now supplier self.old }
         ensures stands { self.new.stands.items
             ≡ replicate (length layout.now.links.parents) stand.Unprepared }
         ensures kept { IsWalk layout.now self.new }
     {
-        self.stands.fill(Stand::Unprepared);
+        self.settle(layout, supplier);
         self.cursors = first_cursors(layout.links.order().len());
         self.failed = false;
-        recount_below(&mut self.open_below, &layout.links);
-        self.open_above.fill(0);
     }
 }
 
-// Whether the walk on the way down gives out no more: a device has failed since it was prepared.
-fn failed_after(after: Stand, before: bool) -> bool
-    ensures { result ≡ failed_after after before }
+// Notes whether the walk on the way down gives out no more, once a device has moved to there: one has
+// failed since it was prepared.
+#[inline(always)]
+fn note_failure(failed: &mut bool, after: Stand)
+    ensures { failed.new ≡ failed_after after failed.old }
 {
     match after {
-        Stand::Failed => true,
-        Stand::Prepared => false,
-        _ => before,
+        Stand::Failed => *failed = true,
+        Stand::Prepared => *failed = false,
+        _ => (),
     }
 }
 
 // How many devices below each are not through, once this device has moved among those that stand so.
+#[inline(always)]
 #[tactic(auto, using(crate::proofs::Layouts::below_some))]
 fn move_below(
     counts: &mut Vec<usize>,
@@ -183,6 +220,7 @@ fn move_below(
 }
 
 // How many devices above each are not up, once this device has moved among those that stand so.
+#[inline(always)]
 #[tactic(auto, using(crate::proofs::Layouts::above_some))]
 fn move_above(
     counts: &mut Vec<usize>,
@@ -207,48 +245,142 @@ fn move_above(
     }
 }
 
-/// Moves a device from where it stands to where it stands from now on; nothing where there is no such
-/// device.
-pub(crate) fn put(walk: &mut Walk, layout: &Layout, device: u32, before: Stand, after: Stand)
+// Moves a device that stands there. Where the compiler knows both stands, what this move cannot change
+// is left out.
+#[inline(always)]
+fn move_device(walk: &mut Walk, layout: &Layout, device: u32, before: Stand, after: Stand)
     requires laid { IsLayout layout.now }
     requires kept { IsWalk layout.now walk.old }
+    requires within { device < length walk.old.stands.items }
     requires before { before ≡ stand_at walk.old.stands.items device }
     ensures stands { walk.new.stands.items ≡ slice_set walk.old.stands.items device after }
     ensures kept { IsWalk layout.now walk.new }
 {
     let number = device as usize;
-    if number < walk.stands.len() {
-        let links = &layout.links;
-        let order = links.order();
-        let moved = Moved {
-            place: layout.places[number],
-            before,
-            after,
-            beside: is_so(&layout.beside, device),
-        };
-        move_below(
-            &mut walk.open_below,
-            links,
-            &walk.stands,
-            device,
-            before,
-            after,
-        );
-        move_above(
-            &mut walk.open_above,
-            links,
-            &walk.stands,
-            device,
-            before,
-            after,
-        );
-        walk.failed = failed_after(after, walk.failed);
-        walk.stands[number] = after;
-        let look = Look {
-            order,
-            stands: walk.stands.as_slice(),
-            beside: layout.beside.as_slice(),
-        };
-        move_cursors(&mut walk.cursors, &look, moved, walk.failed);
+    let links = &layout.links;
+    let order = links.order();
+    let moved = Moved {
+        place: layout.places[number],
+        before,
+        after,
+        beside: is_so(&layout.beside, device),
+    };
+    move_below(
+        &mut walk.open_below,
+        links,
+        &walk.stands,
+        device,
+        before,
+        after,
+    );
+    move_above(
+        &mut walk.open_above,
+        links,
+        &walk.stands,
+        device,
+        before,
+        after,
+    );
+    note_failure(&mut walk.failed, after);
+    walk.stands[number] = after;
+    let look = Look {
+        order,
+        stands: walk.stands.as_slice(),
+        beside: layout.beside.as_slice(),
+    };
+    move_cursors(&mut walk.cursors, &look, moved, walk.failed);
+}
+
+// Moves a device that stands there, by a move that is rare.
+#[inline(never)]
+fn move_otherwise(walk: &mut Walk, layout: &Layout, device: u32, before: Stand, after: Stand)
+    requires laid { IsLayout layout.now }
+    requires kept { IsWalk layout.now walk.old }
+    requires within { device < length walk.old.stands.items }
+    requires before { before ≡ stand_at walk.old.stands.items device }
+    ensures stands { walk.new.stands.items ≡ slice_set walk.old.stands.items device after }
+    ensures kept { IsWalk layout.now walk.new }
+{
+    move_device(walk, layout, device, before, after);
+}
+
+// A callback on the way down has answered 0: those above may go down, and those below are kept down.
+#[inline(never)]
+fn end_down(walk: &mut Walk, layout: &Layout, device: u32)
+    requires laid { IsLayout layout.now }
+    requires kept { IsWalk layout.now walk.old }
+    requires within { device < length walk.old.stands.items }
+    requires before { stand.Suspending ≡ stand_at walk.old.stands.items device }
+    ensures stands { walk.new.stands.items ≡ slice_set walk.old.stands.items device stand.Suspended }
+    ensures kept { IsWalk layout.now walk.new }
+{
+    move_device(walk, layout, device, Stand::Suspending, Stand::Suspended);
+}
+
+// A callback on the way up has ended: those below may come up.
+#[inline(never)]
+fn end_up(walk: &mut Walk, layout: &Layout, device: u32)
+    requires laid { IsLayout layout.now }
+    requires kept { IsWalk layout.now walk.old }
+    requires within { device < length walk.old.stands.items }
+    requires before { stand.Resuming ≡ stand_at walk.old.stands.items device }
+    ensures stands { walk.new.stands.items ≡ slice_set walk.old.stands.items device stand.Resumed }
+    ensures kept { IsWalk layout.now walk.new }
+{
+    move_device(walk, layout, device, Stand::Resuming, Stand::Resumed);
+}
+
+// A device that is up is completed: those above wait for it again, in the attempt to come.
+#[inline(never)]
+fn complete(walk: &mut Walk, layout: &Layout, device: u32)
+    requires laid { IsLayout layout.now }
+    requires kept { IsWalk layout.now walk.old }
+    requires within { device < length walk.old.stands.items }
+    requires before { stand.Resumed ≡ stand_at walk.old.stands.items device }
+    ensures stands { walk.new.stands.items ≡ slice_set walk.old.stands.items device stand.Unprepared }
+    ensures kept { IsWalk layout.now walk.new }
+{
+    move_device(walk, layout, device, Stand::Resumed, Stand::Unprepared);
+}
+
+/// Moves a device from where it stands to where it stands from now on; nothing where there is no such
+/// device. The moves of an undisturbed attempt are told apart here, so that each pays for what it
+/// changes alone; those that go over rows of devices are functions of their own, so that the short ones
+/// save no registers for them.
+pub(crate) fn put(walk: &mut Walk, layout: &Layout, device: u32, after: Stand)
+    requires laid { IsLayout layout.now }
+    requires kept { IsWalk layout.now walk.old }
+    ensures stands { walk.new.stands.items ≡ slice_set walk.old.stands.items device after }
+    ensures kept { IsWalk layout.now walk.new }
+{
+    if (device as usize) < walk.stands.len() {
+        let before = walk.stands[device as usize];
+        match (before, after) {
+            (Stand::Unprepared, Stand::Prepared) => {
+                move_device(walk, layout, device, Stand::Unprepared, Stand::Prepared)
+            }
+            (Stand::Prepared, Stand::Scheduled) => {
+                move_device(walk, layout, device, Stand::Prepared, Stand::Scheduled)
+            }
+            (Stand::Prepared, Stand::Suspending) => {
+                move_device(walk, layout, device, Stand::Prepared, Stand::Suspending)
+            }
+            (Stand::Scheduled, Stand::Suspending) => {
+                move_device(walk, layout, device, Stand::Scheduled, Stand::Suspending)
+            }
+            (Stand::Suspending, Stand::Suspended) => end_down(walk, layout, device),
+            (Stand::Suspended, Stand::Rescheduled) => {
+                move_device(walk, layout, device, Stand::Suspended, Stand::Rescheduled)
+            }
+            (Stand::Suspended, Stand::Resuming) => {
+                move_device(walk, layout, device, Stand::Suspended, Stand::Resuming)
+            }
+            (Stand::Rescheduled, Stand::Resuming) => {
+                move_device(walk, layout, device, Stand::Rescheduled, Stand::Resuming)
+            }
+            (Stand::Resuming, Stand::Resumed) => end_up(walk, layout, device),
+            (Stand::Resumed, Stand::Unprepared) => complete(walk, layout, device),
+            _ => move_otherwise(walk, layout, device, before, after),
+        }
     }
 }

@@ -1,7 +1,37 @@
--- There are as many devices as before.
-use Rattle.std.proofs.Common.{◌∙◌, length, ap, sym}
+-- The links have changed right below the supplier alone.
+use Rattle.std.proofs.Common.{◌∙◌, List, ℕ, sym, ap, subst}
+use Rattle.sleep_model.specs.Order.{is_among, with_state}
+use Rattle.sleep_model.proofs.Changing.{same_supplier, same_consumer, order_kept}
+use Rattle.device_links.specs.Linked.{Linked}
+use Rattle.async_board.specs.Walks.{IsLayout, IsPlaced}
+use Rattle.async_board.proofs.Rested.{rested_set}
 use Rattle.async_board.proofs.board.Board.set_link.Goals as goal
 
-pub begin_anew-requires-clause-places : goal.begin_anew-requires-clause-places
-begin_anew-requires-clause-places c =
-    c.self.invariant.laid.size ∙ (ap length (sym c.order-devices.ensures.order) ∙ (c.order-devices.ensures.count ∙ sym (ap (λ l. length l.parents) c.in-Ok.ensures.ok)))
+pub begin_anew-requires-clause-suspend : goal.begin_anew-requires-clause-suspend
+begin_anew-requires-clause-suspend c =
+    rested_set c.self.inside.layout c.self.inside.suspend c.self.invariant.suspend (λ d k. ap (λ xs. is_among xs d) (sym c.order-devices.ensures.order) ∙ c.order-devices.ensures.covers d k)
+    c.args.supplier c.args.consumer c.args.active _ c.in-Ok.ensures.ok
+
+pub begin_anew-requires-clause-late : goal.begin_anew-requires-clause-late
+begin_anew-requires-clause-late c =
+    rested_set c.self.inside.layout c.self.inside.late c.self.invariant.late (λ d k. ap (λ xs. is_among xs d) (sym c.order-devices.ensures.order) ∙ c.order-devices.ensures.covers d k)
+    c.args.supplier c.args.consumer c.args.active _ c.in-Ok.ensures.ok
+
+pub begin_anew-requires-clause-noirq : goal.begin_anew-requires-clause-noirq
+begin_anew-requires-clause-noirq c =
+    rested_set c.self.inside.layout c.self.inside.noirq c.self.invariant.noirq (λ d k. ap (λ xs. is_among xs d) (sym c.order-devices.ensures.order) ∙ c.order-devices.ensures.covers d k)
+    c.args.supplier c.args.consumer c.args.active _ c.in-Ok.ensures.ok
+
+pub invariant_of-self : goal.invariant_of-self
+invariant_of-self c =
+    let s = c.args.supplier in
+    let d = c.args.consumer in
+    let layout = c.self.inside.layout in
+    record {
+      laid = subst (λ (k : Linked). IsLayout (record { links = k; places = layout.places; beside = layout.beside })) (sym c.in-Ok.ensures.ok)
+          (subst (λ (xs : List ℕ). IsPlaced xs layout.places.items)
+          (sym (order_kept (with_state s d c.args.active) (same_supplier s d c.args.active) (same_consumer s d c.args.active) layout.links.parents layout.links.links)) c.self.invariant.laid);
+      suspend = c.begin_anew.ensures.suspend;
+      late = c.begin_anew.ensures.late;
+      noirq = c.begin_anew.ensures.noirq;
+    }
