@@ -5,10 +5,11 @@ ghost use Rattle.async_board.specs.Cursors.{AreCursors};
 ghost use Rattle.sleep_model.specs.declared.place.Stand.TheVariants as stand;
 ghost use Rattle.async_board.specs.Walks.{IsWalk, IsBelow, IsAbove, MayRestart};
 
+use crate::moves::put;
 use crate::pick::{Look, Pick, first_picked, is_so, last_picked, stand_at};
 use crate::rows::{all_left_alone, count_at, first_low, first_unsettled, is_none};
 use crate::stand::{ended_by, is_at_work, skipped_for, work_in};
-use crate::walk::{Layout, Walk, fill_places, places_of, put};
+use crate::walk::{Layout, Walk, fill_places, places_of};
 use device_links::Links;
 use sleep_base::Mem;
 use sleep_model::{AsyncWork, Kind, Phase, Stand};

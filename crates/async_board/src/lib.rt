@@ -6,6 +6,7 @@ mod board;
 mod counts;
 mod cursors;
 mod law;
+mod moves;
 mod pick;
 mod rows;
 mod stand;

@@ -119,6 +119,31 @@ fn walks_follow_the_order(rt: HostRuntime) -> Result<(), Fail> {
     Ok(())
 }
 
+/// A link that is set, and one that is added, leave no device prepared, whether one was or not.
+#[test]
+fn a_changed_link_begins_anew(rt: HostRuntime) -> Result<(), Fail> {
+    let links = three(&rt, rt.alloc())?;
+    let beside = vec![in rt.alloc(); true; 3]?;
+    let mut board = Board::wired(rt.alloc(), links, beside)?;
+    board.set_link(1, 2, false)?;
+    expect_open(&rt, &board, [2, 0, 0], [0, 0, 0]);
+    note_all(
+        &mut board,
+        &[
+            prepared(0),
+            Kind::Begin(Phase::Suspend, 0),
+            Kind::End(Phase::Suspend, 0, None),
+        ],
+    );
+    expect_open(&rt, &board, [2, 0, 0], [0, 1, 1]);
+    board.set_link(1, 2, true)?;
+    expect_open(&rt, &board, [2, 1, 0], [0, 0, 0]);
+    assert_eq!(rt; board.next_completed(), None);
+    assert!(rt; board.add_link(2, 0).is_err());
+    assert_eq!(rt; board.next_prepared(), Some(0));
+    Ok(())
+}
+
 /// Tests of a stand.
 #[test]
 fn stands_are_told_apart(rt: HostRuntime) -> Result<(), Fail> {

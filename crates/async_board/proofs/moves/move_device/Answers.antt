@@ -7,7 +7,7 @@ use Rattle.async_board.specs.Cursors.{AreCursorsBut}
 use Rattle.async_board.specs.Walks.{order_of}
 use Rattle.sleep_model.specs.Walk.{is_so}
 use Rattle.async_board.proofs.Stood.{cursors_but}
-use Rattle.async_board.proofs.walk.move_device.Goals as goal
+use Rattle.async_board.proofs.moves.move_device.Goals as goal
 
 pub move_cursors-requires-clause-but : goal.move_cursors-requires-clause-but
 move_cursors-requires-clause-but c =

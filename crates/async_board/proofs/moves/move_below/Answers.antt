@@ -6,7 +6,7 @@ use Rattle.sleep_model.proofs.Changing.{active_hanging, fewer_order}
 use Rattle.sleep_model.specs.Stands.{is_unsettled}
 use Rattle.async_board.proofs.Waiting.{first_different}
 use Rattle.async_board.proofs.Layouts.{below_few, below_moved, below_same}
-use Rattle.async_board.proofs.walk.move_below.Goals as goal
+use Rattle.async_board.proofs.moves.move_below.Goals as goal
 
 pub shift-requires-clause-apart : goal.shift-requires-clause-apart
 shift-requires-clause-apart c = rw c.above-above.ensures (first_different (holding c.args.links.now.parents (active_of c.args.links.now.links) c.args.device))

@@ -4,7 +4,7 @@ use Rattle.sleep_model.specs.Order.{active_of, is_among, hanging}
 use Rattle.sleep_model.specs.Stands.{is_low}
 use Rattle.async_board.proofs.Waiting.{first_different}
 use Rattle.async_board.proofs.Layouts.{above_few, above_moved, above_same}
-use Rattle.async_board.proofs.walk.move_above.Goals as goal
+use Rattle.async_board.proofs.moves.move_above.Goals as goal
 
 pub shift-requires-clause-apart : goal.shift-requires-clause-apart
 shift-requires-clause-apart c = rw c.below-below.ensures (first_different (hanging c.args.links.now.parents (active_of c.args.links.now.links) c.args.device))
