@@ -161,6 +161,7 @@ impl<'m> Core<'m> {
     }
 
     /// What the maker makes at a stage, if that has anything left.
+    #[inline(always)]
     fn stage_due(&self, now: EventNow, stage: Stage) -> Due
         requires { IsProper stage }
         ensures { result ≡ stage_due self.now.machine (entries self.now.past) now stage }
@@ -192,18 +193,29 @@ impl<'m> Core<'m> {
         }
     }
 
+    /// What is made at the stage behind one.
+    #[inline(never)]
+    fn next_due(&self, now: EventNow, stage: Stage) -> Due
+        requires { IsProper stage }
+        ensures { result ≡ stage_due self.now.machine (entries self.now.past) now (behind stage) }
+    {
+        self.stage_due(now, behind(stage))
+    }
+
     /// What is made at a stage, or else at the one behind it.
+    #[inline(always)]
     fn stage_or_next(&self, now: EventNow, stage: Stage) -> Due
         requires { IsProper stage }
         ensures { result ≡ stage_or_next self.now.machine (entries self.now.past) now stage }
     {
         match self.stage_due(now, stage) {
-            Due::Gone => self.stage_due(now, behind(stage)),
+            Due::Gone => self.next_due(now, stage),
             due => due,
         }
     }
 
     /// What the maker of the open attempt makes next.
+    #[inline(always)]
     pub(crate) fn attempt_due(&self, now: EventNow) -> Due
         ensures { result ≡ attempt_due self.now.machine (entries self.now.past) now }
     {

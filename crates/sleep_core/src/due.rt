@@ -10,6 +10,7 @@ use sleep_model::{Actor, Due, EventNow};
 
 impl<'m> Core<'m> {
     /// What is due of an actor that makes no attempt.
+    #[inline(never)]
     fn own_due(&self, who: Actor, now: EventNow) -> Due
         requires { IsActor self.now.machine who }
         ensures { result ≡ own_due self.now.machine (entries self.now.past) who now }
@@ -23,6 +24,7 @@ impl<'m> Core<'m> {
     }
 
     /// What is due of an actor that sees this word.
+    #[inline(always)]
     pub fn due(&self, who: Actor, now: EventNow) -> Due
         requires { IsActor self.now.machine who }
         ensures { result ≡ due self.now.machine (entries self.now.past) who now }

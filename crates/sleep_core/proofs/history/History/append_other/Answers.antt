@@ -14,7 +14,7 @@ use Rattle.sleep_core.specs.Histories.{Kept, Settles, guard_of, moved_board}
 use Rattle.sleep_core.proofs.Counted.{guarded_24}
 use Rattle.sleep_core.proofs.Boarded.{board_moves}
 use Rattle.sleep_core.proofs.Freezing.{freezer_moves}
-use Rattle.sleep_core.proofs.history.History.append.Goals as goal
+use Rattle.sleep_core.proofs.history.History.append_other.Goals as goal
 
 pub invariant_of-self-2 : goal.invariant_of-self-2
 invariant_of-self-2 c =
