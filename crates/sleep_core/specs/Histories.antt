@@ -153,6 +153,16 @@ IsOfDevice (kind.End p d r) = Unit {0}
 IsOfDevice (kind.Skip p d cause) = Unit {0}
 IsOfDevice _ = ⊥
 
+-- an entry of that kind is of no device in such a phase
+abbrev pub IsOfNone : Kind → Type 0
+IsOfNone (kind.Prepare d r) = ⊥
+IsOfNone (kind.Complete d) = ⊥
+IsOfNone (kind.Schedule p d) = ⊥
+IsOfNone (kind.Begin p d) = ⊥
+IsOfNone (kind.End p d r) = ⊥
+IsOfNone (kind.Skip p d cause) = ⊥
+IsOfNone _ = Unit {0}
+
 -- the history after an entry
 abbrev pub after_entry : Kept → JournalEntry → Kept
 after_entry kept j = record kept { past = j ∷ kept.past; room = kept.room - 1 }

@@ -3,7 +3,7 @@ ghost use Rattle.sleep_model.specs.Runtime.{is_async};
 ghost use Rattle.async_board.specs.Boards.{first_board};
 ghost use Rattle.sleep_model.specs.Accepted.{IsAccepted};
 ghost use Rattle.sleep_core.specs.FirstParts.{AreFirst};
-ghost use Rattle.sleep_core.specs.Histories.{moved_board};
+ghost use Rattle.sleep_core.specs.Histories.{moved_board, IsOfNone};
 ghost use Rattle.sleep_core.specs.Numbered.{IsCounted};
 ghost use Rattle.wakeup_guard.specs.Guarded.{guarded_after};
 
@@ -72,9 +72,10 @@ fn first_board(alloc: Global, devices: &[Device], links: Links) -> Result<Board,
     Board::wired(alloc, links, beside)
 }
 
-/// The board moves by an entry; where links change, it begins anew. `Mem` where there is no memory for a
-/// link more; nothing has changed then.
-fn move_board(board: &mut Board, kind: Kind) -> Result<(), Mem>
+/// An entry that is of no device moves the board where it changes links: it begins anew. `Mem` where there is
+/// no memory for a link more; nothing has changed then.
+fn move_links(board: &mut Board, kind: Kind) -> Result<(), Mem>
+    requires { IsOfNone kind }
     ensures ok { OnOk result (board.new ≡ moved_board kind board.old) }
     ensures err { OnErr result (IsCounted kind × (board.new ≡ board.old)) }
 {
@@ -90,10 +91,7 @@ fn move_board(board: &mut Board, kind: Kind) -> Result<(), Mem>
             active,
             r: None,
         } => board.set_link(supplier, consumer, active),
-        _ => {
-            board.note(kind);
-            Ok(())
-        }
+        _ => Ok(()),
     }
 }
 
@@ -154,7 +152,7 @@ impl<'m> History<'m> {
     ghost use Rattle.sleep_model.specs.Order.{parents_of};
     ghost use Rattle.sleep_state.specs.Places.{entries};
     ghost use Rattle.sleep_core.specs.Numbered.{IsCounted};
-    ghost use Rattle.sleep_core.specs.Histories.{Admits, Settles, IsOfDevice, after_entry, places_for, HasRoom, last_stamp, guard_of, path_of, devices_of, board_of, tasks_of, freezer_of, autosleep_of, steps_of, parts_of};
+    ghost use Rattle.sleep_core.specs.Histories.{Admits, Settles, IsOfDevice, IsOfNone, after_entry, places_for, HasRoom, last_stamp, guard_of, path_of, devices_of, board_of, tasks_of, freezer_of, autosleep_of, steps_of, parts_of};
 
     /// The empty journal of a machine, and its parts before any entry.
     fn of_parts(machine: &'m Machine, journal: Journal, parts: Parts<'m>, board: Board) -> Self
@@ -244,9 +242,11 @@ impl<'m> History<'m> {
         self.journal.put(stamped);
     }
 
-    /// Appends an entry, which need not be of a device.
+    /// Appends an entry that is of no device. `Mem` where it adds a link, for which there is no memory; nothing
+    /// has changed then.
     #[inline(never)]
     fn append_other(&mut self, stamped: JournalEntry) -> Result<(), Mem>
+        requires other { IsOfNone stamped.entry.kind }
         requires admits { Admits self.old stamped.entry }
         requires board { Settles self.old.machine (entries self.old.past) stamped.entry }
         ensures ok { OnOk result (self.new ≡ after_entry self.old stamped) }
@@ -258,7 +258,7 @@ impl<'m> History<'m> {
             actor,
             kind,
         } = stamped.entry;
-        move_board(&mut self.board, kind)?;
+        move_links(&mut self.board, kind)?;
         self.last = stamped.stamp;
         self.time = time_after(kind, time, self.time);
         self.guard.note(kind, now);
