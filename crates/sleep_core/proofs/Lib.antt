@@ -3,6 +3,7 @@ pub mod Calling
 mod Counted
 mod Freezing
 mod Linked
+mod Passing
 mod Propers
 mod Reporting
 mod Seated

@@ -143,6 +143,26 @@ abbrev pub Settles : Machine → List Entry → Entry → Type 0
 Settles m past e =
     Changes e.kind → first_board (parents_of m.devices) (links_after e.kind (links_at m past)) (map is_async m.devices) ≡ board_of m (e ∷ past)
 
+-- an entry of that kind is of a device, in a phase of devices (struct dev_pm_info)
+abbrev pub IsOfDevice : Kind → Type 0
+IsOfDevice (kind.Prepare d r) = Unit {0}
+IsOfDevice (kind.Complete d) = Unit {0}
+IsOfDevice (kind.Schedule p d) = Unit {0}
+IsOfDevice (kind.Begin p d) = Unit {0}
+IsOfDevice (kind.End p d r) = Unit {0}
+IsOfDevice (kind.Skip p d cause) = Unit {0}
+IsOfDevice _ = ⊥
+
+-- an entry of that kind is of no device in such a phase
+abbrev pub IsOfNone : Kind → Type 0
+IsOfNone (kind.Prepare d r) = ⊥
+IsOfNone (kind.Complete d) = ⊥
+IsOfNone (kind.Schedule p d) = ⊥
+IsOfNone (kind.Begin p d) = ⊥
+IsOfNone (kind.End p d r) = ⊥
+IsOfNone (kind.Skip p d cause) = ⊥
+IsOfNone _ = Unit {0}
+
 -- the history after an entry
 abbrev pub after_entry : Kept → JournalEntry → Kept
 after_entry kept j = record kept { past = j ∷ kept.past; room = kept.room - 1 }

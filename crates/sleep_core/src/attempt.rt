@@ -193,6 +193,7 @@ impl<'m> Core<'m> {
     }
 
     /// What is made at a stage, or else at the one behind it.
+    #[inline(never)]
     fn stage_or_next(&self, now: EventNow, stage: Stage) -> Due
         requires { IsProper stage }
         ensures { result ≡ stage_or_next self.now.machine (entries self.now.past) now stage }
@@ -203,12 +204,18 @@ impl<'m> Core<'m> {
         }
     }
 
-    /// What the maker of the open attempt makes next.
+    /// What the maker of the open attempt makes next. A walk over devices always has something to do, or
+    /// waits, so that the stage behind it is not asked.
+    #[inline(always)]
     pub(crate) fn attempt_due(&self, now: EventNow) -> Due
         ensures { result ≡ attempt_due self.now.machine (entries self.now.past) now }
     {
         match self.stage() {
             None => Due::Gone,
+            Some(Stage::Downs(p)) => self.down_due(now, p),
+            Some(Stage::Ups(p)) => self.up_due(p),
+            Some(Stage::Prepares) => self.prepare_due(),
+            Some(Stage::Completes) => self.complete_due(),
             Some(stage) => self.stage_or_next(now, stage),
         }
     }

@@ -2,6 +2,7 @@
 
 ghost use Rattle.std.specs.Prelude.{◌≡◌};
 ghost use Rattle.sleep_model.specs.Due.{own_due, due};
+ghost use Rattle.sleep_model.specs.Path.{is_actor, maker};
 ghost use Rattle.sleep_state.specs.Places.{entries};
 ghost use Rattle.sleep_core.specs.Cores.{IsActor};
 
@@ -10,6 +11,7 @@ use sleep_model::{Actor, Due, EventNow};
 
 impl<'m> Core<'m> {
     /// What is due of an actor that makes no attempt.
+    #[inline(never)]
     fn own_due(&self, who: Actor, now: EventNow) -> Due
         requires { IsActor self.now.machine who }
         ensures { result ≡ own_due self.now.machine (entries self.now.past) who now }
@@ -22,15 +24,25 @@ impl<'m> Core<'m> {
         }
     }
 
+    /// What is due of an actor that sees this word, and that makes the open attempt or not.
+    #[inline(always)]
+    pub(crate) fn due_of(&self, makes: bool, who: Actor, now: EventNow) -> Due
+        requires makes { makes ≡ is_actor who (maker (entries self.now.past)) }
+        requires actor { IsActor self.now.machine who }
+        ensures { result ≡ due self.now.machine (entries self.now.past) who now }
+    {
+        if makes {
+            self.attempt_due(now)
+        } else {
+            self.own_due(who, now)
+        }
+    }
+
     /// What is due of an actor that sees this word.
     pub fn due(&self, who: Actor, now: EventNow) -> Due
         requires { IsActor self.now.machine who }
         ensures { result ≡ due self.now.machine (entries self.now.past) who now }
     {
-        if self.is_maker(who) {
-            self.attempt_due(now)
-        } else {
-            self.own_due(who, now)
-        }
+        self.due_of(self.is_maker(who), who, now)
     }
 }

@@ -3,8 +3,9 @@ ghost use Rattle.sleep_model.specs.Runtime.{is_async};
 ghost use Rattle.async_board.specs.Boards.{first_board};
 ghost use Rattle.sleep_model.specs.Accepted.{IsAccepted};
 ghost use Rattle.sleep_core.specs.FirstParts.{AreFirst};
-ghost use Rattle.sleep_core.specs.Histories.{moved_board};
+ghost use Rattle.sleep_core.specs.Histories.{moved_board, IsOfNone};
 ghost use Rattle.sleep_core.specs.Numbered.{IsCounted};
+ghost use Rattle.wakeup_guard.specs.Guarded.{guarded_after};
 
 use crate::clock::time_after;
 use async_board::Board;
@@ -12,7 +13,9 @@ use autosleep_loop::Autosleep;
 use device_links::Links;
 use platform_steps::Platform;
 use sleep_base::Mem;
-use sleep_model::{Device, DeviceFlags, Entry, Journal, JournalEntry, Kind, Machine, Stamp, pos};
+use sleep_model::{
+    Device, DeviceFlags, Entry, EventNow, Journal, JournalEntry, Kind, Machine, Stamp, pos,
+};
 use sleep_state::{Devices, Path, Tasks};
 use std::alloc::{AllocError, Global};
 use std::marker::Model;
@@ -69,9 +72,10 @@ fn first_board(alloc: Global, devices: &[Device], links: Links) -> Result<Board,
     Board::wired(alloc, links, beside)
 }
 
-/// The board moves by an entry; where links change, it begins anew. `Mem` where there is no memory for a
-/// link more; nothing has changed then.
-fn move_board(board: &mut Board, kind: Kind) -> Result<(), Mem>
+/// An entry that is of no device moves the board where it changes links: it begins anew. `Mem` where there is
+/// no memory for a link more; nothing has changed then.
+fn move_links(board: &mut Board, kind: Kind) -> Result<(), Mem>
+    requires { IsOfNone kind }
     ensures ok { OnOk result (board.new ≡ moved_board kind board.old) }
     ensures err { OnErr result (IsCounted kind × (board.new ≡ board.old)) }
 {
@@ -87,10 +91,22 @@ fn move_board(board: &mut Board, kind: Kind) -> Result<(), Mem>
             active,
             r: None,
         } => board.set_link(supplier, consumer, active),
-        _ => {
-            board.note(kind);
-            Ok(())
-        }
+        _ => Ok(()),
+    }
+}
+
+/// The guard takes down an entry. Of those of a device it knows skips alone, which may drop the count in force.
+#[inline(always)]
+fn move_guard(guard: &mut Guard<24>, kind: Kind, now: EventNow)
+    ensures { guard.new ≡ guarded_after 24 kind now guard.old }
+{
+    match kind {
+        Kind::Prepare { .. }
+        | Kind::Complete(_)
+        | Kind::Schedule(..)
+        | Kind::Begin(..)
+        | Kind::End(..) => {}
+        _ => guard.note(kind, now),
     }
 }
 
@@ -136,7 +152,7 @@ impl<'m> History<'m> {
     ghost use Rattle.sleep_model.specs.Order.{parents_of};
     ghost use Rattle.sleep_state.specs.Places.{entries};
     ghost use Rattle.sleep_core.specs.Numbered.{IsCounted};
-    ghost use Rattle.sleep_core.specs.Histories.{Admits, Settles, after_entry, places_for, HasRoom, last_stamp, guard_of, path_of, devices_of, board_of, tasks_of, freezer_of, autosleep_of, steps_of, parts_of};
+    ghost use Rattle.sleep_core.specs.Histories.{Admits, Settles, IsOfDevice, IsOfNone, after_entry, places_for, HasRoom, last_stamp, guard_of, path_of, devices_of, board_of, tasks_of, freezer_of, autosleep_of, steps_of, parts_of};
 
     /// The empty journal of a machine, and its parts before any entry.
     fn of_parts(machine: &'m Machine, journal: Journal, parts: Parts<'m>, board: Board) -> Self
@@ -184,7 +200,53 @@ impl<'m> History<'m> {
 
     /// Appends an entry in a reserved place. `Mem` where it adds a link, for which there is no memory; nothing
     /// has changed then.
+    #[inline(always)]
     pub fn append(&mut self, stamped: JournalEntry) -> Result<(), Mem>
+        requires admits { Admits self.old stamped.entry }
+        requires board { Settles self.old.machine (entries self.old.past) stamped.entry }
+        ensures ok { OnOk result (self.new ≡ after_entry self.old stamped) }
+        ensures err { OnErr result (IsCounted stamped.entry.kind × (self.new ≡ self.old)) }
+    {
+        match stamped.entry.kind {
+            Kind::Prepare { .. }
+            | Kind::Complete(_)
+            | Kind::Schedule(..)
+            | Kind::Begin(..)
+            | Kind::End(..)
+            | Kind::Skip(..) => {
+                self.append_device(stamped);
+                Ok(())
+            }
+            _ => self.append_other(stamped),
+        }
+    }
+
+    /// Appends an entry that is of a device. It concerns the board, what the phases of devices keep, and the
+    /// count in force, which a skip may drop; the other parts know no such entry.
+    #[inline(always)]
+    fn append_device(&mut self, stamped: JournalEntry)
+        requires room { 0 < self.old.room }
+        requires device { IsOfDevice stamped.entry.kind }
+        ensures { self.new ≡ after_entry self.old stamped }
+    {
+        let Entry {
+            now,
+            actor,
+            kind,
+            ..
+        } = stamped.entry;
+        self.board.note(kind);
+        move_guard(&mut self.guard, kind, now);
+        self.devices.note(kind, actor);
+        self.last = stamped.stamp;
+        self.journal.put(stamped);
+    }
+
+    /// Appends an entry that is of no device. `Mem` where it adds a link, for which there is no memory; nothing
+    /// has changed then.
+    #[inline(never)]
+    fn append_other(&mut self, stamped: JournalEntry) -> Result<(), Mem>
+        requires other { IsOfNone stamped.entry.kind }
         requires admits { Admits self.old stamped.entry }
         requires board { Settles self.old.machine (entries self.old.past) stamped.entry }
         ensures ok { OnOk result (self.new ≡ after_entry self.old stamped) }
@@ -196,7 +258,7 @@ impl<'m> History<'m> {
             actor,
             kind,
         } = stamped.entry;
-        move_board(&mut self.board, kind)?;
+        move_links(&mut self.board, kind)?;
         self.last = stamped.stamp;
         self.time = time_after(kind, time, self.time);
         self.guard.note(kind, now);

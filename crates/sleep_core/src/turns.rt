@@ -115,11 +115,13 @@ impl<'m> Core<'m> {
         self.leaves_attempts(kind) && self.leaves_runs(kind) && self.leaves_marks(kind)
     }
 
-    /// Whether an entry of that actor is of the open attempt: its maker's, or a device's.
-    fn is_own(&self, who: Actor) -> bool
+    /// Whether an entry of that actor, which makes the open attempt or not, is of the attempt: its maker's, or a
+    /// device's.
+    fn is_own(&self, makes: bool, who: Actor) -> bool
+        requires { makes ≡ is_actor who (maker (entries self.now.past)) }
         ensures { result ≡ (is_actor who (maker (entries self.now.past)) || is_device who) }
     {
-        self.is_maker(who) || is_device(who)
+        makes || is_device(who)
     }
 
     /// How many calls on sources the callback reports that an entry begins.
@@ -137,7 +139,15 @@ impl<'m> Core<'m> {
 
     /// Makes the entry that is due. `Mem` where there is no memory for it, or no number; never for the maker
     /// of the open attempt, nor for a device.
-    fn make(&mut self, who: Actor, now: EventNow, kind: Kind, stamp: Stamp) -> Result<(), CoreFault>
+    fn make(
+        &mut self,
+        makes: bool,
+        who: Actor,
+        now: EventNow,
+        kind: Kind,
+        stamp: Stamp,
+    ) -> Result<(), CoreFault>
+        requires makes { makes ≡ is_actor who (maker (entries self.old.past)) }
         requires actor { IsActor self.old.machine who }
         requires due { due self.old.machine (entries self.old.past) who now ≡ Makes kind }
         requires calls { calls_due self.old.machine who (entries self.old.past) < 2 ^ 32 }
@@ -147,7 +157,7 @@ impl<'m> Core<'m> {
         })) }
         ensures err { OnErr result ((is_actor who (maker (entries self.old.past)) ≡ false) × (is_device who ≡ false) × (self.new ≡ self.old)) }
     {
-        let own = self.is_own(who);
+        let own = self.is_own(makes, who);
         if !self.leaves(kind) {
             return Err(CoreFault::Mem);
         }
@@ -185,7 +195,8 @@ impl<'m> Core<'m> {
         requires calls { calls_due self.old.machine who (entries self.old.past) < 2 ^ 32 }
         ensures { AfterTurn self.old self.new who word floor result }
     {
-        match self.due(who, word) {
+        let makes = self.is_maker(who);
+        match self.due_of(makes, who, word) {
             Due::Waits(why) => Ok(CoreTurn::NotYet(why)),
             Due::Gone => Ok(CoreTurn::Done),
             Due::Makes(kind) => {
@@ -194,7 +205,7 @@ impl<'m> Core<'m> {
                     pos: pos(word),
                     tick,
                 };
-                self.make(who, word, kind, stamp)?;
+                self.make(makes, who, word, kind, stamp)?;
                 let attempt = self.history.path().attempts();
                 Ok(CoreTurn::Did {
                     stamp,

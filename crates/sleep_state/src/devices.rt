@@ -1,6 +1,8 @@
 ghost use Rattle.std.specs.Prelude.{◌≡◌, map, IfOk};
-ghost use Rattle.sleep_model.specs.Devices.{callback_after, willing_after, error_in, error_by, phase_failed_after, own_error_after, is_device, is_one};
-ghost use Rattle.sleep_model.specs.Runtime.{starts_suspended, statuses_after, leaves_alone_after, takes_late_after};
+ghost use Rattle.sleep_model.specs.Answers.{error_of_number};
+ghost use Rattle.sleep_model.specs.Devices.{error_in, error_by, is_device};
+ghost use Rattle.sleep_model.specs.Runtime.{starts_suspended, alone_by, alone_until, late_by, late_until};
+ghost use Rattle.sleep_model.specs.Walk.{or_else};
 
 use device_rows::Flags;
 use phase_table::Phase;
@@ -46,17 +48,6 @@ fn is_device(who: Actor) -> bool
     matches!(who, Actor::Dev(_))
 }
 
-/// The callback that the attempt's maker runs, after an entry, which is a device's own or not.
-fn callback_after(kind: Kind, own: bool, before: Option<Callback>) -> Option<Callback>
-    ensures { result ≡ callback_after kind own before }
-{
-    match kind {
-        Kind::Begin(phase, device) if !own => Some(Callback { phase, device }),
-        Kind::End(..) if !own => None,
-        _ => before,
-    }
-}
-
 /// The error of a callback on the way down counts.
 fn error_in(phase: Phase, r: Option<Errno>, before: Option<Errno>) -> Option<Errno>
     ensures { result ≡ error_in phase r before }
@@ -67,80 +58,72 @@ fn error_in(phase: Phase, r: Option<Errno>, before: Option<Errno>) -> Option<Err
     }
 }
 
-/// The error of the phase, after an entry (`async_error`).
-fn failed_after(kind: Kind, before: Option<Errno>) -> Option<Errno>
-    ensures { result ≡ phase_failed_after kind before }
+/// A wakeup that a device finds is an error of its phase (`async_error`).
+fn error_by(cause: SkipCause, before: Option<Errno>) -> Option<Errno>
+    ensures { result ≡ error_by cause before }
 {
-    match kind {
-        Kind::Attempt { .. } | Kind::Done(..) => None,
-        Kind::Prepare { r, .. } => match error_of_number(r) {
-            None => before,
-            error => error,
-        },
-        Kind::End(phase, _, r) => error_in(phase, r, before),
-        Kind::Skip(_, _, SkipCause::Pending) => Some(Errno::EBUSY),
+    match cause {
+        SkipCause::Pending => Some(Errno::EBUSY),
         _ => before,
     }
 }
 
-/// The error of a synchronous device's callback, after an entry, which is a device's own or not.
-fn own_error_after(kind: Kind, own: bool, before: Option<Errno>) -> Option<Errno>
-    ensures { result ≡ own_error_after kind own before }
+/// An answer to prepare that is an error's number is the phase's error.
+fn error_of(r: i32, before: Option<Errno>) -> Option<Errno>
+    ensures { result ≡ or_else (error_of_number r) before }
 {
-    match kind {
-        Kind::Attempt { .. } | Kind::Done(..) => None,
-        Kind::End(phase, _, r) if !own => error_in(phase, r, before),
+    match error_of_number(r) {
+        None => before,
+        error => error,
+    }
+}
+
+/// Suspend has left a device alone, after a skip.
+fn alone_by(phase: Phase, cause: SkipCause, before: bool) -> bool
+    ensures { result ≡ alone_by phase cause before }
+{
+    match (phase, cause) {
+        (Phase::Suspend, SkipCause::Direct) => true,
         _ => before,
     }
 }
 
-/// Suspend has left a device alone, and resume is not done since, after an entry.
-fn leaves_alone_after(kind: Kind, before: bool) -> bool
-    ensures { result ≡ leaves_alone_after kind before }
+/// It has left none alone any more, after resume.
+fn alone_until(phase: Phase, before: bool) -> bool
+    ensures { result ≡ alone_until phase before }
 {
-    match kind {
-        Kind::Skip(Phase::Suspend, _, SkipCause::Direct) => true,
-        Kind::Done(Phase::Resume, _) => false,
+    match phase {
+        Phase::Resume => false,
         _ => before,
     }
 }
 
-/// Late has taken a device, and early is not done since, after an entry.
-fn takes_late_after(kind: Kind, before: bool) -> bool
-    ensures { result ≡ takes_late_after kind before }
+/// Late has taken a device, after a begin or a skip.
+fn late_by(phase: Phase, before: bool) -> bool
+    ensures { result ≡ late_by phase before }
 {
-    match kind {
-        Kind::Begin(Phase::Late, _) | Kind::Skip(Phase::Late, ..) => true,
-        Kind::Done(Phase::Early, _) => false,
+    match phase {
+        Phase::Late => true,
         _ => before,
     }
 }
 
-/// Which devices may be left alone: those whose last prepare answered 1.
-fn move_willing(willing: &mut Flags, kind: Kind)
-    ensures { willing.new ≡ willing_after kind willing.old }
+/// It has taken none any more, after early.
+fn late_until(phase: Phase, before: bool) -> bool
+    ensures { result ≡ late_until phase before }
 {
-    if let Kind::Prepare { device, r } = kind {
-        willing.set(device, r == 1);
-    }
-}
-
-/// Which devices are runtime suspended: a request that answers 0 sets it.
-fn move_statuses(statuses: &mut Flags, kind: Kind)
-    ensures { statuses.new ≡ statuses_after kind statuses.old }
-{
-    if let Kind::RuntimeAsk {
-        device,
-        to_suspended,
-        r: None,
-    } = kind
-    {
-        statuses.set(device, to_suspended);
+    match phase {
+        Phase::Early => false,
+        _ => before,
     }
 }
 
 impl Devices {
-    ghost use Rattle.std.specs.Prelude.{◌≡◌, IfOk};
+    ghost use Rattle.std.specs.Prelude.{◌≡◌, IfOk, Some, None, slice_set};
+    ghost use Rattle.sleep_model.specs.Answers.{error_of_number};
+    ghost use Rattle.sleep_model.specs.Devices.{unless_own, error_in, error_by, is_one};
+    ghost use Rattle.sleep_model.specs.Runtime.{set_status, alone_by, alone_until, late_by, late_until};
+    ghost use Rattle.sleep_model.specs.Walk.{or_else};
     ghost use Rattle.sleep_state.specs.DeviceStates.{devices_after, undisturbed};
 
     /// No phase is open, and the devices have the runtime status that the file gives them. `Mem` where there
@@ -160,17 +143,108 @@ impl Devices {
     }
 
     /// What an entry of that actor does.
+    #[inline(always)]
     pub fn note(&mut self, kind: Kind, who: Actor)
         ensures { self.new ≡ devices_after kind who self.old }
     {
-        let own = is_device(who);
-        self.callback = callback_after(kind, own, self.callback);
-        self.failed = failed_after(kind, self.failed);
-        self.own_error = own_error_after(kind, own, self.own_error);
-        self.leaves_alone = leaves_alone_after(kind, self.leaves_alone);
-        self.takes_late = takes_late_after(kind, self.takes_late);
-        move_willing(&mut self.willing, kind);
-        move_statuses(&mut self.statuses, kind);
+        match kind {
+            Kind::Attempt { .. } => self.open(),
+            Kind::Prepare { device, r } => self.prepared(device, r),
+            Kind::Begin(phase, device) => self.begun(phase, device, is_device(who)),
+            Kind::End(phase, _, r) => self.ended(phase, r, is_device(who)),
+            Kind::Skip(phase, _, cause) => self.skipped(phase, cause),
+            Kind::Done(phase, _) => self.close(phase),
+            Kind::RuntimeAsk {
+                device,
+                to_suspended,
+                r,
+            } => self.asked(device, to_suspended, r),
+            _ => {}
+        }
+    }
+
+    /// An attempt begins without errors.
+    fn open(&mut self)
+        ensures { self.new ≡ record self.old { failed = None; own_error = None } }
+    {
+        self.failed = None;
+        self.own_error = None;
+    }
+
+    /// A device was prepared: it may be left alone if it answered 1.
+    fn prepared(&mut self, device: u32, r: i32)
+        ensures { self.new ≡ record self.old {
+          failed = or_else (error_of_number r) self.old.failed;
+          willing = slice_set self.old.willing device (is_one r);
+        } }
+    {
+        self.failed = error_of(r, self.failed);
+        self.willing.set(device, r == 1);
+    }
+
+    /// A callback begins, in a device's own work or not.
+    fn begun(&mut self, phase: Phase, device: u32, own: bool)
+        ensures { self.new ≡ record self.old {
+          callback = unless_own own self.old.callback (Some (record { phase = phase; device = device }));
+          takes_late = late_by phase self.old.takes_late;
+        } }
+    {
+        if !own {
+            self.callback = Some(Callback { phase, device });
+        }
+        self.takes_late = late_by(phase, self.takes_late);
+    }
+
+    /// A callback ends, in a device's own work or not.
+    fn ended(&mut self, phase: Phase, r: Option<Errno>, own: bool)
+        ensures { self.new ≡ record self.old {
+          callback = unless_own own self.old.callback None;
+          failed = error_in phase r self.old.failed;
+          own_error = unless_own own self.old.own_error (error_in phase r self.old.own_error);
+        } }
+    {
+        self.failed = error_in(phase, r, self.failed);
+        if !own {
+            self.callback = None;
+            self.own_error = error_in(phase, r, self.own_error);
+        }
+    }
+
+    /// A device's callback was not called.
+    fn skipped(&mut self, phase: Phase, cause: SkipCause)
+        ensures { self.new ≡ record self.old {
+          failed = error_by cause self.old.failed;
+          leaves_alone = alone_by phase cause self.old.leaves_alone;
+          takes_late = late_by phase self.old.takes_late;
+        } }
+    {
+        self.failed = error_by(cause, self.failed);
+        self.leaves_alone = alone_by(phase, cause, self.leaves_alone);
+        self.takes_late = late_by(phase, self.takes_late);
+    }
+
+    /// A phase is done, and its errors are forgotten.
+    fn close(&mut self, phase: Phase)
+        ensures { self.new ≡ record self.old {
+          failed = None;
+          own_error = None;
+          leaves_alone = alone_until phase self.old.leaves_alone;
+          takes_late = late_until phase self.old.takes_late;
+        } }
+    {
+        self.failed = None;
+        self.own_error = None;
+        self.leaves_alone = alone_until(phase, self.leaves_alone);
+        self.takes_late = late_until(phase, self.takes_late);
+    }
+
+    /// A request for a device's runtime status sets it if it is answered 0.
+    fn asked(&mut self, device: u32, to_suspended: bool, r: Option<Errno>)
+        ensures { self.new ≡ record self.old { statuses = set_status r device to_suspended self.old.statuses } }
+    {
+        if r.is_none() {
+            self.statuses.set(device, to_suspended);
+        }
     }
 
     /// The callback that the attempt's maker runs, if one.

@@ -14,7 +14,7 @@ use Rattle.sleep_core.specs.Histories.{Kept, Settles, guard_of, moved_board}
 use Rattle.sleep_core.proofs.Counted.{guarded_24}
 use Rattle.sleep_core.proofs.Boarded.{board_moves}
 use Rattle.sleep_core.proofs.Freezing.{freezer_moves}
-use Rattle.sleep_core.proofs.history.History.append.Goals as goal
+use Rattle.sleep_core.proofs.history.History.append_other.Goals as goal
 
 pub invariant_of-self-2 : goal.invariant_of-self-2
 invariant_of-self-2 c =
@@ -28,7 +28,7 @@ invariant_of-self-2 c =
       guard_is = c.note.ensures ∙ (ap (guarded_after 24 e.kind e.now) i.guard_is ∙ guarded_24 e.kind e.now (guard_of (entries c.self.inside.journal.past)));
       path_is = c.note-2.ensures ∙ (ap (λ p. path_after e.kind e.actor p e.time c.self.inside.path) c.pos.ensures ∙ ap (path_after e.kind e.actor (position e.now) e.time) i.path_is);
       devices_is = c.note-3.ensures ∙ ap (devices_after e.kind e.actor) i.devices_is;
-      board_is = c.in_ok-move_board.ensures.ok ∙ (ap (moved_board e.kind) i.board_is ∙ board_moves c.self.inside.machine.now (entries c.self.inside.journal.past) e (subst (λ (k : Kept). Settles k.machine (entries k.past) e) (sym c.self.view_is) c.requires.board));
+      board_is = c.in_ok-move_links.ensures.ok ∙ (ap (moved_board e.kind) i.board_is ∙ board_moves c.self.inside.machine.now (entries c.self.inside.journal.past) e (subst (λ (k : Kept). Settles k.machine (entries k.past) e) (sym c.self.view_is) c.requires.board));
       tasks_is = c.note-4.ensures ∙ ap (tasks_after e.actor e.kind) i.tasks_is;
       freezer_is = c.note-5.ensures ∙ (ap (freezer_after e.actor e.kind) i.freezer_is ∙ freezer_moves c.self.inside.machine.now e (entries c.self.inside.journal.past));
       autosleep_is = c.note-6.ensures ∙ ap (autosleep_after e.kind e.actor) i.autosleep_is;
@@ -48,7 +48,7 @@ invariant_of-self c =
       guard_is = i.guard_is;
       path_is = i.path_is;
       devices_is = i.devices_is;
-      board_is = c.in_err-move_board.ensures.err.1 ∙ i.board_is;
+      board_is = c.in_err-move_links.ensures.err.1 ∙ i.board_is;
       tasks_is = i.tasks_is;
       freezer_is = i.freezer_is;
       autosleep_is = i.autosleep_is;
