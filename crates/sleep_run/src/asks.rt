@@ -1,4 +1,4 @@
-ghost use Rattle.std.specs.Prelude.{◌<◌, IfSome};
+ghost use Rattle.std.specs.Prelude.{◌<◌, ◌^◌, IfSome};
 
 use sleep_base::Mem;
 use std::alloc::Global;
@@ -16,6 +16,15 @@ pub(crate) struct Asks {
 /// The bit of a number's word.
 fn word_bit(number: u32) -> u64 {
     1 << (number / 64).min(63)
+}
+
+/// The first number of a word that has some, of so many.
+fn first_of(at: u32, word: u64, many: u32) -> Option<u32>
+    requires { at < 2 ^ 26 }
+    ensures { IfSome result (λ n. n < many) }
+{
+    let number = at * 64 + word.trailing_zeros().min(63);
+    if number < many { Some(number) } else { None }
 }
 
 impl Asks {
@@ -48,6 +57,21 @@ impl Asks {
         self.full == 0
     }
 
+    /// The numbers from 64 times that one on, as far as one word goes.
+    fn word(&self, at: u32) -> u64 {
+        match self.words.get(at as usize) {
+            Some(word) => *word,
+            None => 0,
+        }
+    }
+
+    /// Whether that number and no other is in it. A number that shares its bit of full words is never said to be.
+    pub(crate) fn is_only(&self, number: u32) -> bool {
+        number / 64 < 63
+            && self.full == word_bit(number)
+            && self.word(number / 64) == 1 << (number % 64)
+    }
+
     /// All that are in the other are in it.
     pub(crate) fn add(&mut self, other: &Asks) {
         for (word, more) in self.words.iter_mut().zip(other.words.iter()) {
@@ -70,20 +94,44 @@ impl Asks {
     }
 
     /// The first from a number on that is in it, of so many.
+    #[inline(always)]
     pub(crate) fn next(&self, from: u32, many: u32) -> Option<u32>
         ensures { IfSome result (λ n. n < many) }
     {
-        if from >= many || self.full < word_bit(from) {
+        let left = self.word(from / 64) & (u64::MAX << (from % 64));
+        if left == 0 {
+            return self.next_behind(from / 64 + 1, many);
+        }
+        first_of(from / 64, left, many)
+    }
+
+    /// The first in the words from that one on, of so many.
+    #[inline(always)]
+    fn next_behind(&self, from: u32, many: u32) -> Option<u32>
+        ensures { IfSome result (λ n. n < many) }
+    {
+        let full = self.full & (u64::MAX << from.min(63));
+        if full == 0 {
             return None;
         }
-        let mut mask = u64::MAX << (from % 64);
-        for at in from / 64..many / 64 + 1 {
-            let left = *self.words.get(at as usize)? & mask;
+        let at = full.trailing_zeros();
+        if at < 63 {
+            first_of(at, self.word(at), many)
+        } else {
+            self.next_far(from.max(63), many)
+        }
+    }
+
+    /// The first in the words from that one on, which share a bit of the full words, of so many.
+    #[cold]
+    fn next_far(&self, from: u32, many: u32) -> Option<u32>
+        ensures { IfSome result (λ n. n < many) }
+    {
+        for at in from..many / 64 + 1 {
+            let left = self.word(at);
             if left != 0 {
-                let number = at * 64 + left.trailing_zeros();
-                return if number < many { Some(number) } else { None };
+                return first_of(at, left, many);
             }
-            mask = u64::MAX;
         }
         None
     }

@@ -14,12 +14,13 @@ use std::alloc::Global;
 use std::sync::Wait;
 
 impl<'m> Run<'m> {
-    ghost use Rattle.std.specs.Prelude.{◌≤◌, ◌<◌, length, IfOk, IfErr};
+    ghost use Rattle.std.specs.Prelude.{◌≡◌, ◌≤◌, ◌<◌, length, IfSome, IfOk, IfErr};
     ghost use Rattle.sleep_core.specs.Cores.{IsActor};
     ghost use Rattle.sleep_run.specs.Runs.{Fails, IsRun, AfterTry, AfterAll};
     ghost use Rattle.sleep_run.specs.Tries.{AfterAsking};
 
     /// An actor's try in a round: its next call on a source, else its turn. What the core answers to a turn.
+    #[inline(always)]
     fn ask<R: Wait>(&mut self, rt: &R, who: Actor) -> Result<Tried, RunFault>
         requires { IsActor self.old.machine who }
         ensures machine { self.new.machine ≡ self.old.machine }
@@ -35,94 +36,81 @@ impl<'m> Run<'m> {
         }
     }
 
-    /// The try of a script, which is not asked again until something may have ended its wait. Whether entries
-    /// were made.
-    fn ask_script<R: Wait>(&mut self, rt: &R, script: u32) -> Result<bool, RunFault>
-        requires { script < length self.old.machine.actors }
+    /// The try of an actor, which is not asked again until something may have ended its wait. Whether entries were made.
+    #[inline(always)]
+    fn ask_once<R: Wait>(&mut self, rt: &R, who: Actor) -> Result<bool, RunFault>
+        requires { IsActor self.old.machine who }
         ensures machine { self.new.machine ≡ self.old.machine }
         ensures after { AfterTry self.old self.new result }
     {
-        match self.ask(rt, Actor::Script(script))? {
+        match self.ask(rt, who)? {
             Tried::Made => Ok(true),
             Tried::Waits(why) => {
-                self.waiters.script_waits(script, why);
+                self.waiters.waits(who, why);
                 Ok(false)
             }
             Tried::Gone => {
-                self.waiters.script_is_gone(script);
+                self.waiters.is_gone(who);
                 Ok(false)
             }
         }
     }
 
-    /// The tries of the scripts that may have something to do, in order. Whether entries were made.
-    fn ask_scripts<R: Wait>(&mut self, rt: &R) -> Result<bool, RunFault>
-        ensures machine { self.new.machine ≡ self.old.machine }
-        ensures after { AfterTry self.old self.new result }
-    {
-        let scripts = self.machine.actors.len() as u32;
-        let mut made = false;
-        let mut from = 0;
-        for _ in 0..scripts {
-            let Some(script) = self.waiters.next_script(from, scripts) else {
-                break;
-            };
-            made = self.ask_script(rt, script)? | made;
-            from = script + 1;
-        }
-        Ok(made)
-    }
-
-    /// The try of the autosleep work, where it may have something to do. Whether an entry was made.
-    fn ask_work<R: Wait>(&mut self, rt: &R) -> Result<bool, RunFault>
-        ensures machine { self.new.machine ≡ self.old.machine }
-        ensures after { AfterTry self.old self.new result }
-    {
-        if !self.waiters.asks_auto() {
-            return Ok(false);
-        }
-        match self.ask(rt, Actor::Auto)? {
-            Tried::Made => Ok(true),
-            Tried::Waits(why) => {
-                self.waiters.auto_waits(why);
-                Ok(false)
-            }
-            Tried::Gone => {
-                self.waiters.auto_is_gone();
-                Ok(false)
-            }
-        }
-    }
-
-    /// The try of a device, which is not asked again until another has come further. Whether an entry was made.
-    fn ask_device<R: Wait>(&mut self, rt: &R, device: u32) -> Result<bool, RunFault>
-        requires { device < length self.old.machine.devices }
-        ensures machine { self.new.machine ≡ self.old.machine }
-        ensures after { AfterTry self.old self.new result }
-    {
-        match self.ask(rt, Actor::Dev(device))? {
-            Tried::Made => Ok(true),
-            _ => {
-                self.waiters.device_waits(device);
-                Ok(false)
-            }
-        }
-    }
-
-    /// The tries of the devices that may have something to do, by number. Whether entries were made.
-    fn ask_devices<R: Wait>(&mut self, rt: &R) -> Result<bool, RunFault>
-        ensures machine { self.new.machine ≡ self.old.machine }
-        ensures after { AfterTry self.old self.new result }
+    /// The first device from a number on that may have something to do.
+    #[inline(always)]
+    fn next_device(&self, from: u32) -> Option<Actor>
+        ensures { IfSome result (IsActor self.now.machine) }
     {
         let devices = self.machine.devices.len() as u32;
+        match self.waiters.next_device(from, devices) {
+            Some(device) => Some(Actor::Dev(device)),
+            None => None,
+        }
+    }
+
+    /// The first that may have something to do of the scripts from a number on, the autosleep work and the devices.
+    #[inline(always)]
+    fn next_from(&self, script: u32) -> Option<Actor>
+        ensures { IfSome result (IsActor self.now.machine) }
+    {
+        let scripts = self.machine.actors.len() as u32;
+        match self.waiters.next_script(script, scripts) {
+            Some(script) => Some(Actor::Script(script)),
+            None if self.waiters.asks_auto() => Some(Actor::Auto),
+            None => self.next_device(0),
+        }
+    }
+
+    /// The next behind an actor that may have something to do.
+    #[inline(always)]
+    fn next_after(&self, who: Actor) -> Option<Actor>
+        requires { IsActor self.now.machine who }
+        ensures { IfSome result (IsActor self.now.machine) }
+    {
+        match who {
+            Actor::Script(script) => self.next_from(script.saturating_add(1)),
+            Actor::Dev(device) => self.next_device(device.saturating_add(1)),
+            _ => self.next_device(0),
+        }
+    }
+
+    /// The tries of the scripts, the autosleep work and the devices that may have something to do, in order. One that is
+    /// alone with that is asked on: each such try is a round of its own. Whether entries were made.
+    #[inline(always)]
+    fn ask_actors<R: Wait>(&mut self, rt: &R) -> Result<bool, RunFault>
+        ensures machine { self.new.machine ≡ self.old.machine }
+        ensures after { AfterTry self.old self.new result }
+    {
         let mut made = false;
-        let mut from = 0;
-        for _ in 0..devices {
-            let Some(device) = self.waiters.next_device(from, devices) else {
+        let mut next = self.next_from(0);
+        for _ in 0..u64::MAX {
+            let Some(who) = next else {
                 break;
             };
-            made = self.ask_device(rt, device)? | made;
-            from = device + 1;
+            made = self.ask_once(rt, who)? | made;
+            if !self.waiters.is_alone(who) {
+                next = self.next_after(who);
+            }
         }
         Ok(made)
     }
@@ -153,14 +141,13 @@ impl<'m> Run<'m> {
         Ok(made)
     }
 
-    /// The tries of the timers, where a moment may have come. Whether entries were made.
+    /// The tries of the timers, which are not asked again until time has jumped where none was due. Whether entries
+    /// were made.
+    #[inline(never)]
     fn ask_timers<R: Wait>(&mut self, rt: &R) -> Result<bool, RunFault>
         ensures machine { self.new.machine ≡ self.old.machine }
         ensures after { AfterTry self.old self.new result }
     {
-        if !self.waiters.asks_timers() {
-            return Ok(false);
-        }
         let made = self.ask_all_timers(rt)?;
         if !made {
             self.waiters.timers_wait();
@@ -170,15 +157,30 @@ impl<'m> Run<'m> {
 
     /// One round: each actor that may have something to do gets one try, the scripts first, then the autosleep
     /// work, the devices and the timers. Whether entries were made.
+    #[inline(always)]
     fn round<R: Wait>(&mut self, rt: &R) -> Result<bool, RunFault>
         ensures machine { self.new.machine ≡ self.old.machine }
         ensures after { AfterTry self.old self.new result }
     {
-        let by_script = self.ask_scripts(rt)?;
-        let by_work = self.ask_work(rt)? | by_script;
-        let by_device = self.ask_devices(rt)? | by_work;
-        let by_timer = self.ask_timers(rt)? | by_device;
-        Ok(by_timer)
+        let by_actor = self.ask_actors(rt)?;
+        if self.waiters.asks_timers() {
+            let by_timer = self.ask_timers(rt)? | by_actor;
+            return Ok(by_timer);
+        }
+        Ok(by_actor)
+    }
+
+    /// Rounds, for as long as each makes entries. Whether the last one did.
+    fn rounds<R: Wait>(&mut self, rt: &R) -> Result<bool, RunFault>
+        ensures machine { self.new.machine ≡ self.old.machine }
+        ensures fault { IfErr result (Fails self.old.machine) }
+    {
+        for _ in 0..u64::MAX {
+            if !self.round(rt)? {
+                return Ok(false);
+            }
+        }
+        Ok(true)
     }
 
     /// Rounds, and jumps of time between them, to the end.
@@ -187,7 +189,7 @@ impl<'m> Run<'m> {
         ensures after { AfterAll self.new result }
     {
         for _ in rt.forever() {
-            if self.round(rt)? {
+            if self.rounds(rt)? {
                 continue;
             }
             match self.rest(rt)? {

@@ -148,29 +148,18 @@ fn fault_of(fault: SourceFault, source: u32) -> RunFault
     }
 }
 
-/// After an entry: the asynchronous devices that may have something to do by it. One may that is given out and waits
-/// for none: at once, or once the last is through that it waited for, right below it on the way down, right
-/// above it on the way up. A device that is through has nothing to do.
-fn stir_devices(core: &Core<'_>, waiters: &mut Waiters, kind: Kind) {
-    if waiters.are_in_step() {
-        return;
-    }
-    match kind {
-        Kind::Schedule(phase, device) => stir_ready(core, waiters, phase, &[device]),
-        Kind::End(phase, device, _) | Kind::Skip(phase, device, _) => {
-            waiters.device_waits(device);
-            let waiting = if phase.is_down() {
-                core.above(device)
-            } else {
-                core.below(device)
-            };
-            stir_ready(core, waiters, phase, waiting);
-        }
-        _ => {}
+/// A device is through with that phase: the devices that waited for it are right above it on the way down, right below it
+/// on the way up.
+fn waiting_for<'a>(core: &'a Core<'_>, phase: Phase, device: u32) -> &'a [u32] {
+    if phase.is_down() {
+        core.above(device)
+    } else {
+        core.below(device)
     }
 }
 
 /// Those of these devices are asked that are given out in that phase and wait for none.
+#[inline(never)]
 fn stir_ready(core: &Core<'_>, waiters: &mut Waiters, phase: Phase, devices: &[u32]) {
     for device in devices {
         if core.is_ready(phase, *device) {
@@ -303,15 +292,41 @@ impl<'m> Run<'m> {
         }
     }
 
+    /// A device is through with that phase: it has nothing to do, and those may that waited for it.
+    #[inline(always)]
+    fn heed_end(&mut self, phase: Phase, device: u32)
+        ensures { self.new ≡ self.old }
+    {
+        self.waiters.stir_maker(device);
+        if !self.waiters.are_in_step() {
+            self.waiters.device_waits(device);
+            let waiting = waiting_for(&self.core, phase, device);
+            stir_ready(&self.core, &mut self.waiters, phase, waiting);
+        }
+    }
+
     /// After an entry: who may have something to do by it.
+    #[inline(always)]
     fn heed(&mut self, kind: Kind)
         ensures { self.new ≡ self.old }
     {
-        self.waiters.stir(kind);
-        stir_devices(&self.core, &mut self.waiters, kind);
+        match kind {
+            Kind::Schedule(phase, device) => {
+                stir_ready(&self.core, &mut self.waiters, phase, &[device]);
+            }
+            Kind::End(phase, device, _) | Kind::Skip(phase, device, _) => {
+                self.heed_end(phase, device);
+            }
+            Kind::Post(_) => self.waiters.stir_marks(),
+            Kind::Over { .. } | Kind::AutoDone | Kind::AutoOff => self.waiters.stir_lock(),
+            Kind::Freeze(_) | Kind::Thaw(_) | Kind::Wake { .. } => self.waiters.stir_scripts(),
+            Kind::Frozen | Kind::Exit => self.waiters.stir_word(),
+            _ => {}
+        }
     }
 
     /// A turn of an actor that has made its calls. What it made stands behind all entries.
+    #[inline(always)]
     pub(crate) fn turn<R: Wait>(&mut self, rt: &R, who: Actor) -> Result<Tried, RunFault>
         requires actor { IsActor self.old.machine who }
         requires calls { calls_made self.old.machine self.old.past who ≡ calls_due self.old.machine who (journal self.old.past) }

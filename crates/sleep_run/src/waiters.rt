@@ -2,7 +2,7 @@ ghost use Rattle.std.specs.Prelude.{◌<◌, ◌^◌, length, IfSome};
 
 use crate::asks::Asks;
 use sleep_base::Mem;
-use sleep_model::{Device, DeviceFlags, Kind, Why};
+use sleep_model::{Actor, Device, DeviceFlags, Why};
 use std::alloc::Global;
 
 /// Who may have something to do, and so is asked in a round: scripts, the autosleep work, asynchronous
@@ -89,6 +89,19 @@ impl Waiters {
         self.devices.next(from, many)
     }
 
+    /// Whether that script or the work is to be asked, and nobody else.
+    #[inline(always)]
+    pub(crate) fn is_alone(&self, who: Actor) -> bool {
+        if self.timers || !self.devices.is_empty() {
+            return false;
+        }
+        match who {
+            Actor::Script(script) => !self.auto && self.scripts.is_only(script),
+            Actor::Auto => self.auto && self.scripts.is_empty(),
+            _ => false,
+        }
+    }
+
     /// Whether the autosleep work is to be asked.
     pub(crate) fn asks_auto(&self) -> bool {
         self.auto
@@ -99,8 +112,28 @@ impl Waiters {
         self.timers
     }
 
+    /// An actor waits, for that, and is not asked again before something may have ended the wait.
+    #[inline(never)]
+    pub(crate) fn waits(&mut self, who: Actor, why: Why) {
+        match who {
+            Actor::Script(script) => self.script_waits(script, why),
+            Actor::Dev(device) => self.device_waits(device),
+            _ => self.auto_waits(why),
+        }
+    }
+
+    /// An actor has nothing to do any more: a script has exited.
+    #[inline(never)]
+    pub(crate) fn is_gone(&mut self, who: Actor) {
+        match who {
+            Actor::Script(script) => self.scripts.remove(script),
+            Actor::Dev(device) => self.device_waits(device),
+            _ => self.auto = false,
+        }
+    }
+
     /// The script waits, for that.
-    pub(crate) fn script_waits(&mut self, script: u32, why: Why) {
+    fn script_waits(&mut self, script: u32, why: Why) {
         self.scripts.remove(script);
         match why {
             Why::Mark(_) => self.for_mark.insert(script),
@@ -131,22 +164,12 @@ impl Waiters {
         }
     }
 
-    /// The script has exited.
-    pub(crate) fn script_is_gone(&mut self, script: u32) {
-        self.scripts.remove(script);
-    }
-
     /// The autosleep work waits, for that.
-    pub(crate) fn auto_waits(&mut self, why: Why) {
+    fn auto_waits(&mut self, why: Why) {
         self.auto = false;
         if let Why::Device(device) = why {
             self.awaited = Some(device);
         }
-    }
-
-    /// The autosleep work has nothing to do any more.
-    pub(crate) fn auto_is_gone(&mut self) {
-        self.auto = false;
     }
 
     /// The device waits, or has nothing to do.
@@ -169,14 +192,16 @@ impl Waiters {
         self.devices.insert(device);
     }
 
-    /// A device is through with a phase.
-    fn stir_maker(&mut self, device: u32) {
+    /// A device is through with a phase, for which the maker of an attempt may wait.
+    #[inline(always)]
+    pub(crate) fn stir_maker(&mut self, device: u32) {
         if self.awaited == Some(device) {
             self.stir_any_maker();
         }
     }
 
     /// The maker of an attempt may go on.
+    #[inline(never)]
     fn stir_any_maker(&mut self) {
         if let Some(script) = self.maker {
             self.scripts.insert(script);
@@ -187,18 +212,21 @@ impl Waiters {
     }
 
     /// The word made a step, or a task has come further.
+    #[inline(never)]
     pub(crate) fn stir_word(&mut self) {
         self.scripts.take(&mut self.for_word);
         self.auto = true;
     }
 
     /// A mark was raised.
-    fn stir_marks(&mut self) {
+    #[inline(never)]
+    pub(crate) fn stir_marks(&mut self) {
         self.scripts.take(&mut self.for_mark);
     }
 
     /// The autosleep lock was let go, or the work is queued.
-    fn stir_lock(&mut self) {
+    #[inline(never)]
+    pub(crate) fn stir_lock(&mut self) {
         self.scripts.take(&mut self.for_lock);
         self.auto = true;
     }
@@ -212,7 +240,8 @@ impl Waiters {
     }
 
     /// Whatever may have ended: tasks are asked to freeze or let go, the machine wakes.
-    fn stir_scripts(&mut self) {
+    #[inline(never)]
+    pub(crate) fn stir_scripts(&mut self) {
         self.stir_awake();
         self.scripts.take(&mut self.asleep);
         self.scripts.take(&mut self.frozen);
@@ -230,18 +259,6 @@ impl Waiters {
                 self.scripts.insert(script);
             }
             from = script + 1;
-        }
-    }
-
-    /// After an entry: scripts and the work, as far as it may have ended their waits.
-    pub(crate) fn stir(&mut self, kind: Kind) {
-        match kind {
-            Kind::Post(_) => self.stir_marks(),
-            Kind::Over { .. } | Kind::AutoDone | Kind::AutoOff => self.stir_lock(),
-            Kind::Freeze(_) | Kind::Thaw(_) | Kind::Wake { .. } => self.stir_scripts(),
-            Kind::Frozen | Kind::Exit => self.stir_word(),
-            Kind::End(_, device, _) | Kind::Skip(_, device, _) => self.stir_maker(device),
-            _ => {}
         }
     }
 
