@@ -341,7 +341,7 @@ impl Board {
     {
         let walk = self.walk(p);
         if (device as usize) < walk.open_below.len() {
-            self.open_below(p, device) == 0
+            count_at(&walk.open_below, device) == 0
         } else {
             first_unsettled(&walk.stands, &self.layout.links, device).is_none()
         }
@@ -355,7 +355,7 @@ impl Board {
     {
         let walk = self.walk(p);
         if (device as usize) < walk.open_above.len() {
-            self.open_above(p, device) == 0
+            count_at(&walk.open_above, device) == 0
         } else {
             first_low(&walk.stands, &self.layout.links, device).is_none()
         }
