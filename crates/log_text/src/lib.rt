@@ -29,6 +29,7 @@ mod read;
 mod reader;
 mod ready;
 mod short;
+mod spelled;
 mod steps;
 mod verb;
 mod words;
