@@ -1,10 +1,10 @@
 -- What is written piece by piece.
-use Rattle.std.proofs.Common.{◌≡◌, ◌≤◌, ◌+◌, ◌++◌, ◌∷◌, ◌∙◌, ℕ, List, [], Option, Some, None, Result, Ok, Err, flat_map, refl, sym, ap, subst, append_assoc, arith}
+use Rattle.std.proofs.Common.{◌≡◌, ◌≤◌, ◌+◌, ◌++◌, ◌∷◌, ◌∙◌, ℕ, List, [], Option, Some, None, Result, Ok, Err, refl, sym, ap, subst, append_assoc, arith}
 use Rattle.std.proofs.lemmas.List.{append-nil}
 use Rattle.std.specs.Io.KnownBytes.{Appends}
 use Rattle.sleep_base.specs.declared.outside.Failed.{Failed}
 use Rattle.sleep_base.specs.Whole.{WriteAll}
-use Rattle.log_text.specs.Passing.{Passes}
+use Rattle.log_text.specs.Passing.{Passes, Tells}
 
 -- what was appended behind another piece
 appends_both : (old mid new : Option (List ℕ)) (one other : List ℕ) → Appends old mid one → Appends mid new other → Appends old new (one ++ other)
@@ -24,14 +24,37 @@ both_written old mid new before then now one other (Ok x) h l g = appends_both o
 both_written old mid new before then now one other (Err fault) h l g =
     (one ++ g.0, g.1, ap (λ bs. one ++ bs) g.2 ∙ sym (append_assoc one g.0 g.1), appends_both old mid new one g.0 h g.3, omega (arith, g.4, l))
 
--- all that was held was written, and nothing is held
-pub passes_all : (old mid : Option (List ℕ)) (before then : ℕ) (held left : List ℕ) → Appends old mid held → before ≤ then → left ≡ [] → Passes old mid before then held left
-passes_all old mid before then held left wrote later none = λ rest new now result h.
-    both_written old mid new before then now held rest result wrote later (subst (λ (bs : List ℕ). WriteAll mid new then now (bs ++ rest) result) none h)
+-- nothing was written
+pub passes_none : (old : Option (List ℕ)) (before : ℕ) (held : List ℕ) → Passes old old before before held held
+passes_none old before held = λ rest new now result h. h
 
--- a piece was put behind what is held
-pub put_behind : (mid new : Option (List ℕ)) (then now : ℕ) (left line rest held all : List ℕ) (result : Result Unit Failed) → held ≡ left ++ line → all ≡ line ++ rest
-    → WriteAll mid new then now (held ++ rest) result → WriteAll mid new then now (left ++ all) result
-put_behind mid new then now left line rest held all result put is h =
-    subst (λ (bs : List ℕ). WriteAll mid new then now bs result)
-    (ap (λ (bs : List ℕ). bs ++ rest) put ∙ (append_assoc left line rest ∙ ap (λ (bs : List ℕ). left ++ bs) (sym is))) h
+-- all that was held was written, and nothing is held
+pub passes_all : (old mid : Option (List ℕ)) (before then : ℕ) (held left bytes : List ℕ) → bytes ≡ held → Appends old mid bytes → before ≤ then → left ≡ [] → Passes old mid before then held left
+passes_all old mid before then held left bytes is wrote later none = λ rest new now result h.
+    both_written old mid new before then now held rest result (subst (Appends old mid) is wrote) later (subst (λ (bs : List ℕ). WriteAll mid new then now (bs ++ rest) result) none h)
+
+-- at first all is left
+pub told_first : (old : Option (List ℕ)) (before : ℕ) (all held rest : List ℕ) → held ≡ [] → rest ≡ all → Tells old old before before all (held ++ rest)
+told_first old before all held rest none is = λ new now result h.
+    subst (λ (bs : List ℕ). WriteAll old new before now bs result) (ap (λ (bs : List ℕ). bs ++ rest) none ∙ is) h
+
+-- some of what was held was passed on, and a line was put behind the rest
+pub told_on : (old mid next : Option (List ℕ)) (before then later : ℕ) (all held left put line more rest : List ℕ)
+    → Tells old mid before then all (held ++ more) → Passes mid next then later held left → put ≡ left ++ line → more ≡ line ++ rest
+    → Tells old next before later all (put ++ rest)
+told_on old mid next before then later all held left put line more rest told passes is first = λ new now result h.
+    let behind : put ++ rest ≡ left ++ (line ++ rest) = ap (λ (bs : List ℕ). bs ++ rest) is ∙ append_assoc left line rest in
+    let passed = passes (line ++ rest) new now result (subst (λ (bs : List ℕ). WriteAll next new later now bs result) behind h) in
+    told new now result (subst (λ (bs : List ℕ). WriteAll mid new then now (held ++ bs) result) (sym first) passed)
+
+-- what was held could not be passed on
+pub told_failed : (old mid new : Option (List ℕ)) (before then now : ℕ) (all held more : List ℕ) (fault : Failed)
+    → Tells old mid before then all (held ++ more) → WriteAll mid new then now held (Err fault) → WriteAll old new before now all (Err fault)
+told_failed old mid new before then now all held more fault told failed = told new now (Err fault) (one_failed mid new then now held more fault failed)
+
+-- what was held was the last
+pub told_last : (old mid new : Option (List ℕ)) (before then now : ℕ) (all held more bytes : List ℕ) (result : Result Unit Failed)
+    → Tells old mid before then all (held ++ more) → more ≡ [] → bytes ≡ held → WriteAll mid new then now bytes result → WriteAll old new before now all result
+told_last old mid new before then now all held more bytes result told none is wrote =
+    let last : bytes ≡ held ++ more = is ∙ (sym (append-nil held) ∙ ap (λ (bs : List ℕ). held ++ bs) (sym none)) in
+    told new now result (subst (λ (bs : List ℕ). WriteAll mid new then now bs result) last wrote)

@@ -38,7 +38,7 @@ fn put_entries(out: &mut LineWriter, names: &ReadyNames, entries: &EntryList) ->
 }
 
 /// Writes a line for each source, `autosleep` last.
-fn put_sources(out: &mut LineWriter, machine: &Machine, stats: &[Stats]) -> Result<(), Mem>
+pub fn put_sources(out: &mut LineWriter, machine: &Machine, stats: &[Stats]) -> Result<(), Mem>
     ensures { OnOk result (out.new ≡ out.old ++ source_lines (source_names machine.now) stats.now) }
 {
     let names = machine.sources.as_slice();
@@ -52,7 +52,7 @@ fn put_sources(out: &mut LineWriter, machine: &Machine, stats: &[Stats]) -> Resu
 }
 
 /// Writes how the run ended: a line for each script that never exits, if there are any.
-fn put_end(out: &mut LineWriter, names: &ReadyNames, end: &LogEnd) -> Result<(), Mem>
+pub fn put_end(out: &mut LineWriter, names: &ReadyNames, end: &LogEnd) -> Result<(), Mem>
     ensures { OnOk result (out.new ≡ out.old ++ end_text names.now end.now) }
 {
     match end {

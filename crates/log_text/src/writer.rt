@@ -12,7 +12,7 @@ use std::alloc::Global;
 use std::marker::Model;
 
 /// The room that any line has where it is put together.
-const LINE: usize = 2048;
+pub const LINE: usize = 2048;
 
 /// Lines that are written one behind the other, and that contracts see as the list of their bytes. The last ones are held
 /// in place, where a line takes no memory.
