@@ -1,5 +1,5 @@
 -- What is told of the rest is told of all lines.
-use Rattle.std.proofs.Common.{◌≡◌, ◌≤◌, ◌++◌, ap, flat_map, arith}
+use Rattle.std.proofs.Common.{ap, flat_map, arith}
 use Rattle.std.proofs.lemmas.Result.{err_from_is_err_and}
 use Rattle.sleep_model.specs.Text.{entry_line}
 use Rattle.log_text.proofs.Passed.{told_failed, told_last, told_on}
