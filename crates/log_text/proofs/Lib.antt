@@ -20,3 +20,6 @@ pub mod NoBadLine
 pub mod ReadBack
 pub mod Holding
 pub mod DeviceLines
+pub mod Lengths
+pub mod Passed
+pub mod Lists

@@ -4,6 +4,7 @@ pub mod Faults
 pub mod Front
 pub mod Grammar
 pub mod Named
+pub mod Passing
 pub mod Reading
 pub mod Ready
 pub mod Verbs

@@ -1,13 +1,20 @@
 -- Names that are ready to be copied.
-use Rattle.std.specs.Prelude.{◌≡◌, ℕ, List, slice_get}
+use Rattle.std.specs.Prelude.{◌≡◌, ℕ, List, [], slice_get}
 use Rattle.std.specs.Option.{ForSome}
 use Rattle.sleep_model.specs.declared.entry.Actor.TheVariants as actor
 use Rattle.sleep_model.specs.declared.machine.Machine.{Machine}
-use Rattle.sleep_model.specs.Text.{device}
+use Rattle.sleep_model.specs.Text.{source_names}
 use Rattle.log_text.specs.Front.{maker_text}
+use Rattle.log_text.specs.Named.{device_names, notifier_names, script_names}
 
--- each text is the name of the device with its number, or the maker of entries that the device, or the script with its number, is
-pub record IsReady (m : Machine) (devices_are makers_are scripts_are : List (List ℕ)) : Type 0 where
-  pub devices : (i : ℕ) → ForSome (slice_get devices_are i) (λ t. t ≡ device m i)
+-- each list has the names of a kind of thing, or the makers of entries that the devices, or the scripts, are
+pub record IsReady (m : Machine) (none_is : List ℕ) (makers_are scripts_are devices_are syscore_are notifiers_are sources_are marks_are tasks_are : List (List ℕ)) : Type 0 where
+  pub none : none_is ≡ []
   pub makers : (i : ℕ) → ForSome (slice_get makers_are i) (λ t. t ≡ maker_text m (actor.Dev i))
   pub scripts : (i : ℕ) → ForSome (slice_get scripts_are i) (λ t. t ≡ maker_text m (actor.Script i))
+  pub devices : devices_are ≡ device_names m
+  pub syscore : syscore_are ≡ m.syscore
+  pub notifiers : notifiers_are ≡ notifier_names m
+  pub sources : sources_are ≡ source_names m
+  pub marks : marks_are ≡ m.marks
+  pub tasks : tasks_are ≡ script_names m

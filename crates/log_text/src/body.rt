@@ -1,18 +1,20 @@
-ghost use Rattle.std.specs.Prelude.{◌≡◌, ◌++◌, OnOk};
+ghost use Rattle.std.specs.Prelude.{◌≡◌, ◌+◌, ◌≤◌, ◌++◌, length};
 ghost use Rattle.sleep_model.specs.declared.entry.Kind.TheVariants as kind;
 ghost use Rattle.sleep_model.specs.Text.{answer_text, body, device, link_word, space, step_body, auto_body, source_body, phase_body, attempt_body, platform_body, froze_text, prepare_text};
 
-use crate::names::{device_name, mark_name, notifier_name, source_name, syscore_name, task_name};
+use crate::held::HeldBytes;
 use crate::ready::ReadyNames;
-use crate::writer::{LineWriter, Spelled, put};
-use sleep_base::{Errno, Mem};
-use sleep_model::{FrozeEnd, Kind, Machine, Thaw};
+use crate::spelled::{Spelled, put};
+use sleep_base::Errno;
+use sleep_model::{FrozeEnd, Kind, Thaw};
 
 /// Writes what an entry says.
 #[tactic(auto, using(std::proofs::Common::append_assoc))]
 #[inline(always)]
-pub fn put_body(out: &mut LineWriter, names: &ReadyNames, kind: Kind) -> Result<(), Mem>
-    ensures { OnOk result (out.new ≡ out.old ++ body names.now kind) }
+pub fn put_body(out: &mut HeldBytes, names: &ReadyNames, kind: Kind)
+    requires { length out.old + 512 ≤ 32768 }
+    ensures text { out.new ≡ out.old ++ body names.now kind }
+    ensures few { length out.new ≤ length out.old + 512 }
 {
     match kind {
         Kind::Frozen => put!(out; "frozen"),
@@ -41,48 +43,46 @@ fn link_word(active: bool) -> &'static str
 
 /// Writes which consumer's link was set, to which state, and the answer.
 #[tactic(auto, using(std::proofs::Common::append_assoc))]
-fn put_set(
-    out: &mut LineWriter,
-    machine: &Machine,
-    consumer: u32,
-    active: bool,
-    r: Option<Errno>,
-) -> Result<(), Mem>
-    ensures { OnOk result (out.new ≡ out.old ++ (device machine.now consumer ++ space ++ link_word active ++ space ++ answer_text r)) }
+fn put_set(out: &mut HeldBytes, names: &ReadyNames, consumer: u32, active: bool, r: Option<Errno>)
+    requires { length out.old + 320 ≤ 32768 }
+    ensures text { out.new ≡ out.old ++ (device names.now consumer ++ space ++ link_word active ++ space ++ answer_text r) }
+    ensures few { length out.new ≤ length out.old + 320 }
 {
-    put!(out; device_name(machine, consumer), " ", link_word(active), " ", r)
+    put!(out; names.device(consumer), " ", link_word(active), " ", r)
 }
 
 /// Writes what an entry that sets the state of a link says.
 #[tactic(auto, using(std::proofs::Common::append_assoc))]
 fn put_link_state(
-    out: &mut LineWriter,
-    machine: &Machine,
+    out: &mut HeldBytes,
+    names: &ReadyNames,
     supplier: u32,
     consumer: u32,
     active: bool,
     r: Option<Errno>,
-) -> Result<(), Mem>
-    ensures { OnOk result (out.new ≡ out.old ++ step_body machine.now (kind.LinkState supplier consumer active r)) }
+)
+    requires { length out.old + 512 ≤ 32768 }
+    ensures text { out.new ≡ out.old ++ step_body names.now (kind.LinkState supplier consumer active r) }
+    ensures few { length out.new ≤ length out.old + 512 }
 {
-    put!(out; "link_state ", device_name(machine, supplier), " ")?;
-    put_set(out, machine, consumer, active, r)?;
-    Ok(())
+    put!(out; "link_state ", names.device(supplier), " ");
+    put_set(out, names, consumer, active, r);
 }
 
 /// Writes what an entry of a task's other steps says.
 #[inline(always)]
-fn put_step(out: &mut LineWriter, names: &ReadyNames, kind: Kind) -> Result<(), Mem>
-    ensures { OnOk result (out.new ≡ out.old ++ step_body names.now kind) }
+fn put_step(out: &mut HeldBytes, names: &ReadyNames, kind: Kind)
+    requires { length out.old + 512 ≤ 32768 }
+    ensures text { out.new ≡ out.old ++ step_body names.now kind }
+    ensures few { length out.new ≤ length out.old + 512 }
 {
-    let machine = names.machine();
     match kind {
         Kind::Sleep(ms) => put!(out; "sleep ", ms),
         Kind::SleepD(ms) => put!(out; "sleep_d ", ms),
         Kind::Slept => put!(out; "slept"),
         Kind::Pass => put!(out; "pass"),
-        Kind::Post(index) => put!(out; "post ", mark_name(machine, index)),
-        Kind::Got(index) => put!(out; "got ", mark_name(machine, index)),
+        Kind::Post(index) => put!(out; "post ", names.mark(index)),
+        Kind::Got(index) => put!(out; "got ", names.mark(index)),
         Kind::Exit => put!(out; "exit"),
         Kind::RuntimeAsk {
             device,
@@ -90,29 +90,29 @@ fn put_step(out: &mut LineWriter, names: &ReadyNames, kind: Kind) -> Result<(), 
             r,
         } => {
             let to = if to_suspended { "suspended" } else { "active" };
-            put!(out; "runtime ", device_name(machine, device), " ", to, " ", r)
+            put!(out; "runtime ", names.device(device), " ", to, " ", r)
         }
         Kind::LinkAdd {
             supplier,
             consumer,
             r,
-        } => {
-            put!(out; "link ", device_name(machine, supplier), " ", device_name(machine, consumer), " ", r)
-        }
+        } => { put!(out; "link ", names.device(supplier), " ", names.device(consumer), " ", r) }
         Kind::LinkState {
             supplier,
             consumer,
             active,
             r,
-        } => put_link_state(out, machine, supplier, consumer, active, r),
+        } => put_link_state(out, names, supplier, consumer, active, r),
         _ => put_auto(out, names, kind),
     }
 }
 
 /// Writes what an entry of the autosleep work says.
 #[inline(always)]
-fn put_auto(out: &mut LineWriter, names: &ReadyNames, kind: Kind) -> Result<(), Mem>
-    ensures { OnOk result (out.new ≡ out.old ++ auto_body names.now kind) }
+fn put_auto(out: &mut HeldBytes, names: &ReadyNames, kind: Kind)
+    requires { length out.old + 512 ≤ 32768 }
+    ensures text { out.new ≡ out.old ++ auto_body names.now kind }
+    ensures few { length out.new ≤ length out.old + 512 }
 {
     match kind {
         Kind::AutoRun => put!(out; "run"),
@@ -128,21 +128,22 @@ fn put_auto(out: &mut LineWriter, names: &ReadyNames, kind: Kind) -> Result<(), 
 
 /// Writes what an entry of a wakeup source or of time says.
 #[inline(always)]
-fn put_source(out: &mut LineWriter, names: &ReadyNames, kind: Kind) -> Result<(), Mem>
-    ensures { OnOk result (out.new ≡ out.old ++ source_body names.now kind) }
+fn put_source(out: &mut HeldBytes, names: &ReadyNames, kind: Kind)
+    requires { length out.old + 512 ≤ 32768 }
+    ensures text { out.new ≡ out.old ++ source_body names.now kind }
+    ensures few { length out.new ≤ length out.old + 512 }
 {
-    let machine = names.machine();
     match kind {
-        Kind::Awake(index) => put!(out; "awake ", source_name(machine, index)),
-        Kind::Relax(index) => put!(out; "relax ", source_name(machine, index)),
+        Kind::Awake(index) => put!(out; "awake ", names.source(index)),
+        Kind::Relax(index) => put!(out; "relax ", names.source(index)),
         Kind::Event { source, ms, hard } => {
             let hard = if hard { "hard" } else { "soft" };
-            put!(out; "event ", source_name(machine, source), " ", ms, " ", hard)
+            put!(out; "event ", names.source(source), " ", ms, " ", hard)
         }
-        Kind::Expire(index) => put!(out; "expire ", source_name(machine, index)),
-        Kind::Start(index) => put!(out; "start ", source_name(machine, index)),
-        Kind::Finish(index) => put!(out; "finish ", source_name(machine, index)),
-        Kind::Hard(index) => put!(out; "hard ", source_name(machine, index)),
+        Kind::Expire(index) => put!(out; "expire ", names.source(index)),
+        Kind::Start(index) => put!(out; "start ", names.source(index)),
+        Kind::Finish(index) => put!(out; "finish ", names.source(index)),
+        Kind::Hard(index) => put!(out; "hard ", names.source(index)),
         Kind::Jump => put!(out; "jump"),
         _ => put_phase(out, names, kind),
     }
@@ -150,52 +151,53 @@ fn put_source(out: &mut LineWriter, names: &ReadyNames, kind: Kind) -> Result<()
 
 /// Writes what an entry of a device phase says.
 #[inline(always)]
-fn put_phase(out: &mut LineWriter, names: &ReadyNames, kind: Kind) -> Result<(), Mem>
-    ensures { OnOk result (out.new ≡ out.old ++ phase_body names.now kind) }
+fn put_phase(out: &mut HeldBytes, names: &ReadyNames, kind: Kind)
+    requires { length out.old + 512 ≤ 32768 }
+    ensures text { out.new ≡ out.old ++ phase_body names.now kind }
+    ensures few { length out.new ≤ length out.old + 512 }
 {
-    let machine = names.machine();
     match kind {
         Kind::Prepare { device, r } => {
-            put!(out; "prepare ", device_name(machine, device), b' ')?;
+            put!(out; "prepare ", names.device(device), b' ');
             put_prepare_answer(out, r)
         }
-        Kind::Complete(index) => put!(out; "complete ", device_name(machine, index)),
-        Kind::Schedule(phase, index) => {
-            put!(out; "schedule ", phase, b' ', device_name(machine, index))
-        }
-        Kind::Begin(phase, index) => {
-            put!(out; "begin ", phase, b' ', device_name(machine, index))
-        }
+        Kind::Complete(index) => put!(out; "complete ", names.device(index)),
+        Kind::Schedule(phase, index) => { put!(out; "schedule ", phase, b' ', names.device(index)) }
+        Kind::Begin(phase, index) => { put!(out; "begin ", phase, b' ', names.device(index)) }
         Kind::End(phase, index, r) => {
-            put!(out; "end ", phase, b' ', device_name(machine, index), b' ', r)
+            put!(out; "end ", phase, b' ', names.device(index), b' ', r)
         }
         Kind::Skip(phase, index, cause) => {
-            put!(out; "skip ", phase, b' ', device_name(machine, index), b' ', cause)
+            put!(out; "skip ", phase, b' ', names.device(index), b' ', cause)
         }
         Kind::Done(phase, r) => put!(out; "done ", phase, b' ', r),
-        _ => put_attempt(out, machine, kind),
+        _ => put_attempt(out, names, kind),
     }
 }
 
 /// Writes what a device's prepare answered: 0, 1, or an error's name.
-fn put_prepare_answer(out: &mut LineWriter, r: i32) -> Result<(), Mem>
-    ensures { OnOk result (out.new ≡ out.old ++ prepare_text r) }
+fn put_prepare_answer(out: &mut HeldBytes, r: i32)
+    requires { length out.old + 64 ≤ 32768 }
+    ensures text { out.new ≡ out.old ++ prepare_text r }
+    ensures few { length out.new ≤ length out.old + 64 }
 {
     match r {
-        -4 => out.push_text("EINTR"),
-        -5 => out.push_text("EIO"),
-        -11 => out.push_text("EAGAIN"),
-        -13 => out.push_text("EACCES"),
-        -16 => out.push_text("EBUSY"),
-        -19 => out.push_text("ENODEV"),
-        _ if r < 0 => out.push_text("EINVAL"),
-        _ => out.push_number(r as u64),
+        -4 => out.put_text("EINTR"),
+        -5 => out.put_text("EIO"),
+        -11 => out.put_text("EAGAIN"),
+        -13 => out.put_text("EACCES"),
+        -16 => out.put_text("EBUSY"),
+        -19 => out.put_text("ENODEV"),
+        _ if r < 0 => out.put_text("EINVAL"),
+        _ => out.put_number(r as u64),
     }
 }
 
 /// Writes what an entry of an attempt's start, of its end, of the notifiers or of the freezer says.
-fn put_attempt(out: &mut LineWriter, machine: &Machine, kind: Kind) -> Result<(), Mem>
-    ensures { OnOk result (out.new ≡ out.old ++ attempt_body machine.now kind) }
+fn put_attempt(out: &mut HeldBytes, names: &ReadyNames, kind: Kind)
+    requires { length out.old + 512 ≤ 32768 }
+    ensures text { out.new ≡ out.old ++ attempt_body names.now kind }
+    ensures few { length out.new ≤ length out.old + 512 }
 {
     match kind {
         Kind::Attempt { n, guarded: None } => put!(out; "attempt ", n, " plain"),
@@ -205,39 +207,43 @@ fn put_attempt(out: &mut LineWriter, machine: &Machine, kind: Kind) -> Result<()
         } => put!(out; "attempt ", n, " guarded ", count),
         Kind::Over { n, r } => put!(out; "over ", n, " ", r),
         Kind::NotifyPrepare(index, r) => {
-            put!(out; "notify ", notifier_name(machine, index), " prepare ", r)
+            put!(out; "notify ", names.notifier(index), " prepare ", r)
         }
-        Kind::NotifyPost(index) => put!(out; "notify ", notifier_name(machine, index), " post"),
+        Kind::NotifyPost(index) => put!(out; "notify ", names.notifier(index), " post"),
         Kind::Freeze(group) => put!(out; "freeze ", group),
         Kind::Froze(group, end) => {
-            put!(out; "froze ", group, " ")?;
-            put_froze_end(out, machine, end)
+            put!(out; "froze ", group, " ");
+            put_froze_end(out, names, end)
         }
         Kind::Thaw(Thaw::Kernel) => put!(out; "thaw kernel"),
         Kind::Thaw(Thaw::All) => put!(out; "thaw all"),
-        _ => put_platform(out, machine, kind),
+        _ => put_platform(out, names, kind),
     }
 }
 
 /// Writes how a freeze ended.
-fn put_froze_end(out: &mut LineWriter, machine: &Machine, end: FrozeEnd) -> Result<(), Mem>
-    ensures { OnOk result (out.new ≡ out.old ++ froze_text machine.now end) }
+fn put_froze_end(out: &mut HeldBytes, names: &ReadyNames, end: FrozeEnd)
+    requires { length out.old + 256 ≤ 32768 }
+    ensures text { out.new ≡ out.old ++ froze_text names.now end }
+    ensures few { length out.new ≤ length out.old + 256 }
 {
     match end {
         FrozeEnd::AllFrozen => put!(out; "0"),
         FrozeEnd::Timeout { left, first } => {
-            put!(out; "EBUSY timeout ", left, " ", task_name(machine, first))
+            put!(out; "EBUSY timeout ", left, " ", names.task(first))
         }
         FrozeEnd::Wakeup { left, first } => {
-            put!(out; "EBUSY wakeup ", left, " ", task_name(machine, first))
+            put!(out; "EBUSY wakeup ", left, " ", names.task(first))
         }
     }
 }
 
 /// Writes what an entry of the platform, of a processor or of a syscore step says.
 #[tactic(auto, using(std::proofs::Common::append_assoc))]
-fn put_platform(out: &mut LineWriter, machine: &Machine, kind: Kind) -> Result<(), Mem>
-    ensures { OnOk result (out.new ≡ out.old ++ platform_body machine.now kind) }
+fn put_platform(out: &mut HeldBytes, names: &ReadyNames, kind: Kind)
+    requires { length out.old + 512 ≤ 32768 }
+    ensures text { out.new ≡ out.old ++ platform_body names.now kind }
+    ensures few { length out.new ≤ length out.old + 512 }
 {
     match kind {
         Kind::PlatformDo(what, r) => put!(out; "platform ", what, " ", r),
@@ -249,14 +255,14 @@ fn put_platform(out: &mut LineWriter, machine: &Machine, kind: Kind) -> Result<(
         Kind::Irqs { on: false } => put!(out; "irqs off"),
         Kind::SyscoreCheck(r) => put!(out; "syscore check ", r),
         Kind::SyscoreSuspend(index, r) => {
-            put!(out; "syscore suspend ", syscore_name(machine, index), " ", r)
+            put!(out; "syscore suspend ", names.syscore(index), " ", r)
         }
-        Kind::SyscoreResume(index) => put!(out; "syscore resume ", syscore_name(machine, index)),
+        Kind::SyscoreResume(index) => put!(out; "syscore resume ", names.syscore(index)),
         Kind::Enter { busy: true } => put!(out; "enter EBUSY"),
         Kind::Enter { busy: false } => put!(out; "enter"),
         Kind::Wake { by_event: true } => put!(out; "wake event"),
         Kind::Wake { by_event: false } => put!(out; "wake alarm"),
         Kind::Clear => put!(out; "clear"),
-        _ => Ok(()),
+        _ => {}
     }
 }

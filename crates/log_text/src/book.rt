@@ -1,17 +1,17 @@
 //! A machine with its names, as a log's reader needs them.
 
-ghost use Rattle.std.specs.Prelude.{◌≡◌, map};
-
 use crate::index::NameIndex;
+use crate::names::{names_of_devices, names_of_notifiers, names_of_scripts, names_of_sources};
+use crate::ready::ReadyNames;
 use sleep_base::Mem;
-use sleep_model::{Device, Machine, Name, Notifier, Script};
+use sleep_model::Machine;
 use std::alloc::Global;
 use std::marker::Model;
 
 /// A machine, each of whose things is found at once by its name. Contracts see the machine.
 #[derive(Drop)]
 pub struct NameBook<'a> {
-    machine: &'a Machine,
+    names: ReadyNames<'a>,
     devices: NameIndex,
     syscore: NameIndex,
     notifiers: NameIndex,
@@ -27,9 +27,9 @@ impl<'a> Model for NameBook<'a> {
 
     ghost use Rattle.log_text.specs.Book.{IsIndexed};
 
-    ghost view = { λ b. b.machine.now };
+    ghost view = { λ b. b.names };
 
-    ghost invariant = { λ b. IsIndexed b.machine.now b.devices.places b.syscore.places b.notifiers.places b.sources.places b.marks.places b.scripts.places };
+    ghost invariant = { λ b. IsIndexed b.names b.devices.places b.syscore.places b.notifiers.places b.sources.places b.marks.places b.scripts.places };
 }
 
 impl<'a> NameBook<'a> {
@@ -41,6 +41,7 @@ impl<'a> NameBook<'a> {
     pub fn new(alloc: Global, machine: &'a Machine) -> Result<Self, Mem>
         ensures { IfOk result (λ b. b ≡ machine.now) }
     {
+        let names = ReadyNames::new(alloc, machine)?;
         let devices = NameIndex::new(alloc, names_of_devices(alloc, machine.devices.as_slice())?)?;
         let syscore = NameIndex::new(alloc, Vec::from_slice(alloc, machine.syscore.as_slice())?)?;
         let notifiers = names_of_notifiers(alloc, machine.notifiers.as_slice())?;
@@ -49,7 +50,7 @@ impl<'a> NameBook<'a> {
         let marks = NameIndex::new(alloc, Vec::from_slice(alloc, machine.marks.as_slice())?)?;
         let scripts = NameIndex::new(alloc, names_of_scripts(alloc, machine.actors.as_slice())?)?;
         Ok(NameBook {
-            machine,
+            names,
             devices,
             syscore,
             notifiers,
@@ -63,7 +64,14 @@ impl<'a> NameBook<'a> {
     pub fn machine(&self) -> &'a Machine
         ensures { result.now ≡ self.now }
     {
-        self.machine
+        self.names.machine()
+    }
+
+    /// The machine with its names, ready to be copied.
+    pub fn names(&self) -> &ReadyNames<'a>
+        ensures { result.now ≡ self.now }
+    {
+        &self.names
     }
 
     /// The device of that name. None where there is none.
@@ -113,51 +121,4 @@ impl<'a> NameBook<'a> {
     {
         self.scripts.find(word)
     }
-}
-
-ghost use Rattle.std.specs.Prelude.{IfOk, ◌++◌, ◌∷◌, [], codes};
-
-/// The devices' names, in order.
-fn names_of_devices(alloc: Global, devices: &[Device]) -> Result<Vec<Name>, Mem>
-    ensures { IfOk result (λ v. v.items ≡ map (λ d. d.name) devices.now) }
-{
-    let mut names = Vec::new(alloc);
-    for device in devices {
-        names.push(device.name)?;
-    }
-    Ok(names)
-}
-
-/// The notifiers' names, in order.
-fn names_of_notifiers(alloc: Global, notifiers: &[Notifier]) -> Result<Vec<Name>, Mem>
-    ensures { IfOk result (λ v. v.items ≡ map (λ x. x.name) notifiers.now) }
-{
-    let mut names = Vec::new(alloc);
-    for notifier in notifiers {
-        names.push(notifier.name)?;
-    }
-    Ok(names)
-}
-
-/// The scripts' names, in order.
-fn names_of_scripts(alloc: Global, scripts: &[Script]) -> Result<Vec<Name>, Mem>
-    ensures { IfOk result (λ v. v.items ≡ map (λ s. s.name) scripts.now) }
-{
-    let mut names = Vec::new(alloc);
-    for script in scripts {
-        names.push(script.name)?;
-    }
-    Ok(names)
-}
-
-/// The sources' names, in order, `autosleep` last.
-fn names_of_sources(alloc: Global, sources: &[Name]) -> Result<Vec<Name>, Mem>
-    ensures { IfOk result (λ v. v.items ≡ sources.now ++ codes "autosleep" ∷ []) }
-{
-    let mut names = Vec::from_slice(alloc, sources)?;
-    match Name::of_bytes(b"autosleep") {
-        Some(name) => names.push(name)?,
-        None => unreachable!(),
-    }
-    Ok(names)
 }

@@ -1,18 +1,19 @@
-//! Bytes that are held in place, where few more cost little.
+//! Bytes that are held in place, until there is no room for one more line.
 
 ghost use Rattle.std.specs.Prelude.{◌≡◌, ◌+◌, ◌≤◌, ◌++◌, take};
 
 use crate::device_words::DeviceWords;
 use crate::short::ShortText;
+use itoa::Buffer;
 use std::marker::Model;
 
 /// How many bytes are held at most.
-pub const HELD: usize = 1024;
+const HELD: usize = 32_768;
 
-/// A few bytes that grow at their end, and that contracts see as their list.
+/// Bytes that grow at their end, and that contracts see as their list. Putting more behind them takes no memory.
 #[derive(Drop)]
 pub struct HeldBytes {
-    room: [u8; 1024],
+    room: [u8; 32768],
     used: usize,
 }
 
@@ -23,18 +24,18 @@ impl Model for HeldBytes {
 
     ghost view = { λ h. take h.used h.room };
 
-    ghost invariant = { λ h. h.used ≤ 1024 };
+    ghost invariant = { λ h. h.used ≤ 32768 };
 }
 
 impl HeldBytes {
-    ghost use Rattle.std.specs.Prelude.{◌≡◌, ◌+◌, ◌≤◌, ◌∷◌, ◌++◌, [], length, take};
+    ghost use Rattle.std.specs.Prelude.{◌≡◌, ◌+◌, ◌≤◌, ◌∷◌, ◌++◌, [], decimal, length, take};
 
     /// No byte.
     pub fn new() -> Self
         ensures { result ≡ [] }
     {
         HeldBytes {
-            room: [0; 1024],
+            room: [0; 32768],
             used: 0,
         }
     }
@@ -58,7 +59,7 @@ impl HeldBytes {
     /// How many more can be held.
     #[inline(always)]
     pub fn left(&self) -> usize
-        ensures { result + length self.now ≡ 1024 }
+        ensures { result + length self.now ≡ 32768 }
     {
         HELD - self.used
     }
@@ -66,8 +67,9 @@ impl HeldBytes {
     /// Puts these bytes behind the others.
     #[inline(always)]
     pub fn put(&mut self, bytes: &[u8])
-        requires { length self.old + length bytes.now ≤ 1024 }
-        ensures { self.new ≡ self.old ++ bytes.now }
+        requires { length self.old + length bytes.now ≤ 32768 }
+        ensures text { self.new ≡ self.old ++ bytes.now }
+        ensures len { length self.new ≡ length self.old + length bytes.now }
     {
         self.room[self.used..self.used + bytes.len()].copy_from_slice(bytes);
         self.used += bytes.len();
@@ -76,18 +78,58 @@ impl HeldBytes {
     /// Puts a byte behind the others.
     #[inline(always)]
     pub fn put_byte(&mut self, byte: u8)
-        requires { length self.old + 1 ≤ 1024 }
-        ensures { self.new ≡ self.old ++ byte ∷ [] }
+        requires { length self.old + 1 ≤ 32768 }
+        ensures text { self.new ≡ self.old ++ byte ∷ [] }
+        ensures len { length self.new ≡ length self.old + 1 }
     {
         self.room[self.used] = byte;
         self.used += 1;
     }
 
+    /// Puts a short piece of text behind the others.
+    #[inline(always)]
+    pub fn put_text(&mut self, text: &str)
+        requires short { length text.now ≤ 64 }
+        requires room { length self.old + 64 ≤ 32768 }
+        ensures text { self.new ≡ self.old ++ text.now }
+        ensures few { length self.new ≤ length self.old + 64 }
+    {
+        self.put(text.as_bytes());
+    }
+
+    /// Puts the number in decimal behind the others.
+    #[inline]
+    #[tactic(auto, using(std::proofs::lemmas::Fmt::decimal_digit))]
+    pub fn put_number(&mut self, number: u64)
+        requires { length self.old + 20 ≤ 32768 }
+        ensures text { self.new ≡ self.old ++ decimal number }
+        ensures few { length self.new ≤ length self.old + 20 }
+    {
+        // Most numbers of a log have one digit.
+        if number < 10 {
+            self.put_byte(b'0' + number as u8);
+        } else {
+            self.put_digits(number);
+        }
+    }
+
+    /// Puts the number in decimal behind the others, also where it is long.
+    #[tactic(auto, using(crate::proofs::Decimals::decimal_short))]
+    fn put_digits(&mut self, number: u64)
+        requires { length self.old + 20 ≤ 32768 }
+        ensures text { self.new ≡ self.old ++ decimal number }
+        ensures few { length self.new ≤ length self.old + 20 }
+    {
+        let mut digits = Buffer::new();
+        self.put(digits.format(number).as_bytes());
+    }
+
     /// Puts a text behind the others.
     #[inline(always)]
     pub fn put_short(&mut self, text: &ShortText)
-        requires { length self.old + 56 ≤ 1024 }
-        ensures { self.new ≡ self.old ++ text.now }
+        requires { length self.old + 56 ≤ 32768 }
+        ensures text { self.new ≡ self.old ++ text.now }
+        ensures few { length self.new ≤ length self.old + 56 }
     {
         self.used = copy_room(&mut self.room, self.used, text.room(), text.len());
     }
@@ -101,8 +143,9 @@ impl HeldBytes {
         words: &DeviceWords,
         device: &ShortText,
     )
-        requires { length self.old + 216 ≤ 1024 }
-        ensures { self.new ≡ self.old ++ (front.now ++ maker.now ++ words.now.verb ++ words.now.phase ++ device.now ++ words.now.behind) }
+        requires { length self.old + 216 ≤ 32768 }
+        ensures text { self.new ≡ self.old ++ (front.now ++ maker.now ++ words.now.verb ++ words.now.phase ++ device.now ++ words.now.behind) }
+        ensures few { length self.new ≤ length self.old + 216 }
     {
         let room = &mut self.room;
         let end = copy_room(room, self.used, front.room(), front.len());
@@ -118,12 +161,12 @@ impl HeldBytes {
 /// the text in it ends.
 #[inline(always)]
 fn copy_room<const N: usize>(
-    held: &mut [u8; 1024],
+    held: &mut [u8; 32768],
     used: usize,
     room: &[u8; N],
     len: usize,
 ) -> usize
-    requires room { used + N ≤ 1024 }
+    requires room { used + N ≤ 32768 }
     requires len { len ≤ N }
     ensures text { take result held.new ≡ take used held.old ++ take len room.now }
     ensures end { result ≡ used + len }

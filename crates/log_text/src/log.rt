@@ -2,9 +2,8 @@ ghost use Rattle.std.specs.Prelude.{◌≡◌, ◌++◌, OnOk, IfOk, flat_map};
 ghost use Rattle.sleep_model.specs.Text.{entry_line, source_lines, source_names, end_text, waiting_line, text};
 
 use crate::front::LineFront;
-use crate::line::{put_entry, put_source, put_waiting};
-use crate::ready::{ReadyNames, device_makers, device_texts, script_makers};
-use crate::writer::{LineWriter, Spelled, put};
+use crate::ready::ReadyNames;
+use crate::writer::{LineWriter, put_entry, put_finished, put_source, put_waiting};
 use sleep_base::Mem;
 use sleep_model::{EntryList, Log, LogEnd, Machine, Stats, Waiting};
 use std::alloc::Global;
@@ -18,11 +17,7 @@ pub fn write_log(alloc: Global, machine: &Machine, log: &Log) -> Result<Vec<u8>,
 {
     let room = log.entries.len().saturating_mul(USUAL_LINE);
     let mut out = LineWriter::with_room(alloc, room)?;
-    let devices = device_texts(alloc, machine.devices.as_slice())?;
-    let makers = device_makers(alloc, machine.devices.as_slice())?;
-    let scripts = script_makers(alloc, machine.actors.as_slice())?;
-    let (devices, makers, scripts) = (devices.as_slice(), makers.as_slice(), scripts.as_slice());
-    let names = ReadyNames::of(machine, devices, makers, scripts);
+    let names = ReadyNames::new(alloc, machine)?;
     put_entries(&mut out, &names, &log.entries)?;
     put_sources(&mut out, machine, log.stats.as_slice())?;
     put_end(&mut out, &names, &log.end)?;
@@ -43,7 +38,7 @@ fn put_entries(out: &mut LineWriter, names: &ReadyNames, entries: &EntryList) ->
 }
 
 /// Writes a line for each source, `autosleep` last.
-fn put_sources(out: &mut LineWriter, machine: &Machine, stats: &[Stats]) -> Result<(), Mem>
+pub fn put_sources(out: &mut LineWriter, machine: &Machine, stats: &[Stats]) -> Result<(), Mem>
     ensures { OnOk result (out.new ≡ out.old ++ source_lines (source_names machine.now) stats.now) }
 {
     let names = machine.sources.as_slice();
@@ -57,11 +52,11 @@ fn put_sources(out: &mut LineWriter, machine: &Machine, stats: &[Stats]) -> Resu
 }
 
 /// Writes how the run ended: a line for each script that never exits, if there are any.
-fn put_end(out: &mut LineWriter, names: &ReadyNames, end: &LogEnd) -> Result<(), Mem>
+pub fn put_end(out: &mut LineWriter, names: &ReadyNames, end: &LogEnd) -> Result<(), Mem>
     ensures { OnOk result (out.new ≡ out.old ++ end_text names.now end.now) }
 {
     match end {
-        LogEnd::Finished => put!(out; "finished", "\n"),
+        LogEnd::Finished => put_finished(out),
         LogEnd::Stuck(waiting) => put_stuck(out, names, waiting.as_slice()),
     }
 }

@@ -1,7 +1,9 @@
-ghost use Rattle.std.specs.Prelude.{◌≡◌, slice_get};
-ghost use Rattle.sleep_model.specs.Text.{name_in, device, source, notifier, syscore, mark, task};
+ghost use Rattle.std.specs.Prelude.{◌≡◌, ◌++◌, ◌∷◌, [], IfOk, codes, map, slice_get};
+ghost use Rattle.sleep_model.specs.Text.{name_in, source};
 
-use sleep_model::{Machine, Name};
+use sleep_base::Mem;
+use sleep_model::{Device, Machine, Name, Notifier, Script};
+use std::alloc::Global;
 
 /// The name with that number, empty past the end.
 fn name_at(names: &[Name], index: u32) -> &[u8]
@@ -9,16 +11,6 @@ fn name_at(names: &[Name], index: u32) -> &[u8]
 {
     match names.get(index as usize) {
         Some(name) => name.bytes(),
-        None => b"",
-    }
-}
-
-/// The name of the device with that number.
-pub fn device_name(machine: &Machine, index: u32) -> &[u8]
-    ensures { result.now ≡ device machine.now index }
-{
-    match machine.devices.as_slice().get(index as usize) {
-        Some(found) => found.name.bytes(),
         None => b"",
     }
 }
@@ -34,36 +26,47 @@ pub fn source_name(machine: &Machine, index: u32) -> &[u8]
     }
 }
 
-/// The name of the notifier with that number.
-pub fn notifier_name(machine: &Machine, index: u32) -> &[u8]
-    ensures { result.now ≡ notifier machine.now index }
+/// The devices' names, in order.
+pub fn names_of_devices(alloc: Global, devices: &[Device]) -> Result<Vec<Name>, Mem>
+    ensures { IfOk result (λ v. v.items ≡ map (λ d. d.name) devices.now) }
 {
-    match machine.notifiers.as_slice().get(index as usize) {
-        Some(found) => found.name.bytes(),
-        None => b"",
+    let mut names = Vec::new(alloc);
+    for device in devices {
+        names.push(device.name)?;
     }
+    Ok(names)
 }
 
-/// The name of the syscore step with that number.
-pub fn syscore_name(machine: &Machine, index: u32) -> &[u8]
-    ensures { result.now ≡ syscore machine.now index }
+/// The notifiers' names, in order.
+pub fn names_of_notifiers(alloc: Global, notifiers: &[Notifier]) -> Result<Vec<Name>, Mem>
+    ensures { IfOk result (λ v. v.items ≡ map (λ x. x.name) notifiers.now) }
 {
-    name_at(machine.syscore.as_slice(), index)
-}
-
-/// The name of the mark with that number.
-pub fn mark_name(machine: &Machine, index: u32) -> &[u8]
-    ensures { result.now ≡ mark machine.now index }
-{
-    name_at(machine.marks.as_slice(), index)
-}
-
-/// The name of the task with that number.
-pub fn task_name(machine: &Machine, index: u32) -> &[u8]
-    ensures { result.now ≡ task machine.now index }
-{
-    match machine.actors.as_slice().get(index as usize) {
-        Some(found) => found.name.bytes(),
-        None => b"",
+    let mut names = Vec::new(alloc);
+    for notifier in notifiers {
+        names.push(notifier.name)?;
     }
+    Ok(names)
+}
+
+/// The scripts' names, in order.
+pub fn names_of_scripts(alloc: Global, scripts: &[Script]) -> Result<Vec<Name>, Mem>
+    ensures { IfOk result (λ v. v.items ≡ map (λ s. s.name) scripts.now) }
+{
+    let mut names = Vec::new(alloc);
+    for script in scripts {
+        names.push(script.name)?;
+    }
+    Ok(names)
+}
+
+/// The sources' names, in order, `autosleep` last.
+pub fn names_of_sources(alloc: Global, sources: &[Name]) -> Result<Vec<Name>, Mem>
+    ensures { IfOk result (λ v. v.items ≡ sources.now ++ codes "autosleep" ∷ []) }
+{
+    let mut names = Vec::from_slice(alloc, sources)?;
+    match Name::of_bytes(b"autosleep") {
+        Some(name) => names.push(name)?,
+        None => unreachable!(),
+    }
+    Ok(names)
 }

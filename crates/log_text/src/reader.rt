@@ -12,9 +12,7 @@ use crate::book::NameBook;
 use crate::ends::{stats_in, waiting_in};
 use crate::entries::entry_in;
 use crate::front::LineFront;
-use crate::line::{put_entry, put_source, put_waiting};
-use crate::ready::ReadyNames;
-use crate::writer::LineWriter;
+use crate::writer::{LineWriter, put_entry, put_source, put_waiting};
 use sleep_base::Mem;
 use sleep_model::{Entry, Stats, Waiting};
 use std::alloc::Global;
@@ -47,8 +45,7 @@ impl LineReader {
     {
         self.spelled.clear();
         self.front.move_to(entry.time, entry.now);
-        let names = ReadyNames::none(book.machine());
-        put_entry(&mut self.spelled, &names, &self.front, entry)?;
+        put_entry(&mut self.spelled, book.names(), &self.front, entry)?;
         self.spelled.is(line)
     }
 
@@ -104,8 +101,7 @@ impl LineReader {
         ensures { IfOk result (λ b. b ≡ bytes_eq (waiting_line book.now waiting.now) line.now) }
     {
         self.spelled.clear();
-        let names = ReadyNames::none(book.machine());
-        put_waiting(&mut self.spelled, &names, waiting)?;
+        put_waiting(&mut self.spelled, book.names(), waiting)?;
         self.spelled.is(line)
     }
 

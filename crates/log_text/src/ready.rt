@@ -1,26 +1,34 @@
 //! A machine with names that are ready to be copied.
 
-ghost use Rattle.std.specs.Prelude.{◌≡◌, ◌≤◌, ◌++◌, ℕ, IfOk, length, slice_get, codes};
+ghost use Rattle.std.specs.Prelude.{◌≡◌, ◌≤◌, ◌++◌, [], ℕ, IfOk, length, slice_get, codes};
 ghost use Rattle.std.specs.Option.{ForSome};
-ghost use Rattle.sleep_model.specs.Text.{device_name, script_text, space};
+ghost use Rattle.sleep_model.specs.Text.{device_name, name_in, script_text, space};
 
+use crate::names::{names_of_devices, names_of_notifiers, names_of_scripts, names_of_sources};
 use crate::short::ShortText;
 use crate::words::script_word;
 use sleep_base::Mem;
-use sleep_model::{Actor, Device, Machine, Script};
+use sleep_model::{Actor, Device, Machine, Name, Script};
 use std::alloc::Global;
 use std::marker::Model;
 
-/// The most bytes of a name that is made ready.
-const LONGEST: usize = 32;
+/// The most bytes of a name.
+pub const LONGEST: usize = 32;
 
-/// A machine, and of its first devices and scripts the texts that lines have of them. Contracts see the machine.
+/// A machine, and the texts that lines have of its things. Contracts see the machine.
 #[derive(Drop)]
 pub struct ReadyNames<'a> {
     machine: &'a Machine,
-    devices: &'a [ShortText],
-    makers: &'a [ShortText],
-    scripts: &'a [ShortText],
+    /// The name of what is not there.
+    none: ShortText,
+    makers: Vec<ShortText>,
+    scripts: Vec<ShortText>,
+    devices: Vec<ShortText>,
+    syscore: Vec<ShortText>,
+    notifiers: Vec<ShortText>,
+    sources: Vec<ShortText>,
+    marks: Vec<ShortText>,
+    tasks: Vec<ShortText>,
 }
 
 impl<'a> Model for ReadyNames<'a> {
@@ -32,46 +40,42 @@ impl<'a> Model for ReadyNames<'a> {
 
     ghost view = { λ r. r.machine.now };
 
-    ghost invariant = { λ r. IsReady r.machine.now r.devices.now r.makers.now r.scripts.now };
+    ghost invariant = { λ r. IsReady r.machine.now r.none r.makers.items r.scripts.items r.devices.items r.syscore.items r.notifiers.items r.sources.items r.marks.items r.tasks.items };
 }
 
 impl<'a> ReadyNames<'a> {
-    ghost use Rattle.std.specs.Prelude.{◌≡◌, ℕ, IfSome, slice_get};
-    ghost use Rattle.std.specs.Option.{ForSome};
-    ghost use Rattle.sleep_model.specs.declared.entry.Actor.TheVariants as actor;
-    ghost use Rattle.sleep_model.specs.Text.{device};
+    ghost use Rattle.std.specs.Prelude.{◌≡◌, IfOk, IfSome};
+    ghost use Rattle.sleep_model.specs.Text.{device, mark, notifier, source, syscore, task};
     ghost use Rattle.log_text.specs.Front.{maker_text};
 
-    /// The machine, with no text ready.
-    pub fn none(machine: &'a Machine) -> Self
-        ensures { result ≡ machine.now }
+    /// The machine with its names. `Mem` if there is no memory for them.
+    pub fn new(alloc: Global, machine: &'a Machine) -> Result<Self, Mem>
+        ensures { IfOk result (λ r. r ≡ machine.now) }
     {
-        ReadyNames {
+        let makers = device_makers(alloc, machine.devices.as_slice())?;
+        let scripts = script_makers(alloc, machine.actors.as_slice())?;
+        let devices = names_of_devices(alloc, machine.devices.as_slice())?;
+        let devices = name_texts(alloc, devices.as_slice())?;
+        let syscore = name_texts(alloc, machine.syscore.as_slice())?;
+        let notifiers = names_of_notifiers(alloc, machine.notifiers.as_slice())?;
+        let notifiers = name_texts(alloc, notifiers.as_slice())?;
+        let sources = names_of_sources(alloc, machine.sources.as_slice())?;
+        let sources = name_texts(alloc, sources.as_slice())?;
+        let marks = name_texts(alloc, machine.marks.as_slice())?;
+        let tasks = names_of_scripts(alloc, machine.actors.as_slice())?;
+        let tasks = name_texts(alloc, tasks.as_slice())?;
+        Ok(ReadyNames {
             machine,
-            devices: &[],
-            makers: &[],
-            scripts: &[],
-        }
-    }
-
-    /// The machine with these texts: names of devices, devices as makers, and scripts as makers.
-    pub fn of(
-        machine: &'a Machine,
-        devices: &'a [ShortText],
-        makers: &'a [ShortText],
-        scripts: &'a [ShortText],
-    ) -> Self
-        requires devices { (i : ℕ) → ForSome (slice_get devices.now i) (λ t. t ≡ device machine.now i) }
-        requires makers { (i : ℕ) → ForSome (slice_get makers.now i) (λ t. t ≡ maker_text machine.now (actor.Dev i)) }
-        requires scripts { (i : ℕ) → ForSome (slice_get scripts.now i) (λ t. t ≡ maker_text machine.now (actor.Script i)) }
-        ensures { result ≡ machine.now }
-    {
-        ReadyNames {
-            machine,
-            devices,
+            none: ShortText::of(b""),
             makers,
             scripts,
-        }
+            devices,
+            syscore,
+            notifiers,
+            sources,
+            marks,
+            tasks,
+        })
     }
 
     /// The machine.
@@ -81,36 +85,86 @@ impl<'a> ReadyNames<'a> {
         self.machine
     }
 
-    /// The name of the device with that number, where it is ready.
+    /// The name of the device with that number, empty past the end.
     #[inline(always)]
-    pub fn device(&self, index: u32) -> Option<&'a ShortText>
-        ensures { IfSome result (λ t. t.now ≡ device self.now index) }
+    #[tactic(auto, using(crate::proofs::Lists::device_at))]
+    pub fn device(&self, index: u32) -> &ShortText
+        ensures { result.now ≡ device self.now index }
     {
-        self.devices.get(index as usize)
+        name_at(self.devices.as_slice(), &self.none, index)
+    }
+
+    /// The name of the syscore step with that number, empty past the end.
+    pub fn syscore(&self, index: u32) -> &ShortText
+        ensures { result.now ≡ syscore self.now index }
+    {
+        name_at(self.syscore.as_slice(), &self.none, index)
+    }
+
+    /// The name of the notifier with that number, empty past the end.
+    #[tactic(auto, using(crate::proofs::Lists::notifier_at))]
+    pub fn notifier(&self, index: u32) -> &ShortText
+        ensures { result.now ≡ notifier self.now index }
+    {
+        name_at(self.notifiers.as_slice(), &self.none, index)
+    }
+
+    /// The name of the source with that number, `autosleep` after those of the machine, empty past it.
+    pub fn source(&self, index: u32) -> &ShortText
+        ensures { result.now ≡ source self.now index }
+    {
+        name_at(self.sources.as_slice(), &self.none, index)
+    }
+
+    /// The name of the mark with that number, empty past the end.
+    pub fn mark(&self, index: u32) -> &ShortText
+        ensures { result.now ≡ mark self.now index }
+    {
+        name_at(self.marks.as_slice(), &self.none, index)
+    }
+
+    /// The name of the task with that number, empty past the end.
+    #[tactic(auto, using(crate::proofs::Lists::task_at))]
+    pub fn task(&self, index: u32) -> &ShortText
+        ensures { result.now ≡ task self.now index }
+    {
+        name_at(self.tasks.as_slice(), &self.none, index)
     }
 
     /// Who makes an entry, with the space behind it, where it is ready.
     #[inline(always)]
-    pub fn maker(&self, who: Actor) -> Option<&'a ShortText>
+    pub fn maker(&self, who: Actor) -> Option<&ShortText>
         ensures { IfSome result (λ t. t.now ≡ maker_text self.now who) }
     {
         match who {
-            Actor::Script(index) => self.scripts.get(index as usize),
-            Actor::Dev(index) => self.makers.get(index as usize),
+            Actor::Script(index) => self.scripts.as_slice().get(index as usize),
+            Actor::Dev(index) => self.makers.as_slice().get(index as usize),
             _ => None,
         }
     }
 }
 
-/// The names of devices, up to the first that is too long.
-pub fn device_texts(alloc: Global, devices: &[Device]) -> Result<Vec<ShortText>, Mem>
-    ensures { IfOk result (λ v. (i : ℕ) → ForSome (slice_get v.items i) (λ t. t ≡ device_name (slice_get devices.now i))) }
+/// The text with that number, the given one past the end.
+#[inline(always)]
+fn name_at<'a>(names: &'a [ShortText], none: &'a ShortText, index: u32) -> &'a ShortText
+    requires { none.now ≡ [] }
+    ensures { result.now ≡ name_in (slice_get names.now index) }
 {
-    let mut texts = Vec::with_capacity(alloc, devices.len())?;
-    for device in devices {
-        let name = device.name.bytes();
+    match names.get(index as usize) {
+        Some(name) => name,
+        None => none,
+    }
+}
+
+/// These names. `Mem` also where one has more bytes than a name may have, which no name has.
+fn name_texts(alloc: Global, names: &[Name]) -> Result<Vec<ShortText>, Mem>
+    ensures { IfOk result (λ v. v.items ≡ names.now) }
+{
+    let mut texts = Vec::with_capacity(alloc, names.len())?;
+    for name in names {
+        let name = name.bytes();
         if name.len() > LONGEST {
-            return Ok(texts);
+            return Err(Mem);
         }
         texts.push(ShortText::of(name))?;
     }
@@ -129,8 +183,8 @@ fn maker(kind: &[u8], name: &[u8]) -> ShortText
     text
 }
 
-/// Devices as who makes an entry, up to the first whose name is too long.
-pub fn device_makers(alloc: Global, devices: &[Device]) -> Result<Vec<ShortText>, Mem>
+/// Devices as who makes an entry. `Mem` also where a name has more bytes than a name may have.
+fn device_makers(alloc: Global, devices: &[Device]) -> Result<Vec<ShortText>, Mem>
     ensures { IfOk result (λ v. (i : ℕ) → ForSome (slice_get v.items i)
         (λ t. t ≡ (codes "dev:" ++ device_name (slice_get devices.now i)) ++ space)) }
 {
@@ -138,15 +192,15 @@ pub fn device_makers(alloc: Global, devices: &[Device]) -> Result<Vec<ShortText>
     for device in devices {
         let name = device.name.bytes();
         if name.len() > LONGEST {
-            return Ok(texts);
+            return Err(Mem);
         }
         texts.push(maker(b"dev:", name))?;
     }
     Ok(texts)
 }
 
-/// Scripts as who makes an entry, up to the first whose name is too long.
-pub fn script_makers(alloc: Global, scripts: &[Script]) -> Result<Vec<ShortText>, Mem>
+/// Scripts as who makes an entry. `Mem` also where a name has more bytes than a name may have.
+fn script_makers(alloc: Global, scripts: &[Script]) -> Result<Vec<ShortText>, Mem>
     ensures { IfOk result (λ v. (i : ℕ) → ForSome (slice_get v.items i)
         (λ t. t ≡ script_text (slice_get scripts.now i) ++ space)) }
 {
@@ -154,7 +208,7 @@ pub fn script_makers(alloc: Global, scripts: &[Script]) -> Result<Vec<ShortText>
     for script in scripts {
         let name = script.name.bytes();
         if name.len() > LONGEST {
-            return Ok(texts);
+            return Err(Mem);
         }
         let word = script_word(script.kind).as_bytes();
         texts.push(maker(word, name))?;

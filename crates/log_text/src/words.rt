@@ -3,27 +3,34 @@ ghost use Rattle.sleep_base.specs.Errno.{name_of};
 ghost use Rattle.phase_table.specs.Phases.{phase_name};
 ghost use Rattle.sleep_model.specs.Text.{answer_text, cause_text, script_word, state_word, group_word, down_word, up_word};
 
-use crate::writer::{LineWriter, Spelled};
-use sleep_base::{Errno, Mem};
+use crate::held::HeldBytes;
+use crate::spelled::Spelled;
+use sleep_base::Errno;
 use sleep_model::{Group, Phase, PlatDo, PlatUndo, SkipCause, State, TaskKind};
 
 impl Spelled for Errno {
     ghost spelling = { name_of };
 
+    ghost most = { λ _. 16 };
+
     #[inline(always)]
-    fn write_to(self, out: &mut LineWriter) -> Result<(), Mem> {
-        out.push_text(self.name())
+    #[tactic(auto, using(crate::proofs::Lengths::error_short))]
+    fn put_on(self, out: &mut HeldBytes) {
+        out.put_text(self.name());
     }
 }
 
 impl Spelled for Option<Errno> {
     ghost spelling = { answer_text };
 
+    ghost most = { λ _. 16 };
+
     #[inline(always)]
-    fn write_to(self, out: &mut LineWriter) -> Result<(), Mem> {
+    #[tactic(auto, using(crate::proofs::Lengths::error_short))]
+    fn put_on(self, out: &mut HeldBytes) {
         match self {
-            None => out.push_byte(b'0'),
-            Some(error) => out.push_text(error.name()),
+            None => out.put_byte(b'0'),
+            Some(error) => out.put_text(error.name()),
         }
     }
 }
@@ -31,73 +38,86 @@ impl Spelled for Option<Errno> {
 impl Spelled for Phase {
     ghost spelling = { phase_name };
 
+    ghost most = { λ _. 16 };
+
     #[inline(always)]
-    fn write_to(self, out: &mut LineWriter) -> Result<(), Mem> {
-        out.push_text(self.name())
+    #[tactic(auto, using(crate::proofs::Lengths::phase_short))]
+    fn put_on(self, out: &mut HeldBytes) {
+        out.put_text(self.name());
     }
 }
 
 impl Spelled for SkipCause {
     ghost spelling = { cause_text };
 
+    ghost most = { λ _. 16 };
+
     #[inline(always)]
-    fn write_to(self, out: &mut LineWriter) -> Result<(), Mem> {
-        out.push_text(match self {
-            SkipCause::Error => "error",
-            SkipCause::Pending => "pending",
-            SkipCause::Direct => "direct",
-        })
+    fn put_on(self, out: &mut HeldBytes) {
+        match self {
+            SkipCause::Error => out.put_text("error"),
+            SkipCause::Pending => out.put_text("pending"),
+            SkipCause::Direct => out.put_text("direct"),
+        }
     }
 }
 
 impl Spelled for State {
     ghost spelling = { state_word };
 
+    ghost most = { λ _. 16 };
+
     #[inline(always)]
-    fn write_to(self, out: &mut LineWriter) -> Result<(), Mem> {
-        out.push_text(match self {
-            State::Mem => "mem",
-            State::Off => "off",
-        })
+    fn put_on(self, out: &mut HeldBytes) {
+        match self {
+            State::Mem => out.put_text("mem"),
+            State::Off => out.put_text("off"),
+        }
     }
 }
 
 impl Spelled for Group {
     ghost spelling = { group_word };
 
+    ghost most = { λ _. 16 };
+
     #[inline(always)]
-    fn write_to(self, out: &mut LineWriter) -> Result<(), Mem> {
-        out.push_text(match self {
-            Group::User => "user",
-            Group::Kernel => "kernel",
-        })
+    fn put_on(self, out: &mut HeldBytes) {
+        match self {
+            Group::User => out.put_text("user"),
+            Group::Kernel => out.put_text("kernel"),
+        }
     }
 }
 
 impl Spelled for PlatDo {
     ghost spelling = { down_word };
 
+    ghost most = { λ _. 16 };
+
     #[inline(always)]
-    fn write_to(self, out: &mut LineWriter) -> Result<(), Mem> {
-        out.push_text(match self {
-            PlatDo::Begin => "begin",
-            PlatDo::Prepare => "prepare",
-            PlatDo::PrepareLate => "prepare_late",
-        })
+    fn put_on(self, out: &mut HeldBytes) {
+        match self {
+            PlatDo::Begin => out.put_text("begin"),
+            PlatDo::Prepare => out.put_text("prepare"),
+            PlatDo::PrepareLate => out.put_text("prepare_late"),
+        }
     }
 }
 
 impl Spelled for PlatUndo {
     ghost spelling = { up_word };
 
+    ghost most = { λ _. 16 };
+
     #[inline(always)]
-    fn write_to(self, out: &mut LineWriter) -> Result<(), Mem> {
-        out.push_text(match self {
-            PlatUndo::Recover => "recover",
-            PlatUndo::Wake => "wake",
-            PlatUndo::Finish => "finish",
-            PlatUndo::End => "end",
-        })
+    fn put_on(self, out: &mut HeldBytes) {
+        match self {
+            PlatUndo::Recover => out.put_text("recover"),
+            PlatUndo::Wake => out.put_text("wake"),
+            PlatUndo::Finish => out.put_text("finish"),
+            PlatUndo::End => out.put_text("end"),
+        }
     }
 }
 

@@ -1,18 +1,21 @@
-ghost use Rattle.std.specs.Prelude.{decimal, ◌≡◌, ◌++◌, ◌∷◌, [], OnOk};
+ghost use Rattle.std.specs.Prelude.{◌≡◌, ◌+◌, ◌≤◌, ◌++◌, [], OnOk, codes, length};
+ghost use Rattle.sleep_model.specs.Text.{entry_line, newline, source_line, waiting_line};
 
-use crate::device_words::DeviceWords;
+use crate::front::LineFront;
 use crate::held::HeldBytes;
-use crate::short::{SHORT, ShortText};
-use itoa::Buffer;
+use crate::line::{spell_entry, spell_source, spell_waiting};
+use crate::ready::{LONGEST, ReadyNames};
+use crate::spelled::{Spelled, put};
 use sleep_base::Mem;
+use sleep_model::{Entry, Stats, Waiting};
 use std::alloc::Global;
 use std::marker::Model;
 
-/// The most bytes that a line of pieces takes, with all of their room.
-const LINE: usize = 216;
+/// The room that any line has where it is put together.
+pub const LINE: usize = 2048;
 
-/// Bytes that grow at their end, and that contracts see as their list. The last ones are held in place, where a short
-/// text costs little.
+/// Lines that are written one behind the other, and that contracts see as the list of their bytes. The last ones are held
+/// in place, where a line takes no memory.
 #[derive(Drop)]
 pub struct LineWriter {
     bytes: Vec<u8>,
@@ -36,6 +39,18 @@ fn pass_on(bytes: &mut Vec<u8>, held: &mut HeldBytes) -> Result<(), Mem>
 {
     bytes.extend_from_slice(held.as_bytes())?;
     held.clear();
+    Ok(())
+}
+
+/// Makes room for one more line.
+#[inline(always)]
+fn make_room(bytes: &mut Vec<u8>, held: &mut HeldBytes) -> Result<(), Mem>
+    ensures joined { OnOk result (bytes.new.items ++ held.new ≡ bytes.old.items ++ held.old) }
+    ensures room { OnOk result (length held.new + 2048 ≤ 32768) }
+{
+    if held.left() < LINE {
+        pass_on(bytes, held)?;
+    }
     Ok(())
 }
 
@@ -79,173 +94,52 @@ impl LineWriter {
         all.extend_from_slice(held.as_bytes())?;
         Ok(all)
     }
-
-    /// Writes these bytes.
-    #[inline(always)]
-    pub fn push_bytes(&mut self, bytes: &[u8]) -> Result<(), Mem>
-        ensures { OnOk result (self.new ≡ self.old ++ bytes.now) }
-    {
-        if bytes.len() > self.held.left() {
-            return self.push_behind(bytes);
-        }
-        self.held.put(bytes);
-        Ok(())
-    }
-
-    /// Writes these bytes behind those that are held.
-    #[cold]
-    #[inline(never)]
-    fn push_behind(&mut self, bytes: &[u8]) -> Result<(), Mem>
-        ensures { OnOk result (self.new ≡ self.old ++ bytes.now) }
-    {
-        pass_on(&mut self.bytes, &mut self.held)?;
-        self.bytes.extend_from_slice(bytes)?;
-        Ok(())
-    }
-
-    /// Writes this text.
-    #[inline(always)]
-    pub fn push_short(&mut self, text: &ShortText) -> Result<(), Mem>
-        ensures { OnOk result (self.new ≡ self.old ++ text.now) }
-    {
-        if self.held.left() < SHORT {
-            return self.push_behind(text.as_bytes());
-        }
-        self.held.put_short(text);
-        Ok(())
-    }
-
-    /// Writes a line of these pieces.
-    #[inline(always)]
-    pub fn push_line(
-        &mut self,
-        front: &ShortText,
-        maker: &ShortText,
-        words: &DeviceWords,
-        device: &ShortText,
-    ) -> Result<(), Mem>
-        ensures { OnOk result (self.new ≡ self.old ++ (front.now ++ maker.now ++ words.now.verb ++ words.now.phase ++ device.now ++ words.now.behind)) }
-    {
-        if self.held.left() < LINE {
-            pass_on(&mut self.bytes, &mut self.held)?;
-        }
-        self.held.put_line(front, maker, words, device);
-        Ok(())
-    }
-
-    /// Writes this text.
-    #[inline(always)]
-    pub fn push_text(&mut self, text: &str) -> Result<(), Mem>
-        ensures { OnOk result (self.new ≡ self.old ++ text.now) }
-    {
-        self.push_bytes(text.as_bytes())
-    }
-
-    /// Writes this byte.
-    #[inline(always)]
-    pub fn push_byte(&mut self, byte: u8) -> Result<(), Mem>
-        ensures { OnOk result (self.new ≡ self.old ++ byte ∷ []) }
-    {
-        if self.held.left() == 0 {
-            return self.push_behind(&[byte]);
-        }
-        self.held.put_byte(byte);
-        Ok(())
-    }
-
-    /// Writes the number in decimal.
-    #[inline]
-    #[tactic(auto, using(std::proofs::lemmas::Fmt::decimal_digit))]
-    pub fn push_number(&mut self, number: u64) -> Result<(), Mem>
-        ensures { OnOk result (self.new ≡ self.old ++ decimal number) }
-    {
-        // Most numbers of a log have one digit.
-        if number < 10 {
-            return self.push_byte(b'0' + number as u8);
-        }
-        self.push_digits(number)
-    }
-
-    /// Writes the number in decimal, also where it is long.
-    fn push_digits(&mut self, number: u64) -> Result<(), Mem>
-        ensures { OnOk result (self.new ≡ self.old ++ decimal number) }
-    {
-        let mut digits = Buffer::new();
-        self.push_text(digits.format(number))
-    }
 }
 
-/// What has one spelling in a log.
-pub trait Spelled {
-    ghost use Rattle.std.specs.Prelude.{ℕ, List, ◌≡◌, ◌++◌, OnOk};
-
-    ghost spelling: { Self → List ℕ };
-
-    /// Writes it.
-    fn write_to(self, out: &mut LineWriter) -> Result<(), Mem>
-        ensures { OnOk result (out.new ≡ out.old ++ spelling self) };
+/// Writes the line of an entry, whose front is given.
+#[inline(always)]
+pub fn put_entry(
+    out: &mut LineWriter,
+    names: &ReadyNames,
+    front: &LineFront,
+    entry: Entry,
+) -> Result<(), Mem>
+    requires time { front.now.time ≡ entry.time }
+    requires word { front.now.word ≡ entry.now }
+    ensures { OnOk result (out.new ≡ out.old ++ entry_line names.now entry) }
+{
+    make_room(&mut out.bytes, &mut out.held)?;
+    spell_entry(&mut out.held, names, front, entry);
+    Ok(())
 }
 
-impl Spelled for &str {
-    ghost spelling = { λ text. text.now };
-
-    #[inline(always)]
-    fn write_to(self, out: &mut LineWriter) -> Result<(), Mem> {
-        out.push_text(self)
+/// Writes the line of a wakeup source. `Mem` also where the name has more bytes than a name may have.
+pub fn put_source(out: &mut LineWriter, name: &[u8], stats: &Stats) -> Result<(), Mem>
+    ensures { OnOk result (out.new ≡ out.old ++ source_line name.now stats.now) }
+{
+    if name.len() > LONGEST {
+        return Err(Mem);
     }
+    make_room(&mut out.bytes, &mut out.held)?;
+    spell_source(&mut out.held, name, stats);
+    Ok(())
 }
 
-impl Spelled for &[u8] {
-    ghost spelling = { λ bytes. bytes.now };
-
-    #[inline(always)]
-    fn write_to(self, out: &mut LineWriter) -> Result<(), Mem> {
-        out.push_bytes(self)
-    }
+/// Writes the line of a script that never exits.
+pub fn put_waiting(out: &mut LineWriter, names: &ReadyNames, waiting: &Waiting) -> Result<(), Mem>
+    ensures { OnOk result (out.new ≡ out.old ++ waiting_line names.now waiting.now) }
+{
+    make_room(&mut out.bytes, &mut out.held)?;
+    spell_waiting(&mut out.held, names, waiting);
+    Ok(())
 }
 
-impl Spelled for &ShortText {
-    ghost spelling = { λ text. text.now };
-
-    #[inline(always)]
-    fn write_to(self, out: &mut LineWriter) -> Result<(), Mem> {
-        out.push_short(self)
-    }
+/// Writes that nothing was left to do.
+pub fn put_finished(out: &mut LineWriter) -> Result<(), Mem>
+    ensures { OnOk result (out.new ≡ out.old ++ (codes "finished" ++ newline)) }
+{
+    make_room(&mut out.bytes, &mut out.held)?;
+    let held = &mut out.held;
+    put!(held; "finished\n");
+    Ok(())
 }
-
-impl Spelled for u8 {
-    ghost spelling = { λ byte. byte ∷ [] };
-
-    #[inline(always)]
-    fn write_to(self, out: &mut LineWriter) -> Result<(), Mem> {
-        out.push_byte(self)
-    }
-}
-
-impl Spelled for u32 {
-    ghost spelling = { decimal };
-
-    #[inline(always)]
-    fn write_to(self, out: &mut LineWriter) -> Result<(), Mem> {
-        out.push_number(u64::from(self))
-    }
-}
-
-impl Spelled for u64 {
-    ghost spelling = { decimal };
-
-    #[inline(always)]
-    fn write_to(self, out: &mut LineWriter) -> Result<(), Mem> {
-        out.push_number(self)
-    }
-}
-
-/// Writes each part in turn, as `put!(out; "save ", count, " ok")`: a `Result<(), Mem>`.
-macro_rules! put {
-    ($out:expr; $($part:expr),+) => {{
-        $(Spelled::write_to($part, $out)?;)+
-        Ok::<(), Mem>(())
-    }};
-}
-
-pub(crate) use put;

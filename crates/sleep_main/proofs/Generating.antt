@@ -27,7 +27,7 @@ pub fills_none : (m : Machine) (s : ℕ) → ((s : ℕ) → places m s ≤ 16) �
 fills_none m s few full = omega (arith, few s, full.1)
 
 -- how the log of a run ends
-ends_as : (m : Machine) (log : Log) → IsRun m log → EndsAs m log (is_stuck log.end)
+pub ends_as : (m : Machine) (log : Log) → IsRun m log → EndsAs m log (is_stuck log.end)
 ends_as m log run = by run.over
   where
     by : (IsFinishedLog m log) ⊎ (IsStuckLog m log) → EndsAs m log (is_stuck log.end)

@@ -17,7 +17,7 @@ use Rattle.sleep_script.specs.Generated.{generated}
 use Rattle.sleep_main.specs.Counting.{count_line, counts_of}
 use Rattle.sleep_main.specs.declared.ending.Ending.{Ending}
 use Rattle.sleep_main.specs.declared.ending.Ending.TheVariants.{Done, Stuck, NoForm, TooLong, Broken, ReadFault, WriteFault, SourceFull, NoMemory}
-use Rattle.sleep_main.specs.declared.said.Said.{Said}
+use Rattle.sleep_main.specs.declared.top.Ran.{Ran}
 use Rattle.sleep_run.specs.Runs.{IsRun, IsFull}
 
 -- the program's status
@@ -144,10 +144,15 @@ EndsWithout bytes (SourceFull name) = FillsSource bytes name
 EndsWithout bytes NoMemory = Unit {0}
 EndsWithout bytes _ = ⊥
 
--- the bytes give the text of a log, or there is none
-abbrev pub GivesLog : List ℕ → Result Said Ending → Type 0
-GivesLog bytes (Ok said) = IsLogOf bytes said.text.items said.stuck
-GivesLog bytes (Err ending) = EndsWithout bytes ending
+-- the bytes spell that machine, and the log is that of a run of it
+pub record IsRunOf (bytes : List ℕ) (m : Machine) (log : Log) : Type 0 where
+  pub spells : machine_in bytes ≡ Some m
+  pub run : IsRun m log
+
+-- the bytes give a machine and the log of its run, or there is none
+abbrev pub GivesRun : List ℕ → Result Ran Ending → Type 0
+GivesRun bytes (Ok ran) = IsRunOf bytes ran.machine ran.log
+GivesRun bytes (Err ending) = EndsWithout bytes ending
 
 -- nothing was written on standard output, and no write of it failed
 abbrev pub KeepsOut : Streams → Streams → Type 0
@@ -165,6 +170,11 @@ Writes old new said stuck WriteFault = Rose old.faults new.faults × ((front bac
 Writes old new said stuck _ = ⊥
 
 -- ---- run
+
+-- the text of the log was written, or a front of it, or memory ran out before
+abbrev pub WritesLog : Ran → Stream → Stream → Ending → Type 0
+WritesLog ran old new NoMemory = new ≡ old
+WritesLog ran old new ending = Writes old new (text ran.machine ran.log) (is_stuck ran.log.end) ending
 
 -- the whole input was a machine file, and the text is that of its log
 abbrev pub RanFile : Streams → Streams → List ℕ → Bool → Type 0

@@ -2,18 +2,18 @@ ghost use Rattle.std.specs.Prelude.{◌≡◌, ◌≤◌, ◌++◌, IfOk, IfSome
 ghost use Rattle.sleep_base.specs.Whole.{WriteAll};
 ghost use Rattle.command_line.specs.Words.{IsInRange};
 ghost use Rattle.sleep_main.specs.declared.ending.Ending.{Ending};
-ghost use Rattle.sleep_main.specs.Endings.{GivesLog, IsFullNamed, RunEnded, Ended, Completes, Says, status_of, stream, streams, text_of};
+ghost use Rattle.sleep_main.specs.Endings.{GivesRun, IsFullNamed, RunEnded, WritesLog, Ended, Completes, Says, status_of, stream, streams, text_of};
 ghost use Rattle.sleep_main.specs.Words.{asked, is_done};
 
 use crate::ending::Ending;
 use crate::generated::{soak_generated, write_generated};
-use crate::said::{Said, is_stuck, write_said};
+use crate::said::is_stuck;
 use command_line::{Command, command_of};
 use itoa::Buffer;
-use log_text::{source_name, write_log};
+use log_text::{LogText, source_name};
 use machine_file::{MachineFault, ReadMachine, read_machine};
 use sleep_base::{ByteSink, ByteSource, Failed, Mem, ReadStop, read_all, write_all};
-use sleep_model::{Machine, Name};
+use sleep_model::{Log, Machine, Name};
 use sleep_run::{RunFault, run_machine};
 use std::alloc::Global;
 use std::sync::Wait;
@@ -31,10 +31,17 @@ fn full(machine: &Machine, source: u32) -> Ending
     }
 }
 
-/// The text of the log of the machine that the bytes spell, or how the program ends without one: `Broken` where
+/// A machine, and the log of its run.
+#[derive(Drop)]
+pub struct Ran {
+    pub machine: Machine,
+    pub log: Log,
+}
+
+/// The machine that the bytes spell with the log of its run, or how the program ends without one: `Broken` where
 /// they break a rule and so spell none, `SourceFull` where a source's history has no place for a call, `NoMemory` where there is no memory.
-fn log_of_bytes<R: Wait>(rt: &R, alloc: Global, bytes: &[u8]) -> Result<Said, Ending>
-    ensures { GivesLog bytes.now result }
+fn run_of_bytes<R: Wait>(rt: &R, alloc: Global, bytes: &[u8]) -> Result<Ran, Ending>
+    ensures { GivesRun bytes.now result }
 {
     let ReadMachine { machine, links } = match read_machine(alloc, bytes) {
         Ok(read) => read,
@@ -42,20 +49,33 @@ fn log_of_bytes<R: Wait>(rt: &R, alloc: Global, bytes: &[u8]) -> Result<Said, En
         Err(MachineFault::Mem) => return Err(Ending::NoMemory),
     };
     match run_machine(rt, alloc, &machine, links) {
-        Ok(run) => match write_log(alloc, &machine, &run.log) {
-            Ok(text) => {
-                let stuck = is_stuck(&run.log.end);
-                Ok(Said { text, stuck })
-            }
-            Err(_) => Err(Ending::NoMemory),
-        },
+        Ok(run) => Ok(Ran {
+            machine,
+            log: run.log,
+        }),
         Err(RunFault::SourceFull(source)) => Err(full(&machine, source)),
         Err(RunFault::Mem) => Err(Ending::NoMemory),
     }
 }
 
+/// Writes the log of a run as its text is put together: `Done`, or `Stuck` where the run was stuck. `NoMemory` before
+/// anything was written, `WriteFault` at the first write that fails: a front of the text was written.
+fn write_log<K: ByteSink>(alloc: Global, out: &mut K, ran: &Ran) -> Ending
+    ensures { WritesLog ran.now (stream (K.written out.old) (K.faults out.old)) (stream (K.written out.new) (K.faults out.new)) result }
+{
+    let text = match LogText::new(alloc, &ran.machine, &ran.log) {
+        Ok(text) => text,
+        Err(_) => return Ending::NoMemory,
+    };
+    match text.write_to(out) {
+        Ok(()) if is_stuck(&ran.log.end) => Ending::Stuck,
+        Ok(()) => Ending::Done,
+        Err(_) => Ending::WriteFault,
+    }
+}
+
 /// Reads a machine file, runs the machine, and writes its log.
-#[tactic(auto, using(crate::proofs::Filling::ended_without))]
+#[tactic(auto, using(crate::proofs::Filling::ended_without, crate::proofs::Filling::ended_with))]
 fn run_file<R: Wait, S: ByteSource, K: ByteSink>(
     rt: &R,
     alloc: Global,
@@ -73,8 +93,8 @@ fn run_file<R: Wait, S: ByteSource, K: ByteSink>(
         Err(ReadStop::TooLong) => return Ending::TooLong,
         Err(ReadStop::Mem) => return Ending::NoMemory,
     };
-    match log_of_bytes(rt, alloc, &bytes) {
-        Ok(said) => write_said(out, &said),
+    match run_of_bytes(rt, alloc, &bytes) {
+        Ok(ran) => write_log(alloc, out, &ran),
         Err(ending) => ending,
     }
 }

@@ -3,7 +3,7 @@ use Rattle.sleep_run.specs.declared.run.RunFault.{RunFault}
 use Rattle.sleep_run.specs.Runs.{Fails}
 use Rattle.sleep_main.specs.Endings.{IsFullNamed}
 use Rattle.sleep_main.proofs.Filling.{fills}
-use Rattle.sleep_main.proofs.top.log_of_bytes.Goals as goal
+use Rattle.sleep_main.proofs.top.run_of_bytes.Goals as goal
 
 pub returns-in-Err-SourceFull : goal.returns-in-Err-SourceFull
 returns-in-Err-SourceFull g c =
