@@ -2,6 +2,7 @@ pub mod Boarded
 pub mod Calling
 mod Counted
 mod Freezing
+mod Growing
 mod Linked
 mod Passing
 mod Propers

@@ -3,7 +3,7 @@ ghost use Rattle.sleep_model.specs.Runtime.{is_async};
 ghost use Rattle.async_board.specs.Boards.{first_board};
 ghost use Rattle.sleep_model.specs.Accepted.{IsAccepted};
 ghost use Rattle.sleep_core.specs.FirstParts.{AreFirst};
-ghost use Rattle.sleep_core.specs.Histories.{moved_board, IsOfNone};
+ghost use Rattle.sleep_core.specs.Histories.{moved_board, IsOfDevice, IsOfNone};
 ghost use Rattle.sleep_core.specs.Numbered.{IsCounted};
 ghost use Rattle.wakeup_guard.specs.Guarded.{guarded_after};
 
@@ -95,18 +95,15 @@ fn move_links(board: &mut Board, kind: Kind) -> Result<(), Mem>
     }
 }
 
-/// The guard takes down an entry. Of those of a device it knows skips alone, which may drop the count in force.
+/// The guard takes down an entry that is of a device: it knows skips alone, which may drop the count in force.
 #[inline(always)]
 fn move_guard(guard: &mut Guard<24>, kind: Kind, now: EventNow)
+    requires { IsOfDevice kind }
     ensures { guard.new ≡ guarded_after 24 kind now guard.old }
 {
     match kind {
-        Kind::Prepare { .. }
-        | Kind::Complete(_)
-        | Kind::Schedule(..)
-        | Kind::Begin(..)
-        | Kind::End(..) => {}
-        _ => guard.note(kind, now),
+        Kind::Skip(phase, device, cause) => guard.note(Kind::Skip(phase, device, cause), now),
+        _ => {}
     }
 }
 
@@ -245,7 +242,7 @@ impl<'m> History<'m> {
     /// Appends an entry that is of no device. `Mem` where it adds a link, for which there is no memory; nothing
     /// has changed then.
     #[inline(never)]
-    fn append_other(&mut self, stamped: JournalEntry) -> Result<(), Mem>
+    pub(crate) fn append_other(&mut self, stamped: JournalEntry) -> Result<(), Mem>
         requires other { IsOfNone stamped.entry.kind }
         requires admits { Admits self.old stamped.entry }
         requires board { Settles self.old.machine (entries self.old.past) stamped.entry }

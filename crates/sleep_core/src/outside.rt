@@ -66,7 +66,7 @@ impl<'m> Core<'m> {
             actor: Actor::Time,
             kind: Kind::Jump,
         };
-        match self.history.append(JournalEntry { stamp, entry }) {
+        match self.history.append_other(JournalEntry { stamp, entry }) {
             Ok(()) => Ok(stamp),
             // A jump changes no link.
             Err(_) => unreachable!(),

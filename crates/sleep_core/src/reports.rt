@@ -54,8 +54,22 @@ impl Reports {
         })
     }
 
-    /// A callback of the actor reports so many calls.
+    /// A callback of the actor reports so many calls, which mostly is none.
+    #[inline(always)]
+    #[tactic(auto, using(crate::proofs::Growing::none_more))]
     pub(crate) fn add(&mut self, who: Actor, more: u32)
+        requires { reported_by who self.old < 2 ^ 32 }
+        ensures { self.new ≡ counts_after who more self.old }
+    {
+        match more {
+            0 => {}
+            _ => self.grow(who, more),
+        }
+    }
+
+    /// The number of the actor grows.
+    #[inline(never)]
+    fn grow(&mut self, who: Actor, more: u32)
         requires { reported_by who self.old < 2 ^ 32 }
         ensures { self.new ≡ counts_after who more self.old }
     {

@@ -203,9 +203,23 @@ impl Devices {
           own_error = unless_own own self.old.own_error (error_in phase r self.old.own_error);
         } }
     {
-        self.failed = error_in(phase, r, self.failed);
         if !own {
             self.callback = None;
+        }
+        if r.is_some() {
+            self.failing(phase, r, own);
+        }
+    }
+
+    /// A callback's error counts, in a device's own work or not.
+    fn failing(&mut self, phase: Phase, r: Option<Errno>, own: bool)
+        ensures { self.new ≡ record self.old {
+          failed = error_in phase r self.old.failed;
+          own_error = unless_own own self.old.own_error (error_in phase r self.old.own_error);
+        } }
+    {
+        self.failed = error_in(phase, r, self.failed);
+        if !own {
             self.own_error = error_in(phase, r, self.own_error);
         }
     }

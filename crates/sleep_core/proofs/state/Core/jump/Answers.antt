@@ -10,8 +10,9 @@ use Rattle.sleep_core.proofs.Reporting.{counts_more}
 use Rattle.sleep_core.proofs.Turning.{admits_jump, core_jumped}
 use Rattle.sleep_core.proofs.state.Core.jump.Goals as goal
 
-pub append-requires : goal.append-requires
-append-requires c = record {
+pub append_other-requires : goal.append_other-requires
+append_other-requires c = record {
+  other = tt;
   admits =
       admits_jump c.self.inside.history c.reserve.new.self c.args.to c.args.seen c.self.invariant.core c.in_ok-reserve.ensures.machine c.in_ok-reserve.ensures.past
       (omega (arith, c.in_ok-reserve.ensures.ok, c.room-places.ensures.room))
@@ -23,13 +24,13 @@ append-requires c = record {
 pub invariant_of-self-2 : goal.invariant_of-self-2
 invariant_of-self-2 c =
     let h = c.self.inside.history in
-    let same : c.append.new.self.machine ≡ h.machine = ap (λ (k : Kept). k.machine) c.in-Ok.ensures.ok ∙ c.in_ok-reserve.ensures.machine in
+    let same : c.append_other.new.self.machine ≡ h.machine = ap (λ (k : Kept). k.machine) c.in-Ok.ensures.ok ∙ c.in_ok-reserve.ensures.machine in
     record {
-      core = core_jumped h c.reserve.new.self c.append.new.self _ c.args.to c.args.seen c.self.invariant.core c.in_ok-reserve.ensures.machine c.in_ok-reserve.ensures.past
+      core = core_jumped h c.reserve.new.self c.append_other.new.self _ c.args.to c.args.seen c.self.invariant.core c.in_ok-reserve.ensures.machine c.in_ok-reserve.ensures.past
           (omega (arith, c.in_ok-reserve.ensures.ok, c.room-places.ensures.room))
           (subst (λ (s : CoreState). time_of (entries s.past) < c.args.to) (sym c.self.view_is) c.requires.later) c.requires.small c.in-Ok.ensures.ok;
       plans_are = c.self.invariant.plans_are ∙ ap (λ (m : Machine). m.actors) (sym same);
       answers_are = c.self.invariant.answers_are ∙ ap (λ (m : Machine). m.answers) (sym same);
       wakeup_is = c.self.invariant.wakeup_is ∙ ap (λ (m : Machine). map may_wake m.devices) (sym same);
-      reports_are = c.self.invariant.reports_are ∙ sym (counts_more h c.reserve.new.self c.append.new.self _ c.in_ok-reserve.ensures.machine c.in_ok-reserve.ensures.past c.in-Ok.ensures.ok);
+      reports_are = c.self.invariant.reports_are ∙ sym (counts_more h c.reserve.new.self c.append_other.new.self _ c.in_ok-reserve.ensures.machine c.in_ok-reserve.ensures.past c.in-Ok.ensures.ok);
     }
