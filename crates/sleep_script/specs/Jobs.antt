@@ -1,5 +1,5 @@
 -- What a job knows of its actor, and what it is told.
-use Rattle.std.specs.Prelude.{◌≡◌, ◌≤◌, ℕ, ◌+◌, max, min, Bool, true, false, ◌||◌, ◌&&◌, List, [], ◌∷◌, ◌++◌, drop, slice_get, Option, Some}
+use Rattle.std.specs.Prelude.{◌≡◌, ◌≤◌, ℕ, ◌+◌, max, min, Bool, true, false, ◌||◌, ◌&&◌, List, [], ◌∷◌, ◌++◌, drop, slice_get, Some}
 use Rattle.sleep_model.specs.declared.entry.Actor.{Actor}
 use Rattle.sleep_model.specs.declared.entry.Entry.{Entry}
 use Rattle.sleep_model.specs.declared.entry.Kind.{Kind}
@@ -48,6 +48,15 @@ first_job m who = record {
 abbrev pub is_exit : Kind → Bool
 is_exit kind.Exit = true
 is_exit _ = false
+
+-- a step of a walk over devices that begins no callback (dpm_prepare, dpm_complete, async_schedule; own)
+abbrev pub is_in_walk : Kind → Bool
+is_in_walk (kind.Prepare d r) = true
+is_in_walk (kind.Complete d) = true
+is_in_walk (kind.Schedule p d) = true
+is_in_walk (kind.End p d r) = true
+is_in_walk (kind.Skip p d why) = true
+is_in_walk _ = false
 
 -- after an entry: due are the reports of the callback it begins, and the calls up to the next turn (pm_wakeup_event)
 abbrev pub after_turn : Stamp → Kind → ℕ → JobState → JobState

@@ -4,9 +4,11 @@ ghost use Rattle.std.specs.Prelude.{◌≡◌, ◌<◌, ◌^◌, drop, map, slic
 ghost use Rattle.answer_book.specs.Book.{answer_among};
 ghost use Rattle.sleep_model.specs.Answers.{answer_reports};
 ghost use Rattle.sleep_model.specs.Calls.{one_more};
+ghost use Rattle.script_plan.specs.CallPlans.{noted};
+ghost use Rattle.sleep_script.specs.JobFields.{own_due, planned_at};
 ghost use Rattle.sleep_script.specs.Jobs.{later, made_after, reports_among};
 
-use crate::kinds::{ends_turn, is_exit};
+use crate::kinds::{ends_turn, is_exit, is_in_walk};
 use answer_book::AnswerBook;
 use script_plan::CallPlan;
 use sleep_model::{Actor, Kind, Machine, Report, Stamp, Want, What};
@@ -38,6 +40,29 @@ fn call_at(calls: &[Report], number: usize) -> Option<Report>
     ensures { result ≡ slice_get calls.now number }
 {
     calls.get(number).copied()
+}
+
+/// The plan's calls right before the turn with that number.
+fn calls_before<'a>(plan: &'a Option<CallPlan<'_>>, turn: usize) -> &'a [Report]
+    ensures { map noted result.now ≡ planned_at plan.now turn }
+{
+    match plan {
+        Some(plan) => plan.calls_at(turn),
+        None => &[],
+    }
+}
+
+/// How many of the plan's calls are due before the turn with that number: none, where no turn has just ended, before
+/// which all were made.
+fn own_due(ends: bool, plan: &Option<CallPlan<'_>>, turn: usize) -> usize
+    ensures is { result ≡ own_due ends plan.now turn }
+    ensures small { result < 2 ^ 63 }
+{
+    if ends {
+        calls_before(plan, turn).len()
+    } else {
+        0
+    }
 }
 
 /// One turn more, where it has ended.
@@ -79,6 +104,8 @@ pub(crate) struct Job<'m> {
     made: usize,
     /// The reports that its callback still has to make.
     reports: &'m [Report],
+    /// How many calls it has to make before its next entry of the journal: those reports, then the plan's.
+    due: usize,
     calls: u32,
     exited: bool,
     floor: Stamp,
@@ -115,6 +142,7 @@ impl<'m> Job<'m> {
         requires plan { IsPlanOf plan machine.now who }
         ensures { result ≡ first_job machine.now who }
     {
+        let due = calls_before(&plan, 0).len();
         Job {
             machine,
             who,
@@ -123,6 +151,7 @@ impl<'m> Job<'m> {
             turns: 0,
             made: 0,
             reports: &[],
+            due,
             calls: 0,
             exited: false,
             floor: Stamp { pos: 0, tick: 0 },
@@ -133,16 +162,16 @@ impl<'m> Job<'m> {
     fn own_calls(&self) -> &[Report]
         ensures { map noted result.now ≡ calls_of_turn self.now.machine self.now.who self.now.turns }
     {
-        match &self.plan {
-            Some(plan) => plan.calls_at(self.turns),
-            None => &[],
-        }
+        calls_before(&self.plan, self.turns)
     }
 
     /// The next call that it has to make before its next entry of the journal.
     fn next_call(&self) -> Option<Report>
         ensures { option_map noted result ≡ slice_get self.now.pending 0 }
     {
+        if self.due == 0 {
+            return None;
+        }
         match self.reports.first() {
             Some(report) => Some(*report),
             None => call_at(self.own_calls(), self.made),
@@ -160,18 +189,34 @@ impl<'m> Job<'m> {
         }
     }
 
+    /// Its actor made an entry of the journal, which may end a turn, begin a callback or be an exit.
+    #[inline(always)]
+    fn told_step(&mut self, kind: Kind, attempt: u32)
+        requires made { self.old.pending ≡ [] }
+        requires few { self.old.turns < 2 ^ 63 }
+        ensures { self.new ≡ after_turn self.old.floor kind attempt self.old }
+    {
+        let ends = ends_turn(kind);
+        let turns = one_more(ends, self.turns);
+        let reports = reports_of(self.book, kind, attempt);
+        self.due = reports.len() + own_due(ends, &self.plan, turns);
+        self.made = made_after(ends, self.made);
+        self.turns = turns;
+        self.reports = reports;
+        self.exited = is_exit(kind) | self.exited;
+    }
+
     /// Its actor made an entry of the journal.
+    #[inline(always)]
     pub(crate) fn told_turn(&mut self, stamp: Stamp, kind: Kind, attempt: u32)
         requires made { self.old.pending ≡ [] }
         requires few { self.old.turns < 2 ^ 63 }
         ensures { self.new ≡ after_turn stamp kind attempt self.old }
     {
-        let ends = ends_turn(kind);
-        self.made = made_after(ends, self.made);
-        self.turns = one_more(ends, self.turns);
-        self.reports = reports_of(self.book, kind, attempt);
-        self.exited = is_exit(kind) | self.exited;
         self.floor = stamp;
+        if !is_in_walk(kind) {
+            self.told_step(kind, attempt);
+        }
     }
 
     /// The call that was next is made.
@@ -183,8 +228,10 @@ impl<'m> Job<'m> {
             // A turn has fewer than 2^63 calls before it.
             let _calls = self.own_calls().len();
             self.made += 1;
+            self.due -= 1;
         } else {
             self.reports = rest_of(self.reports);
+            self.due -= 1;
         }
     }
 

@@ -2,7 +2,7 @@
 
 ghost use Rattle.std.specs.Prelude.{◌≡◌};
 ghost use Rattle.sleep_model.specs.Calls.{ends_turn};
-ghost use Rattle.sleep_script.specs.Jobs.{is_exit};
+ghost use Rattle.sleep_script.specs.Jobs.{is_exit, is_in_walk};
 
 use sleep_model::Kind;
 
@@ -38,4 +38,18 @@ pub(crate) fn is_exit(kind: Kind) -> bool
     ensures { result ≡ is_exit kind }
 {
     matches!(kind, Kind::Exit)
+}
+
+/// Whether it is a step of a walk over devices that begins no callback: it leaves its actor nothing to do.
+pub(crate) fn is_in_walk(kind: Kind) -> bool
+    ensures { result ≡ is_in_walk kind }
+{
+    matches!(
+        kind,
+        Kind::Prepare { .. }
+            | Kind::Complete(_)
+            | Kind::Schedule(..)
+            | Kind::End(..)
+            | Kind::Skip(..)
+    )
 }
