@@ -8,3 +8,5 @@ mod log_tests;
 mod machine_tests;
 #[cfg(test)]
 mod reading_tests;
+#[cfg(test)]
+mod stream_tests;
