@@ -4,9 +4,6 @@ ghost use Rattle.std.specs.Prelude.{take};
 
 use std::marker::Model;
 
-/// How many bytes a short text has at most.
-pub const SHORT: usize = 56;
-
 /// A short text at the beginning of its room, that contracts see as the list of its bytes.
 #[derive(Drop)]
 pub struct ShortText {
