@@ -1,6 +1,5 @@
 -- What is written piece by piece.
 use Rattle.std.proofs.Common.{◌≡◌, ◌≤◌, ◌++◌, ◌∙◌, ℕ, List, [], Option, Some, None, Result, Ok, Err, sym, ap, subst, append_assoc, arith}
-use Rattle.std.proofs.lemmas.List.{append-nil}
 use Rattle.std.specs.Io.KnownBytes.{Appends}
 use Rattle.sleep_base.specs.declared.outside.Failed.{Failed}
 use Rattle.sleep_base.specs.Whole.{WriteAll}
@@ -52,9 +51,8 @@ pub told_failed : (old mid new : Option (List ℕ)) (before then now : ℕ) (all
     → Tells old mid before then all (held ++ more) → WriteAll mid new then now held (Err fault) → WriteAll old new before now all (Err fault)
 told_failed old mid new before then now all held more fault told failed = told new now (Err fault) (one_failed mid new then now held more fault failed)
 
--- what was held was the last
-pub told_last : (old mid new : Option (List ℕ)) (before then now : ℕ) (all held more bytes : List ℕ) (result : Result Unit Failed)
-    → Tells old mid before then all (held ++ more) → more ≡ [] → bytes ≡ held → WriteAll mid new then now bytes result → WriteAll old new before now all result
-told_last old mid new before then now all held more bytes result told none is wrote =
-    let last : bytes ≡ held ++ more = is ∙ (sym (append-nil held) ∙ ap (λ (bs : List ℕ). held ++ bs) (sym none)) in
-    told new now result (subst (λ (bs : List ℕ). WriteAll mid new then now bs result) last wrote)
+-- what was held was the last before what comes behind
+pub told_behind : (old mid new : Option (List ℕ)) (before then now : ℕ) (all held more behind : List ℕ) (result : Result Unit Failed)
+    → Tells old mid before then all (held ++ (more ++ behind)) → more ≡ [] → WriteAll mid new then now (held ++ behind) result → WriteAll old new before now all result
+told_behind old mid new before then now all held more behind result told none wrote =
+    told new now result (subst (λ (bs : List ℕ). WriteAll mid new then now (held ++ (bs ++ behind)) result) (sym none) wrote)

@@ -54,13 +54,11 @@ impl<'a> LogText<'a> {
     }
 
     /// Writes the text, without memory. `Failed` at the first write that fails: a front of the text was written.
-    #[tactic(auto, using(crate::proofs::Passed::one_failed, crate::proofs::Passed::both_written))]
     pub fn write_to<K: ByteSink>(&self, sink: &mut K) -> Result<(), Failed>
         ensures bytes { WriteAll (K.written sink.old) (K.written sink.new) (K.faults sink.old) (K.faults sink.new) self.now result }
         ensures faults { K.faults sink.old ≤ K.faults sink.new }
     {
-        write_entries(sink, &self.names, self.entries)?;
-        write_all(sink, self.behind.as_slice())
+        write_lines(sink, &self.names, self.entries, self.behind.as_slice())
     }
 }
 
@@ -104,14 +102,29 @@ fn make_room<K: ByteSink>(sink: &mut K, held: &mut HeldBytes) -> Result<(), Fail
     pass_on(sink, held)
 }
 
-/// Writes a line for each entry.
-#[tactic(auto, using(crate::proofs::Passed::told_first, crate::proofs::Passed::told_on, crate::proofs::Passed::told_failed, crate::proofs::Passed::told_last))]
-fn write_entries<K: ByteSink>(
+/// Writes what is held and the bytes behind it, in one piece where there is room for them.
+#[tactic(auto, using(crate::proofs::Passed::one_failed, crate::proofs::Passed::both_written))]
+fn write_last<K: ByteSink>(sink: &mut K, held: &mut HeldBytes, behind: &[u8]) -> Result<(), Failed>
+    ensures bytes { WriteAll (K.written sink.old) (K.written sink.new) (K.faults sink.old) (K.faults sink.new) (held.old ++ behind.now) result }
+    ensures faults { K.faults sink.old ≤ K.faults sink.new }
+{
+    if behind.len() <= held.left() {
+        held.put(behind);
+        return write_all(sink, held.as_bytes());
+    }
+    write_all(sink, held.as_bytes())?;
+    write_all(sink, behind)
+}
+
+/// Writes a line for each entry, and then those behind them.
+#[tactic(auto, using(crate::proofs::Passed::told_first, crate::proofs::Passed::told_on, crate::proofs::Passed::told_failed, crate::proofs::Passed::told_behind))]
+fn write_lines<K: ByteSink>(
     sink: &mut K,
     names: &ReadyNames,
     entries: &EntryList,
+    behind: &[u8],
 ) -> Result<(), Failed>
-    ensures bytes { WriteAll (K.written sink.old) (K.written sink.new) (K.faults sink.old) (K.faults sink.new) (flat_map (entry_line names.now) entries.now) result }
+    ensures bytes { WriteAll (K.written sink.old) (K.written sink.new) (K.faults sink.old) (K.faults sink.new) (flat_map (entry_line names.now) entries.now ++ behind.now) result }
     ensures faults { K.faults sink.old ≤ K.faults sink.new }
 {
     let mut held = HeldBytes::new();
@@ -122,5 +135,5 @@ fn write_entries<K: ByteSink>(
         front.move_to(entry.time, entry.now);
         spell_entry(&mut held, names, &front, entry);
     }
-    write_all(sink, held.as_bytes())
+    write_last(sink, &mut held, behind)
 }

@@ -1,9 +1,9 @@
 -- What is told of the rest is told of all lines.
-use Rattle.std.proofs.Common.{ap, flat_map, arith}
+use Rattle.std.proofs.Common.{◌++◌, ◌∙◌, ap, append_assoc, flat_map, arith}
 use Rattle.std.proofs.lemmas.Result.{err_from_is_err_and}
 use Rattle.sleep_model.specs.Text.{entry_line}
-use Rattle.log_text.proofs.Passed.{told_failed, told_last, told_on}
-use Rattle.log_text.proofs.stream.write_entries.Goals as goal
+use Rattle.log_text.proofs.Passed.{told_failed, told_behind, told_on}
+use Rattle.log_text.proofs.stream.write_lines.Goals as goal
 
 pub returns-in_err-make_room-clause-bytes : goal.returns-in_err-make_room-clause-bytes
 returns-in_err-make_room-clause-bytes g c =
@@ -13,12 +13,13 @@ returns-in_err-make_room-clause-bytes g c =
 pub loop-entry-preserved : goal.loop-entry-preserved
 loop-entry-preserved g c =
     let lines = flat_map (entry_line c.args.names.now) in
+    let behind = c.args.behind.now in
     record {
-      told = told_on _ _ _ _ _ _ _ _ _ _ _ _ _ c.loop-entry.invariant.told c.in_ok-make_room.ensures.passes c.spell_entry.ensures.text (ap lines c.in-Some.ensures);
+      told = told_on _ _ _ _ _ _ _ _ _ _ _ _ _ c.loop-entry.invariant.told c.in_ok-make_room.ensures.passes c.spell_entry.ensures.text (ap (λ es. lines es ++ behind) c.in-Some.ensures ∙ append_assoc _ _ behind);
       later = omega (arith, c.loop-entry.invariant.later, c.make_room.ensures.faults);
     }
 
 pub returns-clause-bytes : goal.returns-clause-bytes
 returns-clause-bytes g c =
     let lines = flat_map (entry_line c.args.names.now) in
-    told_last _ _ _ _ _ _ _ _ _ _ _ c.loop-entry.invariant.told (ap lines c.in_default.ensures.0) c.as_bytes.ensures c.write_all.ensures.bytes
+    told_behind _ _ _ _ _ _ _ _ _ _ _ c.loop-entry.invariant.told (ap lines c.in_default.ensures.0) c.write_last.ensures.bytes
