@@ -16,7 +16,4 @@ mod walk;
 
 pub use board::Board;
 pub use law::board_tells;
-pub use stand::{
-    device_of, is_down_in, is_left_alone, is_low, is_prepared, is_ready, is_taken, is_unsettled,
-    stand_after,
-};
+pub use stand::{is_down_in, is_left_alone, is_low, is_prepared, is_ready, is_taken, is_unsettled};

@@ -1,4 +1,4 @@
-//! What an entry does to the stand of its device, and tests of a stand.
+//! Where a device's answer leaves it, and tests of a stand.
 
 ghost use Rattle.std.specs.Prelude.{◌≡◌};
 ghost use Rattle.std.specs.Bool.{OnFalse, OnTrue};
@@ -9,13 +9,7 @@ ghost use Rattle.sleep_model.specs.declared.place.AsyncWork.TheVariants.{Idle};
 ghost use Rattle.sleep_model.specs.Stands as stands;
 
 use sleep_base::Errno;
-use sleep_model::{AsyncWork, Kind, Phase, SkipCause, Stand};
-
-fn prepared_by(r: i32, before: Stand) -> Stand
-    ensures { result ≡ stands.prepared_by r before }
-{
-    if r >= 0 { Stand::Prepared } else { before }
-}
+use sleep_model::{AsyncWork, Phase, SkipCause, Stand};
 
 /// Where a device stands on the way down once its callback has answered (`dpm_run_callback`).
 #[inline]
@@ -35,49 +29,6 @@ pub(crate) fn skipped_for(cause: SkipCause) -> Stand
     match cause {
         SkipCause::Direct => Stand::Direct,
         _ => Stand::Failed,
-    }
-}
-
-fn by_phase(p: Phase, q: Phase, down: Stand, up: Stand, other: Stand) -> Stand
-    ensures { result ≡ stands.by_phase p q down up other }
-{
-    if q == p {
-        down
-    } else if q == p.mirror() {
-        up
-    } else {
-        other
-    }
-}
-
-/// Where the device of an entry stands after it, for a phase on the way down and its mirror
-/// (`drivers/base/power/main.c`, `dpm_run_callback`).
-pub fn stand_after(p: Phase, kind: Kind, before: Stand) -> Stand
-    ensures { result ≡ stands.stand_after p kind before }
-{
-    match kind {
-        Kind::Prepare { r, .. } => prepared_by(r, before),
-        Kind::Complete(_) => Stand::Unprepared,
-        Kind::Schedule(q, _) => by_phase(p, q, Stand::Scheduled, Stand::Rescheduled, before),
-        Kind::Begin(q, _) => by_phase(p, q, Stand::Suspending, Stand::Resuming, before),
-        Kind::End(q, _, r) => by_phase(p, q, ended_by(r), Stand::Resumed, before),
-        Kind::Skip(q, _, cause) => by_phase(p, q, skipped_for(cause), before, before),
-        _ => before,
-    }
-}
-
-/// The device that an entry is of. None where it is of no device.
-pub fn device_of(kind: Kind) -> Option<u32>
-    ensures { result ≡ stands.device_of kind }
-{
-    match kind {
-        Kind::Prepare { device, .. } => Some(device),
-        Kind::Complete(device)
-        | Kind::Schedule(_, device)
-        | Kind::Begin(_, device)
-        | Kind::End(_, device, _)
-        | Kind::Skip(_, device, _) => Some(device),
-        _ => None,
     }
 }
 

@@ -147,18 +147,12 @@ fn a_changed_link_begins_anew(rt: HostRuntime) -> Result<(), Fail> {
 /// Tests of a stand.
 #[test]
 fn stands_are_told_apart(rt: HostRuntime) -> Result<(), Fail> {
-    let failed = stand_after(
-        Phase::Late,
-        Kind::Skip(Phase::Late, 0, SkipCause::Pending),
-        Stand::Prepared,
-    );
+    let failed = Stand::Failed;
     assert!(rt; is_prepared(failed) && is_taken(failed) && !is_unsettled(failed));
     assert!(rt; is_ready(Stand::Prepared) && !is_taken(Stand::Prepared));
     assert!(rt;
         is_down_in(Stand::Suspended) && is_low(Stand::Resuming) && is_left_alone(Stand::Direct)
     );
-    assert_eq!(rt; device_of(Kind::Complete(7)), Some(7));
-    assert_eq!(rt; device_of(Kind::Exit), None);
     board_tells();
     Ok(())
 }

@@ -1,34 +1,12 @@
--- What is written piece by piece.
-use Rattle.std.proofs.Common.{◌≡◌, ◌≤◌, ◌+◌, ◌++◌, ◌∙◌, ℕ, List, [], Option, Some, None, Result, Ok, Err, refl, sym, ap, append_assoc, arith}
+-- What an ending says.
+use Rattle.std.proofs.Common.{◌≡◌, ◌++◌, ◌∙◌, [], refl, sym, ap, append_assoc}
 use Rattle.std.proofs.lemmas.List.{append-nil}
 use Rattle.std.specs.Prelude.{◌∷◌, codes, decimal, string_bytes}
-use Rattle.std.specs.Io.KnownBytes.{Appends}
-use Rattle.sleep_base.specs.declared.outside.Failed.{Failed}
-use Rattle.sleep_base.specs.Faults.{Rose}
-use Rattle.sleep_base.specs.Whole.{WriteAll}
 use Rattle.sleep_main.specs.declared.ending.Ending.{Ending}
 use Rattle.sleep_main.specs.declared.ending.Ending.TheVariants.{Done, Stuck, NoForm, TooLong, Broken, ReadFault, WriteFault, SourceFull, NoMemory}
 use Rattle.sleep_main.specs.Endings.{text_of, head_of, number_of, colon_of, name_of, tail_of}
 
--- what was appended behind another piece
-appends_both : (old mid new : Option (List ℕ)) (one other : List ℕ) → Appends old mid one → Appends mid new other → Appends old new (one ++ other)
-appends_both None mid new one other h g = tt
-appends_both (Some xs) None new one other h g = absurd h
-appends_both (Some xs) (Some ys) None one other h g = absurd g
-appends_both (Some xs) (Some ys) (Some zs) one other h g = g ∙ (ap (λ bs. bs ++ other) h ∙ append_assoc xs one other)
-
--- the first piece failed
-pub one_failed : (old new : Option (List ℕ)) (before now : ℕ) (one other : List ℕ) (fault : Failed) → WriteAll old new before now one (Err fault) → WriteAll old new before now (one ++ other) (Err fault)
-one_failed old new before now one other fault h = (h.0, h.1 ++ other, ap (λ bs. bs ++ other) h.2 ∙ append_assoc h.0 h.1 other, h.3, h.4)
-
--- the second was written, or a front of it
-pub both_written : (old mid new : Option (List ℕ)) (before then now : ℕ) (one other : List ℕ) (result : Result Unit Failed) → Appends old mid one → before ≤ then → WriteAll mid new then now other result
-    → WriteAll old new before now (one ++ other) result
-both_written old mid new before then now one other (Ok x) h l g = appends_both old mid new one other h g
-both_written old mid new before then now one other (Err fault) h l g =
-    (one ++ g.0, g.1, ap (λ bs. one ++ bs) g.2 ∙ sym (append_assoc one g.0 g.1), appends_both old mid new one g.0 h g.3, omega (arith, g.4, l))
-
--- what an ending says, in its pieces
+-- it says so in its pieces
 pub text_parts : (ending : Ending) → ((head_of ending ++ number_of ending) ++ colon_of ending) ++ (name_of ending ++ tail_of ending) ≡ text_of ending
 text_parts (Broken rule place) = sym (append_assoc ((codes "machine: rule " ++ decimal rule) ++ codes ": ") (string_bytes place) (10 ∷ []))
 text_parts (SourceFull name) = ap (λ bs. bs ++ (name ++ 10 ∷ [])) (append-nil (codes "source full: " ++ []) ∙ append-nil (codes "source full: ")) ∙ sym (append_assoc (codes "source full: ") name (10 ∷ []))

@@ -162,7 +162,7 @@ fn do_words<R: Wait, S: ByteSource, K: ByteSink>(
 }
 
 /// Writes one piece behind the other. `Failed` at the first write that fails: a front of both was written.
-#[tactic(auto, using(crate::proofs::Saying::one_failed, crate::proofs::Saying::both_written))]
+#[tactic(auto, using(log_text::proofs::Passed::one_failed, log_text::proofs::Passed::both_written))]
 fn write_both<K: ByteSink>(sink: &mut K, one: &[u8], other: &[u8]) -> Result<(), Failed>
     ensures bytes { WriteAll (K.written sink.old) (K.written sink.new) (K.faults sink.old) (K.faults sink.new) (one.now ++ other.now) result }
     ensures faults { K.faults sink.old ≤ K.faults sink.new }
@@ -172,7 +172,7 @@ fn write_both<K: ByteSink>(sink: &mut K, one: &[u8], other: &[u8]) -> Result<(),
 }
 
 /// Writes three pieces, one behind the other. `Failed` at the first write that fails: a front of all was written.
-#[tactic(auto, using(crate::proofs::Saying::one_failed, crate::proofs::Saying::both_written))]
+#[tactic(auto, using(log_text::proofs::Passed::one_failed, log_text::proofs::Passed::both_written))]
 fn write_three<K: ByteSink>(
     sink: &mut K,
     one: &[u8],
@@ -187,7 +187,7 @@ fn write_three<K: ByteSink>(
 }
 
 /// Writes five pieces, one behind the other. `Failed` at the first write that fails: a front of all was written.
-#[tactic(auto, using(crate::proofs::Saying::one_failed, crate::proofs::Saying::both_written))]
+#[tactic(auto, using(log_text::proofs::Passed::one_failed, log_text::proofs::Passed::both_written))]
 fn write_five<K: ByteSink>(
     sink: &mut K,
     one: &[u8],
