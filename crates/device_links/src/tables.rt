@@ -89,11 +89,12 @@ pub(crate) fn moved_last(
     ensures { IfOk result (λ v. v.items
         ≡ filter (λ d. not (slice_index_or marks.now d false)) order.now ++ below.now) }
 {
-    let mut moved: Vec<u32> = order
-        .iter()
-        .copied()
-        .filter(|device| !is_marked(marks, *device))
-        .collect(alloc)?;
+    let mut moved = Vec::with_capacity(alloc, order.len())?;
+    for device in order {
+        if !is_marked(marks, *device) {
+            moved.push_reserved(*device);
+        }
+    }
     moved.extend_from_slice(below)?;
     Ok(moved)
 }

@@ -1,6 +1,6 @@
-use Rattle.std.proofs.Common.{◌≡◌, ◌<◌, ◌≤◌, ◌∙◌, ◌++◌, length, map, take, drop, get_or, refl, sym, ap, arith}
+use Rattle.std.proofs.Common.{◌≡◌, ◌<◌, ◌≤◌, ◌∙◌, length, drop, get_or, refl, sym, ap, arith}
 use Rattle.sleep_model.specs.Order.{with_state}
-use Rattle.device_links.proofs.InPlace.{mapped_up_to, mapped_all, mapped_length, mapped_more, take_whole}
+use Rattle.device_links.proofs.InPlace.{mapped_all, mapped_length, mapped_more, take_whole}
 use Rattle.device_links.proofs.Tabulating.{no_link}
 use Rattle.device_links.proofs.states.set_state.Goals as goal
 

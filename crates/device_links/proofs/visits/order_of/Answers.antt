@@ -1,12 +1,11 @@
-use Rattle.std.proofs.Common.{◌≡◌, ◌<◌, ◌+◌, ◌-◌, ◌++◌, ◌∙◌, ℕ, Bool, List, length, take, reverse, filter, get_or, not, false, true, ap, sym, subst, arith}
+use Rattle.std.proofs.Common.{◌≡◌, ◌<◌, ◌+◌, ◌-◌, ◌++◌, ◌∙◌, ℕ, Bool, List, length, take, reverse, filter, get_or, not, false, ap, sym, subst, arith}
 use Rattle.std.specs.List.{range_with_len}
 use Rattle.std.proofs.lemmas.List.{get_or_default}
-use Rattle.sleep_model.specs.declared.machine.Link.{Link}
 use Rattle.sleep_model.specs.Order.{hanging}
 use Rattle.device_links.specs.Passes.{Goes}
 use Rattle.device_links.proofs.Acyclicly.{links_acyclic}
 use Rattle.device_links.proofs.Tabulating.{consumer_at, no_link}
-use Rattle.device_links.proofs.Ordered.{AreWalked, not_walked, walked_next, walked_links, walked_order, goes_as, visits_as, within_as}
+use Rattle.device_links.proofs.Ordered.{AreWalked, walked_next, walked_links, walked_order, goes_as, visits_as, within_as}
 use Rattle.device_links.proofs.visits.order_of.Goals as goal
 
 pub visit-requires-clause-registered : goal.visit-requires-clause-registered
