@@ -26,11 +26,12 @@ pub(crate) enum Found {
 
 // Where a walk stands at a device that it has just entered.
 fn frame_at(table: &Rows, device: u32) -> Frame
+    requires { device < length table.now.rows }
     ensures { result ≡ record { device = device; left = length (row_at table.now device) } }
 {
     Frame {
         device,
-        left: table.row(device).len(),
+        left: table.row_within(device).len(),
     }
 }
 
@@ -84,7 +85,7 @@ pub(crate) fn walk(alloc: Global, table: &Rows, from: u32, target: u32) -> Resul
             continue;
         }
         let left = top.left - 1;
-        let next = table.row(top.device)[left];
+        let next = table.row_within(top.device)[left];
         let rest = Frame {
             device: top.device,
             left,
