@@ -15,18 +15,16 @@ pub(crate) fn set_state(links: &mut Vec<Link>, supplier: u32, consumer: u32, to:
     ensures { links.new.items ≡ map (with_state supplier consumer to) links.old.items }
 {
     for link in links.iter_mut() {
-        *link = with_state(*link, supplier, consumer, to);
+        set_one(link, supplier, consumer, to);
     }
 }
 
-// The link, with that state where it is between these two.
-fn with_state(link: Link, supplier: u32, consumer: u32, to: bool) -> Link
-    ensures { result ≡ with_state supplier consumer to link }
+// Sets the state of a link where it is between these two. The others are only read.
+fn set_one(link: &mut Link, supplier: u32, consumer: u32, to: bool)
+    ensures { link.new ≡ with_state supplier consumer to link.old }
 {
     if link.supplier == supplier && link.consumer == consumer {
-        Link { active: to, ..link }
-    } else {
-        link
+        link.active = to;
     }
 }
 
