@@ -298,7 +298,9 @@ impl Links {
         }
         match self.find(link.supplier, link.consumer)? {
             Found::Reached(path) => Err(LinkFault::Cycle(DevList::of_vec(path))),
-            Found::Passed(below, marks) => Ok(Some(self.moved_last(link, &below, &marks)?)),
+            Found::Passed(devices, start, marks) => {
+                Ok(Some(self.moved_last(link, &devices[start..], &marks)?))
+            }
         }
     }
 

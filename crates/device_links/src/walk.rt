@@ -1,6 +1,6 @@
 //! A walk over all that hangs below a device.
 
-ghost use Rattle.std.specs.Prelude.{◌≡◌, ◌<◌, ◌∷◌, ◌++◌, [], IfOk, length, map, reverse};
+ghost use Rattle.std.specs.Prelude.{◌≡◌, ◌<◌, ◌∷◌, ◌++◌, [], IfOk, length, map};
 ghost use Rattle.device_rows.specs.Table.{row_at};
 ghost use Rattle.device_links.specs.Walks.{IsWalkable, Finds};
 
@@ -20,8 +20,9 @@ pub(crate) struct Frame {
 pub(crate) enum Found {
     /// The device that was sought, by this path, which begins with the first and ends with it.
     Reached(Vec<u32>),
-    /// All devices below, the first too, each once: last places in order, and a mark for each.
-    Passed(Vec<u32>, Vec<bool>),
+    /// All devices below, the first too, each once, which this list has from that place on: last
+    /// places in order, and a mark for each.
+    Passed(Vec<u32>, usize, Vec<bool>),
 }
 
 // Where a walk stands at a device that it has just entered.
@@ -47,19 +48,10 @@ fn path_to(alloc: Global, frames: &[Frame], last: u32) -> Result<Vec<u32>, Mem>
     Ok(path)
 }
 
-// These from the last to the first.
-#[inline(never)]
-fn last_first(devices: Vec<u32>) -> Vec<u32>
-    ensures { result.items ≡ reverse devices.items }
-{
-    let mut turned = devices;
-    turned.reverse();
-    turned
-}
-
 /// Walks from a device to all that hangs below it by this table, or until it meets the target.
 /// It visits those right below a device from the last to the first, and none twice, so that the
-/// devices come to lie in the order of their last places.
+/// devices come to lie in the order of their last places, from the end of a list that has a place
+/// for each.
 ///
 /// A device is marked where the walk enters it. One that has a mark is never met on the way down to
 /// itself, as none hangs below itself, so its walk is over.
@@ -75,12 +67,14 @@ pub(crate) fn walk(alloc: Global, table: &Rows, from: u32, target: u32) -> Resul
     let count = table.len();
     let mut marks = vec![in alloc; false; count]?;
     let mut above = Vec::with_capacity(alloc, count)?;
-    let mut out = Vec::with_capacity(alloc, count)?;
+    let mut out = vec![in alloc; 0; count]?;
+    let mut start = count;
     marks[from as usize] = true;
     let mut here = Some(frame_at(table, from));
     while let Some(top) = here {
         if top.left == 0 {
-            out.push_reserved(top.device);
+            start -= 1;
+            out[start] = top.device;
             here = above.pop();
             continue;
         }
@@ -102,5 +96,5 @@ pub(crate) fn walk(alloc: Global, table: &Rows, from: u32, target: u32) -> Resul
         above.push_reserved(rest);
         here = Some(frame_at(table, next));
     }
-    Ok(Found::Passed(last_first(out), marks))
+    Ok(Found::Passed(out, start, marks))
 }

@@ -1,6 +1,6 @@
-use Rattle.std.proofs.Common.{◌≡◌, ◌<◌, ◌+◌, ◌-◌, ◌∷◌, ◌++◌, ◌∙◌, [], List, length, map, reverse, option_to_list, get_or, set, ap, sym, subst, arith, false, true, replicate}
+use Rattle.std.proofs.Common.{◌≡◌, ◌<◌, ◌+◌, ◌-◌, ◌∷◌, ◌++◌, ◌∙◌, [], List, length, map, drop, reverse, option_to_list, get_or, set, ap, sym, subst, arith, false, true, replicate}
 use Rattle.std.proofs.lemmas.Bool.{ne_eqb}
-use Rattle.std.proofs.lemmas.List.{reverse-append, get_or-replicate, length-replicate}
+use Rattle.std.proofs.lemmas.List.{reverse-append, drop-set, drop_all, get_or-replicate, length-replicate, length-set}
 use Rattle.device_rows.specs.Table.{row_at}
 use Rattle.device_links.specs.declared.walk.Frame.{Frame}
 use Rattle.device_links.specs.Walks.{on_path}
@@ -24,15 +24,18 @@ loop-here-init c =
     let m = ap (λ ms. spare (set ms from true)) marks in
     let all = spare_all n in
     let a = ap length c.in_ok-above.ensures.items in
-    let o = ap length c.in_ok-out.ensures.items in (
-      subst (λ f. Walking hang (moved n hang) n from target (f ∷ reverse c.in_ok-above.above.items) (reverse c.in_ok-out.out.items) (set c.in_ok-marks.marks.items from true)) (sym c.frame_at.ensures)
-          (subst (λ fs. Walking hang (moved n hang) n from target (first ∷ reverse fs) (reverse c.in_ok-out.out.items) (set c.in_ok-marks.marks.items from true)) (sym c.in_ok-above.ensures.items)
-          (subst (λ ds. Walking hang (moved n hang) n from target (first ∷ []) (reverse ds) (set c.in_ok-marks.marks.items from true)) (sym c.in_ok-out.ensures.items)
+    let out : c.in_ok-out.out.items ≡ replicate c.len-count.result 0 = c.in_ok-out.ensures.items_if_clones_equal (λ y e. e) in
+    let long : length c.in_ok-out.out.items ≡ c.len-count.result = ap length out ∙ length-replicate c.len-count.result 0 in
+    let none : drop c.len-count.result c.in_ok-out.out.items ≡ [] = drop_all c.len-count.result c.in_ok-out.out.items (omega (arith, long)) in (
+      subst (λ f. Walking hang (moved n hang) n from target (f ∷ reverse c.in_ok-above.above.items) (drop c.len-count.result c.in_ok-out.out.items) (set c.in_ok-marks.marks.items from true)) (sym c.frame_at.ensures)
+          (subst (λ fs. Walking hang (moved n hang) n from target (first ∷ reverse fs) (drop c.len-count.result c.in_ok-out.out.items) (set c.in_ok-marks.marks.items from true)) (sym c.in_ok-above.ensures.items)
+          (subst (λ ds. Walking hang (moved n hang) n from target (first ∷ []) ds (set c.in_ok-marks.marks.items from true)) (sym none)
           (subst (λ ms. Walking hang (moved n hang) n from target (first ∷ []) [] (set ms from true)) (sym marks) w))),
       tt,
-      omega (arith, s, m, all, a, o),
+      omega (arith, s, m, all, a, c.len-count.ensures),
       omega (arith, c.len-count.ensures, c.in_ok-above.ensures.capacity),
-      omega (arith, c.len-count.ensures, c.in_ok-out.ensures.capacity),
+      omega (arith, c.len-count.ensures),
+      long ∙ c.len-count.ensures,
     )
 
 pub loop-here-preserved-then-top-eq0 : goal.loop-here-preserved-then-top-eq0
@@ -46,19 +49,23 @@ loop-here-preserved-then-top-eq0 c =
     let top = c.in-Some.top in
     let above = c.loop-here.above.items in
     let out = c.loop-here.out.items in
+    let start = c.loop-here.start in
     let marks = c.loop-here.marks.items in
-    let w = subst (λ h. Walking hang (moved n hang) n from target (way h above) (reverse out) marks) c.in-Some.is c.loop-here.invariant.0 in
+    let w = subst (λ h. Walking hang (moved n hang) n from target (way h above) (drop start out) marks) c.in-Some.is c.loop-here.invariant.0 in
     let after = c.pop-here.new.self.items in
-    let out' = c.push_reserved.new.self.items in
-    let e = closes hang (moved n hang) fix n from target top (reverse above) (reverse out) marks w c.if-top-eq0.true in
-    let ds : reverse out' ≡ top.device ∷ reverse out = ap reverse c.push_reserved.ensures.items ∙ reverse-append out (top.device ∷ []) in
-    let one = ap (λ h. length (option_to_list h)) c.in-Some.is in (
-      subst (λ fs. Walking hang (moved n hang) n from target fs (reverse out') marks) (sym (way_popped c.pop-here.result above after c.pop-here.ensures.items))
+    let at = start - 1 in
+    let one = ap (λ h. length (option_to_list h)) c.in-Some.is in
+    let back : start ≡ at + 1 = omega (arith, one, c.loop-here.invariant.2) in
+    let within : at < length out = omega (arith, back, c.loop-here.invariant.4, c.loop-here.invariant.5) in
+    let e = closes hang (moved n hang) fix n from target top (reverse above) (drop start out) marks w c.if-top-eq0.true in
+    let ds : drop at (set out at top.device) ≡ top.device ∷ drop start out = drop-set out at top.device within ∙ ap (λ k. top.device ∷ drop k out) (sym back) in (
+      subst (λ fs. Walking hang (moved n hang) n from target fs (drop at (set out at top.device)) marks) (sym (way_popped c.pop-here.result above after c.pop-here.ensures.items))
           (subst (λ o. Walking hang (moved n hang) n from target (reverse above) o marks) (sym ds) e),
       over_popped c.pop-here.result after _ _ _ c.pop-here.ensures.cases c.pop-here.new.self.ok.0,
-      omega (arith, one, c.loop-here.invariant.2, c.pop-here.ensures.len, c.push_reserved.ensures.len, c.pop-here.new.self.ok.0, c.push_reserved.new.self.ok.0, c.loop-here.above.ok.0, c.loop-here.out.ok.0),
+      omega (arith, one, c.loop-here.invariant.2, c.pop-here.ensures.len, c.pop-here.new.self.ok.0, c.loop-here.above.ok.0),
       omega (arith, c.pop-here.ensures.capacity),
-      omega (arith, c.push_reserved.ensures.capacity),
+      omega (arith, c.loop-here.invariant.4),
+      length-set out at top.device ∙ c.loop-here.invariant.5,
     )
 
 pub returns-then-next-target : goal.returns-then-next-target
@@ -72,21 +79,22 @@ returns-then-next-target c =
     let top = c.in-Some.top in
     let above = c.loop-here.above.items in
     let out = c.loop-here.out.items in
+    let start = c.loop-here.start in
     let marks = c.loop-here.marks.items in
-    let w = subst (λ h. Walking hang (moved n hang) n from target (way h above) (reverse out) marks) c.in-Some.is c.loop-here.invariant.0 in
+    let w = subst (λ h. Walking hang (moved n hang) n from target (way h above) (drop start out) marks) c.in-Some.is c.loop-here.invariant.0 in
     let k = top.left - 1 in
     let next = get_or c.row_within.result.now k 0 in
     let last : top.left ≡ k + 1 = omega arith in
     let l : k < length (hang top.device) = omega (arith, w.sized.1) in
     let at = next_at c.row_within.result.now (hang top.device) k c.row_within.ensures l in
-    let h = hangs hang (moved n hang) fix n from target top (reverse above) (reverse out) marks w k next last at in
+    let h = hangs hang (moved n hang) fix n from target top (reverse above) (drop start out) marks w k next last at in
     let rest : Frame = record { device = top.device; left = k } in
-    let fs = c.push_reserved-then-next-target.new.self.items in
+    let fs = c.push_reserved.new.self.items in
     let p = linked_path hang from (rest ∷ reverse above) next [] target (h, w.chain) c.if-next-target.true in
     let is = c.in_ok-path_to-2.ensures
     ∙ (ap (λ (gs : List Frame). map (λ (f : Frame). f.device) gs ++ next ∷ []) c.deref.ensures.value
     ∙ (path_over fs (next ∷ [])
-    ∙ ap (λ gs. on_path gs (next ∷ [])) (ap reverse c.push_reserved-then-next-target.ensures.items ∙ reverse-append above (rest ∷ [])))) in
+    ∙ ap (λ gs. on_path gs (next ∷ [])) (ap reverse c.push_reserved.ensures.items ∙ reverse-append above (rest ∷ [])))) in
     subst (λ xs. IsPath hang xs from target) (sym is) p
 
 pub index-requires : goal.index-requires
@@ -100,14 +108,15 @@ index-requires c =
     let top = c.in-Some.top in
     let above = c.loop-here.above.items in
     let out = c.loop-here.out.items in
+    let start = c.loop-here.start in
     let marks = c.loop-here.marks.items in
-    let w = subst (λ h. Walking hang (moved n hang) n from target (way h above) (reverse out) marks) c.in-Some.is c.loop-here.invariant.0 in
+    let w = subst (λ h. Walking hang (moved n hang) n from target (way h above) (drop start out) marks) c.in-Some.is c.loop-here.invariant.0 in
     let k = top.left - 1 in
     let next = get_or c.row_within.result.now k 0 in
     let last : top.left ≡ k + 1 = omega arith in
     let l : k < length (hang top.device) = omega (arith, w.sized.1) in
     let at = next_at c.row_within.result.now (hang top.device) k c.row_within.ensures l in
-    let h = hangs hang (moved n hang) fix n from target top (reverse above) (reverse out) marks w k next last at in
+    let h = hangs hang (moved n hang) fix n from target top (reverse above) (drop start out) marks w k next last at in
     let within : next < n = c.requires.walkable.within top.device next h in
     omega (arith, within, w.noted.count)
 
@@ -122,15 +131,16 @@ loop-here-smaller-then-index c =
     let top = c.in-Some.top in
     let above = c.loop-here.above.items in
     let out = c.loop-here.out.items in
+    let start = c.loop-here.start in
     let marks = c.loop-here.marks.items in
-    let w = subst (λ h. Walking hang (moved n hang) n from target (way h above) (reverse out) marks) c.in-Some.is c.loop-here.invariant.0 in
+    let w = subst (λ h. Walking hang (moved n hang) n from target (way h above) (drop start out) marks) c.in-Some.is c.loop-here.invariant.0 in
     let k = top.left - 1 in
     let next = get_or c.row_within.result.now k 0 in
     let last : top.left ≡ k + 1 = omega arith in
     let l : k < length (hang top.device) = omega (arith, w.sized.1) in
     let at = next_at c.row_within.result.now (hang top.device) k c.row_within.ensures l in
-    let h = hangs hang (moved n hang) fix n from target top (reverse above) (reverse out) marks w k next last at in
-    let less = fewer_passed hang (moved n hang) fix n from target top (reverse above) (reverse out) marks w k next last at in
+    let h = hangs hang (moved n hang) fix n from target top (reverse above) (drop start out) marks w k next last at in
+    let less = fewer_passed hang (moved n hang) fix n from target top (reverse above) (drop start out) marks w k next last at in
     let b = ap (λ h. weight hang (moved n hang) (way h above)) c.in-Some.is in
     omega (arith, less, b)
 
@@ -145,23 +155,25 @@ loop-here-preserved-then-index c =
     let top = c.in-Some.top in
     let above = c.loop-here.above.items in
     let out = c.loop-here.out.items in
+    let start = c.loop-here.start in
     let marks = c.loop-here.marks.items in
-    let w = subst (λ h. Walking hang (moved n hang) n from target (way h above) (reverse out) marks) c.in-Some.is c.loop-here.invariant.0 in
+    let w = subst (λ h. Walking hang (moved n hang) n from target (way h above) (drop start out) marks) c.in-Some.is c.loop-here.invariant.0 in
     let k = top.left - 1 in
     let next = get_or c.row_within.result.now k 0 in
     let last : top.left ≡ k + 1 = omega arith in
     let l : k < length (hang top.device) = omega (arith, w.sized.1) in
     let at = next_at c.row_within.result.now (hang top.device) k c.row_within.ensures l in
-    let h = hangs hang (moved n hang) fix n from target top (reverse above) (reverse out) marks w k next last at in
+    let h = hangs hang (moved n hang) fix n from target top (reverse above) (drop start out) marks w k next last at in
     let within : next < n = c.requires.walkable.within top.device next h in
-    let m = mark_at marks n (top.device ∷ devices (reverse above) ++ reverse out) w.noted next within c.index.result.now c.index.ensures ∙ c.if-index.true in
-    let old = was_walked hang (moved n hang) fix n from target top (reverse above) (reverse out) marks w k next last at m in
+    let m = mark_at marks n (top.device ∷ devices (reverse above) ++ drop start out) w.noted next within c.index.result.now c.index.ensures ∙ c.if-index.true in
+    let old = was_walked hang (moved n hang) fix n from target top (reverse above) (drop start out) marks w k next last at m in
     let one = ap (λ h. length (option_to_list h)) c.in-Some.is in (
-      passes hang (moved n hang) fix n from target top (reverse above) (reverse out) marks w k next last at old,
+      passes hang (moved n hang) fix n from target top (reverse above) (drop start out) marks w k next last at old,
       tt,
       omega (arith, one, c.loop-here.invariant.2),
       c.loop-here.invariant.3,
       c.loop-here.invariant.4,
+      c.loop-here.invariant.5,
     )
 
 pub index_mut-requires-in-Some : goal.index_mut-requires-in-Some
@@ -175,14 +187,15 @@ index_mut-requires-in-Some c =
     let top = c.in-Some.top in
     let above = c.loop-here.above.items in
     let out = c.loop-here.out.items in
+    let start = c.loop-here.start in
     let marks = c.loop-here.marks.items in
-    let w = subst (λ h. Walking hang (moved n hang) n from target (way h above) (reverse out) marks) c.in-Some.is c.loop-here.invariant.0 in
+    let w = subst (λ h. Walking hang (moved n hang) n from target (way h above) (drop start out) marks) c.in-Some.is c.loop-here.invariant.0 in
     let k = top.left - 1 in
     let next = get_or c.row_within.result.now k 0 in
     let last : top.left ≡ k + 1 = omega arith in
     let l : k < length (hang top.device) = omega (arith, w.sized.1) in
     let at = next_at c.row_within.result.now (hang top.device) k c.row_within.ensures l in
-    let h = hangs hang (moved n hang) fix n from target top (reverse above) (reverse out) marks w k next last at in
+    let h = hangs hang (moved n hang) fix n from target top (reverse above) (drop start out) marks w k next last at in
     let within : next < n = c.requires.walkable.within top.device next h in
     omega (arith, within, w.noted.count)
 
@@ -197,14 +210,15 @@ frame_at-requires-in-Some c =
     let top = c.in-Some.top in
     let above = c.loop-here.above.items in
     let out = c.loop-here.out.items in
+    let start = c.loop-here.start in
     let marks = c.loop-here.marks.items in
-    let w = subst (λ h. Walking hang (moved n hang) n from target (way h above) (reverse out) marks) c.in-Some.is c.loop-here.invariant.0 in
+    let w = subst (λ h. Walking hang (moved n hang) n from target (way h above) (drop start out) marks) c.in-Some.is c.loop-here.invariant.0 in
     let k = top.left - 1 in
     let next = get_or c.row_within.result.now k 0 in
     let last : top.left ≡ k + 1 = omega arith in
     let l : k < length (hang top.device) = omega (arith, w.sized.1) in
     let at = next_at c.row_within.result.now (hang top.device) k c.row_within.ensures l in
-    let h = hangs hang (moved n hang) fix n from target top (reverse above) (reverse out) marks w k next last at in
+    let h = hangs hang (moved n hang) fix n from target top (reverse above) (drop start out) marks w k next last at in
     let within : next < n = c.requires.walkable.within top.device next h in
     within
 
@@ -219,16 +233,17 @@ loop-here-smaller c =
     let top = c.in-Some.top in
     let above = c.loop-here.above.items in
     let out = c.loop-here.out.items in
+    let start = c.loop-here.start in
     let marks = c.loop-here.marks.items in
-    let w = subst (λ h. Walking hang (moved n hang) n from target (way h above) (reverse out) marks) c.in-Some.is c.loop-here.invariant.0 in
+    let w = subst (λ h. Walking hang (moved n hang) n from target (way h above) (drop start out) marks) c.in-Some.is c.loop-here.invariant.0 in
     let k = top.left - 1 in
     let next = get_or c.row_within.result.now k 0 in
     let last : top.left ≡ k + 1 = omega arith in
     let l : k < length (hang top.device) = omega (arith, w.sized.1) in
     let at = next_at c.row_within.result.now (hang top.device) k c.row_within.ensures l in
-    let h = hangs hang (moved n hang) fix n from target top (reverse above) (reverse out) marks w k next last at in
+    let h = hangs hang (moved n hang) fix n from target top (reverse above) (drop start out) marks w k next last at in
     let rest : Frame = record { device = top.device; left = k } in
-    let less = fewer hang (moved n hang) fix n from target top (reverse above) (reverse out) marks w k next last at in
+    let less = fewer hang (moved n hang) fix n from target top (reverse above) (drop start out) marks w k next last at in
     let a = ap (λ f. weight hang (moved n hang) (f ∷ reverse c.push_reserved-in-Some.new.self.items)) c.frame_at-in-Some.ensures in
     let g = ap (λ fs. weight hang (moved n hang) (record { device = next; left = length (hang next) } ∷ fs)) (ap reverse c.push_reserved-in-Some.ensures.items ∙ reverse-append above (rest ∷ [])) in
     let b = ap (λ h. weight hang (moved n hang) (way h above)) c.in-Some.is in
@@ -245,28 +260,30 @@ loop-here-preserved c =
     let top = c.in-Some.top in
     let above = c.loop-here.above.items in
     let out = c.loop-here.out.items in
+    let start = c.loop-here.start in
     let marks = c.loop-here.marks.items in
-    let w = subst (λ h. Walking hang (moved n hang) n from target (way h above) (reverse out) marks) c.in-Some.is c.loop-here.invariant.0 in
+    let w = subst (λ h. Walking hang (moved n hang) n from target (way h above) (drop start out) marks) c.in-Some.is c.loop-here.invariant.0 in
     let k = top.left - 1 in
     let next = get_or c.row_within.result.now k 0 in
     let last : top.left ≡ k + 1 = omega arith in
     let l : k < length (hang top.device) = omega (arith, w.sized.1) in
     let at = next_at c.row_within.result.now (hang top.device) k c.row_within.ensures l in
-    let h = hangs hang (moved n hang) fix n from target top (reverse above) (reverse out) marks w k next last at in
+    let h = hangs hang (moved n hang) fix n from target top (reverse above) (drop start out) marks w k next last at in
     let within : next < n = c.requires.walkable.within top.device next h in
     let rest : Frame = record { device = top.device; left = k } in
     let fs = c.push_reserved-in-Some.new.self.items in
-    let m = mark_at marks n (top.device ∷ devices (reverse above) ++ reverse out) w.noted next within c.index.result.now c.index.ensures ∙ c.if-index.false in
-    let e = enters hang (moved n hang) fix n from target top (reverse above) (reverse out) marks w k next last at within (ne_eqb next target c.if-next-target.false) m in
+    let m = mark_at marks n (top.device ∷ devices (reverse above) ++ drop start out) w.noted next within c.index.result.now c.index.ensures ∙ c.if-index.false in
+    let e = enters hang (moved n hang) fix n from target top (reverse above) (drop start out) marks w k next last at within (ne_eqb next target c.if-next-target.false) m in
     let s = spare_less marks next (omega (arith, within, w.noted.count)) (w.noted.marked next within ∙ m) in
     let one = ap (λ h. length (option_to_list h)) c.in-Some.is in
     let p : reverse fs ≡ rest ∷ reverse above = ap reverse c.push_reserved-in-Some.ensures.items ∙ reverse-append above (rest ∷ []) in (
-      subst (λ f. Walking hang (moved n hang) n from target (f ∷ reverse fs) (reverse out) (set marks next true)) (sym c.frame_at-in-Some.ensures)
-          (subst (λ gs. Walking hang (moved n hang) n from target (record { device = next; left = length (hang next) } ∷ gs) (reverse out) (set marks next true)) (sym p) e),
+      subst (λ f. Walking hang (moved n hang) n from target (f ∷ reverse fs) (drop start out) (set marks next true)) (sym c.frame_at-in-Some.ensures)
+          (subst (λ gs. Walking hang (moved n hang) n from target (record { device = next; left = length (hang next) } ∷ gs) (drop start out) (set marks next true)) (sym p) e),
       tt,
       omega (arith, one, s, c.loop-here.invariant.2, c.push_reserved-in-Some.ensures.len, c.push_reserved-in-Some.new.self.ok.0, c.loop-here.above.ok.0),
       omega (arith, c.push_reserved-in-Some.ensures.capacity),
       c.loop-here.invariant.4,
+      c.loop-here.invariant.5,
     )
 
 pub returns : goal.returns
@@ -278,8 +295,9 @@ returns c =
     let from = c.args.from in
     let target = c.args.target in
     let out = c.loop-here.out.items in
+    let start = c.loop-here.start in
     let marks = c.loop-here.marks.items in
     let none = none_left c.loop-here.here c.loop-here.above.items c.in_default.not-Some c.loop-here.invariant.1 in
-    let w = subst (λ fs. Walking hang (moved n hang) n from target fs (reverse out) marks) none c.loop-here.invariant.0 in
-    let e = ended hang (moved n hang) fix n from target (reverse out) marks w in
-    record { places = c.last_first.ensures ∙ e.0; missing = e.1; no_path = no_path hang (moved n hang) fix from target e.1; marked = e.2 }
+    let w = subst (λ fs. Walking hang (moved n hang) n from target fs (drop start out) marks) none c.loop-here.invariant.0 in
+    let e = ended hang (moved n hang) fix n from target (drop start out) marks w in
+    (omega (arith, c.loop-here.invariant.4, c.loop-here.invariant.5), record { places = e.0; missing = e.1; no_path = no_path hang (moved n hang) fix from target e.1; marked = e.2 })
