@@ -271,7 +271,8 @@ impl Links {
         ensures { IfOk result (Finds (length self.now.parents)
             (hanging self.now.parents self.now.links) consumer supplier) }
     {
-        walk(*self.order.allocator(), &self.hanging, consumer, supplier)
+        let alloc = *self.order.allocator();
+        walk(alloc, &self.hanging, &self.order, consumer, supplier)
     }
 
     // Whether a link leaves the order as it is: the newest one has moved this consumer to its end, and the

@@ -33,7 +33,7 @@ fn is_shown_below(parents: &[Option<u32>], link: Link, device: u32) -> bool
     requires { link.consumer < length parents.now }
     ensures { result ≡ is_shown_below parents.now link device }
 {
-    link.active && link.supplier == device && !is_parent(parents[link.consumer as usize], device)
+    link.supplier == device && link.active && !is_parent(parents[link.consumer as usize], device)
 }
 
 // Whether a link shows its supplier above that device.
@@ -41,7 +41,7 @@ fn is_shown_above(parents: &[Option<u32>], link: Link, device: u32) -> bool
     requires { device < length parents.now }
     ensures { result ≡ is_shown_above parents.now link device }
 {
-    link.active && link.consumer == device && !is_parent(parents[device as usize], link.supplier)
+    link.consumer == device && link.active && !is_parent(parents[device as usize], link.supplier)
 }
 
 /// Makes the row of what is seen below a device anew, in its places.

@@ -50,13 +50,20 @@ fn path_to(alloc: Global, frames: &[Frame], last: u32) -> Result<Vec<u32>, Mem>
 
 /// Walks from a device to all that hangs below it by this table, or until it meets the target.
 /// It visits those right below a device from the last to the first, and none twice, so that the
-/// devices come to lie in the order of their last places, from the end of a list that has a place
-/// for each.
+/// devices come to lie in the order of their last places. They take the last places of a copy of the
+/// order, which has a place for each.
 ///
 /// A device is marked where the walk enters it. One that has a mark is never met on the way down to
 /// itself, as none hangs below itself, so its walk is over.
 #[inline(never)]
-pub(crate) fn walk(alloc: Global, table: &Rows, from: u32, target: u32) -> Result<Found, Mem>
+pub(crate) fn walk(
+    alloc: Global,
+    table: &Rows,
+    order: &[u32],
+    from: u32,
+    target: u32,
+) -> Result<Found, Mem>
+    requires sized { length order.now ≡ length table.now.rows }
     requires within { from < length table.now.rows }
     requires walkable { IsWalkable (length table.now.rows) (row_at table.now) }
     ensures { IfOk result (Finds (length table.now.rows) (row_at table.now) from target) }
@@ -67,7 +74,7 @@ pub(crate) fn walk(alloc: Global, table: &Rows, from: u32, target: u32) -> Resul
     let count = table.len();
     let mut marks = vec![in alloc; false; count]?;
     let mut above = Vec::with_capacity(alloc, count)?;
-    let mut out = vec![in alloc; 0; count]?;
+    let mut out = Vec::from_slice(alloc, order)?;
     let mut start = count;
     marks[from as usize] = true;
     let mut here = Some(frame_at(table, from));

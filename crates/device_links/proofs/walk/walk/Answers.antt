@@ -24,8 +24,7 @@ loop-here-init c =
     let m = ap (λ ms. spare (set ms from true)) marks in
     let all = spare_all n in
     let a = ap length c.in_ok-above.ensures.items in
-    let out : c.in_ok-out.out.items ≡ replicate c.len-count.result 0 = c.in_ok-out.ensures.items_if_clones_equal (λ y e. e) in
-    let long : length c.in_ok-out.out.items ≡ c.len-count.result = ap length out ∙ length-replicate c.len-count.result 0 in
+    let long : length c.in_ok-out.out.items ≡ c.len-count.result = ap length c.in_ok-out.ensures.items ∙ (c.requires.sized ∙ sym c.len-count.ensures) in
     let none : drop c.len-count.result c.in_ok-out.out.items ≡ [] = drop_all c.len-count.result c.in_ok-out.out.items (omega (arith, long)) in (
       subst (λ f. Walking hang (moved n hang) n from target (f ∷ reverse c.in_ok-above.above.items) (drop c.len-count.result c.in_ok-out.out.items) (set c.in_ok-marks.marks.items from true)) (sym c.frame_at.ensures)
           (subst (λ fs. Walking hang (moved n hang) n from target (first ∷ reverse fs) (drop c.len-count.result c.in_ok-out.out.items) (set c.in_ok-marks.marks.items from true)) (sym c.in_ok-above.ensures.items)
