@@ -1,5 +1,6 @@
 -- The place of each device in an order of different devices.
-use Rattle.std.proofs.Common.{◌≡◌, ◌<◌, ◌+◌, ◌∙◌, ℕ, zero, suc, true, ◌==◌, ◌⊎◌, inl, inr, List, [], ◌∷◌, length, get_or, set, sym, ap, subst, arith, get_or-set_same, get_or-set_other, below_more}
+use Rattle.std.proofs.Common.{◌≡◌, ◌<◌, ◌+◌, ◌∙◌, ℕ, zero, suc, Bool, true, false, ◌==◌, ◌⊎◌, inl, inr, List, [], ◌∷◌, length, get_or, set, sym, ap, subst, arith, get_or-set_same, get_or-set_other, below_more}
+use Rattle.std.specs.Bool.{OnTrue}
 use Rattle.std.proofs.lemmas.Bool.{cases_eq, false≢true, eqb-true, or_cases}
 use Rattle.sleep_model.specs.Order.{is_among}
 use Rattle.sleep_model.proofs.Walks.{AllDifferent}
@@ -21,6 +22,11 @@ places_more order places i apart l within h =
     below_more (λ j. get_or (set places (get_or order i 0) i) (get_or order j 0) 0 ≡ j) i
     (λ j m. get_or-set_other places (get_or order i 0) (get_or order j 0) i 0 (place_once order j i apart m l) ∙ h j m)
     (get_or-set_same places (get_or order i 0) i 0 within)
+
+-- where the order stays its places do
+pub placed_still : (stays : Bool) (new old places : List ℕ) → OnTrue stays (new ≡ old) → IsPlaced old places → OnTrue stays (IsPlaced new places)
+placed_still true new old places e h = subst (λ (o : List ℕ). IsPlaced o places) (sym e) h
+placed_still false new old places e h = tt
 
 -- who is among a list stands at a place
 pub found : (xs : List ℕ) (d : ℕ) → is_among xs d ≡ true → (i : ℕ) × (i < length xs) × (get_or xs i 0 ≡ d)

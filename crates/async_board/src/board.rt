@@ -9,7 +9,7 @@ use crate::moves::put;
 use crate::pick::{Look, Pick, first_picked, is_so, last_picked, stand_at};
 use crate::rows::{all_left_alone, count_at, first_low, first_unsettled, is_none};
 use crate::stand::{ended_by, is_at_work, skipped_for, work_in};
-use crate::walk::{Layout, Walk, fill_places, places_of};
+use crate::walk::{Layout, Walk, places_of, refill_places};
 use device_links::Links;
 use sleep_base::Mem;
 use sleep_model::{AsyncWork, Kind, Phase, Stand};
@@ -162,10 +162,11 @@ impl Board {
         ensures err { OnErr result (self.new ≡ self.old) }
     {
         let _devices = self.layout.links.order().len();
+        let keeps_order = self.layout.links.keeps_order(supplier, consumer);
         match self.layout.links.add(supplier, consumer) {
             Ok(()) => {
                 let layout = &mut self.layout;
-                fill_places(&mut layout.places, layout.links.order());
+                refill_places(&mut layout.places, layout.links.order(), keeps_order);
                 begin_anew(
                     layout,
                     supplier,

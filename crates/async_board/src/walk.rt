@@ -1,6 +1,7 @@
 //! Where the devices stand in a pair of phases.
 
 ghost use Rattle.std.specs.Prelude.{◌≡◌, ◌≢◌, ◌<◌, ℕ, true, IfOk, length, replicate, slice_index_or};
+ghost use Rattle.std.specs.Bool.{OnTrue};
 ghost use Rattle.sleep_model.specs.Order.{active_of, is_among, hanging};
 ghost use Rattle.sleep_model.proofs.Walks.{AllDifferent};
 ghost use Rattle.sleep_model.specs.Links.{first_places};
@@ -45,6 +46,20 @@ pub(crate) fn fill_places(places: &mut [usize], order: &[u32])
 {
     for (place, device) in order.iter().enumerate() {
         places[*device as usize] = place;
+    }
+}
+
+/// Gives each device its place in an order that has each once, unless it is known to have it.
+pub(crate) fn refill_places(places: &mut [usize], order: &[u32], are_kept: bool)
+    requires size { length places.old ≡ length order.now }
+    requires different { AllDifferent order.now }
+    requires covers { (d : ℕ) → d < length order.now → is_among order.now d ≡ true }
+    requires within { (d : ℕ) → is_among order.now d ≡ true → d < length order.now }
+    requires kept { OnTrue are_kept (IsPlaced order.now places.old) }
+    ensures { IsPlaced order.now places.new }
+{
+    if !are_kept {
+        fill_places(places, order);
     }
 }
 

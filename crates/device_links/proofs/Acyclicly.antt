@@ -1,12 +1,12 @@
 -- Links that close no cycle all at once close none in turn.
-use Rattle.std.proofs.Common.{◌≡◌, ◌<◌, ◌≤◌, ◌+◌, ◌∙◌, ℕ, Bool, true, false, not, ◌==◌, ◌||◌, List, [], ◌∷◌, ◌++◌, ◌⊎◌, inl, inr, length, filter, Option, refl, sym, ap, subst, cond, arith}
-use Rattle.std.specs.List.{flat_map, range_with_len}
+use Rattle.std.proofs.Common.{◌≡◌, ◌<◌, ◌≤◌, ◌∙◌, ℕ, Bool, true, false, not, ◌==◌, ◌||◌, List, [], ◌∷◌, ◌++◌, ◌⊎◌, inl, inr, length, filter, Option, refl, sym, ap, subst, cond, arith}
+use Rattle.std.specs.List.{range_with_len}
 use Rattle.std.proofs.lemmas.List.{append-nil}
 use Rattle.std.proofs.lemmas.Bool.{true≢false, false≢true, eqb-true, or_cases, or_left, or_right, or_from, cases_lt}
 use Rattle.std.proofs.lemmas.Bool.Decides.{nat_tests}
 use Rattle.std.proofs.Math.Bool.{or-false}
 use Rattle.sleep_model.specs.declared.machine.Link.{Link}
-use Rattle.sleep_model.specs.Order.{is_among, children_from, consumers_of, hanging, EachAfterParent, moved, order_by}
+use Rattle.sleep_model.specs.Order.{is_among, children_from, consumers_of, hanging, EachAfterParent, moved}
 use Rattle.sleep_model.specs.Links.{IsOrder, AreLinks, LeadsTo, IsPath}
 use Rattle.sleep_model.proofs.Walks.{AllDifferent}
 use Rattle.sleep_model.proofs.Ordering.{not_in_filter}

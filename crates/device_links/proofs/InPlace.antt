@@ -2,7 +2,7 @@
 use Rattle.std.proofs.Common.{◌≡◌, ◌<◌, ◌≤◌, ◌+◌, ◌∙◌, ℕ, zero, suc, List, [], ◌∷◌, ◌++◌, length, map, take, get_or, set, refl, sym, ap, subst, arith, add-one}
 use Rattle.std.proofs.Math.Seq.{take-append_seam}
 use Rattle.std.proofs.lemmas.List.{get_or-set_same, set-set, set-get_or}
-use Rattle.device_rows.specs.Table.{Table, row_at, places_at}
+use Rattle.device_rows.specs.Table.{Table, places_at}
 
 -- the list with f of its first n elements
 abbrev pub mapped_up_to : {A : Type 0} → (A → A) → ℕ → List A → List A

@@ -1,5 +1,5 @@
 -- What is seen below and above a device by the links that are active.
-use Rattle.std.proofs.Common.{◌≡◌, ◌<◌, ◌≤◌, ◌+◌, ◌∙◌, ℕ, Bool, true, false, not, ◌==◌, ◌&&◌, ◌||◌, List, [], ◌∷◌, ◌++◌, length, take, drop, reverse, filter, get_or, slice_get, Option, None, refl, sym, ap, subst, cond, arith, length-append}
+use Rattle.std.proofs.Common.{◌≡◌, ◌<◌, ◌≤◌, ◌∙◌, ℕ, Bool, true, false, not, ◌==◌, ◌&&◌, ◌||◌, List, [], ◌∷◌, ◌++◌, length, take, drop, reverse, filter, get_or, slice_get, Option, None, refl, sym, ap, subst, cond, arith, length-append}
 use Rattle.std.proofs.lemmas.List.{append-nil, take-append-drop, reverse-append}
 use Rattle.std.proofs.lemmas.Bool.{true≢false, eqb-true}
 use Rattle.sleep_model.specs.declared.machine.Link.{Link}

@@ -1,20 +1,19 @@
 -- The order that walks from the last link to the first leave.
-use Rattle.std.proofs.Common.{◌≡◌, ◌<◌, ◌≤◌, ◌+◌, ◌∙◌, ℕ, Bool, true, false, not, ◌==◌, List, [], ◌∷◌, ◌++◌, ◌⊎◌, inl, inr, length, take, reverse, filter, get_or, replicate, Option, Some, None, refl, sym, ap, subst, cond, arith}
+use Rattle.std.proofs.Common.{◌≡◌, ◌<◌, ◌+◌, ◌∙◌, ℕ, Bool, true, false, not, ◌==◌, List, [], ◌∷◌, ◌++◌, ◌⊎◌, inl, inr, length, take, reverse, filter, get_or, replicate, Option, Some, None, refl, sym, ap, subst, cond, arith}
 use Rattle.std.specs.List.{range_with_len}
 use Rattle.std.proofs.lemmas.List.{take_all, get_or-replicate, length-replicate}
-use Rattle.std.proofs.lemmas.Bool.{false≢true, eqb-true, or_cases}
-use Rattle.std.proofs.Math.Bool.{or-false}
+use Rattle.std.proofs.lemmas.Bool.{false≢true, or_cases}
 use Rattle.sleep_model.specs.declared.machine.Link.{Link}
 use Rattle.sleep_model.specs.Order.{is_among, consumers_of, hanging, EachAfterParent, moved, order_by}
 use Rattle.sleep_model.specs.Links.{AreLinks, IsOrder}
 use Rattle.sleep_model.proofs.Acyclic.{order_within}
-use Rattle.sleep_model.proofs.Hanging.{among_app, onto}
+use Rattle.sleep_model.proofs.Hanging.{among_app}
 use Rattle.device_rows.specs.Table.{Table, row_at}
 use Rattle.device_links.specs.declared.at_once.Tables.{Tables}
 use Rattle.device_links.specs.declared.visits.Visits.{Visits}
 use Rattle.device_links.specs.Kept.{IsTableOf}
 use Rattle.device_links.specs.Walks.{AreMarks}
-use Rattle.device_links.specs.Passes.{AreApart, AreVisits, IsVisited, IsAcyclic, Goes, CanStand, Tabulates}
+use Rattle.device_links.specs.Passes.{AreApart, AreVisits, IsVisited, Goes, CanStand, Tabulates}
 use Rattle.device_links.proofs.Kept.{hang_is, by_marks}
 use Rattle.device_links.proofs.Passing.{passed, onto_new, order_at_once}
 use Rattle.device_links.proofs.Acyclicly.{one_consumer, visited_links, links_acyclic, apart_within}

@@ -1,9 +1,8 @@
 -- A row that is made anew has the places that it needs.
-use Rattle.std.proofs.Common.{◌≡◌, ◌<◌, ◌≤◌, ◌+◌, ◌∙◌, ℕ, zero, suc, Bool, true, false, not, ◌==◌, ◌&&◌, List, [], ◌∷◌, ◌++◌, length, take, drop, reverse, get_or, Option, None, refl, sym, ap, subst, cond, arith, length-append}
+use Rattle.std.proofs.Common.{◌≡◌, ◌<◌, ◌≤◌, ◌+◌, ◌∙◌, ℕ, suc, Bool, true, false, not, ◌==◌, ◌&&◌, List, [], ◌∷◌, ◌++◌, length, take, drop, reverse, get_or, Option, None, refl, sym, ap, subst, cond, arith, length-append}
 use Rattle.std.proofs.lemmas.Bool.{true≢false, eqb-true}
 use Rattle.std.proofs.lemmas.List.{append-nil, take_more, length-take-le, take-append-drop}
 use Rattle.sleep_model.specs.declared.machine.Link.{Link}
-use Rattle.sleep_model.specs.Links.{is_linked}
 use Rattle.sleep_model.specs.Order.{children_from, is_parent, hanging, holding}
 use Rattle.sleep_model.proofs.Children.{children_push}
 use Rattle.sleep_model.proofs.FirstPlaces.{hanging_new, holding_new}

@@ -8,7 +8,6 @@ use Rattle.sleep_model.specs.Order.{is_link, with_state, active_of, children_fro
 use Rattle.sleep_model.proofs.Changing.{same_supplier, same_consumer, suppliers_kept, hanging_kept, links_kept, order_kept}
 use Rattle.device_rows.specs.Table.{Table, places_at}
 use Rattle.device_links.specs.declared.fault.LinkFault.{LinkFault}
-use Rattle.device_links.specs.declared.fault.LinkFault.TheVariants as fault
 use Rattle.device_links.specs.Adds.{Stand, Lacks}
 use Rattle.device_links.specs.Kept.{IsTableOf, IsKept, IsWhole, HavePlaces, near_below, near_above}
 use Rattle.device_links.specs.Linked.{Linked}

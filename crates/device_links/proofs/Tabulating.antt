@@ -1,20 +1,20 @@
 -- The tables of links that are made at once.
-use Rattle.std.proofs.Common.{◌≡◌, ◌<◌, ◌≤◌, ◌+◌, ◌^◌, ◌∙◌, ℕ, Bool, true, false, not, ◌==◌, List, [], ◌∷◌, ◌++◌, length, map, take, drop, reverse, get_or, option_to_list, replicate, Option, Some, None, refl, sym, ap, subst, cond, arith, length-append}
+use Rattle.std.proofs.Common.{◌≡◌, ◌<◌, ◌+◌, ◌^◌, ◌∙◌, ℕ, Bool, true, false, not, List, [], ◌∷◌, ◌++◌, length, map, take, drop, reverse, get_or, option_to_list, replicate, Option, refl, sym, ap, subst, arith, length-append}
 use Rattle.std.specs.List.{range_with_len}
 use Rattle.std.proofs.lemmas.List.{take_more, take-append-drop, reverse-append}
 use Rattle.std.proofs.lemmas.Bool.{true≢false}
 use Rattle.sleep_model.specs.declared.machine.Link.{Link}
-use Rattle.sleep_model.specs.Order.{is_among, is_parent, children_from, suppliers_of, hanging, holding, EachAfterParent}
-use Rattle.sleep_model.specs.Links.{first_places, is_linked}
+use Rattle.sleep_model.specs.Order.{is_among, children_from, suppliers_of, hanging, EachAfterParent}
+use Rattle.sleep_model.specs.Links.{is_linked}
 use Rattle.sleep_model.proofs.Acyclic.{others_same}
 use Rattle.sleep_model.proofs.FirstPlaces.{hanging_new, suppliers_new, suppliers_other, suppliers_linked}
-use Rattle.device_rows.specs.Table.{Table, row_at, hung}
+use Rattle.device_rows.specs.Table.{Table, row_at}
 use Rattle.device_links.specs.declared.at_once.Tables.{Tables}
 use Rattle.device_links.specs.Kept.{IsTableOf, near_below, near_above}
 use Rattle.device_links.specs.Passes.{AreApart, AreTables, HaveRows, IsHung, IsNew, Tells, is_left_out}
 use Rattle.device_links.proofs.Kept.{kept_new, places_new, places_more, holding_count}
 use Rattle.device_links.proofs.Near.{below_here, below_other, above_here, above_other}
-use Rattle.device_links.proofs.RowsMade.{table_push, table_same, table_unless}
+use Rattle.device_links.proofs.RowsMade.{table_push, table_unless}
 
 -- without links
 pub tables_new : (ps : List (Option ℕ)) → length ps < 2 ^ 32 → EachAfterParent 0 ps → (t : Tables)

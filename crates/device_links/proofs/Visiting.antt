@@ -1,49 +1,19 @@
 -- The steps of a walk that visits no device that an earlier one visited.
-use Rattle.std.proofs.Common.{◌≡◌, ◌<◌, ◌≤◌, ◌+◌, ◌∙◌, ℕ, zero, suc, Bool, true, false, ◌==◌, ◌||◌, List, [], ◌∷◌, ◌++◌, ◌⊎◌, inl, inr, length, take, drop, get_or, set, refl, sym, ap, subst, cond, arith, length-set}
+use Rattle.std.proofs.Common.{◌≡◌, ◌<◌, ◌+◌, ◌∙◌, ℕ, zero, suc, Bool, true, false, ◌==◌, ◌||◌, List, [], ◌∷◌, ◌++◌, ◌⊎◌, inl, inr, length, take, drop, get_or, set, refl, sym, ap, subst, cond, arith}
 use Rattle.std.specs.List.{flat_map}
-use Rattle.std.proofs.lemmas.List.{take_all, drop_more, drop_all, get_or-set_same, get_or-set_other}
-use Rattle.std.proofs.lemmas.Bool.{true≢false, false≢true, eqb-true, eqb-false, or_cases, or_parts, or_right}
+use Rattle.std.proofs.lemmas.List.{take_all, drop_more, drop_all}
+use Rattle.std.proofs.lemmas.Bool.{true≢false, false≢true, eqb-true, eqb-false, or_cases, or_parts}
 use Rattle.sleep_model.specs.Order.{is_among, moved}
-use Rattle.sleep_model.specs.Links.{LeadsTo, IsOrder}
-use Rattle.sleep_model.proofs.Hanging.{among_app, among_first, among_rest, among_flat, Within, all_of, onto, onto_app, Descends, visited, visits, not_below_itself, leads_below}
+use Rattle.sleep_model.specs.Links.{IsOrder}
+use Rattle.sleep_model.proofs.Hanging.{among_app, among_first, among_rest, Within, all_of, onto, onto_app, Descends, visited, visits, not_below_itself}
 use Rattle.device_links.specs.declared.walk.Frame.{Frame}
 use Rattle.device_links.specs.declared.visits.Visits.{Visits}
 use Rattle.device_links.specs.Walks.{AreMarks}
-use Rattle.device_links.specs.Passes.{AreVisits, IsVisited, IsAcyclic}
-use Rattle.device_links.proofs.Walking.{Linked, Chain, Waits, waits_more, Sized, finish, flat_next, among_at}
+use Rattle.device_links.specs.Passes.{AreVisits, IsVisited}
+use Rattle.device_links.proofs.Walking.{marks_more, marks_same, in_front, devices, Linked, Chain, Waits, waits_more, Sized, finish, flat_next, among_at, loops}
 use Rattle.device_links.proofs.Passing.{order_closed, onto_new}
 
 -- ---- marks
-
--- one more device is marked
-pub marks_more : (marks : List Bool) (n : ℕ) (ds : List ℕ) → AreMarks marks n ds → (x : ℕ) → x < n → AreMarks (set marks x true) n (x ∷ ds)
-marks_more marks n ds h x l = record {
-  count = length-set marks x true ∙ h.count;
-  marked = λ d i. mark d i (x == d) refl;
-}
-  where
-    mark : (d : ℕ) → d < n → (b : Bool) → (x == d) ≡ b → get_or (set marks x true) d false ≡ (b || is_among ds d)
-    mark d i true e = subst (λ (y : ℕ). get_or (set marks x true) y false ≡ true) (eqb-true x d e) (get_or-set_same marks x true false (omega (arith, h.count)))
-    mark d i false e = get_or-set_other marks x d true false (λ y. eqb-false x d e (sym y)) ∙ h.marked d i
-
-marks_same : (marks : List Bool) (n : ℕ) (ds es : List ℕ) → AreMarks marks n ds → ((d : ℕ) → is_among es d ≡ is_among ds d) → AreMarks marks n es
-marks_same marks n ds es h s = record { count = h.count; marked = λ d i. h.marked d i ∙ sym (s d) }
-
--- a device may stand in the middle as well as in front
-in_front : (xs : List ℕ) (x : ℕ) (ys : List ℕ) (d : ℕ) → is_among (xs ++ x ∷ ys) d ≡ is_among (x ∷ xs ++ ys) d
-in_front [] x ys d = refl
-in_front (z ∷ xs) x ys d = ap (λ b. (z == d) || b) (in_front xs x ys d) ∙ swap (z == d) (x == d) (is_among (xs ++ ys) d)
-  where
-    swap : (a b c : Bool) → (a || (b || c)) ≡ (b || (a || c))
-    swap true true c = refl
-    swap true false c = refl
-    swap false true c = refl
-    swap false false c = refl
-
--- the devices of a walk, its top first
-abbrev pub devices : List Frame → List ℕ
-devices [] = []
-devices (f ∷ rest) = f.device ∷ devices rest
 
 -- each device of a walk stands there once, and was not left yet
 abbrev pub Fresh : List Frame → List ℕ → Type 0
@@ -220,19 +190,11 @@ module _ (hang : ℕ → List ℕ) where
 
       -- a device of the walk's own hangs below itself
       pub meets : is_among (f.device ∷ devices rest ++ out) c ≡ true → is_among out c ≡ false → Descends hang W → ⊥
-      meets m n' fix = true≢false (sym (loops (f ∷ rest) c [] (hangs, w.chain) refl (on_way (or_cases (is_among (f.device ∷ devices rest) c) (is_among out c) (sym (among_app (f.device ∷ devices rest) out c) ∙ m)))) ∙ not_below_itself hang W fix c)
+      meets m n' fix = true≢false (sym (loops hang W fix from c (f ∷ rest) c [] (hangs, w.chain) refl (on_way (or_cases (is_among (f.device ∷ devices rest) c) (is_among out c) (sym (among_app (f.device ∷ devices rest) out c) ∙ m)))) ∙ not_below_itself hang W fix c)
         where
           on_way : (is_among (f.device ∷ devices rest) c ≡ true) ⊎ (is_among out c ≡ true) → is_among (f.device ∷ devices rest) c ≡ true
           on_way (inl e) = e
           on_way (inr e) = absurd (true≢false (sym e ∙ n'))
-
-          loops : (fs : List Frame) (x : ℕ) (xs : List ℕ) → Linked hang from fs x → LeadsTo hang x xs c → is_among (devices fs) c ≡ true → is_among (flat_map W (hang c)) c ≡ true
-          loops [] x xs h p i = absurd (false≢true i)
-          loops (g ∷ gs) x xs h p i = by_place (loops gs g.device (x ∷ xs) h.1 (h.0, p)) (or_cases (g.device == c) (is_among (devices gs) c) i)
-            where
-              by_place : (is_among (devices gs) c ≡ true → is_among (flat_map W (hang c)) c ≡ true) → ((g.device == c) ≡ true) ⊎ (is_among (devices gs) c ≡ true) → is_among (flat_map W (hang c)) c ≡ true
-              by_place rec (inl e) = subst (λ (y : ℕ). is_among (flat_map W (hang y)) c ≡ true) (eqb-true g.device c e) (among_flat hang W fix c (hang g.device) x h.0 (leads_below hang W fix x xs c p))
-              by_place rec (inr e) = rec e
 
       -- each step leaves fewer
       pub fewer_entered : c < length entered → get_or entered c false ≡ false → unseen 0 (set entered c true) + open_weight (record { device = c; left = length (hang c) } ∷ record { device = f.device; left = k } ∷ rest) < unseen 0 entered + open_weight (f ∷ rest)

@@ -1,13 +1,13 @@
 -- The steps of a walk below a device.
-use Rattle.std.proofs.Common.{◌≡◌, ◌<◌, ◌≤◌, ◌+◌, ◌*◌, ◌∙◌, ℕ, zero, suc, Bool, true, false, ◌==◌, ◌||◌, List, [], ◌∷◌, ◌++◌, ◌⊎◌, inl, inr, length, take, drop, get_or, set, replicate, refl, sym, ap, subst, arith, length-append, length-set}
+use Rattle.std.proofs.Common.{◌≡◌, ◌<◌, ◌≤◌, ◌+◌, ◌*◌, ◌∙◌, ℕ, zero, suc, Bool, true, false, ◌==◌, ◌||◌, List, [], ◌∷◌, ◌++◌, ◌⊎◌, inl, inr, length, map, reverse, take, drop, get_or, set, replicate, cond, Option, Some, None, MatchOption, option_to_list, refl, sym, ap, subst, arith, length-append, length-set}
 use Rattle.std.specs.List.{flat_map}
 use Rattle.std.proofs.lemmas.Grind.{flat_map-append}
-use Rattle.std.proofs.lemmas.List.{append-nil, take_more, drop_more, take_all, drop_all, get_or-replicate, length-replicate, get_or_default, get_or-set_same, get_or-set_other}
-use Rattle.std.proofs.lemmas.Bool.{true≢false, false≢true, eqb-true, eqb-false, or_cases, or_from, eq-eqb}
+use Rattle.std.proofs.lemmas.List.{append-nil, reverse-append, take_more, drop_more, take_all, drop_all, get_or-replicate, length-replicate, get_or_default, get_or-set_same, get_or-set_other}
+use Rattle.std.proofs.lemmas.Bool.{true≢false, false≢true, eqb-true, eqb-false, or_cases, or_from, or_parts, eq-eqb}
 use Rattle.std.proofs.Math.Bool.{or-false}
 use Rattle.sleep_model.specs.Order.{is_among, last_places}
 use Rattle.sleep_model.specs.Links.{LeadsTo, IsPath}
-use Rattle.sleep_model.proofs.Hanging.{among_first, among_rest, Within, onto, onto_app, among_onto, last_onto, Descends, IsClosed, visited, visits, leads_below}
+use Rattle.sleep_model.proofs.Hanging.{among_app, among_first, among_rest, among_flat, Within, onto, onto_app, among_onto, last_onto, Descends, IsClosed, visited, visits, not_below_itself, leads_below}
 use Rattle.device_links.specs.declared.walk.Frame.{Frame}
 use Rattle.device_links.specs.Walks.{AreMarks, on_path}
 
@@ -24,6 +24,86 @@ next_at xs ys k e l = ap (λ zs. get_or zs k 0) e ∙ get_or_default ys k 0 (get
 -- what is read of the marks
 pub mark_at : (marks : List Bool) (n : ℕ) (out : List ℕ) → AreMarks marks n out → (d : ℕ) → d < n → (r : Bool) → r ≡ get_or marks d r → is_among out d ≡ r
 mark_at marks n out h d l r e = sym (h.marked d l) ∙ (get_or_default marks d false r (omega (arith, h.count)) ∙ sym e)
+
+-- one more device is marked
+pub marks_more : (marks : List Bool) (n : ℕ) (ds : List ℕ) → AreMarks marks n ds → (x : ℕ) → x < n → AreMarks (set marks x true) n (x ∷ ds)
+marks_more marks n ds h x l = record {
+  count = length-set marks x true ∙ h.count;
+  marked = λ d i. mark d i (x == d) refl;
+}
+  where
+    mark : (d : ℕ) → d < n → (b : Bool) → (x == d) ≡ b → get_or (set marks x true) d false ≡ (b || is_among ds d)
+    mark d i true e = subst (λ (y : ℕ). get_or (set marks x true) y false ≡ true) (eqb-true x d e) (get_or-set_same marks x true false (omega (arith, h.count)))
+    mark d i false e = get_or-set_other marks x d true false (λ y. eqb-false x d e (sym y)) ∙ h.marked d i
+
+pub marks_same : (marks : List Bool) (n : ℕ) (ds es : List ℕ) → AreMarks marks n ds → ((d : ℕ) → is_among es d ≡ is_among ds d) → AreMarks marks n es
+marks_same marks n ds es h s = record { count = h.count; marked = λ d i. h.marked d i ∙ sym (s d) }
+
+-- a device may stand in the middle as well as in front
+pub in_front : (xs : List ℕ) (x : ℕ) (ys : List ℕ) (d : ℕ) → is_among (xs ++ x ∷ ys) d ≡ is_among (x ∷ xs ++ ys) d
+in_front [] x ys d = refl
+in_front (z ∷ xs) x ys d = ap (λ b. (z == d) || b) (in_front xs x ys d) ∙ swap (z == d) (x == d) (is_among (xs ++ ys) d)
+  where
+    swap : (a b c : Bool) → (a || (b || c)) ≡ (b || (a || c))
+    swap true true c = refl
+    swap true false c = refl
+    swap false true c = refl
+    swap false false c = refl
+
+-- the devices of a walk, its top first
+abbrev pub devices : List Frame → List ℕ
+devices [] = []
+devices (f ∷ rest) = f.device ∷ devices rest
+
+-- how many devices have no mark
+abbrev pub spare : List Bool → ℕ
+spare [] = 0
+spare (b ∷ bs) = cond b (spare bs) (suc (spare bs))
+
+-- with one more mark there is one fewer
+pub spare_less : (bs : List Bool) (d : ℕ) → d < length bs → get_or bs d false ≡ false → spare bs ≡ suc (spare (set bs d true))
+spare_less [] d l e = absurd (omega arith)
+spare_less (b ∷ bs) zero l e = ap (λ y. cond y (spare bs) (suc (spare bs))) e
+spare_less (b ∷ bs) (suc d) l e = also b (spare bs) (spare (set bs d true)) (spare_less bs d (omega arith) e)
+  where
+    also : (c : Bool) (x y : ℕ) → x ≡ suc y → cond c x (suc x) ≡ suc (cond c y (suc y))
+    also true x y r = r
+    also false x y r = ap suc r
+
+pub spare_all : (n : ℕ) → spare (replicate n false) ≡ n
+spare_all zero = refl
+spare_all (suc n) = ap suc (spare_all n)
+
+-- the devices of a walk, its top first, where those above the top are kept with the top's parent last
+abbrev pub way : Option Frame → List Frame → List Frame
+way top above = option_to_list top ++ reverse above
+
+pub way_popped : (top : Option Frame) (old new : List Frame) → old ≡ new ++ option_to_list top → way top new ≡ reverse old
+way_popped None old new e = sym (ap reverse e ∙ ap reverse (append-nil new))
+way_popped (Some f) old new e = sym (ap reverse e ∙ reverse-append new (f ∷ []))
+
+-- a walk is over only where it is back at the first
+abbrev pub IsOver : Option Frame → List Frame → Type 0
+IsOver None above = above ≡ []
+IsOver (Some f) above = Unit {0}
+
+pub over_popped : (top : Option Frame) (above : List Frame) (m n : ℕ) (P : Frame → Type 0) → MatchOption top ((m ≡ 0) × (n ≡ 0)) P → n ≡ length above → IsOver top above
+over_popped None [] m n P h e = refl
+over_popped None (f ∷ fs) m n P h e = absurd (omega (arith, h.1, e))
+over_popped (Some g) above m n P h e = tt
+
+pub none_left : (top : Option Frame) (above : List Frame) → ((f : Frame) → top ≡ Some f → ⊥) → IsOver top above → way top above ≡ []
+none_left None above f h = ap reverse h
+none_left (Some g) above f h = absurd (f g refl)
+
+-- the path over these
+pub path_over : (above : List Frame) (path : List ℕ) → map (λ (f : Frame). f.device) above ++ path ≡ on_path (reverse above) path
+path_over [] path = refl
+path_over (f ∷ fs) path = ap (λ xs. f.device ∷ xs) (path_over fs path) ∙ sym (ap (λ gs. on_path gs path) (reverse-append (f ∷ []) fs) ∙ behind (reverse fs) path)
+  where
+    behind : (gs : List Frame) (xs : List ℕ) → on_path (gs ++ f ∷ []) xs ≡ f.device ∷ on_path gs xs
+    behind [] xs = refl
+    behind (g ∷ gs) xs = behind gs (g.device ∷ xs)
 
 module _ (hang : ℕ → List ℕ) where
   -- the next device hangs right below the top, and so on down to the first
@@ -84,15 +164,24 @@ module _ (hang : ℕ → List ℕ) where
       pub clear : Clear target fs
       pub missing : is_among out target ≡ false
       pub sized : Sized n fs
-      pub noted : AreMarks marks n out
+      pub noted : AreMarks marks n (devices fs ++ out)
       pub ends : finish fs out ≡ onto (W from) []
 
     module _ (fix : Descends hang W) where
       walked : (d : ℕ) → d ∷ onto (flat_map W (take (length (hang d)) (hang d))) [] ≡ onto (W d) []
       walked d = ap (λ xs. d ∷ onto (flat_map W xs) []) (take_all (length (hang d)) (hang d) (omega arith)) ∙ sym (visits hang W fix [] d refl)
 
+      -- where a path leads from a device of the walk's own to what hangs below its top, that hangs below itself
+      pub loops : (from c : ℕ) (fs : List Frame) (x : ℕ) (xs : List ℕ) → Linked from fs x → LeadsTo hang x xs c → is_among (devices fs) c ≡ true → is_among (flat_map W (hang c)) c ≡ true
+      loops from c [] x xs h p i = absurd (false≢true i)
+      loops from c (g ∷ gs) x xs h p i = by_place (loops from c gs g.device (x ∷ xs) h.1 (h.0, p)) (or_cases (g.device == c) (is_among (devices gs) c) i)
+        where
+          by_place : (is_among (devices gs) c ≡ true → is_among (flat_map W (hang c)) c ≡ true) → ((g.device == c) ≡ true) ⊎ (is_among (devices gs) c ≡ true) → is_among (flat_map W (hang c)) c ≡ true
+          by_place rec (inl e) = subst (λ (y : ℕ). is_among (flat_map W (hang y)) c ≡ true) (eqb-true g.device c e) (among_flat hang W fix c (hang g.device) x h.0 (leads_below hang W fix x xs c p))
+          by_place rec (inr e) = rec e
+
       -- at the beginning
-      pub begins : (n from target : ℕ) → from < n → (from == target) ≡ false → Walking n from target (record { device = from; left = length (hang from) } ∷ []) [] (replicate n false)
+      pub begins : (n from target : ℕ) → from < n → (from == target) ≡ false → Walking n from target (record { device = from; left = length (hang from) } ∷ []) [] (set (replicate n false) from true)
       begins n from target l e = record {
         closed = λ d m. absurd (false≢true m);
         waits = (λ d m. absurd (false≢true (sym (ap (λ xs. is_among xs d) (drop_all (length (hang from)) (hang from) (omega arith))) ∙ m)), tt);
@@ -100,12 +189,12 @@ module _ (hang : ℕ → List ℕ) where
         clear = (e, tt);
         missing = refl;
         sized = (l, omega arith, tt);
-        noted = record { count = length-replicate n false; marked = λ d i. get_or-replicate n d false false i };
+        noted = marks_more (replicate n false) n [] (record { count = length-replicate n false; marked = λ d i. get_or-replicate n d false false i }) from l;
         ends = walked from;
       }
 
       -- a device with nothing left below it is put in front
-      pub closes : (n from target : ℕ) (f : Frame) (rest : List Frame) (out : List ℕ) (marks : List Bool) → Walking n from target (f ∷ rest) out marks → f.left ≡ 0 → Walking n from target rest (f.device ∷ out) (set marks f.device true)
+      pub closes : (n from target : ℕ) (f : Frame) (rest : List Frame) (out : List ℕ) (marks : List Bool) → Walking n from target (f ∷ rest) out marks → f.left ≡ 0 → Walking n from target rest (f.device ∷ out) marks
       closes n from target f rest out marks w z = record {
         closed = λ d m. by_place d (or_cases (f.device == d) (is_among out d) m);
         waits = w.waits.1;
@@ -113,10 +202,7 @@ module _ (hang : ℕ → List ℕ) where
         clear = w.clear.1;
         missing = or_from (f.device == target) (is_among out target) w.clear.0 w.missing;
         sized = w.sized.2;
-        noted = record {
-          count = length-set marks f.device true ∙ w.noted.count;
-          marked = λ d i. mark d i (f.device == d) refl;
-        };
+        noted = marks_same marks n (f.device ∷ devices rest ++ out) (devices rest ++ f.device ∷ out) w.noted (in_front (devices rest) f.device out);
         ends = ap (λ k. finish rest (f.device ∷ onto (flat_map W (take k (hang f.device))) out)) (sym z) ∙ w.ends;
       }
         where
@@ -130,10 +216,6 @@ module _ (hang : ℕ → List ℕ) where
           lower : (fs : List Frame) → Linked from fs f.device → Chain from fs
           lower [] h = tt
           lower (g ∷ gs) h = h.1
-
-          mark : (d : ℕ) → d < n → (b : Bool) → (f.device == d) ≡ b → get_or (set marks f.device true) d false ≡ (b || is_among out d)
-          mark d i true e = subst (λ (y : ℕ). get_or (set marks f.device true) y false ≡ true) (eqb-true f.device d e) (get_or-set_same marks f.device true false (omega (arith, w.noted.count, w.sized.0)))
-          mark d i false e = get_or-set_other marks f.device d true false (λ x. eqb-false f.device d e (sym x)) ∙ w.noted.marked d i
 
       -- one fewer is left
       pub flat_next : (xs : List ℕ) (k c : ℕ) → k < length xs → c ≡ get_or xs k c → flat_map W (take (k + 1) xs) ≡ flat_map W (take k xs) ++ W c
@@ -163,6 +245,14 @@ module _ (hang : ℕ → List ℕ) where
             by_place (inl e) = subst (λ (y : ℕ). is_among more y ≡ true) (eqb-true c d e) m
             by_place (inr e) = i d (w.waits.0 d (ap (λ j. is_among (drop j (hang f.device)) d) last ∙ e))
 
+        -- a device that was entered was walked, as none hangs below itself
+        pub was_walked : is_among (f.device ∷ devices rest ++ out) c ≡ true → is_among out c ≡ true
+        was_walked m = by_place (or_cases (is_among (f.device ∷ devices rest) c) (is_among out c) (sym (among_app (f.device ∷ devices rest) out c) ∙ m))
+          where
+            by_place : (is_among (f.device ∷ devices rest) c ≡ true) ⊎ (is_among out c ≡ true) → is_among out c ≡ true
+            by_place (inl e) = absurd (true≢false (sym (loops from c (f ∷ rest) c [] (hangs, w.chain) refl e) ∙ not_below_itself hang W fix c))
+            by_place (inr e) = e
+
         -- a device that was walked is passed
         pub passes : is_among out c ≡ true → Walking n from target (record { device = f.device; left = k } ∷ rest) out marks
         passes m = record {
@@ -177,7 +267,7 @@ module _ (hang : ℕ → List ℕ) where
         }
 
         -- another is walked first
-        pub enters : c < n → (c == target) ≡ false → is_among out c ≡ false → Walking n from target (record { device = c; left = length (hang c) } ∷ record { device = f.device; left = k } ∷ rest) out marks
+        pub enters : c < n → (c == target) ≡ false → is_among (f.device ∷ devices rest ++ out) c ≡ false → Walking n from target (record { device = c; left = length (hang c) } ∷ record { device = f.device; left = k } ∷ rest) out (set marks c true)
         enters l t m = record {
           closed = w.closed;
           waits = (
@@ -188,10 +278,13 @@ module _ (hang : ℕ → List ℕ) where
           clear = (t, w.clear);
           missing = w.missing;
           sized = (l, omega arith, (w.sized.0, omega (arith, w.sized.1), w.sized.2));
-          noted = w.noted;
-          ends = ap (λ o. finish rest (f.device ∷ onto (flat_map W (take k (hang f.device))) o)) (ap (λ xs. c ∷ onto (flat_map W xs) out) (take_all (length (hang c)) (hang c) (omega arith)) ∙ sym (visits hang W fix out c m)) ∙ ends_next;
+          noted = marks_more marks n (f.device ∷ devices rest ++ out) w.noted c l;
+          ends = ap (λ o. finish rest (f.device ∷ onto (flat_map W (take k (hang f.device))) o)) (ap (λ xs. c ∷ onto (flat_map W xs) out) (take_all (length (hang c)) (hang c) (omega arith)) ∙ sym (visits hang W fix out c fresh)) ∙ ends_next;
         }
           where
+            fresh : is_among out c ≡ false
+            fresh = (or_parts (is_among (f.device ∷ devices rest) c) (is_among out c) (sym (among_app (f.device ∷ devices rest) out c) ∙ m)).1
+
             by_place : (d : ℕ) → ((f.device == d) ≡ true) ⊎ (is_among out d ≡ true) → is_among (f.device ∷ c ∷ out) d ≡ true
             by_place d (inl e) = ap (λ b. b || is_among (c ∷ out) d) e
             by_place d (inr e) = among_rest f.device (c ∷ out) d (among_rest c out d e)

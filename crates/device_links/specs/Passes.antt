@@ -1,8 +1,8 @@
 -- Links that are made at once: their tables, and one walk after another over what hangs below.
 use Rattle.std.specs.Prelude.{◌≡◌, ◌≤◌, ◌<◌, ◌+◌, ◌++◌, ◌||◌, ℕ, Bool, true, false, not, List, [], ◌∷◌, length, filter, reverse, flat_map, slice_index_or, if◌then◌else◌, Option, Some, None}
 use Rattle.sleep_model.specs.declared.machine.Link.{Link}
-use Rattle.sleep_model.specs.Order.{is_among, is_parent, hanging, holding, suppliers_of, last_places, moved, order_by}
-use Rattle.sleep_model.specs.Links.{AreLinks, IsOrder, first_places, is_linked}
+use Rattle.sleep_model.specs.Order.{is_among, is_parent, hanging, suppliers_of, last_places, moved, order_by}
+use Rattle.sleep_model.specs.Links.{AreLinks, IsOrder, is_linked}
 use Rattle.device_rows.specs.Table.{Table, row_at, places_at, hung}
 use Rattle.device_links.specs.declared.at_once.Tables.{Tables}
 use Rattle.device_links.specs.declared.visits.Visits.{Visits}

@@ -1,5 +1,5 @@
 -- What a walk below a device finds.
-use Rattle.std.specs.Prelude.{◌≡◌, ◌<◌, ℕ, Bool, true, false, List, [], ◌∷◌, length, flat_map, slice_index_or}
+use Rattle.std.specs.Prelude.{◌≡◌, ◌<◌, ◌≤◌, ℕ, Bool, true, false, List, [], ◌∷◌, length, drop, flat_map, slice_index_or}
 use Rattle.sleep_model.specs.Order.{is_among, last_places, moved}
 use Rattle.sleep_model.specs.Links.{IsPath}
 use Rattle.device_links.specs.declared.walk.Frame.{Frame}
@@ -26,7 +26,8 @@ pub record IsWalked (n : ℕ) (hang : ℕ → List ℕ) (from target : ℕ) (bel
 -- a path to the target, or all that hangs below
 abbrev pub Finds : ℕ → (ℕ → List ℕ) → ℕ → ℕ → Found → Type 0
 Finds n hang from target (Reached path) = IsPath hang path.items from target
-Finds n hang from target (Passed below marks) = IsWalked n hang from target below.items marks.items
+Finds n hang from target (Passed devices start marks) =
+    (start ≤ length devices.items) × IsWalked n hang from target (drop start devices.items) marks.items
 
 -- the devices of a walk, its top first, behind one another before this path
 abbrev pub on_path : List Frame → List ℕ → List ℕ

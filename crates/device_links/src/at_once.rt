@@ -56,8 +56,7 @@ fn hang_near(
 {
     table.make_places(row, count)?;
     if !left_out {
-        table.make_room(row)?;
-        table.push(row, number);
+        table.append(row, number)?;
     }
     Ok(())
 }

@@ -209,6 +209,19 @@ impl Links {
         self.suppliers.row(consumer).contains(&supplier)
     }
 
+    /// Whether a link of these two leaves the order as it is, as far as that is seen without a walk.
+    pub fn keeps_order(&self, supplier: u32, consumer: u32) -> bool
+        ensures { OnTrue result (order_by self.now.parents
+            (record { supplier = supplier; consumer = consumer; active = true } ∷ self.now.links)
+            ≡ order_by self.now.parents self.now.links) }
+    {
+        self.stays_by(Link {
+            supplier,
+            consumer,
+            active: true,
+        })
+    }
+
     /// Whether a supplier is the consumer or hangs below it, by children and all links. It takes no
     /// memory (`drivers/base/core.c`, `device_is_dependent`).
     pub fn is_dependent(&self, consumer: u32, supplier: u32) -> bool
@@ -258,7 +271,8 @@ impl Links {
         ensures { IfOk result (Finds (length self.now.parents)
             (hanging self.now.parents self.now.links) consumer supplier) }
     {
-        walk(*self.order.allocator(), &self.hanging, consumer, supplier)
+        let alloc = *self.order.allocator();
+        walk(alloc, &self.hanging, &self.order, consumer, supplier)
     }
 
     // Whether a link leaves the order as it is: the newest one has moved this consumer to its end, and the
@@ -285,7 +299,9 @@ impl Links {
         }
         match self.find(link.supplier, link.consumer)? {
             Found::Reached(path) => Err(LinkFault::Cycle(DevList::of_vec(path))),
-            Found::Passed(below, marks) => Ok(Some(self.moved_last(link, &below, &marks)?)),
+            Found::Passed(devices, start, marks) => {
+                Ok(Some(self.moved_last(link, &devices[start..], &marks)?))
+            }
         }
     }
 

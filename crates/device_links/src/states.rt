@@ -15,18 +15,16 @@ pub(crate) fn set_state(links: &mut Vec<Link>, supplier: u32, consumer: u32, to:
     ensures { links.new.items ≡ map (with_state supplier consumer to) links.old.items }
 {
     for link in links.iter_mut() {
-        *link = with_state(*link, supplier, consumer, to);
+        set_one(link, supplier, consumer, to);
     }
 }
 
-// The link, with that state where it is between these two.
-fn with_state(link: Link, supplier: u32, consumer: u32, to: bool) -> Link
-    ensures { result ≡ with_state supplier consumer to link }
+// Sets the state of a link where it is between these two. The others are only read.
+fn set_one(link: &mut Link, supplier: u32, consumer: u32, to: bool)
+    ensures { link.new ≡ with_state supplier consumer to link.old }
 {
     if link.supplier == supplier && link.consumer == consumer {
-        Link { active: to, ..link }
-    } else {
-        link
+        link.active = to;
     }
 }
 
@@ -35,7 +33,7 @@ fn is_shown_below(parents: &[Option<u32>], link: Link, device: u32) -> bool
     requires { link.consumer < length parents.now }
     ensures { result ≡ is_shown_below parents.now link device }
 {
-    link.active && link.supplier == device && !is_parent(parents[link.consumer as usize], device)
+    link.supplier == device && link.active && !is_parent(parents[link.consumer as usize], device)
 }
 
 // Whether a link shows its supplier above that device.
@@ -43,7 +41,7 @@ fn is_shown_above(parents: &[Option<u32>], link: Link, device: u32) -> bool
     requires { device < length parents.now }
     ensures { result ≡ is_shown_above parents.now link device }
 {
-    link.active && link.consumer == device && !is_parent(parents[device as usize], link.supplier)
+    link.consumer == device && link.active && !is_parent(parents[device as usize], link.supplier)
 }
 
 /// Makes the row of what is seen below a device anew, in its places.

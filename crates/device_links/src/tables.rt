@@ -2,7 +2,7 @@
 
 ghost use Rattle.std.specs.Prelude.{◌≡◌, ◌<◌, ◌≤◌, ◌+◌, ◌^◌, ◌++◌, not, false, true, ℕ, List, IfOk, IfSome, OnOk, length, filter, map, option_to_list, slice_index_or, slice_set};
 ghost use Rattle.std.specs.List.{range_with_len};
-ghost use Rattle.sleep_model.specs.Order.{EachAfterParent, children_from, is_parent};
+ghost use Rattle.sleep_model.specs.Order.{EachAfterParent, children_from, is_among, is_parent};
 ghost use Rattle.device_rows.specs.Table.{hung, row_at};
 ghost use Rattle.device_links.specs.Kept.{IsTableOf};
 ghost use Rattle.device_links.specs.Passes.{is_left_out};
@@ -18,8 +18,7 @@ pub(crate) fn hang(table: &mut Rows, row: Option<u32>, number: u32) -> Result<()
     ensures { OnOk result (table.new.rows ≡ hung table.old.rows row number) }
 {
     if let Some(row) = row {
-        table.make_room(row)?;
-        table.push(row, number);
+        table.append(row, number)?;
     }
     Ok(())
 }
@@ -86,14 +85,16 @@ pub(crate) fn moved_last(
     marks: &[bool],
     below: &[u32],
 ) -> Result<Vec<u32>, Mem>
+    requires { (d : ℕ) → is_among order.now d ≡ true → d < length marks.now }
     ensures { IfOk result (λ v. v.items
         ≡ filter (λ d. not (slice_index_or marks.now d false)) order.now ++ below.now) }
 {
-    let mut moved: Vec<u32> = order
-        .iter()
-        .copied()
-        .filter(|device| !is_marked(marks, *device))
-        .collect(alloc)?;
+    let mut moved = Vec::with_capacity(alloc, order.len())?;
+    for device in order {
+        if !marks[*device as usize] {
+            moved.push_reserved(*device);
+        }
+    }
     moved.extend_from_slice(below)?;
     Ok(moved)
 }

@@ -1,10 +1,10 @@
 //! A walk over all that hangs below a device.
 
-ghost use Rattle.std.specs.Prelude.{◌≡◌, ◌<◌, ◌∷◌, [], IfOk, length};
+ghost use Rattle.std.specs.Prelude.{◌≡◌, ◌<◌, ◌∷◌, ◌++◌, [], IfOk, length, map};
 ghost use Rattle.device_rows.specs.Table.{row_at};
-ghost use Rattle.device_links.specs.Walks.{IsWalkable, Finds, on_path};
+ghost use Rattle.device_links.specs.Walks.{IsWalkable, Finds};
 
-use device_rows::{Rows, Stack};
+use device_rows::Rows;
 use sleep_base::Mem;
 use std::alloc::Global;
 
@@ -20,61 +20,88 @@ pub(crate) struct Frame {
 pub(crate) enum Found {
     /// The device that was sought, by this path, which begins with the first and ends with it.
     Reached(Vec<u32>),
-    /// All devices below, the first too, each once: last places in order, and a mark for each.
-    Passed(Vec<u32>, Vec<bool>),
+    /// All devices below, the first too, each once, which this list has from that place on: last
+    /// places in order, and a mark for each.
+    Passed(Vec<u32>, usize, Vec<bool>),
 }
 
-// The path over these devices, the last step the given one.
-fn path_to(alloc: Global, mut frames: Stack<Frame>, last: u32) -> Result<Vec<u32>, Mem>
-    ensures { IfOk result (λ path. path.items ≡ on_path frames (last ∷ [])) }
+// Where a walk stands at a device that it has just entered.
+fn frame_at(table: &Rows, device: u32) -> Frame
+    requires { device < length table.now.rows }
+    ensures { result ≡ record { device = device; left = length (row_at table.now device) } }
 {
-    let mut path = Stack::new(alloc);
-    path.push(last)?;
-    while let Some(frame) = frames.pop() {
+    Frame {
+        device,
+        left: table.row_within(device).len(),
+    }
+}
+
+// The path over these devices, the first of them first, the last step the given one.
+fn path_to(alloc: Global, frames: &[Frame], last: u32) -> Result<Vec<u32>, Mem>
+    ensures { IfOk result (λ path. path.items ≡ map (λ (f : Frame). f.device) frames.now ++ last ∷ []) }
+{
+    let mut path = Vec::new(alloc);
+    for frame in frames {
         path.push(frame.device)?;
     }
-    Ok(path.into_vec())
+    path.push(last)?;
+    Ok(path)
 }
 
 /// Walks from a device to all that hangs below it by this table, or until it meets the target.
 /// It visits those right below a device from the last to the first, and none twice, so that the
-/// devices come to lie in the order of their last places.
-pub(crate) fn walk(alloc: Global, table: &Rows, from: u32, target: u32) -> Result<Found, Mem>
+/// devices come to lie in the order of their last places. They take the last places of a copy of the
+/// order, which has a place for each.
+///
+/// A device is marked where the walk enters it. One that has a mark is never met on the way down to
+/// itself, as none hangs below itself, so its walk is over.
+#[inline(never)]
+pub(crate) fn walk(
+    alloc: Global,
+    table: &Rows,
+    order: &[u32],
+    from: u32,
+    target: u32,
+) -> Result<Found, Mem>
+    requires sized { length order.now ≡ length table.now.rows }
     requires within { from < length table.now.rows }
     requires walkable { IsWalkable (length table.now.rows) (row_at table.now) }
     ensures { IfOk result (Finds (length table.now.rows) (row_at table.now) from target) }
 {
-    let mut frames = Stack::new(alloc);
     if from == target {
-        return Ok(Found::Reached(path_to(alloc, frames, from)?));
+        return Ok(Found::Reached(path_to(alloc, &[], from)?));
     }
-    let mut marks = vec![in alloc; false; table.len()]?;
-    let mut out = Stack::new(alloc);
-    frames.push(Frame {
-        device: from,
-        left: table.row(from).len(),
-    })?;
-    while let Some(top) = frames.pop() {
+    let count = table.len();
+    let mut marks = vec![in alloc; false; count]?;
+    let mut above = Vec::with_capacity(alloc, count)?;
+    let mut out = Vec::from_slice(alloc, order)?;
+    let mut start = count;
+    marks[from as usize] = true;
+    let mut here = Some(frame_at(table, from));
+    while let Some(top) = here {
         if top.left == 0 {
-            marks[top.device as usize] = true;
-            out.push(top.device)?;
+            start -= 1;
+            out[start] = top.device;
+            here = above.pop();
             continue;
         }
         let left = top.left - 1;
-        let next = table.row(top.device)[left];
-        frames.push(Frame {
+        let next = table.row_within(top.device)[left];
+        let rest = Frame {
             device: top.device,
             left,
-        })?;
+        };
         if next == target {
-            return Ok(Found::Reached(path_to(alloc, frames, next)?));
+            above.push_reserved(rest);
+            return Ok(Found::Reached(path_to(alloc, &above, next)?));
         }
-        if !marks[next as usize] {
-            frames.push(Frame {
-                device: next,
-                left: table.row(next).len(),
-            })?;
+        if marks[next as usize] {
+            here = Some(rest);
+            continue;
         }
+        marks[next as usize] = true;
+        above.push_reserved(rest);
+        here = Some(frame_at(table, next));
     }
-    Ok(Found::Passed(out.into_vec(), marks))
+    Ok(Found::Passed(out, start, marks))
 }

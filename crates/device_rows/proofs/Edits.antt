@@ -1,5 +1,5 @@
 -- What one element's change does to what is seen of each element.
-use Rattle.std.proofs.Common.{◌≡◌, ◌<◌, ◌≤◌, ◌+◌, ◌∙◌, ℕ, zero, suc, List, [], ◌∷◌, length, map, get_or, set, refl, sym, ap, subst, arith}
+use Rattle.std.proofs.Common.{◌≡◌, ◌<◌, ◌≤◌, ◌+◌, ◌∙◌, ℕ, zero, suc, Result, Ok, Err, OnErr, List, [], ◌∷◌, length, map, get_or, set, refl, sym, ap, subst, arith}
 use Rattle.std.proofs.lemmas.List.{map-set, set-get_or, get_or-map, get_or-set_same, length-map}
 
 module _ {A B : Type 0} (f : A → B) (xs : List A) (i : ℕ) (x y : A) (within : i < length xs) (at : x ≡ get_or xs i x) where
@@ -47,3 +47,8 @@ above_zero (x ∷ xs) (suc i) h = omega (arith, above_zero xs i h)
 
 pub within_seen : {A B : Type 0} (f : A → B) (xs : List A) (ys : List B) (i : ℕ) → map f xs ≡ ys → i < length ys → i < length xs
 within_seen f xs ys i e h = let n : length xs ≡ length ys = sym (length-map xs f) ∙ ap length e in omega arith
+
+-- what holds in any case holds where there is an error
+pub on_err : {A B P : Type 0} (r : Result A B) → P → OnErr r P
+on_err (Ok a) p = tt
+on_err (Err b) p = p

@@ -64,6 +64,14 @@ impl Rows {
         }
     }
 
+    /// The numbers of a row that there is, the oldest first.
+    pub fn row_within(&self, device: u32) -> &[u32]
+        requires { device < length self.now.rows }
+        ensures { result.now ≡ row_at self.now device }
+    {
+        self.rows[device as usize].as_slice()
+    }
+
     /// Puts an empty row at the end. `Mem` if there is no memory for it; all is then as before.
     pub fn add_row(&mut self) -> Result<(), Mem>
         ensures ok { OnOk result (self.new.rows ≡ self.old.rows ++ [] ∷ []) }
@@ -130,10 +138,20 @@ impl Rows {
         ensures places { (d : ℕ) → places_at self.old d ≤ places_at self.new d }
     {
         let row = &mut self.rows[device as usize];
-        match row.push(number) {
-            Ok(()) => (),
-            Err(_) => unreachable!(),
-        }
+        row.push_reserved(number);
+    }
+
+    /// Puts a number at the end of a row. `Mem` if there is no memory for it; all is then as before.
+    pub fn append(&mut self, device: u32, number: u32) -> Result<(), Mem>
+        requires { device < length self.old.rows }
+        ensures ok { OnOk result (self.new.rows ≡
+            slice_set self.old.rows device (row_at self.old device ++ number ∷ [])) }
+        ensures places { (d : ℕ) → places_at self.old d ≤ places_at self.new d }
+        ensures err { OnErr result (self.new.rows ≡ self.old.rows) }
+    {
+        let row = &mut self.rows[device as usize];
+        row.push(number)?;
+        Ok(())
     }
 }
 
@@ -141,8 +159,8 @@ fn row_of(alloc: Global, number: Option<u32>) -> Result<Vec<u32>, Mem>
     ensures { IfOk result (λ v. v.items ≡ option_to_list number) }
 {
     let mut row = Vec::new(alloc);
-    if let Some(number) = number {
-        row.push(number)?;
+    if let Some(only) = number {
+        row.push(only)?;
     }
     Ok(row)
 }

@@ -1,4 +1,4 @@
-use Rattle.std.proofs.Common.{◌≡◌, ◌∙◌, sym, ap, take, get_or, length}
+use Rattle.std.proofs.Common.{◌∙◌, sym, ap, take, get_or}
 use Rattle.std.proofs.lemmas.List.{take_more}
 use Rattle.device_rows.specs.Table.{row_at}
 use Rattle.device_links.specs.Spread.{spread, spread_by}

@@ -1,4 +1,4 @@
-use Rattle.std.proofs.Common.{◌≡◌, ◌∙◌, sym, ap, take, set, true, get_or, length}
+use Rattle.std.proofs.Common.{◌∙◌, sym, ap, take, set, true, get_or}
 use Rattle.std.proofs.lemmas.List.{take_more}
 use Rattle.device_links.specs.Spread.{marked}
 use Rattle.device_links.proofs.Spreading.{marked_more}

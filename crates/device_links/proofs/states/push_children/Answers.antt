@@ -1,4 +1,4 @@
-use Rattle.std.proofs.Common.{◌≡◌, ◌<◌, ◌≤◌, ◌∙◌, ◌++◌, ◌∷◌, [], None, true, length, take, get_or, sym, ap, subst, cond, arith}
+use Rattle.std.proofs.Common.{◌≡◌, ◌≤◌, ◌∙◌, ◌++◌, ◌∷◌, [], None, true, length, take, get_or, sym, ap, subst, cond, arith}
 use Rattle.sleep_model.specs.Order.{children_from, is_parent}
 use Rattle.device_rows.specs.Table.{places_at}
 use Rattle.device_links.proofs.InPlace.{IsRefilled, has_room, refilled_row, refilled_more, refilled_as}

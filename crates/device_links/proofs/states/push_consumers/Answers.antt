@@ -1,4 +1,4 @@
-use Rattle.std.proofs.Common.{◌≡◌, ◌<◌, ◌≤◌, ◌∙◌, ◌++◌, ◌∷◌, [], true, length, take, reverse, get_or, sym, ap, subst, cond, arith}
+use Rattle.std.proofs.Common.{◌≡◌, ◌≤◌, ◌∙◌, ◌++◌, ◌∷◌, [], true, length, take, reverse, get_or, sym, ap, subst, cond, arith}
 use Rattle.std.proofs.lemmas.List.{get_or_default}
 use Rattle.sleep_model.specs.Order.{hanging}
 use Rattle.device_rows.specs.Table.{places_at}

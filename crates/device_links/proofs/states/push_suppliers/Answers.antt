@@ -1,4 +1,4 @@
-use Rattle.std.proofs.Common.{◌≡◌, ◌<◌, ◌≤◌, ◌∙◌, ◌++◌, ◌∷◌, [], true, length, take, reverse, get_or, sym, ap, subst, cond, arith}
+use Rattle.std.proofs.Common.{◌≡◌, ◌≤◌, ◌∙◌, ◌++◌, ◌∷◌, [], true, length, take, reverse, get_or, sym, ap, subst, cond, arith}
 use Rattle.std.proofs.lemmas.List.{get_or_default}
 use Rattle.sleep_model.specs.Order.{holding}
 use Rattle.device_rows.specs.Table.{places_at}
@@ -6,7 +6,7 @@ use Rattle.device_links.specs.Kept.{near_above, is_shown_above}
 use Rattle.device_links.proofs.InPlace.{IsRefilled, has_room, refill_first, refilled_row, refilled_more, refilled_as}
 use Rattle.device_links.proofs.Near.{above_none}
 use Rattle.device_links.proofs.Refilling.{next_above, above_room}
-use Rattle.device_links.proofs.Tabulating.{no_link, consumer_at}
+use Rattle.device_links.proofs.Tabulating.{no_link}
 use Rattle.device_links.proofs.states.push_suppliers.Goals.{then-is_shown_above, else-is_shown_above}
 use Rattle.device_links.proofs.states.push_suppliers.Goals as goal
 

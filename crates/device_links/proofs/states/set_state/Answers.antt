@@ -1,6 +1,6 @@
-use Rattle.std.proofs.Common.{◌≡◌, ◌<◌, ◌≤◌, ◌∙◌, ◌++◌, length, map, take, drop, get_or, refl, sym, ap, arith}
+use Rattle.std.proofs.Common.{◌≡◌, ◌<◌, ◌≤◌, ◌∙◌, length, drop, get_or, refl, sym, ap, arith}
 use Rattle.sleep_model.specs.Order.{with_state}
-use Rattle.device_links.proofs.InPlace.{mapped_up_to, mapped_all, mapped_length, mapped_more, take_whole}
+use Rattle.device_links.proofs.InPlace.{mapped_all, mapped_length, mapped_more, take_whole}
 use Rattle.device_links.proofs.Tabulating.{no_link}
 use Rattle.device_links.proofs.states.set_state.Goals as goal
 
@@ -11,7 +11,7 @@ loop-link-preserved c =
     let i = c.loop-link.link-index in
     let f = with_state c.args.supplier c.args.consumer c.args.to in
     let within : i < length xs = let a = c.loop-link-test.true in let b = ap length c.deref_mut-link-items.ensures.value in omega (arith, a, b) in
-    mapped_more f xs now i (get_or now i no_link) c.with_state.result no_link within c.loop-link.invariant refl c.with_state.ensures
+    mapped_more f xs now i (get_or now i no_link) c.set_one.new.link no_link within c.loop-link.invariant refl c.set_one.ensures
 
 pub returns : goal.returns
 returns c =

@@ -1,12 +1,12 @@
-use Rattle.std.proofs.Common.{◌≡◌, ◌<◌, ◌+◌, ◌-◌, ◌++◌, ◌∙◌, ℕ, Bool, List, length, take, reverse, filter, get_or, not, false, true, ap, sym, subst, arith}
+use Rattle.std.proofs.Common.{◌≡◌, ◌<◌, ◌+◌, ◌-◌, ◌++◌, ◌∙◌, ℕ, Bool, [], List, length, take, reverse, filter, get_or, not, false, ap, sym, subst, arith}
 use Rattle.std.specs.List.{range_with_len}
 use Rattle.std.proofs.lemmas.List.{get_or_default}
-use Rattle.sleep_model.specs.declared.machine.Link.{Link}
-use Rattle.sleep_model.specs.Order.{hanging}
+use Rattle.sleep_model.specs.Order.{hanging, is_among}
+use Rattle.sleep_model.proofs.Acyclic.{order_within}
 use Rattle.device_links.specs.Passes.{Goes}
 use Rattle.device_links.proofs.Acyclicly.{links_acyclic}
 use Rattle.device_links.proofs.Tabulating.{consumer_at, no_link}
-use Rattle.device_links.proofs.Ordered.{AreWalked, not_walked, walked_next, walked_links, walked_order, goes_as, visits_as, within_as}
+use Rattle.device_links.proofs.Ordered.{AreWalked, walked_next, walked_links, walked_order, goes_as, visits_as, within_as}
 use Rattle.device_links.proofs.visits.order_of.Goals as goal
 
 pub visit-requires-clause-registered : goal.visit-requires-clause-registered
@@ -45,6 +45,13 @@ loop-i-preserved c =
     let v = subst (λ (b : Bool). Goes (length ps) (hanging ps (reverse ls)) l.consumer c.loop-i.visits c.visit.new.visits b) c.if-not-branch.false g in
     let w = subst (λ (k : ℕ). AreWalked ps (reverse ls) (reverse (take k ls)) c.loop-i.visits) back c.loop-i.invariant in
     walked_next ps c.requires.after ls i l within (get_or_default ls i no_link l within) c.loop-i.visits c.visit.new.visits w v
+
+pub moved_last-requires : goal.moved_last-requires
+moved_last-requires c =
+    let ps = c.args.parents.now in
+    let v = c.loop-i.visits in
+    let marks : length c.deref-2.result.now ≡ length ps = ap length c.deref-2.ensures.value ∙ c.loop-i.invariant.visits.left.count in
+    λ d m. subst (λ (n : ℕ). d < n) (sym marks) (order_within ps c.requires.after [] tt d (ap (λ o. is_among o d) (sym (c.deref.ensures.value ∙ c.in_ok-devices.ensures)) ∙ m))
 
 pub returns : goal.returns
 returns c =

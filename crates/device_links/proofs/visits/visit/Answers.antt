@@ -1,8 +1,8 @@
-use Rattle.std.proofs.Common.{◌≡◌, ◌<◌, ◌+◌, ◌-◌, ◌∷◌, ◌++◌, ◌∙◌, [], length, get_or, set, ap, sym, subst, arith, false, true}
+use Rattle.std.proofs.Common.{◌≡◌, ◌<◌, ◌+◌, ◌-◌, ◌∷◌, ◌++◌, ◌∙◌, [], length, get_or, ap, sym, subst, arith, false}
 use Rattle.device_rows.specs.Table.{row_at}
-use Rattle.sleep_model.specs.Order.{is_among, moved}
-use Rattle.device_links.proofs.Walking.{next_at}
-use Rattle.device_links.proofs.Visiting.{Visiting, devices, unseen, open_weight, begins, closes, passes, enters, meets, hangs, ended, stays, fewer_entered, mark_is}
+use Rattle.sleep_model.specs.Order.{moved}
+use Rattle.device_links.proofs.Walking.{next_at, devices}
+use Rattle.device_links.proofs.Visiting.{Visiting, unseen, open_weight, begins, closes, passes, enters, meets, hangs, ended, stays, fewer_entered, mark_is}
 use Rattle.device_links.proofs.visits.visit.Goals as goal
 
 pub returns-then-is_marked : goal.returns-then-is_marked

@@ -1,136 +1,302 @@
-use Rattle.std.proofs.Common.{◌≡◌, ◌<◌, ◌+◌, ◌-◌, ◌∷◌, ◌∙◌, [], length, get_or, ap, sym, subst, arith, false, true, replicate}
+use Rattle.std.proofs.Common.{◌≡◌, ◌<◌, ◌+◌, ◌-◌, ◌∷◌, ◌++◌, ◌∙◌, [], List, length, map, drop, reverse, option_to_list, get_or, set, ap, sym, subst, arith, false, true, replicate}
 use Rattle.std.proofs.lemmas.Bool.{ne_eqb}
+use Rattle.std.proofs.lemmas.List.{reverse-append, drop-set, drop_all, get_or-replicate, length-replicate, length-set}
 use Rattle.device_rows.specs.Table.{row_at}
+use Rattle.device_links.specs.declared.walk.Frame.{Frame}
 use Rattle.device_links.specs.Walks.{on_path}
-use Rattle.sleep_model.specs.Order.{is_among, moved}
+use Rattle.sleep_model.specs.Order.{moved}
 use Rattle.sleep_model.specs.Links.{IsPath}
-use Rattle.device_links.proofs.Walking.{Walking, weight, begins, passes, enters, fewer, fewer_passed, hangs, ended, no_path, linked_path, next_at, mark_at}
+use Rattle.device_links.proofs.Walking.{Walking, weight, spare, spare_less, spare_all, devices, way, way_popped, over_popped, none_left, path_over, begins, closes, passes, enters, was_walked, fewer, fewer_passed, hangs, ended, no_path, linked_path, next_at, mark_at}
 use Rattle.device_links.proofs.walk.walk.Goals as goal
 
-pub loop-top-init : goal.loop-top-init
-loop-top-init c =
+pub loop-here-init : goal.loop-here-init
+loop-here-init c =
     let t = c.args.table.now in
     let n = length t.rows in
-    let frames : c.push.new.self ≡ record { device = c.args.from; left = length (row_at t c.args.from) } ∷ [] =
-    c.in_ok-push.ensures.ok ∙ ap (λ xs. record { device = c.args.from; left = length xs } ∷ c.new-frames.result) c.row.ensures ∙ ap (λ fs. record { device = c.args.from; left = length (row_at t c.args.from) } ∷ fs) c.new-frames.ensures in
-    let marks : c.in_ok-marks.marks.items ≡ replicate n false = c.in_ok-marks.ensures.items_if_clones_equal (λ y e. e) ∙ ap (λ k. replicate k false) c.len.ensures in
-    let w = begins (row_at t) (moved n (row_at t)) c.requires.walkable.descends n c.args.from c.args.target c.requires.within (ne_eqb c.args.from c.args.target c.if-from-target.false) in
-    subst (λ fs. Walking (row_at t) (moved n (row_at t)) n c.args.from c.args.target fs c.new-out.result c.in_ok-marks.marks.items) (sym frames)
-    (subst (λ ms. Walking (row_at t) (moved n (row_at t)) n c.args.from c.args.target (record { device = c.args.from; left = length (row_at t c.args.from) } ∷ []) c.new-out.result ms) (sym marks)
-    (subst (λ o. Walking (row_at t) (moved n (row_at t)) n c.args.from c.args.target (record { device = c.args.from; left = length (row_at t c.args.from) } ∷ []) o (replicate n false)) (sym c.new-out.ensures) w))
+    let hang = row_at t in
+    let fix = c.requires.walkable.descends in
+    let from = c.args.from in
+    let target = c.args.target in
+    let first : Frame = record { device = from; left = length (hang from) } in
+    let marks : c.in_ok-marks.marks.items ≡ replicate n false = c.in_ok-marks.ensures.items_if_clones_equal (λ y e. e) ∙ ap (λ k. replicate k false) c.len-count.ensures in
+    let w = begins hang (moved n hang) fix n from target c.requires.within (ne_eqb from target c.if-from-target.false) in
+    let s = spare_less (replicate n false) from (omega (arith, length-replicate n false, c.requires.within)) (get_or-replicate n from false false c.requires.within) in
+    let m = ap (λ ms. spare (set ms from true)) marks in
+    let all = spare_all n in
+    let a = ap length c.in_ok-above.ensures.items in
+    let long : length c.in_ok-out.out.items ≡ c.len-count.result = ap length c.in_ok-out.ensures.items ∙ (c.requires.sized ∙ sym c.len-count.ensures) in
+    let none : drop c.len-count.result c.in_ok-out.out.items ≡ [] = drop_all c.len-count.result c.in_ok-out.out.items (omega (arith, long)) in (
+      subst (λ f. Walking hang (moved n hang) n from target (f ∷ reverse c.in_ok-above.above.items) (drop c.len-count.result c.in_ok-out.out.items) (set c.in_ok-marks.marks.items from true)) (sym c.frame_at.ensures)
+          (subst (λ fs. Walking hang (moved n hang) n from target (first ∷ reverse fs) (drop c.len-count.result c.in_ok-out.out.items) (set c.in_ok-marks.marks.items from true)) (sym c.in_ok-above.ensures.items)
+          (subst (λ ds. Walking hang (moved n hang) n from target (first ∷ []) ds (set c.in_ok-marks.marks.items from true)) (sym none)
+          (subst (λ ms. Walking hang (moved n hang) n from target (first ∷ []) [] (set ms from true)) (sym marks) w))),
+      tt,
+      omega (arith, s, m, all, a, c.len-count.ensures),
+      omega (arith, c.len-count.ensures, c.in_ok-above.ensures.capacity),
+      omega (arith, c.len-count.ensures),
+      long ∙ c.len-count.ensures,
+    )
+
+pub loop-here-preserved-then-top-eq0 : goal.loop-here-preserved-then-top-eq0
+loop-here-preserved-then-top-eq0 c =
+    let t = c.args.table.now in
+    let n = length t.rows in
+    let hang = row_at t in
+    let fix = c.requires.walkable.descends in
+    let from = c.args.from in
+    let target = c.args.target in
+    let top = c.in-Some.top in
+    let above = c.loop-here.above.items in
+    let out = c.loop-here.out.items in
+    let start = c.loop-here.start in
+    let marks = c.loop-here.marks.items in
+    let w = subst (λ h. Walking hang (moved n hang) n from target (way h above) (drop start out) marks) c.in-Some.is c.loop-here.invariant.0 in
+    let after = c.pop-here.new.self.items in
+    let at = start - 1 in
+    let one = ap (λ h. length (option_to_list h)) c.in-Some.is in
+    let back : start ≡ at + 1 = omega (arith, one, c.loop-here.invariant.2) in
+    let within : at < length out = omega (arith, back, c.loop-here.invariant.4, c.loop-here.invariant.5) in
+    let e = closes hang (moved n hang) fix n from target top (reverse above) (drop start out) marks w c.if-top-eq0.true in
+    let ds : drop at (set out at top.device) ≡ top.device ∷ drop start out = drop-set out at top.device within ∙ ap (λ k. top.device ∷ drop k out) (sym back) in (
+      subst (λ fs. Walking hang (moved n hang) n from target fs (drop at (set out at top.device)) marks) (sym (way_popped c.pop-here.result above after c.pop-here.ensures.items))
+          (subst (λ o. Walking hang (moved n hang) n from target (reverse above) o marks) (sym ds) e),
+      over_popped c.pop-here.result after _ _ _ c.pop-here.ensures.cases c.pop-here.new.self.ok.0,
+      omega (arith, one, c.loop-here.invariant.2, c.pop-here.ensures.len, c.pop-here.new.self.ok.0, c.loop-here.above.ok.0),
+      omega (arith, c.pop-here.ensures.capacity),
+      omega (arith, c.loop-here.invariant.4),
+      length-set out at top.device ∙ c.loop-here.invariant.5,
+    )
 
 pub returns-then-next-target : goal.returns-then-next-target
 returns-then-next-target c =
     let t = c.args.table.now in
     let n = length t.rows in
+    let hang = row_at t in
+    let fix = c.requires.walkable.descends in
+    let from = c.args.from in
+    let target = c.args.target in
     let top = c.in-Some.top in
+    let above = c.loop-here.above.items in
+    let out = c.loop-here.out.items in
+    let start = c.loop-here.start in
+    let marks = c.loop-here.marks.items in
+    let w = subst (λ h. Walking hang (moved n hang) n from target (way h above) (drop start out) marks) c.in-Some.is c.loop-here.invariant.0 in
     let k = top.left - 1 in
-    let next = get_or c.row-in-Some.result.now k 0 in
-    let w = subst (λ fs. Walking (row_at t) (moved n (row_at t)) n c.args.from c.args.target fs c.loop-top.out c.loop-top.marks.items) c.in-Some.ensures c.loop-top.invariant in
+    let next = get_or c.row_within.result.now k 0 in
     let last : top.left ≡ k + 1 = omega arith in
-    let l : k < length (row_at t top.device) = omega (arith, w.sized.1) in
-    let at = next_at c.row-in-Some.result.now (row_at t top.device) k c.row-in-Some.ensures l in
-    let h = hangs (row_at t) (moved n (row_at t)) c.requires.walkable.descends n c.args.from c.args.target top c.pop.new.self c.loop-top.out c.loop-top.marks.items w k next last at in
-    let p = linked_path (row_at t) c.args.from (record { device = top.device; left = k } ∷ c.pop.new.self) next [] c.args.target (h, w.chain) c.if-next-target.true in
-    subst (λ xs. IsPath (row_at t) xs c.args.from c.args.target) (sym (c.in_ok-path_to-2.ensures ∙ ap (λ fs. on_path fs (next ∷ [])) c.in_ok-push-3.ensures.ok)) p
+    let l : k < length (hang top.device) = omega (arith, w.sized.1) in
+    let at = next_at c.row_within.result.now (hang top.device) k c.row_within.ensures l in
+    let h = hangs hang (moved n hang) fix n from target top (reverse above) (drop start out) marks w k next last at in
+    let rest : Frame = record { device = top.device; left = k } in
+    let fs = c.push_reserved.new.self.items in
+    let p = linked_path hang from (rest ∷ reverse above) next [] target (h, w.chain) c.if-next-target.true in
+    let is = c.in_ok-path_to-2.ensures
+    ∙ (ap (λ (gs : List Frame). map (λ (f : Frame). f.device) gs ++ next ∷ []) c.deref.ensures.value
+    ∙ (path_over fs (next ∷ [])
+    ∙ ap (λ gs. on_path gs (next ∷ [])) (ap reverse c.push_reserved.ensures.items ∙ reverse-append above (rest ∷ [])))) in
+    subst (λ xs. IsPath hang xs from target) (sym is) p
 
 pub index-requires : goal.index-requires
 index-requires c =
     let t = c.args.table.now in
     let n = length t.rows in
+    let hang = row_at t in
+    let fix = c.requires.walkable.descends in
+    let from = c.args.from in
+    let target = c.args.target in
     let top = c.in-Some.top in
+    let above = c.loop-here.above.items in
+    let out = c.loop-here.out.items in
+    let start = c.loop-here.start in
+    let marks = c.loop-here.marks.items in
+    let w = subst (λ h. Walking hang (moved n hang) n from target (way h above) (drop start out) marks) c.in-Some.is c.loop-here.invariant.0 in
     let k = top.left - 1 in
-    let next = get_or c.row-in-Some.result.now k 0 in
-    let w = subst (λ fs. Walking (row_at t) (moved n (row_at t)) n c.args.from c.args.target fs c.loop-top.out c.loop-top.marks.items) c.in-Some.ensures c.loop-top.invariant in
+    let next = get_or c.row_within.result.now k 0 in
     let last : top.left ≡ k + 1 = omega arith in
-    let l : k < length (row_at t top.device) = omega (arith, w.sized.1) in
-    let at = next_at c.row-in-Some.result.now (row_at t top.device) k c.row-in-Some.ensures l in
-    let h = hangs (row_at t) (moved n (row_at t)) c.requires.walkable.descends n c.args.from c.args.target top c.pop.new.self c.loop-top.out c.loop-top.marks.items w k next last at in
+    let l : k < length (hang top.device) = omega (arith, w.sized.1) in
+    let at = next_at c.row_within.result.now (hang top.device) k c.row_within.ensures l in
+    let h = hangs hang (moved n hang) fix n from target top (reverse above) (drop start out) marks w k next last at in
     let within : next < n = c.requires.walkable.within top.device next h in
     omega (arith, within, w.noted.count)
 
-pub loop-top-preserved-in_ok-push-4 : goal.loop-top-preserved-in_ok-push-4
-loop-top-preserved-in_ok-push-4 c =
+pub loop-here-smaller-then-index : goal.loop-here-smaller-then-index
+loop-here-smaller-then-index c =
     let t = c.args.table.now in
     let n = length t.rows in
+    let hang = row_at t in
+    let fix = c.requires.walkable.descends in
+    let from = c.args.from in
+    let target = c.args.target in
     let top = c.in-Some.top in
+    let above = c.loop-here.above.items in
+    let out = c.loop-here.out.items in
+    let start = c.loop-here.start in
+    let marks = c.loop-here.marks.items in
+    let w = subst (λ h. Walking hang (moved n hang) n from target (way h above) (drop start out) marks) c.in-Some.is c.loop-here.invariant.0 in
     let k = top.left - 1 in
-    let next = get_or c.row-in-Some.result.now k 0 in
-    let out = c.loop-top.out in
-    let marks = c.loop-top.marks.items in
-    let w = subst (λ fs. Walking (row_at t) (moved n (row_at t)) n c.args.from c.args.target fs out marks) c.in-Some.ensures c.loop-top.invariant in
+    let next = get_or c.row_within.result.now k 0 in
     let last : top.left ≡ k + 1 = omega arith in
-    let l : k < length (row_at t top.device) = omega (arith, w.sized.1) in
-    let at = next_at c.row-in-Some.result.now (row_at t top.device) k c.row-in-Some.ensures l in
-    let h = hangs (row_at t) (moved n (row_at t)) c.requires.walkable.descends n c.args.from c.args.target top c.pop.new.self out marks w k next last at in
+    let l : k < length (hang top.device) = omega (arith, w.sized.1) in
+    let at = next_at c.row_within.result.now (hang top.device) k c.row_within.ensures l in
+    let h = hangs hang (moved n hang) fix n from target top (reverse above) (drop start out) marks w k next last at in
+    let less = fewer_passed hang (moved n hang) fix n from target top (reverse above) (drop start out) marks w k next last at in
+    let b = ap (λ h. weight hang (moved n hang) (way h above)) c.in-Some.is in
+    omega (arith, less, b)
+
+pub loop-here-preserved-then-index : goal.loop-here-preserved-then-index
+loop-here-preserved-then-index c =
+    let t = c.args.table.now in
+    let n = length t.rows in
+    let hang = row_at t in
+    let fix = c.requires.walkable.descends in
+    let from = c.args.from in
+    let target = c.args.target in
+    let top = c.in-Some.top in
+    let above = c.loop-here.above.items in
+    let out = c.loop-here.out.items in
+    let start = c.loop-here.start in
+    let marks = c.loop-here.marks.items in
+    let w = subst (λ h. Walking hang (moved n hang) n from target (way h above) (drop start out) marks) c.in-Some.is c.loop-here.invariant.0 in
+    let k = top.left - 1 in
+    let next = get_or c.row_within.result.now k 0 in
+    let last : top.left ≡ k + 1 = omega arith in
+    let l : k < length (hang top.device) = omega (arith, w.sized.1) in
+    let at = next_at c.row_within.result.now (hang top.device) k c.row_within.ensures l in
+    let h = hangs hang (moved n hang) fix n from target top (reverse above) (drop start out) marks w k next last at in
     let within : next < n = c.requires.walkable.within top.device next h in
-    let fresh : is_among out next ≡ false = mark_at marks n out w.noted next within c.index.result.now c.index.ensures ∙ c.if-not-index.true in
-    let e = enters (row_at t) (moved n (row_at t)) c.requires.walkable.descends n c.args.from c.args.target top c.pop.new.self out marks w k next last at within (ne_eqb next c.args.target c.if-next-target.false) fresh in
-    let frames : c.push-then-not-index.new.self ≡ record { device = next; left = length (row_at t next) } ∷ record { device = top.device; left = k } ∷ c.pop.new.self =
-    c.in_ok-push-4.ensures.ok ∙ ap (λ xs. record { device = next; left = length xs } ∷ c.push-in-Some.new.self) c.row-then-not-index.ensures ∙ ap (λ fs. record { device = next; left = length (row_at t next) } ∷ fs) c.in_ok-push-3.ensures.ok in
-    subst (λ fs. Walking (row_at t) (moved n (row_at t)) n c.args.from c.args.target fs out marks) (sym frames) e
+    let m = mark_at marks n (top.device ∷ devices (reverse above) ++ drop start out) w.noted next within c.index.result.now c.index.ensures ∙ c.if-index.true in
+    let old = was_walked hang (moved n hang) fix n from target top (reverse above) (drop start out) marks w k next last at m in
+    let one = ap (λ h. length (option_to_list h)) c.in-Some.is in (
+      passes hang (moved n hang) fix n from target top (reverse above) (drop start out) marks w k next last at old,
+      tt,
+      omega (arith, one, c.loop-here.invariant.2),
+      c.loop-here.invariant.3,
+      c.loop-here.invariant.4,
+      c.loop-here.invariant.5,
+    )
 
-pub loop-top-preserved : goal.loop-top-preserved
-loop-top-preserved c =
+pub index_mut-requires-in-Some : goal.index_mut-requires-in-Some
+index_mut-requires-in-Some c =
     let t = c.args.table.now in
     let n = length t.rows in
+    let hang = row_at t in
+    let fix = c.requires.walkable.descends in
+    let from = c.args.from in
+    let target = c.args.target in
     let top = c.in-Some.top in
+    let above = c.loop-here.above.items in
+    let out = c.loop-here.out.items in
+    let start = c.loop-here.start in
+    let marks = c.loop-here.marks.items in
+    let w = subst (λ h. Walking hang (moved n hang) n from target (way h above) (drop start out) marks) c.in-Some.is c.loop-here.invariant.0 in
     let k = top.left - 1 in
-    let next = get_or c.row-in-Some.result.now k 0 in
-    let out = c.loop-top.out in
-    let marks = c.loop-top.marks.items in
-    let w = subst (λ fs. Walking (row_at t) (moved n (row_at t)) n c.args.from c.args.target fs out marks) c.in-Some.ensures c.loop-top.invariant in
+    let next = get_or c.row_within.result.now k 0 in
     let last : top.left ≡ k + 1 = omega arith in
-    let l : k < length (row_at t top.device) = omega (arith, w.sized.1) in
-    let at = next_at c.row-in-Some.result.now (row_at t top.device) k c.row-in-Some.ensures l in
-    let h = hangs (row_at t) (moved n (row_at t)) c.requires.walkable.descends n c.args.from c.args.target top c.pop.new.self out marks w k next last at in
+    let l : k < length (hang top.device) = omega (arith, w.sized.1) in
+    let at = next_at c.row_within.result.now (hang top.device) k c.row_within.ensures l in
+    let h = hangs hang (moved n hang) fix n from target top (reverse above) (drop start out) marks w k next last at in
     let within : next < n = c.requires.walkable.within top.device next h in
-    let old : is_among out next ≡ true = mark_at marks n out w.noted next within c.index.result.now c.index.ensures ∙ c.if-not-index.false in
-    let e = passes (row_at t) (moved n (row_at t)) c.requires.walkable.descends n c.args.from c.args.target top c.pop.new.self out marks w k next last at old in
-    subst (λ fs. Walking (row_at t) (moved n (row_at t)) n c.args.from c.args.target fs out marks) (sym c.in_ok-push-3.ensures.ok) e
+    omega (arith, within, w.noted.count)
 
-pub loop-top-smaller-in_ok-push-4 : goal.loop-top-smaller-in_ok-push-4
-loop-top-smaller-in_ok-push-4 c =
+pub frame_at-requires-in-Some : goal.frame_at-requires-in-Some
+frame_at-requires-in-Some c =
     let t = c.args.table.now in
     let n = length t.rows in
+    let hang = row_at t in
+    let fix = c.requires.walkable.descends in
+    let from = c.args.from in
+    let target = c.args.target in
     let top = c.in-Some.top in
+    let above = c.loop-here.above.items in
+    let out = c.loop-here.out.items in
+    let start = c.loop-here.start in
+    let marks = c.loop-here.marks.items in
+    let w = subst (λ h. Walking hang (moved n hang) n from target (way h above) (drop start out) marks) c.in-Some.is c.loop-here.invariant.0 in
     let k = top.left - 1 in
-    let next = get_or c.row-in-Some.result.now k 0 in
-    let out = c.loop-top.out in
-    let marks = c.loop-top.marks.items in
-    let w = subst (λ fs. Walking (row_at t) (moved n (row_at t)) n c.args.from c.args.target fs out marks) c.in-Some.ensures c.loop-top.invariant in
+    let next = get_or c.row_within.result.now k 0 in
     let last : top.left ≡ k + 1 = omega arith in
-    let l : k < length (row_at t top.device) = omega (arith, w.sized.1) in
-    let at = next_at c.row-in-Some.result.now (row_at t top.device) k c.row-in-Some.ensures l in
-    let frames : c.push-then-not-index.new.self ≡ record { device = next; left = length (row_at t next) } ∷ record { device = top.device; left = k } ∷ c.pop.new.self =
-    c.in_ok-push-4.ensures.ok ∙ ap (λ xs. record { device = next; left = length xs } ∷ c.push-in-Some.new.self) c.row-then-not-index.ensures ∙ ap (λ fs. record { device = next; left = length (row_at t next) } ∷ fs) c.in_ok-push-3.ensures.ok in
-    let less = fewer (row_at t) (moved n (row_at t)) c.requires.walkable.descends n c.args.from c.args.target top c.pop.new.self out marks w k next last at in
-    let a = ap (weight (row_at t) (moved n (row_at t))) frames in
-    let b = ap (weight (row_at t) (moved n (row_at t))) c.in-Some.ensures in
-    omega (arith, less, a, b)
+    let l : k < length (hang top.device) = omega (arith, w.sized.1) in
+    let at = next_at c.row_within.result.now (hang top.device) k c.row_within.ensures l in
+    let h = hangs hang (moved n hang) fix n from target top (reverse above) (drop start out) marks w k next last at in
+    let within : next < n = c.requires.walkable.within top.device next h in
+    within
 
-pub loop-top-smaller : goal.loop-top-smaller
-loop-top-smaller c =
+pub loop-here-smaller : goal.loop-here-smaller
+loop-here-smaller c =
     let t = c.args.table.now in
     let n = length t.rows in
+    let hang = row_at t in
+    let fix = c.requires.walkable.descends in
+    let from = c.args.from in
+    let target = c.args.target in
     let top = c.in-Some.top in
+    let above = c.loop-here.above.items in
+    let out = c.loop-here.out.items in
+    let start = c.loop-here.start in
+    let marks = c.loop-here.marks.items in
+    let w = subst (λ h. Walking hang (moved n hang) n from target (way h above) (drop start out) marks) c.in-Some.is c.loop-here.invariant.0 in
     let k = top.left - 1 in
-    let next = get_or c.row-in-Some.result.now k 0 in
-    let out = c.loop-top.out in
-    let marks = c.loop-top.marks.items in
-    let w = subst (λ fs. Walking (row_at t) (moved n (row_at t)) n c.args.from c.args.target fs out marks) c.in-Some.ensures c.loop-top.invariant in
+    let next = get_or c.row_within.result.now k 0 in
     let last : top.left ≡ k + 1 = omega arith in
-    let l : k < length (row_at t top.device) = omega (arith, w.sized.1) in
-    let at = next_at c.row-in-Some.result.now (row_at t top.device) k c.row-in-Some.ensures l in
-    let less = fewer_passed (row_at t) (moved n (row_at t)) c.requires.walkable.descends n c.args.from c.args.target top c.pop.new.self out marks w k next last at in
-    let a = ap (weight (row_at t) (moved n (row_at t))) c.in_ok-push-3.ensures.ok in
-    let b = ap (weight (row_at t) (moved n (row_at t))) c.in-Some.ensures in
-    omega (arith, less, a, b)
+    let l : k < length (hang top.device) = omega (arith, w.sized.1) in
+    let at = next_at c.row_within.result.now (hang top.device) k c.row_within.ensures l in
+    let h = hangs hang (moved n hang) fix n from target top (reverse above) (drop start out) marks w k next last at in
+    let rest : Frame = record { device = top.device; left = k } in
+    let less = fewer hang (moved n hang) fix n from target top (reverse above) (drop start out) marks w k next last at in
+    let a = ap (λ f. weight hang (moved n hang) (f ∷ reverse c.push_reserved-in-Some.new.self.items)) c.frame_at-in-Some.ensures in
+    let g = ap (λ fs. weight hang (moved n hang) (record { device = next; left = length (hang next) } ∷ fs)) (ap reverse c.push_reserved-in-Some.ensures.items ∙ reverse-append above (rest ∷ [])) in
+    let b = ap (λ h. weight hang (moved n hang) (way h above)) c.in-Some.is in
+    omega (arith, less, a, g, b)
+
+pub loop-here-preserved : goal.loop-here-preserved
+loop-here-preserved c =
+    let t = c.args.table.now in
+    let n = length t.rows in
+    let hang = row_at t in
+    let fix = c.requires.walkable.descends in
+    let from = c.args.from in
+    let target = c.args.target in
+    let top = c.in-Some.top in
+    let above = c.loop-here.above.items in
+    let out = c.loop-here.out.items in
+    let start = c.loop-here.start in
+    let marks = c.loop-here.marks.items in
+    let w = subst (λ h. Walking hang (moved n hang) n from target (way h above) (drop start out) marks) c.in-Some.is c.loop-here.invariant.0 in
+    let k = top.left - 1 in
+    let next = get_or c.row_within.result.now k 0 in
+    let last : top.left ≡ k + 1 = omega arith in
+    let l : k < length (hang top.device) = omega (arith, w.sized.1) in
+    let at = next_at c.row_within.result.now (hang top.device) k c.row_within.ensures l in
+    let h = hangs hang (moved n hang) fix n from target top (reverse above) (drop start out) marks w k next last at in
+    let within : next < n = c.requires.walkable.within top.device next h in
+    let rest : Frame = record { device = top.device; left = k } in
+    let fs = c.push_reserved-in-Some.new.self.items in
+    let m = mark_at marks n (top.device ∷ devices (reverse above) ++ drop start out) w.noted next within c.index.result.now c.index.ensures ∙ c.if-index.false in
+    let e = enters hang (moved n hang) fix n from target top (reverse above) (drop start out) marks w k next last at within (ne_eqb next target c.if-next-target.false) m in
+    let s = spare_less marks next (omega (arith, within, w.noted.count)) (w.noted.marked next within ∙ m) in
+    let one = ap (λ h. length (option_to_list h)) c.in-Some.is in
+    let p : reverse fs ≡ rest ∷ reverse above = ap reverse c.push_reserved-in-Some.ensures.items ∙ reverse-append above (rest ∷ []) in (
+      subst (λ f. Walking hang (moved n hang) n from target (f ∷ reverse fs) (drop start out) (set marks next true)) (sym c.frame_at-in-Some.ensures)
+          (subst (λ gs. Walking hang (moved n hang) n from target (record { device = next; left = length (hang next) } ∷ gs) (drop start out) (set marks next true)) (sym p) e),
+      tt,
+      omega (arith, one, s, c.loop-here.invariant.2, c.push_reserved-in-Some.ensures.len, c.push_reserved-in-Some.new.self.ok.0, c.loop-here.above.ok.0),
+      omega (arith, c.push_reserved-in-Some.ensures.capacity),
+      c.loop-here.invariant.4,
+      c.loop-here.invariant.5,
+    )
 
 pub returns : goal.returns
 returns c =
     let t = c.args.table.now in
     let n = length t.rows in
-    let w = subst (λ fs. Walking (row_at t) (moved n (row_at t)) n c.args.from c.args.target fs c.loop-top.out c.loop-top.marks.items) c.in_default.ensures.0 c.loop-top.invariant in
-    let e = ended (row_at t) (moved n (row_at t)) c.requires.walkable.descends n c.args.from c.args.target c.loop-top.out c.loop-top.marks.items w in
-    record { places = c.into_vec.ensures ∙ e.0; missing = e.1; no_path = no_path (row_at t) (moved n (row_at t)) c.requires.walkable.descends c.args.from c.args.target e.1; marked = e.2 }
+    let hang = row_at t in
+    let fix = c.requires.walkable.descends in
+    let from = c.args.from in
+    let target = c.args.target in
+    let out = c.loop-here.out.items in
+    let start = c.loop-here.start in
+    let marks = c.loop-here.marks.items in
+    let none = none_left c.loop-here.here c.loop-here.above.items c.in_default.not-Some c.loop-here.invariant.1 in
+    let w = subst (λ fs. Walking hang (moved n hang) n from target fs (drop start out) marks) none c.loop-here.invariant.0 in
+    let e = ended hang (moved n hang) fix n from target (drop start out) marks w in
+    (omega (arith, c.loop-here.invariant.4, c.loop-here.invariant.5), record { places = e.0; missing = e.1; no_path = no_path hang (moved n hang) fix from target e.1; marked = e.2 })

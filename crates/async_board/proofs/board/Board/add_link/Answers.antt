@@ -1,12 +1,24 @@
 -- The links have changed right below the supplier alone.
-use Rattle.std.proofs.Common.{◌∙◌, sym, ap}
-use Rattle.sleep_model.specs.Order.{is_among}
+use Rattle.std.proofs.Common.{◌≡◌, ◌∙◌, List, ℕ, sym, ap, subst}
+use Rattle.std.specs.Bool.{OnTrue}
+use Rattle.sleep_model.specs.Order.{is_among, order_by}
 use Rattle.sleep_model.proofs.Ordering.{order_by_different}
+use Rattle.device_links.specs.Linked.{Linked}
+use Rattle.async_board.specs.Walks.{IsPlaced, order_of}
+use Rattle.async_board.proofs.Places.{placed_still}
 use Rattle.async_board.proofs.Rested.{rested_added}
 use Rattle.async_board.proofs.board.Board.add_link.Goals as goal
 
-pub fill_places-requires-clause-different : goal.fill_places-requires-clause-different
-fill_places-requires-clause-different c = rw c.order.ensures.order (order_by_different c.add.new.self.parents c.add.new.self.links)
+pub refill_places-requires-clause-different : goal.refill_places-requires-clause-different
+refill_places-requires-clause-different c = rw c.order.ensures.order (order_by_different c.add.new.self.parents c.add.new.self.links)
+
+pub refill_places-requires-clause-kept : goal.refill_places-requires-clause-kept
+refill_places-requires-clause-kept c =
+    let old = c.self.inside.layout in
+    let new = c.order.ensures.order ∙ ap (λ (l : Linked). order_by l.parents l.links) c.in-Ok.ensures.ok in
+    let stays = c.keeps_order-keeps_order.result in
+    subst (λ (places : List ℕ). OnTrue stays (IsPlaced c.order.result.now places)) (sym c.deref_mut.ensures.value)
+    (placed_still stays c.order.result.now (order_of old) old.places.items (subst (λ (o : List ℕ). OnTrue stays (o ≡ order_of old)) (sym new) c.keeps_order-keeps_order.ensures) c.self.invariant.laid)
 
 pub begin_anew-requires-clause-suspend : goal.begin_anew-requires-clause-suspend
 begin_anew-requires-clause-suspend c =

@@ -1,5 +1,4 @@
-use Rattle.std.proofs.Common.{◌≡◌, ◌<◌, ◌∙◌, length, sym, subst, reverse, arith, true, false}
-use Rattle.sleep_model.specs.Links.{is_linked}
+use Rattle.std.proofs.Common.{◌<◌, ◌∙◌, length, sym, subst, arith}
 use Rattle.device_links.specs.Linked.{Linked}
 use Rattle.device_links.specs.Adds.{Stand}
 use Rattle.device_links.proofs.links.Links.absence.Goals as goal

@@ -1,10 +1,16 @@
-use Rattle.std.proofs.Common.{ℕ, List, length, subst, reverse, IfOk}
+use Rattle.std.proofs.Common.{◌∙◌, ℕ, List, length, ap, sym, subst, reverse, IfOk}
 use Rattle.sleep_model.specs.Order.{hanging}
+use Rattle.sleep_model.proofs.Acyclic.{order_length}
 use Rattle.device_rows.specs.Table.{row_at}
 use Rattle.device_links.specs.Linked.{Linked}
 use Rattle.device_links.specs.Walks.{Finds}
 use Rattle.device_links.proofs.Kept.{walkable, hang_is}
 use Rattle.device_links.proofs.links.Links.find.Goals as goal
+
+pub walk-requires-clause-sized : goal.walk-requires-clause-sized
+walk-requires-clause-sized c =
+    let k = c.self.invariant.kept in
+    ap length (c.deref.ensures.value ∙ k.ordered) ∙ (order_length c.self.inside.parents.items k.after (reverse c.self.inside.links.items) k.linked ∙ sym k.all_hanging.count)
 
 pub walk-requires-clause-walkable : goal.walk-requires-clause-walkable
 walk-requires-clause-walkable c =

@@ -1,4 +1,4 @@
-use Rattle.std.proofs.Common.{◌≡◌, ◌∙◌, length, sym, subst, reverse}
+use Rattle.std.proofs.Common.{◌≡◌, ◌∙◌, length, subst, reverse}
 use Rattle.sleep_model.specs.Links.{is_linked}
 use Rattle.device_links.specs.Linked.{Linked}
 use Rattle.device_links.proofs.RowsMade.{linked_is}

@@ -1,10 +1,21 @@
-use Rattle.std.proofs.Common.{◌∙◌, length, reverse, sym, subst, IfOk}
-use Rattle.sleep_model.specs.Order.{hanging}
+use Rattle.std.proofs.Common.{◌<◌, ◌∙◌, ℕ, length, reverse, ap, sym, subst, IfOk}
+use Rattle.sleep_model.specs.Order.{hanging, is_among}
+use Rattle.sleep_model.proofs.Acyclic.{order_within}
 use Rattle.device_links.specs.Linked.{Linked}
 use Rattle.device_links.specs.Moves.{Leaves}
 use Rattle.device_links.specs.Walks.{IsWalked}
 use Rattle.device_links.proofs.Moving.{leaves_moved}
 use Rattle.device_links.proofs.links.Links.moved_last.Goals as goal
+
+pub moved_last-requires : goal.moved_last-requires
+moved_last-requires c =
+    let old = c.self.inside in
+    let k = c.self.invariant.kept in
+    let ps = old.parents.items in
+    let ls = reverse old.links.items in
+    let marks = c.args.marks.now in
+    let w = subst (λ (v : Linked). IsWalked (length v.parents) (hanging v.parents v.links) c.args.link.consumer c.args.link.supplier c.args.below.now marks) (sym c.self.view_is) c.requires in
+    λ d m. subst (λ (n : ℕ). d < n) (sym w.marked.count) (order_within ps k.after ls k.linked d (ap (λ o. is_among o d) (sym (c.deref.ensures.value ∙ k.ordered)) ∙ m))
 
 pub returns : goal.returns
 returns c =

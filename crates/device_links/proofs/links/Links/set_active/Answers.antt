@@ -1,4 +1,4 @@
-use Rattle.std.proofs.Common.{◌≡◌, ◌<◌, ◌≤◌, ◌∙◌, List, length, map, reverse, true, ℕ, Option, set, sym, ap, subst}
+use Rattle.std.proofs.Common.{◌≡◌, ◌≤◌, ◌∙◌, List, length, map, reverse, true, ℕ, Option, set, sym, ap, subst}
 use Rattle.sleep_model.specs.declared.machine.Link.{Link}
 use Rattle.sleep_model.specs.Links.{is_linked}
 use Rattle.sleep_model.specs.Order.{with_state, hanging, holding}

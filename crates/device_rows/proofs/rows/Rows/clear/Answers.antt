@@ -1,4 +1,4 @@
-use Rattle.std.proofs.Common.{◌≡◌, ◌<◌, ◌≤◌, ◌+◌, ◌-◌, ◌∙◌, length, map, get_or, set, [], sym, ap, arith, subst, ℕ}
+use Rattle.std.proofs.Common.{◌<◌, ◌≤◌, ◌+◌, ◌-◌, ◌∙◌, length, map, get_or, set, [], ap, arith, subst, ℕ}
 use Rattle.std.specs.Vec.{vec_capacity, vec_len}
 use Rattle.device_rows.specs.Table.{Table, places_at}
 use Rattle.device_rows.proofs.Edits.{seen_set, within_seen, places_more}
