@@ -16,6 +16,7 @@ pub mod Fitted
 pub mod FittedFile
 pub mod Marked
 pub mod Worded
+pub mod Sounding
 pub mod Machined
 pub mod Sheets
 pub mod Rising
