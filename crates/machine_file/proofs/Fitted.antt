@@ -54,7 +54,7 @@ absent_fits names k d h n = record { below = by (get k d) (absent names k d h n)
     by None e = tt
     by (Some v) e = cc
 
-absent_word : (test : List ℕ → Bool) (names : List (List ℕ)) (k : List ℕ) (d : Data) → has_only names d ≡ true → list_any (bytes_eq k) names ≡ false → is_none_or test (word_at k d) ≡ true
+pub absent_word : (test : List ℕ → Bool) (names : List (List ℕ)) (k : List ℕ) (d : Data) → has_only names d ≡ true → list_any (bytes_eq k) names ≡ false → is_none_or test (word_at k d) ≡ true
 absent_word test names k d h n = by (get k d) (absent names k d h n)
   where
     by : (o : Option Data) → o ≡ None → is_none_or test (option_and_then as_str o) ≡ true

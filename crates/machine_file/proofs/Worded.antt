@@ -47,6 +47,10 @@ find_same : {X : Type 0} (p q : X → Bool) (xs : List X) → ((x : X) → p x �
 find_same p q [] e = refl
 find_same p q (x ∷ xs) e = ap (λ b. cond b (Some x) (find p xs)) (e x) ∙ ap (cond (q x) (Some x)) (find_same p q xs e)
 
+-- an operation of the table has its row's word
+pub word_there : (w : Word) (o : Data) → Some (op_row w) ≡ row_of o → has_text (codes "op") (op_row w).word o ≡ true
+word_there w o e = passes (λ r. has_text (codes "op") r.word o) (op_row w) operations (sym e)
+
 module _ (names : Known) (o : Data) where
   found : (w : Word) → unwrap_or (option_map (λ q. q.1) (find (λ q. bytes_eq (op_row w).word q.0) (spelled_op names o))) Read ≡ op_spelled w names o
   found word.Read = refl
@@ -68,7 +72,7 @@ module _ (names : Known) (o : Data) where
   -- an operation of the table is what its word spells
   pub by_word : (w : Word) → Some (op_row w) ≡ row_of o → op_spelled w names o ≡ whole_op names o
   by_word w e =
-      let there : has_text (codes "op") (op_row w).word o ≡ true = passes (λ r. has_text (codes "op") r.word o) (op_row w) operations (sym e) in
+      let there = word_there w o e in
       sym (ap (λ (q : Option (List ℕ × Op)). unwrap_or (option_map (λ x. x.1) q) Read)
       (find_same (λ q. has_text (codes "op") q.0 o) (λ q. bytes_eq (op_row w).word q.0) (spelled_op names o) (λ q. member_apart (get (codes "op") o) (op_row w).word q.0 there))
       ∙ found w)

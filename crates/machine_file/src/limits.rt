@@ -4,21 +4,32 @@ ghost use Rattle.std.specs.Prelude.{◌≡◌, ◌+◌, ◌*◌, ◌||◌, lengt
 ghost use Rattle.std.specs.List.{list_any};
 ghost use Rattle.serde_json.specs.View.{view};
 ghost use Rattle.machine_file.specs.Members.{list_in, number_at, has_text};
-ghost use Rattle.machine_file.specs.Limits.{too_many, too_much, times_of, repeat_of, times_if, script_steps, all_steps, is_state_step, has_autosleep, autosleep_attempts, most_attempts, are_links_few, are_steps_few, are_reports_few};
-ghost use Rattle.machine_file.specs.Counted.{counts};
+ghost use Rattle.machine_file.specs.Limits.{too_many, too_much, times_of, repeat_of, has_autosleep, autosleep_attempts, most_attempts, are_links_few, are_steps_few, are_reports_few};
+ghost use Rattle.machine_file.specs.Counted.{with_operation, steps_of_script, repeated_steps, steps_of_actor, joined_steps, steps_of_actors};
 ghost use Rattle.machine_file.specs.Broken.{member_name, place_of};
 
-use crate::look::{has_text, list_in, number_at};
+use crate::look::{is_same, list_in, number_at, text_at};
 use crate::place::{Member, Place, items};
 use serde_json::Value;
 
-/// Which operations are counted.
+/// How many steps there are, each number of at most the cap.
 #[derive(Clone, Copy)]
-pub(crate) enum Counted {
-    All,
-    State,
-    Link,
+pub(crate) struct Steps {
+    all: u64,
+    /// The writes to the state.
+    state: u64,
+    /// Those that add a link.
+    link: u64,
+    /// Whether there is a write to autosleep.
+    autosleep: bool,
 }
+
+const NO_STEPS: Steps = Steps {
+    all: 0,
+    state: 0,
+    link: 0,
+    autosleep: false,
+};
 
 // More than any limit: what is larger counts as this much.
 const CAP: u64 = 1_000_000;
@@ -84,78 +95,89 @@ fn repeat_of(actor: &Value) -> u64
     number_at(actor, "repeat").unwrap_or(1)
 }
 
-fn times_if(counted: Counted, operation: &Value) -> u64
-    ensures { result ≡ times_if (counts counted) (view operation.now) }
+// What counts where it is asked for, and 0 else.
+fn times_if(counted: bool, times: u64) -> u64
+    ensures { result ≡ (if counted then times else 0) }
 {
-    match counted {
-        Counted::All => times_of(operation),
-        Counted::State if has_text(operation, "op", "state") => times_of(operation),
-        Counted::Link if has_text(operation, "op", "link") => times_of(operation),
-        Counted::State | Counted::Link => 0,
+    if counted { times } else { 0 }
+}
+
+// The steps and an operation of that word more, which is made so often.
+fn with_operation(steps: Steps, word: &str, times: u64) -> Steps
+    ensures { result ≡ with_operation steps word.now times }
+{
+    let state = times_if(is_same(word, "state"), times);
+    let link = times_if(is_same(word, "link"), times);
+    Steps {
+        all: capped_sum(steps.all, times),
+        state: capped_sum(steps.state, state),
+        link: capped_sum(steps.link, link),
+        autosleep: steps.autosleep || is_same(word, "autosleep"),
     }
 }
 
-// How many steps an actor's script has that are counted, of at most the cap.
-fn script_steps(counted: Counted, actor: &Value) -> u64
-    ensures { result ≡ min (script_steps (counts counted) (view actor.now)) 1000000 }
+// The steps of a script that is made once.
+fn script_steps(script: &[Value]) -> Steps
+    ensures { result ≡ steps_of_script (map view script.now) }
 {
-    capped_product(
-        repeat_of(actor),
-        counted_in(counted, list_in(actor, "script")),
-    )
-}
-
-fn counted_in(counted: Counted, script: &[Value]) -> u64
-    ensures { result ≡ min (sum_by (times_if (counts counted)) (map view script.now)) 1000000 }
-{
-    let mut sum = 0;
+    let mut steps = NO_STEPS;
     for operation in script {
-        sum = capped_sum(sum, times_if(counted, operation));
+        steps = with_operation(steps, text_at(operation, "op"), times_of(operation));
     }
-    sum
+    steps
 }
 
-// How many steps all scripts have that are counted, of at most the cap.
-fn all_steps(counted: Counted, actors: &[Value]) -> u64
-    ensures { result ≡ min (sum_by (script_steps (counts counted)) (map view actors.now)) 1000000 }
+// The steps that are made so often.
+fn repeated(repeat: u64, steps: Steps) -> Steps
+    ensures { result ≡ repeated_steps repeat steps }
 {
-    let mut sum = 0;
+    Steps {
+        all: capped_product(repeat, steps.all),
+        state: capped_product(repeat, steps.state),
+        link: capped_product(repeat, steps.link),
+        autosleep: steps.autosleep,
+    }
+}
+
+fn actor_steps(actor: &Value) -> Steps
+    ensures { result ≡ steps_of_actor (view actor.now) }
+{
+    repeated(repeat_of(actor), script_steps(list_in(actor, "script")))
+}
+
+fn joined(one: Steps, other: Steps) -> Steps
+    ensures { result ≡ joined_steps one other }
+{
+    Steps {
+        all: capped_sum(one.all, other.all),
+        state: capped_sum(one.state, other.state),
+        link: capped_sum(one.link, other.link),
+        autosleep: one.autosleep || other.autosleep,
+    }
+}
+
+// The steps of all scripts.
+fn all_steps(actors: &[Value]) -> Steps
+    ensures { result ≡ steps_of_actors (map view actors.now) }
+{
+    let mut sum = NO_STEPS;
     for actor in actors {
-        sum = capped_sum(sum, script_steps(counted, actor));
+        sum = joined(sum, actor_steps(actor));
     }
     sum
 }
 
-fn has_autosleep(actor: &Value) -> bool
-    ensures { result ≡ has_autosleep (view actor.now) }
+fn steps_of_file(tree: &Value) -> Steps
+    ensures { result ≡ steps_of_actors (list_in (codes "actors") (view tree.now)) }
 {
-    has_any_autosleep(list_in(actor, "script"))
+    all_steps(items(tree, Member::Actors))
 }
 
-fn has_any_autosleep(script: &[Value]) -> bool
-    ensures { result ≡ list_any (λ v. has_text (codes "op") (codes "autosleep") (view v)) script.now }
-{
-    script
-        .iter()
-        .any(|operation| has_text(operation, "op", "autosleep"))
-}
-
-fn any_has_autosleep(actors: &[Value]) -> bool
-    ensures { result ≡ list_any (λ v. has_autosleep (view v)) actors.now }
-{
-    actors.iter().any(|actor| has_autosleep(actor))
-}
-
-fn is_automatic(tree: &Value) -> bool
-    ensures { result ≡ list_any has_autosleep (list_in (codes "actors") (view tree.now)) }
-{
-    any_has_autosleep(items(tree, Member::Actors))
-}
-
-fn autosleep_attempts(tree: &Value) -> u64
+fn autosleep_attempts(tree: &Value, automatic: bool) -> u64
+    requires { automatic ≡ list_any has_autosleep (list_in (codes "actors") (view tree.now)) }
     ensures { result ≡ autosleep_attempts (view tree.now) }
 {
-    if is_automatic(tree) {
+    if automatic {
         number_at(tree, "auto_cycles").unwrap_or(16)
     } else {
         0
@@ -163,28 +185,28 @@ fn autosleep_attempts(tree: &Value) -> u64
 }
 
 // How many attempts may be begun, of at most the cap.
-fn most_attempts(tree: &Value) -> u64
+fn most_attempts(tree: &Value, steps: Steps) -> u64
+    requires { steps ≡ steps_of_actors (list_in (codes "actors") (view tree.now)) }
     ensures { result ≡ min (most_attempts (view tree.now)) 1000000 }
 {
-    let written = all_steps(Counted::State, items(tree, Member::Actors));
-    capped_sum(written, autosleep_attempts(tree))
+    capped_sum(steps.state, autosleep_attempts(tree, steps.autosleep))
 }
 
-fn are_links_few(tree: &Value) -> bool
+fn are_links_few(tree: &Value, steps: Steps) -> bool
+    requires { steps ≡ steps_of_actors (list_in (codes "actors") (view tree.now)) }
     ensures { result ≡ are_links_few (view tree.now) }
 {
     let written = items(tree, Member::Links).len() as u64;
-    let added = all_steps(Counted::Link, items(tree, Member::Actors));
-    capped_sum(written, added) <= 4000
+    capped_sum(written, steps.link) <= 4000
 }
 
 fn are_steps_few(tree: &Value) -> bool
     ensures { result ≡ are_steps_few (view tree.now) }
 {
-    let steps = all_steps(Counted::All, items(tree, Member::Actors));
+    let steps = steps_of_file(tree);
     let devices = items(tree, Member::Devices).len() as u64;
-    let turns = capped_product(most_attempts(tree), devices.saturating_add(50));
-    steps <= 200_000 && turns <= 100_000 && are_links_few(tree)
+    let turns = capped_product(most_attempts(tree, steps), devices.saturating_add(50));
+    steps.all <= 200_000 && turns <= 100_000 && are_links_few(tree, steps)
 }
 
 fn reports_of(answers: &[Value]) -> u64

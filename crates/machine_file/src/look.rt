@@ -56,11 +56,19 @@ fn is_near(value: &Value, most: u64) -> bool
     }
 }
 
+// Whether a text is this one. Lengths are told apart first, since most texts differ in theirs.
+#[inline]
+pub(crate) fn is_same(text: &str, other: &str) -> bool
+    ensures { result ≡ bytes_eq text.now other.now }
+{
+    text.len() == other.len() && text == other
+}
+
 pub(crate) fn is_text(value: &Value, text: &str) -> bool
     ensures { result ≡ is_text text.now (view value.now) }
 {
     match value.as_str() {
-        Some(found) => found == text,
+        Some(found) => is_same(found, text),
         None => false,
     }
 }
@@ -83,7 +91,7 @@ pub(crate) fn is_among(text: &str, words: &[&str]) -> bool
 fn is_any(text: &str, words: &[&str]) -> bool
     ensures { result ≡ list_any (λ s. bytes_eq text.now s.now) words.now }
 {
-    words.iter().any(|word| text == *word)
+    words.iter().any(|word| is_same(text, *word))
 }
 
 // ---- what stands at a name

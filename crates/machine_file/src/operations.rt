@@ -1,6 +1,7 @@
 //! The operations of scripts: their form, who may make them, and what they name.
 
 ghost use Rattle.std.specs.Prelude.{◌≡◌, ◌||◌, not, map, position, option_map, codes, ◌∷◌, nat_le, length};
+ghost use Rattle.std.specs.List.{list_all};
 ghost use Rattle.serde_json.specs.View.{view};
 ghost use Rattle.serde_json.specs.Find.{as_str};
 ghost use Rattle.machine_file.specs.Look.{is_some_and, is_none_or, has_only};
@@ -9,14 +10,15 @@ ghost use Rattle.machine_file.specs.Places.{first_not, first_operation, first_op
 ghost use Rattle.machine_file.specs.Names.{is_among_names};
 ghost use Rattle.machine_file.specs.Operations.{is_formed, is_allowed, has_count, has_short_text, is_state_form, has_length, has_mark, is_runtime_form, has_ends_named, is_link_state_form, changes_links, has_source, is_event_form, row_of, fits_row, names_source, names_device, unformed_operation, forbidden_operation, sourceless_operation, deviceless_operation};
 ghost use Rattle.machine_file.specs.OperationRows.{op_row, row_named, operation_test};
+ghost use Rattle.machine_file.specs.SoundOperations.{names_by_word, word_changes_links, is_sound_as, is_sound, is_sound_script, are_operations_sound};
 ghost use Rattle.machine_file.specs.Knows.{Knows, texts};
 ghost use Rattle.machine_file.specs.Broken.{place_of};
 
 use crate::form::{DAY, LINK_STATES, STATUSES};
-use crate::items::must_be_name;
+use crate::items::{is_second, must_be_name};
 use crate::known::{Known, contains};
 use crate::look::{
-    has_only, has_text, is_among, list_in, may_be_truth, may_be_within, must_be_one_of,
+    has_only, has_text, is_among, is_same, list_in, may_be_truth, may_be_within, must_be_one_of,
     must_be_text, must_be_within, text_at, word_at,
 };
 use crate::place::{Member, Place, items};
@@ -56,49 +58,49 @@ pub(crate) enum OperationTest {
 fn word_named(text: &str) -> Option<Word>
     ensures { option_map op_row result ≡ row_named text.now }
 {
-    if text == "read" {
+    if is_same(text, "read") {
         return Some(Word::Read);
     }
-    if text == "save" {
+    if is_same(text, "save") {
         return Some(Word::Save);
     }
-    if text == "state" {
+    if is_same(text, "state") {
         return Some(Word::State);
     }
-    if text == "autosleep" {
+    if is_same(text, "autosleep") {
         return Some(Word::Autosleep);
     }
-    if text == "sleep" {
+    if is_same(text, "sleep") {
         return Some(Word::Sleep);
     }
-    if text == "sleep_d" {
+    if is_same(text, "sleep_d") {
         return Some(Word::SleepD);
     }
-    if text == "freeze_point" {
+    if is_same(text, "freeze_point") {
         return Some(Word::FreezePoint);
     }
-    if text == "post" {
+    if is_same(text, "post") {
         return Some(Word::Post);
     }
-    if text == "wait" {
+    if is_same(text, "wait") {
         return Some(Word::Wait);
     }
-    if text == "runtime" {
+    if is_same(text, "runtime") {
         return Some(Word::Runtime);
     }
-    if text == "link" {
+    if is_same(text, "link") {
         return Some(Word::Link);
     }
-    if text == "link_state" {
+    if is_same(text, "link_state") {
         return Some(Word::LinkState);
     }
-    if text == "awake" {
+    if is_same(text, "awake") {
         return Some(Word::Awake);
     }
-    if text == "relax" {
+    if is_same(text, "relax") {
         return Some(Word::Relax);
     }
-    if text == "event" {
+    if is_same(text, "event") {
         return Some(Word::Event);
     }
     None
@@ -302,4 +304,87 @@ fn first_of_actors<'v>(test: OperationTest, known: &Known<'v>, actors: &'v [Valu
         }
     }
     None
+}
+
+// Whether what the operation of that word names is there. It has no members but those of its word.
+fn names_what_is_there<'v>(word: Word, operation: &'v Value, known: &Known<'v>) -> bool
+    ensures { result ≡ names_by_word word (texts known.now.sources) (texts known.now.devices) (view operation.now) }
+{
+    match word {
+        Word::Awake | Word::Relax | Word::Event => {
+            names_one_of(operation, "source", &known.sources)
+        }
+        Word::Runtime => names_one_of(operation, "device", &known.devices),
+        Word::Link | Word::LinkState => {
+            names_one_of(operation, "supplier", &known.devices)
+                && names_one_of(operation, "consumer", &known.devices)
+        }
+        _ => true,
+    }
+}
+
+fn changes_links(word: Word) -> bool
+    ensures { result ≡ word_changes_links word }
+{
+    matches!(word, Word::Link | Word::LinkState)
+}
+
+// Whether an operation of that word and of an actor of that kind passes all tests.
+fn is_sound_as<'v>(
+    word: Word,
+    second: bool,
+    known: &Known<'v>,
+    kind: &str,
+    operation: &'v Value,
+) -> bool
+    ensures { result ≡ is_sound_as word second known.now kind.now (view operation.now) }
+{
+    (second || !changes_links(word))
+        && is_allowed(kind, word)
+        && is_formed(operation, word)
+        && names_what_is_there(word, operation, known)
+}
+
+// Whether an operation of an actor of that kind passes all tests, in a file of version 2 or of version 1.
+fn is_sound<'v>(second: bool, known: &Known<'v>, kind: &str, operation: &'v Value) -> bool
+    ensures { result ≡ is_sound second known.now kind.now (view operation.now) }
+{
+    match word_of(operation) {
+        Some(word) => is_sound_as(word, second, known, kind, operation),
+        None => false,
+    }
+}
+
+fn are_sound<'v>(second: bool, known: &Known<'v>, kind: &str, script: &'v [Value]) -> bool
+    ensures { result ≡ list_all (λ v. is_sound second known.now kind.now (view v)) script.now }
+{
+    script
+        .iter()
+        .all(|operation| is_sound(second, known, kind, operation))
+}
+
+fn is_sound_script<'v>(second: bool, known: &Known<'v>, actor: &'v Value) -> bool
+    ensures { result ≡ is_sound_script second known.now (view actor.now) }
+{
+    are_sound(
+        second,
+        known,
+        text_at(actor, "kind"),
+        list_in(actor, "script"),
+    )
+}
+
+fn are_sound_scripts<'v>(second: bool, known: &Known<'v>, actors: &'v [Value]) -> bool
+    ensures { result ≡ list_all (λ v. is_sound_script second known.now (view v)) actors.now }
+{
+    actors
+        .iter()
+        .all(|actor| is_sound_script(second, known, actor))
+}
+
+/// Whether all operations of a file pass all tests.
+pub(crate) fn are_operations_sound<'v>(tree: &'v Value, known: &Known<'v>) -> bool
+    ensures { result ≡ are_operations_sound known.now (view tree.now) }
+{
+    are_sound_scripts(is_second(tree), known, items(tree, Member::Actors))
 }

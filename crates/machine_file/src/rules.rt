@@ -20,7 +20,7 @@ use crate::items::{is_second, misspelled_item, unformed_item};
 use crate::known::{Known, repeated_actor, repeated_callback, repeated_device, repeated_source};
 use crate::limits::{too_many, too_much};
 use crate::look::{has_number, has_only};
-use crate::operations::{OperationTest, first_operation};
+use crate::operations::{OperationTest, are_operations_sound, first_operation};
 use crate::pairs::{loose_link, orphan, repeated_link};
 use crate::place::{Member, Place};
 use serde_json::Value;
@@ -166,8 +166,19 @@ fn sourceless<'v>(tree: &'v Value, known: &Known<'v>) -> Option<Place>
     }
 }
 
-/// The first rule of operations that is broken.
+/// The first rule of operations that is broken. Where none of them is, which is told in one pass, only
+/// the sources of reports are left.
 pub(crate) fn operation_broken<'v>(tree: &'v Value, known: &Known<'v>) -> Option<Broken>
+    requires { Knows known.now (view tree.now) }
+    ensures { option_map broken_view result ≡ first_of operation_rules (view tree.now) }
+{
+    if are_operations_sound(tree, known) {
+        return breaks(18, sourceless_report(tree, known));
+    }
+    first_operation_rule(tree, known)
+}
+
+fn first_operation_rule<'v>(tree: &'v Value, known: &Known<'v>) -> Option<Broken>
     requires { Knows known.now (view tree.now) }
     ensures { option_map broken_view result ≡ first_of operation_rules (view tree.now) }
 {
