@@ -106,7 +106,7 @@ module _ (m : Machine) (past : List Entry) where
   task_sleeps now i j k (TaskMade.Steps s _ o go e step) same h =
       subst (λ (n : ℕ). SleepsIf (slice_get m.actors n) (seat_of n) → SleepsIf (slice_get m.actors n) (seat_after (seat_part k) (seat_of n))) same
       (λ own. subst (λ (x : Option Script). SleepsIf x (seat_after (seat_part k) (seat_of i))) (sym go.script)
-          (step_sleeps m past now s (seat_of i) _ o k step e (subst (λ (x : Option Script). SleepsIf x (seat_of i)) go.script own))) h
+      (step_sleeps m past now s (seat_of i) _ o k step e (subst (λ (x : Option Script). SleepsIf x (seat_of i)) go.script own))) h
 
   entry_sleeps : (now : EventNow) (who : Actor) (k : Kind) (j : ℕ) → EntryMade m past now who k → SleepsIf (slice_get m.actors j) (seat_of j) → SleepsIf (slice_get m.actors j) (seat_at (seats_after who (seat_part k) (seats (length m.actors) past)) j)
   entry_sleeps now who k j (ByMaker _ here there _ a e c d) h = by_actor who
