@@ -8,6 +8,7 @@ mod Passing
 mod Propers
 mod Reporting
 mod Seated
+pub mod Stilled
 mod Turning
 mod Walks
 mod Working

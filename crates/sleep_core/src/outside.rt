@@ -1,12 +1,13 @@
 //! What a run asks of the core between turns: jumps of time, calls that are due, and whether all is over.
 
-ghost use Rattle.std.specs.Prelude.{◌≡◌, ◌≤◌, ◌<◌, ◌+◌, ◌-◌, ◌^◌, ◌||◌, nat_lt, length, IfOk, OnErr};
+ghost use Rattle.std.specs.Prelude.{◌≡◌, ◌≤◌, ◌<◌, ◌+◌, ◌-◌, ◌^◌, ◌||◌, nat_lt, length, is_some, IfOk, OnErr};
 ghost use Rattle.sleep_model.specs.Calls.{calls_due, pieces_in};
 ghost use Rattle.sleep_model.specs.Due.{due, is_over};
 ghost use Rattle.sleep_model.specs.Legal.{JournalPart, is_made};
 ghost use Rattle.sleep_model.specs.Links.{first_places};
 ghost use Rattle.sleep_model.specs.Numbers.{time_of};
 ghost use Rattle.sleep_model.specs.Order.{above, below};
+ghost use Rattle.sleep_model.specs.Path.{maker};
 ghost use Rattle.sleep_model.specs.Seats.{seat_at, seats};
 ghost use Rattle.sleep_model.specs.Word.{position};
 ghost use Rattle.sleep_state.specs.Places.{entries};
@@ -15,6 +16,7 @@ ghost use Rattle.sleep_core.specs.Seen.{is_scheduled, is_rescheduled, is_ready_o
 ghost use Rattle.script_plan.specs.Plans.{calls_before};
 ghost use Rattle.sleep_core.specs.Cores.{IsActor, with_entry, next_stamp, jump_entry};
 ghost use Rattle.sleep_core.specs.Histories.{last_stamp};
+ghost use Rattle.sleep_core.specs.Steps.{sleeps_past, is_still};
 
 use crate::state::Core;
 use sleep_base::Mem;
@@ -34,6 +36,16 @@ fn is_rescheduled(stand: Stand) -> bool
     ensures { result ≡ is_rescheduled stand }
 {
     matches!(stand, Stand::Rescheduled)
+}
+
+/// Whether a sleep up to that moment goes on at that time.
+fn sleeps_past(until: Option<u64>, time: u64) -> bool
+    ensures { result ≡ sleeps_past until time }
+{
+    match until {
+        None => false,
+        Some(until) => time < until,
+    }
 }
 
 impl<'m> Core<'m> {
@@ -130,6 +142,21 @@ impl<'m> Core<'m> {
         ensures { result ≡ is_over self.now.machine (entries self.now.past) }
     {
         self.history.tasks().all_exited() && self.history.path().maker().is_none()
+    }
+
+    /// Whether an attempt is open.
+    pub fn is_open(&self) -> bool
+        ensures { result ≡ is_some (maker (entries self.now.past)) }
+    {
+        self.history.path().maker().is_some()
+    }
+
+    /// Whether a script has exited, or sleeps to a moment that has not come.
+    pub fn is_still(&self, script: u32) -> bool
+        ensures { result ≡ is_still (seat_at (seats (length self.now.machine.actors) (entries self.now.past)) script) (time_of (entries self.now.past)) }
+    {
+        let seat = self.history.tasks().seat(script);
+        seat.exited || sleeps_past(seat.until, self.now())
     }
 
     /// The devices that hang right below one: its children, then its consumers, each once.

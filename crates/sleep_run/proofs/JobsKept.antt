@@ -102,7 +102,7 @@ one_actor actor.Time (actor.Timer s) e = absurd (true≢false (sym e))
 
 -- ---- at first
 
-first_len : (m : Machine) (kind : ℕ → Actor) (n : ℕ) → length (first_jobs_of m kind n) ≡ n
+pub first_len : (m : Machine) (kind : ℕ → Actor) (n : ℕ) → length (first_jobs_of m kind n) ≡ n
 first_len m kind zero = refl
 first_len m kind (suc n) = omega (arith, length-append (first_jobs_of m kind n) (first_job m (kind n) ∷ []), first_len m kind n)
 

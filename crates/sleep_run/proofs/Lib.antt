@@ -1,5 +1,7 @@
 pub mod AllEntries
+mod Calm
 pub mod JobsKept
+mod Owing
 pub mod Resting
 pub mod Running
 pub mod SourcesKept

@@ -1,5 +1,5 @@
 -- The jobs of a machine's actors, together.
-use Rattle.std.specs.Prelude.{◌<◌, ℕ, zero, suc, List, [], ◌∷◌, ◌++◌, length, slice_set, slice_index_or}
+use Rattle.std.specs.Prelude.{◌≡◌, ◌<◌, ◌+◌, ℕ, zero, suc, Bool, true, false, nat_lt, List, [], ◌∷◌, ◌++◌, length, slice_set, slice_index_or}
 use Rattle.sleep_model.specs.declared.entry.Actor.{Actor}
 use Rattle.sleep_model.specs.declared.entry.Actor.TheVariants as actor
 use Rattle.sleep_model.specs.declared.machine.Machine.{Machine}
@@ -42,3 +42,27 @@ first_jobs m = record {
   auto = first_job m actor.Auto;
   devices = first_jobs_of m actor.Dev (length m.devices);
 }
+
+-- ---- who has a call to make
+
+-- one, if that is so
+abbrev pub one_if : Bool → ℕ
+one_if true = 1
+one_if false = 0
+
+-- the actor has a call on a source to make before its next entry of the journal
+abbrev pub owes : JobState → Bool
+owes job = nat_lt 0 (length job.pending)
+
+-- how many of these have
+abbrev pub owing_of : List JobState → ℕ
+owing_of [] = 0
+owing_of (job ∷ jobs) = one_if (owes job) + owing_of jobs
+
+-- how many of all have
+abbrev pub owing : JobsState → ℕ
+owing jobs = owing_of jobs.scripts + owing_of jobs.devices + one_if (owes jobs.auto)
+
+-- no actor has one
+abbrev pub OweNone : JobsState → Type 0
+OweNone jobs = (who : Actor) → HasJob jobs who → (job_at jobs who).pending ≡ []

@@ -1,6 +1,7 @@
 pub mod AllEntries
 pub mod Called
 pub mod Firsts
+pub mod JobsFields
 pub mod JobsOf
 pub mod RunFields
 pub mod Runs

@@ -9,7 +9,7 @@ use Rattle.sleep_model.specs.declared.machine.Machine.{Machine}
 use Rattle.sleep_model.specs.declared.word.EventNow.{EventNow}
 use Rattle.sleep_model.specs.declared.word.Stamp.{Stamp}
 use Rattle.sleep_model.specs.Accepted.{IsAccepted}
-use Rattle.sleep_model.specs.Calls.{made}
+use Rattle.sleep_model.specs.Calls.{calls_due, made}
 use Rattle.sleep_model.specs.Laws.{Laws, GuardedSleep}
 use Rattle.sleep_model.specs.Legal.{IsLegal, IsLegalLog, IsFinishedLog, IsStuckLog, IsStuckAfter, is_finished_after, is_idle, waiting}
 use Rattle.sleep_model.specs.Numbers.{numbers}
@@ -93,6 +93,11 @@ AfterTry old new (Err fault) = Fails old.machine fault
 -- nobody can make anything after these entries
 abbrev pub is_resting : Machine → List Entry → Bool
 is_resting m past = is_idle m (journal past) (λ s. history s past) (numbers past)
+
+-- all is calm: no attempt is open, and each actor has made the calls on sources that are due
+pub record IsCalm (m : Machine) (past : List Entry) : Type 0 where
+  pub closed : maker (journal past) ≡ None
+  pub made : (who : Actor) → IsActor m who → calls_made m past who ≡ calls_due m who (journal past)
 
 -- after a round that did nothing, time jumps, or somebody can go on after all; else the run is over
 abbrev pub AfterRest : RunState → RunState → Result Rest RunFault → Type 0

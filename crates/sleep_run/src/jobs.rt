@@ -4,7 +4,7 @@ ghost use Rattle.std.specs.Prelude.{◌≡◌, ◌≤◌, ◌<◌, ◌+◌, ◌^
 ghost use Rattle.sleep_model.specs.declared.entry.Actor.TheVariants.{Script, Dev};
 ghost use Rattle.sleep_model.specs.Accepted.{IsAccepted};
 ghost use Rattle.sleep_script.specs.Jobs.{IsWanted, first_job, after_turn, after_call};
-ghost use Rattle.sleep_run.specs.JobsOf.{job_at, HasJob, with_job, first_jobs_of, first_jobs};
+ghost use Rattle.sleep_run.specs.JobsOf.{one_if, owing_of, job_at, HasJob, with_job, first_jobs_of, first_jobs};
 
 use answer_book::AnswerBook;
 use sleep_base::Mem;
@@ -19,6 +19,8 @@ pub(crate) struct Jobs<'m> {
     scripts: Vec<ScriptJob<'m>>,
     auto: AutoJob<'m>,
     devices: Vec<DeviceJob<'m>>,
+    /// How many of them have a call on a source to make.
+    owing: u32,
 }
 
 impl<'m> Model for Jobs<'m> {
@@ -26,7 +28,11 @@ impl<'m> Model for Jobs<'m> {
 
     ghost Value = { JobsState };
 
-    ghost view = { λ j. record { scripts = j.scripts.items; auto = j.auto; devices = j.devices.items } };
+    ghost use Rattle.sleep_run.specs.JobsFields.{jobs, keeps};
+
+    ghost view = { jobs };
+
+    ghost invariant = { keeps };
 }
 
 /// The jobs of a machine's scripts.
@@ -63,7 +69,68 @@ fn device_jobs<'m>(
     Ok(jobs)
 }
 
+/// How many of these scripts have a call on a source to make.
+fn owing_scripts(jobs: &[ScriptJob<'_>]) -> u32
+    requires { length jobs.now < 2 ^ 30 }
+    ensures is { result ≡ owing_of jobs.now }
+{
+    let mut owing = 0;
+    for job in jobs {
+        owing = more_owing(job.owes(), owing);
+    }
+    owing
+}
+
+/// How many of these devices do.
+fn owing_devices(jobs: &[DeviceJob<'_>]) -> u32
+    requires { length jobs.now < 2 ^ 30 }
+    ensures is { result ≡ owing_of jobs.now }
+{
+    let mut owing = 0;
+    for job in jobs {
+        owing = more_owing(job.owes(), owing);
+    }
+    owing
+}
+
+/// One more, where another has a call to make.
+#[inline(always)]
+fn more_owing(owes: bool, owing: u32) -> u32
+    requires { owing + 1 < 2 ^ 32 }
+    ensures { result ≡ owing + one_if owes }
+{
+    if owes { owing + 1 } else { owing }
+}
+
+/// One fewer, where the one that made a call has none left to make.
+#[inline(always)]
+fn left_owing(owes: bool, owing: u32) -> u32
+    requires { 0 < owing }
+    ensures { result + 1 ≡ owing + one_if owes }
+{
+    if owes { owing } else { owing - 1 }
+}
+
 impl<'m> Jobs<'m> {
+    ghost use Rattle.std.specs.Bool.{OnTrue};
+    ghost use Rattle.sleep_run.specs.JobsOf.{OweNone};
+
+    /// The jobs of these parts.
+    fn of_parts(scripts: Vec<ScriptJob<'m>>, auto: AutoJob<'m>, devices: Vec<DeviceJob<'m>>) -> Self
+        requires scripts { length scripts.items < 2 ^ 30 }
+        requires devices { length devices.items < 2 ^ 30 }
+        ensures { result ≡ record { scripts = scripts.entry.items; auto = auto.entry; devices = devices.entry.items } }
+    {
+        let owing = owing_scripts(scripts.as_slice()) + owing_devices(devices.as_slice());
+        let owing = more_owing(auto.owes(), owing);
+        Jobs {
+            scripts,
+            auto,
+            devices,
+            owing,
+        }
+    }
+
     /// The jobs of a machine, before anything was done. `Mem` where there is no memory.
     pub(crate) fn new(
         alloc: Global,
@@ -74,11 +141,10 @@ impl<'m> Jobs<'m> {
         requires book { book.now ≡ machine.now.answers }
         ensures { IfOk result (λ jobs. jobs ≡ first_jobs machine.now) }
     {
-        Ok(Jobs {
-            scripts: script_jobs(alloc, machine, book)?,
-            auto: AutoJob::new(machine, book),
-            devices: device_jobs(alloc, machine, book)?,
-        })
+        let scripts = script_jobs(alloc, machine, book)?;
+        let auto = AutoJob::new(machine, book);
+        let devices = device_jobs(alloc, machine, book)?;
+        Ok(Jobs::of_parts(scripts, auto, devices))
     }
 
     /// What an actor does next: the call on a source that is next, else a turn of the core.
@@ -113,9 +179,20 @@ impl<'m> Jobs<'m> {
         ensures { self.new ≡ with_job self.old who (after_turn stamp kind attempt (job_at self.old who)) }
     {
         match who {
-            Actor::Script(script) => self.scripts[script as usize].told_turn(stamp, kind, attempt),
-            Actor::Dev(device) => self.devices[device as usize].told_turn(stamp, kind, attempt),
-            _ => self.auto.told_turn(stamp, kind, attempt),
+            Actor::Script(script) => {
+                let job = &mut self.scripts[script as usize];
+                job.told_turn(stamp, kind, attempt);
+                self.owing = more_owing(job.owes(), self.owing);
+            }
+            Actor::Dev(device) => {
+                let job = &mut self.devices[device as usize];
+                job.told_turn(stamp, kind, attempt);
+                self.owing = more_owing(job.owes(), self.owing);
+            }
+            _ => {
+                self.auto.told_turn(stamp, kind, attempt);
+                self.owing = more_owing(self.auto.owes(), self.owing);
+            }
         }
     }
 
@@ -127,9 +204,27 @@ impl<'m> Jobs<'m> {
         ensures { self.new ≡ with_job self.old who (after_call stamp (job_at self.old who)) }
     {
         match who {
-            Actor::Script(script) => self.scripts[script as usize].told_source(stamp),
-            Actor::Dev(device) => self.devices[device as usize].told_source(stamp),
-            _ => self.auto.told_source(stamp),
+            Actor::Script(script) => {
+                let job = &mut self.scripts[script as usize];
+                job.told_source(stamp);
+                self.owing = left_owing(job.owes(), self.owing);
+            }
+            Actor::Dev(device) => {
+                let job = &mut self.devices[device as usize];
+                job.told_source(stamp);
+                self.owing = left_owing(job.owes(), self.owing);
+            }
+            _ => {
+                self.auto.told_source(stamp);
+                self.owing = left_owing(self.auto.owes(), self.owing);
+            }
         }
+    }
+
+    /// Whether no actor has a call on a source to make before its next entry of the journal.
+    pub(crate) fn owe_none(&self) -> bool
+        ensures { OnTrue result (OweNone self.now) }
+    {
+        self.owing == 0
     }
 }

@@ -65,26 +65,58 @@ fn log_of(entries: EntryList, stats: Vec<Stats>, end: LogEnd) -> Log
 
 impl<'m> Run<'m> {
     ghost use Rattle.std.specs.Prelude.{◌≡◌, ◌<◌, ◌+◌, length, reverse, Ok, IfOk, OnOk, IfErr};
+    ghost use Rattle.std.specs.Bool.{OnTrue};
     ghost use Rattle.sleep_model.specs.declared.entry.Actor.TheVariants.{Script, Dev};
-    ghost use Rattle.sleep_model.specs.Legal.{JumpStep, IsStuckAfter, none_enabled, none_expires, stats_of, waiting};
+    ghost use Rattle.sleep_model.specs.Legal.{JumpStep, IsStuckAfter, is_enabled, none_enabled, none_expires, stats_of, waiting};
     ghost use Rattle.sleep_model.specs.Numbers.{numbers, time_of};
     ghost use Rattle.sleep_model.specs.Parts.{journal};
     ghost use Rattle.sleep_model.specs.Sources.{history};
-    ghost use Rattle.sleep_run.specs.Runs.{is_resting, AfterRest, AfterAll, EndsSo, Fails, IsRun};
+    ghost use Rattle.sleep_run.specs.Runs.{is_resting, IsCalm, AfterRest, AfterAll, EndsSo, Fails, IsRun};
+
+    /// Whether all is calm: nobody has a call on a source to make, and no attempt is open.
+    fn is_calm(&self) -> bool
+        ensures { OnTrue result (IsCalm self.now.machine self.now.past) }
+    {
+        self.jobs.owe_none() && !self.core.is_open()
+    }
+
+    /// Whether a script can make anything that sees this word. Where all is calm, none can that has exited or sleeps on.
+    #[inline(always)]
+    fn may_go(&self, calm: bool, script: u32, word: EventNow) -> bool
+        requires calm { OnTrue calm (IsCalm self.now.machine self.now.past) }
+        requires script { script < length self.now.machine.actors }
+        ensures { result ≡ is_enabled self.now.machine (journal self.now.past) (λ s. history s self.now.past) word (Script script) }
+    {
+        if calm && self.core.is_still(script) {
+            return false;
+        }
+        self.is_enabled(Actor::Script(script), word)
+    }
 
     /// Whether no script can make anything that sees this word.
-    fn rest_scripts(&self, word: EventNow) -> bool
+    fn rest_scripts(&self, calm: bool, word: EventNow) -> bool
+        requires { OnTrue calm (IsCalm self.now.machine self.now.past) }
         ensures { result ≡ none_enabled self.now.machine (journal self.now.past) (λ s. history s self.now.past) word Script (length self.now.machine.actors) }
     {
         let mut none = true;
         for script in 0..self.machine.actors.len() as u32 {
-            none = !self.is_enabled(Actor::Script(script), word) & none;
+            none = !self.may_go(calm, script, word) & none;
         }
         none
     }
 
-    /// Whether no device can make anything that sees this word.
-    fn rest_devices(&self, word: EventNow) -> bool
+    /// Whether no device can make anything that sees this word. Where all is calm, none can.
+    fn rest_devices(&self, calm: bool, word: EventNow) -> bool
+        requires { OnTrue calm (IsCalm self.now.machine self.now.past) }
+        ensures { result ≡ none_enabled self.now.machine (journal self.now.past) (λ s. history s self.now.past) word Dev (length self.now.machine.devices) }
+    {
+        // A look at the field makes the invariant known here: the entries are legal.
+        let _ = &self.machine;
+        calm || self.rest_all_devices(word)
+    }
+
+    /// Whether no device can make anything that sees this word, each of them being asked.
+    fn rest_all_devices(&self, word: EventNow) -> bool
         ensures { result ≡ none_enabled self.now.machine (journal self.now.past) (λ s. history s self.now.past) word Dev (length self.now.machine.devices) }
     {
         let mut none = true;
@@ -110,9 +142,10 @@ impl<'m> Run<'m> {
         ensures { result ≡ is_resting self.now.machine self.now.past }
     {
         let word = self.word();
-        let by_script = self.rest_scripts(word);
+        let calm = self.is_calm();
+        let by_script = self.rest_scripts(calm, word);
         let works = self.is_enabled(Actor::Auto, word);
-        let by_device = self.rest_devices(word);
+        let by_device = self.rest_devices(calm, word);
         let by_timer = self.rest_timers();
         by_script & !works & by_device & by_timer
     }

@@ -19,7 +19,7 @@ impl<'m> Model for DeviceJob<'m> {
 }
 
 impl<'m> DeviceJob<'m> {
-    ghost use Rattle.std.specs.Prelude.{◌≡◌, ◌<◌, ◌+◌, ◌^◌, [], length};
+    ghost use Rattle.std.specs.Prelude.{◌≡◌, ◌<◌, ◌+◌, ◌^◌, [], length, nat_lt};
     ghost use Rattle.sleep_script.specs.Jobs.{IsWanted, first_job, after_turn, after_call, raised};
 
     /// The job of the device with that number, before its first callback, where `book` has the machine's answers.
@@ -68,6 +68,14 @@ impl<'m> DeviceJob<'m> {
         ensures { self.new ≡ raised floor self.old }
     {
         self.job.raise(floor);
+    }
+
+    /// Whether the device has a call on a source to make before its next entry of the journal.
+    #[inline(always)]
+    pub fn owes(&self) -> bool
+        ensures { result ≡ nat_lt 0 (length self.now.pending) }
+    {
+        self.job.owes()
     }
 
     /// How many calls on sources the device has made.

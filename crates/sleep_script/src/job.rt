@@ -124,7 +124,7 @@ impl<'m> Model for Job<'m> {
 }
 
 impl<'m> Job<'m> {
-    ghost use Rattle.std.specs.Prelude.{◌≡◌, ◌+◌, ◌<◌, ◌^◌, [], drop, length, map, slice_get};
+    ghost use Rattle.std.specs.Prelude.{◌≡◌, ◌+◌, ◌<◌, ◌^◌, [], drop, length, map, nat_lt, slice_get};
     ghost use Rattle.std.specs.Option.{option_map};
     ghost use Rattle.script_plan.specs.CallPlans.{noted};
     ghost use Rattle.sleep_model.specs.Calls.{calls_of_turn};
@@ -258,6 +258,14 @@ impl<'m> Job<'m> {
         ensures { self.new ≡ raised floor self.old }
     {
         self.floor = later(floor, self.floor);
+    }
+
+    /// Whether its actor has a call to make before its next entry of the journal.
+    #[inline(always)]
+    pub(crate) fn owes(&self) -> bool
+        ensures { result ≡ nat_lt 0 (length self.now.pending) }
+    {
+        self.due > 0
     }
 
     /// How many calls on sources its actor has made.

@@ -37,7 +37,7 @@ impl<'m> Model for ScriptJob<'m> {
 }
 
 impl<'m> ScriptJob<'m> {
-    ghost use Rattle.std.specs.Prelude.{◌≡◌, ◌<◌, ◌≤◌, ◌+◌, ◌^◌, [], length, IfOk};
+    ghost use Rattle.std.specs.Prelude.{◌≡◌, ◌<◌, ◌≤◌, ◌+◌, ◌^◌, [], length, nat_lt, IfOk};
     ghost use Rattle.sleep_model.specs.Places.{all_operations};
     ghost use Rattle.sleep_script.specs.Jobs.{IsWanted, first_job, after_turn, after_call, raised};
 
@@ -99,6 +99,14 @@ impl<'m> ScriptJob<'m> {
         ensures { self.new ≡ raised floor self.old }
     {
         self.job.raise(floor);
+    }
+
+    /// Whether the script has a call on a source to make before its next entry of the journal.
+    #[inline(always)]
+    pub fn owes(&self) -> bool
+        ensures { result ≡ nat_lt 0 (length self.now.pending) }
+    {
+        self.job.owes()
     }
 
     /// How many calls on sources the script has made.

@@ -1,20 +1,19 @@
-use Rattle.std.proofs.Common.{◌≡◌, ◌+◌, ◌∙◌, length, ap, subst, arith}
+use Rattle.std.proofs.Common.{◌≡◌, ◌∙◌, Bool, true, length, sym, subst}
+use Rattle.std.specs.Bool.{OnTrue}
 use Rattle.sleep_model.specs.declared.entry.Actor.TheVariants as actor
 use Rattle.sleep_model.specs.Legal.{none_enabled}
 use Rattle.sleep_model.specs.Parts.{journal}
 use Rattle.sleep_model.specs.Sources.{history}
-use Rattle.sleep_run.specs.Runs.{RunState}
-use Rattle.sleep_run.proofs.Running.{none_more}
+use Rattle.sleep_run.specs.AllEntries.{all_of}
+use Rattle.sleep_run.specs.Runs.{RunState, IsCalm}
+use Rattle.sleep_run.proofs.Calm.{no_device}
 use Rattle.sleep_run.proofs.run.Run.rest_devices.Goals as goal
 
-pub loop-device-preserved : goal.loop-device-preserved
-loop-device-preserved c =
-    none_more c.args.self.now.machine c.args.self.now.past c.args.word actor.Dev c.loop-device.device (c.loop-device.device + 1) c.loop-device.none c.is_enabled.result (omega arith)
-    c.loop-device.invariant c.is_enabled.ensures
-
-pub returns : goal.returns
-returns c =
-    let count : c.len-device-end.result ≡ length c.args.self.now.machine.devices = subst (λ (s : RunState). c.len-device-end.result ≡ length s.machine.devices) c.self.view_is c.len-device-end.ensures in
-    let all : c.loop-device.device ≡ length c.args.self.now.machine.devices = omega (arith, count) in
-    c.loop-device.invariant
-    ∙ ap (none_enabled c.args.self.now.machine (journal c.args.self.now.past) (λ s. history s c.args.self.now.past) c.args.word actor.Dev) all
+pub returns-then-calm : goal.returns-then-calm
+returns-then-calm c =
+    let r = c.self.inside in
+    let calm : IsCalm c.args.self.now.machine c.args.self.now.past = subst (λ (b : Bool). OnTrue b (IsCalm c.args.self.now.machine c.args.self.now.past)) c.if-calm.true c.requires in
+    c.if-calm.true
+    ∙ sym (subst (λ (s : RunState). none_enabled s.machine (journal s.past) (λ t. history t s.past) c.args.word actor.Dev (length s.machine.devices) ≡ true) c.self.view_is
+    (no_device r.machine.now (all_of r.core.past r.others.items) r.core r.events r.sources.items r.jobs r.floor c.self.invariant.0
+    (subst (λ (s : RunState). IsCalm s.machine s.past) (sym c.self.view_is) calm) c.args.word))

@@ -1,0 +1,201 @@
+-- While no attempt is open, a script that has exited or sleeps on makes nothing, nor does a device.
+use Rattle.std.proofs.Common.{◌≡◌, ◌+◌, ◌∙◌, ◌⊎◌, inl, inr, ℕ, zero, suc, Bool, true, false, not, ◌&&◌, ◌||◌, nat_lt, nat_le, List, [], ◌∷◌, length, map, slice_get, slice_set, Option, Some, None, refl, sym, ap, subst, cond, arith}
+use Rattle.std.proofs.lemmas.Bool.Decides.{nat_tests}
+use Rattle.sleep_model.specs.declared.entry.Actor.{Actor}
+use Rattle.sleep_model.specs.declared.entry.Actor.TheVariants as actor
+use Rattle.sleep_model.specs.declared.entry.Entry.{Entry}
+use Rattle.sleep_model.specs.declared.entry.Kind.{Kind}
+use Rattle.sleep_model.specs.declared.entry.Kind.TheVariants as kind
+use Rattle.sleep_model.specs.declared.machine.Machine.{Machine}
+use Rattle.sleep_model.specs.declared.machine.Op.{Op}
+use Rattle.sleep_model.specs.declared.machine.Op.TheVariants as op
+use Rattle.sleep_model.specs.declared.machine.Script.{Script}
+use Rattle.sleep_model.specs.declared.place.AsyncWork.TheVariants.{Idle}
+use Rattle.sleep_model.specs.declared.place.Due.{Due}
+use Rattle.sleep_model.specs.declared.place.Due.TheVariants.{Makes, Waits, Gone}
+use Rattle.sleep_model.specs.declared.place.Seat.{Seat}
+use Rattle.sleep_model.specs.declared.place.Stage.{Stage}
+use Rattle.sleep_model.specs.declared.place.Stand.{Stand}
+use Rattle.sleep_model.specs.declared.place.Stand.TheVariants as stand
+use Rattle.sleep_model.specs.declared.log.Why.TheVariants as why
+use Rattle.sleep_model.specs.declared.word.EventNow.{EventNow}
+use Rattle.phase_table.specs.declared.phase.Phase.{Phase}
+use Rattle.phase_table.specs.declared.phase.Phase.TheVariants as phase
+use Rattle.sleep_model.specs.Attempt.{attempt_due, sleeps_now}
+use Rattle.sleep_model.specs.Devices.{async_work, work_by, device_due, stand_in, is_async_device}
+use Rattle.sleep_model.specs.Due.{due, own_due}
+use Rattle.sleep_model.specs.Freezer.{unasked, freezing_at, freezing}
+use Rattle.sleep_model.specs.Legal.{JournalPart, is_made}
+use Rattle.sleep_model.specs.Numbers.{time_of}
+use Rattle.sleep_model.specs.Path.{maker, is_actor}
+use Rattle.sleep_model.specs.Scripts.{entry_steps}
+use Rattle.sleep_model.specs.Seats.{SeatPart, Stays, first_seat, seat_at, seat_part, seat_after, seats_after, seats}
+use Rattle.sleep_model.specs.Steps.{slept_due, step_due, task_due, seat_due}
+use Rattle.sleep_model.specs.Tasks.{is_line}
+use Rattle.sleep_laws.proofs.Boards.{at, at_is, three}
+use Rattle.sleep_laws.proofs.Holding.{at_stage, stage_none}
+use Rattle.sleep_laws.proofs.Made.{Down, InSuspend, InLate, InNoirq, Made, StepMade, TaskMade, EntryMade, ByMaker, ByTask, ByWork, ByDevice, ByTime}
+use Rattle.sleep_laws.proofs.MakingOwn.{entry_made}
+use Rattle.sleep_laws.proofs.Moods.{when_empty}
+use Rattle.sleep_laws.proofs.Passing.{standing}
+use Rattle.sleep_laws.proofs.Restoring.{IsUndone, undone_kept}
+use Rattle.sleep_laws.proofs.Standing.{Standing}
+use Rattle.sleep_laws.proofs.Telling.{none≢some, some_is}
+use Rattle.sleep_laws.proofs.Turning.{never}
+use Rattle.sleep_core.specs.Steps.{sleeps_past, is_still}
+use Rattle.sleep_core.proofs.Seated.{first_seats}
+
+-- ---- where a script sleeps it stands at an operation that does
+
+-- an operation that sleeps
+abbrev IsSleep : Option Op → Type 0
+IsSleep (Some (op.Sleep ms)) = Unit {0}
+IsSleep (Some (op.SleepD ms)) = Unit {0}
+IsSleep _ = ⊥
+
+-- a script that stands so has begun to sleep
+abbrev HasBegun : Option Script → Seat → Type 0
+HasBegun None seat = ⊥
+HasBegun (Some s) seat = (seat.waits ≡ true) × IsSleep (slice_get (entry_steps s) seat.done)
+
+-- it has, where it knows until when
+abbrev SleepsIf : Option Script → Seat → Type 0
+SleepsIf o seat = (until : ℕ) → seat.until ≡ Some until → HasBegun o seat
+
+step_sleeps : (m : Machine) (past : List Entry) (now : EventNow) (s : Script) (seat : Seat) (asked : Bool) (o : Option Op) (k : Kind) → StepMade m past now seat asked o k → slice_get (entry_steps s) seat.done ≡ o → SleepsIf (Some s) seat → SleepsIf (Some s) (seat_after (seat_part k) seat)
+step_sleeps m past now s seat asked _ _ (StepMade.Sleeps ms until w) here h u e = (refl, subst IsSleep (sym here) tt)
+step_sleeps m past now s seat asked _ _ (StepMade.SleepsD ms until w) here h u e = (refl, subst IsSleep (sym here) tt)
+step_sleeps m past now s seat asked _ _ StepMade.Exits here h u e = absurd (subst IsSleep here (h u e).1)
+step_sleeps m past now s seat asked _ _ (StepMade.ReadWaits q w) here h u e = absurd (subst IsSleep here (h u e).1)
+step_sleeps m past now s seat asked _ _ (StepMade.SaveWaits c count w) here h u e = absurd (subst IsSleep here (h u e).1)
+step_sleeps m past now s seat asked _ _ (StepMade.StateWaits text if_saved w) here h u e = absurd (subst IsSleep here (h u e).1)
+step_sleeps m past now s seat asked _ _ (StepMade.AutoSets text state w f) here h u e = absurd (subst IsSleep here (h u e).1)
+step_sleeps m past now s seat asked _ _ (StepMade.Attempts text if_saved f g) here h u e = absurd (subst IsSleep here (h u e).1)
+step_sleeps m past now s seat asked _ _ _ here h u e = absurd (none≢some u e)
+
+maker_sleeps : (m : Machine) (past : List Entry) (now : EventNow) (there : Stage) (k : Kind) → Made m past now there k → (o : Option Script) (seat : Seat) → SleepsIf o seat → SleepsIf o (seat_after (seat_part k) seat)
+maker_sleeps m past now _ _ Made.Ends o seat h u e = absurd (none≢some u e)
+maker_sleeps m past now _ _ _ o seat h u e = h u e
+
+-- what is read after a write: the new place at its own number, else the old one
+set_at : (ss : List Seat) (i j : ℕ) (v : Seat) → ((i ≡ j) × (seat_at (slice_set ss i v) j ≡ v)) ⊎ (seat_at (slice_set ss i v) j ≡ seat_at ss j)
+set_at [] i j v = inr refl
+set_at (x ∷ xs) zero zero v = inl (refl, refl)
+set_at (x ∷ xs) zero (suc j) v = inr refl
+set_at (x ∷ xs) (suc i) zero v = inr refl
+set_at (x ∷ xs) (suc i) (suc j) v =
+    elim (set_at xs i j v) [
+      | inl e ↦ inl (ap suc e.0, e.1)
+      | inr e ↦ inr e
+    ]
+
+own_sleeps : (scripts : List Script) (ss : List Seat) (i j : ℕ) (p : SeatPart) → SleepsIf (slice_get scripts j) (seat_at ss j) → (i ≡ j → SleepsIf (slice_get scripts j) (seat_after p (seat_at ss j)))
+    → SleepsIf (slice_get scripts j) (seat_at (seats_after (actor.Script i) p ss) j)
+own_sleeps scripts ss i j p h own =
+    elim (set_at ss i j (seat_after p (seat_at ss i))) [
+      | inl e ↦ subst (SleepsIf (slice_get scripts j)) (sym (e.1 ∙ ap (λ n. seat_after p (seat_at ss n)) e.0)) (own e.0)
+      | inr e ↦ subst (SleepsIf (slice_get scripts j)) (sym e) h
+    ]
+
+module _ (m : Machine) (past : List Entry) where
+  abbrev seat_of : ℕ → Seat
+  seat_of i = seat_at (seats (length m.actors) past) i
+
+  task_sleeps : (now : EventNow) (i j : ℕ) (k : Kind) → TaskMade m past now i k → i ≡ j → SleepsIf (slice_get m.actors j) (seat_of j) → SleepsIf (slice_get m.actors j) (seat_after (seat_part k) (seat_of j))
+  task_sleeps now i j _ (TaskMade.Freezes s go f) same h = h
+  task_sleeps now i j k (TaskMade.Steps s _ o go e step) same h =
+      subst (λ (n : ℕ). SleepsIf (slice_get m.actors n) (seat_of n) → SleepsIf (slice_get m.actors n) (seat_after (seat_part k) (seat_of n))) same
+      (λ own. subst (λ (x : Option Script). SleepsIf x (seat_after (seat_part k) (seat_of i))) (sym go.script)
+      (step_sleeps m past now s (seat_of i) _ o k step e (subst (λ (x : Option Script). SleepsIf x (seat_of i)) go.script own))) h
+
+  entry_sleeps : (now : EventNow) (who : Actor) (k : Kind) (j : ℕ) → EntryMade m past now who k → SleepsIf (slice_get m.actors j) (seat_of j) → SleepsIf (slice_get m.actors j) (seat_at (seats_after who (seat_part k) (seats (length m.actors) past)) j)
+  entry_sleeps now who k j (ByMaker _ here there _ a e c d) h = by_actor who
+    where
+      by_actor : (w : Actor) → SleepsIf (slice_get m.actors j) (seat_at (seats_after w (seat_part k) (seats (length m.actors) past)) j)
+      by_actor (actor.Script i) = own_sleeps m.actors (seats (length m.actors) past) i j (seat_part k) h (λ same. maker_sleeps m past now there k d (slice_get m.actors j) (seat_of j) h)
+      by_actor _ = h
+  entry_sleeps now _ k j (ByTask i _ a t) h = own_sleeps m.actors (seats (length m.actors) past) i j (seat_part k) h (λ same. task_sleeps now i j k t same h)
+  entry_sleeps now _ k j (ByWork w _ a s o e d) h = h
+  entry_sleeps now _ k j (ByDevice d _ a x) h = h
+  entry_sleeps now _ _ j ByTime h = h
+
+sleeps_if : (m : Machine) (past : List Entry) (j : ℕ) → JournalPart m past → SleepsIf (slice_get m.actors j) (seat_at (seats (length m.actors) past) j)
+sleeps_if m [] j h = λ u e. absurd (none≢some u (ap (λ (s : Seat). s.until) (sym (first_seats (length m.actors) j)) ∙ e))
+sleeps_if m (x ∷ past) j h = entry_sleeps m past x.now x.actor x.kind j (entry_made m past x h) (sleeps_if m past j h.1)
+
+-- ---- nobody is asked to freeze
+
+unasked_at : (ss : List Script) (i : ℕ) → freezing_at (map (λ s. unasked) ss) i ≡ unasked
+unasked_at [] i = refl
+unasked_at (s ∷ ss) zero = refl
+unasked_at (s ∷ ss) (suc i) = unasked_at ss i
+
+pub thawed : (m : Machine) (past : List Entry) (i : ℕ) → JournalPart m past → maker past ≡ None → freezing m i past ≡ unasked
+thawed m past i h closed =
+    let u : IsUndone m None past = subst (λ (s : Option Stage). IsUndone m s past) (stage_none m past h closed) (at_stage m (IsUndone m) (undone_kept m) past h) in
+    ap (λ fs. freezing_at fs i) u.3 ∙ unasked_at m.actors i
+
+-- ---- a script
+
+slept_on : (until time : ℕ) → nat_lt time until ≡ true → is_made (slept_due (Some until) time) ≡ false
+slept_on until time l = by_test (nat_le until time) refl
+  where
+    by_test : (b : Bool) → nat_le until time ≡ b → is_made (cond b (Makes kind.Slept) (Waits (why.Until until))) ≡ false
+    by_test true t = absurd (grind (arith, nat_tests))
+    by_test false t = refl
+
+step_still : (m : Machine) (past : List Entry) (now : EventNow) (seat : Seat) (asked : Bool) (o : Option Op) (until : ℕ) → seat.waits ≡ true → IsSleep o → seat.until ≡ Some until → nat_lt (time_of past) until ≡ true → is_made (step_due m past now seat asked o) ≡ false
+step_still m past now seat asked (Some (op.Sleep ms)) until w i e l =
+    ap (λ b. is_made (cond b (slept_due seat.until (time_of past)) (Makes (kind.Sleep (time_of past + ms))))) w
+    ∙ (ap (λ x. is_made (slept_due x (time_of past))) e ∙ slept_on until (time_of past) l)
+step_still m past now seat asked (Some (op.SleepD ms)) until w i e l =
+    ap (λ b. is_made (cond b (slept_due seat.until (time_of past)) (Makes (kind.SleepD (time_of past + ms))))) w
+    ∙ (ap (λ x. is_made (slept_due x (time_of past))) e ∙ slept_on until (time_of past) l)
+step_still m past now seat asked None until w i e l = absurd i
+step_still m past now seat asked (Some _) until w i e l = absurd i
+
+seat_still : (m : Machine) (past : List Entry) (now : EventNow) (o : Option Script) (seat : Seat) → SleepsIf o seat → is_still seat (time_of past) ≡ true → is_made (seat_due m past now unasked o seat) ≡ false
+seat_still m past now None seat h still = refl
+seat_still m past now (Some s) seat h still = by_exit seat.exited refl
+  where
+    by_until : (o : Option ℕ) → seat.until ≡ o → sleeps_past o (time_of past) ≡ true → is_made (task_due m past now unasked s.kind seat (slice_get (entry_steps s) seat.done)) ≡ false
+    by_until None e l = never l
+    by_until (Some until) e l = by_sleep (sleeps_now past && not (is_line s.kind))
+      where
+        by_sleep : (b : Bool) → is_made (cond b (Waits why.Asleep) (step_due m past now seat false (slice_get (entry_steps s) seat.done))) ≡ false
+        by_sleep true = refl
+        by_sleep false = step_still m past now seat false (slice_get (entry_steps s) seat.done) until (h until e).0 (h until e).1 e l
+
+    by_exit : (b : Bool) → seat.exited ≡ b → is_made (cond b Gone (task_due m past now unasked s.kind seat (slice_get (entry_steps s) seat.done))) ≡ false
+    by_exit true e = refl
+    by_exit false e = by_until seat.until refl (subst (λ (b : Bool). (b || sleeps_past seat.until (time_of past)) ≡ true) e still)
+
+-- a script that has exited or sleeps on makes nothing while no attempt is open
+pub still_rests : (m : Machine) (past : List Entry) (now : EventNow) (i : ℕ) → JournalPart m past → maker past ≡ None → is_still (seat_at (seats (length m.actors) past) i) (time_of past) ≡ true → is_made (due m past (actor.Script i) now) ≡ false
+still_rests m past now i h closed still =
+    ap (λ o. is_made (cond (is_actor (actor.Script i) o) (attempt_due m past now) (own_due m past (actor.Script i) now))) closed
+    ∙ (ap (λ f. is_made (seat_due m past now f (slice_get m.actors i) (seat_at (seats (length m.actors) past) i))) (thawed m past i h closed)
+    ∙ seat_still m past now (slice_get m.actors i) (seat_at (seats (length m.actors) past) i) (sleeps_if m past i h) still)
+
+-- ---- a device
+
+empty_is : (s : Stand) → when_empty s ≡ true → s ≡ stand.Unprepared
+empty_is stand.Unprepared h = refl
+empty_is _ h = never h
+
+work_idle : (b : Bool) (x y z : Stand) → x ≡ stand.Unprepared → y ≡ stand.Unprepared → z ≡ stand.Unprepared → cond b (work_by x y z) Idle ≡ Idle
+work_idle true x y z p q r = ap (λ s. work_by s y z) p ∙ (ap (λ s. work_by stand.Unprepared s z) q ∙ ap (work_by stand.Unprepared stand.Unprepared) r)
+work_idle false x y z p q r = refl
+
+unprepared : (m : Machine) (past : List Entry) (d : ℕ) (p : Phase) → Down p → JournalPart m past → maker past ≡ None → stand_in m past p d ≡ stand.Unprepared
+unprepared m past d p i h closed =
+    let s : Standing m past None = subst (λ (o : Option Stage). Standing m past o) (stage_none m past h closed) (standing m past h) in
+    sym (at_is m past p d i) ∙ empty_is (at (three m past d) p) ((s.0 d).allowed p i)
+
+-- a device makes nothing while no attempt is open
+pub device_rests : (m : Machine) (past : List Entry) (now : EventNow) (d : ℕ) → JournalPart m past → maker past ≡ None → is_made (due m past (actor.Dev d) now) ≡ false
+device_rests m past now d h closed =
+    ap (λ o. is_made (cond (is_actor (actor.Dev d) o) (attempt_due m past now) (own_due m past (actor.Dev d) now))) closed
+    ∙ ap (λ w. is_made (device_due m past now d w))
+    (work_idle (is_async_device m d) (stand_in m past phase.Suspend d) (stand_in m past phase.Late d) (stand_in m past phase.Noirq d)
+    (unprepared m past d phase.Suspend InSuspend h closed) (unprepared m past d phase.Late InLate h closed) (unprepared m past d phase.Noirq InNoirq h closed))

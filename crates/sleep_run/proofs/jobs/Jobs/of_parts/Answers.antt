@@ -1,0 +1,33 @@
+use Rattle.std.proofs.Common.{◌≡◌, ◌≤◌, ◌<◌, ◌+◌, ◌^◌, List, length, ap, arith}
+use Rattle.sleep_script.specs.Jobs.{JobState}
+use Rattle.sleep_run.specs.JobsOf.{owing_of}
+use Rattle.sleep_run.proofs.Owing.{owing_few}
+use Rattle.sleep_run.proofs.jobs.Jobs.of_parts.Goals as goal
+
+pub overflow_add-owing : goal.overflow_add-owing
+overflow_add-owing c =
+    omega (
+      arith,
+      c.requires.scripts,
+      c.requires.devices,
+      c.owing_scripts.ensures.is,
+      c.owing_devices.ensures.is,
+      owing_few c.as_slice.result.now,
+      owing_few c.as_slice-2.result.now,
+      ap (λ (xs : List JobState). length xs) c.as_slice.ensures.value,
+      ap (λ (xs : List JobState). length xs) c.as_slice-2.ensures.value,
+    )
+
+pub more_owing-owing-requires : goal.more_owing-owing-requires
+more_owing-owing-requires c =
+    omega (
+      arith,
+      c.requires.scripts,
+      c.requires.devices,
+      c.owing_scripts.ensures.is,
+      c.owing_devices.ensures.is,
+      owing_few c.as_slice.result.now,
+      owing_few c.as_slice-2.result.now,
+      ap (λ (xs : List JobState). length xs) c.as_slice.ensures.value,
+      ap (λ (xs : List JobState). length xs) c.as_slice-2.ensures.value,
+    )
