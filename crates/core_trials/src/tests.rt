@@ -81,12 +81,22 @@ fn has_actor(machine: &Machine, who: Actor) -> Result<(), Fail>
     }
 }
 
+// Whether an actor is a script that has exited or sleeps on.
+fn is_still(core: &Core<'_>, who: Actor) -> bool {
+    match who {
+        Actor::Script(script) => core.is_still(script),
+        _ => false,
+    }
+}
+
 // What came of the turns of one actor alone.
 #[derive(Drop)]
 struct Alone {
     waits: Option<Why>,
     next_time: Option<u64>,
     whole: bool,
+    is_open: bool,
+    is_still: bool,
     entries: EntryList,
 }
 
@@ -108,6 +118,8 @@ fn run_alone<R: Wait, E: Events>(
         waits,
         next_time: core.next_time(),
         whole: core.whole(),
+        is_open: core.is_open(),
+        is_still: is_still(&core, who),
         entries: EntryList::of_parts(core.into_journal(), Vec::new(alloc)),
     })
 }
@@ -204,7 +216,20 @@ fn a_machine_sleeps_till_its_alarm(rt: HostRuntime) -> Result<(), Fail> {
     let slept = run_alone(&rt, rt.alloc(), &mut events, FAMILY, MANAGER)?;
     assert!(rt; matches!(slept.waits, Some(Why::Asleep)));
     assert_eq!(rt; slept.next_time, Some(1000));
-    assert!(rt; !slept.whole);
+    assert!(rt; !slept.whole && slept.is_open && !slept.is_still);
+    Ok(())
+}
+
+/// A script is still that sleeps on or has exited, and none that waits for a mark; no attempt is open then.
+#[test]
+fn scripts_are_still(rt: HostRuntime) -> Result<(), Fail> {
+    for (script, is_still) in [(0, true), (1, false), (2, true)] {
+        let mut events = PlainEvents::new();
+        let who = Actor::Script(script);
+        let alone = run_alone(&rt, rt.alloc(), &mut events, WAITERS, who)?;
+        assert_eq!(rt; alone.is_still, is_still);
+        assert!(rt; !alone.is_open);
+    }
     Ok(())
 }
 

@@ -172,10 +172,12 @@ fn reports_an_event(job: &mut ScriptJob<'_>) -> Result<bool, Fail>
     requires calls { job.old.calls ≡ 0 }
 {
     turn(job, Kind::Begin(Phase::Suspend, 0))?;
+    let owed = job.owes();
     let (source, made) = call(job)?;
+    let owes = job.owes();
     turn(job, Kind::End(Phase::Suspend, 0, None))?;
     let is_event = matches!(made, SourceCall::Event { ms: 0, hard: false });
-    Ok(source == 0 && is_event && matches!(job.next(), Want::Core))
+    Ok(owed && !owes && source == 0 && is_event && matches!(job.next(), Want::Core))
 }
 
 /// Whoever makes a callback makes its reports.
@@ -188,10 +190,10 @@ fn a_callback_reports(rt: HostRuntime) -> Result<(), Fail> {
     assert!(rt; reports_an_event(&mut job)?);
     let mut work = AutoJob::new(&machine, &book);
     work.told_turn(stamp(3), Kind::Begin(Phase::Suspend, 0), 1);
-    assert!(rt; matches!(work.next(), Want::Source(0, _)));
+    assert!(rt; work.owes() && matches!(work.next(), Want::Source(0, _)));
     let mut device = DeviceJob::new(&machine, &book, 0);
     device.told_turn(stamp(3), Kind::Begin(Phase::Suspend, 0), 1);
-    assert!(rt; matches!(device.next(), Want::Source(0, _)));
+    assert!(rt; device.owes() && matches!(device.next(), Want::Source(0, _)));
     Ok(())
 }
 
