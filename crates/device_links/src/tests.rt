@@ -60,6 +60,9 @@ fn links_move_their_consumers(rt: HostRuntime) -> Result<(), Fail> {
     assert_eq!(rt; links.order(), [0u32, 3, 4, 1, 2].as_slice());
     add_all(&rt, &mut links, &[(4, 3)]);
     assert_eq!(rt; links.order(), [0u32, 4, 3, 1, 2].as_slice());
+    assert!(rt; links.keeps_order(0, 3));
+    assert!(rt; !links.keeps_order(2, 3));
+    assert!(rt; !links.keeps_order(0, 1));
     let path = cycle_of(&rt, &mut links, 2, 4);
     assert_eq!(rt; path.as_slice(), [4u32, 3, 1, 2].as_slice());
     assert_eq!(rt; links.order(), [0u32, 4, 3, 1, 2].as_slice());

@@ -7,9 +7,11 @@ fn rows_grow(rt: HostRuntime) -> Result<(), Fail> {
     let mut rows = Rows::with_rows(rt.alloc(), 2)?;
     rows.make_room(1)?;
     rows.push(1, 7);
+    rows.append(1, 8)?;
     rows.add_row()?;
     assert_eq!(rt; rows.len(), 3);
-    assert_eq!(rt; rows.row(1), [7].as_slice());
+    assert_eq!(rt; rows.row(1), [7, 8].as_slice());
+    assert_eq!(rt; rows.row_within(1), [7, 8].as_slice());
     assert!(rt; rows.row(0).is_empty());
     assert!(rt; rows.row(9).is_empty());
     Ok(())
