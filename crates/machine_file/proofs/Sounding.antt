@@ -1,10 +1,10 @@
 -- That operations which pass all tests at once pass each.
-use Rattle.std.proofs.Common.{◌≡◌, ◌∙◌, ◌&&◌, ◌||◌, ℕ, suc, Bool, true, false, not, cond, List, [], ◌∷◌, bytes_eq, codes, find, position, Option, Some, None, refl, sym, ap}
+use Rattle.std.proofs.Common.{◌≡◌, ◌∙◌, ◌&&◌, ◌||◌, ℕ, suc, Bool, true, false, not, cond, List, [], ◌∷◌, bytes_eq, codes, Option, Some, None, refl, sym, ap}
 use Rattle.std.specs.List.{list_all, list_any}
 use Rattle.std.specs.Option.{option_or, option_map}
 use Rattle.std.proofs.lemmas.Bool.{false≢true, and_parts, and_from}
 use Rattle.serde_json.specs.Data.{Data}
-use Rattle.serde_json.specs.Find.{get, as_str}
+use Rattle.serde_json.specs.Find.{get}
 use Rattle.machine_file.specs.declared.operations.Word.{Word}
 use Rattle.machine_file.specs.declared.operations.Word.TheVariants as word
 use Rattle.machine_file.specs.declared.known.Known.{Known}
@@ -12,14 +12,14 @@ use Rattle.machine_file.specs.Knows.{Knows, texts}
 use Rattle.machine_file.specs.Look.{has_only, is_some_and, is_none_or, text_at}
 use Rattle.machine_file.specs.Members.{may_have, has_text, list_in, word_at}
 use Rattle.machine_file.specs.Form.{is_within}
-use Rattle.machine_file.specs.Names.{is_among_names, sources_named, devices_named}
+use Rattle.machine_file.specs.Names.{is_among_names}
 use Rattle.machine_file.specs.Places.{first_not, first_operation, first_operation_of, operation_place}
-use Rattle.machine_file.specs.Operations.{Operation, operations, row_of, fits_row, changes_links, is_formed, is_allowed, names_source, names_device, names_device_at, unformed_operation, forbidden_operation, sourceless_operation, deviceless_operation}
+use Rattle.machine_file.specs.Operations.{Operation, row_of, fits_row, changes_links, is_formed, is_allowed, names_source, names_device, names_device_at, unformed_operation, forbidden_operation, sourceless_operation, deviceless_operation}
 use Rattle.machine_file.specs.OperationRows.{op_row}
-use Rattle.machine_file.specs.SoundOperations.{word_changes_links, names_by_word, is_sound_as, passes_all, is_sound, is_sound_script, are_operations_sound}
+use Rattle.machine_file.specs.SoundOperations.{word_changes_links, names_by_word, is_sound_as, passes_all, is_sound, are_operations_sound}
 use Rattle.machine_file.specs.Answering.{sourceless_report}
 use Rattle.machine_file.specs.Groups.{operation_rules}
-use Rattle.machine_file.specs.Whole.{Broken, broken_at, first_of}
+use Rattle.machine_file.specs.Whole.{broken_at, first_of}
 use Rattle.machine_file.specs.Rules.{is_second}
 use Rattle.machine_file.proofs.Fitted.{absent_word}
 use Rattle.machine_file.proofs.Placing.{position_cons}

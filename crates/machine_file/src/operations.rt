@@ -14,7 +14,7 @@ ghost use Rattle.machine_file.specs.SoundOperations.{names_by_word, word_changes
 ghost use Rattle.machine_file.specs.Knows.{Knows, texts};
 ghost use Rattle.machine_file.specs.Broken.{place_of};
 
-use crate::form::{DAY, LINK_STATES, STATUSES};
+use crate::form::{DAY, LINK_STATES, STATUSES, has_ends};
 use crate::items::{is_second, must_be_name};
 use crate::known::{Known, contains};
 use crate::look::{
@@ -152,13 +152,6 @@ fn is_short_text(value: &Value) -> bool
         Some(text) => text.len() <= 32,
         None => false,
     }
-}
-
-// Whether both ends of a link are given.
-fn has_ends(operation: &Value) -> bool
-    ensures { result ≡ has_ends_named (view operation.now) }
-{
-    must_be_text(operation, "supplier") && must_be_text(operation, "consumer")
 }
 
 // Whether a file of that version, the second or not, may have an operation of that word.
