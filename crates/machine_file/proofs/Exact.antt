@@ -90,7 +90,7 @@ two_named a b (member k d (member l c (member m e ms))) apart h i f = let size :
 
 -- ---- of a value
 
-must_there : (test : Data → Bool) (o : Option Data) → is_some_and test o ≡ true → is_some o ≡ true
+pub must_there : (test : Data → Bool) (o : Option Data) → is_some_and test o ≡ true → is_some o ≡ true
 must_there test None e = absurd (false≢true e)
 must_there test (Some d) e = refl
 
