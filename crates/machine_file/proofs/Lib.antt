@@ -16,6 +16,7 @@ pub mod Fitted
 pub mod FittedFile
 pub mod Marked
 pub mod Worded
+pub mod Exact
 pub mod Sounding
 pub mod Counting
 pub mod Machined

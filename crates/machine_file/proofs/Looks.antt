@@ -6,7 +6,8 @@ use Rattle.serde_json.specs.Data.{Data}
 use Rattle.machine_file.specs.Members.{items_of}
 use Rattle.serde_json.specs.View.{view, items_view, members_view}
 use Rattle.serde_json.specs.declared.value.Value.{Value}
-use Rattle.serde_json.proofs.Views.{Entry}
+use Rattle.serde_json.specs.Events.{members_len}
+use Rattle.serde_json.proofs.Views.{Entry, members_len-members_view}
 use Rattle.machine_file.specs.Look.{are_named}
 
 -- a text among texts behind references
@@ -56,3 +57,7 @@ length_view (v ∷ vs) = ap suc (length_view vs)
 pub all_view : (p : Data → Bool) (vs : List Value) → list_all p (map view vs) ≡ list_all (λ v. p (view v)) vs
 all_view p [] = refl
 all_view p (v ∷ vs) = ap (λ b. p (view v) && b) (all_view p vs)
+
+-- as many members as entries
+pub members_size : (es : List Entry) → members_len (members_view es) ≡ length es
+members_size es = members_len-members_view es

@@ -66,7 +66,7 @@ module _ {K : Type 0} (eq : K → K → Bool) (laws : IsEquivalence eq) where
   abbrev pub is_first : List K → K → Bool
   is_first before k = not (list_any (eq k) before)
 
-any_append : {X : Type 0} (p : X → Bool) (xs : List X) (x : X) → list_any p (xs ++ x ∷ []) ≡ (p x || list_any p xs)
+pub any_append : {X : Type 0} (p : X → Bool) (xs : List X) (x : X) → list_any p (xs ++ x ∷ []) ≡ (p x || list_any p xs)
 any_append p [] x = refl
 any_append p (y ∷ ys) x = ap (λ b. p y || b) (any_append p ys x) ∙ swap (p y) (p x) (list_any p ys)
   where

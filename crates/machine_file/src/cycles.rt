@@ -9,10 +9,12 @@ ghost use Rattle.machine_file.specs.Devices.{whole_devices, whole_links, closes_
 ghost use Rattle.machine_file.specs.Joined.{AreJoined};
 ghost use Rattle.machine_file.specs.Places.{first_not_after};
 ghost use Rattle.machine_file.specs.Fresh.{AreFresh, closes_nothing};
+ghost use Rattle.machine_file.specs.Seen.{ends_seen, ends_written, AreEnds};
 ghost use Rattle.machine_file.specs.Knows.{Knows, texts};
 
 use crate::known::{Known, place_of_name};
-use crate::look::{has_text, text_at};
+use crate::look::has_text;
+use crate::pairs::Ends;
 use crate::place::{Member, items};
 use crate::places::Places;
 use device_links::{LinkFault, Links};
@@ -66,13 +68,14 @@ pub(crate) fn parents_of<'v>(
     Ok(parents)
 }
 
-fn link_of<'v>(link: &'v Value, names: &Places<&'v str>) -> Link
-    requires { length names.now ≤ 1000 }
+fn link_of<'v>(link: &'v Value, ends: &Ends<'v>, names: &Places<&'v str>) -> Link
+    requires few { length names.now ≤ 1000 }
+    requires ends { ends_seen ends.now ≡ ends_written (view link.now) }
     ensures { result ≡ link_of (texts names.now) (view link.now) }
 {
     Link {
-        supplier: place_among(names, text_at(link, "supplier")) as u32,
-        consumer: place_among(names, text_at(link, "consumer")) as u32,
+        supplier: place_among(names, ends.supplier) as u32,
+        consumer: place_among(names, ends.consumer) as u32,
         active: !has_text(link, "state", "dormant"),
     }
 }
@@ -81,14 +84,16 @@ fn link_of<'v>(link: &'v Value, names: &Places<&'v str>) -> Link
 pub(crate) fn links_of<'v>(
     alloc: Global,
     links: &'v [Value],
+    ends: &[Ends<'v>],
     names: &Places<&'v str>,
 ) -> Result<Vec<Link>, Mem>
-    requires { length names.now ≤ 1000 }
+    requires few { length names.now ≤ 1000 }
+    requires ends { map ends_seen ends.now ≡ map ends_written (map view links.now) }
     ensures { IfOk result (λ v. v.items ≡ map (link_of (texts names.now)) (map view links.now)) }
 {
     let mut all = Vec::with_capacity(alloc, links.len())?;
-    for link in links {
-        all.push(link_of(link, names))?;
+    for i in 0..links.len() {
+        all.push(link_of(&links[i], &ends[i], names))?;
     }
     Ok(all)
 }
@@ -151,8 +156,10 @@ pub(crate) fn linking_of<'v>(
     alloc: Global,
     tree: &'v Value,
     known: &Known<'v>,
+    ends: &[Ends<'v>],
 ) -> Result<Linking, Mem>
     requires knows { Knows known.now (view tree.now) }
+    requires ends { AreEnds ends.now (view tree.now) }
     requires joined { AreJoined (view tree.now) }
     ensures links { IfOk result (λ l. l.links.items ≡ whole_links (view tree.now)) }
     ensures cycle { IfOk result (λ l. l.added.cycle ≡
@@ -161,7 +168,7 @@ pub(crate) fn linking_of<'v>(
         record { parents = parents_of (whole_devices (view tree.now)); links = reverse (whole_links (view tree.now)) }) }
 {
     let parents = parents_in(alloc, tree, known)?;
-    let links = links_in(alloc, tree, known)?;
+    let links = links_in(alloc, tree, known, ends)?;
     let added = add_links(alloc, &parents, &links)?;
     Ok(Linking { links, added })
 }
@@ -179,11 +186,17 @@ fn parents_in<'v>(
     Ok(parents)
 }
 
-fn links_in<'v>(alloc: Global, tree: &'v Value, known: &Known<'v>) -> Result<Vec<Link>, Mem>
+fn links_in<'v>(
+    alloc: Global,
+    tree: &'v Value,
+    known: &Known<'v>,
+    ends: &[Ends<'v>],
+) -> Result<Vec<Link>, Mem>
     requires knows { Knows known.now (view tree.now) }
+    requires ends { AreEnds ends.now (view tree.now) }
     requires joined { AreJoined (view tree.now) }
     ensures { IfOk result (λ v. v.items ≡ whole_links (view tree.now)) }
 {
-    let links = links_of(alloc, items(tree, Member::Links), &known.devices)?;
+    let links = links_of(alloc, items(tree, Member::Links), ends, &known.devices)?;
     Ok(links)
 }

@@ -7,11 +7,14 @@ ghost use Rattle.machine_file.specs.Members.{may_have, list_in, link_members};
 ghost use Rattle.machine_file.specs.Look.{has_only};
 ghost use Rattle.machine_file.specs.Places.{first_not};
 ghost use Rattle.machine_file.specs.Form.{is_string, is_device_form, is_link_form, is_notifier_form, is_actor_form, is_ret_form, is_plain_report, is_event_report, is_report_form, are_reports, is_answer_form, unformed_member, unformed_item};
+ghost use Rattle.machine_file.specs.Operations.{has_ends_named};
+ghost use Rattle.machine_file.specs.Exact.{has_device_rest, has_link_rest};
 ghost use Rattle.machine_file.specs.Broken.{place_of};
 
 use crate::look::{
-    has_only, has_text, is_number, is_one_of, is_string, list_in, may_be_list, may_be_near,
-    may_be_one_of, may_be_text, may_be_truth, may_be_within, must_be_one_of, must_be_text,
+    has_only, has_size, has_text, is_number, is_one_of, is_string, list_in, may_be_list,
+    may_be_near, may_be_one_of, may_be_text, may_be_truth, may_be_within, must_be_one_of,
+    must_be_text,
 };
 use crate::place::{Member, Place};
 use serde_json::Value;
@@ -67,15 +70,22 @@ pub(crate) fn unformed_member(tree: &Value) -> Option<Place>
     None
 }
 
-pub(crate) fn is_device_form(value: &Value) -> bool
-    ensures { result ≡ is_device_form (view value.now) }
+// Whether a device has none but its members, and those beside its name have their form.
+fn has_device_rest(value: &Value) -> bool
+    ensures { result ≡ has_device_rest (view value.now) }
 {
     has_only(value, &["name", "parent", "async", "wakeup", "runtime"])
-        && must_be_text(value, "name")
         && may_be_text(value, "parent")
         && may_be_truth(value, "async")
         && may_be_truth(value, "wakeup")
         && may_be_one_of(value, "runtime", &STATUSES)
+}
+
+// A device that has a name and no more members has no others to be looked for.
+pub(crate) fn is_device_form(value: &Value) -> bool
+    ensures { result ≡ is_device_form (view value.now) }
+{
+    must_be_text(value, "name") && (has_size(value, 1) || has_device_rest(value))
 }
 
 // Whether a link has none but its members: with a state in a file of version 2.
@@ -89,13 +99,25 @@ fn has_link_members(value: &Value, second: bool) -> bool
     }
 }
 
+// Whether a link has none but its members, and its state, where it is given, has its form.
+fn has_link_rest(value: &Value, second: bool) -> bool
+    ensures { result ≡ has_link_rest second (view value.now) }
+{
+    has_link_members(value, second) && may_be_one_of(value, "state", &LINK_STATES)
+}
+
+/// Whether both ends of a link are given.
+pub(crate) fn has_ends(value: &Value) -> bool
+    ensures { result ≡ has_ends_named (view value.now) }
+{
+    must_be_text(value, "supplier") && must_be_text(value, "consumer")
+}
+
+// A link that has two ends and no more members has no others to be looked for.
 pub(crate) fn is_link_form(value: &Value, second: bool) -> bool
     ensures { result ≡ is_link_form second (view value.now) }
 {
-    has_link_members(value, second)
-        && must_be_text(value, "supplier")
-        && must_be_text(value, "consumer")
-        && may_be_one_of(value, "state", &LINK_STATES)
+    has_ends(value) && (has_size(value, 2) || has_link_rest(value, second))
 }
 
 pub(crate) fn is_notifier_form(value: &Value) -> bool

@@ -1,9 +1,10 @@
 //! Tests of one JSON value, and what of it stands at a name.
 
-ghost use Rattle.std.specs.Prelude.{◌≡◌, ◌≤◌, map, bytes_eq, option_copied};
+ghost use Rattle.std.specs.Prelude.{◌≡◌, ◌≤◌, ◌==◌, map, bytes_eq, option_copied};
 ghost use Rattle.std.specs.List.{list_any};
+ghost use Rattle.serde_json.specs.Events.{members_len};
 ghost use Rattle.serde_json.specs.View.{view, members_view, items_view};
-ghost use Rattle.machine_file.specs.Look.{is_some_and, is_none_or, is_number, is_text, is_list, are_named, has_only, text_of, text_at, list_at};
+ghost use Rattle.machine_file.specs.Look.{is_some_and, is_none_or, is_number, is_text, is_list, are_named, has_only, has_size, text_of, text_at, list_at};
 ghost use Rattle.machine_file.specs.Members.{must_have, may_have, has_text, list_in, number_at, word_at, truth_at};
 ghost use Rattle.machine_file.specs.Form.{is_string, is_truth, is_within, is_near, is_one_of};
 
@@ -260,6 +261,23 @@ fn list_at<'v>(value: &'v Value, name: &str) -> &'v [Value]
 }
 
 // ---- members
+
+// Whether this is an object of so many members.
+pub(crate) fn has_size(value: &Value, size: usize) -> bool
+    ensures { result ≡ has_size size (view value.now) }
+{
+    match value.as_object() {
+        Some(members) => is_of_size(members, size),
+        None => false,
+    }
+}
+
+#[tactic(auto, using(crate::proofs::Looks::members_size))]
+fn is_of_size(members: &Map<String, Value>, size: usize) -> bool
+    ensures { result ≡ (members_len (members_view members.now.entries) == size) }
+{
+    members.len() == size
+}
 
 // Whether this is an object that has no members but those of these names.
 pub(crate) fn has_only(value: &Value, names: &[&str]) -> bool

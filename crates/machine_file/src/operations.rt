@@ -1,6 +1,6 @@
 //! The operations of scripts: their form, who may make them, and what they name.
 
-ghost use Rattle.std.specs.Prelude.{◌≡◌, ◌||◌, not, map, position, option_map, codes, ◌∷◌, nat_le, length};
+ghost use Rattle.std.specs.Prelude.{◌≡◌, Some, ◌||◌, not, map, position, option_map, codes, ◌∷◌, nat_le, length};
 ghost use Rattle.std.specs.List.{list_all};
 ghost use Rattle.serde_json.specs.View.{view};
 ghost use Rattle.serde_json.specs.Find.{as_str};
@@ -10,16 +10,16 @@ ghost use Rattle.machine_file.specs.Places.{first_not, first_operation, first_op
 ghost use Rattle.machine_file.specs.Names.{is_among_names};
 ghost use Rattle.machine_file.specs.Operations.{is_formed, is_allowed, has_count, has_short_text, is_state_form, has_length, has_mark, is_runtime_form, has_ends_named, is_link_state_form, changes_links, has_source, is_event_form, row_of, fits_row, names_source, names_device, unformed_operation, forbidden_operation, sourceless_operation, deviceless_operation};
 ghost use Rattle.machine_file.specs.OperationRows.{op_row, row_named, operation_test};
-ghost use Rattle.machine_file.specs.SoundOperations.{names_by_word, word_changes_links, is_sound_as, is_sound, is_sound_script, are_operations_sound};
+ghost use Rattle.machine_file.specs.SoundOperations.{has_no_more, has_rest, names_by_word, word_changes_links, is_sound_as, is_sound, is_sound_script, are_operations_sound};
 ghost use Rattle.machine_file.specs.Knows.{Knows, texts};
 ghost use Rattle.machine_file.specs.Broken.{place_of};
 
-use crate::form::{DAY, LINK_STATES, STATUSES};
+use crate::form::{DAY, LINK_STATES, STATUSES, has_ends};
 use crate::items::{is_second, must_be_name};
 use crate::known::{Known, contains};
 use crate::look::{
-    has_only, has_text, is_among, is_same, list_in, may_be_truth, may_be_within, must_be_one_of,
-    must_be_text, must_be_within, text_at, word_at,
+    has_only, has_size, has_text, is_among, is_same, list_in, may_be_truth, may_be_within,
+    must_be_one_of, must_be_text, must_be_within, text_at, word_at,
 };
 use crate::place::{Member, Place, items};
 use crate::places::Places;
@@ -152,13 +152,6 @@ fn is_short_text(value: &Value) -> bool
         Some(text) => text.len() <= 32,
         None => false,
     }
-}
-
-// Whether both ends of a link are given.
-fn has_ends(operation: &Value) -> bool
-    ensures { result ≡ has_ends_named (view operation.now) }
-{
-    must_be_text(operation, "supplier") && must_be_text(operation, "consumer")
 }
 
 // Whether a file of that version, the second or not, may have an operation of that word.
@@ -329,6 +322,33 @@ fn changes_links(word: Word) -> bool
     matches!(word, Word::Link | Word::LinkState)
 }
 
+// Whether an operation has no more members than its word and what it must have beside it, where that is
+// one at most.
+fn has_no_more(operation: &Value, word: Word) -> bool
+    ensures { result ≡ has_no_more word (view operation.now) }
+{
+    match word {
+        Word::Read | Word::Save | Word::FreezePoint => has_size(operation, 1),
+        Word::Runtime | Word::Link | Word::LinkState => false,
+        _ => has_size(operation, 2),
+    }
+}
+
+// Whether an operation has no members but those of its word, and is made as often as it may be.
+fn has_rest(operation: &Value, word: Word) -> bool
+    ensures { result ≡ has_rest word (view operation.now) }
+{
+    has_members(operation, word) && may_be_within(operation, "times", 1, 20_000)
+}
+
+// The same as `is_formed`, of an operation of that word.
+fn is_formed_as(operation: &Value, word: Word) -> bool
+    requires { Some (op_row word) ≡ row_of (view operation.now) }
+    ensures { result ≡ fits_row (view operation.now) (op_row word) }
+{
+    has_form(operation, word) && (has_no_more(operation, word) || has_rest(operation, word))
+}
+
 // Whether an operation of that word and of an actor of that kind passes all tests.
 fn is_sound_as<'v>(
     word: Word,
@@ -337,11 +357,12 @@ fn is_sound_as<'v>(
     kind: &str,
     operation: &'v Value,
 ) -> bool
+    requires { Some (op_row word) ≡ row_of (view operation.now) }
     ensures { result ≡ is_sound_as word second known.now kind.now (view operation.now) }
 {
     (second || !changes_links(word))
         && is_allowed(kind, word)
-        && is_formed(operation, word)
+        && is_formed_as(operation, word)
         && names_what_is_there(word, operation, known)
 }
 

@@ -1,21 +1,22 @@
 //! The parents of devices and the ends of links.
 
-ghost use Rattle.std.specs.Prelude.{◌≡◌, ◌&&◌, [], not, map, take, bytes_eq, codes, IfOk, position};
+ghost use Rattle.std.specs.Prelude.{◌≡◌, ◌&&◌, [], not, map, take, bytes_eq, codes, is_some, IfOk, position};
 ghost use Rattle.std.specs.List.{list_any};
 ghost use Rattle.serde_json.specs.View.{view};
 ghost use Rattle.machine_file.specs.Look.{is_none_or, text_at};
 ghost use Rattle.machine_file.specs.Members.{list_in, word_at};
 ghost use Rattle.machine_file.specs.Places.{first_not, first_not_after};
-ghost use Rattle.machine_file.specs.Devices.{has_parent_before, has_ends, orphan, loose_link, repeated_link};
+ghost use Rattle.machine_file.specs.Devices.{has_parent_before, orphan, loose_link, repeated_link};
 ghost use Rattle.machine_file.specs.Rules.{name_of};
 ghost use Rattle.machine_file.specs.Knows.{Knows, texts};
-ghost use Rattle.machine_file.specs.Seen.{ends_seen, ends_written, differ, same_ends};
+ghost use Rattle.machine_file.specs.Seen.{ends_seen, ends_written, differ, same_ends, are_ends_of, AreEnds};
 ghost use Rattle.machine_file.specs.Broken.{place_of};
 
 use crate::known::{Known, contains, item};
 use crate::look::text_at;
 use crate::place::{Member, Place, items};
 use crate::places::Places;
+use indexmap::IndexMap;
 use serde_json::Value;
 use sleep_base::Mem;
 use std::alloc::Global;
@@ -23,8 +24,8 @@ use std::alloc::Global;
 /// The ends of a link, by name.
 #[derive(Clone, Copy, PartialEq, Eq, Hash)]
 pub(crate) struct Ends<'v> {
-    supplier: &'v str,
-    consumer: &'v str,
+    pub(crate) supplier: &'v str,
+    pub(crate) consumer: &'v str,
 }
 
 // Whether the parent, where one is named, is one of the first so many devices.
@@ -67,29 +68,6 @@ pub(crate) fn orphan<'v>(tree: &'v Value, known: &Known<'v>) -> Option<Place>
     )
 }
 
-fn has_ends<'v>(link: &'v Value, names: &Places<&'v str>) -> bool
-    ensures { result ≡ has_ends (texts names.now) (view link.now) }
-{
-    contains(names, text_at(link, "supplier")) && contains(names, text_at(link, "consumer"))
-}
-
-fn first_loose<'v>(links: &'v [Value], names: &Places<&'v str>) -> Option<usize>
-    ensures { result ≡ position (λ v. not (has_ends (texts names.now) (view v))) links.now }
-{
-    links.iter().position(|link| !has_ends(link, names))
-}
-
-/// The first link of which an end is no device.
-pub(crate) fn loose_link<'v>(tree: &'v Value, known: &Known<'v>) -> Option<Place>
-    requires { Knows known.now (view tree.now) }
-    ensures { place_of result ≡ loose_link (view tree.now) }
-{
-    item(
-        Member::Links,
-        first_loose(items(tree, Member::Links), &known.devices),
-    )
-}
-
 fn ends_of<'v>(alloc: Global, links: &'v [Value]) -> Result<Vec<Ends<'v>>, Mem>
     ensures { IfOk result (λ v. map ends_seen v.items ≡ map ends_written (map view links.now)) }
 {
@@ -103,34 +81,69 @@ fn ends_of<'v>(alloc: Global, links: &'v [Value]) -> Result<Vec<Ends<'v>>, Mem>
     Ok(ends)
 }
 
-// Whether the ends are one, or stand among the first so many.
-fn is_again(ends: &Places<Ends>, key: &Ends, count: usize) -> bool
-    ensures { result ≡ not (differ (ends_seen key.now)
-        && not (list_any (λ f. same_ends (ends_seen key.now) (ends_seen f)) (take count ends.now))) }
+/// The ends of the links of a file.
+pub(crate) fn ends_in<'v>(alloc: Global, tree: &'v Value) -> Result<Vec<Ends<'v>>, Mem>
+    ensures { IfOk result (λ v. AreEnds v.items (view tree.now)) }
 {
-    key.supplier == key.consumer || ends.is_before(key, count)
+    let ends = ends_of(alloc, items(tree, Member::Links))?;
+    Ok(ends)
+}
+
+fn are_there<'v>(ends: &Ends<'v>, names: &Places<&'v str>) -> bool
+    ensures { result ≡ are_ends_of (texts names.now) (ends_seen ends.now) }
+{
+    contains(names, ends.supplier) && contains(names, ends.consumer)
+}
+
+fn first_loose<'v>(ends: &[Ends<'v>], names: &Places<&'v str>) -> Option<usize>
+    ensures { result ≡ position (λ e. not (are_ends_of (texts names.now) (ends_seen e))) ends.now }
+{
+    ends.iter().position(|link| !are_there(link, names))
+}
+
+/// The first link of which an end is no device.
+pub(crate) fn loose_link<'v>(tree: &'v Value, known: &Known<'v>, ends: &[Ends<'v>]) -> Option<Place>
+    requires knows { Knows known.now (view tree.now) }
+    requires ends { AreEnds ends.now (view tree.now) }
+    ensures { place_of result ≡ loose_link (view tree.now) }
+{
+    let _ = tree;
+    item(Member::Links, first_loose(ends, &known.devices))
+}
+
+// Whether the ends are one, or have been seen before.
+fn is_again(key: &Ends, before: Option<usize>) -> bool
+    ensures { result ≡ not (differ (ends_seen key.now) && not (is_some before)) }
+{
+    key.supplier == key.consumer || before.is_some()
 }
 
 // The first ends that are one, or that stand before.
-fn first_again(ends: &Places<Ends>) -> Option<usize>
-    ensures { result ≡ first_not_after (λ before e. differ (ends_seen e)
-        && not (list_any (λ f. same_ends (ends_seen e) (ends_seen f)) before)) [] 0 ends.now }
+fn first_again(alloc: Global, ends: &[Ends]) -> Result<Option<usize>, Mem>
+    ensures { IfOk result (λ n. n ≡ first_not_after (λ before e. differ (ends_seen e)
+        && not (list_any (λ f. same_ends (ends_seen e) (ends_seen f)) before)) [] 0 ends.now) }
 {
-    let keys = ends.keys();
-    for i in 0..keys.len() {
-        let key = keys[i];
-        if is_again(ends, &key, i) {
-            return Some(i);
+    let mut seen = IndexMap::with_capacity(alloc, ends.len())?;
+    for i in 0..ends.len() {
+        let key = ends[i];
+        let before = seen.insert(key, i)?;
+        if is_again(&key, before) {
+            return Ok(Some(i));
         }
     }
-    None
+    Ok(None)
 }
 
 /// The first link that has one end, or that stands before.
-pub(crate) fn repeated_link(alloc: Global, tree: &Value) -> Result<Option<Place>, Mem>
+pub(crate) fn repeated_link(
+    alloc: Global,
+    tree: &Value,
+    ends: &[Ends],
+) -> Result<Option<Place>, Mem>
+    requires { AreEnds ends.now (view tree.now) }
     ensures { IfOk result (λ p. place_of p ≡ repeated_link (view tree.now)) }
 {
-    let ends = ends_of(alloc, items(tree, Member::Links))?;
-    let ends = Places::new(alloc, ends)?;
-    Ok(item(Member::Links, first_again(&ends)))
+    let _ = tree;
+    let number = first_again(alloc, ends)?;
+    Ok(item(Member::Links, number))
 }

@@ -83,7 +83,7 @@ ghost use Rattle.indexmap.specs.IndexMap.{get};
 fn places_of<K: Hash + Eq + Copy>(alloc: Global, keys: &[K]) -> Result<IndexMap<K, usize>, Mem>
     ensures { IfOk result (λ m. (k : K) → get K.eq m k ≡ position (K.eq k) keys.now) }
 {
-    let mut places = IndexMap::new(alloc);
+    let mut places = IndexMap::with_capacity(alloc, keys.len())?;
     for i in (0..keys.len()).rev() {
         places.insert(keys[i], i)?;
     }

@@ -4,5 +4,5 @@ use Rattle.machine_file.specs.Spelled.{link_of}
 use Rattle.machine_file.specs.Knows.{texts}
 use Rattle.machine_file.proofs.cycles.links_of.Given as goal
 
-abbrev pub invariant-loop-link : goal.invariant-loop-link
-invariant-loop-link l = l.all.items ≡ map (link_of (texts l.names)) (map view (take l.link-index l.links))
+abbrev pub invariant-loop-i : goal.invariant-loop-i
+invariant-loop-i l = l.all.items ≡ map (link_of (texts l.names)) (map view (take l.i l.links))

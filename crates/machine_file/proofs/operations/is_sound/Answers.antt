@@ -5,6 +5,9 @@ use Rattle.machine_file.specs.OperationRows.{op_row}
 use Rattle.machine_file.proofs.Sounding.{told, untold}
 use Rattle.machine_file.proofs.operations.is_sound.Goals as goal
 
+pub is_sound_as-requires : goal.is_sound_as-requires
+is_sound_as-requires c = sym (ap (option_map op_row) c.in-Some.is) ∙ c.word_of.ensures
+
 pub returns-in-Some : goal.returns-in-Some
 returns-in-Some c =
     c.is_sound_as.ensures

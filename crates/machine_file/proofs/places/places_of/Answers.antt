@@ -13,7 +13,7 @@ loop-i-preserved g c =
     (get g.K.PartialEq.eq c.loop-i.places) (get g.K.PartialEq.eq c.insert.new.self) before c.in_ok-insert.ensures.updates.0
 
 pub loop-i-init : goal.loop-i-init
-loop-i-init g c = λ (k : g.row.K.Denot). ap (lookup (g.K.PartialEq.eq k)) c.new-places.ensures.empty ∙ sym (placed_none g.K.PartialEq.eq g.met.K.Eq.laws c.args.keys.now k)
+loop-i-init g c = λ (k : g.row.K.Denot). ap (lookup (g.K.PartialEq.eq k)) c.in_ok-places.ensures.empty ∙ sym (placed_none g.K.PartialEq.eq g.met.K.Eq.laws c.args.keys.now k)
 
 pub returns : goal.returns
 returns g c = λ k. c.loop-i.invariant k ∙ placed_all g.K.PartialEq.eq g.met.K.Eq.laws c.args.keys.now c.loop-i.i (omega arith) k
