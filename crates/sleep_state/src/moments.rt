@@ -67,6 +67,24 @@ fn rise(nodes: &mut [Option<u64>], many: usize, above: usize)
     }
 }
 
+/// Whether there is a moment that is not later than now.
+fn is_past(moment: Option<u64>, now: u64) -> bool {
+    match moment {
+        Some(moment) => moment <= now,
+        None => false,
+    }
+}
+
+/// The node behind this one and all below it, if there is one, where each node stands before those below it.
+fn node_behind(at: usize) -> Option<usize> {
+    let above = at >> (!at).trailing_zeros().min(63);
+    if above == 0 {
+        None
+    } else {
+        Some(above.saturating_add(1))
+    }
+}
+
 impl Moments {
     ghost use Rattle.std.specs.Prelude.{◌≡◌, ◌<◌, None, length, replicate, slice_set, IfOk};
     ghost use Rattle.sleep_state.specs.Trees.{least_of};
@@ -89,6 +107,27 @@ impl Moments {
         ensures { result ≡ least_of self.now }
     {
         node(self.nodes.as_slice(), 1)
+    }
+
+    /// The next thing behind that one, or the first of all, whose moment is not later than now. Things are gone through in
+    /// the order of the tree. Which are found is no part of what is promised.
+    pub(crate) fn next_past(&self, behind: Option<usize>, now: u64) -> Option<usize> {
+        let mut next = match behind {
+            Some(thing) => node_behind(self.many.saturating_add(thing)),
+            None => Some(1),
+        };
+        // The tree has at most 64 levels.
+        for _ in 0..256 {
+            let at = next?;
+            if !is_past(node(self.nodes.as_slice(), at), now) {
+                next = node_behind(at);
+            } else if at < self.many {
+                next = Some(at.saturating_mul(2));
+            } else {
+                return Some(at - self.many);
+            }
+        }
+        None
     }
 
     /// Another moment of a thing, or none.

@@ -142,6 +142,12 @@ impl Seats {
         self.awake == 0 && is_later(self.ends.least(), time)
     }
 
+    /// The next script behind that one, or the first, whose sleep has come to its end by now. Which are found is no part
+    /// of what is promised.
+    pub(crate) fn next_slept(&self, behind: Option<usize>, now: u64) -> Option<usize> {
+        self.ends.next_past(behind, now)
+    }
+
     /// Whether every script has made its exit.
     pub(crate) fn all_exited(&self) -> bool
         ensures { result ≡ all_exited self.now }

@@ -235,4 +235,14 @@ impl Tasks {
     {
         self.seats.are_still(time)
     }
+
+    /// The next script behind that one, or the first, whose sleep has come to its end by now, in an order of its own. Which
+    /// are found is no part of what is promised.
+    pub fn next_slept(&self, behind: Option<u32>, now: u64) -> Option<u32> {
+        let behind = behind.map(|script| script as usize);
+        match self.seats.next_slept(behind, now) {
+            Some(script) => u32::try_from(script).ok(),
+            None => None,
+        }
+    }
 }
