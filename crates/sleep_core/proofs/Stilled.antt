@@ -1,5 +1,5 @@
 -- While no attempt is open, a script that has exited or sleeps on makes nothing, nor does a device.
-use Rattle.std.proofs.Common.{◌≡◌, ◌+◌, ◌∙◌, ◌⊎◌, inl, inr, ℕ, zero, suc, Bool, true, false, not, ◌&&◌, ◌||◌, nat_lt, nat_le, List, [], ◌∷◌, length, map, slice_get, slice_set, Option, Some, None, refl, sym, ap, subst, cond, arith}
+use Rattle.std.proofs.Common.{◌≡◌, ◌≤◌, ◌<◌, ◌+◌, ◌∙◌, ◌⊎◌, inl, inr, ℕ, zero, suc, Bool, true, false, not, ◌&&◌, ◌||◌, nat_lt, nat_le, List, [], ◌∷◌, length, map, slice_get, slice_set, Option, Some, None, is_some, refl, sym, ap, ap₂, subst, cond, arith}
 use Rattle.std.proofs.lemmas.Bool.Decides.{nat_tests}
 use Rattle.sleep_model.specs.declared.entry.Actor.{Actor}
 use Rattle.sleep_model.specs.declared.entry.Actor.TheVariants as actor
@@ -21,17 +21,18 @@ use Rattle.sleep_model.specs.declared.log.Why.TheVariants as why
 use Rattle.sleep_model.specs.declared.word.EventNow.{EventNow}
 use Rattle.phase_table.specs.declared.phase.Phase.{Phase}
 use Rattle.phase_table.specs.declared.phase.Phase.TheVariants as phase
-use Rattle.sleep_model.specs.Attempt.{attempt_due, sleeps_now}
+use Rattle.sleep_model.specs.Attempt.{attempt_due, sleep_of, sleeps_now}
 use Rattle.sleep_model.specs.Devices.{async_work, work_by, device_due, stand_in, is_async_device}
 use Rattle.sleep_model.specs.Due.{due, own_due}
 use Rattle.sleep_model.specs.Freezer.{unasked, freezing_at, freezing}
-use Rattle.sleep_model.specs.Legal.{JournalPart, is_made}
+use Rattle.sleep_model.specs.Legal.{JournalPart, is_made, sooner, pending_sleep, next_sleep}
 use Rattle.sleep_model.specs.Numbers.{time_of}
 use Rattle.sleep_model.specs.Path.{maker, is_actor}
 use Rattle.sleep_model.specs.Scripts.{entry_steps}
 use Rattle.sleep_model.specs.Seats.{SeatPart, Stays, first_seat, seat_at, seat_part, seat_after, seats_after, seats}
 use Rattle.sleep_model.specs.Steps.{slept_due, step_due, task_due, seat_due}
 use Rattle.sleep_model.specs.Tasks.{is_line}
+use Rattle.sleep_laws.proofs.Answering.{Side, side_kept}
 use Rattle.sleep_laws.proofs.Boards.{at, at_is, three}
 use Rattle.sleep_laws.proofs.Holding.{at_stage, stage_none}
 use Rattle.sleep_laws.proofs.Made.{Down, InSuspend, InLate, InNoirq, Made, StepMade, TaskMade, EntryMade, ByMaker, ByTask, ByWork, ByDevice, ByTime}
@@ -42,8 +43,8 @@ use Rattle.sleep_laws.proofs.Restoring.{IsUndone, undone_kept}
 use Rattle.sleep_laws.proofs.Standing.{Standing}
 use Rattle.sleep_laws.proofs.Telling.{none≢some, some_is}
 use Rattle.sleep_laws.proofs.Turning.{never}
-use Rattle.sleep_core.specs.Steps.{sleeps_past, is_still}
-use Rattle.sleep_core.proofs.Seated.{first_seats}
+use Rattle.sleep_state.specs.Sleepers.{end_of, sleeps_past, is_still}
+use Rattle.sleep_core.proofs.Seated.{first_seats, seats_len}
 
 -- ---- where a script sleeps it stands at an operation that does
 
@@ -176,6 +177,30 @@ still_rests m past now i h closed still =
     ap (λ o. is_made (cond (is_actor (actor.Script i) o) (attempt_due m past now) (own_due m past (actor.Script i) now))) closed
     ∙ (ap (λ f. is_made (seat_due m past now f (slice_get m.actors i) (seat_at (seats (length m.actors) past) i))) (thawed m past i h closed)
     ∙ seat_still m past now (slice_get m.actors i) (seat_at (seats (length m.actors) past) i) (sleeps_if m past i h) still)
+
+-- ---- the least end of a sleep
+
+awake : (m : Machine) (past : List Entry) → JournalPart m past → maker past ≡ None → sleeps_now past ≡ false
+awake m past h closed =
+    let s : Side None past = subst (λ (o : Option Stage). Side o past) (stage_none m past h closed) (at_stage m Side (side_kept m) past h) in
+    ap is_some s
+
+get_script : (ss : List Script) (i : ℕ) (seat : Seat) → i < length ss → pending_sleep false unasked (slice_get ss i) seat ≡ seat.until
+get_script [] i seat l = absurd (omega (arith, l))
+get_script (s ∷ ss) zero seat l = refl
+get_script (s ∷ ss) (suc i) seat l = get_script ss i seat (omega (arith, l))
+
+ends_among : (m : Machine) (past : List Entry) (n : ℕ) → n ≤ length m.actors → JournalPart m past → maker past ≡ None → end_of (seats (length m.actors) past) n ≡ next_sleep m past n
+ends_among m past zero l h closed = refl
+ends_among m past (suc n) l h closed =
+    ap₂ sooner
+    (sym (ap₂ (λ b f. pending_sleep b f (slice_get m.actors n) (seat_at (seats (length m.actors) past) n)) (awake m past h closed) (thawed m past n h closed)
+        ∙ get_script m.actors n (seat_at (seats (length m.actors) past) n) (omega (arith, l))))
+    (ends_among m past n (omega (arith, l)) h closed)
+
+-- while no attempt is open, the least end of all sleeps is pending
+pub ends_pending : (m : Machine) (past : List Entry) → JournalPart m past → maker past ≡ None → end_of (seats (length m.actors) past) (length (seats (length m.actors) past)) ≡ next_sleep m past (length m.actors)
+ends_pending m past h closed = ap (end_of (seats (length m.actors) past)) (seats_len (length m.actors) past) ∙ ends_among m past (length m.actors) (omega arith) h closed
 
 -- ---- a device
 

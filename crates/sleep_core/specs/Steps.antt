@@ -1,5 +1,5 @@
 -- Words for what a task makes.
-use Rattle.std.specs.Prelude.{◌≡◌, ◌+◌, ℕ, Bool, false, ◌||◌, nat_lt, List, [], ◌∷◌, length, slice_get, Option, Some, None}
+use Rattle.std.specs.Prelude.{◌≡◌, ◌+◌, ℕ, List, [], ◌∷◌, length, slice_get, Option, Some, None}
 use Rattle.sleep_model.specs.declared.entry.Entry.{Entry}
 use Rattle.sleep_model.specs.declared.entry.FrozeEnd.{FrozeEnd}
 use Rattle.sleep_model.specs.declared.entry.FrozeEnd.TheVariants as froze
@@ -8,7 +8,6 @@ use Rattle.sleep_model.specs.declared.entry.Kind.TheVariants as kind
 use Rattle.sleep_model.specs.declared.machine.Script.{Script}
 use Rattle.sleep_model.specs.declared.machine.TaskKind.{TaskKind}
 use Rattle.sleep_model.specs.declared.machine.Machine.{Machine}
-use Rattle.sleep_model.specs.declared.place.Seat.{Seat}
 use Rattle.sleep_model.specs.Attempt.{sleeps_now}
 use Rattle.sleep_model.specs.Freezer.{freezing}
 use Rattle.sleep_model.specs.Legal.{pending_sleep}
@@ -34,12 +33,3 @@ IsKindOf (Some s) k = k ≡ s.kind
 abbrev pub sleep_end : Machine → List Entry → ℕ → Option ℕ
 sleep_end m past i =
     pending_sleep (sleeps_now past) (freezing m i past) (slice_get m.actors i) (seat_at (seats (length m.actors) past) i)
-
--- a sleep up to that moment goes on now (own)
-abbrev pub sleeps_past : Option ℕ → ℕ → Bool
-sleeps_past None time = false
-sleeps_past (Some until) time = nat_lt time until
-
--- a script that stands so has exited, or sleeps on now (own)
-abbrev pub is_still : Seat → ℕ → Bool
-is_still seat time = seat.exited || sleeps_past seat.until time

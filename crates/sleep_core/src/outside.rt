@@ -1,6 +1,7 @@
 //! What a run asks of the core between turns: jumps of time, calls that are due, and whether all is over.
 
 ghost use Rattle.std.specs.Prelude.{◌≡◌, ◌≤◌, ◌<◌, ◌+◌, ◌-◌, ◌^◌, ◌||◌, nat_lt, length, is_some, IfOk, OnErr};
+ghost use Rattle.std.specs.Bool.{OnTrue};
 ghost use Rattle.sleep_model.specs.Calls.{calls_due, pieces_in};
 ghost use Rattle.sleep_model.specs.Due.{due, is_over};
 ghost use Rattle.sleep_model.specs.Legal.{JournalPart, is_made};
@@ -11,12 +12,12 @@ ghost use Rattle.sleep_model.specs.Path.{maker};
 ghost use Rattle.sleep_model.specs.Seats.{seat_at, seats};
 ghost use Rattle.sleep_model.specs.Word.{position};
 ghost use Rattle.sleep_state.specs.Places.{entries};
+ghost use Rattle.sleep_state.specs.Sleepers.{AllStill};
 ghost use Rattle.async_board.specs.AtPlaces.{board_at};
 ghost use Rattle.sleep_core.specs.Seen.{is_scheduled, is_rescheduled, is_ready_on};
 ghost use Rattle.script_plan.specs.Plans.{calls_before};
 ghost use Rattle.sleep_core.specs.Cores.{IsActor, with_entry, next_stamp, jump_entry};
 ghost use Rattle.sleep_core.specs.Histories.{last_stamp};
-ghost use Rattle.sleep_core.specs.Steps.{sleeps_past, is_still};
 
 use crate::state::Core;
 use sleep_base::Mem;
@@ -36,16 +37,6 @@ fn is_rescheduled(stand: Stand) -> bool
     ensures { result ≡ is_rescheduled stand }
 {
     matches!(stand, Stand::Rescheduled)
-}
-
-/// Whether a sleep up to that moment goes on at that time.
-fn sleeps_past(until: Option<u64>, time: u64) -> bool
-    ensures { result ≡ sleeps_past until time }
-{
-    match until {
-        None => false,
-        Some(until) => time < until,
-    }
 }
 
 impl<'m> Core<'m> {
@@ -151,12 +142,17 @@ impl<'m> Core<'m> {
         self.history.path().maker().is_some()
     }
 
-    /// Whether a script has exited, or sleeps to a moment that has not come.
-    pub fn is_still(&self, script: u32) -> bool
-        ensures { result ≡ is_still (seat_at (seats (length self.now.machine.actors) (entries self.now.past)) script) (time_of (entries self.now.past)) }
+    /// Whether each script has exited, or sleeps to a moment that has not come. It may be so where that is not told.
+    pub fn are_still(&self) -> bool
+        ensures { OnTrue result (AllStill (seats (length self.now.machine.actors) (entries self.now.past)) (time_of (entries self.now.past))) }
     {
-        let seat = self.history.tasks().seat(script);
-        seat.exited || sleeps_past(seat.until, self.now())
+        self.history.tasks().are_still(self.now())
+    }
+
+    /// The next script behind that one, or the first, whose sleep has come to its end, in an order of its own. Which are
+    /// found is no part of what is promised.
+    pub fn next_slept(&self, behind: Option<u32>) -> Option<u32> {
+        self.history.tasks().next_slept(behind, self.now())
     }
 
     /// The devices that hang right below one: its children, then its consumers, each once.

@@ -66,8 +66,19 @@ impl<'m> Core<'m> {
         }
     }
 
-    /// The least end of the scripts' sleeps.
+    /// The least end of the scripts' sleeps. Where no attempt is open each is pending.
     fn next_sleep(&self) -> Option<u64>
+        ensures { result ≡ next_sleep self.now.machine (entries self.now.past) (length self.now.machine.actors) }
+    {
+        if self.is_open() {
+            self.least_sleep()
+        } else {
+            self.history.tasks().least_end()
+        }
+    }
+
+    /// The least end of those scripts' sleeps that are pending, each script being asked.
+    fn least_sleep(&self) -> Option<u64>
         ensures { result ≡ next_sleep self.now.machine (entries self.now.past) (length self.now.machine.actors) }
     {
         let mut next = None;

@@ -5,8 +5,10 @@ ghost use Rattle.sleep_run.specs.Waits.{waits_of, all_stats};
 ghost use Rattle.wakeup_source.specs.SourceStates.{bare, latest};
 
 use crate::run::{Run, RunFault, wait_unless};
+use crate::waiters::Waiters;
 use event_word::Events;
 use sleep_base::Mem;
+use sleep_core::Core;
 use sleep_model::{Actor, Due, EntryList, EventNow, ListOf, Log, LogEnd, Stats, Waiting};
 use std::alloc::{AllocError, Global};
 use std::sync::Wait;
@@ -63,11 +65,23 @@ fn log_of(entries: EntryList, stats: Vec<Stats>, end: LogEnd) -> Log
     }
 }
 
+/// The scripts whose sleeps have come to their ends may go on.
+fn stir_slept(core: &Core<'_>, waiters: &mut Waiters) {
+    let mut next = core.next_slept(None);
+    for _ in 0..u32::MAX {
+        let Some(script) = next else {
+            break;
+        };
+        waiters.stir_slept(script);
+        next = core.next_slept(Some(script));
+    }
+}
+
 impl<'m> Run<'m> {
     ghost use Rattle.std.specs.Prelude.{◌≡◌, ◌<◌, ◌+◌, length, reverse, Ok, IfOk, OnOk, IfErr};
     ghost use Rattle.std.specs.Bool.{OnTrue};
     ghost use Rattle.sleep_model.specs.declared.entry.Actor.TheVariants.{Script, Dev};
-    ghost use Rattle.sleep_model.specs.Legal.{JumpStep, IsStuckAfter, is_enabled, none_enabled, none_expires, stats_of, waiting};
+    ghost use Rattle.sleep_model.specs.Legal.{JumpStep, IsStuckAfter, none_enabled, none_expires, stats_of, waiting};
     ghost use Rattle.sleep_model.specs.Numbers.{numbers, time_of};
     ghost use Rattle.sleep_model.specs.Parts.{journal};
     ghost use Rattle.sleep_model.specs.Sources.{history};
@@ -80,27 +94,24 @@ impl<'m> Run<'m> {
         self.jobs.owe_none() && !self.core.is_open()
     }
 
-    /// Whether a script can make anything that sees this word. Where all is calm, none can that has exited or sleeps on.
-    #[inline(always)]
-    fn may_go(&self, calm: bool, script: u32, word: EventNow) -> bool
-        requires calm { OnTrue calm (IsCalm self.now.machine self.now.past) }
-        requires script { script < length self.now.machine.actors }
-        ensures { result ≡ is_enabled self.now.machine (journal self.now.past) (λ s. history s self.now.past) word (Script script) }
-    {
-        if calm && self.core.is_still(script) {
-            return false;
-        }
-        self.is_enabled(Actor::Script(script), word)
-    }
-
-    /// Whether no script can make anything that sees this word.
+    /// Whether no script can make anything that sees this word. Where all is calm, none can that has exited or sleeps on.
     fn rest_scripts(&self, calm: bool, word: EventNow) -> bool
         requires { OnTrue calm (IsCalm self.now.machine self.now.past) }
         ensures { result ≡ none_enabled self.now.machine (journal self.now.past) (λ s. history s self.now.past) word Script (length self.now.machine.actors) }
     {
+        if calm && self.core.are_still() {
+            return true;
+        }
+        self.rest_all_scripts(word)
+    }
+
+    /// Whether no script can make anything that sees this word, each of them being asked.
+    fn rest_all_scripts(&self, word: EventNow) -> bool
+        ensures { result ≡ none_enabled self.now.machine (journal self.now.past) (λ s. history s self.now.past) word Script (length self.now.machine.actors) }
+    {
         let mut none = true;
         for script in 0..self.machine.actors.len() as u32 {
-            none = !self.may_go(calm, script, word) & none;
+            none = !self.is_enabled(Actor::Script(script), word) & none;
         }
         none
     }
@@ -161,7 +172,8 @@ impl<'m> Run<'m> {
         wait_unless(rt, to <= LAST_MOMENT && self.floor.tick < u64::MAX);
         let now = self.events.look();
         self.floor = self.core.jump(now, to, self.floor)?;
-        self.waiters.stir_time(to);
+        self.waiters.stir_time();
+        stir_slept(&self.core, &mut self.waiters);
         Ok(())
     }
 

@@ -11,8 +11,6 @@ use std::alloc::Global;
 /// before time jumps.
 #[derive(Drop)]
 pub(crate) struct Waiters {
-    /// How many scripts there are.
-    many: u32,
     scripts: Asks,
     /// Scripts that wait for events to end, for a wakeup, for the machine to wake, or as makers of an attempt
     /// for tasks.
@@ -23,9 +21,8 @@ pub(crate) struct Waiters {
     maker: Option<u32>,
     for_mark: Asks,
     for_lock: Asks,
-    /// Scripts that sleep, and until when each does, in ms.
+    /// Scripts that sleep.
     asleep: Asks,
-    until: Vec<u64>,
     frozen: Asks,
     auto: bool,
     devices: Asks,
@@ -58,7 +55,6 @@ impl Waiters {
             all.insert(script as u32);
         }
         Ok(Waiters {
-            many: scripts as u32,
             scripts: all,
             for_word: Asks::new(alloc, scripts)?,
             awaited: None,
@@ -66,7 +62,6 @@ impl Waiters {
             for_mark: Asks::new(alloc, scripts)?,
             for_lock: Asks::new(alloc, scripts)?,
             asleep: Asks::new(alloc, scripts)?,
-            until: vec![in alloc; 0; scripts]?,
             frozen: Asks::new(alloc, scripts)?,
             auto: true,
             devices: Asks::new(alloc, devices.len())?,
@@ -138,29 +133,13 @@ impl Waiters {
         match why {
             Why::Mark(_) => self.for_mark.insert(script),
             Why::LockHeld => self.for_lock.insert(script),
-            Why::Until(moment) => self.script_sleeps(script, moment),
+            Why::Until(_) => self.asleep.insert(script),
             Why::Frozen => self.frozen.insert(script),
             Why::Device(device) => {
                 self.awaited = Some(device);
                 self.maker = Some(script);
             }
             _ => self.for_word.insert(script),
-        }
-    }
-
-    /// The script sleeps until that moment, in ms.
-    fn script_sleeps(&mut self, script: u32, moment: u64) {
-        if let Some(until) = self.until.get_mut(script as usize) {
-            *until = moment;
-        }
-        self.asleep.insert(script);
-    }
-
-    /// Whether the script sleeps no longer than to that moment, in ms.
-    fn has_slept(&self, script: u32, now: u64) -> bool {
-        match self.until.get(script as usize) {
-            Some(until) => *until <= now,
-            None => true,
         }
     }
 
@@ -247,25 +226,15 @@ impl Waiters {
         self.scripts.take(&mut self.frozen);
     }
 
-    /// Scripts that sleep no longer than to that moment, in ms.
-    fn stir_slept(&mut self, now: u64) {
-        let mut from = 0;
-        for _ in 0..self.many {
-            let Some(script) = self.asleep.next(from, self.many) else {
-                break;
-            };
-            if self.has_slept(script, now) {
-                self.asleep.remove(script);
-                self.scripts.insert(script);
-            }
-            from = script + 1;
-        }
+    /// A script's sleep has come to its end.
+    pub(crate) fn stir_slept(&mut self, script: u32) {
+        self.asleep.remove(script);
+        self.scripts.insert(script);
     }
 
-    /// Time has jumped to that moment, in ms. Devices wait for none, nor do frozen scripts.
-    pub(crate) fn stir_time(&mut self, now: u64) {
+    /// Time has jumped. Devices wait for no moment, nor do frozen scripts; those that sleep are told one by one.
+    pub(crate) fn stir_time(&mut self) {
         self.stir_awake();
-        self.stir_slept(now);
         self.timers = true;
     }
 

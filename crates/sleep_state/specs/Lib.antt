@@ -1,5 +1,9 @@
 pub mod DeviceStates
+pub mod MomentFields
 pub mod Paths
 pub mod Places
+pub mod SeatFields
+pub mod Sleepers
 pub mod TaskFields
 pub mod TaskStates
+pub mod Trees

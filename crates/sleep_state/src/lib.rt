@@ -2,7 +2,9 @@
 #![tactic(auto)]
 
 mod devices;
+mod moments;
 mod path;
+mod seats;
 mod tasks;
 #[cfg(test)]
 mod tests;

@@ -1,8 +1,9 @@
 ghost use Rattle.std.specs.Prelude.{◌≡◌, ◌<◌, ◌^◌};
 ghost use Rattle.sleep_model.specs.Marks.{marks_after};
-ghost use Rattle.sleep_model.specs.Seats.{first_seat, seat_part, next_step, seat_after, seats_after};
+ghost use Rattle.sleep_model.specs.Seats.{seat_part, next_step, seat_after, seats_after};
 ghost use Rattle.sleep_state.specs.TaskStates.{SeatIsSmall, MarksAreSmall};
 
+use crate::seats::{Seats, first_seat};
 use sleep_base::Mem;
 use sleep_model::{Actor, Kind, Seat};
 use std::alloc::Global;
@@ -11,7 +12,7 @@ use std::marker::Model;
 /// Where each script of a machine stands, and the marks by which scripts wait for one another.
 #[derive(Drop)]
 pub struct Tasks {
-    seats: Vec<Seat>,
+    seats: Seats,
     marks: Vec<u32>,
 }
 
@@ -23,21 +24,6 @@ impl Model for Tasks {
     ghost use Rattle.sleep_state.specs.TaskFields.{tasks};
 
     ghost view = { tasks };
-}
-
-/// A script at its first step.
-fn first_seat() -> Seat
-    ensures { result ≡ first_seat }
-{
-    Seat {
-        done: 0,
-        turns: 0,
-        waits: false,
-        last_read: None,
-        saved: false,
-        until: None,
-        exited: false,
-    }
 }
 
 /// The step under way has ended, and the next one has not begun.
@@ -110,14 +96,15 @@ fn seat_after(kind: Kind, seat: Seat) -> Seat
 }
 
 /// A script's own entry moves its place.
-fn move_seat(seats: &mut Vec<Seat>, who: Actor, kind: Kind)
-    requires { SeatIsSmall who seats.old.items }
-    ensures { seats.new.items ≡ seats_after who (seat_part kind) seats.old.items }
+#[tactic(auto, using(crate::proofs::Sleeping::set_none))]
+fn move_seat(seats: &mut Seats, who: Actor, kind: Kind)
+    requires { SeatIsSmall who seats.old }
+    ensures { seats.new ≡ seats_after who (seat_part kind) seats.old }
 {
     if let Actor::Script(i) = who {
-        if let Some(seat) = seats.get(i as usize) {
-            let after = seat_after(kind, *seat);
-            seats[i as usize] = after;
+        match seats.get(i as usize) {
+            Some(seat) => seats.set(i as usize, seat_after(kind, seat)),
+            None => {}
         }
     }
 }
@@ -145,17 +132,19 @@ fn move_marks(marks: &mut Vec<u32>, kind: Kind)
 }
 
 impl Tasks {
-    ghost use Rattle.std.specs.Prelude.{◌≡◌, IfOk};
+    ghost use Rattle.std.specs.Prelude.{◌≡◌, IfOk, length};
+    ghost use Rattle.std.specs.Bool.{OnTrue};
     ghost use Rattle.sleep_model.specs.Marks.{mark_at};
     ghost use Rattle.sleep_model.specs.Seats.{seat_at, all_exited};
     ghost use Rattle.sleep_state.specs.TaskStates.{SeatIsSmall, MarksAreSmall, tasks_after, at_first};
+    ghost use Rattle.sleep_state.specs.Sleepers.{end_of, AllStill};
 
     /// So many scripts at their first steps, and so many marks. `Mem` where there is no memory.
     pub fn new(alloc: Global, scripts: usize, marks: usize) -> Result<Self, Mem>
         ensures { IfOk result (λ t. t ≡ at_first scripts marks) }
     {
         Ok(Tasks {
-            seats: vec![in alloc; first_seat(); scripts]?,
+            seats: Seats::new(alloc, scripts)?,
             marks: vec![in alloc; 0; marks]?,
         })
     }
@@ -206,11 +195,12 @@ impl Tasks {
     }
 
     /// Where that script stands.
+    #[tactic(auto, using(crate::proofs::Sleeping::seat_none))]
     pub fn seat(&self, script: u32) -> Seat
         ensures { result ≡ seat_at self.now.seats script }
     {
         match self.seats.get(script as usize) {
-            Some(seat) => *seat,
+            Some(seat) => seat,
             None => first_seat(),
         }
     }
@@ -229,6 +219,30 @@ impl Tasks {
     pub fn all_exited(&self) -> bool
         ensures { result ≡ all_exited self.now.seats }
     {
-        self.seats.iter().all(|seat| seat.exited)
+        self.seats.all_exited()
+    }
+
+    /// The least end of all scripts' sleeps.
+    pub fn least_end(&self) -> Option<u64>
+        ensures { result ≡ end_of self.now.seats (length self.now.seats) }
+    {
+        self.seats.least_end()
+    }
+
+    /// Whether each script has exited, or sleeps to a moment later than that. It may be so where that is not told.
+    pub fn are_still(&self, time: u64) -> bool
+        ensures { OnTrue result (AllStill self.now.seats time) }
+    {
+        self.seats.are_still(time)
+    }
+
+    /// The next script behind that one, or the first, whose sleep has come to its end by now, in an order of its own. Which
+    /// are found is no part of what is promised.
+    pub fn next_slept(&self, behind: Option<u32>, now: u64) -> Option<u32> {
+        let behind = behind.map(|script| script as usize);
+        match self.seats.next_slept(behind, now) {
+            Some(script) => u32::try_from(script).ok(),
+            None => None,
+        }
     }
 }

@@ -1,7 +1,7 @@
 use Rattle.std.proofs.Common.{◌≡◌}
 use Rattle.sleep_model.specs.Legal.{next_sleep}
 use Rattle.sleep_state.specs.Places.{entries}
-use Rattle.sleep_core.proofs.state.Core.next_sleep.Given as goal
+use Rattle.sleep_core.proofs.state.Core.least_sleep.Given as goal
 
 abbrev pub invariant-loop-script : goal.invariant-loop-script
 invariant-loop-script l = l.next ≡ next_sleep l.self.machine (entries l.self.past) l.script

@@ -1,0 +1,16 @@
+-- What the fields of the moments are.
+use Rattle.std.specs.Prelude.{◌≡◌, ◌*◌, ℕ, List, Option, drop, length}
+use Rattle.sleep_state.specs.declared.moments.Moments.TheInside.{Inside}
+use Rattle.sleep_state.specs.Trees.{AreJoined}
+
+-- the things' own moments stand last
+abbrev pub own : Inside → List (Option ℕ)
+own m = drop m.many m.nodes.items
+
+-- the nodes are a tree
+pub record IsTree (m : Inside) : Type 0 where
+  pub size : length m.nodes.items ≡ 2 * m.many
+  pub joined : AreJoined m.many m.nodes.items
+
+abbrev pub keeps : Inside → Type 0
+keeps m = IsTree m

@@ -1,0 +1,42 @@
+-- Which scripts sleep.
+use Rattle.std.specs.Prelude.{◌≡◌, ◌<◌, ◌+◌, ℕ, zero, suc, Bool, true, false, not, ◌&&◌, ◌||◌, nat_lt, List, [], ◌∷◌, length, Option, Some, None, is_none}
+use Rattle.sleep_model.specs.declared.place.Seat.{Seat}
+use Rattle.sleep_model.specs.Legal.{sooner}
+use Rattle.sleep_model.specs.Seats.{seat_at}
+
+-- one, if that is so
+abbrev pub one_if : Bool → ℕ
+one_if true = 1
+one_if false = 0
+
+-- a script that stands so neither sleeps nor has exited (own)
+abbrev pub is_awake : Seat → Bool
+is_awake seat = not seat.exited && is_none seat.until
+
+-- how many of these are awake (own)
+abbrev pub awake_of : List Seat → ℕ
+awake_of [] = 0
+awake_of (seat ∷ seats) = one_if (is_awake seat) + awake_of seats
+
+-- the least end of the first n scripts' sleeps, where there is any (own)
+abbrev pub end_of : List Seat → ℕ → Option ℕ
+end_of seats zero = None
+end_of seats (suc n) = sooner (seat_at seats n).until (end_of seats n)
+
+-- a moment, if there is one, is later than that time (own)
+abbrev pub is_later : Option ℕ → ℕ → Bool
+is_later None time = true
+is_later (Some moment) time = nat_lt time moment
+
+-- a sleep up to that moment goes on then (own)
+abbrev pub sleeps_past : Option ℕ → ℕ → Bool
+sleeps_past None time = false
+sleeps_past (Some until) time = nat_lt time until
+
+-- a script that stands so has exited, or sleeps on then (own)
+abbrev pub is_still : Seat → ℕ → Bool
+is_still seat time = seat.exited || sleeps_past seat.until time
+
+-- so does each (own)
+abbrev pub AllStill : List Seat → ℕ → Type 0
+AllStill seats time = (i : ℕ) → i < length seats → is_still (seat_at seats i) time ≡ true

@@ -1,0 +1,142 @@
+//! The least of many moments, each of which may change.
+
+ghost use Rattle.std.specs.Prelude.{◌≡◌, ◌<◌, ◌+◌, ◌*◌, ◌^◌, None, drop, length, slice_index_or};
+ghost use Rattle.sleep_model.specs.Legal.{sooner};
+ghost use Rattle.sleep_state.specs.Trees.{AreJoined, AreJoinedBut};
+
+use sleep_base::Mem;
+use std::alloc::Global;
+use std::marker::Model;
+
+/// A moment or none for each of so many things, and the least of all. The nodes are a tree: node k stands above the
+/// nodes 2k and 2k + 1, and has the lesser of their moments, so that the first has the least. What the things have
+/// stands last.
+#[derive(Drop)]
+pub(crate) struct Moments {
+    many: usize,
+    nodes: Vec<Option<u64>>,
+}
+
+impl Model for Moments {
+    ghost use Rattle.std.specs.Prelude.{ℕ, List, Option};
+
+    ghost Value = { List (Option ℕ) };
+
+    ghost use Rattle.sleep_state.specs.MomentFields.{own, keeps};
+
+    ghost view = { own };
+
+    ghost invariant = { keeps };
+}
+
+/// The lesser of two moments, where there are any.
+fn sooner(one: Option<u64>, other: Option<u64>) -> Option<u64>
+    ensures { result ≡ sooner one other }
+{
+    match (one, other) {
+        (None, other) => other,
+        (one, None) => one,
+        (Some(one), Some(other)) => Some(one.min(other)),
+    }
+}
+
+/// The moment of a node, where there is that node.
+fn node(nodes: &[Option<u64>], at: usize) -> Option<u64>
+    ensures { result ≡ slice_index_or nodes.now at None }
+{
+    match nodes.get(at) {
+        Some(moment) => *moment,
+        None => None,
+    }
+}
+
+/// Each node above one that has changed has the lesser moment of the two below it again.
+fn rise(nodes: &mut [Option<u64>], many: usize, above: usize)
+    requires size { length nodes.old ≡ 2 * many }
+    requires within { above < many }
+    requires joined { AreJoinedBut many above nodes.old }
+    ensures size { length nodes.new ≡ length nodes.old }
+    ensures joined { AreJoined many nodes.new }
+    ensures own { drop many nodes.new ≡ drop many nodes.old }
+{
+    let mut at = above;
+    while at > 0 {
+        let least = sooner(node(nodes, 2 * at), node(nodes, 2 * at + 1));
+        nodes[at] = least;
+        at /= 2;
+    }
+}
+
+/// Whether there is a moment that is not later than now.
+fn is_past(moment: Option<u64>, now: u64) -> bool {
+    match moment {
+        Some(moment) => moment <= now,
+        None => false,
+    }
+}
+
+/// The node behind this one and all below it, if there is one, where each node stands before those below it.
+fn node_behind(at: usize) -> Option<usize> {
+    let above = at >> (!at).trailing_zeros().min(63);
+    if above == 0 {
+        None
+    } else {
+        Some(above.saturating_add(1))
+    }
+}
+
+impl Moments {
+    ghost use Rattle.std.specs.Prelude.{◌≡◌, ◌<◌, None, length, replicate, slice_set, IfOk};
+    ghost use Rattle.sleep_state.specs.Trees.{least_of};
+
+    /// So many things without a moment. `Mem` where there is no memory.
+    #[tactic(auto, using(crate::proofs::Rising::own_first))]
+    pub(crate) fn new(alloc: Global, many: usize) -> Result<Self, Mem>
+        ensures { IfOk result (λ m. m ≡ replicate many None) }
+    {
+        if many > usize::MAX / 2 {
+            return Err(Mem);
+        }
+        let nodes = vec![in alloc; None; 2 * many]?;
+        Ok(Moments { many, nodes })
+    }
+
+    /// The least moment, where there is one.
+    #[tactic(auto, using(crate::proofs::Rising::first_least))]
+    pub(crate) fn least(&self) -> Option<u64>
+        ensures { result ≡ least_of self.now }
+    {
+        node(self.nodes.as_slice(), 1)
+    }
+
+    /// The next thing behind that one, or the first of all, whose moment is not later than now. Things are gone through in
+    /// the order of the tree. Which are found is no part of what is promised.
+    pub(crate) fn next_past(&self, behind: Option<usize>, now: u64) -> Option<usize> {
+        let mut next = match behind {
+            Some(thing) => node_behind(self.many.saturating_add(thing)),
+            None => Some(1),
+        };
+        // The tree has at most 64 levels.
+        for _ in 0..256 {
+            let at = next?;
+            if !is_past(node(self.nodes.as_slice(), at), now) {
+                next = node_behind(at);
+            } else if at < self.many {
+                next = Some(at.saturating_mul(2));
+            } else {
+                return Some(at - self.many);
+            }
+        }
+        None
+    }
+
+    /// Another moment of a thing, or none.
+    pub(crate) fn set(&mut self, thing: usize, moment: Option<u64>)
+        requires { thing < length self.old }
+        ensures { self.new ≡ slice_set self.old thing moment }
+    {
+        let at = self.many + thing;
+        self.nodes[at] = moment;
+        rise(self.nodes.as_mut_slice(), self.many, at / 2);
+    }
+}

@@ -1,0 +1,157 @@
+//! Where each script of a machine stands, and which of them sleep.
+
+ghost use Rattle.std.specs.Prelude.{◌≡◌, ◌≤◌, ◌<◌, ◌+◌, ◌^◌, None, length, slice_index_or, slice_set};
+ghost use Rattle.sleep_model.specs.Seats.{first_seat};
+ghost use Rattle.sleep_state.specs.Sleepers.{one_if, is_awake, is_later};
+
+use crate::moments::Moments;
+use sleep_base::Mem;
+use sleep_model::Seat;
+use std::alloc::Global;
+use std::marker::Model;
+
+/// Where each script stands. The ends of their sleeps are kept beside, and how many of them neither sleep nor have
+/// exited, so that whether all are still is told without a look at each.
+#[derive(Drop)]
+pub(crate) struct Seats {
+    seats: Vec<Seat>,
+    /// The end of each script's sleep, where it sleeps.
+    ends: Moments,
+    /// How many scripts neither sleep nor have exited.
+    awake: usize,
+}
+
+impl Model for Seats {
+    ghost use Rattle.std.specs.Prelude.{List};
+    ghost use Rattle.sleep_model.specs.declared.place.Seat.{Seat as SeatState};
+
+    ghost Value = { List SeatState };
+
+    ghost use Rattle.sleep_state.specs.SeatFields.{standing, keeps};
+
+    ghost view = { standing };
+
+    ghost invariant = { keeps };
+}
+
+/// A script at its first step.
+pub(crate) fn first_seat() -> Seat
+    ensures { result ≡ first_seat }
+{
+    Seat {
+        done: 0,
+        turns: 0,
+        waits: false,
+        last_read: None,
+        saved: false,
+        until: None,
+        exited: false,
+    }
+}
+
+/// Whether a script that stands so neither sleeps nor has exited.
+fn is_awake(seat: Seat) -> bool
+    ensures { result ≡ is_awake seat }
+{
+    !seat.exited && seat.until.is_none()
+}
+
+/// Whether a moment, if there is one, is later than that.
+fn is_later(moment: Option<u64>, time: u64) -> bool
+    ensures { result ≡ is_later moment time }
+{
+    match moment {
+        Some(moment) => time < moment,
+        None => true,
+    }
+}
+
+/// How many are awake, where one that was so or not is so or not.
+fn recount(was: bool, is: bool, awake: usize) -> usize
+    requires one { one_if was ≤ awake }
+    requires room { awake + 1 < 2 ^ 64 }
+    ensures { result + one_if was ≡ awake + one_if is }
+{
+    match (was, is) {
+        (true, false) => awake - 1,
+        (false, true) => awake + 1,
+        _ => awake,
+    }
+}
+
+/// The end of a script's sleep, before and after an entry of its own: nearly all entries leave it without one.
+fn move_end(ends: &mut Moments, script: usize, was: Option<u64>, is: Option<u64>)
+    requires within { script < length ends.old }
+    requires was { was ≡ slice_index_or ends.old script None }
+    ensures { ends.new ≡ slice_set ends.old script is }
+{
+    if was.is_some() || is.is_some() {
+        ends.set(script, is);
+    }
+}
+
+impl Seats {
+    ghost use Rattle.std.specs.Prelude.{◌≡◌, ◌<◌, IfOk, length, replicate, slice_get, slice_set};
+    ghost use Rattle.std.specs.Bool.{OnTrue};
+    ghost use Rattle.sleep_model.specs.Seats.{first_seat, seat_at, all_exited};
+    ghost use Rattle.sleep_state.specs.Sleepers.{end_of, AllStill};
+
+    /// So many scripts at their first steps. `Mem` where there is no memory.
+    #[tactic(auto, using(crate::proofs::Sleeping::ends_first, crate::proofs::Sleeping::awake_first))]
+    pub(crate) fn new(alloc: Global, scripts: usize) -> Result<Self, Mem>
+        ensures { IfOk result (λ s. s ≡ replicate scripts first_seat) }
+    {
+        let seats = vec![in alloc; first_seat(); scripts]?;
+        let ends = Moments::new(alloc, scripts)?;
+        Ok(Seats {
+            seats,
+            ends,
+            awake: scripts,
+        })
+    }
+
+    /// Where that script stands, if there is one.
+    pub(crate) fn get(&self, script: usize) -> Option<Seat>
+        ensures { result ≡ slice_get self.now script }
+    {
+        self.seats.get(script).copied()
+    }
+
+    /// Another place of a script.
+    pub(crate) fn set(&mut self, script: usize, seat: Seat)
+        requires { script < length self.old }
+        ensures { self.new ≡ slice_set self.old script seat }
+    {
+        let was = self.seats[script];
+        self.awake = recount(is_awake(was), is_awake(seat), self.awake);
+        move_end(&mut self.ends, script, was.until, seat.until);
+        self.seats[script] = seat;
+    }
+
+    /// The least end of all sleeps.
+    pub(crate) fn least_end(&self) -> Option<u64>
+        ensures { result ≡ end_of self.now (length self.now) }
+    {
+        self.ends.least()
+    }
+
+    /// Whether each script has exited, or sleeps to a moment later than that.
+    pub(crate) fn are_still(&self, time: u64) -> bool
+        ensures { OnTrue result (AllStill self.now time) }
+    {
+        self.awake == 0 && is_later(self.ends.least(), time)
+    }
+
+    /// The next script behind that one, or the first, whose sleep has come to its end by now. Which are found is no part
+    /// of what is promised.
+    pub(crate) fn next_slept(&self, behind: Option<usize>, now: u64) -> Option<usize> {
+        self.ends.next_past(behind, now)
+    }
+
+    /// Whether every script has made its exit.
+    pub(crate) fn all_exited(&self) -> bool
+        ensures { result ≡ all_exited self.now }
+    {
+        self.seats.iter().all(|seat| seat.exited)
+    }
+}
