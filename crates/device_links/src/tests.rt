@@ -118,19 +118,6 @@ fn a_child_may_be_a_consumer(rt: HostRuntime) -> Result<(), Fail> {
     Ok(())
 }
 
-/// A link whose consumer the newest link has moved keeps the order, if its supplier stands before it.
-#[test]
-fn links_to_all_suppliers_of_a_device_move_it_once(rt: HostRuntime) -> Result<(), Fail> {
-    let mut links = Links::new(rt.alloc(), &[None, None, None, None])?;
-    assert!(rt; !links.keeps_order(1, 0));
-    add_all(&rt, &mut links, &[(1, 0)]);
-    assert!(rt; links.keeps_order(2, 0) && !links.keeps_order(2, 3));
-    assert!(rt; !links.keeps_order(0, 3));
-    add_all(&rt, &mut links, &[(2, 0)]);
-    assert_eq!(rt; links.order(), [1u32, 2, 3, 0].as_slice());
-    Ok(())
-}
-
 /// A dormant link moves its consumer, and closes cycles.
 #[test]
 fn a_dormant_link_keeps_the_order(rt: HostRuntime) -> Result<(), Fail> {
