@@ -20,6 +20,14 @@ const FAMILY: &str =
 const WAITERS: &str =
     r#"{"version": 1, "devices": [{"name": "d", "async": true}], "actors": [{"name": "s", "kind": "user", "script": [{"op": "sleep", "ms": 5}]}, {"name": "m", "kind": "user", "script": [{"op": "wait", "mark": "a"}]}, {"name": "p", "kind": "user", "script": [{"op": "post", "mark": "b"}]}]}"#;
 
+/// A task that sleeps.
+const SLEEPER: &str =
+    r#"{"version": 1, "actors": [{"name": "s", "kind": "user", "script": [{"op": "sleep", "ms": 5}]}]}"#;
+
+/// A task that posts a mark and exits.
+const POSTER: &str =
+    r#"{"version": 1, "actors": [{"name": "p", "kind": "user", "script": [{"op": "post", "mark": "a"}]}]}"#;
+
 const MANAGER: Actor = Actor::Script(0);
 
 const START: Stamp = Stamp { pos: 0, tick: 0 };
@@ -81,14 +89,6 @@ fn has_actor(machine: &Machine, who: Actor) -> Result<(), Fail>
     }
 }
 
-// Whether an actor is a script that has exited or sleeps on.
-fn is_still(core: &Core<'_>, who: Actor) -> bool {
-    match who {
-        Actor::Script(script) => core.is_still(script),
-        _ => false,
-    }
-}
-
 // What came of the turns of one actor alone.
 #[derive(Drop)]
 struct Alone {
@@ -96,7 +96,8 @@ struct Alone {
     next_time: Option<u64>,
     whole: bool,
     is_open: bool,
-    is_still: bool,
+    are_still: bool,
+    slept: Option<u32>,
     entries: EntryList,
 }
 
@@ -119,7 +120,8 @@ fn run_alone<R: Wait, E: Events>(
         next_time: core.next_time(),
         whole: core.whole(),
         is_open: core.is_open(),
-        is_still: is_still(&core, who),
+        are_still: core.are_still(),
+        slept: core.next_slept(None),
         entries: EntryList::of_parts(core.into_journal(), Vec::new(alloc)),
     })
 }
@@ -216,19 +218,18 @@ fn a_machine_sleeps_till_its_alarm(rt: HostRuntime) -> Result<(), Fail> {
     let slept = run_alone(&rt, rt.alloc(), &mut events, FAMILY, MANAGER)?;
     assert!(rt; matches!(slept.waits, Some(Why::Asleep)));
     assert_eq!(rt; slept.next_time, Some(1000));
-    assert!(rt; !slept.whole && slept.is_open && !slept.is_still);
+    assert!(rt; !slept.whole && slept.is_open && !slept.are_still);
     Ok(())
 }
 
-/// A script is still that sleeps on or has exited, and none that waits for a mark; no attempt is open then.
+/// Scripts are still that sleep on or have exited, and no attempt is open then; of them none has slept.
 #[test]
 fn scripts_are_still(rt: HostRuntime) -> Result<(), Fail> {
-    for (script, is_still) in [(0, true), (1, false), (2, true)] {
+    for (file, are_still) in [(SLEEPER, true), (POSTER, true), (WAITERS, false)] {
         let mut events = PlainEvents::new();
-        let who = Actor::Script(script);
-        let alone = run_alone(&rt, rt.alloc(), &mut events, WAITERS, who)?;
-        assert_eq!(rt; alone.is_still, is_still);
-        assert!(rt; !alone.is_open);
+        let alone = run_alone(&rt, rt.alloc(), &mut events, file, MANAGER)?;
+        assert_eq!(rt; alone.are_still, are_still);
+        assert!(rt; !alone.is_open && alone.slept.is_none());
     }
     Ok(())
 }
