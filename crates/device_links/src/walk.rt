@@ -53,8 +53,9 @@ fn path_to(alloc: Global, frames: &[Frame], last: u32) -> Result<Vec<u32>, Mem>
 /// devices come to lie in the order of their last places. They take the last places of a copy of the
 /// order, which has a place for each.
 ///
-/// A device is marked where the walk enters it. One that has a mark is never met on the way down to
-/// itself, as none hangs below itself, so its walk is over.
+/// A device is marked where the walk enters it. None hangs below itself, so one that is met with a
+/// mark is not on the way to where the walk stands: the walk has left it.
+// It stands apart, so that its loop has the registers to itself.
 #[inline(never)]
 pub(crate) fn walk(
     alloc: Global,
