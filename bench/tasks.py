@@ -11,8 +11,8 @@ so that "as fast as an attempt's entries" reads 1. Rows:
   hard events   one source, 14,999 hard events by one operation
   timed events  one source, 14,999 events of 5 ms, each with its expiry and a jump
   in step       256 tasks, 199,936 sleeps that all end at the same moments
-  apart         the same sleeps, of different lengths: a jump of time for nearly each, and each jump is a pass
-                over the tasks
+  apart         the same sleeps, of different lengths: a jump of time for nearly each, which costs the same at any
+                number of tasks
 """
 
 import sys
