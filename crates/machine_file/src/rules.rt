@@ -85,11 +85,11 @@ pub(crate) fn form_broken(tree: &Value) -> Option<Broken>
     ensures { option_map broken_view result ≡ first_of form_rules (view tree.now) }
 {
     breaks(2, top(tree))
-        .or_else(|| breaks(3, version(tree)))
-        .or_else(|| breaks(4, unformed_member(tree)))
-        .or_else(|| breaks(5, unformed_item(tree)))
-        .or_else(|| breaks(6, too_many(tree)))
-        .or_else(|| breaks(7, misspelled_item(tree)))
+        .or(breaks(3, version(tree)))
+        .or(breaks(4, unformed_member(tree)))
+        .or(breaks(5, unformed_item(tree)))
+        .or(breaks(6, too_many(tree)))
+        .or(breaks(7, misspelled_item(tree)))
 }
 
 /// The first rule of devices and of the ends of links that is broken.
