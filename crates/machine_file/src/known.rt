@@ -1,6 +1,6 @@
 //! The names of the things of a file, and the rules that tell them apart.
 
-ghost use Rattle.std.specs.Prelude.{◌≡◌, ◌-◌, ◌∷◌, [], not, map, take, bytes_eq, codes, length, ◌<◌, IfOk, IfSome, position, option_map};
+ghost use Rattle.std.specs.Prelude.{◌≡◌, ◌≤◌, ◌-◌, ◌∷◌, [], not, map, take, bytes_eq, codes, length, ◌<◌, IfOk, IfSome, position, option_map};
 ghost use Rattle.std.specs.List.{list_any};
 ghost use Rattle.serde_json.specs.View.{view};
 ghost use Rattle.machine_file.specs.Look.{is_none_or, text_at};
@@ -160,6 +160,17 @@ pub(crate) fn place_of_name(names: &Places<&str>, name: &str) -> Option<usize>
     ensures within { IfSome result (λ i. i < length names.now) }
 {
     names.place(&name)
+}
+
+/// The number of the device of a name.
+pub(crate) fn device_at<'v>(names: &Places<&'v str>, name: &'v str) -> Option<u32>
+    requires { length names.now ≤ 1000 }
+    ensures { result ≡ position (bytes_eq name.now) (texts names.now) }
+{
+    match place_of_name(names, name) {
+        Some(place) => Some(place as u32),
+        None => None,
+    }
 }
 
 /// Whether a name is one of these.
