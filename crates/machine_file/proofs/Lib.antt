@@ -6,6 +6,7 @@ pub mod Answered
 pub mod Cycling
 pub mod Freshly
 pub mod Grouping
+pub mod Alternatives
 pub mod Replying
 pub mod ScriptsKept
 pub mod LinksKept

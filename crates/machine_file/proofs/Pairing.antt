@@ -1,20 +1,23 @@
 -- Parents and the ends of links beside those before.
-use Rattle.std.proofs.Common.{◌≡◌, ◌<◌, ◌+◌, ◌∙◌, ◌&&◌, ◌||◌, ℕ, suc, Bool, true, false, not, cond, List, [], ◌∷◌, ◌++◌, length, get_or, map, take, reverse, bytes_eq, codes, Option, Some, None, is_some, refl, sym, ap, subst, arith}
+use Rattle.std.proofs.Common.{◌≡◌, ◌<◌, ◌+◌, ◌∙◌, ◌&&◌, ◌||◌, ℕ, suc, Bool, true, false, not, cond, List, [], ◌∷◌, ◌++◌, length, get_or, map, take, reverse, bytes_eq, codes, Option, Some, None, is_some, position, refl, sym, ap, subst, arith}
 use Rattle.std.specs.List.{list_any}
+use Rattle.std.specs.Option.{option_map}
 use Rattle.std.specs.Cmp.Lexicographic.{nat_list_eq_equiv}
 use Rattle.std.proofs.Math.Seq.{take-suc}
-use Rattle.std.proofs.lemmas.List.{get_or-map, length-map}
+use Rattle.std.proofs.lemmas.List.{get_or-map, length-map, map-append}
 use Rattle.serde_json.specs.Data.{Data}
 use Rattle.serde_json.specs.View.{view}
 use Rattle.serde_json.specs.declared.value.Value.{Value}
 use Rattle.machine_file.specs.declared.pairs.Ends.{Ends}
-use Rattle.machine_file.specs.Look.{is_none_or}
+use Rattle.machine_file.specs.declared.pairs.EndPlaces.{EndPlaces}
+use Rattle.machine_file.specs.Look.{is_none_or, text_at}
 use Rattle.machine_file.specs.Members.{word_at}
+use Rattle.machine_file.specs.Names.{is_among_names}
 use Rattle.machine_file.specs.Rules.{name_of}
-use Rattle.machine_file.specs.Devices.{has_parent_before, is_new_link}
-use Rattle.machine_file.specs.Seen.{SeenEnds, ends_seen, ends_written, differ, same_ends}
-use Rattle.machine_file.specs.Places.{first_not_after}
-use Rattle.machine_file.proofs.Placing.{any_append, any_taken_twice, any_reverse, seen_map}
+use Rattle.machine_file.specs.Devices.{has_parent_before, has_ends, is_new_link}
+use Rattle.machine_file.specs.Seen.{ends_seen, ends_written, differ, same_ends, end_places, are_devices}
+use Rattle.machine_file.specs.Places.{first_not, first_not_after}
+use Rattle.machine_file.proofs.Placing.{any_append, position_cons, some_position, any_taken_twice, any_reverse, seen_map}
 
 none_or_same : (f g : List ℕ → Bool) (o : Option (List ℕ)) → ((p : List ℕ) → f p ≡ g p) → is_none_or f o ≡ is_none_or g o
 none_or_same f g None h = refl
@@ -66,17 +69,49 @@ pub again_test : (ends : List Ends) (e : Ends) (i : ℕ) (o : Option ℕ) → is
     (differ (ends_seen e) && not (list_any (twin e) (reverse (take i ends)))) ≡ (differ (ends_seen e) && not (is_some o))
 again_test ends e i o h = ap (λ b. differ (ends_seen e) && not b) (any_reverse (twin e) (take i ends) ∙ sym h)
 
--- as many ends as links
-pub as_many : (es : List Ends) (vs : List Value) → map ends_seen es ≡ map ends_written (map view vs) → length es ≡ length vs
-as_many es vs all = sym (length-map es ends_seen) ∙ ap length all ∙ length-map (map view vs) ends_written ∙ length-map vs view
+-- the places of one link's ends more
+pub placed_more : (names : List (List ℕ)) (es : List Ends) (i : ℕ) (e : Ends) (old new : List EndPlaces) (p : EndPlaces) → i < length es → e ≡ get_or es i e
+    → old ≡ map (end_places names) (map ends_seen (take i es)) → p ≡ end_places names (ends_seen e) → new ≡ old ++ p ∷ [] → new ≡ map (end_places names) (map ends_seen (take (i + 1) es))
+placed_more names es i e old new p within is before here after =
+    after ∙ ap (λ (ps : List EndPlaces). ps ++ p ∷ []) before ∙ ap (λ (q : EndPlaces). map (end_places names) (map ends_seen (take i es)) ++ q ∷ []) here
+    ∙ sym (map-append (end_places names) (map ends_seen (take i es)) (ends_seen e ∷ [])) ∙ ap (map (end_places names)) (sym (map-append ends_seen (take i es) (e ∷ [])))
+    ∙ ap (λ (xs : List Ends). map (end_places names) (map ends_seen xs)) (sym taken)
+  where
+    next : i + 1 ≡ suc i
+    next = omega arith
 
--- the ends of one link, where those of all are kept
-pub end_at : (es : List Ends) (vs : List Value) (i : ℕ) (e : Ends) (v : Value) → i < length es → i < length vs → e ≡ get_or es i e → v ≡ get_or vs i v
-    → map ends_seen es ≡ map ends_written (map view vs) → ends_seen e ≡ ends_written (view v)
-end_at es vs i e v within inside ise isv all =
-    ap ends_seen ise ∙ sym (get_or-map ends_seen es i e (ends_seen e) within) ∙ ap (λ (xs : List SeenEnds). get_or xs i (ends_seen e)) all
-    ∙ get_or-map ends_written (map view vs) i (view v) (ends_seen e) (subst (λ (n : ℕ). i < n) (sym (length-map vs view)) inside)
-    ∙ ap ends_written (get_or-map view vs i v (view v) inside) ∙ ap (λ (x : Value). ends_written (view x)) (sym isv)
+    taken : take (i + 1) es ≡ take i es ++ e ∷ []
+    taken = ap (λ (n : ℕ). take n es) next ∙ take-suc es i e within ∙ ap (λ x. take i es ++ x ∷ []) (sym is)
+
+-- as many places as links
+pub as_many : (names : List (List ℕ)) (ps : List EndPlaces) (vs : List Value) → ps ≡ map (end_places names) (map ends_written (map view vs)) → length ps ≡ length vs
+as_many names ps vs all = ap length all ∙ length-map (map ends_written (map view vs)) (end_places names) ∙ length-map (map view vs) ends_written ∙ length-map vs view
+
+-- the places of one link's ends, where those of all are kept
+pub place_at : (names : List (List ℕ)) (ps : List EndPlaces) (vs : List Value) (i : ℕ) (p : EndPlaces) (v : Value) → i < length ps → i < length vs → p ≡ get_or ps i p → v ≡ get_or vs i v
+    → ps ≡ map (end_places names) (map ends_written (map view vs)) → p ≡ end_places names (ends_written (view v))
+place_at names ps vs i p v within inside isp isv all =
+    let seen : i < length (map view vs) = subst (λ (n : ℕ). i < n) (sym (length-map vs view)) inside in
+    let written : i < length (map ends_written (map view vs)) = subst (λ (n : ℕ). i < n) (sym (length-map (map view vs) ends_written)) seen in
+    isp ∙ ap (λ (xs : List EndPlaces). get_or xs i p) all
+    ∙ get_or-map (end_places names) (map ends_written (map view vs)) i (ends_written (view v)) p written
+    ∙ ap (end_places names) (get_or-map ends_written (map view vs) i (view v) (ends_written (view v)) seen)
+    ∙ ap (λ (d : Data). end_places names (ends_written d)) (get_or-map view vs i v (view v) inside)
+    ∙ ap (λ (x : Value). end_places names (ends_written (view x))) (sym isv)
+
+-- the first link of which an end has no place
+pub loose_told : (names : List (List ℕ)) (ds : List Data) → position (λ p. not (are_devices p)) (map (end_places names) (map ends_written ds)) ≡ first_not (has_ends names) ds
+loose_told names [] = refl
+loose_told names (d ∷ ds) =
+    position_cons (λ p. not (are_devices p)) (end_places names (ends_written d)) (map (end_places names) (map ends_written ds))
+    ∙ ap (λ b. cond (not b) (Some 0) (option_map suc (position (λ p. not (are_devices p)) (map (end_places names) (map ends_written ds))))) told
+    ∙ ap (λ o. cond (not (has_ends names d)) (Some 0) (option_map suc o)) (loose_told names ds)
+    ∙ sym (position_cons (λ x. not (has_ends names x)) d ds)
+  where
+    told : are_devices (end_places names (ends_written d)) ≡ has_ends names d
+    told =
+        ap (λ b. b && is_some (position (bytes_eq (text_at (codes "consumer") d)) names)) (some_position (bytes_eq (text_at (codes "supplier") d)) names)
+        ∙ ap (λ b. is_among_names names (text_at (codes "supplier") d) && b) (some_position (bytes_eq (text_at (codes "consumer") d)) names)
 
 -- the first link again, by the ends that are kept
 pub links_again : (ends : List Ends) (ds : List Data) → map ends_seen ends ≡ map ends_written ds →

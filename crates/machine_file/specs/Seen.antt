@@ -1,12 +1,13 @@
 -- By what links and answers are told apart.
-use Rattle.std.specs.Prelude.{◌≡◌, ℕ, List, map, Bool, not, ◌&&◌, bytes_eq, codes, Option}
+use Rattle.std.specs.Prelude.{◌≡◌, ℕ, List, map, Bool, not, ◌&&◌, bytes_eq, codes, is_some, position, Option}
 use Rattle.serde_json.specs.Data.{Data}
 use Rattle.sleep_model.specs.Answers.{is_for}
 use Rattle.machine_file.specs.declared.pairs.Ends.{Ends}
+use Rattle.machine_file.specs.declared.pairs.EndPlaces.{EndPlaces}
 use Rattle.machine_file.specs.declared.answers.Given.{Given}
 use Rattle.machine_file.specs.Look.{text_at}
 use Rattle.machine_file.specs.Members.{number_at, list_in}
-use Rattle.machine_file.specs.Names.{is_among_names}
+use Rattle.machine_file.specs.Names.{devices_named}
 
 -- the ends of a link
 pub record SeenEnds : Type 0 where
@@ -29,13 +30,21 @@ differ e = not (bytes_eq e.supplier e.consumer)
 abbrev pub same_ends : SeenEnds → SeenEnds → Bool
 same_ends a b = bytes_eq a.supplier b.supplier && bytes_eq a.consumer b.consumer
 
--- both ends are of these names
-abbrev pub are_ends_of : List (List ℕ) → SeenEnds → Bool
-are_ends_of names e = is_among_names names e.supplier && is_among_names names e.consumer
+-- the places of both ends among these names
+abbrev pub end_places : List (List ℕ) → SeenEnds → EndPlaces
+end_places names e = record { supplier = position (bytes_eq e.supplier) names; consumer = position (bytes_eq e.consumer) names }
+
+-- both ends are devices
+abbrev pub are_devices : EndPlaces → Bool
+are_devices p = is_some p.supplier && is_some p.consumer
 
 -- they are the ends of the file's links
 abbrev pub AreEnds : List Ends → Data → Type 0
 AreEnds ends file = map ends_seen ends ≡ map ends_written (list_in (codes "links") file)
+
+-- they are the places of the ends of the file's links
+abbrev pub ArePlaced : List EndPlaces → Data → Type 0
+ArePlaced places file = places ≡ map (end_places (devices_named file)) (map ends_written (list_in (codes "links") file))
 
 -- what an answer is of, and for which attempt
 pub record SeenAnswer : Type 0 where

@@ -9,12 +9,12 @@ ghost use Rattle.machine_file.specs.Devices.{whole_devices, whole_links, closes_
 ghost use Rattle.machine_file.specs.Joined.{AreJoined};
 ghost use Rattle.machine_file.specs.Places.{first_not_after};
 ghost use Rattle.machine_file.specs.Fresh.{AreFresh, closes_nothing};
-ghost use Rattle.machine_file.specs.Seen.{ends_seen, ends_written, AreEnds};
+ghost use Rattle.machine_file.specs.Seen.{ends_written, end_places, ArePlaced};
 ghost use Rattle.machine_file.specs.Knows.{Knows, texts};
 
-use crate::known::{Known, place_of_name};
+use crate::known::{Known, device_at, place_of_name};
 use crate::look::has_text;
-use crate::pairs::Ends;
+use crate::pairs::EndPlaces;
 use crate::place::{Member, items};
 use crate::places::Places;
 use device_links::{LinkFault, Links};
@@ -42,16 +42,6 @@ pub(crate) fn parent_of<'v>(device: &'v Value, names: &Places<&'v str>) -> Optio
     }
 }
 
-fn device_at<'v>(names: &Places<&'v str>, name: &'v str) -> Option<u32>
-    requires { length names.now ≤ 1000 }
-    ensures { result ≡ position (bytes_eq name.now) (texts names.now) }
-{
-    match place_of_name(names, name) {
-        Some(place) => Some(place as u32),
-        None => None,
-    }
-}
-
 /// The parents of these devices.
 pub(crate) fn parents_of<'v>(
     alloc: Global,
@@ -68,14 +58,14 @@ pub(crate) fn parents_of<'v>(
     Ok(parents)
 }
 
-fn link_of<'v>(link: &'v Value, ends: &Ends<'v>, names: &Places<&'v str>) -> Link
-    requires few { length names.now ≤ 1000 }
-    requires ends { ends_seen ends.now ≡ ends_written (view link.now) }
+fn link_of<'v>(link: &Value, places: EndPlaces, names: &Places<&'v str>) -> Link
+    requires { places ≡ end_places (texts names.now) (ends_written (view link.now)) }
     ensures { result ≡ link_of (texts names.now) (view link.now) }
 {
+    let _ = names;
     Link {
-        supplier: place_among(names, ends.supplier) as u32,
-        consumer: place_among(names, ends.consumer) as u32,
+        supplier: places.supplier.unwrap_or(0),
+        consumer: places.consumer.unwrap_or(0),
         active: !has_text(link, "state", "dormant"),
     }
 }
@@ -83,17 +73,16 @@ fn link_of<'v>(link: &'v Value, ends: &Ends<'v>, names: &Places<&'v str>) -> Lin
 /// The links of a file.
 pub(crate) fn links_of<'v>(
     alloc: Global,
-    links: &'v [Value],
-    ends: &[Ends<'v>],
+    links: &[Value],
+    places: &[EndPlaces],
     names: &Places<&'v str>,
 ) -> Result<Vec<Link>, Mem>
-    requires few { length names.now ≤ 1000 }
-    requires ends { map ends_seen ends.now ≡ map ends_written (map view links.now) }
+    requires { places.now ≡ map (end_places (texts names.now)) (map ends_written (map view links.now)) }
     ensures { IfOk result (λ v. v.items ≡ map (link_of (texts names.now)) (map view links.now)) }
 {
     let mut all = Vec::with_capacity(alloc, links.len())?;
     for i in 0..links.len() {
-        all.push(link_of(&links[i], &ends[i], names))?;
+        all.push(link_of(&links[i], places[i], names))?;
     }
     Ok(all)
 }
@@ -156,10 +145,10 @@ pub(crate) fn linking_of<'v>(
     alloc: Global,
     tree: &'v Value,
     known: &Known<'v>,
-    ends: &[Ends<'v>],
+    places: &[EndPlaces],
 ) -> Result<Linking, Mem>
     requires knows { Knows known.now (view tree.now) }
-    requires ends { AreEnds ends.now (view tree.now) }
+    requires placed { ArePlaced places.now (view tree.now) }
     requires joined { AreJoined (view tree.now) }
     ensures links { IfOk result (λ l. l.links.items ≡ whole_links (view tree.now)) }
     ensures cycle { IfOk result (λ l. l.added.cycle ≡
@@ -168,7 +157,7 @@ pub(crate) fn linking_of<'v>(
         record { parents = parents_of (whole_devices (view tree.now)); links = reverse (whole_links (view tree.now)) }) }
 {
     let parents = parents_in(alloc, tree, known)?;
-    let links = links_in(alloc, tree, known, ends)?;
+    let links = links_in(alloc, tree, known, places)?;
     let added = add_links(alloc, &parents, &links)?;
     Ok(Linking { links, added })
 }
@@ -190,13 +179,13 @@ fn links_in<'v>(
     alloc: Global,
     tree: &'v Value,
     known: &Known<'v>,
-    ends: &[Ends<'v>],
+    places: &[EndPlaces],
 ) -> Result<Vec<Link>, Mem>
     requires knows { Knows known.now (view tree.now) }
-    requires ends { AreEnds ends.now (view tree.now) }
+    requires placed { ArePlaced places.now (view tree.now) }
     requires joined { AreJoined (view tree.now) }
     ensures { IfOk result (λ v. v.items ≡ whole_links (view tree.now)) }
 {
-    let links = links_of(alloc, items(tree, Member::Links), ends, &known.devices)?;
+    let links = links_of(alloc, items(tree, Member::Links), places, &known.devices)?;
     Ok(links)
 }

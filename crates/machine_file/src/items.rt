@@ -138,12 +138,12 @@ pub(crate) fn unformed_item(tree: &Value) -> Option<Place>
     ensures { place_of result ≡ unformed_item (view tree.now) }
 {
     first_item(tree, Member::Devices, ItemTest::DeviceForm)
-        .or_else(|| unformed_link(tree))
-        .or_else(|| first_item(tree, Member::Syscore, ItemTest::Text))
-        .or_else(|| first_item(tree, Member::Notifiers, ItemTest::NotifierForm))
-        .or_else(|| first_item(tree, Member::Sources, ItemTest::Text))
-        .or_else(|| first_item(tree, Member::Actors, ItemTest::ActorForm))
-        .or_else(|| first_item(tree, Member::Answers, ItemTest::AnswerForm))
+        .or(unformed_link(tree))
+        .or(first_item(tree, Member::Syscore, ItemTest::Text))
+        .or(first_item(tree, Member::Notifiers, ItemTest::NotifierForm))
+        .or(first_item(tree, Member::Sources, ItemTest::Text))
+        .or(first_item(tree, Member::Actors, ItemTest::ActorForm))
+        .or(first_item(tree, Member::Answers, ItemTest::AnswerForm))
 }
 
 /// The first item with a name that is misspelled.
@@ -151,10 +151,10 @@ pub(crate) fn misspelled_item(tree: &Value) -> Option<Place>
     ensures { place_of result ≡ misspelled_item (view tree.now) }
 {
     first_item(tree, Member::Devices, ItemTest::DeviceNames)
-        .or_else(|| first_item(tree, Member::Links, ItemTest::LinkNames))
-        .or_else(|| first_item(tree, Member::Syscore, ItemTest::NameText))
-        .or_else(|| first_item(tree, Member::Notifiers, ItemTest::OwnName))
-        .or_else(|| first_item(tree, Member::Sources, ItemTest::NameText))
-        .or_else(|| first_item(tree, Member::Actors, ItemTest::OwnName))
-        .or_else(|| first_item(tree, Member::Answers, ItemTest::OwnName))
+        .or(first_item(tree, Member::Links, ItemTest::LinkNames))
+        .or(first_item(tree, Member::Syscore, ItemTest::NameText))
+        .or(first_item(tree, Member::Notifiers, ItemTest::OwnName))
+        .or(first_item(tree, Member::Sources, ItemTest::NameText))
+        .or(first_item(tree, Member::Actors, ItemTest::OwnName))
+        .or(first_item(tree, Member::Answers, ItemTest::OwnName))
 }

@@ -1,6 +1,6 @@
 //! The names of the things of a file, and the rules that tell them apart.
 
-ghost use Rattle.std.specs.Prelude.{◌≡◌, ◌-◌, ◌∷◌, [], not, map, take, bytes_eq, codes, length, ◌<◌, IfOk, IfSome, position, option_map};
+ghost use Rattle.std.specs.Prelude.{◌≡◌, ◌≤◌, ◌-◌, ◌∷◌, [], not, map, take, bytes_eq, codes, length, ◌<◌, IfOk, IfSome, position, option_map};
 ghost use Rattle.std.specs.List.{list_any};
 ghost use Rattle.serde_json.specs.View.{view};
 ghost use Rattle.machine_file.specs.Look.{is_none_or, text_at};
@@ -8,6 +8,7 @@ ghost use Rattle.machine_file.specs.Rules.{name_of};
 ghost use Rattle.machine_file.specs.Members.{list_in, word_at};
 ghost use Rattle.machine_file.specs.Places.{item_place, first_not, first_not_after};
 ghost use Rattle.machine_file.specs.Names.{names_in, texts_in, is_among_names, repeated_device, repeated_callback, repeated_source, repeated_actor};
+ghost use Rattle.machine_file.specs.Operations.{whole_marks};
 ghost use Rattle.machine_file.specs.Knows.{Knows, texts};
 ghost use Rattle.machine_file.specs.Broken.{member_name, place_of};
 
@@ -30,15 +31,39 @@ pub(crate) struct Known<'v> {
     pub(crate) marks: Places<&'v str>,
 }
 
+// The names of a list of objects, each with its place.
+fn named_in<'v>(alloc: Global, tree: &'v Value, list: Member) -> Result<Places<&'v str>, Mem>
+    ensures { IfOk result (λ p. texts p ≡ names_in (member_name list) (view tree.now)) }
+{
+    let names = names_in(alloc, tree, list)?;
+    Places::new(alloc, names)
+}
+
+// The names of a list of names, each with its place.
+fn told_in<'v>(alloc: Global, tree: &'v Value, list: Member) -> Result<Places<&'v str>, Mem>
+    ensures { IfOk result (λ p. texts p ≡ texts_in (member_name list) (view tree.now)) }
+{
+    let names = texts_in(alloc, tree, list)?;
+    Places::new(alloc, names)
+}
+
+// The marks of scripts, each with its place.
+fn marked_in<'v>(alloc: Global, tree: &'v Value) -> Result<Places<&'v str>, Mem>
+    ensures { IfOk result (λ p. texts p ≡ whole_marks (view tree.now)) }
+{
+    let marks = marks_in(alloc, tree)?;
+    Places::new(alloc, marks)
+}
+
 /// The names of the things of a file.
 pub(crate) fn known_in<'v>(alloc: Global, tree: &'v Value) -> Result<Known<'v>, Mem>
     ensures { IfOk result (λ k. Knows k (view tree.now)) }
 {
-    let devices = Places::new(alloc, names_in(alloc, tree, Member::Devices)?)?;
-    let syscore = Places::new(alloc, texts_in(alloc, tree, Member::Syscore)?)?;
-    let notifiers = Places::new(alloc, names_in(alloc, tree, Member::Notifiers)?)?;
-    let sources = Places::new(alloc, texts_in(alloc, tree, Member::Sources)?)?;
-    let marks = Places::new(alloc, marks_in(alloc, tree)?)?;
+    let devices = named_in(alloc, tree, Member::Devices)?;
+    let syscore = told_in(alloc, tree, Member::Syscore)?;
+    let notifiers = named_in(alloc, tree, Member::Notifiers)?;
+    let sources = told_in(alloc, tree, Member::Sources)?;
+    let marks = marked_in(alloc, tree)?;
     Ok(Known {
         devices,
         syscore,
@@ -135,6 +160,17 @@ pub(crate) fn place_of_name(names: &Places<&str>, name: &str) -> Option<usize>
     ensures within { IfSome result (λ i. i < length names.now) }
 {
     names.place(&name)
+}
+
+/// The number of the device of a name.
+pub(crate) fn device_at<'v>(names: &Places<&'v str>, name: &'v str) -> Option<u32>
+    requires { length names.now ≤ 1000 }
+    ensures { result ≡ position (bytes_eq name.now) (texts names.now) }
+{
+    match place_of_name(names, name) {
+        Some(place) => Some(place as u32),
+        None => None,
+    }
 }
 
 /// Whether a name is one of these.

@@ -8,12 +8,12 @@ ghost use Rattle.machine_file.specs.Places.{first_not_after};
 ghost use Rattle.machine_file.specs.Devices.{closes_no_cycle, whole_devices, whole_links};
 ghost use Rattle.machine_file.specs.Knows.{Knows, AreFew};
 ghost use Rattle.machine_file.specs.Kept.{Checks, broken_form, broken_devices, broken_cycle, broken_rest};
-ghost use Rattle.machine_file.specs.Seen.{AreEnds};
+ghost use Rattle.machine_file.specs.Seen.{AreEnds, ArePlaced};
 ghost use Rattle.machine_file.specs.Broken.{broken_view};
 
 use crate::cycles::{Linking, linking_of};
 use crate::known::{Known, known_in};
-use crate::pairs::{Ends, ends_in};
+use crate::pairs::{EndPlaces, Ends, ends_in, places_in};
 use crate::place::{Member, Place};
 use crate::rules::{
     Broken, answer_broken, device_broken, form_broken, operation_broken, thing_broken,
@@ -42,12 +42,14 @@ fn first_of_devices<'v>(
     tree: &'v Value,
     known: &Known<'v>,
     ends: &[Ends<'v>],
+    places: &[EndPlaces],
 ) -> Result<Option<Broken>, Mem>
     requires knows { Knows known.now (view tree.now) }
     requires ends { AreEnds ends.now (view tree.now) }
+    requires placed { ArePlaced places.now (view tree.now) }
     ensures { IfOk result (λ b. option_map broken_view b ≡ broken_devices (view tree.now)) }
 {
-    device_broken(alloc, tree, known, ends)
+    device_broken(alloc, tree, known, ends, places)
 }
 
 #[tactic(auto, unfolding(crate::specs::Kept::broken_cycle))]
@@ -95,9 +97,10 @@ fn check_devices<'v>(alloc: Global, tree: &'v Value) -> Result<Checked<'v>, Mem>
 {
     let known = known_in(alloc, tree)?;
     let ends = ends_in(alloc, tree)?;
-    match first_of_devices(alloc, tree, &known, &ends)? {
+    let places = places_in(alloc, tree, &known, &ends)?;
+    match first_of_devices(alloc, tree, &known, &ends, &places)? {
         Some(broken) => Ok(Checked::Broken(broken)),
-        None => check_links(alloc, tree, known, &ends),
+        None => check_links(alloc, tree, known, &places),
     }
 }
 
@@ -105,15 +108,15 @@ fn check_links<'v>(
     alloc: Global,
     tree: &'v Value,
     known: Known<'v>,
-    ends: &[Ends<'v>],
+    places: &[EndPlaces],
 ) -> Result<Checked<'v>, Mem>
     requires form { broken_form (view tree.now) ≡ None }
     requires devices { broken_devices (view tree.now) ≡ None }
     requires knows { Knows known (view tree.now) }
-    requires ends { AreEnds ends.now (view tree.now) }
+    requires placed { ArePlaced places.now (view tree.now) }
     ensures { IfOk result (Checks (view tree.now)) }
 {
-    let linking = linking_of(alloc, tree, &known, ends)?;
+    let linking = linking_of(alloc, tree, &known, places)?;
     match first_cycle(linking.added.cycle, tree) {
         Some(broken) => Ok(Checked::Broken(broken)),
         None => check_rest(alloc, tree, known, linking),

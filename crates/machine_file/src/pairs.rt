@@ -1,6 +1,6 @@
 //! The parents of devices and the ends of links.
 
-ghost use Rattle.std.specs.Prelude.{◌≡◌, ◌&&◌, [], not, map, take, bytes_eq, codes, is_some, IfOk, position};
+ghost use Rattle.std.specs.Prelude.{◌≡◌, ◌≤◌, ◌&&◌, [], not, map, take, bytes_eq, codes, is_some, length, IfOk, position};
 ghost use Rattle.std.specs.List.{list_any};
 ghost use Rattle.serde_json.specs.View.{view};
 ghost use Rattle.machine_file.specs.Look.{is_none_or, text_at};
@@ -8,11 +8,11 @@ ghost use Rattle.machine_file.specs.Members.{list_in, word_at};
 ghost use Rattle.machine_file.specs.Places.{first_not, first_not_after};
 ghost use Rattle.machine_file.specs.Devices.{has_parent_before, orphan, loose_link, repeated_link};
 ghost use Rattle.machine_file.specs.Rules.{name_of};
-ghost use Rattle.machine_file.specs.Knows.{Knows, texts};
-ghost use Rattle.machine_file.specs.Seen.{ends_seen, ends_written, differ, same_ends, are_ends_of, AreEnds};
+ghost use Rattle.machine_file.specs.Knows.{Knows, AreFew, texts};
+ghost use Rattle.machine_file.specs.Seen.{ends_seen, ends_written, differ, same_ends, end_places, are_devices, AreEnds, ArePlaced};
 ghost use Rattle.machine_file.specs.Broken.{place_of};
 
-use crate::known::{Known, contains, item};
+use crate::known::{Known, device_at, item};
 use crate::look::text_at;
 use crate::place::{Member, Place, items};
 use crate::places::Places;
@@ -89,26 +89,74 @@ pub(crate) fn ends_in<'v>(alloc: Global, tree: &'v Value) -> Result<Vec<Ends<'v>
     Ok(ends)
 }
 
-fn are_there<'v>(ends: &Ends<'v>, names: &Places<&'v str>) -> bool
-    ensures { result ≡ are_ends_of (texts names.now) (ends_seen ends.now) }
-{
-    contains(names, ends.supplier) && contains(names, ends.consumer)
+/// The numbers of the devices that are a link's ends, where they are devices.
+#[derive(Clone, Copy)]
+pub(crate) struct EndPlaces {
+    pub(crate) supplier: Option<u32>,
+    pub(crate) consumer: Option<u32>,
 }
 
-fn first_loose<'v>(ends: &[Ends<'v>], names: &Places<&'v str>) -> Option<usize>
-    ensures { result ≡ position (λ e. not (are_ends_of (texts names.now) (ends_seen e))) ends.now }
+fn place_of<'v>(ends: &Ends<'v>, names: &Places<&'v str>) -> EndPlaces
+    requires { length names.now ≤ 1000 }
+    ensures { result ≡ end_places (texts names.now) (ends_seen ends.now) }
 {
-    ends.iter().position(|link| !are_there(link, names))
+    EndPlaces {
+        supplier: device_at(names, ends.supplier),
+        consumer: device_at(names, ends.consumer),
+    }
+}
+
+fn places_of<'v>(
+    alloc: Global,
+    ends: &[Ends<'v>],
+    names: &Places<&'v str>,
+) -> Result<Vec<EndPlaces>, Mem>
+    requires { length names.now ≤ 1000 }
+    ensures { IfOk result (λ v. v.items ≡ map (end_places (texts names.now)) (map ends_seen ends.now)) }
+{
+    let mut places = Vec::with_capacity(alloc, ends.len())?;
+    for link in ends {
+        places.push(place_of(link, names))?;
+    }
+    Ok(places)
+}
+
+/// The numbers of the devices that are the ends of a file's links.
+pub(crate) fn places_in<'v>(
+    alloc: Global,
+    tree: &'v Value,
+    known: &Known<'v>,
+    ends: &[Ends<'v>],
+) -> Result<Vec<EndPlaces>, Mem>
+    requires knows { Knows known.now (view tree.now) }
+    requires few { AreFew known.now }
+    requires ends { AreEnds ends.now (view tree.now) }
+    ensures { IfOk result (λ v. ArePlaced v.items (view tree.now)) }
+{
+    let _ = tree;
+    let places = places_of(alloc, ends, &known.devices)?;
+    Ok(places)
+}
+
+fn are_devices(places: &EndPlaces) -> bool
+    ensures { result ≡ are_devices places.now }
+{
+    places.supplier.is_some() && places.consumer.is_some()
+}
+
+fn first_loose(places: &[EndPlaces]) -> Option<usize>
+    ensures { result ≡ position (λ p. not (are_devices p)) places.now }
+{
+    places.iter().position(|link| !are_devices(link))
 }
 
 /// The first link of which an end is no device.
-pub(crate) fn loose_link<'v>(tree: &'v Value, known: &Known<'v>, ends: &[Ends<'v>]) -> Option<Place>
-    requires knows { Knows known.now (view tree.now) }
-    requires ends { AreEnds ends.now (view tree.now) }
+pub(crate) fn loose_link(tree: &Value, places: &[EndPlaces]) -> Option<Place>
+    requires { ArePlaced places.now (view tree.now) }
     ensures { place_of result ≡ loose_link (view tree.now) }
 {
     let _ = tree;
-    item(Member::Links, first_loose(ends, &known.devices))
+    item(Member::Links, first_loose(places))
 }
 
 // Whether the ends are one, or have been seen before.

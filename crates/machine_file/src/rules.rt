@@ -12,7 +12,7 @@ ghost use Rattle.machine_file.specs.Answering.{sourceless_report, thingless_answ
 ghost use Rattle.machine_file.specs.Places.{unless};
 ghost use Rattle.machine_file.specs.Groups.{form_rules, device_rules, thing_rules, operation_rules, answer_rules};
 ghost use Rattle.machine_file.specs.Knows.{Knows};
-ghost use Rattle.machine_file.specs.Seen.{AreEnds};
+ghost use Rattle.machine_file.specs.Seen.{AreEnds, ArePlaced};
 ghost use Rattle.machine_file.specs.Broken.{place_of, broken_view};
 
 use crate::answers::{AnswerTest, first_answer, repeated_answer};
@@ -22,7 +22,7 @@ use crate::known::{Known, repeated_actor, repeated_callback, repeated_device, re
 use crate::limits::{too_many, too_much};
 use crate::look::{has_number, has_only};
 use crate::operations::{OperationTest, are_operations_sound, first_operation};
-use crate::pairs::{Ends, loose_link, orphan, repeated_link};
+use crate::pairs::{EndPlaces, Ends, loose_link, orphan, repeated_link};
 use crate::place::{Member, Place};
 use serde_json::Value;
 use sleep_base::Mem;
@@ -85,11 +85,11 @@ pub(crate) fn form_broken(tree: &Value) -> Option<Broken>
     ensures { option_map broken_view result ≡ first_of form_rules (view tree.now) }
 {
     breaks(2, top(tree))
-        .or_else(|| breaks(3, version(tree)))
-        .or_else(|| breaks(4, unformed_member(tree)))
-        .or_else(|| breaks(5, unformed_item(tree)))
-        .or_else(|| breaks(6, too_many(tree)))
-        .or_else(|| breaks(7, misspelled_item(tree)))
+        .or(breaks(3, version(tree)))
+        .or(breaks(4, unformed_member(tree)))
+        .or(breaks(5, unformed_item(tree)))
+        .or(breaks(6, too_many(tree)))
+        .or(breaks(7, misspelled_item(tree)))
 }
 
 /// The first rule of devices and of the ends of links that is broken.
@@ -98,15 +98,17 @@ pub(crate) fn device_broken<'v>(
     tree: &'v Value,
     known: &Known<'v>,
     ends: &[Ends<'v>],
+    places: &[EndPlaces],
 ) -> Result<Option<Broken>, Mem>
     requires knows { Knows known.now (view tree.now) }
     requires ends { AreEnds ends.now (view tree.now) }
+    requires placed { ArePlaced places.now (view tree.now) }
     ensures { IfOk result (λ b. option_map broken_view b ≡ first_of device_rules (view tree.now)) }
 {
     let again = repeated_link(alloc, tree, ends)?;
     let device = breaks(8, repeated_device(tree, known));
     let parent = breaks(9, orphan(tree, known));
-    let end = breaks(10, loose_link(tree, known, ends));
+    let end = breaks(10, loose_link(tree, places));
     Ok(device.or(parent).or(end).or(breaks(11, again)))
 }
 
