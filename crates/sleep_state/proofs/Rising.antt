@@ -71,6 +71,16 @@ first_least zero (x ∷ xs) e h = absurd (omega (arith, e))
 first_least (suc j) nodes e h =
     from_first nodes (suc j) j h (omega arith) ∙ (from_own nodes (suc j) (suc j) ∙ ap (least_among (drop (suc j) nodes)) (let count : suc j ≡ length (drop (suc j) nodes) = omega (arith, e, length-drop (suc j) nodes) in count))
 
+-- ---- a node that stays as it was
+
+-- where the one that was left out is joined all are
+pub joined_here : (many i : ℕ) (nodes : List (Option ℕ)) → AreJoinedBut many i nodes → IsJoined nodes i → AreJoined many nodes
+joined_here many i nodes h here k some l = by_same (k == i) refl
+  where
+    by_same : (b : Bool) → (k == i) ≡ b → IsJoined nodes k
+    by_same true e = subst (IsJoined nodes) (let same : i ≡ k = grind (arith, nat_tests) in same) here
+    by_same false e = h k some l (λ same. absurd (grind (arith, nat_tests)))
+
 -- ---- nodes without a moment
 
 none_at : (n k : ℕ) → slice_index_or {A = Option ℕ} (replicate n None) k None ≡ None

@@ -1,6 +1,7 @@
 //! The least of many moments, each of which may change.
 
 ghost use Rattle.std.specs.Prelude.{◌≡◌, ◌<◌, ◌+◌, ◌*◌, ◌^◌, None, drop, length, slice_index_or};
+ghost use Rattle.std.specs.Bool.{OnTrue};
 ghost use Rattle.sleep_model.specs.Legal.{sooner};
 ghost use Rattle.sleep_state.specs.Trees.{AreJoined, AreJoinedBut};
 
@@ -30,6 +31,7 @@ impl Model for Moments {
 }
 
 /// The lesser of two moments, where there are any.
+#[inline(always)]
 fn sooner(one: Option<u64>, other: Option<u64>) -> Option<u64>
     ensures { result ≡ sooner one other }
 {
@@ -41,6 +43,7 @@ fn sooner(one: Option<u64>, other: Option<u64>) -> Option<u64>
 }
 
 /// The moment of a node, where there is that node.
+#[inline(always)]
 fn node(nodes: &[Option<u64>], at: usize) -> Option<u64>
     ensures { result ≡ slice_index_or nodes.now at None }
 {
@@ -50,7 +53,21 @@ fn node(nodes: &[Option<u64>], at: usize) -> Option<u64>
     }
 }
 
-/// Each node above one that has changed has the lesser moment of the two below it again.
+/// Whether they are the same moment, or none.
+#[inline(always)]
+fn is_same(one: Option<u64>, other: Option<u64>) -> bool
+    ensures { OnTrue result (one ≡ other) }
+{
+    match (one, other) {
+        (None, None) => true,
+        (Some(one), Some(other)) => one == other,
+        _ => false,
+    }
+}
+
+/// Each node above one that has changed has the lesser moment of the two below it again: those above
+/// one that stays as it was do too.
+#[tactic(auto, using(crate::proofs::Rising::joined_here))]
 fn rise(nodes: &mut [Option<u64>], many: usize, above: usize)
     requires size { length nodes.old ≡ 2 * many }
     requires within { above < many }
@@ -62,6 +79,9 @@ fn rise(nodes: &mut [Option<u64>], many: usize, above: usize)
     let mut at = above;
     while at > 0 {
         let least = sooner(node(nodes, 2 * at), node(nodes, 2 * at + 1));
+        if is_same(node(nodes, at), least) {
+            return;
+        }
         nodes[at] = least;
         at /= 2;
     }
