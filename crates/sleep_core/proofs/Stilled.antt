@@ -195,7 +195,7 @@ ends_among m past zero l h closed = refl
 ends_among m past (suc n) l h closed =
     ap₂ sooner
     (sym (ap₂ (λ b f. pending_sleep b f (slice_get m.actors n) (seat_at (seats (length m.actors) past) n)) (awake m past h closed) (thawed m past n h closed)
-        ∙ get_script m.actors n (seat_at (seats (length m.actors) past) n) (omega (arith, l))))
+    ∙ get_script m.actors n (seat_at (seats (length m.actors) past) n) (omega (arith, l))))
     (ends_among m past n (omega (arith, l)) h closed)
 
 -- while no attempt is open, the least end of all sleeps is pending

@@ -142,7 +142,7 @@ impl Moments {
             if !is_past(node(self.nodes.as_slice(), at), now) {
                 next = node_behind(at);
             } else if at < self.many {
-                next = Some(at.saturating_mul(2));
+                next = Some(2 * at);
             } else {
                 return Some(at - self.many);
             }
