@@ -71,6 +71,13 @@ first_least zero (x ∷ xs) e h = absurd (omega (arith, e))
 first_least (suc j) nodes e h =
     from_first nodes (suc j) j h (omega arith) ∙ (from_own nodes (suc j) (suc j) ∙ ap (least_among (drop (suc j) nodes)) (let count : suc j ≡ length (drop (suc j) nodes) = omega (arith, e, length-drop (suc j) nodes) in count))
 
+-- ---- a node that is read
+
+pub read_is : (xs : List (Option ℕ)) (i : ℕ) (x : Option ℕ) → i < length xs → x ≡ slice_index_or xs i x → x ≡ slice_index_or xs i None
+read_is [] i x l e = absurd (omega (arith, l))
+read_is (y ∷ ys) zero x l e = e
+read_is (y ∷ ys) (suc i) x l e = read_is ys i x (omega (arith, l)) e
+
 -- ---- a node that stays as it was
 
 -- where the one that was left out is joined all are

@@ -53,6 +53,16 @@ fn node(nodes: &[Option<u64>], at: usize) -> Option<u64>
     }
 }
 
+/// The moment of a node that is there.
+#[inline(always)]
+#[tactic(auto, using(crate::proofs::Rising::read_is))]
+fn node_there(nodes: &[Option<u64>], at: usize) -> Option<u64>
+    requires { at < length nodes.now }
+    ensures { result ≡ slice_index_or nodes.now at None }
+{
+    nodes[at]
+}
+
 /// Whether they are the same moment, or none.
 #[inline(always)]
 fn is_same(one: Option<u64>, other: Option<u64>) -> bool
@@ -67,6 +77,7 @@ fn is_same(one: Option<u64>, other: Option<u64>) -> bool
 
 /// Each node above one that has changed has the lesser moment of the two below it again: those above
 /// one that stays as it was do too.
+#[inline(never)]
 #[tactic(auto, using(crate::proofs::Rising::joined_here))]
 fn rise(nodes: &mut [Option<u64>], many: usize, above: usize)
     requires size { length nodes.old ≡ 2 * many }
@@ -78,8 +89,8 @@ fn rise(nodes: &mut [Option<u64>], many: usize, above: usize)
 {
     let mut at = above;
     while at > 0 {
-        let least = sooner(node(nodes, 2 * at), node(nodes, 2 * at + 1));
-        if is_same(node(nodes, at), least) {
+        let least = sooner(node_there(nodes, 2 * at), node_there(nodes, 2 * at + 1));
+        if is_same(node_there(nodes, at), least) {
             return;
         }
         nodes[at] = least;
