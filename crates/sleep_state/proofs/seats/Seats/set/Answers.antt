@@ -1,4 +1,4 @@
-use Rattle.std.proofs.Common.{◌≡◌, ◌≤◌, ◌<◌, ◌+◌, ◌^◌, ◌∙◌, ℕ, List, length, map, Option, slice_set, sym, ap, subst, arith}
+use Rattle.std.proofs.Common.{◌<◌, ◌∙◌, ℕ, List, length, Option, slice_set, sym, ap, subst, arith}
 use Rattle.std.proofs.lemmas.List.{map-set}
 use Rattle.sleep_model.specs.declared.place.Seat.{Seat}
 use Rattle.sleep_state.specs.Sleepers.{one_if, is_awake, is_there}
