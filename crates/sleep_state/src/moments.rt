@@ -98,21 +98,17 @@ fn rise(nodes: &mut [Option<u64>], many: usize, above: usize)
     }
 }
 
-/// Whether there is a moment that is not later than now.
-fn is_past(moment: Option<u64>, now: u64) -> bool {
-    match moment {
-        Some(moment) => moment <= now,
-        None => false,
+/// The node behind this one and all below it, where each node stands before those below it; 0 where there is none.
+#[inline(always)]
+fn node_behind(at: usize) -> usize {
+    if at % 2 == 0 {
+        return at.saturating_add(1);
     }
-}
-
-/// The node behind this one and all below it, if there is one, where each node stands before those below it.
-fn node_behind(at: usize) -> Option<usize> {
     let above = at >> (!at).trailing_zeros().min(63);
     if above == 0 {
-        None
+        0
     } else {
-        Some(above.saturating_add(1))
+        above.saturating_add(1)
     }
 }
 
@@ -143,19 +139,21 @@ impl Moments {
     /// The next thing behind that one, or the first of all, whose moment is not later than now. Things are gone through in
     /// the order of the tree. Which are found is no part of what is promised.
     pub(crate) fn next_past(&self, behind: Option<usize>, now: u64) -> Option<usize> {
-        let mut next = match behind {
+        let mut at = match behind {
             Some(thing) => node_behind(self.many.saturating_add(thing)),
-            None => Some(1),
+            None => 1,
         };
         // The tree has at most 64 levels.
         for _ in 0..256 {
-            let at = next?;
-            if !is_past(node(self.nodes.as_slice(), at), now) {
-                next = node_behind(at);
-            } else if at < self.many {
-                next = Some(2 * at);
-            } else {
-                return Some(at - self.many);
+            match self.nodes.get(at) {
+                Some(Some(moment)) if at > 0 && *moment <= now => {
+                    if at >= self.many {
+                        return Some(at - self.many);
+                    }
+                    at *= 2;
+                }
+                Some(_) if at > 0 => at = node_behind(at),
+                _ => return None,
             }
         }
         None
