@@ -11,7 +11,6 @@ use Rattle.sleep_model.specs.declared.machine.Op.{Op}
 use Rattle.sleep_model.specs.declared.machine.Op.TheVariants as op
 use Rattle.sleep_model.specs.declared.machine.Script.{Script}
 use Rattle.sleep_model.specs.declared.place.AsyncWork.TheVariants.{Idle}
-use Rattle.sleep_model.specs.declared.place.Due.{Due}
 use Rattle.sleep_model.specs.declared.place.Due.TheVariants.{Makes, Waits, Gone}
 use Rattle.sleep_model.specs.declared.place.Seat.{Seat}
 use Rattle.sleep_model.specs.declared.place.Stage.{Stage}
@@ -21,15 +20,15 @@ use Rattle.sleep_model.specs.declared.log.Why.TheVariants as why
 use Rattle.sleep_model.specs.declared.word.EventNow.{EventNow}
 use Rattle.phase_table.specs.declared.phase.Phase.{Phase}
 use Rattle.phase_table.specs.declared.phase.Phase.TheVariants as phase
-use Rattle.sleep_model.specs.Attempt.{attempt_due, sleep_of, sleeps_now}
-use Rattle.sleep_model.specs.Devices.{async_work, work_by, device_due, stand_in, is_async_device}
+use Rattle.sleep_model.specs.Attempt.{attempt_due, sleeps_now}
+use Rattle.sleep_model.specs.Devices.{work_by, device_due, stand_in, is_async_device}
 use Rattle.sleep_model.specs.Due.{due, own_due}
 use Rattle.sleep_model.specs.Freezer.{unasked, freezing_at, freezing}
 use Rattle.sleep_model.specs.Legal.{JournalPart, is_made, sooner, pending_sleep, next_sleep}
 use Rattle.sleep_model.specs.Numbers.{time_of}
 use Rattle.sleep_model.specs.Path.{maker, is_actor}
 use Rattle.sleep_model.specs.Scripts.{entry_steps}
-use Rattle.sleep_model.specs.Seats.{SeatPart, Stays, first_seat, seat_at, seat_part, seat_after, seats_after, seats}
+use Rattle.sleep_model.specs.Seats.{SeatPart, seat_at, seat_part, seat_after, seats_after, seats}
 use Rattle.sleep_model.specs.Steps.{slept_due, step_due, task_due, seat_due}
 use Rattle.sleep_model.specs.Tasks.{is_line}
 use Rattle.sleep_laws.proofs.Answering.{Side, side_kept}
@@ -41,7 +40,7 @@ use Rattle.sleep_laws.proofs.Moods.{when_empty}
 use Rattle.sleep_laws.proofs.Passing.{standing}
 use Rattle.sleep_laws.proofs.Restoring.{IsUndone, undone_kept}
 use Rattle.sleep_laws.proofs.Standing.{Standing}
-use Rattle.sleep_laws.proofs.Telling.{none≢some, some_is}
+use Rattle.sleep_laws.proofs.Telling.{none≢some}
 use Rattle.sleep_laws.proofs.Turning.{never}
 use Rattle.sleep_state.specs.Sleepers.{end_of, sleeps_past, is_still}
 use Rattle.sleep_core.proofs.Seated.{first_seats, seats_len}
@@ -195,7 +194,7 @@ ends_among m past zero l h closed = refl
 ends_among m past (suc n) l h closed =
     ap₂ sooner
     (sym (ap₂ (λ b f. pending_sleep b f (slice_get m.actors n) (seat_at (seats (length m.actors) past) n)) (awake m past h closed) (thawed m past n h closed)
-        ∙ get_script m.actors n (seat_at (seats (length m.actors) past) n) (omega (arith, l))))
+    ∙ get_script m.actors n (seat_at (seats (length m.actors) past) n) (omega (arith, l))))
     (ends_among m past n (omega (arith, l)) h closed)
 
 -- while no attempt is open, the least end of all sleeps is pending

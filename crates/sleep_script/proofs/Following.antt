@@ -1,5 +1,5 @@
 -- A job follows the journal of its actor and the calls that it makes.
-use Rattle.std.proofs.Common.{◌≡◌, ◌∙◌, ◌<◌, ◌≤◌, ◌+◌, ◌-◌, ◌++◌, ◌&&◌, ◌||◌, ◌↔◌, ℕ, zero, suc, Bool, true, false, cond, List, [], ◌∷◌, length, drop, slice_get, Option, Some, None, refl, sym, ap, ap₂, subst, append_assoc, length-append, length-drop, arith}
+use Rattle.std.proofs.Common.{◌≡◌, ◌∙◌, ◌<◌, ◌≤◌, ◌+◌, ◌-◌, ◌++◌, ◌&&◌, ◌||◌, ◌↔◌, ℕ, zero, suc, Bool, true, false, cond, List, [], ◌∷◌, length, drop, slice_get, Some, refl, sym, ap, ap₂, append_assoc, length-append, length-drop, arith}
 use Rattle.std.proofs.lemmas.List.{drop_all, drop-drop, drop_at}
 use Rattle.std.proofs.lemmas.Option.{slice_get_within}
 use Rattle.sleep_model.specs.declared.entry.Actor.{Actor}
@@ -10,7 +10,7 @@ use Rattle.sleep_model.specs.declared.log.Want.TheVariants as want
 use Rattle.sleep_model.specs.declared.machine.Machine.{Machine}
 use Rattle.sleep_model.specs.declared.machine.SourceCall.{SourceCall}
 use Rattle.sleep_model.specs.declared.word.Stamp.{Stamp}
-use Rattle.sleep_model.specs.Calls.{calls_of_turn, calls_behind, ends_turn, one_more, note, report_calls, turns_ended, calls_of, calls_due}
+use Rattle.sleep_model.specs.Calls.{calls_behind, ends_turn, one_more, note, report_calls, turns_ended, calls_of, calls_due}
 use Rattle.sleep_model.specs.Path.{attempts, attempts_after, is_same}
 use Rattle.sleep_script.specs.Jobs.{JobState, first_job, is_exit, after_turn, after_call, raised, IsWanted, has_exited, IsJobOf}
 

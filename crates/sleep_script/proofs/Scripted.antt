@@ -1,6 +1,5 @@
 -- One script among those of a machine.
-use Rattle.std.proofs.Common.{◌≡◌, ◌<◌, ◌≤◌, ◌+◌, ℕ, zero, suc, List, [], ◌∷◌, length, flat_map, slice_index_or, ap, length-append, arith}
-use Rattle.sleep_model.specs.declared.machine.Op.{Op}
+use Rattle.std.proofs.Common.{◌≡◌, ◌<◌, ◌≤◌, ℕ, zero, suc, List, [], ◌∷◌, length, slice_index_or, ap, length-append, arith}
 use Rattle.sleep_model.specs.declared.machine.Script.{Script}
 use Rattle.sleep_model.specs.Places.{all_operations}
 use Rattle.sleep_model.specs.Scripts.{operations}

@@ -1,8 +1,8 @@
 -- A tree of moments: its first node has the least, and one that changes is set right from below.
-use Rattle.std.proofs.Common.{◌≡◌, ◌≢◌, ◌≤◌, ◌<◌, ◌+◌, ◌*◌, ◌/◌, ◌∙◌, ℕ, zero, suc, Bool, true, false, ◌==◌, List, [], ◌∷◌, length, drop, replicate, min, Option, Some, None, slice_index_or, slice_set, refl, sym, ap, ap₂, subst, arith}
+use Rattle.std.proofs.Common.{◌≡◌, ◌≤◌, ◌<◌, ◌+◌, ◌*◌, ◌∙◌, ℕ, zero, suc, Bool, true, false, ◌==◌, List, [], ◌∷◌, length, drop, replicate, min, Option, Some, None, slice_index_or, refl, sym, ap, ap₂, subst, arith}
 use Rattle.std.proofs.Math.Nat.{min_comm}
 use Rattle.std.proofs.lemmas.Bool.Decides.{nat_tests}
-use Rattle.std.proofs.lemmas.List.{get_or-set_same, get_or-set_other, get_or-drop, length-drop}
+use Rattle.std.proofs.lemmas.List.{get_or-drop, length-drop}
 use Rattle.sleep_model.specs.Legal.{sooner}
 use Rattle.sleep_state.specs.Trees.{least_among, least_of, IsJoined, AreJoined, AreJoinedBut}
 
@@ -70,6 +70,23 @@ first_least zero [] e h = refl
 first_least zero (x ∷ xs) e h = absurd (omega (arith, e))
 first_least (suc j) nodes e h =
     from_first nodes (suc j) j h (omega arith) ∙ (from_own nodes (suc j) (suc j) ∙ ap (least_among (drop (suc j) nodes)) (let count : suc j ≡ length (drop (suc j) nodes) = omega (arith, e, length-drop (suc j) nodes) in count))
+
+-- ---- a node that is read
+
+pub read_is : (xs : List (Option ℕ)) (i : ℕ) (x : Option ℕ) → i < length xs → x ≡ slice_index_or xs i x → x ≡ slice_index_or xs i None
+read_is [] i x l e = absurd (omega (arith, l))
+read_is (y ∷ ys) zero x l e = e
+read_is (y ∷ ys) (suc i) x l e = read_is ys i x (omega (arith, l)) e
+
+-- ---- a node that stays as it was
+
+-- where the one that was left out is joined all are
+pub joined_here : (many i : ℕ) (nodes : List (Option ℕ)) → AreJoinedBut many i nodes → IsJoined nodes i → AreJoined many nodes
+joined_here many i nodes h here k some l = by_same (k == i) refl
+  where
+    by_same : (b : Bool) → (k == i) ≡ b → IsJoined nodes k
+    by_same true e = subst (IsJoined nodes) (let same : i ≡ k = grind (arith, nat_tests) in same) here
+    by_same false e = h k some l (λ same. absurd (grind (arith, nat_tests)))
 
 -- ---- nodes without a moment
 

@@ -13,10 +13,14 @@ one_if false = 0
 abbrev pub is_awake : Seat → Bool
 is_awake seat = not seat.exited && is_none seat.until
 
--- how many of these are awake (own)
-abbrev pub awake_of : List Seat → ℕ
-awake_of [] = 0
-awake_of (seat ∷ seats) = one_if (is_awake seat) + awake_of seats
+-- a script that stands so has not exited (own)
+abbrev pub is_there : Seat → Bool
+is_there seat = not seat.exited
+
+-- how many of these stand so (own)
+abbrev pub count_of : (Seat → Bool) → List Seat → ℕ
+count_of so [] = 0
+count_of so (seat ∷ seats) = one_if (so seat) + count_of so seats
 
 -- the least end of the first n scripts' sleeps, where there is any (own)
 abbrev pub end_of : List Seat → ℕ → Option ℕ

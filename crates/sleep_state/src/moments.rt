@@ -1,6 +1,7 @@
 //! The least of many moments, each of which may change.
 
 ghost use Rattle.std.specs.Prelude.{◌≡◌, ◌<◌, ◌+◌, ◌*◌, ◌^◌, None, drop, length, slice_index_or};
+ghost use Rattle.std.specs.Bool.{OnTrue};
 ghost use Rattle.sleep_model.specs.Legal.{sooner};
 ghost use Rattle.sleep_state.specs.Trees.{AreJoined, AreJoinedBut};
 
@@ -30,6 +31,7 @@ impl Model for Moments {
 }
 
 /// The lesser of two moments, where there are any.
+#[inline(always)]
 fn sooner(one: Option<u64>, other: Option<u64>) -> Option<u64>
     ensures { result ≡ sooner one other }
 {
@@ -41,6 +43,7 @@ fn sooner(one: Option<u64>, other: Option<u64>) -> Option<u64>
 }
 
 /// The moment of a node, where there is that node.
+#[inline(always)]
 fn node(nodes: &[Option<u64>], at: usize) -> Option<u64>
     ensures { result ≡ slice_index_or nodes.now at None }
 {
@@ -50,7 +53,32 @@ fn node(nodes: &[Option<u64>], at: usize) -> Option<u64>
     }
 }
 
-/// Each node above one that has changed has the lesser moment of the two below it again.
+/// The moment of a node that is there.
+#[inline(always)]
+#[tactic(auto, using(crate::proofs::Rising::read_is))]
+fn node_there(nodes: &[Option<u64>], at: usize) -> Option<u64>
+    requires { at < length nodes.now }
+    ensures { result ≡ slice_index_or nodes.now at None }
+{
+    nodes[at]
+}
+
+/// Whether they are the same moment, or none.
+#[inline(always)]
+fn is_same(one: Option<u64>, other: Option<u64>) -> bool
+    ensures { OnTrue result (one ≡ other) }
+{
+    match (one, other) {
+        (None, None) => true,
+        (Some(one), Some(other)) => one == other,
+        _ => false,
+    }
+}
+
+/// Each node above one that has changed has the lesser moment of the two below it again: those above
+/// one that stays as it was do too.
+#[inline(never)]
+#[tactic(auto, using(crate::proofs::Rising::joined_here))]
 fn rise(nodes: &mut [Option<u64>], many: usize, above: usize)
     requires size { length nodes.old ≡ 2 * many }
     requires within { above < many }
@@ -61,27 +89,26 @@ fn rise(nodes: &mut [Option<u64>], many: usize, above: usize)
 {
     let mut at = above;
     while at > 0 {
-        let least = sooner(node(nodes, 2 * at), node(nodes, 2 * at + 1));
+        let least = sooner(node_there(nodes, 2 * at), node_there(nodes, 2 * at + 1));
+        if is_same(node_there(nodes, at), least) {
+            return;
+        }
         nodes[at] = least;
         at /= 2;
     }
 }
 
-/// Whether there is a moment that is not later than now.
-fn is_past(moment: Option<u64>, now: u64) -> bool {
-    match moment {
-        Some(moment) => moment <= now,
-        None => false,
+/// The node behind this one and all below it, where each node stands before those below it; 0 where there is none.
+#[inline(always)]
+fn node_behind(at: usize) -> usize {
+    if at % 2 == 0 {
+        return at.saturating_add(1);
     }
-}
-
-/// The node behind this one and all below it, if there is one, where each node stands before those below it.
-fn node_behind(at: usize) -> Option<usize> {
     let above = at >> (!at).trailing_zeros().min(63);
     if above == 0 {
-        None
+        0
     } else {
-        Some(above.saturating_add(1))
+        above.saturating_add(1)
     }
 }
 
@@ -112,19 +139,21 @@ impl Moments {
     /// The next thing behind that one, or the first of all, whose moment is not later than now. Things are gone through in
     /// the order of the tree. Which are found is no part of what is promised.
     pub(crate) fn next_past(&self, behind: Option<usize>, now: u64) -> Option<usize> {
-        let mut next = match behind {
+        let mut at = match behind {
             Some(thing) => node_behind(self.many.saturating_add(thing)),
-            None => Some(1),
+            None => 1,
         };
         // The tree has at most 64 levels.
         for _ in 0..256 {
-            let at = next?;
-            if !is_past(node(self.nodes.as_slice(), at), now) {
-                next = node_behind(at);
-            } else if at < self.many {
-                next = Some(at.saturating_mul(2));
-            } else {
-                return Some(at - self.many);
+            match self.nodes.get(at) {
+                Some(Some(moment)) if at > 0 && *moment <= now => {
+                    if at >= self.many {
+                        return Some(at - self.many);
+                    }
+                    at *= 2;
+                }
+                Some(_) if at > 0 => at = node_behind(at),
+                _ => return None,
             }
         }
         None

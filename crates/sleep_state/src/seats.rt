@@ -19,6 +19,8 @@ pub(crate) struct Seats {
     ends: Moments,
     /// How many scripts neither sleep nor have exited.
     awake: usize,
+    /// How many scripts have not exited.
+    left: usize,
 }
 
 impl Model for Seats {
@@ -66,16 +68,17 @@ fn is_later(moment: Option<u64>, time: u64) -> bool
     }
 }
 
-/// How many are awake, where one that was so or not is so or not.
-fn recount(was: bool, is: bool, awake: usize) -> usize
-    requires one { one_if was ≤ awake }
-    requires room { awake + 1 < 2 ^ 64 }
-    ensures { result + one_if was ≡ awake + one_if is }
+/// How many stand so, where one that did or not does or not.
+#[inline(always)]
+fn recount(was: bool, is: bool, many: usize) -> usize
+    requires one { one_if was ≤ many }
+    requires room { many + 1 < 2 ^ 64 }
+    ensures { result + one_if was ≡ many + one_if is }
 {
     match (was, is) {
-        (true, false) => awake - 1,
-        (false, true) => awake + 1,
-        _ => awake,
+        (true, false) => many - 1,
+        (false, true) => many + 1,
+        _ => many,
     }
 }
 
@@ -97,7 +100,7 @@ impl Seats {
     ghost use Rattle.sleep_state.specs.Sleepers.{end_of, AllStill};
 
     /// So many scripts at their first steps. `Mem` where there is no memory.
-    #[tactic(auto, using(crate::proofs::Sleeping::ends_first, crate::proofs::Sleeping::awake_first))]
+    #[tactic(auto, using(crate::proofs::Sleeping::ends_first, crate::proofs::Sleeping::awake_first, crate::proofs::Sleeping::there_first))]
     pub(crate) fn new(alloc: Global, scripts: usize) -> Result<Self, Mem>
         ensures { IfOk result (λ s. s ≡ replicate scripts first_seat) }
     {
@@ -107,6 +110,7 @@ impl Seats {
             seats,
             ends,
             awake: scripts,
+            left: scripts,
         })
     }
 
@@ -124,6 +128,7 @@ impl Seats {
     {
         let was = self.seats[script];
         self.awake = recount(is_awake(was), is_awake(seat), self.awake);
+        self.left = recount(!was.exited, !seat.exited, self.left);
         move_end(&mut self.ends, script, was.until, seat.until);
         self.seats[script] = seat;
     }
@@ -152,6 +157,6 @@ impl Seats {
     pub(crate) fn all_exited(&self) -> bool
         ensures { result ≡ all_exited self.now }
     {
-        self.seats.iter().all(|seat| seat.exited)
+        self.left == 0
     }
 }

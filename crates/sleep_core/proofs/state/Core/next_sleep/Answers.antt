@@ -1,9 +1,8 @@
-use Rattle.std.proofs.Common.{◌≡◌, ◌∙◌, Bool, true, false, length, Option, Some, None, is_some, refl, sym, ap, subst}
+use Rattle.std.proofs.Common.{◌≡◌, ◌∙◌, false, length, Option, Some, None, is_some, refl, sym, ap, subst}
 use Rattle.std.proofs.lemmas.Bool.{true≢false}
 use Rattle.sleep_model.specs.declared.entry.Actor.{Actor}
 use Rattle.sleep_model.specs.Legal.{next_sleep}
 use Rattle.sleep_model.specs.Path.{maker}
-use Rattle.sleep_model.specs.Seats.{seats}
 use Rattle.sleep_state.specs.Places.{entries}
 use Rattle.sleep_state.specs.Sleepers.{end_of}
 use Rattle.sleep_state.specs.TaskStates.{TaskState}

@@ -1,4 +1,4 @@
-use Rattle.std.proofs.Common.{◌≡◌, ◌≤◌, ◌<◌, ◌^◌, List, length, ap, arith}
+use Rattle.std.proofs.Common.{List, length, ap, arith}
 use Rattle.sleep_model.specs.declared.entry.Actor.TheVariants.{Script, Dev}
 use Rattle.sleep_script.specs.Jobs.{JobState}
 use Rattle.sleep_run.proofs.JobsKept.{first_len}

@@ -1,6 +1,5 @@
-use Rattle.std.proofs.Common.{◌≡◌, ◌≤◌, ◌<◌, ◌+◌, ◌^◌, List, length, ap, arith}
+use Rattle.std.proofs.Common.{List, length, ap, arith}
 use Rattle.sleep_script.specs.Jobs.{JobState}
-use Rattle.sleep_run.specs.JobsOf.{owing_of}
 use Rattle.sleep_run.proofs.Owing.{owing_few}
 use Rattle.sleep_run.proofs.jobs.Jobs.of_parts.Goals as goal
 

@@ -1,4 +1,4 @@
-use Rattle.std.proofs.Common.{◌≡◌, ◌∙◌, Bool, true, nat_eq, subst, arith}
+use Rattle.std.proofs.Common.{nat_eq, subst, arith}
 use Rattle.std.proofs.lemmas.Bool.Decides.{nat_tests}
 use Rattle.std.specs.Bool.{OnTrue}
 use Rattle.sleep_run.specs.JobsFields.{jobs}

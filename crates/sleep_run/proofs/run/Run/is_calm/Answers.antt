@@ -1,7 +1,5 @@
-use Rattle.std.proofs.Common.{◌≡◌, ◌∙◌, Bool, true, false, not, is_some, sym, ap, subst, refl}
+use Rattle.std.proofs.Common.{◌≡◌, ◌∙◌, Bool, true, false, not, sym, subst, refl}
 use Rattle.std.specs.Bool.{OnTrue}
-use Rattle.sleep_model.specs.Path.{maker}
-use Rattle.sleep_state.specs.Places.{entries}
 use Rattle.sleep_run.specs.AllEntries.{all_of}
 use Rattle.sleep_run.specs.JobsOf.{OweNone}
 use Rattle.sleep_run.specs.Runs.{RunState, IsCalm}

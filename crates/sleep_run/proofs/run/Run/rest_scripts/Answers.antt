@@ -1,4 +1,4 @@
-use Rattle.std.proofs.Common.{◌≡◌, ◌∙◌, Bool, true, length, sym, subst}
+use Rattle.std.proofs.Common.{◌≡◌, Bool, true, length, sym, subst}
 use Rattle.std.specs.Bool.{OnTrue}
 use Rattle.sleep_model.specs.declared.entry.Actor.TheVariants as actor
 use Rattle.sleep_model.specs.Legal.{none_enabled}

@@ -1,4 +1,4 @@
-use Rattle.std.proofs.Common.{◌≡◌, ◌+◌, ◌∙◌, ℕ, List, Option, drop, length, slice_set, ap, arith}
+use Rattle.std.proofs.Common.{◌+◌, ◌∙◌, ℕ, List, Option, drop, length, slice_set, ap, arith}
 use Rattle.std.proofs.lemmas.List.{drop-set-add, length-set, with_items_is}
 use Rattle.std.specs.Vec.{with_item}
 use Rattle.sleep_state.proofs.moments.Moments.set.Goals as goal

@@ -1,8 +1,8 @@
-use Rattle.std.proofs.Common.{◌≡◌, ◌∙◌, ℕ, List, length, map, Option, sym, ap, subst, arith}
+use Rattle.std.proofs.Common.{◌≡◌, ◌∙◌, ℕ, List, Option, sym, ap, subst, arith}
 use Rattle.std.proofs.lemmas.Bool.Decides.{nat_tests}
 use Rattle.std.specs.Bool.{OnTrue}
 use Rattle.sleep_model.specs.declared.place.Seat.{Seat}
-use Rattle.sleep_state.specs.Sleepers.{awake_of, is_later, AllStill}
+use Rattle.sleep_state.specs.Sleepers.{is_later, AllStill}
 use Rattle.sleep_state.specs.Trees.{least_of}
 use Rattle.sleep_state.proofs.Sleeping.{least_end_is, still_told}
 use Rattle.sleep_state.proofs.seats.Seats.are_still.Goals as goal

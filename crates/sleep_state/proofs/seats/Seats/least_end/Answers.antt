@@ -1,4 +1,4 @@
-use Rattle.std.proofs.Common.{◌≡◌, ◌∙◌, List, length, map, ap}
+use Rattle.std.proofs.Common.{◌∙◌, List, length, ap}
 use Rattle.sleep_model.specs.declared.place.Seat.{Seat}
 use Rattle.sleep_state.specs.Sleepers.{end_of}
 use Rattle.sleep_state.specs.Trees.{least_of}

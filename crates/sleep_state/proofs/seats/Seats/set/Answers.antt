@@ -1,16 +1,22 @@
-use Rattle.std.proofs.Common.{◌≡◌, ◌≤◌, ◌<◌, ◌+◌, ◌^◌, ◌∙◌, ℕ, List, length, map, Option, slice_set, sym, ap, subst, arith}
+use Rattle.std.proofs.Common.{◌<◌, ◌∙◌, ℕ, List, length, Option, slice_set, sym, ap, subst, arith}
 use Rattle.std.proofs.lemmas.List.{map-set}
 use Rattle.sleep_model.specs.declared.place.Seat.{Seat}
-use Rattle.sleep_state.specs.Sleepers.{one_if}
-use Rattle.sleep_state.proofs.Sleeping.{awake_few, awake_least, awake_set, seat_found}
+use Rattle.sleep_state.specs.Sleepers.{one_if, is_awake, is_there}
+use Rattle.sleep_state.proofs.Sleeping.{count_few, count_least, count_set, seat_found}
 use Rattle.sleep_state.proofs.seats.Seats.set.Goals as goal
 
 pub recount-self-inside-requires-clause-one : goal.recount-self-inside-requires-clause-one
 recount-self-inside-requires-clause-one c =
-    omega (arith, ap one_if c.is_awake.ensures, awake_least c.self.inside.seats.items c.args.script c.index-was.result.now (seat_found c.self.inside.seats.items c.args.script c.index-was.result.now (subst (λ (xs : List Seat). c.args.script < length xs) (sym c.self.view_is) c.requires) c.index-was.ensures), c.self.invariant.awake_is)
+    omega (arith, ap one_if c.is_awake.ensures, count_least is_awake c.self.inside.seats.items c.args.script c.index-was.result.now (seat_found c.self.inside.seats.items c.args.script c.index-was.result.now (subst (λ (xs : List Seat). c.args.script < length xs) (sym c.self.view_is) c.requires) c.index-was.ensures), c.self.invariant.awake_is)
 
 pub recount-self-inside-requires-clause-room : goal.recount-self-inside-requires-clause-room
-recount-self-inside-requires-clause-room c = omega (arith, c.self.invariant.awake_is, awake_few c.self.inside.seats.items, c.self.inside.seats.small)
+recount-self-inside-requires-clause-room c = omega (arith, c.self.invariant.awake_is, count_few is_awake c.self.inside.seats.items, c.self.inside.seats.small)
+
+pub recount-self-inside-requires-2-clause-one : goal.recount-self-inside-requires-2-clause-one
+recount-self-inside-requires-2-clause-one c = omega (arith, count_least is_there c.self.inside.seats.items c.args.script c.index-was.result.now (seat_found c.self.inside.seats.items c.args.script c.index-was.result.now (subst (λ (xs : List Seat). c.args.script < length xs) (sym c.self.view_is) c.requires) c.index-was.ensures), c.self.invariant.left_is)
+
+pub recount-self-inside-requires-2-clause-room : goal.recount-self-inside-requires-2-clause-room
+recount-self-inside-requires-2-clause-room c = omega (arith, c.self.invariant.left_is, count_few is_there c.self.inside.seats.items, c.self.inside.seats.small)
 
 pub invariant_of-self : goal.invariant_of-self
 invariant_of-self c =
@@ -18,5 +24,6 @@ invariant_of-self c =
     record {
       ends_are =
           c.move_end.ensures ∙ (ap (λ (ends : List (Option ℕ)). slice_set ends c.args.script c.args.seat.until) c.self.invariant.ends_are ∙ sym (map-set (λ (s : Seat). s.until) xs c.args.script c.args.seat));
-      awake_is = omega (arith, c.recount-self-inside.ensures, awake_set xs c.args.script c.index-was.result.now c.args.seat (seat_found c.self.inside.seats.items c.args.script c.index-was.result.now (subst (λ (xs : List Seat). c.args.script < length xs) (sym c.self.view_is) c.requires) c.index-was.ensures), ap one_if c.is_awake.ensures, ap one_if c.is_awake-2.ensures, c.self.invariant.awake_is);
+      awake_is = omega (arith, c.recount-self-inside.ensures, count_set is_awake xs c.args.script c.index-was.result.now c.args.seat (seat_found c.self.inside.seats.items c.args.script c.index-was.result.now (subst (λ (xs : List Seat). c.args.script < length xs) (sym c.self.view_is) c.requires) c.index-was.ensures), ap one_if c.is_awake.ensures, ap one_if c.is_awake-2.ensures, c.self.invariant.awake_is);
+      left_is = omega (arith, c.recount-self-inside-2.ensures, count_set is_there xs c.args.script c.index-was.result.now c.args.seat (seat_found c.self.inside.seats.items c.args.script c.index-was.result.now (subst (λ (xs : List Seat). c.args.script < length xs) (sym c.self.view_is) c.requires) c.index-was.ensures), c.self.invariant.left_is);
     }
