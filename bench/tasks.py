@@ -13,6 +13,7 @@ so that "as fast as an attempt's entries" reads 1. Rows:
   in step       256 tasks, 199,936 sleeps that all end at the same moments
   apart         the same sleeps, of different lengths: a jump of time for nearly each, which costs the same at any
                 number of tasks
+  one waits     the same again, beside a task that waits for a mark: each jump passes over all tasks
 """
 
 import sys
@@ -36,6 +37,14 @@ def sleepers(length):
     return {"version": 1, "actors": actors}
 
 
+def waiting(tree):
+    """The same machine, whose first task waits for a mark that the second raises at its end."""
+    first, second, *others = tree["actors"]
+    first = first | {"script": [{"op": "wait", "mark": "m"}]}
+    second = second | {"script": second["script"] + [{"op": "post", "mark": "m"}]}
+    return tree | {"actors": [first, second, *others]}
+
+
 def refused(tree):
     """The same machine with an answer of nobody, which is found when all else was read."""
     return tree | {"answers": [{"what": "notifier", "name": "nobody", "ret": "EIO"}]}
@@ -51,6 +60,7 @@ def main():
         ("timed events", one_source({"script": timed_events})),
         ("in step", sleepers(lambda i: 7)),
         ("apart", sleepers(lambda i: 1009 + 37 * i)),
+        ("one waits", waiting(sleepers(lambda i: 1009 + 37 * i))),
     ]
     print(f"{'machine':>14} {'entries':>9} {'ns/entry':>9} {'ratio':>6}")
     first = None

@@ -96,6 +96,7 @@ struct Alone {
     next_time: Option<u64>,
     whole: bool,
     is_open: bool,
+    is_still: bool,
     are_still: bool,
     slept: Option<u32>,
     entries: EntryList,
@@ -120,6 +121,7 @@ fn run_alone<R: Wait, E: Events>(
         next_time: core.next_time(),
         whole: core.whole(),
         is_open: core.is_open(),
+        is_still: core.is_still(0),
         are_still: core.are_still(),
         slept: core.next_slept(None),
         entries: EntryList::of_parts(core.into_journal(), Vec::new(alloc)),
@@ -222,14 +224,15 @@ fn a_machine_sleeps_till_its_alarm(rt: HostRuntime) -> Result<(), Fail> {
     Ok(())
 }
 
-/// Scripts are still that sleep on or have exited, and no attempt is open then; of them none has slept.
+/// A script is still that sleeps on or has exited, and so are all where each is; none of those has slept, and no attempt is
+/// open.
 #[test]
 fn scripts_are_still(rt: HostRuntime) -> Result<(), Fail> {
     for (file, are_still) in [(SLEEPER, true), (POSTER, true), (WAITERS, false)] {
         let mut events = PlainEvents::new();
         let alone = run_alone(&rt, rt.alloc(), &mut events, file, MANAGER)?;
         assert_eq!(rt; alone.are_still, are_still);
-        assert!(rt; !alone.is_open && alone.slept.is_none());
+        assert!(rt; alone.is_still && !alone.is_open && alone.slept.is_none());
     }
     Ok(())
 }

@@ -12,7 +12,7 @@ ghost use Rattle.sleep_model.specs.Path.{maker};
 ghost use Rattle.sleep_model.specs.Seats.{seat_at, seats};
 ghost use Rattle.sleep_model.specs.Word.{position};
 ghost use Rattle.sleep_state.specs.Places.{entries};
-ghost use Rattle.sleep_state.specs.Sleepers.{AllStill};
+ghost use Rattle.sleep_state.specs.Sleepers.{AllStill, is_still, sleeps_past};
 ghost use Rattle.async_board.specs.AtPlaces.{board_at};
 ghost use Rattle.sleep_core.specs.Seen.{is_scheduled, is_rescheduled, is_ready_on};
 ghost use Rattle.script_plan.specs.Plans.{calls_before};
@@ -37,6 +37,16 @@ fn is_rescheduled(stand: Stand) -> bool
     ensures { result ≡ is_rescheduled stand }
 {
     matches!(stand, Stand::Rescheduled)
+}
+
+/// Whether a sleep up to that moment goes on at that time.
+fn sleeps_past(until: Option<u64>, time: u64) -> bool
+    ensures { result ≡ sleeps_past until time }
+{
+    match until {
+        None => false,
+        Some(until) => time < until,
+    }
 }
 
 impl<'m> Core<'m> {
@@ -147,6 +157,14 @@ impl<'m> Core<'m> {
         ensures { OnTrue result (AllStill (seats (length self.now.machine.actors) (entries self.now.past)) (time_of (entries self.now.past))) }
     {
         self.history.tasks().are_still(self.now())
+    }
+
+    /// Whether a script has exited, or sleeps to a moment that has not come.
+    pub fn is_still(&self, script: u32) -> bool
+        ensures { result ≡ is_still (seat_at (seats (length self.now.machine.actors) (entries self.now.past)) script) (time_of (entries self.now.past)) }
+    {
+        let seat = self.history.tasks().seat(script);
+        seat.exited || sleeps_past(seat.until, self.now())
     }
 
     /// The next script behind that one, or the first, whose sleep has come to its end, in an order of its own. Which are

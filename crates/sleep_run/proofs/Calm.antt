@@ -51,6 +51,14 @@ module _ (m : Machine) (past : List Entry) (core : CoreState) (word : EventNow) 
       → is_enabled m (journal past) (λ s. history s past) now (actor.Script i) ≡ false
   still_is calm now i l still = rests calm now (actor.Script i) l (still_rests m (journal past) now i r.legal.journal calm.closed still)
 
+  -- nor is one that is still by the core
+  pub script_rests : IsCalm m past → (now : EventNow) (i : ℕ) → i < length m.actors → is_still (seat_at (seats (length core.machine.actors) (entries core.past)) i) (time_of (entries core.past)) ≡ true
+      → is_enabled m (journal past) (λ s. history s past) now (actor.Script i) ≡ false
+  script_rests calm now i l still =
+      still_is calm now i l
+      (subst (λ (x : Machine). is_still (seat_at (seats (length x.actors) (journal past)) i) (time_of (journal past)) ≡ true) r.machine_is
+      (subst (λ (xs : List Entry). is_still (seat_at (seats (length core.machine.actors) xs) i) (time_of xs) ≡ true) r.journal_is still))
+
   scripts_rest : IsCalm m past → (now : EventNow) → AllStill (seats (length m.actors) (journal past)) (time_of (journal past)) → (n : ℕ) → n ≤ length m.actors
       → none_enabled m (journal past) (λ s. history s past) now actor.Script n ≡ true
   scripts_rest calm now still zero l = refl

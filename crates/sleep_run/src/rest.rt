@@ -81,7 +81,7 @@ impl<'m> Run<'m> {
     ghost use Rattle.std.specs.Prelude.{◌≡◌, ◌<◌, ◌+◌, length, reverse, Ok, IfOk, OnOk, IfErr};
     ghost use Rattle.std.specs.Bool.{OnTrue};
     ghost use Rattle.sleep_model.specs.declared.entry.Actor.TheVariants.{Script, Dev};
-    ghost use Rattle.sleep_model.specs.Legal.{JumpStep, IsStuckAfter, none_enabled, none_expires, stats_of, waiting};
+    ghost use Rattle.sleep_model.specs.Legal.{JumpStep, IsStuckAfter, is_enabled, none_enabled, none_expires, stats_of, waiting};
     ghost use Rattle.sleep_model.specs.Numbers.{numbers, time_of};
     ghost use Rattle.sleep_model.specs.Parts.{journal};
     ghost use Rattle.sleep_model.specs.Sources.{history};
@@ -94,7 +94,20 @@ impl<'m> Run<'m> {
         self.jobs.owe_none() && !self.core.is_open()
     }
 
-    /// Whether no script can make anything that sees this word. Where all is calm, none can that has exited or sleeps on.
+    /// Whether a script can make anything that sees this word. Where all is calm, none can that has exited or sleeps on.
+    #[inline(always)]
+    fn may_go(&self, calm: bool, script: u32, word: EventNow) -> bool
+        requires calm { OnTrue calm (IsCalm self.now.machine self.now.past) }
+        requires script { script < length self.now.machine.actors }
+        ensures { result ≡ is_enabled self.now.machine (journal self.now.past) (λ s. history s self.now.past) word (Script script) }
+    {
+        if calm && self.core.is_still(script) {
+            return false;
+        }
+        self.is_enabled(Actor::Script(script), word)
+    }
+
+    /// Whether no script can make anything that sees this word. Where all is calm and all scripts are still, none is asked.
     fn rest_scripts(&self, calm: bool, word: EventNow) -> bool
         requires { OnTrue calm (IsCalm self.now.machine self.now.past) }
         ensures { result ≡ none_enabled self.now.machine (journal self.now.past) (λ s. history s self.now.past) word Script (length self.now.machine.actors) }
@@ -102,16 +115,17 @@ impl<'m> Run<'m> {
         if calm && self.core.are_still() {
             return true;
         }
-        self.rest_all_scripts(word)
+        self.rest_all_scripts(calm, word)
     }
 
-    /// Whether no script can make anything that sees this word, each of them being asked.
-    fn rest_all_scripts(&self, word: EventNow) -> bool
+    /// Whether no script can make anything that sees this word, by a pass over all.
+    fn rest_all_scripts(&self, calm: bool, word: EventNow) -> bool
+        requires { OnTrue calm (IsCalm self.now.machine self.now.past) }
         ensures { result ≡ none_enabled self.now.machine (journal self.now.past) (λ s. history s self.now.past) word Script (length self.now.machine.actors) }
     {
         let mut none = true;
         for script in 0..self.machine.actors.len() as u32 {
-            none = !self.is_enabled(Actor::Script(script), word) & none;
+            none = !self.may_go(calm, script, word) & none;
         }
         none
     }

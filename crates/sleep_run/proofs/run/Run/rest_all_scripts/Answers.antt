@@ -9,8 +9,8 @@ use Rattle.sleep_run.proofs.run.Run.rest_all_scripts.Goals as goal
 
 pub loop-script-preserved : goal.loop-script-preserved
 loop-script-preserved c =
-    none_more c.args.self.now.machine c.args.self.now.past c.args.word actor.Script c.loop-script.script (c.loop-script.script + 1) c.loop-script.none c.is_enabled.result (omega arith)
-    c.loop-script.invariant c.is_enabled.ensures
+    none_more c.args.self.now.machine c.args.self.now.past c.args.word actor.Script c.loop-script.script (c.loop-script.script + 1) c.loop-script.none c.may_go.result (omega arith)
+    c.loop-script.invariant c.may_go.ensures
 
 pub returns : goal.returns
 returns c =
