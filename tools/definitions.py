@@ -77,7 +77,7 @@ SECTIONS = [
     ("syscore_ops", "The steps of the core, as the code keeps them", "`drivers/base/syscore.c`", ["Parts"]),
     ("platform_steps", "Notifiers and processors, as the code keeps them", "`kernel/notifier.c`, `kernel/cpu.c`", ["Ranks", "Steps"]),
     ("answer_book", "Answers by attempt and thing", "own", ["Keys", "Book"]),
-    ("sleep_state", "What the core keeps of each part, each as one value", "own", ["Places", "Paths", "DeviceStates", "TaskStates"]),
+    ("sleep_state", "What the core keeps of each part, each as one value", "own", ["Places", "Paths", "DeviceStates", "TaskStates", "Sleepers", "SeatFields", "Trees", "MomentFields"]),
     ("task_freezer", "The freezer as one value", "`kernel/power/process.c`, `kernel/freezer.c`", ["Freezers", "FreezerFields", "Fronts", "Waits"]),
     ("turn_lock", "Locks with passes", "own", ["Books", "Locks", "Passes", "Passing", "Lending"]),
     ("sleep_sysfs", "The state that a text names", "`kernel/power/main.c`", ["Decoding"]),
@@ -95,7 +95,7 @@ SECTIONS = [
     ("merge_laws", "Lists that are right by themselves, and what they merge to", "own", ["Apart", "Fitting", "Merging", "Owned"]),
     ("log_text", "The grammar of a log, and its first bad line", "own", ["Grammar", "Named"]),
     ("log_merge", "The one log, read run by run", "own", ["Rests", "ReaderFields", "Orders", "Journals"]),
-    ("sleep_run", "A whole run", "own", ["Runs", "RunFields", "Tries", "AllEntries", "Waits", "Called", "Firsts", "JobsOf"]),
+    ("sleep_run", "A whole run", "own", ["Runs", "RunFields", "Tries", "AllEntries", "Waits", "Called", "Firsts", "JobsOf", "JobsFields"]),
     ("sleep_main", "How the program ends", "own", ["Words", "Endings", "Counting"]),
 ]
 

@@ -12,5 +12,6 @@ pub record IsTree (m : Inside) : Type 0 where
   pub size : length m.nodes.items ≡ 2 * m.many
   pub joined : AreJoined m.many m.nodes.items
 
+-- what holds of the moments between calls
 abbrev pub keeps : Inside → Type 0
 keeps m = IsTree m

@@ -14,5 +14,6 @@ pub record AreKept (s : Inside) : Type 0 where
   pub awake_is : s.awake ≡ count_of is_awake s.seats.items
   pub left_is : s.left ≡ count_of is_there s.seats.items
 
+-- what holds of the seats between calls
 abbrev pub keeps : Inside → Type 0
 keeps s = AreKept s

@@ -232,3 +232,18 @@ fn a_script_moves_on(rt: HostRuntime) -> Result<(), Fail> {
     assert!(rt; tasks.all_exited());
     Ok(())
 }
+
+/// A script that sleeps is still up to its moment, which is the least of all, and is found once that has come.
+#[test]
+fn the_least_end_of_sleeps_is_known(rt: HostRuntime) -> Result<(), Fail> {
+    let mut tasks = Tasks::new(rt.alloc(), 1, 0)?;
+    assert_eq!(rt; (tasks.least_end(), tasks.are_still(3)), (None, false));
+    tasks.note(TASK, Kind::Sleep(7));
+    assert_eq!(rt; (tasks.least_end(), tasks.are_still(3)), (Some(7), true));
+    assert_eq!(rt; tasks.next_slept(None, 3), None);
+    assert_eq!(rt; tasks.next_slept(None, 7), Some(0));
+    assert_eq!(rt; tasks.next_slept(Some(0), 7), None);
+    tasks.note(TASK, Kind::Slept);
+    assert_eq!(rt; (tasks.least_end(), tasks.are_still(8)), (None, false));
+    Ok(())
+}
