@@ -85,6 +85,7 @@ SECTIONS = [
     ("script_plan", "A script's turns, counted once", "own", ["Plans", "PlanFields"]),
     ("attempt_room", "How many entries an attempt may need", "own", ["Room"]),
     ("sleep_core", "The core", "own", ["Cores", "Turned", "Histories", "HistoryFields", "CoreFields", "Numbered", "Seen", "Stages", "Steps", "Reports", "ReportFields"]),
+    ("borrowed_json", "What a JSON value over its text says", "own", ["View", "InRange"]),
     ("machine_file", "Accepted bytes: the first broken rule, and the machine that is spelled", "`include/linux/pm.h`, `drivers/base/core.c`; most is own", ["Whole", "Members", "Places", "Form", "Names", "Devices", "Operations", "Answering", "Limits", "Tree", "Look", "Rules", "Spelled"]),
     ("machine_file", "What the reader answers", "own", ["Refusing", "Reading", "Broken", "Fitting"]),
     ("machine_file", "How a machine is written", "own", ["Spelling", "Writing"]),

@@ -1,4 +1,5 @@
 pub mod Looks
+pub mod MembersNamed
 pub mod Trees
 pub mod Placing
 pub mod Pairing
@@ -17,7 +18,6 @@ pub mod Fitted
 pub mod FittedFile
 pub mod Marked
 pub mod Worded
-pub mod Exact
 pub mod Sounding
 pub mod Counting
 pub mod Machined

@@ -6,8 +6,7 @@ use Rattle.std.proofs.lemmas.Bool.{false≢true}
 use Rattle.std.proofs.lemmas.Grind.{flat_map-append}
 use Rattle.std.proofs.lemmas.List.{map_more, map-append}
 use Rattle.std.proofs.lemmas.List.Elements.{filter_map-append}
-use Rattle.serde_json.specs.View.{view}
-use Rattle.serde_json.specs.declared.value.Value.{Value}
+use Rattle.borrowed_json.specs.View.{Value, view}
 use Rattle.machine_file.specs.Members.{word_at}
 use Rattle.machine_file.specs.Names.{is_among_names}
 use Rattle.machine_file.specs.Operations.{marks_of, first_places}

@@ -6,8 +6,7 @@ use Rattle.std.specs.Cmp.Lexicographic.{nat_list_eq_equiv}
 use Rattle.std.proofs.Math.Seq.{take-suc}
 use Rattle.std.proofs.lemmas.List.{get_or-map, length-map, map-append}
 use Rattle.serde_json.specs.Data.{Data}
-use Rattle.serde_json.specs.View.{view}
-use Rattle.serde_json.specs.declared.value.Value.{Value}
+use Rattle.borrowed_json.specs.View.{Value, view}
 use Rattle.machine_file.specs.declared.pairs.Ends.{Ends}
 use Rattle.machine_file.specs.declared.pairs.EndPlaces.{EndPlaces}
 use Rattle.machine_file.specs.Look.{is_none_or, text_at}

@@ -1,5 +1,5 @@
 -- That operations which pass all tests at once pass each.
-use Rattle.std.proofs.Common.{◌≡◌, ◌∙◌, ◌&&◌, ◌||◌, ℕ, suc, Bool, true, false, not, cond, List, [], ◌∷◌, bytes_eq, codes, Option, Some, None, is_some, refl, sym, ap}
+use Rattle.std.proofs.Common.{◌≡◌, ◌∙◌, ◌&&◌, ◌||◌, ℕ, suc, Bool, true, false, not, cond, List, [], ◌∷◌, bytes_eq, codes, Option, Some, None, refl, sym, ap}
 use Rattle.std.specs.List.{list_all, list_any}
 use Rattle.std.specs.Option.{option_or, option_map}
 use Rattle.std.proofs.lemmas.Bool.{false≢true, and_parts, and_from}
@@ -9,19 +9,18 @@ use Rattle.machine_file.specs.declared.operations.Word.{Word}
 use Rattle.machine_file.specs.declared.operations.Word.TheVariants as word
 use Rattle.machine_file.specs.declared.known.Known.{Known}
 use Rattle.machine_file.specs.Knows.{Knows, texts}
-use Rattle.machine_file.specs.Look.{has_only, has_size, is_some_and, is_none_or, is_text, text_at}
+use Rattle.machine_file.specs.Look.{has_only, is_some_and, is_none_or, text_at}
 use Rattle.machine_file.specs.Members.{may_have, has_text, list_in, word_at}
 use Rattle.machine_file.specs.Form.{is_within}
 use Rattle.machine_file.specs.Names.{is_among_names}
 use Rattle.machine_file.specs.Places.{first_not, first_operation, first_operation_of, operation_place}
 use Rattle.machine_file.specs.Operations.{Operation, row_of, fits_row, changes_links, is_formed, is_allowed, names_source, names_device, names_device_at, unformed_operation, forbidden_operation, sourceless_operation, deviceless_operation}
 use Rattle.machine_file.specs.OperationRows.{op_row}
-use Rattle.machine_file.specs.SoundOperations.{has_no_more, has_rest, word_changes_links, names_by_word, is_sound_as, passes_all, is_sound, are_operations_sound}
+use Rattle.machine_file.specs.SoundOperations.{word_changes_links, names_by_word, is_sound_as, passes_all, is_sound, are_operations_sound}
 use Rattle.machine_file.specs.Answering.{sourceless_report}
 use Rattle.machine_file.specs.Groups.{operation_rules}
 use Rattle.machine_file.specs.Whole.{broken_at, first_of}
 use Rattle.machine_file.specs.Rules.{is_second}
-use Rattle.machine_file.proofs.Exact.{must_there, has_one, has_two, has_more, may_absent}
 use Rattle.machine_file.proofs.Fitted.{absent_word}
 use Rattle.machine_file.proofs.Placing.{position_cons}
 use Rattle.machine_file.proofs.ScriptsKept.{member_apart}
@@ -124,57 +123,6 @@ module _ (sources devices : List (List ℕ)) (o : Data) where
   -- an operation in form names what its word lets it name, and nothing else
   names : (w : Word) → fits_row o (op_row w) ≡ true → names_by_word w sources devices o ≡ (names_source sources o && names_device devices o)
   names w h = by_members w (and_parts _ _ (and_parts (has_only (members_of w) o && may_have (codes "times") (is_within 1 20000) o) ((op_row w).form o) h).0).0
-
--- ---- an operation with no more members than it must have
-
-op_is_there : (w : Word) (o : Data) → Some (op_row w) ≡ row_of o → is_some (get (codes "op") o) ≡ true
-op_is_there w o e = must_there (is_text (op_row w).word) (get (codes "op") o) (word_there w o e)
-
-bare : (o : Data) → is_some (get (codes "op") o) ≡ true → has_size 1 o ≡ true → (more : List (List ℕ))
-    → (has_only (codes "op" ∷ codes "times" ∷ more) o && may_have (codes "times") (is_within 1 20000) o) ≡ true
-bare o op size more =
-    let only = has_one (codes "op") o op size in
-    and_from _ _ (has_more (codes "op" ∷ []) (codes "op" ∷ codes "times" ∷ more) o (λ n h. by (bytes_eq n (codes "op")) _ h) only)
-    (may_absent (codes "op" ∷ []) (codes "times") (is_within 1 20000) o only refl)
-  where
-    by : (p q : Bool) → (p || false) ≡ true → (p || q) ≡ true
-    by true q h = refl
-    by false q h = absurd (false≢true h)
-
-with_one : (k : List ℕ) (o : Data) → bytes_eq (codes "op") k ≡ false → list_any (bytes_eq (codes "times")) (codes "op" ∷ k ∷ []) ≡ false
-    → is_some (get (codes "op") o) ≡ true → is_some (get k o) ≡ true → has_size 2 o ≡ true → (more : List (List ℕ))
-    → (has_only (codes "op" ∷ codes "times" ∷ k ∷ more) o && may_have (codes "times") (is_within 1 20000) o) ≡ true
-with_one k o apart other op its size more =
-    let only = has_two (codes "op") k o apart op its size in
-    and_from _ _ (has_more (codes "op" ∷ k ∷ []) (codes "op" ∷ codes "times" ∷ k ∷ more) o (λ n h. by (bytes_eq n (codes "op")) (bytes_eq n (codes "times")) (bytes_eq n k) _ h) only)
-    (may_absent (codes "op" ∷ k ∷ []) (codes "times") (is_within 1 20000) o only other)
-  where
-    by : (p t q r : Bool) → (p || (q || false)) ≡ true → (p || (t || (q || r))) ≡ true
-    by true t q r h = refl
-    by false true q r h = refl
-    by false false true r h = refl
-    by false false false r h = absurd (false≢true h)
-
--- it has its form where what it must have has
-pub plain_operation : (w : Word) (o : Data) → Some (op_row w) ≡ row_of o → (op_row w).form o ≡ true → has_no_more w o ≡ true → fits_row o (op_row w) ≡ true
-plain_operation w o e form size = and_from (has_rest w o) ((op_row w).form o) (by w (op_is_there w o e) form size) form
-  where
-    by : (w : Word) → is_some (get (codes "op") o) ≡ true → (op_row w).form o ≡ true → has_no_more w o ≡ true → has_rest w o ≡ true
-    by word.Read op f s = bare o op s []
-    by word.Save op f s = bare o op s (codes "count" ∷ [])
-    by word.FreezePoint op f s = bare o op s []
-    by word.State op f s = with_one (codes "text") o refl refl op (must_there _ (get (codes "text") o) (and_parts _ _ f).0) s (codes "if_saved" ∷ [])
-    by word.Autosleep op f s = with_one (codes "text") o refl refl op (must_there _ (get (codes "text") o) f) s []
-    by word.Sleep op f s = with_one (codes "ms") o refl refl op (must_there _ (get (codes "ms") o) f) s []
-    by word.SleepD op f s = with_one (codes "ms") o refl refl op (must_there _ (get (codes "ms") o) f) s []
-    by word.Post op f s = with_one (codes "mark") o refl refl op (must_there _ (get (codes "mark") o) f) s []
-    by word.Wait op f s = with_one (codes "mark") o refl refl op (must_there _ (get (codes "mark") o) f) s []
-    by word.Awake op f s = with_one (codes "source") o refl refl op (must_there _ (get (codes "source") o) f) s []
-    by word.Relax op f s = with_one (codes "source") o refl refl op (must_there _ (get (codes "source") o) f) s []
-    by word.Event op f s = with_one (codes "source") o refl refl op (must_there _ (get (codes "source") o) (and_parts _ _ (and_parts _ _ f).0).0) s (codes "ms" ∷ codes "hard" ∷ [])
-    by word.Runtime op f s = absurd (false≢true s)
-    by word.Link op f s = absurd (false≢true s)
-    by word.LinkState op f s = absurd (false≢true s)
 
 behind : (a b c : Bool) → (a ≡ true → b ≡ c) → (a && b) ≡ (a && c)
 behind true b c e = e refl

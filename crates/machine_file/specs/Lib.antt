@@ -6,7 +6,6 @@ pub mod Members
 pub mod Places
 pub mod Form
 pub mod Names
-pub mod Exact
 pub mod Devices
 pub mod Operations
 pub mod Answering

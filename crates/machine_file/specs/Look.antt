@@ -2,7 +2,6 @@
 use Rattle.std.specs.Prelude.{ℕ, suc, ◌==◌, ◌&&◌, List, [], ◌∷◌, Bool, true, false, not, Option, Some, None, is_some, bytes_eq, unwrap_or, option_and_then}
 use Rattle.std.specs.List.{list_any}
 use Rattle.serde_json.specs.Data.{Data, Items, no_items, item, Members, no_members, member}
-use Rattle.serde_json.specs.Events.{members_len}
 use Rattle.serde_json.specs.Find.{get, as_number, as_u64, as_str, as_bool, as_array, as_object}
 
 -- what must be there, and passes
@@ -48,10 +47,6 @@ are_named names (member k d ms) = list_any (bytes_eq k) names && are_named names
 -- an object, and each of its members has one of these names
 abbrev pub has_only : List (List ℕ) → Data → Bool
 has_only names d = is_some_and (are_named names) (as_object d)
-
--- an object of so many members
-abbrev pub has_size : ℕ → Data → Bool
-has_size n d = is_some_and (λ ms. members_len ms == n) (as_object d)
 
 -- the text that it is; no bytes where it is none
 abbrev pub text_of : Data → List ℕ

@@ -1,14 +1,13 @@
 -- What it is to pass all tests of operations, as it is told in one pass.
-use Rattle.std.specs.Prelude.{ℕ, List, ◌∷◌, Bool, true, false, not, ◌&&◌, ◌||◌, codes}
+use Rattle.std.specs.Prelude.{ℕ, List, Bool, true, false, not, ◌&&◌, ◌||◌, codes}
 use Rattle.std.specs.List.{list_all}
 use Rattle.serde_json.specs.Data.{Data}
 use Rattle.machine_file.specs.declared.operations.Word.{Word}
 use Rattle.machine_file.specs.declared.operations.Word.TheVariants as word
 use Rattle.machine_file.specs.declared.known.Known.{Known}
 use Rattle.machine_file.specs.Knows.{texts}
-use Rattle.machine_file.specs.Look.{is_some_and, text_at, has_only, has_size}
-use Rattle.machine_file.specs.Members.{may_have, list_in}
-use Rattle.machine_file.specs.Form.{is_within}
+use Rattle.machine_file.specs.Look.{is_some_and, text_at}
+use Rattle.machine_file.specs.Members.{list_in}
 use Rattle.machine_file.specs.Names.{is_among_names}
 use Rattle.machine_file.specs.Operations.{Operation, changes_links, row_of, fits_row, names_source, names_device, names_device_at}
 use Rattle.machine_file.specs.OperationRows.{op_row}
@@ -29,20 +28,6 @@ names_by_word word.Runtime sources devices o = names_device_at (codes "device") 
 names_by_word word.Link sources devices o = names_device_at (codes "supplier") devices o && names_device_at (codes "consumer") devices o
 names_by_word word.LinkState sources devices o = names_device_at (codes "supplier") devices o && names_device_at (codes "consumer") devices o
 names_by_word _ sources devices o = true
-
--- an operation has no more members than its word and what it must have beside it, where that is one at most
-abbrev pub has_no_more : Word → Data → Bool
-has_no_more word.Read o = has_size 1 o
-has_no_more word.Save o = has_size 1 o
-has_no_more word.FreezePoint o = has_size 1 o
-has_no_more word.Runtime o = false
-has_no_more word.Link o = false
-has_no_more word.LinkState o = false
-has_no_more _ o = has_size 2 o
-
--- an operation has no members but those of its word, and is made as often as it may be
-abbrev pub has_rest : Word → Data → Bool
-has_rest w o = has_only (codes "op" ∷ codes "times" ∷ (op_row w).members) o && may_have (codes "times") (is_within 1 20000) o
 
 -- an operation of that word and of an actor of that kind passes all tests
 abbrev pub is_sound_as : Word → Bool → Known → List ℕ → Data → Bool

@@ -2,7 +2,7 @@
 
 ghost use Rattle.std.specs.Prelude.{◌≡◌, ◌&&◌, [], not, map, position, codes, IfOk, if◌then◌else◌};
 ghost use Rattle.std.specs.List.{list_all, list_any};
-ghost use Rattle.serde_json.specs.View.{view};
+ghost use Rattle.borrowed_json.specs.View.{view};
 ghost use Rattle.machine_file.specs.Look.{is_number, is_text};
 ghost use Rattle.machine_file.specs.Members.{may_have, list_in, word_at};
 ghost use Rattle.machine_file.specs.Places.{first_not, first_not_after, first_item};
@@ -20,7 +20,7 @@ use crate::look::{has_text, is_among, is_number, is_one_of, is_text, list_in, nu
 use crate::operations::names_one_of;
 use crate::place::{Member, Place, items};
 use crate::places::Places;
-use serde_json::Value;
+use borrowed_json::{Value, get};
 use sleep_base::Mem;
 use std::alloc::Global;
 
@@ -36,30 +36,30 @@ pub(crate) enum AnswerTest {
     Sources,
 }
 
-pub(crate) fn is_of_device(answer: &Value) -> bool
+pub(crate) fn is_of_device(answer: &Value<'_>) -> bool
     ensures { result ≡ is_of_device (view answer.now) }
 {
     has_text(answer, "what", "device")
 }
 
-fn has_its_phase(answer: &Value) -> bool
+fn has_its_phase(answer: &Value<'_>) -> bool
     ensures { result ≡ has_its_phase (view answer.now) }
 {
     if is_of_device(answer) {
-        answer.get("phase").is_some()
+        get(answer, "phase").is_some()
     } else {
-        answer.get("phase").is_none()
+        get(answer, "phase").is_none()
     }
 }
 
-fn is_of_prepare(answer: &Value) -> bool
+fn is_of_prepare(answer: &Value<'_>) -> bool
     ensures { result ≡ is_of_prepare (view answer.now) }
 {
     is_of_device(answer) && has_text(answer, "phase", "prepare")
 }
 
 // Whether the thing's name is one of its kind's.
-fn is_there<'v>(answer: &'v Value, known: &Known<'v>) -> bool
+fn is_there(answer: &Value<'_>, known: &Known<'_>) -> bool
     ensures { result ≡ is_among_names (kind_names known.now (view answer.now)) (name_of (view answer.now)) }
 {
     let name = text_at(answer, "name");
@@ -75,7 +75,7 @@ fn is_there<'v>(answer: &'v Value, known: &Known<'v>) -> bool
     is_among(name, &STEPS)
 }
 
-fn is_ret_allowed(answer: &Value, ret: &Value) -> bool
+fn is_ret_allowed(answer: &Value<'_>, ret: &Value<'_>) -> bool
     ensures { result ≡ is_ret_allowed (view answer.now) (view ret.now) }
 {
     is_number(ret, 0)
@@ -84,7 +84,7 @@ fn is_ret_allowed(answer: &Value, ret: &Value) -> bool
 }
 
 // 1 of a device's prepare, EAGAIN of all else.
-fn is_own_ret(answer: &Value, ret: &Value) -> bool
+fn is_own_ret(answer: &Value<'_>, ret: &Value<'_>) -> bool
     ensures { result ≡ (if is_of_prepare (view answer.now) then is_number 1 (view ret.now)
         else is_text (codes "EAGAIN") (view ret.now)) }
 {
@@ -95,23 +95,23 @@ fn is_own_ret(answer: &Value, ret: &Value) -> bool
     }
 }
 
-fn may_have_ret(answer: &Value) -> bool
+fn may_have_ret(answer: &Value<'_>) -> bool
     ensures { result ≡ may_have (codes "ret") (is_ret_allowed (view answer.now)) (view answer.now) }
 {
-    match answer.get("ret") {
+    match get(answer, "ret") {
         Some(ret) => is_ret_allowed(answer, ret),
         None => true,
     }
 }
 
 #[tactic(auto, using(crate::proofs::Looks::length_view))]
-fn may_report(answer: &Value) -> bool
+fn may_report(answer: &Value<'_>) -> bool
     ensures { result ≡ may_report (view answer.now) }
 {
     list_in(answer, "reports").len() <= most_reports(answer)
 }
 
-fn most_reports(answer: &Value) -> usize
+fn most_reports(answer: &Value<'_>) -> usize
     ensures { result ≡ (if is_of_device (view answer.now) && not (is_of_prepare (view answer.now)) then 16 else 0) }
 {
     if is_of_device(answer) && !is_of_prepare(answer) {
@@ -122,13 +122,13 @@ fn most_reports(answer: &Value) -> usize
 }
 
 // Whether each report's source is one of these.
-fn has_sources<'v>(answer: &'v Value, known: &Known<'v>) -> bool
+fn has_sources(answer: &Value<'_>, known: &Known<'_>) -> bool
     ensures { result ≡ list_all (names_source (texts known.now.sources)) (list_in (codes "reports") (view answer.now)) }
 {
     have_sources(list_in(answer, "reports"), known)
 }
 
-fn have_sources<'v>(reports: &'v [Value], known: &Known<'v>) -> bool
+fn have_sources(reports: &[Value<'_>], known: &Known<'_>) -> bool
     ensures { result ≡ list_all (λ v. names_source (texts known.now.sources) (view v)) reports.now }
 {
     reports
@@ -136,7 +136,7 @@ fn have_sources<'v>(reports: &'v [Value], known: &Known<'v>) -> bool
         .all(|report| names_one_of(report, "source", &known.sources))
 }
 
-fn passes<'v>(test: AnswerTest, known: &Known<'v>, answer: &'v Value) -> bool
+fn passes(test: AnswerTest, known: &Known<'_>, answer: &Value<'_>) -> bool
     ensures { result ≡ answer_test test known.now (view answer.now) }
 {
     match test {
@@ -147,7 +147,7 @@ fn passes<'v>(test: AnswerTest, known: &Known<'v>, answer: &'v Value) -> bool
     }
 }
 
-fn first_not<'v>(test: AnswerTest, known: &Known<'v>, answers: &'v [Value]) -> Option<usize>
+fn first_not(test: AnswerTest, known: &Known<'_>, answers: &[Value<'_>]) -> Option<usize>
     ensures { result ≡ position (λ v. not (answer_test test known.now (view v))) answers.now }
 {
     answers
@@ -155,18 +155,14 @@ fn first_not<'v>(test: AnswerTest, known: &Known<'v>, answers: &'v [Value]) -> O
         .position(|answer| !passes(test, known, answer))
 }
 
-fn first_failing<'v>(test: AnswerTest, known: &Known<'v>, tree: &'v Value) -> Option<usize>
+fn first_failing(test: AnswerTest, known: &Known<'_>, tree: &Value<'_>) -> Option<usize>
     ensures { result ≡ first_not (answer_test test known.now) (list_in (codes "answers") (view tree.now)) }
 {
     first_not(test, known, items(tree, Member::Answers))
 }
 
 /// The place of the first answer that does not pass.
-pub(crate) fn first_answer<'v>(
-    test: AnswerTest,
-    known: &Known<'v>,
-    tree: &'v Value,
-) -> Option<Place>
+pub(crate) fn first_answer(test: AnswerTest, known: &Known<'_>, tree: &Value<'_>) -> Option<Place>
     ensures { place_of result ≡ first_item (codes "answers") (answer_test test known.now) (view tree.now) }
 {
     match first_failing(test, known, tree) {
@@ -184,7 +180,7 @@ pub(crate) struct Given<'v> {
     attempt: Option<u64>,
 }
 
-fn given_of<'v>(answer: &'v Value) -> Given<'v>
+fn given_of<'v>(answer: &Value<'v>) -> Given<'v>
     ensures { answer_seen result ≡ answer_written (view answer.now) }
 {
     Given {
@@ -195,7 +191,7 @@ fn given_of<'v>(answer: &'v Value) -> Given<'v>
     }
 }
 
-fn all_given<'v>(alloc: Global, answers: &'v [Value]) -> Result<Vec<Given<'v>>, Mem>
+fn all_given<'v>(alloc: Global, answers: &[Value<'v>]) -> Result<Vec<Given<'v>>, Mem>
     ensures { IfOk result (λ v. map answer_seen v.items ≡ map answer_written (map view answers.now)) }
 {
     let mut all = Vec::with_capacity(alloc, answers.len())?;
@@ -213,7 +209,7 @@ fn first_again(answers: &Places<Given>) -> Option<usize>
 }
 
 /// The first answer that stands a second time.
-pub(crate) fn repeated_answer(alloc: Global, tree: &Value) -> Result<Option<Place>, Mem>
+pub(crate) fn repeated_answer(alloc: Global, tree: &Value<'_>) -> Result<Option<Place>, Mem>
     ensures { IfOk result (λ p. place_of p ≡ repeated_answer (view tree.now)) }
 {
     let answers = all_given(alloc, items(tree, Member::Answers))?;

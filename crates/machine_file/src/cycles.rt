@@ -1,7 +1,7 @@
 //! The links between the devices of a file, and the first that closes a cycle.
 
 ghost use Rattle.std.specs.Prelude.{◌≡◌, ◌≤◌, [], map, reverse, length, position, bytes_eq, codes, IfOk, None};
-ghost use Rattle.serde_json.specs.View.{view};
+ghost use Rattle.borrowed_json.specs.View.{view};
 ghost use Rattle.machine_file.specs.Spelled.{parent_of, place_among, link_of};
 ghost use Rattle.sleep_model.specs.Order.{EachAfterParent, parents_of};
 ghost use Rattle.machine_file.specs.Members.{list_in};
@@ -13,18 +13,18 @@ ghost use Rattle.machine_file.specs.Seen.{ends_written, end_places, ArePlaced};
 ghost use Rattle.machine_file.specs.Knows.{Knows, texts};
 
 use crate::known::{Known, device_at, place_of_name};
-use crate::look::has_text;
+use crate::look::{has_text, word_at};
 use crate::pairs::EndPlaces;
 use crate::place::{Member, items};
 use crate::places::Places;
+use borrowed_json::Value;
 use device_links::{LinkFault, Links};
-use serde_json::Value;
 use sleep_base::Mem;
 use sleep_model::Link;
 use std::alloc::Global;
 
 /// The place of a name among these, and 0 where it is none of them.
-pub(crate) fn place_among<'v>(names: &Places<&'v str>, name: &'v str) -> usize
+pub(crate) fn place_among(names: &Places<&str>, name: &str) -> usize
     ensures place { result ≡ place_among (texts names.now) name.now }
     ensures within { result ≤ length names.now }
 {
@@ -32,21 +32,21 @@ pub(crate) fn place_among<'v>(names: &Places<&'v str>, name: &'v str) -> usize
 }
 
 /// The place of a device's parent.
-pub(crate) fn parent_of<'v>(device: &'v Value, names: &Places<&'v str>) -> Option<u32>
+pub(crate) fn parent_of(device: &Value<'_>, names: &Places<&str>) -> Option<u32>
     requires { length names.now ≤ 1000 }
     ensures { result ≡ parent_of (texts names.now) (view device.now) }
 {
-    match device.get("parent").and_then(Value::as_str) {
+    match word_at(device, "parent") {
         Some(parent) => device_at(names, parent),
         None => None,
     }
 }
 
 /// The parents of these devices.
-pub(crate) fn parents_of<'v>(
+pub(crate) fn parents_of(
     alloc: Global,
-    devices: &'v [Value],
-    names: &Places<&'v str>,
+    devices: &[Value<'_>],
+    names: &Places<&str>,
 ) -> Result<Vec<Option<u32>>, Mem>
     requires { length names.now ≤ 1000 }
     ensures { IfOk result (λ v. v.items ≡ map (parent_of (texts names.now)) (map view devices.now)) }
@@ -58,7 +58,7 @@ pub(crate) fn parents_of<'v>(
     Ok(parents)
 }
 
-fn link_of<'v>(link: &Value, places: EndPlaces, names: &Places<&'v str>) -> Link
+fn link_of(link: &Value<'_>, places: EndPlaces, names: &Places<&str>) -> Link
     requires { places ≡ end_places (texts names.now) (ends_written (view link.now)) }
     ensures { result ≡ link_of (texts names.now) (view link.now) }
 {
@@ -71,11 +71,11 @@ fn link_of<'v>(link: &Value, places: EndPlaces, names: &Places<&'v str>) -> Link
 }
 
 /// The links of a file.
-pub(crate) fn links_of<'v>(
+pub(crate) fn links_of(
     alloc: Global,
-    links: &[Value],
+    links: &[Value<'_>],
     places: &[EndPlaces],
-    names: &Places<&'v str>,
+    names: &Places<&str>,
 ) -> Result<Vec<Link>, Mem>
     requires { places.now ≡ map (end_places (texts names.now)) (map ends_written (map view links.now)) }
     ensures { IfOk result (λ v. v.items ≡ map (link_of (texts names.now)) (map view links.now)) }
@@ -141,10 +141,10 @@ pub(crate) struct Linking {
 }
 
 /// Adds the links of a file.
-pub(crate) fn linking_of<'v>(
+pub(crate) fn linking_of(
     alloc: Global,
-    tree: &'v Value,
-    known: &Known<'v>,
+    tree: &Value<'_>,
+    known: &Known<'_>,
     places: &[EndPlaces],
 ) -> Result<Linking, Mem>
     requires knows { Knows known.now (view tree.now) }
@@ -162,11 +162,7 @@ pub(crate) fn linking_of<'v>(
     Ok(Linking { links, added })
 }
 
-fn parents_in<'v>(
-    alloc: Global,
-    tree: &'v Value,
-    known: &Known<'v>,
-) -> Result<Vec<Option<u32>>, Mem>
+fn parents_in(alloc: Global, tree: &Value<'_>, known: &Known<'_>) -> Result<Vec<Option<u32>>, Mem>
     requires knows { Knows known.now (view tree.now) }
     requires joined { AreJoined (view tree.now) }
     ensures { IfOk result (λ v. v.items ≡ parents_of (whole_devices (view tree.now))) }
@@ -175,10 +171,10 @@ fn parents_in<'v>(
     Ok(parents)
 }
 
-fn links_in<'v>(
+fn links_in(
     alloc: Global,
-    tree: &'v Value,
-    known: &Known<'v>,
+    tree: &Value<'_>,
+    known: &Known<'_>,
     places: &[EndPlaces],
 ) -> Result<Vec<Link>, Mem>
     requires knows { Knows known.now (view tree.now) }

@@ -2,22 +2,20 @@
 
 ghost use Rattle.std.specs.Prelude.{◌≡◌, codes, Option, nat_le, length, position, not};
 ghost use Rattle.std.specs.List.{list_all};
-ghost use Rattle.serde_json.specs.View.{view};
+ghost use Rattle.borrowed_json.specs.View.{view};
 ghost use Rattle.machine_file.specs.Members.{may_have, list_in, link_members};
 ghost use Rattle.machine_file.specs.Look.{has_only};
 ghost use Rattle.machine_file.specs.Places.{first_not};
 ghost use Rattle.machine_file.specs.Form.{is_string, is_device_form, is_link_form, is_notifier_form, is_actor_form, is_ret_form, is_plain_report, is_event_report, is_report_form, are_reports, is_answer_form, unformed_member, unformed_item};
 ghost use Rattle.machine_file.specs.Operations.{has_ends_named};
-ghost use Rattle.machine_file.specs.Exact.{has_device_rest, has_link_rest};
 ghost use Rattle.machine_file.specs.Broken.{place_of};
 
 use crate::look::{
-    has_only, has_size, has_text, is_number, is_one_of, is_string, list_in, may_be_list,
-    may_be_near, may_be_one_of, may_be_text, may_be_truth, may_be_within, must_be_one_of,
-    must_be_text,
+    has_only, has_text, is_number, is_one_of, is_string, list_in, may_be_list, may_be_near,
+    may_be_one_of, may_be_text, may_be_truth, may_be_within, must_be_one_of, must_be_text,
 };
 use crate::place::{Member, Place};
-use serde_json::Value;
+use borrowed_json::{Value, as_array, get};
 
 /// A day, in ms: the longest time.
 pub(crate) const DAY: u64 = 86_400_000;
@@ -34,7 +32,7 @@ const ERRORS: [&str; 7] = [
 ];
 
 /// The first member that has not its form.
-pub(crate) fn unformed_member(tree: &Value) -> Option<Place>
+pub(crate) fn unformed_member(tree: &Value<'_>) -> Option<Place>
     ensures { place_of result ≡ unformed_member (view tree.now) }
 {
     if !may_be_within(tree, "alarm_ms", 1, DAY) {
@@ -70,26 +68,19 @@ pub(crate) fn unformed_member(tree: &Value) -> Option<Place>
     None
 }
 
-// Whether a device has none but its members, and those beside its name have their form.
-fn has_device_rest(value: &Value) -> bool
-    ensures { result ≡ has_device_rest (view value.now) }
+pub(crate) fn is_device_form(value: &Value<'_>) -> bool
+    ensures { result ≡ is_device_form (view value.now) }
 {
     has_only(value, &["name", "parent", "async", "wakeup", "runtime"])
+        && must_be_text(value, "name")
         && may_be_text(value, "parent")
         && may_be_truth(value, "async")
         && may_be_truth(value, "wakeup")
         && may_be_one_of(value, "runtime", &STATUSES)
 }
 
-// A device that has a name and no more members has no others to be looked for.
-pub(crate) fn is_device_form(value: &Value) -> bool
-    ensures { result ≡ is_device_form (view value.now) }
-{
-    must_be_text(value, "name") && (has_size(value, 1) || has_device_rest(value))
-}
-
 // Whether a link has none but its members: with a state in a file of version 2.
-fn has_link_members(value: &Value, second: bool) -> bool
+fn has_link_members(value: &Value<'_>, second: bool) -> bool
     ensures { result ≡ has_only (link_members second) (view value.now) }
 {
     if second {
@@ -99,28 +90,23 @@ fn has_link_members(value: &Value, second: bool) -> bool
     }
 }
 
-// Whether a link has none but its members, and its state, where it is given, has its form.
-fn has_link_rest(value: &Value, second: bool) -> bool
-    ensures { result ≡ has_link_rest second (view value.now) }
-{
-    has_link_members(value, second) && may_be_one_of(value, "state", &LINK_STATES)
-}
-
 /// Whether both ends of a link are given.
-pub(crate) fn has_ends(value: &Value) -> bool
+pub(crate) fn has_ends(value: &Value<'_>) -> bool
     ensures { result ≡ has_ends_named (view value.now) }
 {
     must_be_text(value, "supplier") && must_be_text(value, "consumer")
 }
 
-// A link that has two ends and no more members has no others to be looked for.
-pub(crate) fn is_link_form(value: &Value, second: bool) -> bool
+pub(crate) fn is_link_form(value: &Value<'_>, second: bool) -> bool
     ensures { result ≡ is_link_form second (view value.now) }
 {
-    has_ends(value) && (has_size(value, 2) || has_link_rest(value, second))
+    has_link_members(value, second)
+        && must_be_text(value, "supplier")
+        && must_be_text(value, "consumer")
+        && may_be_one_of(value, "state", &LINK_STATES)
 }
 
-pub(crate) fn is_notifier_form(value: &Value) -> bool
+pub(crate) fn is_notifier_form(value: &Value<'_>) -> bool
     ensures { result ≡ is_notifier_form (view value.now) }
 {
     has_only(value, &["name", "priority"])
@@ -128,7 +114,7 @@ pub(crate) fn is_notifier_form(value: &Value) -> bool
         && may_be_near(value, "priority", 1000)
 }
 
-pub(crate) fn is_actor_form(value: &Value) -> bool
+pub(crate) fn is_actor_form(value: &Value<'_>) -> bool
     ensures { result ≡ is_actor_form (view value.now) }
 {
     has_only(value, &["name", "kind", "repeat", "script"])
@@ -138,19 +124,19 @@ pub(crate) fn is_actor_form(value: &Value) -> bool
         && may_be_list(value, "script")
 }
 
-fn is_ret_form(value: &Value) -> bool
+fn is_ret_form(value: &Value<'_>) -> bool
     ensures { result ≡ is_ret_form (view value.now) }
 {
     is_number(value, 0) || is_number(value, 1) || is_one_of(value, &ERRORS)
 }
 
-fn is_plain_report(value: &Value) -> bool
+fn is_plain_report(value: &Value<'_>) -> bool
     ensures { result ≡ is_plain_report (view value.now) }
 {
     has_only(value, &["call", "source"]) && must_be_one_of(value, "call", &["awake", "relax"])
 }
 
-fn is_event_report(value: &Value) -> bool
+fn is_event_report(value: &Value<'_>) -> bool
     ensures { result ≡ is_event_report (view value.now) }
 {
     has_only(value, &["call", "source", "ms", "hard"])
@@ -159,47 +145,47 @@ fn is_event_report(value: &Value) -> bool
         && may_be_truth(value, "hard")
 }
 
-fn is_report_form(value: &Value) -> bool
+fn is_report_form(value: &Value<'_>) -> bool
     ensures { result ≡ is_report_form (view value.now) }
 {
     must_be_text(value, "source") && (is_plain_report(value) || is_event_report(value))
 }
 
 #[tactic(auto, using(crate::proofs::Looks::list_all_items))]
-fn are_reports(value: &Value) -> bool
+fn are_reports(value: &Value<'_>) -> bool
     ensures { result ≡ are_reports (view value.now) }
 {
-    match value.as_array() {
-        Some(list) => are_all_reports(list.as_slice()),
+    match as_array(value) {
+        Some(list) => are_all_reports(list),
         None => false,
     }
 }
 
-fn are_all_reports(list: &[Value]) -> bool
+fn are_all_reports(list: &[Value<'_>]) -> bool
     ensures { result ≡ list_all (λ v. is_report_form (view v)) list.now }
 {
     list.iter().all(|value| is_report_form(value))
 }
 
-fn may_have_ret(value: &Value) -> bool
+fn may_have_ret(value: &Value<'_>) -> bool
     ensures { result ≡ may_have (codes "ret") is_ret_form (view value.now) }
 {
-    match value.get("ret") {
+    match get(value, "ret") {
         Some(found) => is_ret_form(found),
         None => true,
     }
 }
 
-fn may_have_reports(value: &Value) -> bool
+fn may_have_reports(value: &Value<'_>) -> bool
     ensures { result ≡ may_have (codes "reports") are_reports (view value.now) }
 {
-    match value.get("reports") {
+    match get(value, "reports") {
         Some(found) => are_reports(found),
         None => true,
     }
 }
 
-pub(crate) fn is_answer_form(value: &Value) -> bool
+pub(crate) fn is_answer_form(value: &Value<'_>) -> bool
     ensures { result ≡ is_answer_form (view value.now) }
 {
     has_only(

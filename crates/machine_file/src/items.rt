@@ -2,7 +2,7 @@
 
 ghost use Rattle.std.specs.Prelude.{◌≡◌, not, position, length, nat_le, codes};
 ghost use Rattle.std.specs.List.{list_all};
-ghost use Rattle.serde_json.specs.View.{view};
+ghost use Rattle.borrowed_json.specs.View.{view};
 ghost use Rattle.machine_file.specs.Places.{first_not, first_item};
 ghost use Rattle.machine_file.specs.Form.{is_link_form, unformed_item};
 ghost use Rattle.machine_file.specs.Names.{spells_name, names_of_device, names_of_link, own_name, misspelled_item};
@@ -14,7 +14,7 @@ ghost use Rattle.machine_file.specs.Tests.{item_test};
 use crate::form::{is_actor_form, is_answer_form, is_device_form, is_link_form, is_notifier_form};
 use crate::look::{has_number, is_string};
 use crate::place::{Member, Place, items};
-use serde_json::Value;
+use borrowed_json::{Value, as_str, get};
 
 /// A test of an item of a list.
 #[derive(Clone, Copy)]
@@ -33,7 +33,7 @@ pub(crate) enum ItemTest {
 }
 
 /// Whether the file is of version 2.
-pub(crate) fn is_second(tree: &Value) -> bool
+pub(crate) fn is_second(tree: &Value<'_>) -> bool
     ensures { result ≡ is_second (view tree.now) }
 {
     has_number(tree, "version", 2)
@@ -59,35 +59,35 @@ pub(crate) fn is_name(text: &str) -> bool
 }
 
 /// Whether it is a text that is spelled as names are.
-pub(crate) fn spells_name(value: &Value) -> bool
+pub(crate) fn spells_name(value: &Value<'_>) -> bool
     ensures { result ≡ spells_name (view value.now) }
 {
-    match value.as_str() {
+    match as_str(value) {
         Some(text) => is_name(text),
         None => false,
     }
 }
 
-pub(crate) fn must_be_name(value: &Value, name: &str) -> bool
+pub(crate) fn must_be_name(value: &Value<'_>, name: &str) -> bool
     ensures { result ≡ must_have name.now spells_name (view value.now) }
 {
-    match value.get(name) {
+    match get(value, name) {
         Some(found) => spells_name(found),
         None => false,
     }
 }
 
-fn may_be_name(value: &Value, name: &str) -> bool
+fn may_be_name(value: &Value<'_>, name: &str) -> bool
     ensures { result ≡ may_have name.now spells_name (view value.now) }
 {
-    match value.get(name) {
+    match get(value, name) {
         Some(found) => spells_name(found),
         None => true,
     }
 }
 
 /// Whether an item passes.
-fn passes(test: ItemTest, value: &Value) -> bool
+fn passes(test: ItemTest, value: &Value<'_>) -> bool
     ensures { result ≡ item_test test (view value.now) }
 {
     match test {
@@ -105,7 +105,7 @@ fn passes(test: ItemTest, value: &Value) -> bool
 }
 
 /// The place of the first item of a list that does not pass.
-pub(crate) fn first_item(tree: &Value, list: Member, test: ItemTest) -> Option<Place>
+pub(crate) fn first_item(tree: &Value<'_>, list: Member, test: ItemTest) -> Option<Place>
     ensures { place_of result ≡ first_item (member_name list) (item_test test) (view tree.now) }
 {
     match first_failing(tree, list, test) {
@@ -114,27 +114,27 @@ pub(crate) fn first_item(tree: &Value, list: Member, test: ItemTest) -> Option<P
     }
 }
 
-fn first_failing(tree: &Value, list: Member, test: ItemTest) -> Option<usize>
+fn first_failing(tree: &Value<'_>, list: Member, test: ItemTest) -> Option<usize>
     ensures { result ≡ first_not (item_test test) (list_in (member_name list) (view tree.now)) }
 {
     first_not(items(tree, list), test)
 }
 
-fn first_not(values: &[Value], test: ItemTest) -> Option<usize>
+fn first_not(values: &[Value<'_>], test: ItemTest) -> Option<usize>
     ensures { result ≡ position (λ v. not (item_test test (view v))) values.now }
 {
     values.iter().position(|value| !passes(test, value))
 }
 
 // The first link that has not its form, in a file of that version.
-fn unformed_link(tree: &Value) -> Option<Place>
+fn unformed_link(tree: &Value<'_>) -> Option<Place>
     ensures { place_of result ≡ first_item (codes "links") (is_link_form (is_second (view tree.now))) (view tree.now) }
 {
     first_item(tree, Member::Links, ItemTest::LinkForm(is_second(tree)))
 }
 
 /// The first item that has not its form.
-pub(crate) fn unformed_item(tree: &Value) -> Option<Place>
+pub(crate) fn unformed_item(tree: &Value<'_>) -> Option<Place>
     ensures { place_of result ≡ unformed_item (view tree.now) }
 {
     first_item(tree, Member::Devices, ItemTest::DeviceForm)
@@ -147,7 +147,7 @@ pub(crate) fn unformed_item(tree: &Value) -> Option<Place>
 }
 
 /// The first item with a name that is misspelled.
-pub(crate) fn misspelled_item(tree: &Value) -> Option<Place>
+pub(crate) fn misspelled_item(tree: &Value<'_>) -> Option<Place>
     ensures { place_of result ≡ misspelled_item (view tree.now) }
 {
     first_item(tree, Member::Devices, ItemTest::DeviceNames)

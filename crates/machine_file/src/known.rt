@@ -2,7 +2,7 @@
 
 ghost use Rattle.std.specs.Prelude.{◌≡◌, ◌≤◌, ◌-◌, ◌∷◌, [], not, map, take, bytes_eq, codes, length, ◌<◌, IfOk, IfSome, position, option_map};
 ghost use Rattle.std.specs.List.{list_any};
-ghost use Rattle.serde_json.specs.View.{view};
+ghost use Rattle.borrowed_json.specs.View.{view};
 ghost use Rattle.machine_file.specs.Look.{is_none_or, text_at};
 ghost use Rattle.machine_file.specs.Rules.{name_of};
 ghost use Rattle.machine_file.specs.Members.{list_in, word_at};
@@ -16,7 +16,7 @@ use crate::marks::marks_in;
 use crate::names::{first_repeated, names_in, texts_in};
 use crate::place::{Member, Place};
 use crate::places::Places;
-use serde_json::Value;
+use borrowed_json::Value;
 use sleep_base::Mem;
 use std::alloc::Global;
 
@@ -32,7 +32,7 @@ pub(crate) struct Known<'v> {
 }
 
 // The names of a list of objects, each with its place.
-fn named_in<'v>(alloc: Global, tree: &'v Value, list: Member) -> Result<Places<&'v str>, Mem>
+fn named_in<'v>(alloc: Global, tree: &Value<'v>, list: Member) -> Result<Places<&'v str>, Mem>
     ensures { IfOk result (λ p. texts p ≡ names_in (member_name list) (view tree.now)) }
 {
     let names = names_in(alloc, tree, list)?;
@@ -40,7 +40,7 @@ fn named_in<'v>(alloc: Global, tree: &'v Value, list: Member) -> Result<Places<&
 }
 
 // The names of a list of names, each with its place.
-fn told_in<'v>(alloc: Global, tree: &'v Value, list: Member) -> Result<Places<&'v str>, Mem>
+fn told_in<'v>(alloc: Global, tree: &Value<'v>, list: Member) -> Result<Places<&'v str>, Mem>
     ensures { IfOk result (λ p. texts p ≡ texts_in (member_name list) (view tree.now)) }
 {
     let names = texts_in(alloc, tree, list)?;
@@ -48,7 +48,7 @@ fn told_in<'v>(alloc: Global, tree: &'v Value, list: Member) -> Result<Places<&'
 }
 
 // The marks of scripts, each with its place.
-fn marked_in<'v>(alloc: Global, tree: &'v Value) -> Result<Places<&'v str>, Mem>
+fn marked_in<'v>(alloc: Global, tree: &Value<'v>) -> Result<Places<&'v str>, Mem>
     ensures { IfOk result (λ p. texts p ≡ whole_marks (view tree.now)) }
 {
     let marks = marks_in(alloc, tree)?;
@@ -56,7 +56,7 @@ fn marked_in<'v>(alloc: Global, tree: &'v Value) -> Result<Places<&'v str>, Mem>
 }
 
 /// The names of the things of a file.
-pub(crate) fn known_in<'v>(alloc: Global, tree: &'v Value) -> Result<Known<'v>, Mem>
+pub(crate) fn known_in<'v>(alloc: Global, tree: &Value<'v>) -> Result<Known<'v>, Mem>
     ensures { IfOk result (λ k. Knows k (view tree.now)) }
 {
     let devices = named_in(alloc, tree, Member::Devices)?;
@@ -84,7 +84,7 @@ pub(crate) fn item(list: Member, number: Option<usize>) -> Option<Place>
 }
 
 /// The first device that has another's name.
-pub(crate) fn repeated_device(tree: &Value, known: &Known) -> Option<Place>
+pub(crate) fn repeated_device(tree: &Value<'_>, known: &Known) -> Option<Place>
     requires { Knows known.now (view tree.now) }
     ensures { place_of result ≡ repeated_device (view tree.now) }
 {
@@ -93,7 +93,7 @@ pub(crate) fn repeated_device(tree: &Value, known: &Known) -> Option<Place>
 }
 
 /// The first syscore callback or notifier that has another's name.
-pub(crate) fn repeated_callback(tree: &Value, known: &Known) -> Option<Place>
+pub(crate) fn repeated_callback(tree: &Value<'_>, known: &Known) -> Option<Place>
     requires { Knows known.now (view tree.now) }
     ensures { place_of result ≡ repeated_callback (view tree.now) }
 {
@@ -105,7 +105,7 @@ pub(crate) fn repeated_callback(tree: &Value, known: &Known) -> Option<Place>
 }
 
 /// The first source that has another's name, or that of autosleep's own.
-pub(crate) fn repeated_source(alloc: Global, tree: &Value) -> Result<Option<Place>, Mem>
+pub(crate) fn repeated_source(alloc: Global, tree: &Value<'_>) -> Result<Option<Place>, Mem>
     ensures { IfOk result (λ p. place_of p ≡ repeated_source (view tree.now)) }
 {
     let sources = texts_in(alloc, tree, Member::Sources)?;
@@ -146,7 +146,7 @@ fn one_less(number: Option<usize>) -> Option<usize>
 }
 
 /// The first actor that has another's name.
-pub(crate) fn repeated_actor(alloc: Global, tree: &Value) -> Result<Option<Place>, Mem>
+pub(crate) fn repeated_actor(alloc: Global, tree: &Value<'_>) -> Result<Option<Place>, Mem>
     ensures { IfOk result (λ p. place_of p ≡ repeated_actor (view tree.now)) }
 {
     let names = names_in(alloc, tree, Member::Actors)?;
@@ -163,7 +163,7 @@ pub(crate) fn place_of_name(names: &Places<&str>, name: &str) -> Option<usize>
 }
 
 /// The number of the device of a name.
-pub(crate) fn device_at<'v>(names: &Places<&'v str>, name: &'v str) -> Option<u32>
+pub(crate) fn device_at(names: &Places<&str>, name: &str) -> Option<u32>
     requires { length names.now ≤ 1000 }
     ensures { result ≡ position (bytes_eq name.now) (texts names.now) }
 {

@@ -2,7 +2,7 @@
 
 ghost use Rattle.std.specs.Prelude.{◌≡◌, ◌+◌, ◌*◌, ◌||◌, length, min, map, codes, true, sum_by, unwrap_or, nat_le, if◌then◌else◌};
 ghost use Rattle.std.specs.List.{list_any};
-ghost use Rattle.serde_json.specs.View.{view};
+ghost use Rattle.borrowed_json.specs.View.{view};
 ghost use Rattle.machine_file.specs.Members.{list_in, number_at, has_text};
 ghost use Rattle.machine_file.specs.Limits.{too_many, too_much, times_of, repeat_of, has_autosleep, autosleep_attempts, most_attempts, are_links_few, are_steps_few, are_reports_few};
 ghost use Rattle.machine_file.specs.Counted.{with_operation, steps_of_script, repeated_steps, steps_of_actor, joined_steps, steps_of_actors};
@@ -10,7 +10,7 @@ ghost use Rattle.machine_file.specs.Broken.{member_name, place_of};
 
 use crate::look::{is_same, list_in, number_at, text_at};
 use crate::place::{Member, Place, items};
-use serde_json::Value;
+use borrowed_json::Value;
 
 /// How many steps there are, each number of at most the cap.
 #[derive(Clone, Copy)]
@@ -35,14 +35,14 @@ const NO_STEPS: Steps = Steps {
 const CAP: u64 = 1_000_000;
 
 #[tactic(auto, using(crate::proofs::Looks::length_view))]
-fn has_most(tree: &Value, list: Member, most: usize) -> bool
+fn has_most(tree: &Value<'_>, list: Member, most: usize) -> bool
     ensures { result ≡ nat_le (length (list_in (member_name list) (view tree.now))) most }
 {
     items(tree, list).len() <= most
 }
 
 /// The first list that is too long.
-pub(crate) fn too_many(tree: &Value) -> Option<Place>
+pub(crate) fn too_many(tree: &Value<'_>) -> Option<Place>
     ensures { place_of result ≡ too_many (view tree.now) }
 {
     if !has_most(tree, Member::Devices, 1000) {
@@ -83,13 +83,13 @@ fn capped_product(one: u64, other: u64) -> u64
     one.saturating_mul(other).min(CAP)
 }
 
-fn times_of(operation: &Value) -> u64
+fn times_of(operation: &Value<'_>) -> u64
     ensures { result ≡ times_of (view operation.now) }
 {
     number_at(operation, "times").unwrap_or(1)
 }
 
-fn repeat_of(actor: &Value) -> u64
+fn repeat_of(actor: &Value<'_>) -> u64
     ensures { result ≡ repeat_of (view actor.now) }
 {
     number_at(actor, "repeat").unwrap_or(1)
@@ -117,7 +117,7 @@ fn with_operation(steps: Steps, word: &str, times: u64) -> Steps
 }
 
 // The steps of a script that is made once.
-fn script_steps(script: &[Value]) -> Steps
+fn script_steps(script: &[Value<'_>]) -> Steps
     ensures { result ≡ steps_of_script (map view script.now) }
 {
     let mut steps = NO_STEPS;
@@ -139,7 +139,7 @@ fn repeated(repeat: u64, steps: Steps) -> Steps
     }
 }
 
-fn actor_steps(actor: &Value) -> Steps
+fn actor_steps(actor: &Value<'_>) -> Steps
     ensures { result ≡ steps_of_actor (view actor.now) }
 {
     repeated(repeat_of(actor), script_steps(list_in(actor, "script")))
@@ -157,7 +157,7 @@ fn joined(one: Steps, other: Steps) -> Steps
 }
 
 // The steps of all scripts.
-fn all_steps(actors: &[Value]) -> Steps
+fn all_steps(actors: &[Value<'_>]) -> Steps
     ensures { result ≡ steps_of_actors (map view actors.now) }
 {
     let mut sum = NO_STEPS;
@@ -167,13 +167,13 @@ fn all_steps(actors: &[Value]) -> Steps
     sum
 }
 
-fn steps_of_file(tree: &Value) -> Steps
+fn steps_of_file(tree: &Value<'_>) -> Steps
     ensures { result ≡ steps_of_actors (list_in (codes "actors") (view tree.now)) }
 {
     all_steps(items(tree, Member::Actors))
 }
 
-fn autosleep_attempts(tree: &Value, automatic: bool) -> u64
+fn autosleep_attempts(tree: &Value<'_>, automatic: bool) -> u64
     requires { automatic ≡ list_any has_autosleep (list_in (codes "actors") (view tree.now)) }
     ensures { result ≡ autosleep_attempts (view tree.now) }
 {
@@ -185,14 +185,14 @@ fn autosleep_attempts(tree: &Value, automatic: bool) -> u64
 }
 
 // How many attempts may be begun, of at most the cap.
-fn most_attempts(tree: &Value, steps: Steps) -> u64
+fn most_attempts(tree: &Value<'_>, steps: Steps) -> u64
     requires { steps ≡ steps_of_actors (list_in (codes "actors") (view tree.now)) }
     ensures { result ≡ min (most_attempts (view tree.now)) 1000000 }
 {
     capped_sum(steps.state, autosleep_attempts(tree, steps.autosleep))
 }
 
-fn are_links_few(tree: &Value, steps: Steps) -> bool
+fn are_links_few(tree: &Value<'_>, steps: Steps) -> bool
     requires { steps ≡ steps_of_actors (list_in (codes "actors") (view tree.now)) }
     ensures { result ≡ are_links_few (view tree.now) }
 {
@@ -200,7 +200,7 @@ fn are_links_few(tree: &Value, steps: Steps) -> bool
     capped_sum(written, steps.link) <= 4000
 }
 
-fn are_steps_few(tree: &Value) -> bool
+fn are_steps_few(tree: &Value<'_>) -> bool
     ensures { result ≡ are_steps_few (view tree.now) }
 {
     let steps = steps_of_file(tree);
@@ -209,7 +209,7 @@ fn are_steps_few(tree: &Value) -> bool
     steps.all <= 200_000 && turns <= 100_000 && are_links_few(tree, steps)
 }
 
-fn reports_of(answers: &[Value]) -> u64
+fn reports_of(answers: &[Value<'_>]) -> u64
     ensures { result ≡ min (sum_by (λ a. length (list_in (codes "reports") a)) (map view answers.now)) 1000000 }
 {
     let mut sum = 0;
@@ -219,14 +219,14 @@ fn reports_of(answers: &[Value]) -> u64
     sum
 }
 
-fn are_reports_few(tree: &Value) -> bool
+fn are_reports_few(tree: &Value<'_>) -> bool
     ensures { result ≡ are_reports_few (view tree.now) }
 {
     reports_of(items(tree, Member::Answers)) <= 10_000
 }
 
 /// The place where too much may happen.
-pub(crate) fn too_much(tree: &Value) -> Option<Place>
+pub(crate) fn too_much(tree: &Value<'_>) -> Option<Place>
     ensures { place_of result ≡ too_much (view tree.now) }
 {
     if !are_steps_few(tree) {

@@ -1,56 +1,56 @@
 //! Tests of one JSON value, and what of it stands at a name.
 
-ghost use Rattle.std.specs.Prelude.{◌≡◌, ◌≤◌, ◌==◌, map, bytes_eq, option_copied};
-ghost use Rattle.std.specs.List.{list_any};
-ghost use Rattle.serde_json.specs.Events.{members_len};
-ghost use Rattle.serde_json.specs.View.{view, members_view, items_view};
-ghost use Rattle.machine_file.specs.Look.{is_some_and, is_none_or, is_number, is_text, is_list, are_named, has_only, has_size, text_of, text_at, list_at};
+ghost use Rattle.std.specs.Prelude.{◌≡◌, ◌≤◌, ◌==◌, map, bytes_eq, option_and_then, option_copied, option_map};
+ghost use Rattle.std.specs.List.{list_all, list_any};
+ghost use Rattle.serde_json.specs.Find.{as_array, get};
+ghost use Rattle.borrowed_json.specs.View.{view, items_view};
+ghost use Rattle.machine_file.specs.Look.{is_some_and, is_none_or, is_number, is_text, is_list, has_only, text_of, text_at, list_at};
 ghost use Rattle.machine_file.specs.Members.{must_have, may_have, has_text, list_in, number_at, word_at, truth_at};
 ghost use Rattle.machine_file.specs.Form.{is_string, is_truth, is_within, is_near, is_one_of};
 
-use serde_json::{Map, Value};
+use borrowed_json::{Value, as_array, as_bool, as_i64, as_object, as_str, as_u64, get};
 
 // ---- single values
 
-pub(crate) fn is_string(value: &Value) -> bool
+pub(crate) fn is_string(value: &Value<'_>) -> bool
     ensures { result ≡ is_string (view value.now) }
 {
-    value.as_str().is_some()
+    as_str(value).is_some()
 }
 
-fn is_truth(value: &Value) -> bool
+fn is_truth(value: &Value<'_>) -> bool
     ensures { result ≡ is_truth (view value.now) }
 {
-    value.as_bool().is_some()
+    as_bool(value).is_some()
 }
 
-fn is_list(value: &Value) -> bool
+fn is_list(value: &Value<'_>) -> bool
     ensures { result ≡ is_list (view value.now) }
 {
-    value.as_array().is_some()
+    as_array(value).is_some()
 }
 
-pub(crate) fn is_number(value: &Value, number: u64) -> bool
+pub(crate) fn is_number(value: &Value<'_>, number: u64) -> bool
     ensures { result ≡ is_number number (view value.now) }
 {
-    value.as_u64() == Some(number)
+    as_u64(value) == Some(number)
 }
 
-pub(crate) fn is_within(value: &Value, least: u64, most: u64) -> bool
+pub(crate) fn is_within(value: &Value<'_>, least: u64, most: u64) -> bool
     ensures { result ≡ is_within least most (view value.now) }
 {
-    match value.as_u64() {
+    match as_u64(value) {
         Some(number) => least <= number && number <= most,
         None => false,
     }
 }
 
-fn is_near(value: &Value, most: u64) -> bool
+fn is_near(value: &Value<'_>, most: u64) -> bool
     ensures { result ≡ is_near most (view value.now) }
 {
-    match value.as_u64() {
+    match as_u64(value) {
         Some(number) => number <= most,
-        None => match value.as_i64() {
+        None => match as_i64(value) {
             Some(number) => number.unsigned_abs() <= most,
             None => false,
         },
@@ -65,19 +65,19 @@ pub(crate) fn is_same(text: &str, other: &str) -> bool
     text.len() == other.len() && text == other
 }
 
-pub(crate) fn is_text(value: &Value, text: &str) -> bool
+pub(crate) fn is_text(value: &Value<'_>, text: &str) -> bool
     ensures { result ≡ is_text text.now (view value.now) }
 {
-    match value.as_str() {
+    match as_str(value) {
         Some(found) => is_same(found, text),
         None => false,
     }
 }
 
-pub(crate) fn is_one_of(value: &Value, words: &[&str]) -> bool
+pub(crate) fn is_one_of(value: &Value<'_>, words: &[&str]) -> bool
     ensures { result ≡ is_one_of (map (λ s. s.now) words.now) (view value.now) }
 {
-    match value.as_str() {
+    match as_str(value) {
         Some(found) => is_among(found, words),
         None => false,
     }
@@ -98,110 +98,110 @@ fn is_any(text: &str, words: &[&str]) -> bool
 // ---- what stands at a name
 
 // Whether a text is at the name.
-pub(crate) fn must_be_text(value: &Value, name: &str) -> bool
+pub(crate) fn must_be_text(value: &Value<'_>, name: &str) -> bool
     ensures { result ≡ must_have name.now is_string (view value.now) }
 {
-    match value.get(name) {
+    match get(value, name) {
         Some(found) => is_string(found),
         None => false,
     }
 }
 
 // Whether nothing is at the name, or a text.
-pub(crate) fn may_be_text(value: &Value, name: &str) -> bool
+pub(crate) fn may_be_text(value: &Value<'_>, name: &str) -> bool
     ensures { result ≡ may_have name.now is_string (view value.now) }
 {
-    match value.get(name) {
+    match get(value, name) {
         Some(found) => is_string(found),
         None => true,
     }
 }
 
 // Whether nothing is at the name, or a truth value.
-pub(crate) fn may_be_truth(value: &Value, name: &str) -> bool
+pub(crate) fn may_be_truth(value: &Value<'_>, name: &str) -> bool
     ensures { result ≡ may_have name.now is_truth (view value.now) }
 {
-    match value.get(name) {
+    match get(value, name) {
         Some(found) => is_truth(found),
         None => true,
     }
 }
 
 // Whether nothing is at the name, or a list.
-pub(crate) fn may_be_list(value: &Value, name: &str) -> bool
+pub(crate) fn may_be_list(value: &Value<'_>, name: &str) -> bool
     ensures { result ≡ may_have name.now is_list (view value.now) }
 {
-    match value.get(name) {
+    match get(value, name) {
         Some(found) => is_list(found),
         None => true,
     }
 }
 
 // Whether one of these words is at the name.
-pub(crate) fn must_be_one_of(value: &Value, name: &str, words: &[&str]) -> bool
+pub(crate) fn must_be_one_of(value: &Value<'_>, name: &str, words: &[&str]) -> bool
     ensures { result ≡ must_have name.now (is_one_of (map (λ s. s.now) words.now)) (view value.now) }
 {
-    match value.get(name) {
+    match get(value, name) {
         Some(found) => is_one_of(found, words),
         None => false,
     }
 }
 
 // Whether nothing is at the name, or one of these words.
-pub(crate) fn may_be_one_of(value: &Value, name: &str, words: &[&str]) -> bool
+pub(crate) fn may_be_one_of(value: &Value<'_>, name: &str, words: &[&str]) -> bool
     ensures { result ≡ may_have name.now (is_one_of (map (λ s. s.now) words.now)) (view value.now) }
 {
-    match value.get(name) {
+    match get(value, name) {
         Some(found) => is_one_of(found, words),
         None => true,
     }
 }
 
 // Whether a whole number of this range is at the name.
-pub(crate) fn must_be_within(value: &Value, name: &str, least: u64, most: u64) -> bool
+pub(crate) fn must_be_within(value: &Value<'_>, name: &str, least: u64, most: u64) -> bool
     ensures { result ≡ must_have name.now (is_within least most) (view value.now) }
 {
-    match value.get(name) {
+    match get(value, name) {
         Some(found) => is_within(found, least, most),
         None => false,
     }
 }
 
 // Whether nothing is at the name, or a whole number of this range.
-pub(crate) fn may_be_within(value: &Value, name: &str, least: u64, most: u64) -> bool
+pub(crate) fn may_be_within(value: &Value<'_>, name: &str, least: u64, most: u64) -> bool
     ensures { result ≡ may_have name.now (is_within least most) (view value.now) }
 {
-    match value.get(name) {
+    match get(value, name) {
         Some(found) => is_within(found, least, most),
         None => true,
     }
 }
 
 // Whether nothing is at the name, or a whole number at most so far from 0.
-pub(crate) fn may_be_near(value: &Value, name: &str, most: u64) -> bool
+pub(crate) fn may_be_near(value: &Value<'_>, name: &str, most: u64) -> bool
     ensures { result ≡ may_have name.now (is_near most) (view value.now) }
 {
-    match value.get(name) {
+    match get(value, name) {
         Some(found) => is_near(found, most),
         None => true,
     }
 }
 
 // Whether this whole number is at the name.
-pub(crate) fn has_number(value: &Value, name: &str, number: u64) -> bool
+pub(crate) fn has_number(value: &Value<'_>, name: &str, number: u64) -> bool
     ensures { result ≡ must_have name.now (is_number number) (view value.now) }
 {
-    match value.get(name) {
+    match get(value, name) {
         Some(found) => is_number(found, number),
         None => false,
     }
 }
 
 // Whether this text is at the name.
-pub(crate) fn has_text(value: &Value, name: &str, text: &str) -> bool
+pub(crate) fn has_text(value: &Value<'_>, name: &str, text: &str) -> bool
     ensures { result ≡ has_text name.now text.now (view value.now) }
 {
-    match value.get(name) {
+    match get(value, name) {
         Some(found) => is_text(found, text),
         None => false,
     }
@@ -210,92 +210,73 @@ pub(crate) fn has_text(value: &Value, name: &str, text: &str) -> bool
 // ---- what it says
 
 // The text that it is, or the empty one.
-pub(crate) fn text_of(value: &Value) -> &str
+pub(crate) fn text_of<'v>(value: &Value<'v>) -> &'v str
     ensures { result.now ≡ text_of (view value.now) }
 {
-    value.as_str().unwrap_or("")
+    as_str(value).unwrap_or("")
 }
 
 // The text at the name, or the empty one.
-pub(crate) fn text_at<'v>(value: &'v Value, name: &str) -> &'v str
+pub(crate) fn text_at<'v>(value: &Value<'v>, name: &str) -> &'v str
     ensures { result.now ≡ text_at name.now (view value.now) }
 {
-    value.get(name).and_then(Value::as_str).unwrap_or("")
+    word_at(value, name).unwrap_or("")
 }
 
 // The text at the name, where there is one.
-pub(crate) fn word_at<'v>(value: &'v Value, name: &str) -> Option<&'v str>
+pub(crate) fn word_at<'v>(value: &Value<'v>, name: &str) -> Option<&'v str>
     ensures { option_copied result ≡ word_at name.now (view value.now) }
 {
-    value.get(name).and_then(Value::as_str)
+    as_str(get(value, name)?)
 }
 
 // The whole number at the name.
-pub(crate) fn number_at(value: &Value, name: &str) -> Option<u64>
+pub(crate) fn number_at(value: &Value<'_>, name: &str) -> Option<u64>
     ensures { result ≡ number_at name.now (view value.now) }
 {
-    value.get(name).and_then(Value::as_u64)
+    as_u64(get(value, name)?)
 }
 
 // The truth value at the name.
-pub(crate) fn truth_at(value: &Value, name: &str) -> Option<bool>
+pub(crate) fn truth_at(value: &Value<'_>, name: &str) -> Option<bool>
     ensures { result ≡ truth_at name.now (view value.now) }
 {
-    value.get(name).and_then(Value::as_bool)
+    as_bool(get(value, name)?)
 }
 
 // The list at the name, or the empty one.
-pub(crate) fn list_in<'v>(value: &'v Value, name: &str) -> &'v [Value]
+pub(crate) fn list_in<'v, 't>(value: &'v Value<'t>, name: &str) -> &'v [Value<'t>]
     ensures { map view result.now ≡ list_in name.now (view value.now) }
 {
     list_at(value, name)
 }
 
-fn list_at<'v>(value: &'v Value, name: &str) -> &'v [Value]
+fn list_at<'v, 't>(value: &'v Value<'t>, name: &str) -> &'v [Value<'t>]
     ensures { items_view result.now ≡ list_at name.now (view value.now) }
 {
-    match value.get(name).and_then(Value::as_array) {
-        Some(list) => list.as_slice(),
-        None => &[],
-    }
+    array_at(value, name).unwrap_or_default()
+}
+
+fn array_at<'v, 't>(value: &'v Value<'t>, name: &str) -> Option<&'v [Value<'t>]>
+    ensures { option_map (λ l. items_view l.now) result ≡ option_and_then as_array (get name.now (view value.now)) }
+{
+    as_array(get(value, name)?)
 }
 
 // ---- members
 
-// Whether this is an object of so many members.
-pub(crate) fn has_size(value: &Value, size: usize) -> bool
-    ensures { result ≡ has_size size (view value.now) }
-{
-    match value.as_object() {
-        Some(members) => is_of_size(members, size),
-        None => false,
-    }
-}
-
-#[tactic(auto, using(crate::proofs::Looks::members_size))]
-fn is_of_size(members: &Map<String, Value>, size: usize) -> bool
-    ensures { result ≡ (members_len (members_view members.now.entries) == size) }
-{
-    members.len() == size
-}
-
 // Whether this is an object that has no members but those of these names.
-pub(crate) fn has_only(value: &Value, names: &[&str]) -> bool
+pub(crate) fn has_only(value: &Value<'_>, names: &[&str]) -> bool
     ensures { result ≡ has_only (map (λ s. s.now) names.now) (view value.now) }
 {
-    match value.as_object() {
+    match as_object(value) {
         Some(members) => are_named(members, names),
         None => false,
     }
 }
 
-fn are_named(members: &Map<String, Value>, names: &[&str]) -> bool
-    ensures { result ≡ are_named (map (λ s. s.now) names.now) (members_view members.now.entries) }
+fn are_named(members: &[(&str, Value<'_>)], names: &[&str]) -> bool
+    ensures { result ≡ list_all (λ m. list_any (λ s. bytes_eq m.0.now s.now) names.now) members.now }
 {
-    for (key, _) in members.iter() {
-        if !is_any(key.as_str(), names) {
-            return false;
-        }
-    }
-    true
+    members.iter().all(|member| is_any(member.0, names))
 }

@@ -1,7 +1,7 @@
 //! A machine file as a whole: which rule it breaks, or which machine it spells.
 
 ghost use Rattle.std.specs.Prelude.{◌≡◌, [], reverse, option_map, codes, None, IfOk};
-ghost use Rattle.serde_json.specs.View.{view};
+ghost use Rattle.borrowed_json.specs.View.{view};
 ghost use Rattle.sleep_model.specs.Order.{parents_of};
 ghost use Rattle.machine_file.specs.Members.{list_in};
 ghost use Rattle.machine_file.specs.Places.{first_not_after};
@@ -18,7 +18,7 @@ use crate::place::{Member, Place};
 use crate::rules::{
     Broken, answer_broken, device_broken, form_broken, operation_broken, thing_broken,
 };
-use serde_json::Value;
+use borrowed_json::Value;
 use sleep_base::Mem;
 use std::alloc::Global;
 
@@ -30,18 +30,18 @@ pub(crate) enum Checked<'v> {
 }
 
 #[tactic(auto, unfolding(crate::specs::Kept::broken_form))]
-fn first_of_form(tree: &Value) -> Option<Broken>
+fn first_of_form(tree: &Value<'_>) -> Option<Broken>
     ensures { option_map broken_view result ≡ broken_form (view tree.now) }
 {
     form_broken(tree)
 }
 
 #[tactic(auto, unfolding(crate::specs::Kept::broken_devices))]
-fn first_of_devices<'v>(
+fn first_of_devices(
     alloc: Global,
-    tree: &'v Value,
-    known: &Known<'v>,
-    ends: &[Ends<'v>],
+    tree: &Value<'_>,
+    known: &Known<'_>,
+    ends: &[Ends<'_>],
     places: &[EndPlaces],
 ) -> Result<Option<Broken>, Mem>
     requires knows { Knows known.now (view tree.now) }
@@ -53,7 +53,7 @@ fn first_of_devices<'v>(
 }
 
 #[tactic(auto, unfolding(crate::specs::Kept::broken_cycle))]
-fn first_cycle(cycle: Option<usize>, tree: &Value) -> Option<Broken>
+fn first_cycle(cycle: Option<usize>, tree: &Value<'_>) -> Option<Broken>
     requires { cycle ≡ first_not_after (closes_no_cycle (view tree.now)) [] 0 (list_in (codes "links") (view tree.now)) }
     ensures { option_map broken_view result ≡ broken_cycle (view tree.now) }
 {
@@ -68,11 +68,7 @@ fn first_cycle(cycle: Option<usize>, tree: &Value) -> Option<Broken>
 }
 
 #[tactic(auto, unfolding(crate::specs::Kept::broken_rest))]
-fn first_of_rest<'v>(
-    alloc: Global,
-    tree: &'v Value,
-    known: &Known<'v>,
-) -> Result<Option<Broken>, Mem>
+fn first_of_rest(alloc: Global, tree: &Value<'_>, known: &Known<'_>) -> Result<Option<Broken>, Mem>
     requires { Knows known.now (view tree.now) }
     ensures { IfOk result (λ b. option_map broken_view b ≡ broken_rest (view tree.now)) }
 {
@@ -82,7 +78,7 @@ fn first_of_rest<'v>(
 }
 
 /// Tests the rules in their order.
-pub(crate) fn check<'v>(alloc: Global, tree: &'v Value) -> Result<Checked<'v>, Mem>
+pub(crate) fn check<'v>(alloc: Global, tree: &Value<'v>) -> Result<Checked<'v>, Mem>
     ensures { IfOk result (Checks (view tree.now)) }
 {
     match first_of_form(tree) {
@@ -91,7 +87,7 @@ pub(crate) fn check<'v>(alloc: Global, tree: &'v Value) -> Result<Checked<'v>, M
     }
 }
 
-fn check_devices<'v>(alloc: Global, tree: &'v Value) -> Result<Checked<'v>, Mem>
+fn check_devices<'v>(alloc: Global, tree: &Value<'v>) -> Result<Checked<'v>, Mem>
     requires { broken_form (view tree.now) ≡ None }
     ensures { IfOk result (Checks (view tree.now)) }
 {
@@ -106,7 +102,7 @@ fn check_devices<'v>(alloc: Global, tree: &'v Value) -> Result<Checked<'v>, Mem>
 
 fn check_links<'v>(
     alloc: Global,
-    tree: &'v Value,
+    tree: &Value<'v>,
     known: Known<'v>,
     places: &[EndPlaces],
 ) -> Result<Checked<'v>, Mem>
@@ -125,7 +121,7 @@ fn check_links<'v>(
 
 fn check_rest<'v>(
     alloc: Global,
-    tree: &'v Value,
+    tree: &Value<'v>,
     known: Known<'v>,
     linking: Linking,
 ) -> Result<Checked<'v>, Mem>

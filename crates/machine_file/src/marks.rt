@@ -2,7 +2,7 @@
 
 ghost use Rattle.std.specs.Prelude.{◌≡◌, ◌++◌, [], map, IfOk, OnOk};
 ghost use Rattle.std.specs.List.{flat_map};
-ghost use Rattle.serde_json.specs.View.{view};
+ghost use Rattle.borrowed_json.specs.View.{view};
 ghost use Rattle.machine_file.specs.Members.{list_in};
 ghost use Rattle.machine_file.specs.Operations.{marks_of, first_places, whole_marks};
 ghost use Rattle.machine_file.specs.Knows.{texts};
@@ -11,11 +11,11 @@ ghost use Rattle.machine_file.specs.Marks.{marks_of_script};
 use crate::look::{list_in, word_at};
 use crate::place::{Member, items};
 use crate::places::Places;
-use serde_json::Value;
+use borrowed_json::Value;
 use sleep_base::Mem;
 use std::alloc::Global;
 
-fn add_marks<'v>(marks: &mut Vec<&'v str>, script: &'v [Value]) -> Result<(), Mem>
+fn add_marks<'v>(marks: &mut Vec<&'v str>, script: &[Value<'v>]) -> Result<(), Mem>
     ensures { OnOk result (texts marks.new.items ≡ texts marks.old.items ++ marks_of (map view script.now)) }
 {
     for operation in script {
@@ -27,7 +27,7 @@ fn add_marks<'v>(marks: &mut Vec<&'v str>, script: &'v [Value]) -> Result<(), Me
 }
 
 // The marks of actors, one for each time that one is named.
-fn marks_of<'v>(alloc: Global, actors: &'v [Value]) -> Result<Vec<&'v str>, Mem>
+fn marks_of<'v>(alloc: Global, actors: &[Value<'v>]) -> Result<Vec<&'v str>, Mem>
     ensures { IfOk result (λ v. texts v.items ≡ flat_map marks_of_script (map view actors.now)) }
 {
     let mut marks = Vec::new(alloc);
@@ -51,7 +51,7 @@ fn first_places<'v>(alloc: Global, names: &Places<&'v str>) -> Result<Vec<&'v st
 }
 
 /// The marks of a file, in the order of their first use.
-pub(crate) fn marks_in<'v>(alloc: Global, tree: &'v Value) -> Result<Vec<&'v str>, Mem>
+pub(crate) fn marks_in<'v>(alloc: Global, tree: &Value<'v>) -> Result<Vec<&'v str>, Mem>
     ensures { IfOk result (λ v. texts v.items ≡ whole_marks (view tree.now)) }
 {
     let marks = marks_of(alloc, items(tree, Member::Actors))?;

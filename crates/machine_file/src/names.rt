@@ -2,7 +2,7 @@
 
 ghost use Rattle.std.specs.Prelude.{◌≡◌, ◌∷◌, [], not, map, bytes_eq, codes, IfOk};
 ghost use Rattle.std.specs.List.{list_any};
-ghost use Rattle.serde_json.specs.View.{view};
+ghost use Rattle.borrowed_json.specs.View.{view};
 ghost use Rattle.machine_file.specs.Look.{text_of};
 ghost use Rattle.machine_file.specs.Rules.{name_of};
 ghost use Rattle.machine_file.specs.Members.{list_in};
@@ -13,14 +13,14 @@ ghost use Rattle.machine_file.specs.Broken.{member_name};
 use crate::look::{text_at, text_of};
 use crate::place::{Member, items};
 use crate::places::Places;
-use serde_json::Value;
+use borrowed_json::Value;
 use sleep_base::Mem;
 use std::alloc::Global;
 
 /// The names of a list of objects.
 pub(crate) fn names_in<'v>(
     alloc: Global,
-    tree: &'v Value,
+    tree: &Value<'v>,
     list: Member,
 ) -> Result<Vec<&'v str>, Mem>
     ensures { IfOk result (λ v. map (λ s. s.now) v.items ≡ names_in (member_name list) (view tree.now)) }
@@ -29,7 +29,7 @@ pub(crate) fn names_in<'v>(
     Ok(names)
 }
 
-fn names_of<'v>(alloc: Global, list: &'v [Value]) -> Result<Vec<&'v str>, Mem>
+fn names_of<'v>(alloc: Global, list: &[Value<'v>]) -> Result<Vec<&'v str>, Mem>
     ensures { IfOk result (λ v. map (λ s. s.now) v.items ≡ map name_of (map view list.now)) }
 {
     let mut names = Vec::with_capacity(alloc, list.len())?;
@@ -42,7 +42,7 @@ fn names_of<'v>(alloc: Global, list: &'v [Value]) -> Result<Vec<&'v str>, Mem>
 /// The names of a list of names.
 pub(crate) fn texts_in<'v>(
     alloc: Global,
-    tree: &'v Value,
+    tree: &Value<'v>,
     list: Member,
 ) -> Result<Vec<&'v str>, Mem>
     ensures { IfOk result (λ v. map (λ s. s.now) v.items ≡ texts_in (member_name list) (view tree.now)) }
@@ -51,7 +51,7 @@ pub(crate) fn texts_in<'v>(
     Ok(names)
 }
 
-fn texts_of<'v>(alloc: Global, list: &'v [Value]) -> Result<Vec<&'v str>, Mem>
+fn texts_of<'v>(alloc: Global, list: &[Value<'v>]) -> Result<Vec<&'v str>, Mem>
     ensures { IfOk result (λ v. map (λ s. s.now) v.items ≡ map text_of (map view list.now)) }
 {
     let mut names = Vec::with_capacity(alloc, list.len())?;

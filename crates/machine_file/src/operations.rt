@@ -2,7 +2,7 @@
 
 ghost use Rattle.std.specs.Prelude.{◌≡◌, Some, ◌||◌, not, map, position, option_map, codes, ◌∷◌, nat_le, length};
 ghost use Rattle.std.specs.List.{list_all};
-ghost use Rattle.serde_json.specs.View.{view};
+ghost use Rattle.borrowed_json.specs.View.{view};
 ghost use Rattle.serde_json.specs.Find.{as_str};
 ghost use Rattle.machine_file.specs.Look.{is_some_and, is_none_or, has_only};
 ghost use Rattle.machine_file.specs.Members.{must_have, may_have, list_in, word_at};
@@ -10,7 +10,7 @@ ghost use Rattle.machine_file.specs.Places.{first_not, first_operation, first_op
 ghost use Rattle.machine_file.specs.Names.{is_among_names};
 ghost use Rattle.machine_file.specs.Operations.{is_formed, is_allowed, has_count, has_short_text, is_state_form, has_length, has_mark, is_runtime_form, has_ends_named, is_link_state_form, changes_links, has_source, is_event_form, row_of, fits_row, names_source, names_device, unformed_operation, forbidden_operation, sourceless_operation, deviceless_operation};
 ghost use Rattle.machine_file.specs.OperationRows.{op_row, row_named, operation_test};
-ghost use Rattle.machine_file.specs.SoundOperations.{has_no_more, has_rest, names_by_word, word_changes_links, is_sound_as, is_sound, is_sound_script, are_operations_sound};
+ghost use Rattle.machine_file.specs.SoundOperations.{names_by_word, word_changes_links, is_sound_as, is_sound, is_sound_script, are_operations_sound};
 ghost use Rattle.machine_file.specs.Knows.{Knows, texts};
 ghost use Rattle.machine_file.specs.Broken.{place_of};
 
@@ -18,12 +18,12 @@ use crate::form::{DAY, LINK_STATES, STATUSES, has_ends};
 use crate::items::{is_second, must_be_name};
 use crate::known::{Known, contains};
 use crate::look::{
-    has_only, has_size, has_text, is_among, is_same, list_in, may_be_truth, may_be_within,
-    must_be_one_of, must_be_text, must_be_within, text_at, word_at,
+    has_only, has_text, is_among, is_same, list_in, may_be_truth, may_be_within, must_be_one_of,
+    must_be_text, must_be_within, text_at, word_at,
 };
 use crate::place::{Member, Place, items};
 use crate::places::Places;
-use serde_json::Value;
+use borrowed_json::{Value, as_str, get};
 
 /// The word of an operation.
 #[derive(Clone, Copy)]
@@ -107,7 +107,7 @@ fn word_named(text: &str) -> Option<Word>
 }
 
 /// The word of an operation, where it is of the table.
-pub(crate) fn word_of(operation: &Value) -> Option<Word>
+pub(crate) fn word_of(operation: &Value<'_>) -> Option<Word>
     ensures { option_map op_row result ≡ row_of (view operation.now) }
 {
     match word_at(operation, "op") {
@@ -117,7 +117,7 @@ pub(crate) fn word_of(operation: &Value) -> Option<Word>
 }
 
 // Whether the operation has no members but those of its word.
-fn has_members(operation: &Value, word: Word) -> bool
+fn has_members(operation: &Value<'_>, word: Word) -> bool
     ensures { result ≡ has_only (codes "op" ∷ codes "times" ∷ (op_row word).members) (view operation.now) }
 {
     match word {
@@ -136,33 +136,33 @@ fn has_members(operation: &Value, word: Word) -> bool
 }
 
 // Whether a text of at most 32 bytes is given.
-fn has_short_text(operation: &Value) -> bool
+fn has_short_text(operation: &Value<'_>) -> bool
     ensures { result ≡ has_short_text (view operation.now) }
 {
-    match operation.get("text") {
+    match get(operation, "text") {
         Some(text) => is_short_text(text),
         None => false,
     }
 }
 
-fn is_short_text(value: &Value) -> bool
+fn is_short_text(value: &Value<'_>) -> bool
     ensures { result ≡ is_some_and (λ s. nat_le (length s) 32) (as_str (view value.now)) }
 {
-    match value.as_str() {
+    match as_str(value) {
         Some(text) => text.len() <= 32,
         None => false,
     }
 }
 
 // Whether a file of that version, the second or not, may have an operation of that word.
-fn is_of_version(second: bool, operation: &Value) -> bool
+fn is_of_version(second: bool, operation: &Value<'_>) -> bool
     ensures { result ≡ (second || not (changes_links (view operation.now))) }
 {
     second || !(has_text(operation, "op", "link") || has_text(operation, "op", "link_state"))
 }
 
 // Whether the devices that it names, if it names any, are of these.
-fn names_devices<'v>(operation: &'v Value, names: &Places<&'v str>) -> bool
+fn names_devices(operation: &Value<'_>, names: &Places<&str>) -> bool
     ensures { result ≡ names_device (texts names.now) (view operation.now) }
 {
     names_one_of(operation, "device", names)
@@ -171,7 +171,7 @@ fn names_devices<'v>(operation: &'v Value, names: &Places<&'v str>) -> bool
 }
 
 // Whether what the word asks for is given.
-fn has_form(operation: &Value, word: Word) -> bool
+fn has_form(operation: &Value<'_>, word: Word) -> bool
     ensures { result ≡ (op_row word).form (view operation.now) }
 {
     match word {
@@ -195,7 +195,7 @@ fn has_form(operation: &Value, word: Word) -> bool
     }
 }
 
-fn is_formed(operation: &Value, word: Word) -> bool
+fn is_formed(operation: &Value<'_>, word: Word) -> bool
     ensures { result ≡ fits_row (view operation.now) (op_row word) }
 {
     has_members(operation, word)
@@ -204,7 +204,7 @@ fn is_formed(operation: &Value, word: Word) -> bool
 }
 
 // Whether the operation is one of the table, in form.
-fn is_of_table(operation: &Value) -> bool
+fn is_of_table(operation: &Value<'_>) -> bool
     ensures { result ≡ is_some_and (fits_row (view operation.now)) (row_of (view operation.now)) }
 {
     match word_of(operation) {
@@ -227,21 +227,16 @@ fn is_allowed(kind: &str, word: Word) -> bool
 }
 
 // Whether the thing that it names there, if it names one, is of these.
-pub(crate) fn names_one_of<'v>(operation: &'v Value, member: &str, names: &Places<&'v str>) -> bool
+pub(crate) fn names_one_of(operation: &Value<'_>, member: &str, names: &Places<&str>) -> bool
     ensures { result ≡ is_none_or (is_among_names (texts names.now)) (word_at member.now (view operation.now)) }
 {
-    match operation.get(member).and_then(Value::as_str) {
+    match word_at(operation, member) {
         Some(name) => contains(names, name),
         None => true,
     }
 }
 
-fn passes<'v>(
-    test: OperationTest,
-    known: &Known<'v>,
-    actor: &'v Value,
-    operation: &'v Value,
-) -> bool
+fn passes(test: OperationTest, known: &Known<'_>, actor: &Value<'_>, operation: &Value<'_>) -> bool
     ensures { result ≡ operation_test test known.now (view actor.now) (view operation.now) }
 {
     match test {
@@ -258,17 +253,17 @@ fn passes<'v>(
 }
 
 // The first operation of an actor that does not pass.
-fn first_in_script<'v>(test: OperationTest, known: &Known<'v>, actor: &'v Value) -> Option<usize>
+fn first_in_script(test: OperationTest, known: &Known<'_>, actor: &Value<'_>) -> Option<usize>
     ensures { result ≡ first_not (operation_test test known.now (view actor.now)) (list_in (codes "script") (view actor.now)) }
 {
     first_not(test, known, actor, list_in(actor, "script"))
 }
 
-fn first_not<'v>(
+fn first_not(
     test: OperationTest,
-    known: &Known<'v>,
-    actor: &'v Value,
-    script: &'v [Value],
+    known: &Known<'_>,
+    actor: &Value<'_>,
+    script: &[Value<'_>],
 ) -> Option<usize>
     ensures { result ≡ position (λ v. not (operation_test test known.now (view actor.now) (view v))) script.now }
 {
@@ -278,17 +273,17 @@ fn first_not<'v>(
 }
 
 /// The first operation of all scripts that does not pass.
-pub(crate) fn first_operation<'v>(
+pub(crate) fn first_operation(
     test: OperationTest,
-    known: &Known<'v>,
-    tree: &'v Value,
+    known: &Known<'_>,
+    tree: &Value<'_>,
 ) -> Option<Place>
     ensures { place_of result ≡ first_operation (operation_test test known.now) (view tree.now) }
 {
     first_of_actors(test, known, items(tree, Member::Actors))
 }
 
-fn first_of_actors<'v>(test: OperationTest, known: &Known<'v>, actors: &'v [Value]) -> Option<Place>
+fn first_of_actors(test: OperationTest, known: &Known<'_>, actors: &[Value<'_>]) -> Option<Place>
     ensures { place_of result ≡ first_operation_of (operation_test test known.now) 0 (map view actors.now) }
 {
     for (i, actor) in actors.iter().enumerate() {
@@ -300,7 +295,7 @@ fn first_of_actors<'v>(test: OperationTest, known: &Known<'v>, actors: &'v [Valu
 }
 
 // Whether what the operation of that word names is there. It has no members but those of its word.
-fn names_what_is_there<'v>(word: Word, operation: &'v Value, known: &Known<'v>) -> bool
+fn names_what_is_there(word: Word, operation: &Value<'_>, known: &Known<'_>) -> bool
     ensures { result ≡ names_by_word word (texts known.now.sources) (texts known.now.devices) (view operation.now) }
 {
     match word {
@@ -322,52 +317,25 @@ fn changes_links(word: Word) -> bool
     matches!(word, Word::Link | Word::LinkState)
 }
 
-// Whether an operation has no more members than its word and what it must have beside it, where that is
-// one at most.
-fn has_no_more(operation: &Value, word: Word) -> bool
-    ensures { result ≡ has_no_more word (view operation.now) }
-{
-    match word {
-        Word::Read | Word::Save | Word::FreezePoint => has_size(operation, 1),
-        Word::Runtime | Word::Link | Word::LinkState => false,
-        _ => has_size(operation, 2),
-    }
-}
-
-// Whether an operation has no members but those of its word, and is made as often as it may be.
-fn has_rest(operation: &Value, word: Word) -> bool
-    ensures { result ≡ has_rest word (view operation.now) }
-{
-    has_members(operation, word) && may_be_within(operation, "times", 1, 20_000)
-}
-
-// The same as `is_formed`, of an operation of that word.
-fn is_formed_as(operation: &Value, word: Word) -> bool
-    requires { Some (op_row word) ≡ row_of (view operation.now) }
-    ensures { result ≡ fits_row (view operation.now) (op_row word) }
-{
-    has_form(operation, word) && (has_no_more(operation, word) || has_rest(operation, word))
-}
-
 // Whether an operation of that word and of an actor of that kind passes all tests.
-fn is_sound_as<'v>(
+fn is_sound_as(
     word: Word,
     second: bool,
-    known: &Known<'v>,
+    known: &Known<'_>,
     kind: &str,
-    operation: &'v Value,
+    operation: &Value<'_>,
 ) -> bool
     requires { Some (op_row word) ≡ row_of (view operation.now) }
     ensures { result ≡ is_sound_as word second known.now kind.now (view operation.now) }
 {
     (second || !changes_links(word))
         && is_allowed(kind, word)
-        && is_formed_as(operation, word)
+        && is_formed(operation, word)
         && names_what_is_there(word, operation, known)
 }
 
 // Whether an operation of an actor of that kind passes all tests, in a file of version 2 or of version 1.
-fn is_sound<'v>(second: bool, known: &Known<'v>, kind: &str, operation: &'v Value) -> bool
+fn is_sound(second: bool, known: &Known<'_>, kind: &str, operation: &Value<'_>) -> bool
     ensures { result ≡ is_sound second known.now kind.now (view operation.now) }
 {
     match word_of(operation) {
@@ -376,7 +344,7 @@ fn is_sound<'v>(second: bool, known: &Known<'v>, kind: &str, operation: &'v Valu
     }
 }
 
-fn are_sound<'v>(second: bool, known: &Known<'v>, kind: &str, script: &'v [Value]) -> bool
+fn are_sound(second: bool, known: &Known<'_>, kind: &str, script: &[Value<'_>]) -> bool
     ensures { result ≡ list_all (λ v. is_sound second known.now kind.now (view v)) script.now }
 {
     script
@@ -384,7 +352,7 @@ fn are_sound<'v>(second: bool, known: &Known<'v>, kind: &str, script: &'v [Value
         .all(|operation| is_sound(second, known, kind, operation))
 }
 
-fn is_sound_script<'v>(second: bool, known: &Known<'v>, actor: &'v Value) -> bool
+fn is_sound_script(second: bool, known: &Known<'_>, actor: &Value<'_>) -> bool
     ensures { result ≡ is_sound_script second known.now (view actor.now) }
 {
     are_sound(
@@ -395,7 +363,7 @@ fn is_sound_script<'v>(second: bool, known: &Known<'v>, actor: &'v Value) -> boo
     )
 }
 
-fn are_sound_scripts<'v>(second: bool, known: &Known<'v>, actors: &'v [Value]) -> bool
+fn are_sound_scripts(second: bool, known: &Known<'_>, actors: &[Value<'_>]) -> bool
     ensures { result ≡ list_all (λ v. is_sound_script second known.now (view v)) actors.now }
 {
     actors
@@ -404,7 +372,7 @@ fn are_sound_scripts<'v>(second: bool, known: &Known<'v>, actors: &'v [Value]) -
 }
 
 /// Whether all operations of a file pass all tests.
-pub(crate) fn are_operations_sound<'v>(tree: &'v Value, known: &Known<'v>) -> bool
+pub(crate) fn are_operations_sound(tree: &Value<'_>, known: &Known<'_>) -> bool
     ensures { result ≡ are_operations_sound known.now (view tree.now) }
 {
     are_sound_scripts(is_second(tree), known, items(tree, Member::Actors))

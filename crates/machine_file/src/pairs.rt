@@ -2,7 +2,7 @@
 
 ghost use Rattle.std.specs.Prelude.{◌≡◌, ◌≤◌, ◌&&◌, [], not, map, take, bytes_eq, codes, is_some, length, IfOk, position};
 ghost use Rattle.std.specs.List.{list_any};
-ghost use Rattle.serde_json.specs.View.{view};
+ghost use Rattle.borrowed_json.specs.View.{view};
 ghost use Rattle.machine_file.specs.Look.{is_none_or, text_at};
 ghost use Rattle.machine_file.specs.Members.{list_in, word_at};
 ghost use Rattle.machine_file.specs.Places.{first_not, first_not_after};
@@ -13,11 +13,11 @@ ghost use Rattle.machine_file.specs.Seen.{ends_seen, ends_written, differ, same_
 ghost use Rattle.machine_file.specs.Broken.{place_of};
 
 use crate::known::{Known, device_at, item};
-use crate::look::text_at;
+use crate::look::{text_at, word_at};
 use crate::place::{Member, Place, items};
 use crate::places::Places;
+use borrowed_json::Value;
 use indexmap::IndexMap;
-use serde_json::Value;
 use sleep_base::Mem;
 use std::alloc::Global;
 
@@ -29,23 +29,23 @@ pub(crate) struct Ends<'v> {
 }
 
 // Whether the parent, where one is named, is one of the first so many devices.
-fn has_parent_before<'v>(device: &'v Value, names: &Places<&'v str>, count: usize) -> bool
+fn has_parent_before(device: &Value<'_>, names: &Places<&str>, count: usize) -> bool
     ensures { result ≡ is_none_or (λ p. list_any (bytes_eq p) (take count (texts names.now)))
         (word_at (codes "parent") (view device.now)) }
 {
-    match device.get("parent").and_then(Value::as_str) {
+    match word_at(device, "parent") {
         Some(parent) => is_before(names, parent, count),
         None => true,
     }
 }
 
-fn is_before<'v>(names: &Places<&'v str>, name: &'v str, count: usize) -> bool
+fn is_before(names: &Places<&str>, name: &str, count: usize) -> bool
     ensures { result ≡ list_any (bytes_eq name.now) (take count (texts names.now)) }
 {
     names.is_before(&name, count)
 }
 
-fn first_orphan<'v>(devices: &'v [Value], names: &Places<&'v str>) -> Option<usize>
+fn first_orphan(devices: &[Value<'_>], names: &Places<&str>) -> Option<usize>
     requires { texts names.now ≡ map name_of (map view devices.now) }
     ensures { result ≡ first_not_after (λ before v. has_parent_before (map view before) (view v)) [] 0 devices.now }
 {
@@ -58,7 +58,7 @@ fn first_orphan<'v>(devices: &'v [Value], names: &Places<&'v str>) -> Option<usi
 }
 
 /// The first device whose parent is no earlier one.
-pub(crate) fn orphan<'v>(tree: &'v Value, known: &Known<'v>) -> Option<Place>
+pub(crate) fn orphan(tree: &Value<'_>, known: &Known<'_>) -> Option<Place>
     requires { Knows known.now (view tree.now) }
     ensures { place_of result ≡ orphan (view tree.now) }
 {
@@ -68,7 +68,7 @@ pub(crate) fn orphan<'v>(tree: &'v Value, known: &Known<'v>) -> Option<Place>
     )
 }
 
-fn ends_of<'v>(alloc: Global, links: &'v [Value]) -> Result<Vec<Ends<'v>>, Mem>
+fn ends_of<'v>(alloc: Global, links: &[Value<'v>]) -> Result<Vec<Ends<'v>>, Mem>
     ensures { IfOk result (λ v. map ends_seen v.items ≡ map ends_written (map view links.now)) }
 {
     let mut ends = Vec::with_capacity(alloc, links.len())?;
@@ -82,7 +82,7 @@ fn ends_of<'v>(alloc: Global, links: &'v [Value]) -> Result<Vec<Ends<'v>>, Mem>
 }
 
 /// The ends of the links of a file.
-pub(crate) fn ends_in<'v>(alloc: Global, tree: &'v Value) -> Result<Vec<Ends<'v>>, Mem>
+pub(crate) fn ends_in<'v>(alloc: Global, tree: &Value<'v>) -> Result<Vec<Ends<'v>>, Mem>
     ensures { IfOk result (λ v. AreEnds v.items (view tree.now)) }
 {
     let ends = ends_of(alloc, items(tree, Member::Links))?;
@@ -96,7 +96,7 @@ pub(crate) struct EndPlaces {
     pub(crate) consumer: Option<u32>,
 }
 
-fn place_of<'v>(ends: &Ends<'v>, names: &Places<&'v str>) -> EndPlaces
+fn place_of(ends: &Ends<'_>, names: &Places<&str>) -> EndPlaces
     requires { length names.now ≤ 1000 }
     ensures { result ≡ end_places (texts names.now) (ends_seen ends.now) }
 {
@@ -106,11 +106,7 @@ fn place_of<'v>(ends: &Ends<'v>, names: &Places<&'v str>) -> EndPlaces
     }
 }
 
-fn places_of<'v>(
-    alloc: Global,
-    ends: &[Ends<'v>],
-    names: &Places<&'v str>,
-) -> Result<Vec<EndPlaces>, Mem>
+fn places_of(alloc: Global, ends: &[Ends<'_>], names: &Places<&str>) -> Result<Vec<EndPlaces>, Mem>
     requires { length names.now ≤ 1000 }
     ensures { IfOk result (λ v. v.items ≡ map (end_places (texts names.now)) (map ends_seen ends.now)) }
 {
@@ -122,11 +118,11 @@ fn places_of<'v>(
 }
 
 /// The numbers of the devices that are the ends of a file's links.
-pub(crate) fn places_in<'v>(
+pub(crate) fn places_in(
     alloc: Global,
-    tree: &'v Value,
-    known: &Known<'v>,
-    ends: &[Ends<'v>],
+    tree: &Value<'_>,
+    known: &Known<'_>,
+    ends: &[Ends<'_>],
 ) -> Result<Vec<EndPlaces>, Mem>
     requires knows { Knows known.now (view tree.now) }
     requires few { AreFew known.now }
@@ -151,7 +147,7 @@ fn first_loose(places: &[EndPlaces]) -> Option<usize>
 }
 
 /// The first link of which an end is no device.
-pub(crate) fn loose_link(tree: &Value, places: &[EndPlaces]) -> Option<Place>
+pub(crate) fn loose_link(tree: &Value<'_>, places: &[EndPlaces]) -> Option<Place>
     requires { ArePlaced places.now (view tree.now) }
     ensures { place_of result ≡ loose_link (view tree.now) }
 {
@@ -185,7 +181,7 @@ fn first_again(alloc: Global, ends: &[Ends]) -> Result<Option<usize>, Mem>
 /// The first link that has one end, or that stands before.
 pub(crate) fn repeated_link(
     alloc: Global,
-    tree: &Value,
+    tree: &Value<'_>,
     ends: &[Ends],
 ) -> Result<Option<Place>, Mem>
     requires { AreEnds ends.now (view tree.now) }

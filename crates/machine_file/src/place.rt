@@ -1,10 +1,10 @@
 ghost use Rattle.std.specs.Prelude.{◌≡◌, map};
-ghost use Rattle.serde_json.specs.View.{view};
+ghost use Rattle.borrowed_json.specs.View.{view};
 ghost use Rattle.machine_file.specs.Members.{list_in};
 ghost use Rattle.machine_file.specs.Broken.{member_name};
 
 use crate::look::list_in;
-use serde_json::Value;
+use borrowed_json::Value;
 
 /// A member of a machine file.
 #[derive(Clone, Copy)]
@@ -56,7 +56,7 @@ impl Member {
 }
 
 /// The items of a list of the file.
-pub(crate) fn items(tree: &Value, list: Member) -> &[Value]
+pub(crate) fn items<'v, 't>(tree: &'v Value<'t>, list: Member) -> &'v [Value<'t>]
     ensures { map view result.now ≡ list_in (member_name list) (view tree.now) }
 {
     list_in(tree, list.name())

@@ -1,5 +1,5 @@
 ghost use Rattle.std.specs.Prelude.{◌≡◌, ◌++◌, codes, Some, IfOk, IfErr, string_bytes};
-ghost use Rattle.serde_json.specs.View.{view};
+ghost use Rattle.borrowed_json.specs.View.{view};
 ghost use Rattle.sleep_model.specs.Accepted.{IsAccepted};
 ghost use Rattle.machine_file.specs.Whole.{machine_in};
 ghost use Rattle.machine_file.specs.Reading.{links_among, Reads};
@@ -13,8 +13,8 @@ use crate::place::Place;
 use crate::rules::Broken;
 use crate::tree::tree_of;
 use crate::whole::read_of;
+use borrowed_json::{Scratch, Value};
 use device_links::Links;
-use serde_json::Value;
 use sleep_model::Machine;
 use std::alloc::{AllocError, Global};
 
@@ -38,7 +38,8 @@ pub fn read_machine(alloc: Global, bytes: &[u8]) -> Result<ReadMachine, MachineF
     // What is refused breaks that rule first, and there.
     ensures refused { IfErr result (Refuses bytes.now) }
 {
-    match tree_of(alloc, bytes)? {
+    let mut scratch = Scratch::new(alloc);
+    match tree_of(alloc, bytes, &mut scratch)? {
         Some(tree) => read_tree(alloc, &tree),
         None => Err(fault_of(
             alloc,
@@ -50,7 +51,7 @@ pub fn read_machine(alloc: Global, bytes: &[u8]) -> Result<ReadMachine, MachineF
     }
 }
 
-fn read_tree(alloc: Global, tree: &Value) -> Result<ReadMachine, MachineFault>
+fn read_tree(alloc: Global, tree: &Value<'_>) -> Result<ReadMachine, MachineFault>
     ensures ok { IfOk result (Reads (view tree.now)) }
     ensures err { IfErr result (RefusesValue (view tree.now)) }
 {

@@ -1,7 +1,7 @@
 //! The answers that a file spells.
 
 ghost use Rattle.std.specs.Prelude.{◌≡◌, ◌≤◌, All, map, length, codes, unwrap_or, find, pos, neg_ℤ, IfOk};
-ghost use Rattle.serde_json.specs.View.{view};
+ghost use Rattle.borrowed_json.specs.View.{view};
 ghost use Rattle.machine_file.specs.Members.{has_text, number_at};
 ghost use Rattle.machine_file.specs.Answering.{phase_of, step_of, ret_of, call_of, whole_report};
 ghost use Rattle.machine_file.specs.AnswerTests.{thing_seen, answer_made};
@@ -15,12 +15,12 @@ use crate::known::Known;
 use crate::look::{has_text, list_in, number_at};
 use crate::places::Places;
 use crate::scripts::{ms_of, says, small_at, thing_at};
-use serde_json::Value;
+use borrowed_json::Value;
 use sleep_base::{Errno, Mem};
 use sleep_model::{Answer, ListOf, Phase, PlatDo, Report, SourceCall, What};
 use std::alloc::Global;
 
-fn phase_of(answer: &Value) -> Phase
+fn phase_of(answer: &Value<'_>) -> Phase
     ensures { result ≡ phase_of (view answer.now) }
 {
     if has_text(answer, "phase", "prepare") {
@@ -47,7 +47,7 @@ fn phase_of(answer: &Value) -> Phase
     Phase::Prepare
 }
 
-fn step_of(answer: &Value) -> PlatDo
+fn step_of(answer: &Value<'_>) -> PlatDo
     ensures { result ≡ step_of (view answer.now) }
 {
     if has_text(answer, "name", "begin") {
@@ -62,7 +62,7 @@ fn step_of(answer: &Value) -> PlatDo
     PlatDo::Begin
 }
 
-fn thing_of<'v>(answer: &'v Value, known: &Known<'v>) -> What
+fn thing_of(answer: &Value<'_>, known: &Known<'_>) -> What
     requires { AreFew known.now }
     ensures { result ≡ thing_seen known.now (view answer.now) }
 {
@@ -78,7 +78,7 @@ fn thing_of<'v>(answer: &'v Value, known: &Known<'v>) -> What
     What::Platform(step_of(answer))
 }
 
-fn error_of(answer: &Value) -> Option<Errno>
+fn error_of(answer: &Value<'_>) -> Option<Errno>
     ensures { result ≡ find (λ e. has_text (codes "ret") (name_of e) (view answer.now)) errors }
 {
     if has_text(answer, "ret", "EINTR") {
@@ -111,7 +111,7 @@ fn below_zero(error: Errno) -> i32
     -i32::from(error.number())
 }
 
-fn plain_ret(answer: &Value) -> i32
+fn plain_ret(answer: &Value<'_>) -> i32
     requires { HasPlainRet (view answer.now) }
     ensures { result ≡ pos (unwrap_or (number_at (codes "ret") (view answer.now)) 0) }
 {
@@ -121,7 +121,7 @@ fn plain_ret(answer: &Value) -> i32
     }
 }
 
-fn ret_of(answer: &Value) -> i32
+fn ret_of(answer: &Value<'_>) -> i32
     requires { HasPlainRet (view answer.now) }
     ensures { result ≡ ret_of (view answer.now) }
 {
@@ -131,7 +131,7 @@ fn ret_of(answer: &Value) -> i32
     }
 }
 
-fn call_of(report: &Value) -> SourceCall
+fn call_of(report: &Value<'_>) -> SourceCall
     requires { FitsAt (codes "ms") (view report.now) }
     ensures { result ≡ call_of (view report.now) }
 {
@@ -147,7 +147,7 @@ fn call_of(report: &Value) -> SourceCall
     }
 }
 
-fn report_of<'v>(report: &'v Value, sources: &Places<&'v str>) -> Report
+fn report_of(report: &Value<'_>, sources: &Places<&str>) -> Report
     requires few { length sources.now ≤ 1000 }
     requires fits { FitsAt (codes "ms") (view report.now) }
     ensures { result ≡ whole_report (texts sources.now) (view report.now) }
@@ -158,10 +158,10 @@ fn report_of<'v>(report: &'v Value, sources: &Places<&'v str>) -> Report
     }
 }
 
-fn reports_of<'v>(
+fn reports_of(
     alloc: Global,
-    reports: &'v [Value],
-    sources: &Places<&'v str>,
+    reports: &[Value<'_>],
+    sources: &Places<&str>,
 ) -> Result<Vec<Report>, Mem>
     requires few { length sources.now ≤ 1000 }
     requires fit { All (FitsAt (codes "ms")) (map view reports.now) }
@@ -174,7 +174,7 @@ fn reports_of<'v>(
     Ok(all)
 }
 
-fn answer_of<'v>(alloc: Global, answer: &'v Value, known: &Known<'v>) -> Result<Answer, Mem>
+fn answer_of(alloc: Global, answer: &Value<'_>, known: &Known<'_>) -> Result<Answer, Mem>
     requires few { AreFew known.now }
     requires fits { FitsAnswer (view answer.now) }
     ensures { IfOk result (λ a. a ≡ answer_made known.now (view answer.now)) }
@@ -189,10 +189,10 @@ fn answer_of<'v>(alloc: Global, answer: &'v Value, known: &Known<'v>) -> Result<
 }
 
 /// The answers that these values spell.
-pub(crate) fn answers_of<'v>(
+pub(crate) fn answers_of(
     alloc: Global,
-    answers: &'v [Value],
-    known: &Known<'v>,
+    answers: &[Value<'_>],
+    known: &Known<'_>,
 ) -> Result<Vec<Answer>, Mem>
     requires few { AreFew known.now }
     requires fit { All FitsAnswer (map view answers.now) }

@@ -1,7 +1,7 @@
 //! The rules of a machine file, in the order in which a broken one is named.
 
 ghost use Rattle.std.specs.Prelude.{◌≡◌, option_map, codes, IfOk};
-ghost use Rattle.serde_json.specs.View.{view};
+ghost use Rattle.borrowed_json.specs.View.{view};
 ghost use Rattle.machine_file.specs.Whole.{broken_at, first_of};
 ghost use Rattle.machine_file.specs.Look.{has_only};
 ghost use Rattle.std.specs.Option.{option_or};
@@ -24,7 +24,7 @@ use crate::look::{has_number, has_only};
 use crate::operations::{OperationTest, are_operations_sound, first_operation};
 use crate::pairs::{EndPlaces, Ends, loose_link, orphan, repeated_link};
 use crate::place::{Member, Place};
-use serde_json::Value;
+use borrowed_json::Value;
 use sleep_base::Mem;
 use std::alloc::Global;
 
@@ -60,7 +60,7 @@ pub(crate) fn breaks(rule: u8, place: Option<Place>) -> Option<Broken>
     }
 }
 
-fn top(tree: &Value) -> Option<Place>
+fn top(tree: &Value<'_>) -> Option<Place>
     ensures { place_of result ≡ unless (has_only file_members (view tree.now)) (codes "top") }
 {
     if has_only(tree, &MEMBERS) {
@@ -70,7 +70,7 @@ fn top(tree: &Value) -> Option<Place>
     }
 }
 
-fn version(tree: &Value) -> Option<Place>
+fn version(tree: &Value<'_>) -> Option<Place>
     ensures { place_of result ≡ unless (has_version (view tree.now)) (codes "version") }
 {
     if has_number(tree, "version", 1) || has_number(tree, "version", 2) {
@@ -81,7 +81,7 @@ fn version(tree: &Value) -> Option<Place>
 }
 
 /// The first rule of form, of number and of names that is broken.
-pub(crate) fn form_broken(tree: &Value) -> Option<Broken>
+pub(crate) fn form_broken(tree: &Value<'_>) -> Option<Broken>
     ensures { option_map broken_view result ≡ first_of form_rules (view tree.now) }
 {
     breaks(2, top(tree))
@@ -93,11 +93,11 @@ pub(crate) fn form_broken(tree: &Value) -> Option<Broken>
 }
 
 /// The first rule of devices and of the ends of links that is broken.
-pub(crate) fn device_broken<'v>(
+pub(crate) fn device_broken(
     alloc: Global,
-    tree: &'v Value,
-    known: &Known<'v>,
-    ends: &[Ends<'v>],
+    tree: &Value<'_>,
+    known: &Known<'_>,
+    ends: &[Ends<'_>],
     places: &[EndPlaces],
 ) -> Result<Option<Broken>, Mem>
     requires knows { Knows known.now (view tree.now) }
@@ -113,10 +113,10 @@ pub(crate) fn device_broken<'v>(
 }
 
 /// The first rule that tells things apart that is broken.
-pub(crate) fn thing_broken<'v>(
+pub(crate) fn thing_broken(
     alloc: Global,
-    tree: &'v Value,
-    known: &Known<'v>,
+    tree: &Value<'_>,
+    known: &Known<'_>,
 ) -> Result<Option<Broken>, Mem>
     requires { Knows known.now (view tree.now) }
     ensures { IfOk result (λ b. option_map broken_view b ≡ first_of thing_rules (view tree.now)) }
@@ -127,41 +127,41 @@ pub(crate) fn thing_broken<'v>(
     Ok(callback.or(breaks(14, source)).or(breaks(15, actor)))
 }
 
-fn unformed_operation<'v>(tree: &'v Value, known: &Known<'v>) -> Option<Place>
+fn unformed_operation(tree: &Value<'_>, known: &Known<'_>) -> Option<Place>
     ensures { place_of result ≡ unformed_operation (view tree.now) }
 {
     first_operation(OperationTest::Formed(is_second(tree)), known, tree)
 }
 
-fn sourceless_operation<'v>(tree: &'v Value, known: &Known<'v>) -> Option<Place>
+fn sourceless_operation(tree: &Value<'_>, known: &Known<'_>) -> Option<Place>
     requires { Knows known.now (view tree.now) }
     ensures { place_of result ≡ sourceless_operation (view tree.now) }
 {
     first_operation(OperationTest::Source, known, tree)
 }
 
-fn deviceless_operation<'v>(tree: &'v Value, known: &Known<'v>) -> Option<Place>
+fn deviceless_operation(tree: &Value<'_>, known: &Known<'_>) -> Option<Place>
     requires { Knows known.now (view tree.now) }
     ensures { place_of result ≡ deviceless_operation (view tree.now) }
 {
     first_operation(OperationTest::Device, known, tree)
 }
 
-fn sourceless_report<'v>(tree: &'v Value, known: &Known<'v>) -> Option<Place>
+fn sourceless_report(tree: &Value<'_>, known: &Known<'_>) -> Option<Place>
     requires { Knows known.now (view tree.now) }
     ensures { place_of result ≡ sourceless_report (view tree.now) }
 {
     first_answer(AnswerTest::Sources, known, tree)
 }
 
-fn thingless_answer<'v>(tree: &'v Value, known: &Known<'v>) -> Option<Place>
+fn thingless_answer(tree: &Value<'_>, known: &Known<'_>) -> Option<Place>
     requires { Knows known.now (view tree.now) }
     ensures { place_of result ≡ thingless_answer (view tree.now) }
 {
     first_answer(AnswerTest::Thing, known, tree)
 }
 
-fn sourceless<'v>(tree: &'v Value, known: &Known<'v>) -> Option<Place>
+fn sourceless(tree: &Value<'_>, known: &Known<'_>) -> Option<Place>
     requires { Knows known.now (view tree.now) }
     ensures { place_of result ≡ option_or (sourceless_operation (view tree.now)) (sourceless_report (view tree.now)) }
 {
@@ -173,7 +173,7 @@ fn sourceless<'v>(tree: &'v Value, known: &Known<'v>) -> Option<Place>
 
 /// The first rule of operations that is broken. Where none of them is, which is told in one pass, only
 /// the sources of reports are left.
-pub(crate) fn operation_broken<'v>(tree: &'v Value, known: &Known<'v>) -> Option<Broken>
+pub(crate) fn operation_broken(tree: &Value<'_>, known: &Known<'_>) -> Option<Broken>
     requires { Knows known.now (view tree.now) }
     ensures { option_map broken_view result ≡ first_of operation_rules (view tree.now) }
 {
@@ -183,7 +183,7 @@ pub(crate) fn operation_broken<'v>(tree: &'v Value, known: &Known<'v>) -> Option
     first_operation_rule(tree, known)
 }
 
-fn first_operation_rule<'v>(tree: &'v Value, known: &Known<'v>) -> Option<Broken>
+fn first_operation_rule(tree: &Value<'_>, known: &Known<'_>) -> Option<Broken>
     requires { Knows known.now (view tree.now) }
     ensures { option_map broken_view result ≡ first_of operation_rules (view tree.now) }
 {
@@ -195,10 +195,10 @@ fn first_operation_rule<'v>(tree: &'v Value, known: &Known<'v>) -> Option<Broken
 }
 
 /// The first rule of answers, or of how much may happen, that is broken.
-pub(crate) fn answer_broken<'v>(
+pub(crate) fn answer_broken(
     alloc: Global,
-    tree: &'v Value,
-    known: &Known<'v>,
+    tree: &Value<'_>,
+    known: &Known<'_>,
 ) -> Result<Option<Broken>, Mem>
     requires { Knows known.now (view tree.now) }
     ensures { IfOk result (λ b. option_map broken_view b ≡ first_of answer_rules (view tree.now)) }

@@ -1,7 +1,7 @@
 //! The scripts that a file spells.
 
 ghost use Rattle.std.specs.Prelude.{◌≡◌, ◌≤◌, All, map, length, codes, unwrap_or, IfOk};
-ghost use Rattle.serde_json.specs.View.{view};
+ghost use Rattle.borrowed_json.specs.View.{view};
 ghost use Rattle.machine_file.specs.Members.{number_at};
 ghost use Rattle.machine_file.specs.Look.{text_at};
 ghost use Rattle.machine_file.specs.Operations.{ms_of, says, whole_op, whole_step, kind_of, whole_script};
@@ -17,13 +17,13 @@ use crate::look::{has_text, list_in, number_at, text_at, truth_at};
 use crate::operations::{Word, word_of};
 use crate::places::Places;
 use crate::texts::{name_of_text, text_from};
-use serde_json::Value;
+use borrowed_json::Value;
 use sleep_base::Mem;
 use sleep_model::{ListOf, Op, Script, Step, TaskKind, Text};
 use std::alloc::Global;
 
 /// The number at a member, where there is one.
-pub(crate) fn small_at(value: &Value, name: &str) -> Option<u32>
+pub(crate) fn small_at(value: &Value<'_>, name: &str) -> Option<u32>
     requires { FitsAt name.now (view value.now) }
     ensures { result ≡ number_at name.now (view value.now) }
 {
@@ -34,7 +34,7 @@ pub(crate) fn small_at(value: &Value, name: &str) -> Option<u32>
 }
 
 /// The number at a member, and this one where there is none.
-pub(crate) fn small_or(value: &Value, name: &str, default: u32) -> u32
+pub(crate) fn small_or(value: &Value<'_>, name: &str, default: u32) -> u32
     requires { FitsAt name.now (view value.now) }
     ensures { result ≡ unwrap_or (number_at name.now (view value.now)) default }
 {
@@ -42,7 +42,7 @@ pub(crate) fn small_or(value: &Value, name: &str, default: u32) -> u32
 }
 
 /// The length that is given, in ms; without one, 0.
-pub(crate) fn ms_of(value: &Value) -> u32
+pub(crate) fn ms_of(value: &Value<'_>) -> u32
     requires { FitsAt (codes "ms") (view value.now) }
     ensures { result ≡ ms_of (view value.now) }
 {
@@ -50,27 +50,27 @@ pub(crate) fn ms_of(value: &Value) -> u32
 }
 
 /// Whether the member says so; without a word, it does not.
-pub(crate) fn says(value: &Value, name: &str) -> bool
+pub(crate) fn says(value: &Value<'_>, name: &str) -> bool
     ensures { result ≡ says name.now (view value.now) }
 {
     truth_at(value, name).unwrap_or(false)
 }
 
 /// The number of the thing that is named there.
-pub(crate) fn thing_at<'v>(value: &'v Value, name: &str, names: &Places<&'v str>) -> u32
+pub(crate) fn thing_at(value: &Value<'_>, name: &str, names: &Places<&str>) -> u32
     requires { length names.now ≤ 200000 }
     ensures { result ≡ place_among (texts names.now) (text_at name.now (view value.now)) }
 {
     place_among(names, text_at(value, name)) as u32
 }
 
-fn text_in(alloc: Global, operation: &Value) -> Result<Text, Mem>
+fn text_in(alloc: Global, operation: &Value<'_>) -> Result<Text, Mem>
     ensures { IfOk result (λ t. t ≡ text_at (codes "text") (view operation.now)) }
 {
     text_from(alloc, text_at(operation, "text"))
 }
 
-fn runtime_of<'v>(operation: &'v Value, known: &Known<'v>) -> Op
+fn runtime_of(operation: &Value<'_>, known: &Known<'_>) -> Op
     requires { AreFew known.now }
     ensures { result ≡ op_spelled word.Runtime (known_seen known.now) (view operation.now) }
 {
@@ -80,7 +80,7 @@ fn runtime_of<'v>(operation: &'v Value, known: &Known<'v>) -> Op
     }
 }
 
-fn link_of<'v>(operation: &'v Value, known: &Known<'v>) -> Op
+fn link_of(operation: &Value<'_>, known: &Known<'_>) -> Op
     requires { AreFew known.now }
     ensures { result ≡ op_spelled word.Link (known_seen known.now) (view operation.now) }
 {
@@ -90,7 +90,7 @@ fn link_of<'v>(operation: &'v Value, known: &Known<'v>) -> Op
     }
 }
 
-fn link_state_of<'v>(operation: &'v Value, known: &Known<'v>) -> Op
+fn link_state_of(operation: &Value<'_>, known: &Known<'_>) -> Op
     requires { AreFew known.now }
     ensures { result ≡ op_spelled word.LinkState (known_seen known.now) (view operation.now) }
 {
@@ -101,7 +101,7 @@ fn link_state_of<'v>(operation: &'v Value, known: &Known<'v>) -> Op
     }
 }
 
-fn event_of<'v>(operation: &'v Value, known: &Known<'v>) -> Op
+fn event_of(operation: &Value<'_>, known: &Known<'_>) -> Op
     requires few { AreFew known.now }
     requires fits { FitsStep (view operation.now) }
     ensures { result ≡ op_spelled word.Event (known_seen known.now) (view operation.now) }
@@ -114,7 +114,7 @@ fn event_of<'v>(operation: &'v Value, known: &Known<'v>) -> Op
 }
 
 // What the operation of that word is.
-fn op_as<'v>(alloc: Global, word: Word, operation: &'v Value, known: &Known<'v>) -> Result<Op, Mem>
+fn op_as(alloc: Global, word: Word, operation: &Value<'_>, known: &Known<'_>) -> Result<Op, Mem>
     requires few { AreFew known.now }
     requires marks { length known.now.marks ≤ 200000 }
     requires fits { FitsStep (view operation.now) }
@@ -160,7 +160,7 @@ fn op_as<'v>(alloc: Global, word: Word, operation: &'v Value, known: &Known<'v>)
 }
 
 /// An operation; `Read` where its word is none of the table, which the rules refuse.
-fn op_of<'v>(alloc: Global, operation: &'v Value, known: &Known<'v>) -> Result<Op, Mem>
+fn op_of(alloc: Global, operation: &Value<'_>, known: &Known<'_>) -> Result<Op, Mem>
     requires few { AreFew known.now }
     requires marks { length known.now.marks ≤ 200000 }
     requires fits { FitsStep (view operation.now) }
@@ -172,7 +172,7 @@ fn op_of<'v>(alloc: Global, operation: &'v Value, known: &Known<'v>) -> Result<O
     }
 }
 
-fn step_of<'v>(alloc: Global, operation: &'v Value, known: &Known<'v>) -> Result<Step, Mem>
+fn step_of(alloc: Global, operation: &Value<'_>, known: &Known<'_>) -> Result<Step, Mem>
     requires few { AreFew known.now }
     requires marks { length known.now.marks ≤ 200000 }
     requires fits { FitsStep (view operation.now) }
@@ -183,7 +183,7 @@ fn step_of<'v>(alloc: Global, operation: &'v Value, known: &Known<'v>) -> Result
     Ok(Step { op, times })
 }
 
-fn steps_of<'v>(alloc: Global, script: &'v [Value], known: &Known<'v>) -> Result<Vec<Step>, Mem>
+fn steps_of(alloc: Global, script: &[Value<'_>], known: &Known<'_>) -> Result<Vec<Step>, Mem>
     requires few { AreFew known.now }
     requires marks { length known.now.marks ≤ 200000 }
     requires fit { All FitsStep (map view script.now) }
@@ -196,7 +196,7 @@ fn steps_of<'v>(alloc: Global, script: &'v [Value], known: &Known<'v>) -> Result
     Ok(steps)
 }
 
-fn kind_of(actor: &Value) -> TaskKind
+fn kind_of(actor: &Value<'_>) -> TaskKind
     ensures { result ≡ kind_of (view actor.now) }
 {
     if has_text(actor, "kind", "kthread") {
@@ -211,7 +211,7 @@ fn kind_of(actor: &Value) -> TaskKind
     TaskKind::User
 }
 
-fn script_of<'v>(alloc: Global, actor: &'v Value, known: &Known<'v>) -> Result<Script, Mem>
+fn script_of(alloc: Global, actor: &Value<'_>, known: &Known<'_>) -> Result<Script, Mem>
     requires few { AreFew known.now }
     requires marks { length known.now.marks ≤ 200000 }
     requires fits { FitsScript (view actor.now) }
@@ -229,10 +229,10 @@ fn script_of<'v>(alloc: Global, actor: &'v Value, known: &Known<'v>) -> Result<S
 }
 
 /// The scripts of these actors.
-pub(crate) fn scripts_of<'v>(
+pub(crate) fn scripts_of(
     alloc: Global,
-    actors: &'v [Value],
-    known: &Known<'v>,
+    actors: &[Value<'_>],
+    known: &Known<'_>,
 ) -> Result<Vec<Script>, Mem>
     requires few { AreFew known.now }
     requires marks { length known.now.marks ≤ 200000 }

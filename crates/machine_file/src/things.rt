@@ -1,7 +1,7 @@
 //! The devices and the notifiers that a file spells.
 
 ghost use Rattle.std.specs.Prelude.{◌≡◌, ◌≤◌, All, Some, map, length, codes, IfOk, option_and_then, true};
-ghost use Rattle.serde_json.specs.View.{view};
+ghost use Rattle.borrowed_json.specs.View.{view};
 ghost use Rattle.serde_json.specs.Find.{as_number, as_integer};
 ghost use Rattle.machine_file.specs.Members.{may_have};
 ghost use Rattle.machine_file.specs.Form.{is_near};
@@ -17,7 +17,7 @@ use crate::place::{Member, items};
 use crate::places::Places;
 use crate::texts::name_of_text;
 use bitflags::Flags;
-use serde_json::Value;
+use borrowed_json::{Value, as_i64, get};
 use sleep_base::Mem;
 use sleep_model::{Device, DeviceFlags, Notifier};
 use std::alloc::Global;
@@ -28,7 +28,7 @@ fn flag(set: bool, value: u8) -> u8
     if set { value } else { 0 }
 }
 
-fn flags_of(device: &Value) -> DeviceFlags
+fn flags_of(device: &Value<'_>) -> DeviceFlags
     ensures { result ≡ flags_of (view device.now) }
 {
     let asynchronous = truth_at(device, "async").unwrap_or(false);
@@ -37,7 +37,7 @@ fn flags_of(device: &Value) -> DeviceFlags
     DeviceFlags::from_bits_retain(flag(asynchronous, 1) + flag(wakeup, 2) + flag(suspended, 4))
 }
 
-fn device_of<'v>(device: &'v Value, names: &Places<&'v str>) -> Device
+fn device_of(device: &Value<'_>, names: &Places<&str>) -> Device
     requires few { length names.now ≤ 1000 }
     requires fits { HasShortName (view device.now) }
     ensures { result ≡ whole_device (texts names.now) (view device.now) }
@@ -49,10 +49,10 @@ fn device_of<'v>(device: &'v Value, names: &Places<&'v str>) -> Device
     }
 }
 
-pub(crate) fn devices_of<'v>(
+pub(crate) fn devices_of(
     alloc: Global,
-    devices: &'v [Value],
-    names: &Places<&'v str>,
+    devices: &[Value<'_>],
+    names: &Places<&str>,
 ) -> Result<Vec<Device>, Mem>
     requires few { length names.now ≤ 1000 }
     requires fit { All HasShortName (map view devices.now) }
@@ -66,27 +66,27 @@ pub(crate) fn devices_of<'v>(
 }
 
 // A number from -1000 to 1000.
-fn near_of(value: &Value) -> i32
+fn near_of(value: &Value<'_>) -> i32
     requires { is_near 1000 (view value.now) ≡ true }
     ensures { option_and_then as_integer (as_number (view value.now)) ≡ Some result }
 {
-    match value.as_i64() {
+    match as_i64(value) {
         Some(number) => number as i32,
         None => unreachable!(),
     }
 }
 
-fn priority_of(notifier: &Value) -> i32
+fn priority_of(notifier: &Value<'_>) -> i32
     requires { may_have (codes "priority") (is_near 1000) (view notifier.now) ≡ true }
     ensures { result ≡ priority_of (view notifier.now) }
 {
-    match notifier.get("priority") {
+    match get(notifier, "priority") {
         Some(value) => near_of(value),
         None => 0,
     }
 }
 
-fn notifier_of(notifier: &Value) -> Notifier
+fn notifier_of(notifier: &Value<'_>) -> Notifier
     requires { FitsNotifier (view notifier.now) }
     ensures { result ≡ whole_notifier (view notifier.now) }
 {
@@ -97,7 +97,7 @@ fn notifier_of(notifier: &Value) -> Notifier
 }
 
 /// The notifiers that these values spell.
-pub(crate) fn notifiers_of(alloc: Global, notifiers: &[Value]) -> Result<Vec<Notifier>, Mem>
+pub(crate) fn notifiers_of(alloc: Global, notifiers: &[Value<'_>]) -> Result<Vec<Notifier>, Mem>
     requires { All FitsNotifier (map view notifiers.now) }
     ensures { IfOk result (λ v. v.items ≡ map whole_notifier (map view notifiers.now)) }
 {

@@ -1,7 +1,7 @@
 //! The machine that a file spells, where it keeps the rules.
 
 ghost use Rattle.std.specs.Prelude.{◌≡◌, map, codes, IfOk};
-ghost use Rattle.serde_json.specs.View.{view};
+ghost use Rattle.borrowed_json.specs.View.{view};
 ghost use Rattle.machine_file.specs.Members.{list_in};
 ghost use Rattle.machine_file.specs.Names.{texts_in, sources_named};
 ghost use Rattle.machine_file.specs.Devices.{whole_devices, whole_links};
@@ -22,12 +22,12 @@ use crate::replies::answers_of;
 use crate::scripts::{scripts_of, small_or};
 use crate::texts::names_of_texts;
 use crate::things::{devices_of, notifiers_of};
-use serde_json::Value;
+use borrowed_json::Value;
 use sleep_base::Mem;
 use sleep_model::{Answer, Device, Link, ListOf, Machine, Name, Notifier, Script};
 use std::alloc::Global;
 
-fn devices_in<'v>(alloc: Global, tree: &'v Value, known: &Known<'v>) -> Result<Vec<Device>, Mem>
+fn devices_in(alloc: Global, tree: &Value<'_>, known: &Known<'_>) -> Result<Vec<Device>, Mem>
     requires knows { Knows known.now (view tree.now) }
     requires few { AreFew known.now }
     requires fits { FitsFile (view tree.now) }
@@ -37,7 +37,7 @@ fn devices_in<'v>(alloc: Global, tree: &'v Value, known: &Known<'v>) -> Result<V
     Ok(devices)
 }
 
-fn syscore_in<'v>(alloc: Global, tree: &'v Value, known: &Known<'v>) -> Result<Vec<Name>, Mem>
+fn syscore_in(alloc: Global, tree: &Value<'_>, known: &Known<'_>) -> Result<Vec<Name>, Mem>
     requires knows { Knows known.now (view tree.now) }
     requires fits { FitsFile (view tree.now) }
     ensures { IfOk result (λ v. v.items ≡ texts_in (codes "syscore") (view tree.now)) }
@@ -47,7 +47,7 @@ fn syscore_in<'v>(alloc: Global, tree: &'v Value, known: &Known<'v>) -> Result<V
     Ok(names)
 }
 
-fn notifiers_in(alloc: Global, tree: &Value) -> Result<Vec<Notifier>, Mem>
+fn notifiers_in(alloc: Global, tree: &Value<'_>) -> Result<Vec<Notifier>, Mem>
     requires { FitsFile (view tree.now) }
     ensures { IfOk result (λ v. v.items ≡ map whole_notifier (list_in (codes "notifiers") (view tree.now))) }
 {
@@ -55,7 +55,7 @@ fn notifiers_in(alloc: Global, tree: &Value) -> Result<Vec<Notifier>, Mem>
     Ok(notifiers)
 }
 
-fn sources_in<'v>(alloc: Global, tree: &'v Value, known: &Known<'v>) -> Result<Vec<Name>, Mem>
+fn sources_in(alloc: Global, tree: &Value<'_>, known: &Known<'_>) -> Result<Vec<Name>, Mem>
     requires knows { Knows known.now (view tree.now) }
     requires fits { FitsFile (view tree.now) }
     ensures { IfOk result (λ v. v.items ≡ sources_named (view tree.now)) }
@@ -65,7 +65,7 @@ fn sources_in<'v>(alloc: Global, tree: &'v Value, known: &Known<'v>) -> Result<V
     Ok(names)
 }
 
-fn marks_of<'v>(alloc: Global, tree: &'v Value, known: &Known<'v>) -> Result<Vec<Name>, Mem>
+fn marks_of(alloc: Global, tree: &Value<'_>, known: &Known<'_>) -> Result<Vec<Name>, Mem>
     requires knows { Knows known.now (view tree.now) }
     requires fits { FitsFile (view tree.now) }
     ensures { IfOk result (λ v. v.items ≡ whole_marks (view tree.now)) }
@@ -75,7 +75,7 @@ fn marks_of<'v>(alloc: Global, tree: &'v Value, known: &Known<'v>) -> Result<Vec
     Ok(names)
 }
 
-fn scripts_in<'v>(alloc: Global, tree: &'v Value, known: &Known<'v>) -> Result<Vec<Script>, Mem>
+fn scripts_in(alloc: Global, tree: &Value<'_>, known: &Known<'_>) -> Result<Vec<Script>, Mem>
     requires knows { Knows known.now (view tree.now) }
     requires few { AreFew known.now }
     requires fits { FitsFile (view tree.now) }
@@ -85,7 +85,7 @@ fn scripts_in<'v>(alloc: Global, tree: &'v Value, known: &Known<'v>) -> Result<V
     Ok(scripts)
 }
 
-fn answers_in<'v>(alloc: Global, tree: &'v Value, known: &Known<'v>) -> Result<Vec<Answer>, Mem>
+fn answers_in(alloc: Global, tree: &Value<'_>, known: &Known<'_>) -> Result<Vec<Answer>, Mem>
     requires knows { Knows known.now (view tree.now) }
     requires few { AreFew known.now }
     requires fits { FitsFile (view tree.now) }
@@ -96,10 +96,10 @@ fn answers_in<'v>(alloc: Global, tree: &'v Value, known: &Known<'v>) -> Result<V
 }
 
 /// A file's machine, with its links.
-fn machine_of<'v>(
+fn machine_of(
     alloc: Global,
-    tree: &'v Value,
-    known: &Known<'v>,
+    tree: &Value<'_>,
+    known: &Known<'_>,
     links: Vec<Link>,
 ) -> Result<Machine, Mem>
     requires knows { Knows known.now (view tree.now) }
@@ -131,10 +131,10 @@ fn machine_of<'v>(
 }
 
 /// A file's machine, and its links added in turn.
-pub(crate) fn read_of<'v>(
+pub(crate) fn read_of(
     alloc: Global,
-    tree: &'v Value,
-    known: &Known<'v>,
+    tree: &Value<'_>,
+    known: &Known<'_>,
     linking: Linking,
 ) -> Result<ReadMachine, Mem>
     requires { IsSound (view tree.now) known.now linking }

@@ -1,5 +1,5 @@
 use Rattle.std.proofs.Common.{◌≡◌, map, take}
-use Rattle.serde_json.specs.View.{view}
+use Rattle.borrowed_json.specs.View.{view}
 use Rattle.machine_file.specs.Seen.{answer_seen, answer_written}
 use Rattle.machine_file.proofs.answers.all_given.Given as goal
 

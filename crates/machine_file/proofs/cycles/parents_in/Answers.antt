@@ -1,5 +1,5 @@
 use Rattle.std.proofs.Common.{◌∙◌, List, ℕ, sym, ap, map, codes}
-use Rattle.serde_json.specs.View.{view}
+use Rattle.borrowed_json.specs.View.{view}
 use Rattle.machine_file.specs.Members.{list_in}
 use Rattle.machine_file.specs.Names.{devices_named}
 use Rattle.machine_file.specs.Spelled.{parent_of}

@@ -1,5 +1,5 @@
 use Rattle.std.proofs.Common.{◌∙◌, Bool, ap, codes}
-use Rattle.serde_json.specs.View.{view}
+use Rattle.borrowed_json.specs.View.{view}
 use Rattle.machine_file.specs.Places.{first_item}
 use Rattle.machine_file.specs.Form.{is_link_form}
 use Rattle.machine_file.proofs.items.unformed_link.Goals as goal

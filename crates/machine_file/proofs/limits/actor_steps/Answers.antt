@@ -1,6 +1,6 @@
 use Rattle.std.proofs.Common.{◌∙◌, ℕ, List, ap}
 use Rattle.serde_json.specs.Data.{Data}
-use Rattle.serde_json.specs.View.{view}
+use Rattle.borrowed_json.specs.View.{view}
 use Rattle.machine_file.specs.Limits.{repeat_of}
 use Rattle.machine_file.specs.Counted.{steps_of_script, repeated_steps}
 use Rattle.machine_file.proofs.Counting.{of_actor}

@@ -1,5 +1,5 @@
 use Rattle.std.proofs.Common.{◌≡◌, min, map, take, sum_by, length, codes}
-use Rattle.serde_json.specs.View.{view}
+use Rattle.borrowed_json.specs.View.{view}
 use Rattle.machine_file.specs.Members.{list_in}
 use Rattle.machine_file.proofs.limits.reports_of.Given as goal
 

@@ -1,4 +1,4 @@
-use Rattle.serde_json.specs.View.{view}
+use Rattle.borrowed_json.specs.View.{view}
 use Rattle.machine_file.proofs.Grouping.{few_known}
 use Rattle.machine_file.proofs.machine.check_devices.Goals as goal
 

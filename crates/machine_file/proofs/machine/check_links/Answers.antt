@@ -1,5 +1,5 @@
 use Rattle.std.proofs.Common.{◌∙◌, sym}
-use Rattle.serde_json.specs.View.{view}
+use Rattle.borrowed_json.specs.View.{view}
 use Rattle.machine_file.proofs.Grouping.{joined, few_known, no_cycle}
 use Rattle.machine_file.proofs.machine.check_links.Goals as goal
 

@@ -1,5 +1,5 @@
 use Rattle.std.proofs.Common.{◌≡◌, map, take, flat_map}
-use Rattle.serde_json.specs.View.{view}
+use Rattle.borrowed_json.specs.View.{view}
 use Rattle.machine_file.specs.Knows.{texts}
 use Rattle.machine_file.specs.Marks.{marks_of_script}
 use Rattle.machine_file.proofs.marks.marks_of.Given as goal

@@ -1,5 +1,5 @@
 use Rattle.std.proofs.Common.{◌≡◌, map, take}
-use Rattle.serde_json.specs.View.{view}
+use Rattle.borrowed_json.specs.View.{view}
 use Rattle.machine_file.specs.Look.{text_of}
 use Rattle.machine_file.proofs.names.texts_of.Given as goal
 

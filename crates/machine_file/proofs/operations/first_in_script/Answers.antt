@@ -1,5 +1,5 @@
 use Rattle.std.proofs.Common.{◌∙◌, sym, ap, not}
-use Rattle.serde_json.specs.View.{view}
+use Rattle.borrowed_json.specs.View.{view}
 use Rattle.machine_file.specs.Places.{first_not}
 use Rattle.machine_file.specs.OperationRows.{operation_test}
 use Rattle.machine_file.proofs.Looks.{position_view}

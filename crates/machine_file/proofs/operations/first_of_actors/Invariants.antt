@@ -1,5 +1,5 @@
 use Rattle.std.proofs.Common.{◌≡◌, map, drop}
-use Rattle.serde_json.specs.View.{view}
+use Rattle.borrowed_json.specs.View.{view}
 use Rattle.machine_file.specs.Places.{first_operation_of}
 use Rattle.machine_file.specs.OperationRows.{operation_test}
 use Rattle.machine_file.proofs.operations.first_of_actors.Given as goal

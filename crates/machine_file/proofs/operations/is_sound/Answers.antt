@@ -1,6 +1,6 @@
 use Rattle.std.proofs.Common.{◌∙◌, sym, ap}
 use Rattle.std.specs.Option.{option_map}
-use Rattle.serde_json.specs.View.{view}
+use Rattle.borrowed_json.specs.View.{view}
 use Rattle.machine_file.specs.OperationRows.{op_row}
 use Rattle.machine_file.proofs.Sounding.{told, untold}
 use Rattle.machine_file.proofs.operations.is_sound.Goals as goal

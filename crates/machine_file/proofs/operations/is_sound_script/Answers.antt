@@ -1,6 +1,6 @@
 use Rattle.std.proofs.Common.{◌∙◌, List, ℕ, sym, ap, codes}
 use Rattle.std.specs.List.{list_all}
-use Rattle.serde_json.specs.View.{view}
+use Rattle.borrowed_json.specs.View.{view}
 use Rattle.machine_file.specs.Members.{list_in}
 use Rattle.machine_file.specs.SoundOperations.{is_sound}
 use Rattle.machine_file.proofs.Looks.{all_view}

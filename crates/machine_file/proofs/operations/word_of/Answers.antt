@@ -1,6 +1,6 @@
 use Rattle.std.proofs.Common.{◌∙◌, option_and_then, sym, ap}
 use Rattle.std.specs.Option.{option_copied}
-use Rattle.serde_json.specs.View.{view}
+use Rattle.borrowed_json.specs.View.{view}
 use Rattle.machine_file.specs.OperationRows.{row_named}
 use Rattle.machine_file.proofs.Worded.{by_text}
 use Rattle.machine_file.proofs.operations.word_of.Goals as goal

@@ -1,5 +1,5 @@
 use Rattle.std.proofs.Common.{◌≡◌, map, take}
-use Rattle.serde_json.specs.View.{view}
+use Rattle.borrowed_json.specs.View.{view}
 use Rattle.machine_file.specs.Seen.{ends_seen, ends_written}
 use Rattle.machine_file.proofs.pairs.ends_of.Given as goal
 

@@ -1,5 +1,5 @@
 use Rattle.std.proofs.Common.{◌∙◌, sym, map, arith}
-use Rattle.serde_json.specs.View.{view}
+use Rattle.borrowed_json.specs.View.{view}
 use Rattle.machine_file.specs.Knows.{texts}
 use Rattle.machine_file.specs.Devices.{has_parent_before}
 use Rattle.machine_file.proofs.Placing.{later_here, later_next}

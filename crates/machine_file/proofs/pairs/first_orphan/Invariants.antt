@@ -1,5 +1,5 @@
 use Rattle.std.proofs.Common.{◌≡◌, map}
-use Rattle.serde_json.specs.View.{view}
+use Rattle.borrowed_json.specs.View.{view}
 use Rattle.machine_file.specs.Devices.{has_parent_before}
 use Rattle.machine_file.proofs.Placing.{later_from}
 use Rattle.machine_file.proofs.pairs.first_orphan.Given as goal

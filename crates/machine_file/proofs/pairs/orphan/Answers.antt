@@ -1,6 +1,6 @@
 use Rattle.std.proofs.Common.{◌∙◌, [], sym, ap, map, codes}
 use Rattle.std.specs.Option.{option_map}
-use Rattle.serde_json.specs.View.{view}
+use Rattle.borrowed_json.specs.View.{view}
 use Rattle.machine_file.specs.Places.{first_not_after, item_place}
 use Rattle.machine_file.specs.Rules.{name_of}
 use Rattle.machine_file.specs.Devices.{has_parent_before}

@@ -1,6 +1,5 @@
 use Rattle.std.proofs.Common.{◌≡◌, subst, Option, Some, IfSome}
-use Rattle.serde_json.specs.declared.value.Value.{Value}
-use Rattle.serde_json.specs.View.{view}
+use Rattle.borrowed_json.specs.View.{Value, view}
 use Rattle.machine_file.specs.Tree.{tree}
 use Rattle.machine_file.proofs.Machined.{spelled, is_accepted, is_refused}
 use Rattle.machine_file.proofs.reading.read_machine.Goals as goal

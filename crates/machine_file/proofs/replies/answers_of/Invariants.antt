@@ -1,5 +1,5 @@
 use Rattle.std.proofs.Common.{◌≡◌, map, take}
-use Rattle.serde_json.specs.View.{view}
+use Rattle.borrowed_json.specs.View.{view}
 use Rattle.machine_file.specs.AnswerTests.{answer_made}
 use Rattle.machine_file.proofs.replies.answers_of.Given as goal
 

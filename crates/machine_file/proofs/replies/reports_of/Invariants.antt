@@ -1,5 +1,5 @@
 use Rattle.std.proofs.Common.{◌≡◌, map, take}
-use Rattle.serde_json.specs.View.{view}
+use Rattle.borrowed_json.specs.View.{view}
 use Rattle.machine_file.specs.Answering.{whole_report}
 use Rattle.machine_file.specs.Knows.{texts}
 use Rattle.machine_file.proofs.replies.reports_of.Given as goal

@@ -1,5 +1,5 @@
 use Rattle.std.proofs.Common.{◌∙◌, List, ℕ, ap}
-use Rattle.serde_json.specs.View.{view}
+use Rattle.borrowed_json.specs.View.{view}
 use Rattle.serde_json.specs.Data.{Data}
 use Rattle.machine_file.specs.Places.{first_operation}
 use Rattle.machine_file.specs.Operations.{names_device}

@@ -1,6 +1,6 @@
 use Rattle.std.proofs.Common.{◌∙◌, sym, ap}
 use Rattle.std.specs.Option.{option_map}
-use Rattle.serde_json.specs.View.{view}
+use Rattle.borrowed_json.specs.View.{view}
 use Rattle.machine_file.specs.Whole.{broken_at}
 use Rattle.machine_file.proofs.Sounding.{only_reports}
 use Rattle.machine_file.proofs.rules.operation_broken.Goals as goal

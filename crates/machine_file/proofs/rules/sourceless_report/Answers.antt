@@ -1,6 +1,6 @@
 use Rattle.std.proofs.Common.{◌∙◌, List, ℕ, ap, codes}
 use Rattle.std.specs.List.{list_all}
-use Rattle.serde_json.specs.View.{view}
+use Rattle.borrowed_json.specs.View.{view}
 use Rattle.serde_json.specs.Data.{Data}
 use Rattle.machine_file.specs.Members.{list_in}
 use Rattle.machine_file.specs.Places.{first_item}

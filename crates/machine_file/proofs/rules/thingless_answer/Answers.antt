@@ -1,5 +1,5 @@
 use Rattle.std.proofs.Common.{◌∙◌, ◌&&◌, List, ℕ, Bool, ap, codes, map, if◌then◌else◌}
-use Rattle.serde_json.specs.View.{view}
+use Rattle.borrowed_json.specs.View.{view}
 use Rattle.serde_json.specs.Data.{Data}
 use Rattle.sleep_model.specs.Text.{down_word}
 use Rattle.machine_file.specs.Knows.{texts}

@@ -1,5 +1,5 @@
 use Rattle.std.proofs.Common.{◌∙◌, Bool, ap}
-use Rattle.serde_json.specs.View.{view}
+use Rattle.borrowed_json.specs.View.{view}
 use Rattle.machine_file.specs.Places.{first_operation}
 use Rattle.machine_file.specs.Operations.{is_formed}
 use Rattle.machine_file.proofs.rules.unformed_operation.Goals as goal

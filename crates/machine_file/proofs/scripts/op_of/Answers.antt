@@ -1,5 +1,5 @@
 use Rattle.std.proofs.Common.{◌≡◌, ◌∙◌, IfOk, option_map, sym, ap, subst}
-use Rattle.serde_json.specs.View.{view}
+use Rattle.borrowed_json.specs.View.{view}
 use Rattle.sleep_model.specs.declared.machine.Op.{Op}
 use Rattle.machine_file.specs.Knows.{known_seen}
 use Rattle.machine_file.specs.OperationRows.{op_row}

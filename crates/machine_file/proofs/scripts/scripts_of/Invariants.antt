@@ -1,5 +1,5 @@
 use Rattle.std.proofs.Common.{◌≡◌, map, take}
-use Rattle.serde_json.specs.View.{view}
+use Rattle.borrowed_json.specs.View.{view}
 use Rattle.machine_file.specs.Operations.{whole_script}
 use Rattle.machine_file.specs.Knows.{known_seen}
 use Rattle.machine_file.proofs.scripts.scripts_of.Given as goal

@@ -1,5 +1,5 @@
 use Rattle.std.proofs.Common.{◌∙◌, ap, map}
-use Rattle.serde_json.specs.View.{view}
+use Rattle.borrowed_json.specs.View.{view}
 use Rattle.machine_file.specs.Answering.{whole_answer}
 use Rattle.machine_file.proofs.Replying.{answers_made}
 use Rattle.machine_file.proofs.whole.answers_in.Goals as goal

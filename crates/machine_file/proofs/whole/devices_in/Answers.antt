@@ -1,5 +1,5 @@
 use Rattle.std.proofs.Common.{◌∙◌, List, ℕ, ap, map}
-use Rattle.serde_json.specs.View.{view}
+use Rattle.borrowed_json.specs.View.{view}
 use Rattle.machine_file.specs.Names.{devices_named}
 use Rattle.machine_file.specs.Devices.{whole_device}
 use Rattle.machine_file.proofs.whole.devices_in.Goals as goal

@@ -1,5 +1,5 @@
 use Rattle.std.proofs.Common.{rules, ◌≡◌, ◌∙◌, codes, unwrap_or}
-use Rattle.serde_json.specs.View.{view}
+use Rattle.borrowed_json.specs.View.{view}
 use Rattle.machine_file.specs.Members.{number_at}
 use Rattle.machine_file.proofs.whole.machine_of.Goals as goal
 

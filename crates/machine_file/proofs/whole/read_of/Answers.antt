@@ -1,5 +1,5 @@
 use Rattle.std.proofs.Common.{◌∙◌, sym}
-use Rattle.serde_json.specs.View.{view}
+use Rattle.borrowed_json.specs.View.{view}
 use Rattle.machine_file.proofs.Grouping.{in_order}
 use Rattle.machine_file.proofs.FittedFile.{fits_file}
 use Rattle.machine_file.proofs.whole.read_of.Goals as goal

@@ -1,5 +1,5 @@
 use Rattle.std.proofs.Common.{◌≡◌, ◌∙◌, List, ℕ, ap, map}
-use Rattle.serde_json.specs.View.{view}
+use Rattle.borrowed_json.specs.View.{view}
 use Rattle.machine_file.specs.Knows.{known_seen, texts}
 use Rattle.machine_file.specs.Names.{devices_named, sources_named}
 use Rattle.machine_file.specs.Operations.{Known, known_of, whole_script}

@@ -1,0 +1,93 @@
+//! The numbers of a text: which ones there are, and that all are in range.
+
+ghost use Rattle.std.specs.Prelude.{◌≡◌, ◌==◌, ◌<◌, IsTrue, false, length, option_map, slice_index, true};
+ghost use Rattle.serde_json.specs.Read.{float_of, number_from, number_of};
+ghost use Rattle.serde_json.specs.View.{number_view};
+ghost use Rattle.json.specs.Value.{items_view, members_view, value_view};
+ghost use Rattle.borrowed_json.specs.InRange.{are_in_range, is_in_range, items_in_range};
+
+use fast_float::Numeral;
+use json::Value;
+use serde_json::Number;
+
+/// The number that a number's text says. None where no float is that large.
+pub(crate) fn number_of(text: &str) -> Option<Number>
+    ensures { option_map number_view result ≡ number_of text.now }
+{
+    let bytes = text.as_bytes();
+    if has_minus(bytes) {
+        below_zero(&Numeral::scan(&bytes[1..]))
+    } else {
+        unsigned(&Numeral::scan(bytes))
+    }
+}
+
+fn has_minus(bytes: &[u8]) -> bool
+    ensures value { result ≡ (slice_index bytes.now 0 == 45) }
+    ensures len { IsTrue result → 0 < length bytes.now }
+{
+    !bytes.is_empty() && bytes[0] == b'-'
+}
+
+fn unsigned(numeral: &Numeral<'_>) -> Option<Number>
+    ensures { option_map number_view result ≡ number_from false numeral.now }
+{
+    match numeral.to_u64() {
+        Some(number) => Some(Number::from(number)),
+        None => nearest(false, numeral),
+    }
+}
+
+fn below_zero(numeral: &Numeral<'_>) -> Option<Number>
+    ensures { option_map number_view result ≡ number_from true numeral.now }
+{
+    if let Some(number) = numeral.to_i64(true) {
+        if number < 0 {
+            return Some(Number::from(number));
+        }
+    }
+    nearest(true, numeral)
+}
+
+fn nearest(negative: bool, numeral: &Numeral<'_>) -> Option<Number>
+    ensures { option_map number_view result ≡ float_of negative numeral.now }
+{
+    Number::from_f64(numeral.to_float::<f64>(negative))
+}
+
+/// Whether each number in the value is in range.
+#[cycle(in_range)]
+pub(crate) fn is_in_range(value: &Value<'_>) -> bool
+    ensures { result ≡ is_in_range (value_view value.now) }
+{
+    match value {
+        Value::Number(text) => number_of(text).is_some(),
+        Value::Array(items) => items_in_range(items),
+        Value::Object(members) => are_in_range(members),
+        Value::Null | Value::Bool(_) | Value::String(_) => true,
+    }
+}
+
+#[cycle(in_range)]
+fn items_in_range(items: &Vec<Value<'_>>) -> bool
+    ensures { result ≡ items_in_range (items_view items.now.items) }
+{
+    for item in items {
+        if !is_in_range(item) {
+            return false;
+        }
+    }
+    true
+}
+
+#[cycle(in_range)]
+fn are_in_range(members: &Vec<(&str, Value<'_>)>) -> bool
+    ensures { result ≡ are_in_range (members_view members.now.items) }
+{
+    for member in members {
+        if !is_in_range(&member.1) {
+            return false;
+        }
+    }
+    true
+}
