@@ -104,6 +104,7 @@ SECTIONS = [
 TRIALS = {"worked_logs", "file_laws", "merge_trials"}
 
 DEFINITION = re.compile(r"(?:abbrev pub|unfoldable pub|pub record|pub data) (\w+)")
+TOGETHER = re.compile(r"  pub (\w+) :")
 MODULE = re.compile(r"pub mod (\w+)")
 CITED = re.compile(r" \(((?:own: )?[^()]*(?:\.c|\.h|_|own|struct )[^()]*)\)")
 
@@ -127,15 +128,17 @@ def kernel_of(comment):
 
 def definitions(path):
     """The names of a module's definitions, and the comment line of each."""
-    comment = None
+    comment, together = None, False
     for line in path.read_text().split("\n"):
-        found = DEFINITION.match(line)
+        # (definitions that call one another stand indented under one line)
+        together = line == "abbrev mutual" or together and line[:1] in ("", " ")
+        found = (TOGETHER if together else DEFINITION).match(line)
         if found:
             if comment is None:
                 sys.exit(f"{path}: {found.group(1)} has no comment line")
             yield found.group(1), comment
-        said = line.startswith("-- ") and not line.startswith("-- ----")
-        comment = line[3:] if said else None
+        said = line.lstrip() if together else line
+        comment = said[3:] if said.startswith("-- ") and not said.startswith("-- ----") else None
 
 
 def section(crate, title, kernel, modules):

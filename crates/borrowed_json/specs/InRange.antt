@@ -3,8 +3,8 @@ use Rattle.std.specs.Prelude.{◌&&◌, Bool, true, is_some}
 use Rattle.json.specs.Json.{Json, null, boolean, number, string, array, object, Items, no_items, item, Members, no_members, member}
 use Rattle.serde_json.specs.Read.{number_of}
 
--- each number in it is an integer of 64 bits or a finite float
 abbrev mutual
+  -- each number in the value is an integer of 64 bits or a finite float
   pub is_in_range : Json → Bool
   is_in_range null = true
   is_in_range (boolean b) = true

@@ -15,8 +15,8 @@ use Rattle.serde_json.specs.View.{items_of}
 abbrev pub numeral : List ℕ → Num
 numeral text = unwrap_or (number_of text) (float (nearest binary64 false (scan text)))
 
--- the data of a value; the members go in one after another, so the last value of a name stays
 abbrev mutual
+  -- the data of a value
   pub data_of : json.Json → Data
   data_of json.null = null
   data_of (json.boolean b) = boolean b
@@ -25,10 +25,12 @@ abbrev mutual
   data_of (json.array js) = array (data_items js)
   data_of (json.object ms) = object (data_members ms no_members)
 
+  -- the data of the items of an array
   pub data_items : json.Items → Items
   data_items json.no_items = no_items
   data_items (json.item j js) = item (data_of j) (data_items js)
 
+  -- the members of an object, after those that were found: they go in one by one, so the last value of a name stays
   pub data_members : json.Members → Members → Members
   data_members json.no_members found = found
   data_members (json.member k j ms) found = data_members ms (put k (data_of j) found)
