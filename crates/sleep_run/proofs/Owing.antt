@@ -17,7 +17,7 @@ one_at_most : (b : Bool) → one_if b ≤ 1
 one_at_most true = omega arith
 one_at_most false = omega arith
 
-pub owing_few : (xs : List JobState) → owing_of xs ≤ length xs
+owing_few : (xs : List JobState) → owing_of xs ≤ length xs
 owing_few [] = omega arith
 owing_few (x ∷ xs) = omega (arith, one_at_most (owes x), owing_few xs)
 
@@ -92,11 +92,11 @@ pub more_fits : (jobs : JobsState) (n : ℕ) → n ≡ owing jobs → length job
 more_fits jobs n is scripts devices = omega (arith, is, scripts, devices, owing_few jobs.scripts, owing_few jobs.devices, one_at_most (owes jobs.auto))
 
 -- one that had no call to make has taken a turn
-pub after_turn_counts : (jobs : JobsState) (who : Actor) (x : JobState) (n after : ℕ) (b : Bool) → HasJob jobs who → (job_at jobs who).pending ≡ [] → n ≡ owing jobs → b ≡ owes x → after ≡ n + one_if b → after ≡ owing (with_job jobs who x)
+after_turn_counts : (jobs : JobsState) (who : Actor) (x : JobState) (n after : ℕ) (b : Bool) → HasJob jobs who → (job_at jobs who).pending ≡ [] → n ≡ owing jobs → b ≡ owes x → after ≡ n + one_if b → after ≡ owing (with_job jobs who x)
 after_turn_counts jobs who x n after b h none is now more = omega (arith, owing_with jobs who x h, owes_none (job_at jobs who) none, is, ap one_if now, more)
 
 -- one that had a call to make has made it
-pub after_call_counts : (jobs : JobsState) (who : Actor) (x : JobState) (n after : ℕ) (b : Bool) → HasJob jobs who → 0 < length (job_at jobs who).pending → n ≡ owing jobs → b ≡ owes x → after + 1 ≡ n + one_if b → after ≡ owing (with_job jobs who x)
+after_call_counts : (jobs : JobsState) (who : Actor) (x : JobState) (n after : ℕ) (b : Bool) → HasJob jobs who → 0 < length (job_at jobs who).pending → n ≡ owing jobs → b ≡ owes x → after + 1 ≡ n + one_if b → after ≡ owing (with_job jobs who x)
 after_call_counts jobs who x n after b h some is now left = omega (arith, owing_with jobs who x h, owes_some (job_at jobs who) some, is, ap one_if now, left)
 
 -- the jobs are others in an actor's place alone, before they are counted, and it is told whether the new one has a call to make
