@@ -162,11 +162,10 @@ impl Board {
         ensures err { OnErr result (self.new ≡ self.old) }
     {
         let _devices = self.layout.links.order().len();
-        let keeps_order = self.layout.links.keeps_order(supplier, consumer);
-        match self.layout.links.add(supplier, consumer) {
-            Ok(()) => {
+        match self.layout.links.add_telling(supplier, consumer, true) {
+            Ok(stays) => {
                 let layout = &mut self.layout;
-                refill_places(&mut layout.places, layout.links.order(), keeps_order);
+                refill_places(&mut layout.places, layout.links.order(), stays);
                 begin_anew(
                     layout,
                     supplier,

@@ -38,6 +38,11 @@ Adds l supplier consumer (Err (fault.Cycle path)) = IsOpen l supplier consumer �
 Adds l supplier consumer (Err fault.Mem) = IsOpen l supplier consumer
 Adds l supplier consumer (Err f) = Refuses l supplier consumer (Some f)
 
+-- that a link was added, or the fault, of an answer that tells more (own)
+abbrev pub outcome : {T : Type 0} → Result T LinkFault → Result (Unit {0}) LinkFault
+outcome (Ok told) = Ok tt
+outcome (Err f) = Err f
+
 -- ---- states
 
 -- links with one more, the newest (device_link_add)

@@ -51,7 +51,7 @@ impl Links {
     ghost use Rattle.sleep_model.specs.Order.{EachAfterParent, is_among, hanging, order_by};
     ghost use Rattle.sleep_model.specs.Links.{IsOrder, is_dependent, is_linked};
     ghost use Rattle.device_links.specs.Walks.{Finds, IsWalked};
-    ghost use Rattle.device_links.specs.Adds.{Adds, IsOpen, Lacks, Refuses, Sets, with_link, with_set};
+    ghost use Rattle.device_links.specs.Adds.{Adds, IsOpen, Lacks, Refuses, Sets, outcome, with_link, with_set};
     ghost use Rattle.device_links.specs.Kept.{near_below, near_above};
     ghost use Rattle.device_links.specs.Moves.{Leaves, Moves, after_move};
     ghost use Rattle.device_links.specs.Passes.{Makes};
@@ -143,6 +143,25 @@ impl Links {
             (record { supplier = supplier; consumer = consumer; active = active })) }
         ensures err { OnErr result (self.new ≡ self.old) }
     {
+        self.add_telling(supplier, consumer, active)?;
+        Ok(())
+    }
+
+    /// Adds a link as `add_as` does, and tells whether the order stays as it is, as far as that is seen
+    /// without a walk.
+    pub fn add_telling(
+        &mut self,
+        supplier: u32,
+        consumer: u32,
+        active: bool,
+    ) -> Result<bool, LinkFault>
+        ensures answer { Adds self.old supplier consumer (outcome result) }
+        ensures ok { OnOk result (self.new ≡ with_link self.old
+            (record { supplier = supplier; consumer = consumer; active = active })) }
+        ensures err { OnErr result (self.new ≡ self.old) }
+        ensures order { IfOk result (λ stays. OnTrue stays (order_by self.new.parents self.new.links
+            ≡ order_by self.old.parents self.old.links)) }
+    {
         if let Some(fault) = self.refusal(supplier, consumer) {
             return Err(fault);
         }
@@ -152,8 +171,9 @@ impl Links {
             active,
         };
         let moved = self.moved_by(link)?;
+        let stays = moved.is_none();
         self.put(link, moved)?;
-        Ok(())
+        Ok(stays)
     }
 
     /// Makes a link active or dormant (`struct device_link`, `status`). The order stays, and it takes
@@ -207,19 +227,6 @@ impl Links {
         ensures { result ≡ is_linked self.now.links supplier consumer }
     {
         self.suppliers.row(consumer).contains(&supplier)
-    }
-
-    /// Whether a link of these two leaves the order as it is, as far as that is seen without a walk.
-    pub fn keeps_order(&self, supplier: u32, consumer: u32) -> bool
-        ensures { OnTrue result (order_by self.now.parents
-            (record { supplier = supplier; consumer = consumer; active = true } ∷ self.now.links)
-            ≡ order_by self.now.parents self.now.links) }
-    {
-        self.stays_by(Link {
-            supplier,
-            consumer,
-            active: true,
-        })
     }
 
     /// Whether a supplier is the consumer or hangs below it, by children and all links. It takes no

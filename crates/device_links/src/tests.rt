@@ -60,15 +60,28 @@ fn links_move_their_consumers(rt: HostRuntime) -> Result<(), Fail> {
     assert_eq!(rt; links.order(), [0u32, 3, 4, 1, 2].as_slice());
     add_all(&rt, &mut links, &[(4, 3)]);
     assert_eq!(rt; links.order(), [0u32, 4, 3, 1, 2].as_slice());
-    assert!(rt; links.keeps_order(0, 3));
-    assert!(rt; !links.keeps_order(2, 3));
-    assert!(rt; !links.keeps_order(0, 1));
     let path = cycle_of(&rt, &mut links, 2, 4);
     assert_eq!(rt; path.as_slice(), [4u32, 3, 1, 2].as_slice());
     assert_eq!(rt; links.order(), [0u32, 4, 3, 1, 2].as_slice());
     assert_eq!(rt; links.below(3), [1u32].as_slice());
     assert_eq!(rt; links.above(1), [0u32, 3].as_slice());
     assert!(rt; links.above(4).is_empty());
+    Ok(())
+}
+
+/// A link whose consumer the newest link has moved already moves nothing, where its supplier stands before the
+/// consumer, and that is told; a link that moves its consumer is told as one that may have.
+#[test]
+fn a_second_supplier_moves_nothing(rt: HostRuntime) -> Result<(), Fail> {
+    let mut links = Links::new(rt.alloc(), &[None, None, None, None])?;
+    assert!(rt; matches!(links.add_telling(1, 2, true), Ok(false)));
+    assert_eq!(rt; links.order(), [0u32, 1, 3, 2].as_slice());
+    assert!(rt; matches!(links.add_telling(3, 2, true), Ok(true)));
+    assert!(rt; matches!(links.add_telling(0, 2, false), Ok(true)));
+    assert!(rt; matches!(links.add_telling(2, 3, true), Err(LinkFault::Cycle(_))));
+    assert_eq!(rt; links.order(), [0u32, 1, 3, 2].as_slice());
+    assert!(rt; matches!(links.add_telling(0, 1, true), Ok(false)));
+    assert_eq!(rt; links.order(), [0u32, 3, 1, 2].as_slice());
     Ok(())
 }
 

@@ -17,6 +17,5 @@ mod steps;
 mod tasks;
 mod turns;
 
-pub use pending::sooner;
 pub use state::Core;
 pub use turns::{CoreFault, CoreTurn};

@@ -3,23 +3,13 @@
 ghost use Rattle.std.specs.Prelude.{◌≡◌, ◌≤◌, ◌<◌, ◌^◌, length, slice_get};
 ghost use Rattle.sleep_model.specs.Attempt.{sleep_of, freeze_since};
 ghost use Rattle.sleep_model.specs.Autosleep.{naps_until, work};
-ghost use Rattle.sleep_model.specs.Legal.{sooner, alarm_at, deadline_at, pending_sleep, next_sleep, pending_nap, journal_time};
+ghost use Rattle.sleep_model.specs.Legal.{alarm_at, deadline_at, pending_sleep, next_sleep, pending_nap, journal_time};
 ghost use Rattle.sleep_state.specs.Places.{entries};
 ghost use Rattle.sleep_core.specs.Steps.{sleep_end};
 
 use crate::state::Core;
 use crate::steps::is_line;
-
-/// The lesser of two moments, where there are any.
-pub fn sooner(one: Option<u64>, other: Option<u64>) -> Option<u64>
-    ensures { result ≡ sooner one other }
-{
-    match (one, other) {
-        (None, other) => other,
-        (one, None) => one,
-        (Some(one), Some(other)) => Some(one.min(other)),
-    }
-}
+use sleep_state::sooner;
 
 impl<'m> Core<'m> {
     /// When the alarm of a machine that sleeps is due.

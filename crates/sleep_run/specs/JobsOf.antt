@@ -1,8 +1,9 @@
 -- The jobs of a machine's actors, together.
-use Rattle.std.specs.Prelude.{◌≡◌, ◌<◌, ◌+◌, ℕ, zero, suc, Bool, true, false, nat_lt, List, [], ◌∷◌, ◌++◌, length, slice_set, slice_index_or}
+use Rattle.std.specs.Prelude.{◌≡◌, ◌<◌, ◌+◌, ℕ, zero, suc, Bool, nat_lt, List, [], ◌∷◌, ◌++◌, length, slice_set, slice_index_or}
 use Rattle.sleep_model.specs.declared.entry.Actor.{Actor}
 use Rattle.sleep_model.specs.declared.entry.Actor.TheVariants as actor
 use Rattle.sleep_model.specs.declared.machine.Machine.{Machine}
+use Rattle.sleep_model.specs.Places.{one_if}
 use Rattle.sleep_script.specs.Jobs.{JobState, first_job}
 
 -- the jobs of the scripts, of the autosleep work, and of the devices, by number
@@ -44,11 +45,6 @@ first_jobs m = record {
 }
 
 -- ---- who has a call to make
-
--- one, if that is so
-abbrev pub one_if : Bool → ℕ
-one_if true = 1
-one_if false = 0
 
 -- the actor has a call on a source to make before its next entry of the journal
 abbrev pub owes : JobState → Bool

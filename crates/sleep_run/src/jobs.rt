@@ -3,8 +3,9 @@
 ghost use Rattle.std.specs.Prelude.{◌≡◌, ◌≤◌, ◌<◌, ◌+◌, ◌^◌, [], length, map, IfOk};
 ghost use Rattle.sleep_model.specs.declared.entry.Actor.TheVariants.{Script, Dev};
 ghost use Rattle.sleep_model.specs.Accepted.{IsAccepted};
+ghost use Rattle.sleep_model.specs.Places.{one_if};
 ghost use Rattle.sleep_script.specs.Jobs.{IsWanted, first_job, after_turn, after_call};
-ghost use Rattle.sleep_run.specs.JobsOf.{one_if, owing_of, job_at, HasJob, with_job, first_jobs_of, first_jobs};
+ghost use Rattle.sleep_run.specs.JobsOf.{owes, owing_of, job_at, HasJob, with_job, first_jobs_of, first_jobs};
 
 use answer_book::AnswerBook;
 use sleep_base::Mem;
@@ -81,18 +82,6 @@ fn owing_scripts(jobs: &[ScriptJob<'_>]) -> u32
     owing
 }
 
-/// How many of these devices do.
-fn owing_devices(jobs: &[DeviceJob<'_>]) -> u32
-    requires { length jobs.now < 2 ^ 30 }
-    ensures is { result ≡ owing_of jobs.now }
-{
-    let mut owing = 0;
-    for job in jobs {
-        owing = more_owing(job.owes(), owing);
-    }
-    owing
-}
-
 /// One more, where another has a call to make.
 #[inline(always)]
 fn more_owing(owes: bool, owing: u32) -> u32
@@ -115,14 +104,15 @@ impl<'m> Jobs<'m> {
     ghost use Rattle.std.specs.Bool.{OnTrue};
     ghost use Rattle.sleep_run.specs.JobsOf.{OweNone};
 
-    /// The jobs of these parts.
+    /// The jobs of these parts, before anything was done: a script alone may have a call to make then.
     fn of_parts(scripts: Vec<ScriptJob<'m>>, auto: AutoJob<'m>, devices: Vec<DeviceJob<'m>>) -> Self
         requires scripts { length scripts.items < 2 ^ 30 }
         requires devices { length devices.items < 2 ^ 30 }
+        requires auto { one_if (owes auto) ≡ 0 }
+        requires none { owing_of devices.items ≡ 0 }
         ensures { result ≡ record { scripts = scripts.entry.items; auto = auto.entry; devices = devices.entry.items } }
     {
-        let owing = owing_scripts(scripts.as_slice()) + owing_devices(devices.as_slice());
-        let owing = more_owing(auto.owes(), owing);
+        let owing = owing_scripts(scripts.as_slice());
         Jobs {
             scripts,
             auto,
@@ -178,22 +168,23 @@ impl<'m> Jobs<'m> {
         requires few { (job_at self.old who).turns < 2 ^ 63 }
         ensures { self.new ≡ with_job self.old who (after_turn stamp kind attempt (job_at self.old who)) }
     {
-        match who {
+        let owes = match who {
             Actor::Script(script) => {
                 let job = &mut self.scripts[script as usize];
                 job.told_turn(stamp, kind, attempt);
-                self.owing = more_owing(job.owes(), self.owing);
+                job.owes()
             }
             Actor::Dev(device) => {
                 let job = &mut self.devices[device as usize];
                 job.told_turn(stamp, kind, attempt);
-                self.owing = more_owing(job.owes(), self.owing);
+                job.owes()
             }
             _ => {
                 self.auto.told_turn(stamp, kind, attempt);
-                self.owing = more_owing(self.auto.owes(), self.owing);
+                self.auto.owes()
             }
-        }
+        };
+        self.owing = more_owing(owes, self.owing);
     }
 
     /// An actor made the call that was next, and knows that stamp.
@@ -203,22 +194,23 @@ impl<'m> Jobs<'m> {
         requires few { (job_at self.old who).calls + 1 < 2 ^ 32 }
         ensures { self.new ≡ with_job self.old who (after_call stamp (job_at self.old who)) }
     {
-        match who {
+        let owes = match who {
             Actor::Script(script) => {
                 let job = &mut self.scripts[script as usize];
                 job.told_source(stamp);
-                self.owing = left_owing(job.owes(), self.owing);
+                job.owes()
             }
             Actor::Dev(device) => {
                 let job = &mut self.devices[device as usize];
                 job.told_source(stamp);
-                self.owing = left_owing(job.owes(), self.owing);
+                job.owes()
             }
             _ => {
                 self.auto.told_source(stamp);
-                self.owing = left_owing(self.auto.owes(), self.owing);
+                self.auto.owes()
             }
-        }
+        };
+        self.owing = left_owing(owes, self.owing);
     }
 
     /// Whether no actor has a call on a source to make before its next entry of the journal.

@@ -2,8 +2,8 @@
 
 use crate::run::Run;
 use event_word::Events;
-use sleep_core::sooner;
 use sleep_model::{Actor, EventNow};
+use sleep_state::sooner;
 
 impl<'m> Run<'m> {
     ghost use Rattle.std.specs.Prelude.{◌≡◌, ◌≤◌, ◌<◌, ◌+◌, ◌^◌, ◌&&◌, true, None, is_none, length};

@@ -6,8 +6,9 @@ use Rattle.std.proofs.lemmas.List.{length-map}
 use Rattle.std.specs.Bool.{OnTrue}
 use Rattle.sleep_model.specs.declared.place.Seat.{Seat}
 use Rattle.sleep_model.specs.Legal.{sooner}
+use Rattle.sleep_model.specs.Places.{one_if}
 use Rattle.sleep_model.specs.Seats.{first_seat, seat_at, all_exited}
-use Rattle.sleep_state.specs.Sleepers.{one_if, is_awake, is_there, count_of, end_of, is_later, sleeps_past, is_still, AllStill}
+use Rattle.sleep_state.specs.Sleepers.{is_awake, is_there, count_of, end_of, is_later, sleeps_past, is_still, AllStill}
 use Rattle.sleep_state.specs.Trees.{least_among, least_of}
 
 -- ---- how many stand so

@@ -2,12 +2,8 @@
 use Rattle.std.specs.Prelude.{◌≡◌, ◌<◌, ◌+◌, ℕ, zero, suc, Bool, true, false, not, ◌&&◌, ◌||◌, nat_lt, List, [], ◌∷◌, length, Option, Some, None, is_none}
 use Rattle.sleep_model.specs.declared.place.Seat.{Seat}
 use Rattle.sleep_model.specs.Legal.{sooner}
+use Rattle.sleep_model.specs.Places.{one_if}
 use Rattle.sleep_model.specs.Seats.{seat_at}
-
--- one, if that is so
-abbrev pub one_if : Bool → ℕ
-one_if true = 1
-one_if false = 0
 
 -- a script that stands so neither sleeps nor has exited (own)
 abbrev pub is_awake : Seat → Bool

@@ -10,5 +10,6 @@ mod tasks;
 mod tests;
 
 pub use devices::Devices;
+pub use moments::sooner;
 pub use path::{Path, behind, busy_error};
 pub use tasks::Tasks;

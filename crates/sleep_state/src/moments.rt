@@ -32,7 +32,7 @@ impl Model for Moments {
 
 /// The lesser of two moments, where there are any.
 #[inline(always)]
-fn sooner(one: Option<u64>, other: Option<u64>) -> Option<u64>
+pub fn sooner(one: Option<u64>, other: Option<u64>) -> Option<u64>
     ensures { result ≡ sooner one other }
 {
     match (one, other) {

@@ -2,7 +2,8 @@
 
 ghost use Rattle.std.specs.Prelude.{◌≡◌, ◌≤◌, ◌<◌, ◌+◌, ◌^◌, None, length, slice_index_or, slice_set};
 ghost use Rattle.sleep_model.specs.Seats.{first_seat};
-ghost use Rattle.sleep_state.specs.Sleepers.{one_if, is_awake, is_later};
+ghost use Rattle.sleep_model.specs.Places.{one_if};
+ghost use Rattle.sleep_state.specs.Sleepers.{is_awake, is_later};
 
 use crate::moments::Moments;
 use sleep_base::Mem;

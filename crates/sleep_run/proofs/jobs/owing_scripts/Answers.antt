@@ -1,5 +1,5 @@
 use Rattle.std.proofs.Common.{ap, arith}
-use Rattle.sleep_run.specs.JobsOf.{one_if}
+use Rattle.sleep_model.specs.Places.{one_if}
 use Rattle.sleep_run.proofs.Owing.{owing_more, few_of}
 use Rattle.sleep_run.proofs.jobs.owing_scripts.Goals as goal
 

@@ -1,24 +1,22 @@
 -- The links have changed right below the supplier alone.
 use Rattle.std.proofs.Common.{◌≡◌, ◌∙◌, List, ℕ, sym, ap, subst}
 use Rattle.std.specs.Bool.{OnTrue}
-use Rattle.sleep_model.specs.Order.{is_among, order_by}
+use Rattle.sleep_model.specs.Order.{is_among}
 use Rattle.sleep_model.proofs.Ordering.{order_by_different}
-use Rattle.device_links.specs.Linked.{Linked}
 use Rattle.async_board.specs.Walks.{IsPlaced, order_of}
 use Rattle.async_board.proofs.Places.{placed_still}
 use Rattle.async_board.proofs.Rested.{rested_added}
 use Rattle.async_board.proofs.board.Board.add_link.Goals as goal
 
 pub refill_places-requires-clause-different : goal.refill_places-requires-clause-different
-refill_places-requires-clause-different c = rw c.order.ensures.order (order_by_different c.add.new.self.parents c.add.new.self.links)
+refill_places-requires-clause-different c = rw c.order.ensures.order (order_by_different c.add_telling.new.self.parents c.add_telling.new.self.links)
 
 pub refill_places-requires-clause-kept : goal.refill_places-requires-clause-kept
 refill_places-requires-clause-kept c =
     let old = c.self.inside.layout in
-    let new = c.order.ensures.order ∙ ap (λ (l : Linked). order_by l.parents l.links) c.in-Ok.ensures.ok in
-    let stays = c.keeps_order-keeps_order.result in
+    let stays = c.in-Ok.stays in
     subst (λ (places : List ℕ). OnTrue stays (IsPlaced c.order.result.now places)) (sym c.deref_mut.ensures.value)
-    (placed_still stays c.order.result.now (order_of old) old.places.items (subst (λ (o : List ℕ). OnTrue stays (o ≡ order_of old)) (sym new) c.keeps_order-keeps_order.ensures) c.self.invariant.laid)
+    (placed_still stays c.order.result.now (order_of old) old.places.items (subst (λ (o : List ℕ). OnTrue stays (o ≡ order_of old)) (sym c.order.ensures.order) c.in-Ok.ensures.order) c.self.invariant.laid)
 
 pub begin_anew-requires-clause-suspend : goal.begin_anew-requires-clause-suspend
 begin_anew-requires-clause-suspend c =

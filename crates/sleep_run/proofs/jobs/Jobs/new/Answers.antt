@@ -1,7 +1,10 @@
-use Rattle.std.proofs.Common.{List, length, ap, arith}
+use Rattle.std.proofs.Common.{◌∙◌, List, length, ap, arith}
 use Rattle.sleep_model.specs.declared.entry.Actor.TheVariants.{Script, Dev}
+use Rattle.sleep_model.specs.Places.{one_if}
 use Rattle.sleep_script.specs.Jobs.{JobState}
+use Rattle.sleep_run.specs.JobsOf.{owes, owing_of}
 use Rattle.sleep_run.proofs.JobsKept.{first_len}
+use Rattle.sleep_run.proofs.Owing.{devices_owe_none}
 use Rattle.sleep_run.proofs.jobs.Jobs.new.Goals as goal
 
 pub of_parts-requires-clause-scripts : goal.of_parts-requires-clause-scripts
@@ -13,3 +16,11 @@ pub of_parts-requires-clause-devices : goal.of_parts-requires-clause-devices
 of_parts-requires-clause-devices c =
     let m = c.args.machine.now in
     omega (arith, ap (λ (xs : List JobState). length xs) c.in_ok-devices.ensures, first_len m Dev (length m.devices), c.requires.accepted.devices)
+
+pub of_parts-requires-clause-auto : goal.of_parts-requires-clause-auto
+of_parts-requires-clause-auto c = ap (λ (job : JobState). one_if (owes job)) c.new-auto.ensures
+
+pub of_parts-requires-clause-none : goal.of_parts-requires-clause-none
+of_parts-requires-clause-none c =
+    let m = c.args.machine.now in
+    ap owing_of c.in_ok-devices.ensures ∙ devices_owe_none m (length m.devices)

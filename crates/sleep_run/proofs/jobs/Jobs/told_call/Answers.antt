@@ -1,44 +1,32 @@
-use Rattle.std.proofs.Common.{◌<◌, length, sym, subst, arith}
-use Rattle.std.proofs.lemmas.List.{length-set}
-use Rattle.sleep_model.specs.declared.entry.Actor.{Actor}
+use Rattle.std.proofs.Common.{◌≡◌, ◌∙◌, ◌<◌, length, refl, ap, sym, subst}
 use Rattle.sleep_model.specs.declared.entry.Actor.TheVariants as actor
+use Rattle.sleep_run.specs.declared.jobs.Jobs.TheInside.{Inside}
 use Rattle.sleep_run.specs.JobsFields.{jobs}
 use Rattle.sleep_run.specs.JobsOf.{JobsState, job_at, HasJob}
-use Rattle.sleep_run.proofs.Owing.{some_owing, after_call_counts}
+use Rattle.sleep_run.proofs.Owing.{IsMoved, moved_there, is_auto, some_owing, call_counted}
+use Rattle.sleep_run.proofs.jobs.Jobs.told_call.Goals.{in-Script, in-Dev, in_default}
 use Rattle.sleep_run.proofs.jobs.Jobs.told_call.Goals as goal
 
 pub left_owing-self-inside-requires : goal.left_owing-self-inside-requires
 left_owing-self-inside-requires c =
     let j = c.self.inside in
-    let has : HasJob (jobs j) (actor.Script c.in-Script.script) = subst (λ (s : JobsState). HasJob s (actor.Script c.in-Script.script)) (sym c.self.view_is) (subst (λ (w : Actor). HasJob c.args.self.now w) c.in-Script.is c.requires.job) in
-    let had : 0 < length (job_at (jobs j) (actor.Script c.in-Script.script)).pending = subst (λ (s : JobsState). 0 < length (job_at s (actor.Script c.in-Script.script)).pending) (sym c.self.view_is) (subst (λ (w : Actor). 0 < length (job_at c.args.self.now w).pending) c.in-Script.is c.requires.left) in
-    some_owing (jobs j) (actor.Script c.in-Script.script) j.owing has had c.self.invariant.owing_is
+    let has : HasJob (jobs j) c.args.who = subst (λ (s : JobsState). HasJob s c.args.who) (sym c.self.view_is) c.requires.job in
+    let left : 0 < length (job_at (jobs j) c.args.who).pending = subst (λ (s : JobsState). 0 < length (job_at s c.args.who).pending) (sym c.self.view_is) c.requires.left in
+    let same : c.match-who.self-inside.owing ≡ j.owing = elim c.match-who.branch [
+      | in-Script w ↦ ap (λ (k : Inside). k.owing) w.self-inside-is
+      | in-Dev w ↦ ap (λ (k : Inside). k.owing) w.self-inside-is
+      | in_default w ↦ ap (λ (k : Inside). k.owing) w.self-inside-is
+    ] in
+    subst (λ n. 0 < n) (sym same) (some_owing (jobs j) c.args.who j.owing has left c.self.invariant.owing_is)
 
 pub invariant_of-self : goal.invariant_of-self
 invariant_of-self c =
     let j = c.self.inside in
-    let has : HasJob (jobs j) (actor.Script c.in-Script.script) = subst (λ (s : JobsState). HasJob s (actor.Script c.in-Script.script)) (sym c.self.view_is) (subst (λ (w : Actor). HasJob c.args.self.now w) c.in-Script.is c.requires.job) in
-    let had : 0 < length (job_at (jobs j) (actor.Script c.in-Script.script)).pending = subst (λ (s : JobsState). 0 < length (job_at s (actor.Script c.in-Script.script)).pending) (sym c.self.view_is) (subst (λ (w : Actor). 0 < length (job_at c.args.self.now w).pending) c.in-Script.is c.requires.left) in
-    record {
-      few_scripts = omega (arith, length-set c.self.inside.scripts.items c.in-Script.script c.told_source.new.self, c.self.invariant.few_scripts);
-      few_devices = c.self.invariant.few_devices;
-      owing_is = after_call_counts (jobs j) (actor.Script c.in-Script.script) c.told_source.new.self j.owing c.left_owing-self-inside.result c.owes.result has had c.self.invariant.owing_is c.owes.ensures c.left_owing-self-inside.ensures;
-    }
-
-pub left_owing-self-inside-requires-in-Dev : goal.left_owing-self-inside-requires-in-Dev
-left_owing-self-inside-requires-in-Dev c =
-    let j = c.self.inside in
-    let has : HasJob (jobs j) (actor.Dev c.in-Dev.device) = subst (λ (s : JobsState). HasJob s (actor.Dev c.in-Dev.device)) (sym c.self.view_is) (subst (λ (w : Actor). HasJob c.args.self.now w) c.in-Dev.is c.requires.job) in
-    let had : 0 < length (job_at (jobs j) (actor.Dev c.in-Dev.device)).pending = subst (λ (s : JobsState). 0 < length (job_at s (actor.Dev c.in-Dev.device)).pending) (sym c.self.view_is) (subst (λ (w : Actor). 0 < length (job_at c.args.self.now w).pending) c.in-Dev.is c.requires.left) in
-    some_owing (jobs j) (actor.Dev c.in-Dev.device) j.owing has had c.self.invariant.owing_is
-
-pub invariant_of-self-in-Dev : goal.invariant_of-self-in-Dev
-invariant_of-self-in-Dev c =
-    let j = c.self.inside in
-    let has : HasJob (jobs j) (actor.Dev c.in-Dev.device) = subst (λ (s : JobsState). HasJob s (actor.Dev c.in-Dev.device)) (sym c.self.view_is) (subst (λ (w : Actor). HasJob c.args.self.now w) c.in-Dev.is c.requires.job) in
-    let had : 0 < length (job_at (jobs j) (actor.Dev c.in-Dev.device)).pending = subst (λ (s : JobsState). 0 < length (job_at s (actor.Dev c.in-Dev.device)).pending) (sym c.self.view_is) (subst (λ (w : Actor). 0 < length (job_at c.args.self.now w).pending) c.in-Dev.is c.requires.left) in
-    record {
-      few_scripts = c.self.invariant.few_scripts;
-      few_devices = omega (arith, length-set c.self.inside.devices.items c.in-Dev.device c.told_source-in-Dev.new.self, c.self.invariant.few_devices);
-      owing_is = after_call_counts (jobs j) (actor.Dev c.in-Dev.device) c.told_source-in-Dev.new.self j.owing c.left_owing-self-inside-in-Dev.result c.owes-in-Dev.result has had c.self.invariant.owing_is c.owes-in-Dev.ensures c.left_owing-self-inside-in-Dev.ensures;
-    }
+    let has : HasJob (jobs j) c.args.who = subst (λ (s : JobsState). HasJob s c.args.who) (sym c.self.view_is) c.requires.job in
+    let left : 0 < length (job_at (jobs j) c.args.who).pending = subst (λ (s : JobsState). 0 < length (job_at s c.args.who).pending) (sym c.self.view_is) c.requires.left in
+    let moved : IsMoved j c.match-who.self-inside c.args.who c.match-who.owes = elim c.match-who.branch [
+      | in-Script w ↦ moved_there j c.args.who (actor.Script w.in-Script.script) w.told_source.new.self w.in-Script.is w.self-inside-is refl refl (w.owes-is ∙ w.owes-owes.ensures)
+      | in-Dev w ↦ moved_there j c.args.who (actor.Dev w.in-Dev.device) w.told_source-in-Dev.new.self w.in-Dev.is w.self-inside-is refl refl (w.owes-is ∙ w.owes-owes-in-Dev.ensures)
+      | in_default w ↦ moved_there j c.args.who actor.Auto w.told_source-in_default.new.self (is_auto (jobs j) c.args.who has w.in_default.not-Script w.in_default.not-Dev) w.self-inside-is refl refl (w.owes-is ∙ w.owes-owes-in_default.ensures)
+    ] in
+    call_counted j c.match-who.self-inside c.args.who c.match-who.owes c.left_owing-self-inside.result has left c.self.invariant moved c.left_owing-self-inside.ensures

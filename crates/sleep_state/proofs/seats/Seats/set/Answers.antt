@@ -1,7 +1,8 @@
 use Rattle.std.proofs.Common.{◌<◌, ◌∙◌, ℕ, List, length, Option, slice_set, sym, ap, subst, arith}
 use Rattle.std.proofs.lemmas.List.{map-set}
 use Rattle.sleep_model.specs.declared.place.Seat.{Seat}
-use Rattle.sleep_state.specs.Sleepers.{one_if, is_awake, is_there}
+use Rattle.sleep_model.specs.Places.{one_if}
+use Rattle.sleep_state.specs.Sleepers.{is_awake, is_there}
 use Rattle.sleep_state.proofs.Sleeping.{count_few, count_least, count_set, seat_found}
 use Rattle.sleep_state.proofs.seats.Seats.set.Goals as goal
 
