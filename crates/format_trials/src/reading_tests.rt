@@ -103,39 +103,41 @@ fn assert_bad(rt: &impl Abort, alloc: Global, rows: &[(&str, u32)]) -> Result<()
     Ok(())
 }
 
+const BAD_ENTRIES: [(&str, u32); 8] = [
+    ("00 0/0/0 task:w exit\n", 1),
+    ("0 0/01/0 task:w exit\n", 1),
+    ("0 0/4294967296/0 task:w exit\n", 1),
+    ("18446744073709551616 0/0/0 task:w exit\n", 1),
+    ("0 0/0/0 task:x exit\n", 1),
+    ("0 0/0/0 irq:w exit\n", 1),
+    ("0 0/0/0 task:w exit \n", 1),
+    ("0 0/0/0 task:w exit\n0 0/0/0 task:w post b\n", 2),
+];
+
 #[test]
 fn names_the_first_bad_entry(rt: HostRuntime) -> Result<(), Fail> {
-    let rows = [
-        ("00 0/0/0 task:w exit\n", 1),
-        ("0 0/01/0 task:w exit\n", 1),
-        ("0 0/4294967296/0 task:w exit\n", 1),
-        ("18446744073709551616 0/0/0 task:w exit\n", 1),
-        ("0 0/0/0 task:x exit\n", 1),
-        ("0 0/0/0 irq:w exit\n", 1),
-        ("0 0/0/0 task:w exit \n", 1),
-        ("0 0/0/0 task:w exit\n0 0/0/0 task:w post b\n", 2),
-    ];
-    assert_bad(&rt, rt.alloc(), &rows)
+    assert_bad(&rt, rt.alloc(), &BAD_ENTRIES)
 }
+
+const BAD_BEHIND: [(&str, u32); 6] = [
+    ("", 1),
+    ("source autosleep 0 0 0 0 0 0 0\n", 1),
+    ("source lid 0 0 0 0 0 0 0\nfinished\n", 2),
+    (
+        "source lid 0 0 0 0 0 0 0\nsource autosleep 0 0 0 0 0 0 0\nfinished",
+        3,
+    ),
+    (
+        "source lid 0 0 0 0 0 0 0\nsource autosleep 0 0 0 0 0 0 0\nfinished\n\n",
+        4,
+    ),
+    (
+        "source lid 0 0 0 0 0 0 0\nsource autosleep 0 0 0 0 0 0 0\nstuck task:w read\nfinished\n",
+        4,
+    ),
+];
 
 #[test]
 fn names_the_first_bad_line_behind_the_entries(rt: HostRuntime) -> Result<(), Fail> {
-    let rows = [
-        ("", 1),
-        ("source autosleep 0 0 0 0 0 0 0\n", 1),
-        ("source lid 0 0 0 0 0 0 0\nfinished\n", 2),
-        (
-            "source lid 0 0 0 0 0 0 0\nsource autosleep 0 0 0 0 0 0 0\nfinished",
-            3,
-        ),
-        (
-            "source lid 0 0 0 0 0 0 0\nsource autosleep 0 0 0 0 0 0 0\nfinished\n\n",
-            4,
-        ),
-        (
-            "source lid 0 0 0 0 0 0 0\nsource autosleep 0 0 0 0 0 0 0\nstuck task:w read\nfinished\n",
-            4,
-        ),
-    ];
-    assert_bad(&rt, rt.alloc(), &rows)
+    assert_bad(&rt, rt.alloc(), &BAD_BEHIND)
 }
