@@ -56,6 +56,19 @@ pub fn one_task(alloc: Global) -> Result<Machine, Fail> {
     ))
 }
 
+// The tasks w and b and the interrupt line k.
+fn actors(alloc: Global) -> Result<Vec<Script>, Fail> {
+    let mut actors = Vec::new(alloc);
+    for (text, kind) in [
+        ("w", TaskKind::User),
+        ("b", TaskKind::User),
+        ("k", TaskKind::Irq),
+    ] {
+        actors.push(script(alloc, text, kind)?)?;
+    }
+    Ok(actors)
+}
+
 // The device c, the source lid, the mark a, the tasks w and b and the interrupt line k.
 pub fn machine(alloc: Global) -> Result<Machine, Fail> {
     let device = Device {
@@ -63,17 +76,11 @@ pub fn machine(alloc: Global) -> Result<Machine, Fail> {
         parent: None,
         flags: DeviceFlags::WAKEUP,
     };
-    let mut actors = Vec::new(alloc);
-    actors.push(script(alloc, "w", TaskKind::User)?)?;
-    actors.push(script(alloc, "b", TaskKind::User)?)?;
-    actors.push(script(alloc, "k", TaskKind::Irq)?)?;
-    Ok(machine_of(
-        alloc,
-        vec![in alloc; device]?,
-        vec![in alloc; name("lid")?]?,
-        vec![in alloc; name("a")?]?,
-        actors,
-    ))
+    let actors = actors(alloc)?;
+    let devices = vec![in alloc; device]?;
+    let sources = vec![in alloc; name("lid")?]?;
+    let marks = vec![in alloc; name("a")?]?;
+    Ok(machine_of(alloc, devices, sources, marks, actors))
 }
 
 const TASK: Actor = Actor::Script(0);
@@ -110,10 +117,14 @@ fn line_of(alloc: Global, machine: &Machine, entry: Entry) -> Result<Vec<u8>, Fa
 }
 
 // Each entry alone makes its line.
-fn assert_lines(rt: &impl Abort, alloc: Global, rows: &[Row]) -> Result<(), Fail> {
-    let machine = machine(alloc)?;
+fn assert_lines(
+    rt: &impl Abort,
+    alloc: Global,
+    machine: &Machine,
+    rows: &[Row],
+) -> Result<(), Fail> {
     for (time, count, actor, kind, line) in rows {
-        let text = line_of(alloc, &machine, made(*time, *count, *actor, *kind))?;
+        let text = line_of(alloc, machine, made(*time, *count, *actor, *kind))?;
         assert_eq!(rt; text.as_slice(), line.as_bytes(), "at {line}");
     }
     Ok(())
@@ -169,7 +180,8 @@ const OF_TASKS: [Row; 9] = [
 
 #[test]
 fn writes_steps_of_tasks(rt: HostRuntime) -> Result<(), Fail> {
-    assert_lines(&rt, rt.alloc(), &OF_TASKS)
+    let machine = machine(rt.alloc())?;
+    assert_lines(&rt, rt.alloc(), &machine, &OF_TASKS)
 }
 
 const SKIP: Kind = Kind::Skip(Phase::Suspend, 0, SkipCause::Pending);
@@ -201,7 +213,8 @@ const OF_PHASES: [Row; 4] = [
 
 #[test]
 fn writes_steps_of_phases(rt: HostRuntime) -> Result<(), Fail> {
-    assert_lines(&rt, rt.alloc(), &OF_PHASES)
+    let machine = machine(rt.alloc())?;
+    assert_lines(&rt, rt.alloc(), &machine, &OF_PHASES)
 }
 
 const ATTEMPT: Kind = Kind::Attempt {
@@ -252,7 +265,8 @@ const OF_ATTEMPTS: [Row; 6] = [
 
 #[test]
 fn writes_steps_of_attempts(rt: HostRuntime) -> Result<(), Fail> {
-    assert_lines(&rt, rt.alloc(), &OF_ATTEMPTS)
+    let machine = machine(rt.alloc())?;
+    assert_lines(&rt, rt.alloc(), &machine, &OF_ATTEMPTS)
 }
 
 fn stats(count: u32, ms: u64) -> Stats {
@@ -267,16 +281,21 @@ fn stats(count: u32, ms: u64) -> Stats {
     }
 }
 
+// The text of a log of no entry.
+fn text_behind(alloc: Global, stats: Vec<Stats>, end: LogEnd) -> Result<Vec<u8>, Fail> {
+    let machine = machine(alloc)?;
+    let log = Log {
+        entries: EntryList::new(alloc),
+        stats: ListOf::of_vec(stats),
+        end,
+    };
+    Ok(write_log(alloc, &machine, &log)?)
+}
+
 #[test]
 fn writes_sources_and_end(rt: HostRuntime) -> Result<(), Fail> {
-    let alloc = rt.alloc();
-    let machine = machine(alloc)?;
-    let finished = Log {
-        entries: EntryList::new(alloc),
-        stats: ListOf::of_vec(vec![in alloc; stats(1, 50), stats(0, 0)]?),
-        end: LogEnd::Finished,
-    };
-    let text = write_log(alloc, &machine, &finished)?;
+    let stats = vec![in rt.alloc(); stats(1, 50), stats(0, 0)]?;
+    let text = text_behind(rt.alloc(), stats, LogEnd::Finished)?;
     let lines = b"source lid 1 1 0 0 50 50 50\nsource autosleep 0 0 0 0 0 0 0\nfinished\n";
     assert_eq!(rt; text.as_slice(), lines.as_slice());
     Ok(())
@@ -284,19 +303,13 @@ fn writes_sources_and_end(rt: HostRuntime) -> Result<(), Fail> {
 
 #[test]
 fn writes_who_is_stuck(rt: HostRuntime) -> Result<(), Fail> {
-    let alloc = rt.alloc();
-    let machine = machine(alloc)?;
     let actor = TASK;
     let why = Why::Mark(0);
     let mark = Waiting { actor, why };
     let why = Why::InProgress;
     let read = Waiting { actor, why };
-    let stuck = Log {
-        entries: EntryList::new(alloc),
-        stats: ListOf::of_vec(Vec::new(alloc)),
-        end: LogEnd::Stuck(ListOf::of_vec(vec![in alloc; mark, read]?)),
-    };
-    let text = write_log(alloc, &machine, &stuck)?;
+    let stuck = LogEnd::Stuck(ListOf::of_vec(vec![in rt.alloc(); mark, read]?));
+    let text = text_behind(rt.alloc(), Vec::new(rt.alloc()), stuck)?;
     let lines = b"stuck task:w mark a\nstuck task:w read\n";
     assert_eq!(rt; text.as_slice(), lines.as_slice());
     Ok(())

@@ -94,10 +94,14 @@ fn names_the_line_that_is_missing(rt: HostRuntime) -> Result<(), Fail> {
 }
 
 // That the text's first bad line is that one.
-fn assert_bad(rt: &impl Abort, alloc: Global, rows: &[(&str, u32)]) -> Result<(), Fail> {
-    let machine = machine(alloc)?;
+fn assert_bad(
+    rt: &impl Abort,
+    alloc: Global,
+    machine: &Machine,
+    rows: &[(&str, u32)],
+) -> Result<(), LogFault> {
     for (text, line) in rows {
-        let bad = bad_line(alloc, &machine, text)?;
+        let bad = bad_line(alloc, machine, text)?;
         assert_eq!(rt; bad, *line, "at {text}");
     }
     Ok(())
@@ -116,7 +120,8 @@ const BAD_ENTRIES: [(&str, u32); 8] = [
 
 #[test]
 fn names_the_first_bad_entry(rt: HostRuntime) -> Result<(), Fail> {
-    assert_bad(&rt, rt.alloc(), &BAD_ENTRIES)
+    let machine = machine(rt.alloc())?;
+    Ok(assert_bad(&rt, rt.alloc(), &machine, &BAD_ENTRIES)?)
 }
 
 const BAD_BEHIND: [(&str, u32); 6] = [
@@ -139,5 +144,6 @@ const BAD_BEHIND: [(&str, u32); 6] = [
 
 #[test]
 fn names_the_first_bad_line_behind_the_entries(rt: HostRuntime) -> Result<(), Fail> {
-    assert_bad(&rt, rt.alloc(), &BAD_BEHIND)
+    let machine = machine(rt.alloc())?;
+    Ok(assert_bad(&rt, rt.alloc(), &machine, &BAD_BEHIND)?)
 }
