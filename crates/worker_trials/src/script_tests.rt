@@ -188,13 +188,26 @@ fn a_callback_reports(rt: HostRuntime) -> Result<(), Fail> {
     let book = AnswerBook::new(alloc, machine.answers.as_slice())?;
     let mut job = ScriptJob::new(alloc, &machine, &book, 0)?;
     assert!(rt; reports_an_event(&mut job)?);
-    let mut work = AutoJob::new(&machine, &book);
-    work.told_turn(stamp(3), Kind::Begin(Phase::Suspend, 0), 1);
-    assert!(rt; work.owes() && matches!(work.next(), Want::Source(0, _)));
-    let mut device = DeviceJob::new(&machine, &book, 0);
-    device.told_turn(stamp(3), Kind::Begin(Phase::Suspend, 0), 1);
-    assert!(rt; device.owes() && matches!(device.next(), Want::Source(0, _)));
+    assert!(rt; work_reports(&machine, &book) && device_reports(&machine, &book));
     Ok(())
+}
+
+/// Whether the autosleep work that suspends device 0 reports an event.
+fn work_reports(machine: &Machine, book: &AnswerBook) -> bool
+    requires { book.now ≡ machine.now.answers }
+{
+    let mut work = AutoJob::new(machine, book);
+    work.told_turn(stamp(3), Kind::Begin(Phase::Suspend, 0), 1);
+    work.owes() && matches!(work.next(), Want::Source(0, _))
+}
+
+/// Whether device 0 that is suspended by its own thread does.
+fn device_reports(machine: &Machine, book: &AnswerBook) -> bool
+    requires { book.now ≡ machine.now.answers }
+{
+    let mut device = DeviceJob::new(machine, book, 0);
+    device.told_turn(stamp(3), Kind::Begin(Phase::Suspend, 0), 1);
+    device.owes() && matches!(device.next(), Want::Source(0, _))
 }
 
 /// A timer asks whether its source's event is over, counts its calls, and knows the later of two stamps.

@@ -6,6 +6,7 @@ use event_word::{Bump, EventSeat, EventTable, Events, PlainEvents};
 use sleep_base::Mem;
 use sleep_model::{Actor, EventNow, Name, Stamp, Stats};
 use std::alloc::Global;
+use std::process::Abort;
 use std::sync::Wait;
 use std::test::Fail;
 use wakeup_source::{CallBy, SourceFault, WakeSource, stats_line};
@@ -121,14 +122,19 @@ fn stats(counts: [u32; 3], times: [u64; 4]) -> Stats {
     }
 }
 
+/// A source whose history has room for all of a test.
+type Source = WakeSource<60000>;
+
+/// A word that another holder moves too, before its first step.
+fn shared_word<R: Wait>(rt: &R) -> Shared<'_, R> {
+    Shared { rt, now: FIRST }
+}
+
 /// An event lasts until it is ended by hand.
 #[test]
 fn staying_awake_lasts_until_relaxed(rt: HostRuntime) -> Result<(), Fail> {
-    let mut shared = Shared {
-        rt: &rt,
-        now: FIRST,
-    };
-    let mut lid = WakeSource::<60000>::new(rt.alloc(), 0);
+    let mut lid = Source::new(rt.alloc(), 0);
+    let mut shared = shared_word(&rt);
     lid.stay_awake(&rt, &mut shared, at(0))?;
     lid.relax(&rt, &mut shared, at(50))?;
     assert_eq!(rt; lid.stats(50), stats([1, 1, 0], [0, 50, 50, 50]));
@@ -138,29 +144,33 @@ fn staying_awake_lasts_until_relaxed(rt: HostRuntime) -> Result<(), Fail> {
 /// A shorter event does not cut a longer one, and a later end lengthens it.
 #[test]
 fn an_event_lasts_as_long_as_the_longest(rt: HostRuntime) -> Result<(), Fail> {
-    let mut shared = Shared {
-        rt: &rt,
-        now: FIRST,
-    };
-    let mut lid = WakeSource::<60000>::new(rt.alloc(), 0);
-    lid.event(&rt, &mut shared, at(0), 100, false)?;
-    lid.event(&rt, &mut shared, at(50), 20, false)?;
-    assert_eq!(rt; lid.due(), Some(100));
-    lid.event(&rt, &mut shared, at(50), 80, false)?;
-    assert_eq!(rt; lid.expire(&rt, &mut shared, at(129))?, None);
-    assert!(rt; lid.expire(&rt, &mut shared, at(130))?.is_some());
+    let mut lid = Source::new(rt.alloc(), 0);
+    let mut shared = shared_word(&rt);
+    last_longest(&rt, &mut lid, &mut shared)?;
     assert_eq!(rt; lid.stats(130), stats([1, 3, 1], [0, 130, 130, 130]));
+    Ok(())
+}
+
+/// Three events, whose longest ends at 130 ms.
+fn last_longest<R: Wait + Abort>(
+    rt: &R,
+    lid: &mut Source,
+    shared: &mut Shared<'_, R>,
+) -> Result<(), SourceFault> {
+    lid.event(rt, shared, at(0), 100, false)?;
+    lid.event(rt, shared, at(50), 20, false)?;
+    assert_eq!(rt; lid.due(), Some(100));
+    lid.event(rt, shared, at(50), 80, false)?;
+    assert_eq!(rt; lid.expire(rt, shared, at(129))?, None);
+    assert!(rt; lid.expire(rt, shared, at(130))?.is_some());
     Ok(())
 }
 
 /// A stay awake cancels the end that stood.
 #[test]
 fn staying_awake_cancels_the_expiry(rt: HostRuntime) -> Result<(), Fail> {
-    let mut shared = Shared {
-        rt: &rt,
-        now: FIRST,
-    };
-    let mut lid = WakeSource::<60000>::new(rt.alloc(), 0);
+    let mut lid = Source::new(rt.alloc(), 0);
+    let mut shared = shared_word(&rt);
     lid.event(&rt, &mut shared, at(0), 100, false)?;
     lid.stay_awake(&rt, &mut shared, at(10))?;
     assert_eq!(rt; lid.due(), None);
@@ -172,7 +182,7 @@ fn staying_awake_cancels_the_expiry(rt: HostRuntime) -> Result<(), Fail> {
 #[test]
 fn a_relax_of_an_inactive_source_is_noted(rt: HostRuntime) -> Result<(), Fail> {
     let mut events = PlainEvents::new();
-    let mut lid = WakeSource::<60000>::new(rt.alloc(), 0);
+    let mut lid = Source::new(rt.alloc(), 0);
     assert_eq!(rt;
         lid.relax(&rt, &mut events, at(5))?,
         Stamp { pos: 0, tick: 1 }
@@ -186,18 +196,21 @@ fn a_relax_of_an_inactive_source_is_noted(rt: HostRuntime) -> Result<(), Fail> {
 #[test]
 fn each_entry_bears_the_word_before_it(rt: HostRuntime) -> Result<(), Fail> {
     let mut events = PlainEvents::new();
-    let mut lid = WakeSource::<60000>::new(rt.alloc(), 0);
+    let mut lid = Source::new(rt.alloc(), 0);
     let end = lid.event(&rt, &mut events, at(0), 0, true)?;
     assert_eq!(rt; end, Stamp { pos: 3, tick: 4 });
-    let mut seen = Vec::new(rt.alloc());
-    for entry in lid.history() {
-        seen.push(entry.entry.now)?;
-    }
-    assert_eq!(rt;
-        seen.as_slice(),
-        [FIRST, FIRST, word(1, 0), word(1, 1)].as_slice()
-    );
+    assert!(rt; has_seen(&lid, &[FIRST, FIRST, word(1, 0), word(1, 1)]));
     Ok(())
+}
+
+/// Whether the entries of a source saw these words, in this order.
+fn has_seen(source: &Source, words: &[EventNow]) -> bool {
+    let history = source.history();
+    history.len() == words.len()
+        && history
+            .iter()
+            .zip(words)
+            .all(|(entry, word)| entry.entry.now == *word)
 }
 
 /// A table of the event word with two sources, and their seats.
@@ -221,18 +234,11 @@ fn two_sources_share_the_table(rt: HostRuntime) -> Result<(), Fail> {
     let (table, first, second) = two_seats(rt.alloc())?;
     let mut first = first.on(&table);
     let mut second = second.on(&table);
-    let mut lid = WakeSource::<60000>::new(rt.alloc(), 0);
+    let mut lid = Source::new(rt.alloc(), 0);
     let end = lid.event(&rt, &mut first, at(0), 0, true)?;
     assert_eq!(rt; end, Stamp { pos: 3, tick: 4 });
-    let mut seen = Vec::new(rt.alloc());
-    for entry in lid.history() {
-        seen.push(entry.entry.now)?;
-    }
-    assert_eq!(rt;
-        seen.as_slice(),
-        [FIRST, FIRST, word(1, 0), word(1, 1)].as_slice()
-    );
-    let mut key = WakeSource::<60000>::new(rt.alloc(), 1);
+    assert!(rt; has_seen(&lid, &[FIRST, FIRST, word(1, 0), word(1, 1)]));
+    let mut key = Source::new(rt.alloc(), 1);
     let end = key.stay_awake(&rt, &mut second, at(7))?;
     assert_eq!(rt; end, Stamp { pos: 4, tick: 2 });
     let now = first.look();
@@ -246,16 +252,23 @@ fn a_source_with_three_places_left_is_full(rt: HostRuntime) -> Result<(), Fail> 
     let mut events = PlainEvents::new();
     let mut four = WakeSource::<4>::new(rt.alloc(), 0);
     four.stay_awake(&rt, &mut events, at(0))?;
-    let mut shared = Shared {
-        rt: &rt,
-        now: FIRST,
-    };
+    let mut shared = shared_word(&rt);
     assert_eq!(rt; four.relax(&rt, &mut shared, at(0)), Err(SourceFault::Full));
     let mut five = WakeSource::<5>::new(rt.alloc(), 1);
-    five.relax(&rt, &mut shared, at(0))?;
-    five.relax(&rt, &mut shared, at(0))?;
-    assert_eq!(rt; five.relax(&rt, &mut shared, at(0)), Err(SourceFault::Full));
+    fill(&rt, &mut five, &mut shared)?;
     assert_eq!(rt; five.history().len(), 2);
+    Ok(())
+}
+
+/// Two calls, behind which a source of five places is full.
+fn fill<R: Wait + Abort>(
+    rt: &R,
+    five: &mut WakeSource<5>,
+    shared: &mut Shared<'_, R>,
+) -> Result<(), SourceFault> {
+    five.relax(rt, shared, at(0))?;
+    five.relax(rt, shared, at(0))?;
+    assert_eq!(rt; five.relax(rt, shared, at(0)), Err(SourceFault::Full));
     Ok(())
 }
 
@@ -263,7 +276,7 @@ fn a_source_with_three_places_left_is_full(rt: HostRuntime) -> Result<(), Fail> 
 #[test]
 fn a_raised_source_goes_on_above(rt: HostRuntime) -> Result<(), Fail> {
     let mut events = PlainEvents::new();
-    let mut lid = WakeSource::<60000>::new(rt.alloc(), 0);
+    let mut lid = Source::new(rt.alloc(), 0);
     assert_eq!(rt; lid.expire(&rt, &mut events, at(0))?, None);
     lid.raise(Stamp { pos: 0, tick: 8 });
     assert_eq!(rt;
