@@ -285,9 +285,7 @@ fn numbers_and_devices_are_read(rt: HostRuntime) -> Result<(), Fail> {
 }
 
 fn assert_numbers(rt: &impl Abort, machine: &Machine) {
-    assert_eq!(rt; machine.alarm_ms, 7);
-    assert_eq!(rt; machine.cpus, 4);
-    assert_eq!(rt; machine.auto_cycles, 3);
+    assert!(rt; machine.alarm_ms == 7 && machine.cpus == 4 && machine.auto_cycles == 3);
 }
 
 fn assert_devices(rt: &impl Abort, devices: &[Device]) -> Result<(), Fail> {
@@ -295,8 +293,7 @@ fn assert_devices(rt: &impl Abort, devices: &[Device]) -> Result<(), Fail> {
         return Err(Fail::from("three devices"));
     };
     for (device, parent, flags) in [(bus, None, 0u8), (usb, Some(0u32), 5), (clk, None, 2)] {
-        assert_eq!(rt; device.parent, parent);
-        assert_eq!(rt; device.flags.bits(), flags);
+        assert!(rt; device.parent == parent && device.flags.bits() == flags);
     }
     Ok(())
 }
@@ -312,9 +309,8 @@ fn assert_link(rt: &impl Abort, links: &[Link], order: &[u32]) -> Result<(), Fai
     let [link] = links else {
         return Err(Fail::from("one link"));
     };
-    assert_eq!(rt; link.supplier, 2);
-    assert_eq!(rt; link.consumer, 1);
-    assert_eq!(rt; order, [0u32, 2, 1].as_slice());
+    assert!(rt; link.supplier == 2 && link.consumer == 1);
+    assert!(rt; order == [0u32, 2, 1].as_slice());
     Ok(())
 }
 
@@ -385,11 +381,9 @@ fn assert_answers(rt: &impl Abort, answers: &[Answer]) -> Result<(), Fail> {
     let [late, core] = answers else {
         return Err(Fail::from("two answers"));
     };
-    assert_eq!(rt; late.what, What::Device(1, Phase::Late));
-    assert_eq!(rt; late.attempt, Some(2));
-    assert_eq!(rt; late.ret, -5);
-    assert_eq!(rt; core.what, What::Syscore(1));
-    assert_eq!(rt; core.ret, -16);
+    assert!(rt; late.what == What::Device(1, Phase::Late));
+    assert!(rt; late.attempt == Some(2) && late.ret == -5);
+    assert!(rt; core.what == What::Syscore(1) && core.ret == -16);
     Ok(())
 }
 
@@ -460,8 +454,7 @@ fn assert_marks(rt: &impl Abort, marks: &[Name]) -> Result<(), Fail> {
     let [first, second] = marks else {
         return Err(Fail::from("two marks"));
     };
-    assert_eq!(rt; first.bytes(), b"b".as_slice());
-    assert_eq!(rt; second.bytes(), b"a".as_slice());
+    assert!(rt; first.bytes() == b"b".as_slice() && second.bytes() == b"a".as_slice());
     Ok(())
 }
 
@@ -493,8 +486,7 @@ fn assert_writers(rt: &impl Abort, actors: &[Script]) -> Result<(), Fail> {
         return Err(Fail::from("two steps"));
     };
     assert!(rt; matches!(&wait.op, Op::Wait { mark: 0 }));
-    assert!(rt; matches!(&state.op, Op::State { if_saved: true, .. }));
-    assert_eq!(rt; state.times, 3);
+    assert!(rt; matches!(&state.op, Op::State { if_saved: true, .. }) && state.times == 3);
     let [autosleep, ..] = other.steps.as_slice() else {
         return Err(Fail::from("a step"));
     };
@@ -516,9 +508,8 @@ fn assert_reports(rt: &impl Abort, answers: &[Answer]) -> Result<(), Fail> {
     let [event, relax] = answer.reports.as_slice() else {
         return Err(Fail::from("two reports"));
     };
-    assert_eq!(rt; event.source, 1);
+    assert!(rt; event.source == 1 && relax.source == 0);
     assert!(rt; matches!(&event.call, SourceCall::Event { ms: 9, hard: true }));
-    assert_eq!(rt; relax.source, 0);
     assert!(rt; matches!(&relax.call, SourceCall::Relax));
     Ok(())
 }
