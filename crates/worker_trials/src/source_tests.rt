@@ -6,7 +6,6 @@ use event_word::{Bump, EventSeat, EventTable, Events, PlainEvents};
 use sleep_base::Mem;
 use sleep_model::{Actor, EventNow, Name, Stamp, Stats};
 use std::alloc::Global;
-use std::process::Abort;
 use std::sync::Wait;
 use std::test::Fail;
 use wakeup_source::{CallBy, SourceFault, WakeSource, stats_line};
@@ -146,23 +145,13 @@ fn staying_awake_lasts_until_relaxed(rt: HostRuntime) -> Result<(), Fail> {
 fn an_event_lasts_as_long_as_the_longest(rt: HostRuntime) -> Result<(), Fail> {
     let mut lid = Source::new(rt.alloc(), 0);
     let mut shared = shared_word(&rt);
-    last_longest(&rt, &mut lid, &mut shared)?;
-    assert_eq!(rt; lid.stats(130), stats([1, 3, 1], [0, 130, 130, 130]));
-    Ok(())
-}
-
-/// Three events, whose longest ends at 130 ms.
-fn last_longest<R: Wait + Abort>(
-    rt: &R,
-    lid: &mut Source,
-    shared: &mut Shared<'_, R>,
-) -> Result<(), SourceFault> {
-    lid.event(rt, shared, at(0), 100, false)?;
-    lid.event(rt, shared, at(50), 20, false)?;
+    lid.event(&rt, &mut shared, at(0), 100, false)?;
+    lid.event(&rt, &mut shared, at(50), 20, false)?;
     assert_eq!(rt; lid.due(), Some(100));
-    lid.event(rt, shared, at(50), 80, false)?;
-    assert_eq!(rt; lid.expire(rt, shared, at(129))?, None);
-    assert!(rt; lid.expire(rt, shared, at(130))?.is_some());
+    lid.event(&rt, &mut shared, at(50), 80, false)?;
+    assert_eq!(rt; lid.expire(&rt, &mut shared, at(129))?, None);
+    assert!(rt; lid.expire(&rt, &mut shared, at(130))?.is_some());
+    assert_eq!(rt; lid.stats(130), stats([1, 3, 1], [0, 130, 130, 130]));
     Ok(())
 }
 
@@ -255,20 +244,10 @@ fn a_source_with_three_places_left_is_full(rt: HostRuntime) -> Result<(), Fail> 
     let mut shared = shared_word(&rt);
     assert_eq!(rt; four.relax(&rt, &mut shared, at(0)), Err(SourceFault::Full));
     let mut five = WakeSource::<5>::new(rt.alloc(), 1);
-    fill(&rt, &mut five, &mut shared)?;
+    five.relax(&rt, &mut shared, at(0))?;
+    five.relax(&rt, &mut shared, at(0))?;
+    assert_eq!(rt; five.relax(&rt, &mut shared, at(0)), Err(SourceFault::Full));
     assert_eq!(rt; five.history().len(), 2);
-    Ok(())
-}
-
-/// Two calls, behind which a source of five places is full.
-fn fill<R: Wait + Abort>(
-    rt: &R,
-    five: &mut WakeSource<5>,
-    shared: &mut Shared<'_, R>,
-) -> Result<(), SourceFault> {
-    five.relax(rt, shared, at(0))?;
-    five.relax(rt, shared, at(0))?;
-    assert_eq!(rt; five.relax(rt, shared, at(0)), Err(SourceFault::Full));
     Ok(())
 }
 
