@@ -1,5 +1,3 @@
-ghost use Rattle.std.specs.Prelude.{◌≤◌};
-
 use sleep_model::{Device, DeviceFlags, Link, Machine, Name, Op, Script, TaskKind};
 use sleep_script::generate;
 use std::alloc::Global;
@@ -190,10 +188,12 @@ fn assert_twenty(rt: &impl Abort, alloc: Global, machine: &Machine) -> Result<()
 }
 
 /// How many devices, roots, async devices and links the machine of a seed has.
-fn counts(alloc: Global, seed: u64, devices: u32) -> Result<(usize, u64, usize, usize), Fail>
-    requires some { 1 ≤ devices }
-    requires few { devices ≤ 1000 }
-{
+type Counts = (usize, u64, usize, usize);
+
+fn counts(alloc: Global, seed: u64, devices: u32) -> Result<Counts, Fail> {
+    if devices < 1 || devices > 1000 {
+        return Err("1 to 1,000 devices".into());
+    }
     let machine = generate(alloc, seed, devices)?;
     let beside = asyncs(alloc, &machine)?.len();
     Ok((
@@ -204,16 +204,23 @@ fn counts(alloc: Global, seed: u64, devices: u32) -> Result<(usize, u64, usize, 
     ))
 }
 
+/// Seeds and sizes, and what their machines have.
+const COUNTED: [(u64, u32, Counts); 6] = [
+    (1, 8, (8, 3, 5, 2)),
+    (65521, 4, (4, 1, 2, 1)),
+    (2622, 25, (25, 3, 13, 3)),
+    (0, 1000, (1000, 6, 481, 125)),
+    (7, 1000, (1000, 10, 519, 127)),
+    (u64::MAX, 1000, (1000, 8, 493, 120)),
+];
+
 /// Machines of other seeds and sizes, the largest too: the counts come from the same program in
 /// another language. That of seed 2622 tries the link from its first device to its last twice.
 #[test]
 fn larger_machines_are_generated(rt: HostRuntime) -> Result<(), Fail> {
-    let alloc = rt.alloc();
-    assert_eq!(rt; counts(alloc, 1, 8)?, (8, 3, 5, 2));
-    assert_eq!(rt; counts(alloc, 65521, 4)?, (4, 1, 2, 1));
-    assert_eq!(rt; counts(alloc, 2622, 25)?, (25, 3, 13, 3));
-    assert_eq!(rt; counts(alloc, 0, 1000)?, (1000, 6, 481, 125));
-    assert_eq!(rt; counts(alloc, 7, 1000)?, (1000, 10, 519, 127));
-    assert_eq!(rt; counts(alloc, u64::MAX, 1000)?, (1000, 8, 493, 120));
+    for (seed, devices, want) in &COUNTED {
+        let found = counts(rt.alloc(), *seed, *devices)?;
+        assert!(rt; found == *want, "seed {seed}");
+    }
     Ok(())
 }

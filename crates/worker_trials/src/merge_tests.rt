@@ -4,6 +4,7 @@ use sleep_model::{
     Actor, Entry, EntryList, EventNow, JournalEntry, Kind, ListOf, SourceEntry, SourceList, Stamp,
 };
 use std::alloc::Global;
+use std::process::Abort;
 use std::test::Fail;
 
 const TASK: Actor = Actor::Script(0);
@@ -168,13 +169,17 @@ fn a_log_is_read_run_by_run(rt: HostRuntime) -> Result<(), Fail> {
         return Err("a journal that does not rise".into());
     }
     let mut reader = LogReader::new(rt.alloc(), &journal, &histories)?;
-    assert_eq!(rt; reader.remaining(), 4);
-    assert_eq!(rt; reader.run().len(), 2);
+    assert_runs(&rt, &mut reader);
+    Ok(())
+}
+
+/// Two entries of the journal, then the one of the source, then the last of the journal.
+fn assert_runs(rt: &impl Abort, reader: &mut LogReader<'_>) {
+    assert!(rt; reader.remaining() == 4 && reader.run().len() == 2);
     assert!(rt; reader.run().is_empty());
     assert!(rt; reader.next().is_some_and(|entry| entry.time == 2));
-    assert_eq!(rt; reader.run().len(), 1);
+    assert!(rt; reader.run().len() == 1);
     assert!(rt; reader.next().is_none() && reader.remaining() == 0);
-    Ok(())
 }
 
 /// A journal rises where its ticks do, and its positions do not fall, nor stay behind a step.

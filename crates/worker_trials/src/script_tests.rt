@@ -80,6 +80,34 @@ fn machine(alloc: Global, op: Op) -> Result<Machine, Fail>
     Ok(machine_with(alloc, sources, actors, answers))
 }
 
+/// What is tried of a script.
+#[derive(Clone, Copy)]
+enum Trial {
+    Setting,
+    Event,
+    Report,
+}
+
+/// Whether the script of a machine with one operation makes what is tried.
+fn is_made(alloc: Global, machine: &Machine, trial: Trial) -> Result<bool, Fail>
+    requires steps { length (all_operations machine.now.actors) ≡ 1 }
+    requires actors { length machine.now.actors ≡ 1 }
+    requires answers { length machine.now.answers ≡ 1 }
+    requires sources { length machine.now.sources ≡ 1 }
+{
+    let book = AnswerBook::new(alloc, machine.answers.as_slice())?;
+    let mut job = ScriptJob::new(alloc, machine, &book, 0)?;
+    match trial {
+        Trial::Setting => sets_autosleep(&mut job),
+        Trial::Event => makes_an_event(&mut job),
+        Trial::Report => Ok(
+            reports_an_event(&mut job)?
+                && work_reports(machine, &book)
+                && device_reports(machine, &book),
+        ),
+    }
+}
+
 /// A stamp with that tick.
 fn stamp(tick: u64) -> Stamp {
     Stamp { pos: 0, tick }
@@ -124,10 +152,11 @@ fn sets_autosleep(job: &mut ScriptJob<'_>) -> Result<bool, Fail>
     turn(job, Kind::AutoSet(State::Mem))?;
     let behind = call(job)?;
     turn(job, Kind::AutoDone)?;
-    Ok(matches!(
+    let both = matches!(
         (before, behind),
         ((1, SourceCall::Awake), (1, SourceCall::Relax))
-    ))
+    );
+    Ok(both && job.calls() == 2)
 }
 
 /// A good write to autosleep keeps the system awake while it is set, by the source behind the others.
@@ -136,10 +165,7 @@ fn calls_stand_round_a_setting_of_autosleep(rt: HostRuntime) -> Result<(), Fail>
     let alloc = rt.alloc();
     let text = Text::of_vec(b"mem".to_vec(alloc)?);
     let machine = machine(alloc, Op::Autosleep { text })?;
-    let book = AnswerBook::new(alloc, machine.answers.as_slice())?;
-    let mut job = ScriptJob::new(alloc, &machine, &book, 0)?;
-    assert!(rt; sets_autosleep(&mut job)?);
-    assert_eq!(rt; job.calls(), 2);
+    assert!(rt; is_made(alloc, &machine, Trial::Setting)?);
     Ok(())
 }
 
@@ -160,9 +186,7 @@ fn an_event_is_a_call(rt: HostRuntime) -> Result<(), Fail> {
     let alloc = rt.alloc();
     let (source, ms, hard) = (0, 50, true);
     let machine = machine(alloc, Op::Event { source, ms, hard })?;
-    let book = AnswerBook::new(alloc, machine.answers.as_slice())?;
-    let mut job = ScriptJob::new(alloc, &machine, &book, 0)?;
-    assert!(rt; makes_an_event(&mut job)?);
+    assert!(rt; is_made(alloc, &machine, Trial::Event)?);
     Ok(())
 }
 
@@ -185,10 +209,7 @@ fn reports_an_event(job: &mut ScriptJob<'_>) -> Result<bool, Fail>
 fn a_callback_reports(rt: HostRuntime) -> Result<(), Fail> {
     let alloc = rt.alloc();
     let machine = machine(alloc, Op::Read)?;
-    let book = AnswerBook::new(alloc, machine.answers.as_slice())?;
-    let mut job = ScriptJob::new(alloc, &machine, &book, 0)?;
-    assert!(rt; reports_an_event(&mut job)?);
-    assert!(rt; work_reports(&machine, &book) && device_reports(&machine, &book));
+    assert!(rt; is_made(alloc, &machine, Trial::Report)?);
     Ok(())
 }
 
