@@ -56,6 +56,19 @@ pub fn one_task(alloc: Global) -> Result<Machine, Fail> {
     ))
 }
 
+// The tasks w and b and the interrupt line k.
+fn actors(alloc: Global) -> Result<Vec<Script>, Fail> {
+    let mut actors = Vec::new(alloc);
+    for (text, kind) in [
+        ("w", TaskKind::User),
+        ("b", TaskKind::User),
+        ("k", TaskKind::Irq),
+    ] {
+        actors.push(script(alloc, text, kind)?)?;
+    }
+    Ok(actors)
+}
+
 // The device c, the source lid, the mark a, the tasks w and b and the interrupt line k.
 pub fn machine(alloc: Global) -> Result<Machine, Fail> {
     let device = Device {
@@ -63,17 +76,11 @@ pub fn machine(alloc: Global) -> Result<Machine, Fail> {
         parent: None,
         flags: DeviceFlags::WAKEUP,
     };
-    let mut actors = Vec::new(alloc);
-    actors.push(script(alloc, "w", TaskKind::User)?)?;
-    actors.push(script(alloc, "b", TaskKind::User)?)?;
-    actors.push(script(alloc, "k", TaskKind::Irq)?)?;
-    Ok(machine_of(
-        alloc,
-        vec![in alloc; device]?,
-        vec![in alloc; name("lid")?]?,
-        vec![in alloc; name("a")?]?,
-        actors,
-    ))
+    let actors = actors(alloc)?;
+    let devices = vec![in alloc; device]?;
+    let sources = vec![in alloc; name("lid")?]?;
+    let marks = vec![in alloc; name("a")?]?;
+    Ok(machine_of(alloc, devices, sources, marks, actors))
 }
 
 const TASK: Actor = Actor::Script(0);
@@ -94,106 +101,172 @@ fn made(time: u64, count: u32, actor: Actor, kind: Kind) -> Entry {
     }
 }
 
+// An entry by its moment, the events that are registered, its actor and its kind, and its line.
+type Row = (u64, u32, Actor, Kind, &'static str);
+
+// The text of an entry alone.
+fn line_of(alloc: Global, machine: &Machine, entry: Entry) -> Result<Vec<u8>, Fail> {
+    let mut entries = EntryList::new(alloc);
+    entries.push(entry)?;
+    let log = Log {
+        entries,
+        stats: ListOf::of_vec(Vec::new(alloc)),
+        end: LogEnd::Stuck(ListOf::of_vec(Vec::new(alloc))),
+    };
+    Ok(write_log(alloc, machine, &log)?)
+}
+
 // Each entry alone makes its line.
-fn assert_lines(rt: &impl Abort, alloc: Global, rows: &[(Entry, &str)]) -> Result<(), Fail> {
-    let machine = machine(alloc)?;
-    for (entry, line) in rows {
-        let mut entries = EntryList::new(alloc);
-        entries.push(*entry)?;
-        let log = Log {
-            entries,
-            stats: ListOf::of_vec(Vec::new(alloc)),
-            end: LogEnd::Stuck(ListOf::of_vec(Vec::new(alloc))),
-        };
-        let text = write_log(alloc, &machine, &log)?;
+fn assert_lines(
+    rt: &impl Abort,
+    alloc: Global,
+    machine: &Machine,
+    rows: &[Row],
+) -> Result<(), Fail> {
+    for (time, count, actor, kind, line) in rows {
+        let text = line_of(alloc, machine, made(*time, *count, *actor, *kind))?;
         assert_eq!(rt; text.as_slice(), line.as_bytes(), "at {line}");
     }
     Ok(())
 }
 
+const EVENT: Kind = Kind::Event {
+    source: 0,
+    ms: 0,
+    hard: false,
+};
+
+const OF_TASKS: [Row; 9] = [
+    (0, 0, TASK, Kind::Read(0), "0 0/0/0 task:w read 0\n"),
+    (0, 0, TASK, Kind::Saved(0), "0 0/0/0 task:w save 0 ok\n"),
+    (
+        0,
+        1,
+        TASK,
+        Kind::SaveErr(0, Errno::EINVAL),
+        "0 0/1/0 task:w save 0 EINVAL\n",
+    ),
+    (0, 0, IRQ, EVENT, "0 0/0/0 irq:k event lid 0 soft\n"),
+    (
+        0,
+        0,
+        Actor::Auto,
+        Kind::AutoAfter(None),
+        "0 0/0/0 auto after busy\n",
+    ),
+    (
+        0,
+        0,
+        Actor::Dev(0),
+        Kind::Begin(Phase::Suspend, 0),
+        "0 0/0/0 dev:c begin suspend c\n",
+    ),
+    (
+        0,
+        0,
+        Actor::Timer(0),
+        Kind::Expire(0),
+        "0 0/0/0 timer:lid expire lid\n",
+    ),
+    (
+        0,
+        0,
+        Actor::Timer(1),
+        Kind::Expire(1),
+        "0 0/0/0 timer:autosleep expire autosleep\n",
+    ),
+    (1000, 0, Actor::Time, Kind::Jump, "1000 0/0/0 time jump\n"),
+];
+
 #[test]
 fn writes_steps_of_tasks(rt: HostRuntime) -> Result<(), Fail> {
-    let read = Kind::Read(0);
-    let saved = Kind::Saved(0);
-    let refused = Kind::SaveErr(0, Errno::EINVAL);
-    let source = 0;
-    let (ms, hard) = (0, false);
-    let event = Kind::Event { source, ms, hard };
-    let again = Kind::AutoAfter(None);
-    let begin = Kind::Begin(Phase::Suspend, 0);
-    let expire = Kind::Expire(0);
-    let rows = [
-        (made(0, 0, TASK, read), "0 0/0/0 task:w read 0\n"),
-        (made(0, 0, TASK, saved), "0 0/0/0 task:w save 0 ok\n"),
-        (made(0, 1, TASK, refused), "0 0/1/0 task:w save 0 EINVAL\n"),
-        (made(0, 0, IRQ, event), "0 0/0/0 irq:k event lid 0 soft\n"),
-        (made(0, 0, Actor::Auto, again), "0 0/0/0 auto after busy\n"),
-        (
-            made(0, 0, Actor::Dev(0), begin),
-            "0 0/0/0 dev:c begin suspend c\n",
-        ),
-        (
-            made(0, 0, Actor::Timer(0), expire),
-            "0 0/0/0 timer:lid expire lid\n",
-        ),
-        (
-            made(0, 0, Actor::Timer(1), Kind::Expire(1)),
-            "0 0/0/0 timer:autosleep expire autosleep\n",
-        ),
-        (
-            made(1000, 0, Actor::Time, Kind::Jump),
-            "1000 0/0/0 time jump\n",
-        ),
-    ];
-    assert_lines(&rt, rt.alloc(), &rows)
+    let machine = machine(rt.alloc())?;
+    assert_lines(&rt, rt.alloc(), &machine, &OF_TASKS)
 }
+
+const SKIP: Kind = Kind::Skip(Phase::Suspend, 0, SkipCause::Pending);
+
+const OF_PHASES: [Row; 4] = [
+    (
+        0,
+        0,
+        TASK,
+        Kind::Begin(Phase::Suspend, 0),
+        "0 0/0/0 task:w begin suspend c\n",
+    ),
+    (
+        0,
+        0,
+        TASK,
+        Kind::End(Phase::Suspend, 0, None),
+        "0 0/0/0 task:w end suspend c 0\n",
+    ),
+    (0, 1, TASK, SKIP, "0 0/1/0 task:w skip suspend c pending\n"),
+    (
+        0,
+        1,
+        TASK,
+        Kind::Done(Phase::Suspend, Some(Errno::EBUSY)),
+        "0 0/1/0 task:w done suspend EBUSY\n",
+    ),
+];
 
 #[test]
 fn writes_steps_of_phases(rt: HostRuntime) -> Result<(), Fail> {
-    let begin = Kind::Begin(Phase::Suspend, 0);
-    let end = Kind::End(Phase::Suspend, 0, None);
-    let skip = Kind::Skip(Phase::Suspend, 0, SkipCause::Pending);
-    let done = Kind::Done(Phase::Suspend, Some(Errno::EBUSY));
-    let rows = [
-        (made(0, 0, TASK, begin), "0 0/0/0 task:w begin suspend c\n"),
-        (made(0, 0, TASK, end), "0 0/0/0 task:w end suspend c 0\n"),
-        (
-            made(0, 1, TASK, skip),
-            "0 0/1/0 task:w skip suspend c pending\n",
-        ),
-        (
-            made(0, 1, TASK, done),
-            "0 0/1/0 task:w done suspend EBUSY\n",
-        ),
-    ];
-    assert_lines(&rt, rt.alloc(), &rows)
+    let machine = machine(rt.alloc())?;
+    assert_lines(&rt, rt.alloc(), &machine, &OF_PHASES)
 }
+
+const ATTEMPT: Kind = Kind::Attempt {
+    n: 1,
+    guarded: Some(0),
+};
+
+const TIMEOUT: FrozeEnd = FrozeEnd::Timeout { left: 1, first: 1 };
+
+const OF_ATTEMPTS: [Row; 6] = [
+    (0, 0, TASK, ATTEMPT, "0 0/0/0 task:w attempt 1 guarded 0\n"),
+    (
+        0,
+        0,
+        TASK,
+        Kind::Enter { busy: false },
+        "0 0/0/0 task:w enter\n",
+    ),
+    (
+        0,
+        1,
+        TASK,
+        Kind::Enter { busy: true },
+        "0 0/1/0 task:w enter EBUSY\n",
+    ),
+    (
+        1000,
+        0,
+        TASK,
+        Kind::Wake { by_event: false },
+        "1000 0/0/0 task:w wake alarm\n",
+    ),
+    (
+        1000,
+        0,
+        TASK,
+        Kind::Over { n: 1, r: None },
+        "1000 0/0/0 task:w over 1 0\n",
+    ),
+    (
+        20000,
+        0,
+        TASK,
+        Kind::Froze(Group::User, TIMEOUT),
+        "20000 0/0/0 task:w froze user EBUSY timeout 1 b\n",
+    ),
+];
 
 #[test]
 fn writes_steps_of_attempts(rt: HostRuntime) -> Result<(), Fail> {
-    let guarded = Some(0);
-    let attempt = Kind::Attempt { n: 1, guarded };
-    let timeout = FrozeEnd::Timeout { left: 1, first: 1 };
-    let froze = Kind::Froze(Group::User, timeout);
-    let enter = Kind::Enter { busy: false };
-    let busy = Kind::Enter { busy: true };
-    let wake = Kind::Wake { by_event: false };
-    let over = Kind::Over { n: 1, r: None };
-    let rows = [
-        (
-            made(0, 0, TASK, attempt),
-            "0 0/0/0 task:w attempt 1 guarded 0\n",
-        ),
-        (made(0, 0, TASK, enter), "0 0/0/0 task:w enter\n"),
-        (made(0, 1, TASK, busy), "0 0/1/0 task:w enter EBUSY\n"),
-        (made(1000, 0, TASK, wake), "1000 0/0/0 task:w wake alarm\n"),
-        (made(1000, 0, TASK, over), "1000 0/0/0 task:w over 1 0\n"),
-        (
-            made(20000, 0, TASK, froze),
-            "20000 0/0/0 task:w froze user EBUSY timeout 1 b\n",
-        ),
-    ];
-    assert_lines(&rt, rt.alloc(), &rows)
+    let machine = machine(rt.alloc())?;
+    assert_lines(&rt, rt.alloc(), &machine, &OF_ATTEMPTS)
 }
 
 fn stats(count: u32, ms: u64) -> Stats {
@@ -208,16 +281,21 @@ fn stats(count: u32, ms: u64) -> Stats {
     }
 }
 
+// The text of a log of no entry.
+fn text_behind(alloc: Global, stats: Vec<Stats>, end: LogEnd) -> Result<Vec<u8>, Fail> {
+    let machine = machine(alloc)?;
+    let log = Log {
+        entries: EntryList::new(alloc),
+        stats: ListOf::of_vec(stats),
+        end,
+    };
+    Ok(write_log(alloc, &machine, &log)?)
+}
+
 #[test]
 fn writes_sources_and_end(rt: HostRuntime) -> Result<(), Fail> {
-    let alloc = rt.alloc();
-    let machine = machine(alloc)?;
-    let finished = Log {
-        entries: EntryList::new(alloc),
-        stats: ListOf::of_vec(vec![in alloc; stats(1, 50), stats(0, 0)]?),
-        end: LogEnd::Finished,
-    };
-    let text = write_log(alloc, &machine, &finished)?;
+    let stats = vec![in rt.alloc(); stats(1, 50), stats(0, 0)]?;
+    let text = text_behind(rt.alloc(), stats, LogEnd::Finished)?;
     let lines = b"source lid 1 1 0 0 50 50 50\nsource autosleep 0 0 0 0 0 0 0\nfinished\n";
     assert_eq!(rt; text.as_slice(), lines.as_slice());
     Ok(())
@@ -225,19 +303,13 @@ fn writes_sources_and_end(rt: HostRuntime) -> Result<(), Fail> {
 
 #[test]
 fn writes_who_is_stuck(rt: HostRuntime) -> Result<(), Fail> {
-    let alloc = rt.alloc();
-    let machine = machine(alloc)?;
     let actor = TASK;
     let why = Why::Mark(0);
     let mark = Waiting { actor, why };
     let why = Why::InProgress;
     let read = Waiting { actor, why };
-    let stuck = Log {
-        entries: EntryList::new(alloc),
-        stats: ListOf::of_vec(Vec::new(alloc)),
-        end: LogEnd::Stuck(ListOf::of_vec(vec![in alloc; mark, read]?)),
-    };
-    let text = write_log(alloc, &machine, &stuck)?;
+    let stuck = LogEnd::Stuck(ListOf::of_vec(vec![in rt.alloc(); mark, read]?));
+    let text = text_behind(rt.alloc(), Vec::new(rt.alloc()), stuck)?;
     let lines = b"stuck task:w mark a\nstuck task:w read\n";
     assert_eq!(rt; text.as_slice(), lines.as_slice());
     Ok(())

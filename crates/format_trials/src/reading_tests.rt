@@ -94,48 +94,56 @@ fn names_the_line_that_is_missing(rt: HostRuntime) -> Result<(), Fail> {
 }
 
 // That the text's first bad line is that one.
-fn assert_bad(rt: &impl Abort, alloc: Global, rows: &[(&str, u32)]) -> Result<(), Fail> {
-    let machine = machine(alloc)?;
+fn assert_bad(
+    rt: &impl Abort,
+    alloc: Global,
+    machine: &Machine,
+    rows: &[(&str, u32)],
+) -> Result<(), LogFault> {
     for (text, line) in rows {
-        let bad = bad_line(alloc, &machine, text)?;
+        let bad = bad_line(alloc, machine, text)?;
         assert_eq!(rt; bad, *line, "at {text}");
     }
     Ok(())
 }
 
+const BAD_ENTRIES: [(&str, u32); 8] = [
+    ("00 0/0/0 task:w exit\n", 1),
+    ("0 0/01/0 task:w exit\n", 1),
+    ("0 0/4294967296/0 task:w exit\n", 1),
+    ("18446744073709551616 0/0/0 task:w exit\n", 1),
+    ("0 0/0/0 task:x exit\n", 1),
+    ("0 0/0/0 irq:w exit\n", 1),
+    ("0 0/0/0 task:w exit \n", 1),
+    ("0 0/0/0 task:w exit\n0 0/0/0 task:w post b\n", 2),
+];
+
 #[test]
 fn names_the_first_bad_entry(rt: HostRuntime) -> Result<(), Fail> {
-    let rows = [
-        ("00 0/0/0 task:w exit\n", 1),
-        ("0 0/01/0 task:w exit\n", 1),
-        ("0 0/4294967296/0 task:w exit\n", 1),
-        ("18446744073709551616 0/0/0 task:w exit\n", 1),
-        ("0 0/0/0 task:x exit\n", 1),
-        ("0 0/0/0 irq:w exit\n", 1),
-        ("0 0/0/0 task:w exit \n", 1),
-        ("0 0/0/0 task:w exit\n0 0/0/0 task:w post b\n", 2),
-    ];
-    assert_bad(&rt, rt.alloc(), &rows)
+    let machine = machine(rt.alloc())?;
+    Ok(assert_bad(&rt, rt.alloc(), &machine, &BAD_ENTRIES)?)
 }
+
+const BAD_BEHIND: [(&str, u32); 6] = [
+    ("", 1),
+    ("source autosleep 0 0 0 0 0 0 0\n", 1),
+    ("source lid 0 0 0 0 0 0 0\nfinished\n", 2),
+    (
+        "source lid 0 0 0 0 0 0 0\nsource autosleep 0 0 0 0 0 0 0\nfinished",
+        3,
+    ),
+    (
+        "source lid 0 0 0 0 0 0 0\nsource autosleep 0 0 0 0 0 0 0\nfinished\n\n",
+        4,
+    ),
+    (
+        "source lid 0 0 0 0 0 0 0\nsource autosleep 0 0 0 0 0 0 0\nstuck task:w read\nfinished\n",
+        4,
+    ),
+];
 
 #[test]
 fn names_the_first_bad_line_behind_the_entries(rt: HostRuntime) -> Result<(), Fail> {
-    let rows = [
-        ("", 1),
-        ("source autosleep 0 0 0 0 0 0 0\n", 1),
-        ("source lid 0 0 0 0 0 0 0\nfinished\n", 2),
-        (
-            "source lid 0 0 0 0 0 0 0\nsource autosleep 0 0 0 0 0 0 0\nfinished",
-            3,
-        ),
-        (
-            "source lid 0 0 0 0 0 0 0\nsource autosleep 0 0 0 0 0 0 0\nfinished\n\n",
-            4,
-        ),
-        (
-            "source lid 0 0 0 0 0 0 0\nsource autosleep 0 0 0 0 0 0 0\nstuck task:w read\nfinished\n",
-            4,
-        ),
-    ];
-    assert_bad(&rt, rt.alloc(), &rows)
+    let machine = machine(rt.alloc())?;
+    Ok(assert_bad(&rt, rt.alloc(), &machine, &BAD_BEHIND)?)
 }

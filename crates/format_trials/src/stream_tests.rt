@@ -44,15 +44,20 @@ fn lines(alloc: Global, many: u32) -> Result<Vec<u8>, Fail> {
     Ok(text)
 }
 
+// Writes a log of many jumps to the sink. Answers whether it was written whole.
+fn write_jumps(alloc: Global, sink: &mut MemSink) -> Result<bool, Fail> {
+    let machine = one_task(alloc)?;
+    let log = jumps(alloc, MANY)?;
+    let text = LogText::new(alloc, &machine, &log)?;
+    Ok(text.write_to(sink).is_ok())
+}
+
 /// A log that is longer than what is held at once is written whole, piece by piece.
 #[test]
 fn a_long_log_is_written_whole(rt: HostRuntime) -> Result<(), Fail> {
     let alloc = rt.alloc();
-    let machine = one_task(alloc)?;
-    let log = jumps(alloc, MANY)?;
-    let text = LogText::new(alloc, &machine, &log)?;
     let mut sink = MemSink::new(alloc, 40_000, 40_000, Vec::new(alloc))?;
-    assert!(rt; text.write_to(&mut sink).is_ok());
+    assert!(rt; write_jumps(alloc, &mut sink)?);
     assert_eq!(rt; sink.bytes(), lines(alloc, MANY)?.as_slice());
     Ok(())
 }
@@ -61,12 +66,9 @@ fn a_long_log_is_written_whole(rt: HostRuntime) -> Result<(), Fail> {
 #[test]
 fn a_write_that_fails_leaves_a_front(rt: HostRuntime) -> Result<(), Fail> {
     let alloc = rt.alloc();
-    let machine = one_task(alloc)?;
-    let log = jumps(alloc, MANY)?;
-    let text = LogText::new(alloc, &machine, &log)?;
     let fails = vec![in alloc; 2]?;
     let mut sink = MemSink::new(alloc, 40_000, 40_000, fails)?;
-    assert!(rt; text.write_to(&mut sink).is_err());
+    assert!(rt; !write_jumps(alloc, &mut sink)?);
     assert_eq!(rt; sink.faults(), 1);
     assert!(rt; !sink.bytes().is_empty());
     assert!(rt; lines(alloc, MANY)?.as_slice().starts_with(sink.bytes()));

@@ -7,10 +7,6 @@ mod merged;
 mod order;
 mod reader;
 mod sources;
-#[cfg(test)]
-mod tests;
-#[cfg(test)]
-mod thread_tests;
 
 pub use journal::rises;
 pub use merged::merge;

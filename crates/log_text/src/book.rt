@@ -42,13 +42,8 @@ impl<'a> NameBook<'a> {
         ensures { IfOk result (λ b. b ≡ machine.now) }
     {
         let names = ReadyNames::new(alloc, machine)?;
-        let devices = NameIndex::new(alloc, names_of_devices(alloc, machine.devices.as_slice())?)?;
-        let syscore = NameIndex::new(alloc, Vec::from_slice(alloc, machine.syscore.as_slice())?)?;
-        let notifiers = names_of_notifiers(alloc, machine.notifiers.as_slice())?;
-        let notifiers = NameIndex::new(alloc, notifiers)?;
-        let sources = NameIndex::new(alloc, names_of_sources(alloc, machine.sources.as_slice())?)?;
-        let marks = NameIndex::new(alloc, Vec::from_slice(alloc, machine.marks.as_slice())?)?;
-        let scripts = NameIndex::new(alloc, names_of_scripts(alloc, machine.actors.as_slice())?)?;
+        let (devices, syscore, notifiers) = index_of_things(alloc, machine)?;
+        let (sources, marks, scripts) = index_of_tasks(alloc, machine)?;
         Ok(NameBook {
             names,
             devices,
@@ -121,4 +116,36 @@ impl<'a> NameBook<'a> {
     {
         self.scripts.find(word)
     }
+}
+
+ghost use Rattle.std.specs.Prelude.{◌≡◌, IfOk};
+ghost use Rattle.sleep_model.specs.Text.{source_names};
+ghost use Rattle.log_text.specs.Named.{device_names, notifier_names, script_names};
+
+/// Names of three kinds of things.
+type ThreeIndexes = (NameIndex, NameIndex, NameIndex);
+
+/// The devices, the syscore steps and the notifiers by their names.
+fn index_of_things(alloc: Global, machine: &Machine) -> Result<ThreeIndexes, Mem>
+    ensures devices { IfOk result (λ t. t.0.places ≡ device_names machine.now) }
+    ensures syscore { IfOk result (λ t. t.1.places ≡ machine.now.syscore) }
+    ensures notifiers { IfOk result (λ t. t.2.places ≡ notifier_names machine.now) }
+{
+    let devices = NameIndex::new(alloc, names_of_devices(alloc, machine.devices.as_slice())?)?;
+    let syscore = NameIndex::new(alloc, Vec::from_slice(alloc, machine.syscore.as_slice())?)?;
+    let notifiers = names_of_notifiers(alloc, machine.notifiers.as_slice())?;
+    let notifiers = NameIndex::new(alloc, notifiers)?;
+    Ok((devices, syscore, notifiers))
+}
+
+/// The sources, the marks and the scripts by their names.
+fn index_of_tasks(alloc: Global, machine: &Machine) -> Result<ThreeIndexes, Mem>
+    ensures sources { IfOk result (λ t. t.0.places ≡ source_names machine.now) }
+    ensures marks { IfOk result (λ t. t.1.places ≡ machine.now.marks) }
+    ensures scripts { IfOk result (λ t. t.2.places ≡ script_names machine.now) }
+{
+    let sources = NameIndex::new(alloc, names_of_sources(alloc, machine.sources.as_slice())?)?;
+    let marks = NameIndex::new(alloc, Vec::from_slice(alloc, machine.marks.as_slice())?)?;
+    let scripts = NameIndex::new(alloc, names_of_scripts(alloc, machine.actors.as_slice())?)?;
+    Ok((sources, marks, scripts))
 }

@@ -2,7 +2,10 @@
 
 ghost use Rattle.std.specs.Prelude.{◌≡◌, ◌≤◌, ◌++◌, [], ℕ, IfOk, length, slice_get, codes};
 ghost use Rattle.std.specs.Option.{ForSome};
-ghost use Rattle.sleep_model.specs.Text.{device_name, name_in, script_text, space};
+ghost use Rattle.sleep_model.specs.declared.entry.Actor.TheVariants as actor;
+ghost use Rattle.sleep_model.specs.Text.{device_name, name_in, script_text, source_names, space};
+ghost use Rattle.log_text.specs.Front.{maker_text};
+ghost use Rattle.log_text.specs.Named.{device_names, notifier_names, script_names};
 
 use crate::names::{names_of_devices, names_of_notifiers, names_of_scripts, names_of_sources};
 use crate::short::ShortText;
@@ -52,18 +55,9 @@ impl<'a> ReadyNames<'a> {
     pub fn new(alloc: Global, machine: &'a Machine) -> Result<Self, Mem>
         ensures { IfOk result (λ r. r ≡ machine.now) }
     {
-        let makers = device_makers(alloc, machine.devices.as_slice())?;
-        let scripts = script_makers(alloc, machine.actors.as_slice())?;
-        let devices = names_of_devices(alloc, machine.devices.as_slice())?;
-        let devices = name_texts(alloc, devices.as_slice())?;
-        let syscore = name_texts(alloc, machine.syscore.as_slice())?;
-        let notifiers = names_of_notifiers(alloc, machine.notifiers.as_slice())?;
-        let notifiers = name_texts(alloc, notifiers.as_slice())?;
-        let sources = names_of_sources(alloc, machine.sources.as_slice())?;
-        let sources = name_texts(alloc, sources.as_slice())?;
-        let marks = name_texts(alloc, machine.marks.as_slice())?;
-        let tasks = names_of_scripts(alloc, machine.actors.as_slice())?;
-        let tasks = name_texts(alloc, tasks.as_slice())?;
+        let (makers, scripts) = makers_of(alloc, machine)?;
+        let (devices, syscore, notifiers) = texts_of_things(alloc, machine)?;
+        let (sources, marks, tasks) = texts_of_tasks(alloc, machine)?;
         Ok(ReadyNames {
             machine,
             none: ShortText::of(b""),
@@ -144,6 +138,9 @@ impl<'a> ReadyNames<'a> {
     }
 }
 
+/// Names of three kinds of things.
+type ThreeTexts = (Vec<ShortText>, Vec<ShortText>, Vec<ShortText>);
+
 /// The text with that number, the given one past the end.
 #[inline(always)]
 fn name_at<'a>(names: &'a [ShortText], none: &'a ShortText, index: u32) -> &'a ShortText
@@ -171,6 +168,34 @@ fn name_texts(alloc: Global, names: &[Name]) -> Result<Vec<ShortText>, Mem>
     Ok(texts)
 }
 
+/// The names of the devices, of the syscore steps and of the notifiers.
+fn texts_of_things(alloc: Global, machine: &Machine) -> Result<ThreeTexts, Mem>
+    ensures devices { IfOk result (λ t. t.0.items ≡ device_names machine.now) }
+    ensures syscore { IfOk result (λ t. t.1.items ≡ machine.now.syscore) }
+    ensures notifiers { IfOk result (λ t. t.2.items ≡ notifier_names machine.now) }
+{
+    let devices = names_of_devices(alloc, machine.devices.as_slice())?;
+    let devices = name_texts(alloc, devices.as_slice())?;
+    let syscore = name_texts(alloc, machine.syscore.as_slice())?;
+    let notifiers = names_of_notifiers(alloc, machine.notifiers.as_slice())?;
+    let notifiers = name_texts(alloc, notifiers.as_slice())?;
+    Ok((devices, syscore, notifiers))
+}
+
+/// The names of the sources, of the marks and of the tasks.
+fn texts_of_tasks(alloc: Global, machine: &Machine) -> Result<ThreeTexts, Mem>
+    ensures sources { IfOk result (λ t. t.0.items ≡ source_names machine.now) }
+    ensures marks { IfOk result (λ t. t.1.items ≡ machine.now.marks) }
+    ensures tasks { IfOk result (λ t. t.2.items ≡ script_names machine.now) }
+{
+    let sources = names_of_sources(alloc, machine.sources.as_slice())?;
+    let sources = name_texts(alloc, sources.as_slice())?;
+    let marks = name_texts(alloc, machine.marks.as_slice())?;
+    let tasks = names_of_scripts(alloc, machine.actors.as_slice())?;
+    let tasks = name_texts(alloc, tasks.as_slice())?;
+    Ok((sources, marks, tasks))
+}
+
 /// Who makes an entry, of that kind and that name, with the space behind it.
 fn maker(kind: &[u8], name: &[u8]) -> ShortText
     requires kind { length kind.now ≤ 5 }
@@ -181,6 +206,16 @@ fn maker(kind: &[u8], name: &[u8]) -> ShortText
     text.push(name);
     text.push(b" ");
     text
+}
+
+/// Devices and scripts as who makes an entry.
+fn makers_of(alloc: Global, machine: &Machine) -> Result<(Vec<ShortText>, Vec<ShortText>), Mem>
+    ensures makers { IfOk result (λ t. (i : ℕ) → ForSome (slice_get t.0.items i) (λ t. t ≡ maker_text machine.now (actor.Dev i))) }
+    ensures scripts { IfOk result (λ t. (i : ℕ) → ForSome (slice_get t.1.items i) (λ t. t ≡ maker_text machine.now (actor.Script i))) }
+{
+    let makers = device_makers(alloc, machine.devices.as_slice())?;
+    let scripts = script_makers(alloc, machine.actors.as_slice())?;
+    Ok((makers, scripts))
 }
 
 /// Devices as who makes an entry. `Mem` also where a name has more bytes than a name may have.

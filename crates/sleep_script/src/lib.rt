@@ -6,13 +6,9 @@ mod auto;
 mod device;
 mod draws;
 mod generator;
-#[cfg(test)]
-mod generator_tests;
 mod job;
 mod kinds;
 mod script;
-#[cfg(test)]
-mod tests;
 mod timer;
 
 pub use auto::AutoJob;

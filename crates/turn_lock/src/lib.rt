@@ -4,15 +4,9 @@
 
 mod booked;
 mod closing;
-#[cfg(test)]
-mod list_tests;
 mod opening;
 mod plays;
 mod table;
-#[cfg(test)]
-mod tests;
-#[cfg(test)]
-mod thread_tests;
 mod view;
 
 pub use booked::Booked;

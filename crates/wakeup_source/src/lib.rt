@@ -11,8 +11,6 @@ mod places;
 mod source;
 mod steps;
 mod tally;
-#[cfg(test)]
-mod tests;
 
 pub use call_by::CallBy;
 pub use fault::SourceFault;

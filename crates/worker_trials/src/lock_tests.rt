@@ -1,0 +1,109 @@
+ghost use Rattle.std.specs.Prelude.{◌≡◌, ◌≤◌, ◌++◌, [], ◌∷◌, IfOk, true, false, length, vec_len};
+ghost use Rattle.turn_lock.specs.Passes.{IsPass, AreAll, first_of};
+ghost use Rattle.turn_lock.specs.Passing.{tokens};
+
+use std::alloc::{AllocError, Global};
+use std::sync::atomic::{AtomicU64, Ordering};
+use std::sync::{Barrier, Wait};
+use std::test::Fail;
+use std::thread;
+use std::thread::Threads;
+use turn_lock::{Booked, Desk, LockTable, Pass, close_locks, give, take};
+
+/// An object of the tests: numbers, one behind another.
+#[derive(Drop)]
+pub(crate) struct Journal {
+    pub notes: Vec<u32>,
+}
+
+impl Booked for Journal {
+    ghost use Rattle.std.specs.Prelude.{List};
+
+    type Item = u32;
+
+    ghost Root = { Unit {0} };
+
+    ghost root = { λ _. tt };
+
+    ghost entries = { λ j. j.notes.items };
+}
+
+impl Journal {
+    /// Adds a number, where there is memory. Answers whether there was.
+    pub(crate) fn note(&mut self, x: u32) -> bool
+        ensures added { result ≡ true → self.new.notes.items ≡ self.old.notes.items ++ x ∷ [] }
+        ensures kept { result ≡ false → self.new.notes.items ≡ self.old.notes.items }
+    {
+        if self.notes.reserve(1).is_err() {
+            return false;
+        }
+        self.notes.push_reserved(x);
+        true
+    }
+}
+
+/// So many empty objects.
+pub(crate) fn objects(alloc: Global, count: usize) -> Result<Vec<Journal>, AllocError>
+    ensures { IfOk result (λ values. vec_len values ≡ count) }
+{
+    let mut values = Vec::new(alloc);
+    for _ in 0..count {
+        values.push(Journal {
+            notes: Vec::new(alloc),
+        })?;
+    }
+    Ok(values)
+}
+
+/// The values come back, as many as they were.
+#[test]
+fn a_table_is_closed(rt: HostRuntime) -> Result<(), Fail> {
+    let (locks, passes) = LockTable::new(rt.alloc(), objects(rt.alloc(), 3)?, 2)?;
+    let values = close_locks(rt.alloc(), locks, passes)?;
+    assert_eq!(rt; values.len(), 3);
+    Ok(())
+}
+
+/// Takes one of two objects, and waits with it for another worker that holds the other one.
+fn meet<R: Wait>(
+    rt: &R,
+    desk: &Desk<Journal, u32>,
+    pass: Pass<Journal>,
+    next: &AtomicU64,
+    both: &Barrier,
+) -> bool
+    requires pass { IsPass desk.now.shared.table_id (first_of pass.token) pass.token }
+    requires object { 2 ≤ length (first_of pass.token) }
+{
+    let object = next.fetch_add(1, Ordering::SeqCst) % 2;
+    let held = take(desk, rt, pass, object as usize);
+    both.wait(rt);
+    let _pass = give(desk, held);
+    true
+}
+
+/// Two workers, each with an object.
+fn meeting<R: Threads + Wait + Sync>(
+    rt: &R,
+    locks: &LockTable<Journal>,
+    passes: Vec<Pass<Journal>>,
+) -> Result<usize, AllocError>
+    requires passes { AreAll locks.now.own (tokens passes.items) }
+    requires object { 2 ≤ length (first_of locks.now.own) }
+{
+    let desk = &locks.desk;
+    let next = AtomicU64::new(0);
+    let both = Barrier::new(2);
+    let one = |pass: Pass<Journal>| -> bool
+        requires { IsPass desk.now.shared.table_id (first_of pass.token) pass.token × (2 ≤ length (first_of pass.token)) }
+    { meet(rt, desk, pass, &next, &both) };
+    Ok(thread::map_vec(rt, passes, &one)?.len())
+}
+
+/// Two workers hold an object each at the same time.
+#[test]
+fn two_workers_overlap(rt: HostRuntime) -> Result<(), Fail> {
+    let (locks, passes) = LockTable::new(rt.alloc(), objects(rt.alloc(), 2)?, 2)?;
+    assert_eq!(rt; meeting(&rt, &locks, passes)?, 2);
+    Ok(())
+}

@@ -1,0 +1,138 @@
+ghost use Rattle.std.specs.Prelude.{◌≡◌, ◌≤◌, [], map, length, IfOk};
+ghost use Rattle.turn_lock.specs.Passes.{IsPass, AreAll, AreNew, first_of, made_of, number_of};
+ghost use Rattle.turn_lock.specs.Passing.{tokens};
+
+use crate::list_tests::Worker;
+use crate::lock_tests::{Journal, objects};
+use std::alloc::{AllocError, Global};
+use std::sync::Wait;
+use std::test::Fail;
+use std::thread::Threads;
+use std::{mem, thread};
+use turn_lock::{Desk, LockTable, Made, Pass, close_locks};
+
+/// What stands in place of an entry that was struck out; no worker adds it.
+const STRUCK: u32 = u32::MAX;
+
+/// All turns of one worker, which takes the two objects in turn and adds a number to each.
+fn work<R: Wait>(
+    rt: &R,
+    alloc: Global,
+    desk: &Desk<Journal, u32>,
+    pass: Pass<Journal>,
+    turns: u32,
+) -> Worker
+    requires pass { IsPass desk.now.shared.table_id (first_of pass.token) pass.token }
+    requires new { made_of pass.token ≡ [] }
+    requires objects { 2 ≤ length (first_of pass.token) }
+    ensures pass { IsPass desk.now.shared.table_id (first_of pass.token) result.pass.token }
+    ensures number { number_of result.pass.token ≡ number_of pass.token }
+{
+    let mut worker = Worker::new(alloc, pass);
+    for i in 0..turns {
+        worker = worker.take(rt, desk, (i % 2) as usize).note(i).give(desk);
+    }
+    worker
+}
+
+/// All workers, each in a thread of its own.
+fn burst<R: Threads + Wait + Sync>(
+    rt: &R,
+    alloc: Global,
+    locks: &LockTable<Journal>,
+    passes: Vec<Pass<Journal>>,
+    turns: u32,
+) -> Result<Vec<Worker>, AllocError>
+    requires passes { AreNew locks.now.own (tokens passes.items) }
+    requires objects { 2 ≤ length (first_of locks.now.own) }
+    ensures { IfOk result (λ workers. AreAll locks.now.own (tokens (map (λ w. w.pass) workers.items))) }
+{
+    let desk = &locks.desk;
+    let one = |pass: Pass<Journal>| -> Worker
+        requires { IsPass desk.now.shared.table_id (first_of pass.token) pass.token × (made_of pass.token ≡ []) × (2 ≤ length (first_of pass.token)) }
+        ensures { IsPass desk.entry.now.shared.table_id (first_of pass.token) result.pass.token × (number_of result.pass.token ≡ number_of pass.token) }
+    { work(rt, alloc, desk, pass, turns) };
+    let workers = thread::map_vec(rt, passes, &one)?;
+    Ok(workers)
+}
+
+/// The passes of all workers, in order, and their lists.
+fn parted(
+    alloc: Global,
+    workers: Vec<Worker>,
+) -> Result<(Vec<Pass<Journal>>, Vec<Vec<Made<u32>>>), AllocError>
+    ensures passes { IfOk result (λ parts. parts.0.items ≡ map (λ w. w.pass) workers.items) }
+{
+    let mut passes = Vec::with_capacity(alloc, workers.len())?;
+    let mut lists = Vec::with_capacity(alloc, workers.len())?;
+    for worker in workers {
+        let Worker { pass, made } = worker;
+        passes.push(pass)?;
+        lists.push(made)?;
+    }
+    Ok((passes, lists))
+}
+
+/// Strikes an entry out of its object's list. Answers whether it stood there, not yet struck out.
+fn strike(values: &mut Vec<Journal>, made: &Made<u32>) -> bool {
+    let Some(journal) = values.get_mut(made.object as usize) else {
+        return false;
+    };
+    let Some(number) = journal.notes.get_mut(made.place as usize) else {
+        return false;
+    };
+    mem::replace(number, STRUCK) == made.entry
+}
+
+/// Strikes out the entries of one list. Answers whether all stood there.
+fn strike_list(values: &mut Vec<Journal>, list: &Vec<Made<u32>>) -> bool {
+    let mut stood = true;
+    for made in list {
+        stood = strike(values, made) && stood;
+    }
+    stood
+}
+
+/// Whether each entry of the lists stands at its place, and each entry of the values is in one list, once.
+fn each_once(values: &mut Vec<Journal>, lists: &Vec<Vec<Made<u32>>>) -> bool {
+    let mut stood = true;
+    for list in lists {
+        stood = strike_list(values, list) && stood;
+    }
+    stood
+        && values
+            .iter()
+            .all(|journal| journal.notes.iter().all(|&x| x == STRUCK))
+}
+
+/// How many numbers each of two objects has after all turns of all workers, where each is in one list, once.
+fn counted<R: Threads + Wait + Sync>(
+    rt: &R,
+    alloc: Global,
+    workers: u32,
+    turns: u32,
+) -> Result<Option<(usize, usize)>, Fail>
+    requires { (1 ≤ workers) × (workers ≤ 2000) }
+{
+    let (locks, passes) = LockTable::new(alloc, objects(alloc, 2)?, workers)?;
+    let workers = burst(rt, alloc, &locks, passes, turns)?;
+    let (passes, lists) = parted(alloc, workers)?;
+    let mut values = close_locks(alloc, locks, passes)?;
+    let once = each_once(&mut values, &lists);
+    let [first, second] = values.as_slice() else {
+        return Ok(None);
+    };
+    Ok(once.then_some((first.notes.len(), second.notes.len())))
+}
+
+#[test]
+fn four_workers_lose_nothing(rt: HostRuntime) -> Result<(), Fail> {
+    assert_eq!(rt; counted(&rt, rt.alloc(), 4, 2500)?, Some((5000, 5000)));
+    Ok(())
+}
+
+#[test]
+fn sixteen_workers_lose_nothing(rt: HostRuntime) -> Result<(), Fail> {
+    assert_eq!(rt; counted(&rt, rt.alloc(), 16, 625)?, Some((5008, 4992)));
+    Ok(())
+}

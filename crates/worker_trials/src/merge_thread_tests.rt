@@ -1,0 +1,113 @@
+use crate::merge_tests::{made, merged};
+use sleep_model::{Actor, EntryList, Kind, ListOf, SourceEntry, SourceList};
+use std::alloc::{AllocError, Global};
+use std::sync::atomic::{AtomicU64, Ordering};
+use std::sync::{Barrier, Wait};
+use std::test::Fail;
+use std::thread;
+use std::thread::Threads;
+
+/// A step on a worker's source, at the next position that threads share. Its time is its position.
+fn step(next: &AtomicU64, worker: usize, tick: u64) -> SourceEntry {
+    let source = (worker % 256) as u32;
+    let pos = next.fetch_add(1, Ordering::SeqCst);
+    made(pos, pos, tick, Actor::Script(source), Kind::Hard(source))
+}
+
+/// The history of a source, of which one worker makes all steps.
+fn history(alloc: Global, next: &AtomicU64, worker: usize, steps: u64) -> Vec<SourceEntry> {
+    let mut entries = Vec::new(alloc);
+    for tick in 0..steps {
+        if entries.reserve(1).is_ok() {
+            entries.push_reserved(step(next, worker, tick));
+        }
+    }
+    entries
+}
+
+/// The one log of what the workers made.
+fn log_of(alloc: Global, made: Vec<Vec<SourceEntry>>) -> Result<EntryList, Fail> {
+    let mut histories: Vec<SourceList> = Vec::with_capacity(alloc, made.len())?;
+    for history in made {
+        histories.push(ListOf::of_vec(history))?;
+    }
+    merged(alloc, &[], &histories)
+}
+
+/// The histories of so many workers, each in a thread of its own.
+fn burst<R: Threads + Sync>(
+    rt: &R,
+    alloc: Global,
+    workers: usize,
+    steps: u64,
+) -> Result<Vec<Vec<SourceEntry>>, AllocError> {
+    let next = AtomicU64::new(0);
+    let one = |i: usize| history(alloc, &next, i, steps);
+    thread::map_indices(rt, alloc, workers, &one)
+}
+
+/// Whether the one log of ten thousand steps has each position once, in order.
+fn is_in_order(log: &EntryList) -> bool {
+    let mut reader = log.reader();
+    for time in 0..10_000 {
+        match reader.next() {
+            Some(entry) if entry.time == time => {}
+            _ => return false,
+        }
+    }
+    log.len() == 10_000 && reader.next().is_none()
+}
+
+#[test]
+fn the_steps_of_four_workers_stand_by_position(rt: HostRuntime) -> Result<(), Fail> {
+    let made = burst(&rt, rt.alloc(), 4, 2500)?;
+    assert!(rt; is_in_order(&log_of(rt.alloc(), made)?));
+    Ok(())
+}
+
+#[test]
+fn the_steps_of_sixteen_workers_stand_by_position(rt: HostRuntime) -> Result<(), Fail> {
+    let made = burst(&rt, rt.alloc(), 16, 625)?;
+    assert!(rt; is_in_order(&log_of(rt.alloc(), made)?));
+    Ok(())
+}
+
+/// A step, and a second one once the other worker has made its first.
+fn meet<R: Wait>(
+    rt: &R,
+    alloc: Global,
+    next: &AtomicU64,
+    both: &Barrier,
+    worker: usize,
+) -> Vec<SourceEntry> {
+    let mut entries = Vec::new(alloc);
+    let room = entries.reserve(2).is_ok();
+    let first = step(next, worker, 0);
+    both.wait(rt);
+    let second = step(next, worker, 1);
+    if room {
+        entries.push_reserved(first);
+        entries.push_reserved(second);
+    }
+    entries
+}
+
+/// Two workers overlap: in the one log the first steps of both stand before the second ones.
+#[test]
+fn two_workers_overlap(rt: HostRuntime) -> Result<(), Fail> {
+    let next = AtomicU64::new(0);
+    let both = Barrier::new(2);
+    let alloc = rt.alloc();
+    let one = |i: usize| meet(&rt, alloc, &next, &both, i);
+    let made = thread::map_indices(&rt, alloc, 2, &one)?;
+    let log = log_of(alloc, made)?;
+    assert_eq!(rt; log.len(), 4);
+    let mut reader = log.reader();
+    let firsts = (reader.next(), reader.next());
+    let seconds = (reader.next(), reader.next());
+    let ((Some(a), Some(b)), (Some(c), Some(d))) = (firsts, seconds) else {
+        return Err("four steps were made".into());
+    };
+    assert!(rt; a.actor != b.actor && c.actor != d.actor);
+    Ok(())
+}
