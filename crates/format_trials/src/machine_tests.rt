@@ -276,12 +276,20 @@ fn machine(alloc: Global) -> Result<ReadMachine, Fail> {
     Ok(read_machine(alloc, text.as_str().as_bytes())?)
 }
 
-/// Numbers and devices are read as they are written.
+/// Each list is read as it is written.
 #[test]
-fn numbers_and_devices_are_read(rt: HostRuntime) -> Result<(), Fail> {
+fn a_machine_is_read(rt: HostRuntime) -> Result<(), Fail> {
     let read = machine(rt.alloc())?;
-    assert_numbers(&rt, &read.machine);
-    assert_devices(&rt, read.machine.devices.as_slice())
+    assert_machine(&rt, &read.machine, read.links.order())
+}
+
+fn assert_machine(rt: &impl Abort, machine: &Machine, order: &[u32]) -> Result<(), Fail> {
+    assert_numbers(rt, machine);
+    assert_devices(rt, machine.devices.as_slice())?;
+    assert_link(rt, machine.links.as_slice(), order)?;
+    assert_notifier(rt, machine.notifiers.as_slice())?;
+    assert_answers(rt, machine.answers.as_slice())?;
+    assert_operations(rt, machine.actors.as_slice())
 }
 
 fn assert_numbers(rt: &impl Abort, machine: &Machine) {
@@ -298,13 +306,7 @@ fn assert_devices(rt: &impl Abort, devices: &[Device]) -> Result<(), Fail> {
     Ok(())
 }
 
-/// Links are read, and added in turn.
-#[test]
-fn links_are_read(rt: HostRuntime) -> Result<(), Fail> {
-    let read = machine(rt.alloc())?;
-    assert_link(&rt, read.machine.links.as_slice(), read.links.order())
-}
-
+// Links are read, and added in turn.
 fn assert_link(rt: &impl Abort, links: &[Link], order: &[u32]) -> Result<(), Fail> {
     let [link] = links else {
         return Err(Fail::from("one link"));
@@ -361,14 +363,6 @@ fn assert_changes(rt: &impl Abort, links: &[Link], actors: &[Script]) -> Result<
     Ok(())
 }
 
-/// Notifiers and answers are read.
-#[test]
-fn notifiers_and_answers_are_read(rt: HostRuntime) -> Result<(), Fail> {
-    let read = machine(rt.alloc())?;
-    assert_notifier(&rt, read.machine.notifiers.as_slice())?;
-    assert_answers(&rt, read.machine.answers.as_slice())
-}
-
 fn assert_notifier(rt: &impl Abort, notifiers: &[Notifier]) -> Result<(), Fail> {
     let [notifier] = notifiers else {
         return Err(Fail::from("one notifier"));
@@ -385,13 +379,6 @@ fn assert_answers(rt: &impl Abort, answers: &[Answer]) -> Result<(), Fail> {
     assert!(rt; late.attempt == Some(2) && late.ret == -5);
     assert!(rt; core.what == What::Syscore(1) && core.ret == -16);
     Ok(())
-}
-
-/// Operations are read.
-#[test]
-fn operations_are_read(rt: HostRuntime) -> Result<(), Fail> {
-    let read = machine(rt.alloc())?;
-    assert_operations(&rt, read.machine.actors.as_slice())
 }
 
 fn assert_operations(rt: &impl Abort, actors: &[Script]) -> Result<(), Fail> {
@@ -442,14 +429,21 @@ fn shared(alloc: Global) -> Result<ReadMachine, Fail> {
     Ok(read_machine(alloc, text.as_bytes())?)
 }
 
-/// Marks stand in the order of their first use, and are named by their numbers.
+/// Marks, each writer's script and reports are read.
 #[test]
-fn marks_are_read(rt: HostRuntime) -> Result<(), Fail> {
+fn a_shared_machine_is_read(rt: HostRuntime) -> Result<(), Fail> {
     let read = shared(rt.alloc())?;
-    assert_marks(&rt, read.machine.marks.as_slice())?;
-    assert_posts(&rt, read.machine.actors.as_slice())
+    assert_shared(&rt, &read.machine)
 }
 
+fn assert_shared(rt: &impl Abort, machine: &Machine) -> Result<(), Fail> {
+    assert_marks(rt, machine.marks.as_slice())?;
+    assert_posts(rt, machine.actors.as_slice())?;
+    assert_writers(rt, machine.actors.as_slice())?;
+    assert_reports(rt, machine.answers.as_slice())
+}
+
+// Marks stand in the order of their first use.
 fn assert_marks(rt: &impl Abort, marks: &[Name]) -> Result<(), Fail> {
     let [first, second] = marks else {
         return Err(Fail::from("two marks"));
@@ -458,6 +452,7 @@ fn assert_marks(rt: &impl Abort, marks: &[Name]) -> Result<(), Fail> {
     Ok(())
 }
 
+// Marks are named by their numbers.
 fn assert_posts(rt: &impl Abort, actors: &[Script]) -> Result<(), Fail> {
     let [_, other] = actors else {
         return Err(Fail::from("two actors"));
@@ -471,13 +466,7 @@ fn assert_posts(rt: &impl Abort, actors: &[Script]) -> Result<(), Fail> {
     Ok(())
 }
 
-/// Each of two writers has its own script.
-#[test]
-fn writers_are_read(rt: HostRuntime) -> Result<(), Fail> {
-    let read = shared(rt.alloc())?;
-    assert_writers(&rt, read.machine.actors.as_slice())
-}
-
+// Each of two writers has its own script.
 fn assert_writers(rt: &impl Abort, actors: &[Script]) -> Result<(), Fail> {
     let [one, other] = actors else {
         return Err(Fail::from("two actors"));
@@ -494,13 +483,7 @@ fn assert_writers(rt: &impl Abort, actors: &[Script]) -> Result<(), Fail> {
     Ok(())
 }
 
-/// Reports are read, in their order.
-#[test]
-fn reports_are_read(rt: HostRuntime) -> Result<(), Fail> {
-    let read = shared(rt.alloc())?;
-    assert_reports(&rt, read.machine.answers.as_slice())
-}
-
+// Reports are read, in their order.
 fn assert_reports(rt: &impl Abort, answers: &[Answer]) -> Result<(), Fail> {
     let [answer] = answers else {
         return Err(Fail::from("one answer"));
