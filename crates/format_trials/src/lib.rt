@@ -3,6 +3,8 @@
 #![tactic(auto)]
 
 #[cfg(test)]
+mod link_tests;
+#[cfg(test)]
 mod log_tests;
 #[cfg(test)]
 mod machine_tests;

@@ -69,21 +69,31 @@ fn actors(alloc: Global) -> Result<Vec<Script>, Fail> {
     Ok(actors)
 }
 
-// The device c, the source lid, the mark a, the tasks w and b and the interrupt line k.
-pub fn machine(alloc: Global) -> Result<Machine, Fail> {
-    let device = Device {
-        name: name("c")?,
+fn device(text: &str) -> Result<Device, &'static str> {
+    Ok(Device {
+        name: name(text)?,
         parent: None,
         flags: DeviceFlags::WAKEUP,
-    };
+    })
+}
+
+// The devices c and d, and the task w.
+pub fn two_devices(alloc: Global) -> Result<Machine, Fail> {
+    let devices = vec![in alloc; device("c")?, device("d")?]?;
+    let actors = vec![in alloc; script(alloc, "w", TaskKind::User)?]?;
+    Ok(machine_of(alloc, devices, Vec::new(alloc), Vec::new(alloc), actors))
+}
+
+// The device c, the source lid, the mark a, the tasks w and b and the interrupt line k.
+pub fn machine(alloc: Global) -> Result<Machine, Fail> {
     let actors = actors(alloc)?;
-    let devices = vec![in alloc; device]?;
+    let devices = vec![in alloc; device("c")?]?;
     let sources = vec![in alloc; name("lid")?]?;
     let marks = vec![in alloc; name("a")?]?;
     Ok(machine_of(alloc, devices, sources, marks, actors))
 }
 
-const TASK: Actor = Actor::Script(0);
+pub const TASK: Actor = Actor::Script(0);
 
 const IRQ: Actor = Actor::Script(2);
 
@@ -102,7 +112,7 @@ fn made(time: u64, count: u32, actor: Actor, kind: Kind) -> Entry {
 }
 
 // An entry by its moment, the events that are registered, its actor and its kind, and its line.
-type Row = (u64, u32, Actor, Kind, &'static str);
+pub type Row = (u64, u32, Actor, Kind, &'static str);
 
 // The text of an entry alone.
 fn line_of(alloc: Global, machine: &Machine, entry: Entry) -> Result<Vec<u8>, Fail> {
@@ -117,7 +127,7 @@ fn line_of(alloc: Global, machine: &Machine, entry: Entry) -> Result<Vec<u8>, Fa
 }
 
 // Each entry alone makes its line.
-fn assert_lines(
+pub fn assert_lines(
     rt: &impl Abort,
     alloc: Global,
     machine: &Machine,

@@ -64,7 +64,12 @@ fn written_again(alloc: Global, machine: &Machine, text: &str) -> Result<Vec<u8>
 }
 
 // The text is a log, and what is written of it is the text again.
-fn assert_kept(rt: &impl Abort, alloc: Global, machine: &Machine, text: &str) -> Result<(), Fail> {
+pub fn assert_kept(
+    rt: &impl Abort,
+    alloc: Global,
+    machine: &Machine,
+    text: &str,
+) -> Result<(), Fail> {
     let again = written_again(alloc, machine, text)?;
     assert_eq!(rt; again.as_slice(), text.as_bytes());
     Ok(())
@@ -94,7 +99,7 @@ fn names_the_line_that_is_missing(rt: HostRuntime) -> Result<(), Fail> {
 }
 
 // That the text's first bad line is that one.
-fn assert_bad(
+pub fn assert_bad(
     rt: &impl Abort,
     alloc: Global,
     machine: &Machine,
