@@ -1,9 +1,9 @@
-use super::*;
 use sleep_base::Errno;
 use sleep_model::{
     Actor, Device, DeviceFlags, FrozeEnd, Group, Kind, Name, Phase, PlatDo, PlatUndo, SkipCause,
     Stage, Thaw,
 };
+use sleep_state::{Devices, Path, Tasks};
 use std::alloc::Global;
 use std::test::Fail;
 
@@ -114,7 +114,7 @@ const FAILED: [(Kind, Stage); 11] = [
 /// An attempt that nothing disturbs passes each stage once, sleeps from its entering to its wake,
 /// and ends with no error.
 #[test]
-#[tactic(auto, using(crate::proofs::Counting::attempts_few))]
+#[tactic(auto, using(sleep_state::proofs::Counting::attempts_few))]
 fn an_attempt_passes_its_stages(rt: HostRuntime) -> Result<(), Fail> {
     let mut path = Path::new();
     let (n, guarded) = (1, None);
@@ -138,7 +138,7 @@ fn an_attempt_passes_its_stages(rt: HostRuntime) -> Result<(), Fail> {
 
 /// A step that fails leads back from where it stands, and its error is the attempt's.
 #[test]
-#[tactic(auto, using(crate::proofs::Counting::attempts_few))]
+#[tactic(auto, using(sleep_state::proofs::Counting::attempts_few))]
 fn a_failure_leads_back(rt: HostRuntime) -> Result<(), Fail> {
     for (kind, stage) in FAILED {
         let mut path = Path::new();

@@ -1,7 +1,7 @@
 ghost use Rattle.std.specs.Prelude.{IfOk};
 ghost use Rattle.sleep_model.specs.Order.{EachAfterParent};
 
-use super::*;
+use device_links::{LinkFault, Links};
 use sleep_base::Mem;
 use sleep_model::Link;
 use std::alloc::Global;

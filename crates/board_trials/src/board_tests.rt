@@ -1,4 +1,6 @@
-use super::*;
+use async_board::{
+    Board, board_tells, is_down_in, is_left_alone, is_low, is_prepared, is_ready, is_taken, is_unsettled,
+};
 use device_links::Links;
 use sleep_base::{Errno, Mem};
 use sleep_model::{Kind, Phase, SkipCause, Stand};
