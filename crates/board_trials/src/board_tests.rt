@@ -1,5 +1,6 @@
 use async_board::{
-    Board, board_tells, is_down_in, is_left_alone, is_low, is_prepared, is_ready, is_taken, is_unsettled,
+    Board, board_tells, is_down_in, is_left_alone, is_low, is_prepared, is_ready, is_taken,
+    is_unsettled,
 };
 use device_links::Links;
 use sleep_base::{Errno, Mem};
@@ -12,10 +13,21 @@ use std::test::Fail;
 /// links.
 fn three(rt: &impl Abort, alloc: Global) -> Result<Links, Mem> {
     let mut links = Links::new(alloc, &[None, None, None])?;
+    link_three(rt, &mut links);
+    Ok(links)
+}
+
+fn link_three(rt: &impl Abort, links: &mut Links) {
     for (supplier, consumer) in [(0, 1), (0, 2), (1, 2)] {
         assert!(rt; links.add(supplier, consumer).is_ok());
     }
-    Ok(links)
+}
+
+/// A board over those three, which of them are asynchronous.
+fn board_of(rt: &impl Abort, alloc: Global, beside: [bool; 3]) -> Result<Board, Mem> {
+    let beside = Vec::from_array(alloc, beside)?;
+    let links = three(rt, alloc)?;
+    Board::wired(alloc, links, beside)
 }
 
 /// Notes each of these entries.
@@ -43,103 +55,125 @@ fn expect_open(rt: &impl Abort, board: &Board, below: [usize; 3], above: [usize;
 /// that went down, but for none that failed.
 #[test]
 fn a_device_waits_for_its_needs(rt: HostRuntime) -> Result<(), Fail> {
-    let links = three(&rt, rt.alloc())?;
-    let beside = vec![in rt.alloc(); true; 3]?;
-    let mut board = Board::wired(rt.alloc(), links, beside)?;
-    note_all(&mut board, &[prepared(0), prepared(1), prepared(2)]);
-    expect_open(&rt, &board, [2, 1, 0], [0, 0, 0]);
+    let mut board = board_of(&rt, rt.alloc(), [true, true, true])?;
+    expect_waits_below(&rt, &mut board);
+    expect_waits_above(&rt, &mut board);
+    Ok(())
+}
+
+const LAST_IS_DOWN: [Kind; 2] = [
+    Kind::Begin(Phase::Suspend, 2),
+    Kind::End(Phase::Suspend, 2, None),
+];
+
+const SECOND_FAILS: [Kind; 4] = [
+    Kind::Begin(Phase::Suspend, 1),
+    Kind::End(Phase::Suspend, 1, Some(Errno::EIO)),
+    Kind::Begin(Phase::Suspend, 0),
+    Kind::End(Phase::Suspend, 0, None),
+];
+
+fn expect_waits_below(rt: &impl Abort, board: &mut Board) {
+    note_all(board, &[prepared(0), prepared(1), prepared(2)]);
+    expect_open(rt, board, [2, 1, 0], [0, 0, 0]);
     assert_eq!(rt; board.waits_below(Phase::Suspend, 0), Some(1));
     assert_eq!(rt; board.waits_below(Phase::Suspend, 2), None);
-    note_all(
-        &mut board,
-        &[
-            Kind::Begin(Phase::Suspend, 2),
-            Kind::End(Phase::Suspend, 2, None),
-        ],
-    );
-    expect_open(&rt, &board, [1, 0, 0], [0, 0, 0]);
-    note_all(
-        &mut board,
-        &[
-            Kind::Begin(Phase::Suspend, 1),
-            Kind::End(Phase::Suspend, 1, Some(Errno::EIO)),
-            Kind::Begin(Phase::Suspend, 0),
-            Kind::End(Phase::Suspend, 0, None),
-        ],
-    );
-    expect_open(&rt, &board, [0, 0, 0], [0, 1, 1]);
+    note_all(board, &LAST_IS_DOWN);
+    expect_open(rt, board, [1, 0, 0], [0, 0, 0]);
+}
+
+fn expect_waits_above(rt: &impl Abort, board: &mut Board) {
+    note_all(board, &SECOND_FAILS);
+    expect_open(rt, board, [0, 0, 0], [0, 1, 1]);
     assert_eq!(rt; board.waits_above(Phase::Suspend, 0), None);
     assert_eq!(rt; board.waits_above(Phase::Suspend, 2), Some(0));
-    Ok(())
 }
 
 /// Prepare goes forward through the order, complete back, and so do the walks down and up.
 #[test]
 fn walks_follow_the_order(rt: HostRuntime) -> Result<(), Fail> {
-    let links = three(&rt, rt.alloc())?;
-    let mut beside = vec![in rt.alloc(); false; 3]?;
-    beside[1] = true;
-    let mut board = Board::wired(rt.alloc(), links, beside)?;
+    let mut board = board_of(&rt, rt.alloc(), [false, true, false])?;
     assert_eq!(rt; board.next_prepared(), Some(0));
     assert_eq!(rt; board.next_completed(), None);
     note_all(&mut board, &[prepared(0), prepared(1), prepared(2)]);
-    assert_eq!(rt; board.next_prepared(), None);
-    assert_eq!(rt; board.next_completed(), Some(2));
-    assert_eq!(rt; board.next_down(Phase::Suspend), Some(2));
-    assert_eq!(rt; board.next_down(Phase::Late), Some(2));
-    note_all(
-        &mut board,
-        &[
-            Kind::Skip(Phase::Suspend, 2, SkipCause::Direct),
-            Kind::Schedule(Phase::Suspend, 1),
-        ],
-    );
-    assert_eq!(rt; board.next_down(Phase::Suspend), Some(0));
-    assert_eq!(rt; board.waits_down(Phase::Suspend), Some(1));
-    assert!(rt; board.all_left_alone(1) && !board.all_left_alone(0));
-    assert!(rt; board.is_beside(1) && !board.is_beside(0));
-    note_all(
-        &mut board,
-        &[
-            Kind::Begin(Phase::Suspend, 1),
-            Kind::End(Phase::Suspend, 1, None),
-            Kind::Begin(Phase::Suspend, 0),
-            Kind::End(Phase::Suspend, 0, None),
-        ],
-    );
-    assert_eq!(rt; board.next_down(Phase::Suspend), None);
-    assert_eq!(rt; board.waits_down(Phase::Suspend), None);
-    assert_eq!(rt; board.next_given(Phase::Suspend), Some(1));
-    assert_eq!(rt; board.next_up(Phase::Suspend), Some(0));
-    assert_eq!(rt; board.waits_up(Phase::Suspend), Some(0));
+    expect_prepared(&rt, &board);
+    note_all(&mut board, &FIRST_STEPS);
+    expect_walk_down(&rt, &board);
+    note_all(&mut board, &LAST_STEPS);
+    expect_walk_up(&rt, &board);
     note_all(&mut board, &[Kind::Schedule(Phase::Resume, 1)]);
-    assert_eq!(rt; board.next_given(Phase::Suspend), None);
-    assert!(rt; matches!(board.stand(Phase::Suspend, 1), Stand::Rescheduled));
-    assert!(rt; matches!(board.stand(Phase::Late, 1), Stand::Prepared));
+    expect_rescheduled(&rt, &board);
     note_all(&mut board, &[Kind::Complete(2)]);
     assert_eq!(rt; board.next_completed(), Some(1));
     Ok(())
 }
 
+const FIRST_STEPS: [Kind; 2] = [
+    Kind::Skip(Phase::Suspend, 2, SkipCause::Direct),
+    Kind::Schedule(Phase::Suspend, 1),
+];
+
+const LAST_STEPS: [Kind; 4] = [
+    Kind::Begin(Phase::Suspend, 1),
+    Kind::End(Phase::Suspend, 1, None),
+    Kind::Begin(Phase::Suspend, 0),
+    Kind::End(Phase::Suspend, 0, None),
+];
+
+fn expect_prepared(rt: &impl Abort, board: &Board) {
+    assert_eq!(rt; board.next_prepared(), None);
+    assert_eq!(rt; board.next_completed(), Some(2));
+    assert_eq!(rt; board.next_down(Phase::Suspend), Some(2));
+    assert_eq!(rt; board.next_down(Phase::Late), Some(2));
+}
+
+fn expect_walk_down(rt: &impl Abort, board: &Board) {
+    assert_eq!(rt; board.next_down(Phase::Suspend), Some(0));
+    assert_eq!(rt; board.waits_down(Phase::Suspend), Some(1));
+    assert!(rt; board.all_left_alone(1) && !board.all_left_alone(0));
+    assert!(rt; board.is_beside(1) && !board.is_beside(0));
+}
+
+fn expect_walk_up(rt: &impl Abort, board: &Board) {
+    assert_eq!(rt; board.next_down(Phase::Suspend), None);
+    assert_eq!(rt; board.waits_down(Phase::Suspend), None);
+    assert_eq!(rt; board.next_given(Phase::Suspend), Some(1));
+    assert_eq!(rt; board.next_up(Phase::Suspend), Some(0));
+    assert_eq!(rt; board.waits_up(Phase::Suspend), Some(0));
+}
+
+fn expect_rescheduled(rt: &impl Abort, board: &Board) {
+    assert_eq!(rt; board.next_given(Phase::Suspend), None);
+    assert!(rt; matches!(board.stand(Phase::Suspend, 1), Stand::Rescheduled));
+    assert!(rt; matches!(board.stand(Phase::Late, 1), Stand::Prepared));
+}
+
 /// A link that is set, and one that is added, leave no device prepared, whether one was or not.
 #[test]
 fn a_changed_link_begins_anew(rt: HostRuntime) -> Result<(), Fail> {
-    let links = three(&rt, rt.alloc())?;
-    let beside = vec![in rt.alloc(); true; 3]?;
-    let mut board = Board::wired(rt.alloc(), links, beside)?;
+    let mut board = board_of(&rt, rt.alloc(), [true, true, true])?;
+    expect_fewer_below(&rt, &mut board)?;
+    expect_anew(&rt, &mut board)?;
+    Ok(())
+}
+
+const FIRST_IS_DOWN: [Kind; 3] = [
+    Kind::Prepare { device: 0, r: 0 },
+    Kind::Begin(Phase::Suspend, 0),
+    Kind::End(Phase::Suspend, 0, None),
+];
+
+fn expect_fewer_below(rt: &impl Abort, board: &mut Board) -> Result<(), Mem> {
     board.set_link(1, 2, false)?;
-    expect_open(&rt, &board, [2, 0, 0], [0, 0, 0]);
-    note_all(
-        &mut board,
-        &[
-            prepared(0),
-            Kind::Begin(Phase::Suspend, 0),
-            Kind::End(Phase::Suspend, 0, None),
-        ],
-    );
-    expect_open(&rt, &board, [2, 0, 0], [0, 1, 1]);
+    expect_open(rt, board, [2, 0, 0], [0, 0, 0]);
+    note_all(board, &FIRST_IS_DOWN);
+    expect_open(rt, board, [2, 0, 0], [0, 1, 1]);
+    Ok(())
+}
+
+fn expect_anew(rt: &impl Abort, board: &mut Board) -> Result<(), Mem> {
     board.set_link(1, 2, true)?;
-    expect_open(&rt, &board, [2, 1, 0], [0, 0, 0]);
+    expect_open(rt, board, [2, 1, 0], [0, 0, 0]);
     assert_eq!(rt; board.next_completed(), None);
     assert!(rt; board.add_link(2, 0).is_err());
     assert_eq!(rt; board.next_prepared(), Some(0));

@@ -3,6 +3,8 @@
 #![tactic(auto)]
 
 #[cfg(test)]
+mod at_once_tests;
+#[cfg(test)]
 mod board_tests;
 #[cfg(test)]
 mod link_tests;
