@@ -56,9 +56,13 @@ fn in_turn(alloc: Global, parents: &[Option<u32>], list: &[Link]) -> Result<Opti
 fn assert_same(rt: &impl Abort, once: &Links, turn: &Links) {
     assert_eq!(rt; once.order(), turn.order());
     for device in turn.order() {
-        assert_eq!(rt; once.below(*device), turn.below(*device), "below {device}");
-        assert_eq!(rt; once.above(*device), turn.above(*device), "above {device}");
+        assert_same_near(rt, once, turn, *device);
     }
+}
+
+fn assert_same_near(rt: &impl Abort, once: &Links, turn: &Links, device: u32) {
+    assert_eq!(rt; once.below(device), turn.below(device), "below {device}");
+    assert_eq!(rt; once.above(device), turn.above(device), "above {device}");
 }
 
 /// Asserts that both were made, and are the same, or neither.
@@ -240,10 +244,18 @@ fn ladder(alloc: Global, from_end: bool) -> Result<Vec<Link>, Mem> {
 #[test]
 fn doubling_links_are_made_at_once(rt: HostRuntime) -> Result<(), Fail> {
     let parents = unrelated(rt.alloc(), 301)?;
-    assert!(rt; are_diamonds_made(&rt, rt.alloc(), &parents)?);
-    assert!(rt; is_ladder_made(&rt, rt.alloc(), &parents, false)?);
-    assert!(rt; is_ladder_made(&rt, rt.alloc(), &parents, true)?);
+    assert!(rt; are_doubling_made(&rt, rt.alloc(), &parents)?);
     Ok(())
+}
+
+fn are_doubling_made(rt: &impl Abort, alloc: Global, parents: &[Option<u32>]) -> Result<bool, Mem>
+    requires { EachAfterParent 0 parents.now }
+{
+    Ok(
+        are_diamonds_made(rt, alloc, parents)?
+            && is_ladder_made(rt, alloc, parents, false)?
+            && is_ladder_made(rt, alloc, parents, true)?,
+    )
 }
 
 fn are_diamonds_made(rt: &impl Abort, alloc: Global, parents: &[Option<u32>]) -> Result<bool, Mem>
@@ -297,9 +309,15 @@ fn push_deep(list: &mut Vec<Link>) -> Result<(), Mem> {
 #[test]
 fn deep_links_are_made_at_once(rt: HostRuntime) -> Result<(), Fail> {
     let parents = unrelated(rt.alloc(), 1000)?;
-    let list = deep(rt.alloc())?;
-    assert!(rt; is_made(&rt, rt.alloc(), &parents, &list)?);
+    assert!(rt; are_deep_made(&rt, rt.alloc(), &parents)?);
     Ok(())
+}
+
+fn are_deep_made(rt: &impl Abort, alloc: Global, parents: &[Option<u32>]) -> Result<bool, Mem>
+    requires { EachAfterParent 0 parents.now }
+{
+    let list = deep(alloc)?;
+    is_made(rt, alloc, parents, &list)
 }
 
 /// Whether the links of these ends are made, both ways.
@@ -319,9 +337,17 @@ fn are_ends_made(
 #[test]
 fn a_long_chain_is_moved_at_once(rt: HostRuntime) -> Result<(), Fail> {
     let parents = chain(rt.alloc(), 1000)?;
-    assert!(rt; are_ends_made(&rt, rt.alloc(), &parents, &[(1000, 0)])?);
-    assert!(rt; !are_ends_made(&rt, rt.alloc(), &parents, &[(1000, 0), (999, 1000)])?);
+    assert!(rt; is_chain_moved(&rt, rt.alloc(), &parents)?);
     Ok(())
+}
+
+fn is_chain_moved(rt: &impl Abort, alloc: Global, parents: &[Option<u32>]) -> Result<bool, Mem>
+    requires { EachAfterParent 0 parents.now }
+{
+    Ok(
+        are_ends_made(rt, alloc, parents, &[(1000, 0)])?
+            && !are_ends_made(rt, alloc, parents, &[(1000, 0), (999, 1000)])?,
+    )
 }
 
 /// The link that a number draws between seven devices.

@@ -37,10 +37,6 @@ fn note_all(board: &mut Board, kinds: &[Kind]) {
     }
 }
 
-fn prepared(device: u32) -> Kind {
-    Kind::Prepare { device, r: 0 }
-}
-
 /// Asserts how many devices each of three waits for, below and above it.
 fn expect_open(rt: &impl Abort, board: &Board, below: [usize; 3], above: [usize; 3]) {
     assert!(rt; board.links().order().len() == 3);
@@ -51,14 +47,28 @@ fn expect_open(rt: &impl Abort, board: &Board, below: [usize; 3], above: [usize;
     }
 }
 
+fn expect_device(rt: &impl Abort, found: Option<u32>, wanted: Option<u32>) {
+    assert_eq!(rt; found, wanted);
+}
+
+const PREPARED: [Kind; 3] = [
+    Kind::Prepare { device: 0, r: 0 },
+    Kind::Prepare { device: 1, r: 0 },
+    Kind::Prepare { device: 2, r: 0 },
+];
+
 /// A device waits for those below it until each is through, and on the way up for those above it
 /// that went down, but for none that failed.
 #[test]
 fn a_device_waits_for_its_needs(rt: HostRuntime) -> Result<(), Fail> {
     let mut board = board_of(&rt, rt.alloc(), [true, true, true])?;
-    expect_waits_below(&rt, &mut board);
-    expect_waits_above(&rt, &mut board);
+    expect_waits(&rt, &mut board);
     Ok(())
+}
+
+fn expect_waits(rt: &impl Abort, board: &mut Board) {
+    expect_waits_below(rt, board);
+    expect_waits_above(rt, board);
 }
 
 const LAST_IS_DOWN: [Kind; 2] = [
@@ -74,10 +84,10 @@ const SECOND_FAILS: [Kind; 4] = [
 ];
 
 fn expect_waits_below(rt: &impl Abort, board: &mut Board) {
-    note_all(board, &[prepared(0), prepared(1), prepared(2)]);
+    note_all(board, &PREPARED);
     expect_open(rt, board, [2, 1, 0], [0, 0, 0]);
-    assert_eq!(rt; board.waits_below(Phase::Suspend, 0), Some(1));
-    assert_eq!(rt; board.waits_below(Phase::Suspend, 2), None);
+    expect_device(rt, board.waits_below(Phase::Suspend, 0), Some(1));
+    expect_device(rt, board.waits_below(Phase::Suspend, 2), None);
     note_all(board, &LAST_IS_DOWN);
     expect_open(rt, board, [1, 0, 0], [0, 0, 0]);
 }
@@ -85,27 +95,31 @@ fn expect_waits_below(rt: &impl Abort, board: &mut Board) {
 fn expect_waits_above(rt: &impl Abort, board: &mut Board) {
     note_all(board, &SECOND_FAILS);
     expect_open(rt, board, [0, 0, 0], [0, 1, 1]);
-    assert_eq!(rt; board.waits_above(Phase::Suspend, 0), None);
-    assert_eq!(rt; board.waits_above(Phase::Suspend, 2), Some(0));
+    expect_device(rt, board.waits_above(Phase::Suspend, 0), None);
+    expect_device(rt, board.waits_above(Phase::Suspend, 2), Some(0));
 }
 
 /// Prepare goes forward through the order, complete back, and so do the walks down and up.
 #[test]
 fn walks_follow_the_order(rt: HostRuntime) -> Result<(), Fail> {
     let mut board = board_of(&rt, rt.alloc(), [false, true, false])?;
-    assert_eq!(rt; board.next_prepared(), Some(0));
-    assert_eq!(rt; board.next_completed(), None);
-    note_all(&mut board, &[prepared(0), prepared(1), prepared(2)]);
-    expect_prepared(&rt, &board);
-    note_all(&mut board, &FIRST_STEPS);
-    expect_walk_down(&rt, &board);
-    note_all(&mut board, &LAST_STEPS);
-    expect_walk_up(&rt, &board);
-    note_all(&mut board, &[Kind::Schedule(Phase::Resume, 1)]);
-    expect_rescheduled(&rt, &board);
-    note_all(&mut board, &[Kind::Complete(2)]);
-    assert_eq!(rt; board.next_completed(), Some(1));
+    expect_walks(&rt, &mut board);
     Ok(())
+}
+
+fn expect_walks(rt: &impl Abort, board: &mut Board) {
+    expect_device(rt, board.next_prepared(), Some(0));
+    expect_device(rt, board.next_completed(), None);
+    note_all(board, &PREPARED);
+    expect_prepared(rt, board);
+    note_all(board, &FIRST_STEPS);
+    expect_walk_down(rt, board);
+    note_all(board, &LAST_STEPS);
+    expect_walk_up(rt, board);
+    note_all(board, &[Kind::Schedule(Phase::Resume, 1)]);
+    expect_rescheduled(rt, board);
+    note_all(board, &[Kind::Complete(2)]);
+    expect_device(rt, board.next_completed(), Some(1));
 }
 
 const FIRST_STEPS: [Kind; 2] = [
@@ -121,29 +135,29 @@ const LAST_STEPS: [Kind; 4] = [
 ];
 
 fn expect_prepared(rt: &impl Abort, board: &Board) {
-    assert_eq!(rt; board.next_prepared(), None);
-    assert_eq!(rt; board.next_completed(), Some(2));
-    assert_eq!(rt; board.next_down(Phase::Suspend), Some(2));
-    assert_eq!(rt; board.next_down(Phase::Late), Some(2));
+    expect_device(rt, board.next_prepared(), None);
+    expect_device(rt, board.next_completed(), Some(2));
+    expect_device(rt, board.next_down(Phase::Suspend), Some(2));
+    expect_device(rt, board.next_down(Phase::Late), Some(2));
 }
 
 fn expect_walk_down(rt: &impl Abort, board: &Board) {
-    assert_eq!(rt; board.next_down(Phase::Suspend), Some(0));
-    assert_eq!(rt; board.waits_down(Phase::Suspend), Some(1));
+    expect_device(rt, board.next_down(Phase::Suspend), Some(0));
+    expect_device(rt, board.waits_down(Phase::Suspend), Some(1));
     assert!(rt; board.all_left_alone(1) && !board.all_left_alone(0));
     assert!(rt; board.is_beside(1) && !board.is_beside(0));
 }
 
 fn expect_walk_up(rt: &impl Abort, board: &Board) {
-    assert_eq!(rt; board.next_down(Phase::Suspend), None);
-    assert_eq!(rt; board.waits_down(Phase::Suspend), None);
-    assert_eq!(rt; board.next_given(Phase::Suspend), Some(1));
-    assert_eq!(rt; board.next_up(Phase::Suspend), Some(0));
-    assert_eq!(rt; board.waits_up(Phase::Suspend), Some(0));
+    expect_device(rt, board.next_down(Phase::Suspend), None);
+    expect_device(rt, board.waits_down(Phase::Suspend), None);
+    expect_device(rt, board.next_given(Phase::Suspend), Some(1));
+    expect_device(rt, board.next_up(Phase::Suspend), Some(0));
+    expect_device(rt, board.waits_up(Phase::Suspend), Some(0));
 }
 
 fn expect_rescheduled(rt: &impl Abort, board: &Board) {
-    assert_eq!(rt; board.next_given(Phase::Suspend), None);
+    expect_device(rt, board.next_given(Phase::Suspend), None);
     assert!(rt; matches!(board.stand(Phase::Suspend, 1), Stand::Rescheduled));
     assert!(rt; matches!(board.stand(Phase::Late, 1), Stand::Prepared));
 }
@@ -151,10 +165,17 @@ fn expect_rescheduled(rt: &impl Abort, board: &Board) {
 /// A link that is set, and one that is added, leave no device prepared, whether one was or not.
 #[test]
 fn a_changed_link_begins_anew(rt: HostRuntime) -> Result<(), Fail> {
-    let mut board = board_of(&rt, rt.alloc(), [true, true, true])?;
-    expect_fewer_below(&rt, &mut board)?;
-    expect_anew(&rt, &mut board)?;
-    Ok(())
+    Ok(change_links(&rt, rt.alloc())?)
+}
+
+fn change_links(rt: &impl Abort, alloc: Global) -> Result<(), Mem> {
+    let mut board = board_of(rt, alloc, [true, true, true])?;
+    expect_changes(rt, &mut board)
+}
+
+fn expect_changes(rt: &impl Abort, board: &mut Board) -> Result<(), Mem> {
+    expect_fewer_below(rt, board)?;
+    expect_anew(rt, board)
 }
 
 const FIRST_IS_DOWN: [Kind; 3] = [
@@ -174,9 +195,9 @@ fn expect_fewer_below(rt: &impl Abort, board: &mut Board) -> Result<(), Mem> {
 fn expect_anew(rt: &impl Abort, board: &mut Board) -> Result<(), Mem> {
     board.set_link(1, 2, true)?;
     expect_open(rt, board, [2, 1, 0], [0, 0, 0]);
-    assert_eq!(rt; board.next_completed(), None);
+    expect_device(rt, board.next_completed(), None);
     assert!(rt; board.add_link(2, 0).is_err());
-    assert_eq!(rt; board.next_prepared(), Some(0));
+    expect_device(rt, board.next_prepared(), Some(0));
     Ok(())
 }
 

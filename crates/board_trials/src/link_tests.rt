@@ -187,10 +187,14 @@ fn add_diamonds(rt: &impl Abort, links: &mut Links) {
 
 /// Asserts that 301 devices stand in the order of their registration.
 fn expect_registered(rt: &impl Abort, links: &Links) {
-    assert_eq!(rt; links.order().len(), 301);
+    assert!(rt; links.order().len() == 301);
     for (device, place) in links.order().iter().zip(0..301u32) {
-        assert_eq!(rt; *device, place);
+        expect_device(rt, *device, place);
     }
+}
+
+fn expect_device(rt: &impl Abort, found: u32, wanted: u32) {
+    assert_eq!(rt; found, wanted);
 }
 
 /// A chain of 1,000 devices below one another moves as a whole.
@@ -204,9 +208,20 @@ fn a_long_chain_moves(rt: HostRuntime) -> Result<(), Fail> {
 
 fn expect_moved_chain(rt: &impl Abort, links: &mut Links) {
     add_all(rt, links, &[(1000, 0)]);
-    assert_eq!(rt; links.order().first(), Some(&1000));
-    assert_eq!(rt; links.order().last(), Some(&999));
-    assert_eq!(rt; cycle_of(rt, links, 999, 1000).len(), 1001);
+    assert!(rt; links.order().first() == Some(&1000));
+    assert!(rt; links.order().last() == Some(&999));
+    expect_cycle_length(rt, links, 999, 1000, 1001);
+}
+
+/// Asserts that the link would close a cycle, and over how many devices.
+fn expect_cycle_length(
+    rt: &impl Abort,
+    links: &mut Links,
+    supplier: u32,
+    consumer: u32,
+    length: usize,
+) {
+    assert_eq!(rt; cycle_of(rt, links, supplier, consumer).len(), length);
 }
 
 /// A device that is a child and a consumer stands once below and above, and moves at its last place.
@@ -226,57 +241,82 @@ fn expect_moved_child(rt: &impl Abort, links: &mut Links) {
     expect_order(rt, links, &[3, 0, 2, 1]);
 }
 
+/// Three devices without parents or links.
+fn three(alloc: Global) -> Result<Links, Mem> {
+    Links::new(alloc, &[None, None, None])
+}
+
 /// A dormant link moves its consumer, and closes cycles.
 #[test]
 fn a_dormant_link_keeps_the_order(rt: HostRuntime) -> Result<(), Fail> {
-    let mut links = Links::new(rt.alloc(), &[None, None, None])?;
-    assert!(rt; added_as(&mut links, 2, 0, false) == Answer::Done);
-    expect_order(&rt, &links, &[1, 2, 0]);
-    expect_cycle(&rt, &mut links, 0, 2, &[2, 0]);
+    let mut links = three(rt.alloc())?;
+    expect_dormant_order(&rt, &mut links);
     Ok(())
+}
+
+fn expect_dormant_order(rt: &impl Abort, links: &mut Links) {
+    assert!(rt; added_as(links, 2, 0, false) == Answer::Done);
+    expect_order(rt, links, &[1, 2, 0]);
+    expect_cycle(rt, links, 0, 2, &[2, 0]);
 }
 
 /// A dormant link is seen neither below nor above.
 #[test]
 fn a_dormant_link_is_not_seen(rt: HostRuntime) -> Result<(), Fail> {
-    let mut links = Links::new(rt.alloc(), &[None, None, None])?;
-    assert!(rt; added_as(&mut links, 2, 0, true) == Answer::Done);
-    assert!(rt; added_as(&mut links, 2, 1, false) == Answer::Done);
-    expect_below(&rt, &links, 2, &[0]);
-    expect_above(&rt, &links, 1, &[]);
+    let mut links = three(rt.alloc())?;
+    expect_unseen(&rt, &mut links);
     Ok(())
+}
+
+fn expect_unseen(rt: &impl Abort, links: &mut Links) {
+    assert!(rt; added_as(links, 2, 0, true) == Answer::Done);
+    assert!(rt; added_as(links, 2, 1, false) == Answer::Done);
+    expect_below(rt, links, 2, &[0]);
+    expect_above(rt, links, 1, &[]);
 }
 
 /// A link that becomes active is seen in its place among the others.
 #[test]
 fn a_link_becomes_active(rt: HostRuntime) -> Result<(), Fail> {
-    let mut links = Links::new(rt.alloc(), &[None, None, None])?;
-    assert!(rt; added_as(&mut links, 2, 0, false) == Answer::Done);
-    assert!(rt; added_as(&mut links, 2, 1, true) == Answer::Done);
-    assert!(rt; set(&mut links, 2, 0, true) == Answer::Done);
-    expect_below(&rt, &links, 2, &[0, 1]);
-    expect_above(&rt, &links, 0, &[2]);
+    let mut links = three(rt.alloc())?;
+    expect_active(&rt, &mut links);
     Ok(())
+}
+
+fn expect_active(rt: &impl Abort, links: &mut Links) {
+    assert!(rt; added_as(links, 2, 0, false) == Answer::Done);
+    assert!(rt; added_as(links, 2, 1, true) == Answer::Done);
+    assert!(rt; set(links, 2, 0, true) == Answer::Done);
+    expect_below(rt, links, 2, &[0, 1]);
+    expect_above(rt, links, 0, &[2]);
 }
 
 /// The state of a link is set where both are devices and have a link.
 #[test]
 fn states_are_refused(rt: HostRuntime) -> Result<(), Fail> {
     let mut links = Links::new(rt.alloc(), &[None, Some(0)])?;
-    assert!(rt; set(&mut links, 0, 2, true) == Answer::NoDevice);
-    assert!(rt; set(&mut links, 0, 1, true) == Answer::NoLink);
+    expect_refused_states(&rt, &mut links);
     Ok(())
+}
+
+fn expect_refused_states(rt: &impl Abort, links: &mut Links) {
+    assert!(rt; set(links, 0, 2, true) == Answer::NoDevice);
+    assert!(rt; set(links, 0, 1, true) == Answer::NoLink);
 }
 
 /// A child is never seen twice, nor lost, whatever its link's state.
 #[test]
 fn a_child_is_seen_once(rt: HostRuntime) -> Result<(), Fail> {
     let mut links = Links::new(rt.alloc(), &[None, Some(0)])?;
-    add_all(&rt, &mut links, &[(0, 1)]);
-    assert!(rt; set(&mut links, 0, 1, false) == Answer::Done);
-    expect_below(&rt, &links, 0, &[1]);
-    expect_above(&rt, &links, 1, &[0]);
+    expect_seen_once(&rt, &mut links);
     Ok(())
+}
+
+fn expect_seen_once(rt: &impl Abort, links: &mut Links) {
+    add_all(rt, links, &[(0, 1)]);
+    assert!(rt; set(links, 0, 1, false) == Answer::Done);
+    expect_below(rt, links, 0, &[1]);
+    expect_above(rt, links, 1, &[0]);
 }
 
 // Consumers and suppliers, each with whether the supplier hangs below the consumer.
@@ -486,8 +526,7 @@ fn compare_one(
     match answer {
         Answer::Done => {
             assert!(rt; !hangs.contains(&link.0));
-            compared.added.push(link)?;
-            compared.order = with_last(alloc, &compared.order, hangs)?;
+            note_added(alloc, compared, link, hangs)?;
         }
         Answer::Twice => assert!(rt; compared.added.contains(&link)),
         Answer::Cycle => assert!(rt; hangs.contains(&link.0)),
@@ -495,6 +534,18 @@ fn compare_one(
     }
     expect_order(rt, &compared.links, &compared.order);
     Ok(answer == Answer::Cycle)
+}
+
+/// Takes down a link that was added, and the order that it leaves by the plain definition.
+fn note_added(
+    alloc: Global,
+    compared: &mut Compared,
+    link: (u32, u32),
+    hangs: &[u32],
+) -> Result<(), Mem> {
+    compared.added.push(link)?;
+    compared.order = with_last(alloc, &compared.order, hangs)?;
+    Ok(())
 }
 
 /// Compares over seven devices without parents, and over a tree.

@@ -236,15 +236,19 @@ fn expect_callback(rt: &impl Abort, devices: &mut Devices) {
     assert!(rt; devices.callback().is_none());
 }
 
+fn expect_error(rt: &impl Abort, found: Option<Errno>, wanted: Option<Errno>) {
+    assert_eq!(rt; found, wanted);
+}
+
 fn expect_errors(rt: &impl Abort, devices: &mut Devices) {
     let own = Actor::Dev(1);
     devices.note(Kind::End(Phase::Late, 1, Some(Errno::EBUSY)), own);
-    assert_eq!(rt; devices.failed(), Some(Errno::EBUSY));
-    assert_eq!(rt; devices.own_error(), Some(Errno::EIO));
+    expect_error(rt, devices.failed(), Some(Errno::EBUSY));
+    expect_error(rt, devices.own_error(), Some(Errno::EIO));
     devices.note(Kind::Done(Phase::Late, Some(Errno::EIO)), TASK);
-    assert_eq!(rt; devices.failed(), None);
+    expect_error(rt, devices.failed(), None);
     devices.note(Kind::End(Phase::Early, 0, Some(Errno::EIO)), TASK);
-    assert_eq!(rt; devices.failed(), None);
+    expect_error(rt, devices.failed(), None);
 }
 
 fn expect_asked(rt: &impl Abort, devices: &mut Devices) {
@@ -269,29 +273,51 @@ fn a_script_moves_on(rt: HostRuntime) -> Result<(), Fail> {
     tasks.note(TASK, Kind::ReadWait);
     assert!(rt; tasks.seat(0).waits);
     tasks.note(TASK, Kind::Read(3));
-    let seat = tasks.seat(0);
-    assert_eq!(rt; (seat.done, seat.last_read), (1, Some(3)));
+    expect_read(&rt, &tasks);
     tasks.note(TASK, Kind::Post(0));
-    assert_eq!(rt; tasks.raised(0), 1);
+    expect_raised(&rt, &tasks, 1);
     tasks.note(TASK, Kind::Got(0));
-    assert_eq!(rt; (tasks.raised(0), tasks.seat(0).turns), (0, 3));
+    expect_raised(&rt, &tasks, 0);
+    expect_turns(&rt, &tasks);
     assert!(rt; !tasks.all_exited());
     tasks.note(TASK, Kind::Exit);
     assert!(rt; tasks.all_exited());
     Ok(())
 }
 
+fn expect_read(rt: &impl Abort, tasks: &Tasks) {
+    let seat = tasks.seat(0);
+    assert_eq!(rt; (seat.done, seat.last_read), (1, Some(3)));
+}
+
+fn expect_raised(rt: &impl Abort, tasks: &Tasks, raised: u32) {
+    assert_eq!(rt; tasks.raised(0), raised);
+}
+
+fn expect_turns(rt: &impl Abort, tasks: &Tasks) {
+    assert_eq!(rt; tasks.seat(0).turns, 3);
+}
+
+/// Asserts the least end of sleeps, and whether all are still at a time.
+fn expect_sleep(rt: &impl Abort, tasks: &Tasks, time: u64, end: Option<u64>, still: bool) {
+    assert_eq!(rt; (tasks.least_end(), tasks.are_still(time)), (end, still));
+}
+
+fn expect_slept(rt: &impl Abort, found: Option<u32>, wanted: Option<u32>) {
+    assert_eq!(rt; found, wanted);
+}
+
 /// A script that sleeps is still up to its moment, which is the least of all, and is found once that has come.
 #[test]
 fn the_least_end_of_sleeps_is_known(rt: HostRuntime) -> Result<(), Fail> {
     let mut tasks = Tasks::new(rt.alloc(), 1, 0)?;
-    assert_eq!(rt; (tasks.least_end(), tasks.are_still(3)), (None, false));
+    expect_sleep(&rt, &tasks, 3, None, false);
     tasks.note(TASK, Kind::Sleep(7));
-    assert_eq!(rt; (tasks.least_end(), tasks.are_still(3)), (Some(7), true));
-    assert_eq!(rt; tasks.next_slept(None, 3), None);
-    assert_eq!(rt; tasks.next_slept(None, 7), Some(0));
-    assert_eq!(rt; tasks.next_slept(Some(0), 7), None);
+    expect_sleep(&rt, &tasks, 3, Some(7), true);
+    expect_slept(&rt, tasks.next_slept(None, 3), None);
+    expect_slept(&rt, tasks.next_slept(None, 7), Some(0));
+    expect_slept(&rt, tasks.next_slept(Some(0), 7), None);
     tasks.note(TASK, Kind::Slept);
-    assert_eq!(rt; (tasks.least_end(), tasks.are_still(8)), (None, false));
+    expect_sleep(&rt, &tasks, 8, None, false);
     Ok(())
 }
