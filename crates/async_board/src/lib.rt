@@ -10,8 +10,6 @@ mod moves;
 mod pick;
 mod rows;
 mod stand;
-#[cfg(test)]
-mod tests;
 mod walk;
 
 pub use board::Board;

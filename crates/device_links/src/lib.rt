@@ -9,8 +9,6 @@ mod first;
 mod links;
 mod states;
 mod tables;
-#[cfg(test)]
-mod tests;
 mod visits;
 mod walk;
 

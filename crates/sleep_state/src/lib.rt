@@ -6,8 +6,6 @@ mod moments;
 mod path;
 mod seats;
 mod tasks;
-#[cfg(test)]
-mod tests;
 
 pub use devices::Devices;
 pub use moments::sooner;

@@ -3,7 +3,7 @@ use Rattle.std.specs.Option.{SomeIff}
 use Rattle.std.proofs.lemmas.List.{length_push}
 use Rattle.sleep_model.specs.Order.{EachAfterParent}
 use Rattle.sleep_model.proofs.Children.{after_parent_push}
-use Rattle.device_links.proofs.tests.chain.Goals as goal
+use Rattle.board_trials.proofs.link_tests.chain.Goals as goal
 
 -- the number before
 before : (r : Option ℕ) (d n : ℕ) → n ≡ d → SomeIff r (1 ≤ d) (d - 1) → IfSome r (λ q. q < 0 + n)

@@ -1,10 +1,11 @@
-use super::*;
 use sleep_base::Errno;
 use sleep_model::{
     Actor, Device, DeviceFlags, FrozeEnd, Group, Kind, Name, Phase, PlatDo, PlatUndo, SkipCause,
     Stage, Thaw,
 };
+use sleep_state::{Devices, Path, Tasks};
 use std::alloc::Global;
+use std::process::Abort;
 use std::test::Fail;
 
 const TASK: Actor = Actor::Script(0);
@@ -111,45 +112,71 @@ const FAILED: [(Kind, Stage); 11] = [
     (Kind::Enter { busy: true }, Stage::StartsSyscore),
 ];
 
-/// An attempt that nothing disturbs passes each stage once, sleeps from its entering to its wake,
-/// and ends with no error.
-#[test]
-#[tactic(auto, using(crate::proofs::Counting::attempts_few))]
-fn an_attempt_passes_its_stages(rt: HostRuntime) -> Result<(), Fail> {
+/// An attempt that is begun.
+fn begun() -> Path {
     let mut path = Path::new();
     let (n, guarded) = (1, None);
     path.note(Kind::Attempt { n, guarded }, TASK, 0, 0);
-    assert!(rt; path.stage() == Some(Stage::Notifies));
-    for (kind, stage) in CALM {
-        assert!(rt; path.attempts() < 9);
-        path.note(kind, TASK, 7, 50);
-        assert!(rt; path.stage() == Some(stage));
-        let sleeps = path.sleep().is_some();
-        assert_eq!(rt; sleeps, stage == Stage::Enters);
+    path
+}
+
+/// Asserts that steps lead each to its stage, and that the machine sleeps where it is entered.
+fn expect_steps(rt: &impl Abort, path: &mut Path, steps: &[(Kind, Stage)]) {
+    for (kind, stage) in steps {
+        expect_step(rt, path, *kind, *stage);
     }
+}
+
+#[tactic(auto, using(sleep_state::proofs::Counting::attempts_few))]
+fn expect_step(rt: &impl Abort, path: &mut Path, kind: Kind, stage: Stage) {
     assert!(rt; path.attempts() < 9);
+    path.note(kind, TASK, 7, 50);
+    assert!(rt; path.stage() == Some(stage));
+    let sleeps = path.sleep().is_some();
+    assert_eq!(rt; sleeps, stage == Stage::Enters);
+}
+
+/// An attempt that nothing disturbs passes each stage once, sleeps from its entering to its wake,
+/// and ends with no error.
+#[test]
+fn an_attempt_passes_its_stages(rt: HostRuntime) -> Result<(), Fail> {
+    let mut path = begun();
+    assert!(rt; path.stage() == Some(Stage::Notifies));
+    expect_steps(&rt, &mut path, &CALM);
     assert_eq!(rt; path.maker(), Some(TASK));
     assert_eq!(rt; path.failed(), None);
+    expect_end(&rt, &mut path);
+    Ok(())
+}
+
+/// Asserts that an attempt that is over has no maker and no stage.
+fn expect_end(rt: &impl Abort, path: &mut Path) {
+    assert!(rt; path.attempts() < 9);
     path.note(Kind::Over { n: 1, r: None }, TASK, 7, 50);
     assert_eq!(rt; path.maker(), None);
     assert!(rt; path.stage().is_none());
-    Ok(())
 }
 
 /// A step that fails leads back from where it stands, and its error is the attempt's.
 #[test]
-#[tactic(auto, using(crate::proofs::Counting::attempts_few))]
 fn a_failure_leads_back(rt: HostRuntime) -> Result<(), Fail> {
-    for (kind, stage) in FAILED {
-        let mut path = Path::new();
-        let (n, guarded) = (1, None);
-        path.note(Kind::Attempt { n, guarded }, TASK, 0, 0);
-        assert!(rt; path.attempts() < 9);
-        path.note(kind, TASK, 0, 0);
-        assert!(rt; path.stage() == Some(stage));
-        assert!(rt; path.failed().is_some());
-    }
+    expect_failures(&rt, &FAILED);
     Ok(())
+}
+
+fn expect_failures(rt: &impl Abort, steps: &[(Kind, Stage)]) {
+    for (kind, stage) in steps {
+        expect_failure(rt, *kind, *stage);
+    }
+}
+
+#[tactic(auto, using(sleep_state::proofs::Counting::attempts_few))]
+fn expect_failure(rt: &impl Abort, kind: Kind, stage: Stage) {
+    let mut path = begun();
+    assert!(rt; path.attempts() < 9);
+    path.note(kind, TASK, 0, 0);
+    assert!(rt; path.stage() == Some(stage));
+    assert!(rt; path.failed().is_some());
 }
 
 /// A freeze goes on from its begin to its end.
@@ -178,27 +205,53 @@ fn two_devices(alloc: Global) -> Result<Vec<Device>, Fail> {
     Ok(devices)
 }
 
+/// What is kept of those two at first.
+fn kept_of_two(alloc: Global) -> Result<Devices, Fail> {
+    let listed = two_devices(alloc)?;
+    Ok(Devices::new(alloc, listed.as_slice())?)
+}
+
 /// Devices keep their answers to prepare and their runtime statuses; a callback's error on the way
 /// down stands to the end of its phase, and one on the way up does not.
 #[test]
 fn devices_keep_what_they_answer(rt: HostRuntime) -> Result<(), Fail> {
-    let listed = two_devices(rt.alloc())?;
-    let mut devices = Devices::new(rt.alloc(), listed.as_slice())?;
+    let mut devices = kept_of_two(rt.alloc())?;
     assert!(rt; !devices.statuses().is_set(0) && devices.statuses().is_set(1));
+    expect_willing(&rt, &mut devices);
+    expect_callback(&rt, &mut devices);
+    expect_errors(&rt, &mut devices);
+    expect_asked(&rt, &mut devices);
+    Ok(())
+}
+
+fn expect_willing(rt: &impl Abort, devices: &mut Devices) {
     devices.note(Kind::Prepare { device: 1, r: 1 }, TASK);
     assert!(rt; !devices.willing().is_set(0) && devices.willing().is_set(1));
+}
+
+fn expect_callback(rt: &impl Abort, devices: &mut Devices) {
     devices.note(Kind::Begin(Phase::Late, 0), TASK);
     assert!(rt; devices.callback().is_some() && devices.takes_late());
     devices.note(Kind::End(Phase::Late, 0, Some(Errno::EIO)), TASK);
     assert!(rt; devices.callback().is_none());
+}
+
+fn expect_error(rt: &impl Abort, found: Option<Errno>, wanted: Option<Errno>) {
+    assert_eq!(rt; found, wanted);
+}
+
+fn expect_errors(rt: &impl Abort, devices: &mut Devices) {
     let own = Actor::Dev(1);
     devices.note(Kind::End(Phase::Late, 1, Some(Errno::EBUSY)), own);
-    assert_eq!(rt; devices.failed(), Some(Errno::EBUSY));
-    assert_eq!(rt; devices.own_error(), Some(Errno::EIO));
+    expect_error(rt, devices.failed(), Some(Errno::EBUSY));
+    expect_error(rt, devices.own_error(), Some(Errno::EIO));
     devices.note(Kind::Done(Phase::Late, Some(Errno::EIO)), TASK);
-    assert_eq!(rt; devices.failed(), None);
+    expect_error(rt, devices.failed(), None);
     devices.note(Kind::End(Phase::Early, 0, Some(Errno::EIO)), TASK);
-    assert_eq!(rt; devices.failed(), None);
+    expect_error(rt, devices.failed(), None);
+}
+
+fn expect_asked(rt: &impl Abort, devices: &mut Devices) {
     devices.note(Kind::Skip(Phase::Suspend, 1, SkipCause::Direct), TASK);
     assert!(rt; devices.leaves_alone());
     let r = None;
@@ -211,7 +264,6 @@ fn devices_keep_what_they_answer(rt: HostRuntime) -> Result<(), Fail> {
     };
     devices.note(ask, TASK);
     assert!(rt; !devices.statuses().is_set(1));
-    Ok(())
 }
 
 /// A script's own entries move its place; a post raises a mark, and a wait that ends lowers it.
@@ -221,29 +273,51 @@ fn a_script_moves_on(rt: HostRuntime) -> Result<(), Fail> {
     tasks.note(TASK, Kind::ReadWait);
     assert!(rt; tasks.seat(0).waits);
     tasks.note(TASK, Kind::Read(3));
-    let seat = tasks.seat(0);
-    assert_eq!(rt; (seat.done, seat.last_read), (1, Some(3)));
+    expect_read(&rt, &tasks);
     tasks.note(TASK, Kind::Post(0));
-    assert_eq!(rt; tasks.raised(0), 1);
+    expect_raised(&rt, &tasks, 1);
     tasks.note(TASK, Kind::Got(0));
-    assert_eq!(rt; (tasks.raised(0), tasks.seat(0).turns), (0, 3));
+    expect_raised(&rt, &tasks, 0);
+    expect_turns(&rt, &tasks);
     assert!(rt; !tasks.all_exited());
     tasks.note(TASK, Kind::Exit);
     assert!(rt; tasks.all_exited());
     Ok(())
 }
 
+fn expect_read(rt: &impl Abort, tasks: &Tasks) {
+    let seat = tasks.seat(0);
+    assert_eq!(rt; (seat.done, seat.last_read), (1, Some(3)));
+}
+
+fn expect_raised(rt: &impl Abort, tasks: &Tasks, raised: u32) {
+    assert_eq!(rt; tasks.raised(0), raised);
+}
+
+fn expect_turns(rt: &impl Abort, tasks: &Tasks) {
+    assert_eq!(rt; tasks.seat(0).turns, 3);
+}
+
+/// Asserts the least end of sleeps, and whether all are still at a time.
+fn expect_sleep(rt: &impl Abort, tasks: &Tasks, time: u64, end: Option<u64>, still: bool) {
+    assert_eq!(rt; (tasks.least_end(), tasks.are_still(time)), (end, still));
+}
+
+fn expect_slept(rt: &impl Abort, found: Option<u32>, wanted: Option<u32>) {
+    assert_eq!(rt; found, wanted);
+}
+
 /// A script that sleeps is still up to its moment, which is the least of all, and is found once that has come.
 #[test]
 fn the_least_end_of_sleeps_is_known(rt: HostRuntime) -> Result<(), Fail> {
     let mut tasks = Tasks::new(rt.alloc(), 1, 0)?;
-    assert_eq!(rt; (tasks.least_end(), tasks.are_still(3)), (None, false));
+    expect_sleep(&rt, &tasks, 3, None, false);
     tasks.note(TASK, Kind::Sleep(7));
-    assert_eq!(rt; (tasks.least_end(), tasks.are_still(3)), (Some(7), true));
-    assert_eq!(rt; tasks.next_slept(None, 3), None);
-    assert_eq!(rt; tasks.next_slept(None, 7), Some(0));
-    assert_eq!(rt; tasks.next_slept(Some(0), 7), None);
+    expect_sleep(&rt, &tasks, 3, Some(7), true);
+    expect_slept(&rt, tasks.next_slept(None, 3), None);
+    expect_slept(&rt, tasks.next_slept(None, 7), Some(0));
+    expect_slept(&rt, tasks.next_slept(Some(0), 7), None);
     tasks.note(TASK, Kind::Slept);
-    assert_eq!(rt; (tasks.least_end(), tasks.are_still(8)), (None, false));
+    expect_sleep(&rt, &tasks, 8, None, false);
     Ok(())
 }

@@ -1,4 +1,4 @@
-use Rattle.device_links.proofs.tests.+moved.Given as goal
+use Rattle.board_trials.proofs.link_tests.+moved.Given as goal
 
 abbrev pub decreases-moved : goal.decreases-moved
 decreases-moved l = l.levels
