@@ -1,74 +1,79 @@
 use super::*;
 use std::test::Fail;
 
+// A phase, its mirror and its name; whether it walks forward, whether devices go down in it, whether they come up, and
+// whether it tests for a wakeup.
+type Row = (Phase, Phase, &'static str, [bool; 4]);
+
+const WHOLE_TABLE: [Row; 10] = [
+    (
+        Phase::Prepare,
+        Phase::Complete,
+        "prepare",
+        [true, false, false, false],
+    ),
+    (
+        Phase::Suspend,
+        Phase::Resume,
+        "suspend",
+        [false, true, false, true],
+    ),
+    (
+        Phase::Late,
+        Phase::Early,
+        "late",
+        [false, true, false, true],
+    ),
+    (
+        Phase::Noirq,
+        Phase::ResumeNoirq,
+        "noirq",
+        [false, true, false, false],
+    ),
+    (
+        Phase::Syscore,
+        Phase::SyscoreResume,
+        "syscore",
+        [false, false, false, false],
+    ),
+    (
+        Phase::SyscoreResume,
+        Phase::Syscore,
+        "syscore_resume",
+        [true, false, false, false],
+    ),
+    (
+        Phase::ResumeNoirq,
+        Phase::Noirq,
+        "resume_noirq",
+        [true, false, true, false],
+    ),
+    (
+        Phase::Early,
+        Phase::Late,
+        "early",
+        [true, false, true, false],
+    ),
+    (
+        Phase::Resume,
+        Phase::Suspend,
+        "resume",
+        [true, false, true, false],
+    ),
+    (
+        Phase::Complete,
+        Phase::Prepare,
+        "complete",
+        [false, false, false, false],
+    ),
+];
+
 /// Each phase stands once in the table, in the order of an attempt, with its mirror, the way it
 /// walks, whether devices go down in it, whether it tests for a wakeup, and its name.
 #[test]
 fn the_whole_table(rt: HostRuntime) {
-    let wanted = [
-        (
-            Phase::Prepare,
-            Phase::Complete,
-            "prepare",
-            [true, false, false, false],
-        ),
-        (
-            Phase::Suspend,
-            Phase::Resume,
-            "suspend",
-            [false, true, false, true],
-        ),
-        (
-            Phase::Late,
-            Phase::Early,
-            "late",
-            [false, true, false, true],
-        ),
-        (
-            Phase::Noirq,
-            Phase::ResumeNoirq,
-            "noirq",
-            [false, true, false, false],
-        ),
-        (
-            Phase::Syscore,
-            Phase::SyscoreResume,
-            "syscore",
-            [false, false, false, false],
-        ),
-        (
-            Phase::SyscoreResume,
-            Phase::Syscore,
-            "syscore_resume",
-            [true, false, false, false],
-        ),
-        (
-            Phase::ResumeNoirq,
-            Phase::Noirq,
-            "resume_noirq",
-            [true, false, true, false],
-        ),
-        (
-            Phase::Early,
-            Phase::Late,
-            "early",
-            [true, false, true, false],
-        ),
-        (
-            Phase::Resume,
-            Phase::Suspend,
-            "resume",
-            [true, false, true, false],
-        ),
-        (
-            Phase::Complete,
-            Phase::Prepare,
-            "complete",
-            [false, false, false, false],
-        ),
-    ];
     let table = phases();
-    for ((phase, mirror, name, [forward, down, up, checks]), row) in wanted
+    for ((phase, mirror, name, [forward, down, up, checks]), row) in WHOLE_TABLE
         .iter()
         .copied()
         .zip(table.rows)
