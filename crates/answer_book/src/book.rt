@@ -1,5 +1,4 @@
 use crate::key::{Key, key_of};
-use crate::number::error_of_number;
 use crate::places::places_of;
 use indexmap::IndexMap;
 use sleep_base::{Errno, Mem};
@@ -73,7 +72,7 @@ impl<'a> AnswerBook<'a> {
         ensures { result ≡ answer_error (answer_among self.now what attempt) }
     {
         match self.answer(what, attempt) {
-            Some(answer) => error_of_number(answer.ret),
+            Some(answer) => Errno::of_answer(answer.ret),
             None => None,
         }
     }

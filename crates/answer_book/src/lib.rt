@@ -3,10 +3,8 @@
 
 mod book;
 mod key;
-mod number;
 mod places;
 #[cfg(test)]
 mod tests;
 
 pub use book::AnswerBook;
-pub use number::error_of_number;

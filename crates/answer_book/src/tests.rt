@@ -55,22 +55,3 @@ fn own_answers_stand_before_general_ones(rt: HostRuntime) -> Result<(), Fail> {
     assert!(rt; book.answer(What::Syscore(3), 2).is_none());
     Ok(())
 }
-
-/// Each error has its number below 0; others mean none.
-#[test]
-fn errors_by_number(rt: HostRuntime) {
-    for error in [
-        Errno::EINTR,
-        Errno::EIO,
-        Errno::EAGAIN,
-        Errno::EACCES,
-        Errno::EBUSY,
-        Errno::ENODEV,
-        Errno::EINVAL,
-    ] {
-        assert_eq!(rt; error_of_number(-i32::from(error.number())), Some(error));
-    }
-    for number in [0, 1, 5, -1, -6, -23, i32::MIN] {
-        assert_eq!(rt; error_of_number(number), None, "{number}");
-    }
-}

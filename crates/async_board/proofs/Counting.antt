@@ -5,7 +5,7 @@ use Rattle.std.proofs.lemmas.Bool.{cases_eq, true≢false, ne_eqb, or_from, or_r
 use Rattle.std.proofs.Math.Bool.{or-false}
 use Rattle.sleep_model.specs.Order.{is_among}
 use Rattle.sleep_model.proofs.Walks.{AllDifferent, same_eq}
-use Rattle.sleep_model.proofs.Hanging.{among_app, among_rest}
+use Rattle.sleep_model.proofs.Dependents.{among_app, among_rest}
 use Rattle.async_board.specs.Counts.{one, IsLoweredAt, IsRaisedAt, AreLowered, AreRaised}
 
 -- what stands at a place is among the list

@@ -12,10 +12,10 @@ use Rattle.async_board.specs.Picks.{picks, is_picked, IsPassed, IsAhead}
 use Rattle.async_board.specs.Cursors.{IsPassedBut, IsAheadBut, IsMoved}
 
 -- the device that moved is looked for by where it stands now
-pub moved_here : (beside : List Bool) (stands : List Stand) (order : List ℕ) (m : Moved) (what : Pick) → IsMoved beside stands order m
-    → is_picked what beside stands (get_or order m.place 0) ≡ picks what m.after m.beside
+pub moved_here : (asynchronous : List Bool) (stands : List Stand) (order : List ℕ) (m : Moved) (what : Pick) → IsMoved asynchronous stands order m
+    → is_picked what asynchronous stands (get_or order m.place 0) ≡ picks what m.after m.asynchronous
 unfolding is_picked
-moved_here beside stands order m what h = sym (ap (λ s. picks what s m.beside) h.after ∙ ap (λ b. picks what (stand_at stands (get_or order m.place 0)) b) h.beside)
+moved_here asynchronous stands order m what h = sym (ap (λ s. picks what s m.asynchronous) h.after ∙ ap (λ b. picks what (stand_at stands (get_or order m.place 0)) b) h.asynchronous)
 
 -- none passes, where the one that moved does not either
 pub passed_now : (k : ℕ) (was : Bool) (p : ℕ → Bool) (xs : List ℕ) (at : ℕ) → IsPassedBut k was p xs at → p (get_or xs k 0) ≡ false → IsPassed p xs at
@@ -47,17 +47,17 @@ ahead_still k was p xs at h e = record { fits = h.fits; behind = λ i l m. by_pl
     by_place i l m (inl same) = subst (λ (j : ℕ). p (get_or xs j 0) ≡ false) (sym same) (e ∙ h.here (omega (arith, same)))
     by_place i l m (inr other) = h.behind i l m other
 
--- an asynchronous device is never taken up by the walk itself, a synchronous one never given out
-pub up_apart : (beside : List Bool) (stands : List Stand) (order : List ℕ) (m : Moved) (was : Bool) (at : ℕ) → IsMoved beside stands order m → m.beside ≡ true
-    → IsPassedBut m.place was (is_picked pick.Up beside stands) order at → IsPassed (is_picked pick.Up beside stands) order at
+-- an asynchronous device is never taken up by the walk itself, a synchronous one never scheduled
+pub up_apart : (asynchronous : List Bool) (stands : List Stand) (order : List ℕ) (m : Moved) (was : Bool) (at : ℕ) → IsMoved asynchronous stands order m → m.asynchronous ≡ true
+    → IsPassedBut m.place was (is_picked pick.Up asynchronous stands) order at → IsPassed (is_picked pick.Up asynchronous stands) order at
 unfolding picks
-up_apart beside stands order m was at h e but =
-    passed_now m.place was (is_picked pick.Up beside stands) order at but
-    (moved_here beside stands order m pick.Up h ∙ (ap (λ b. is_down_in m.after && not b) e ∙ and-false (is_down_in m.after)))
+up_apart asynchronous stands order m was at h e but =
+    passed_now m.place was (is_picked pick.Up asynchronous stands) order at but
+    (moved_here asynchronous stands order m pick.Up h ∙ (ap (λ b. is_down_in m.after && not b) e ∙ and-false (is_down_in m.after)))
 
-pub given_apart : (beside : List Bool) (stands : List Stand) (order : List ℕ) (m : Moved) (was : Bool) (at : ℕ) → IsMoved beside stands order m → m.beside ≡ false
-    → IsPassedBut m.place was (is_picked pick.Given beside stands) order at → IsPassed (is_picked pick.Given beside stands) order at
+pub to_schedule_apart : (asynchronous : List Bool) (stands : List Stand) (order : List ℕ) (m : Moved) (was : Bool) (at : ℕ) → IsMoved asynchronous stands order m → m.asynchronous ≡ false
+    → IsPassedBut m.place was (is_picked pick.ToSchedule asynchronous stands) order at → IsPassed (is_picked pick.ToSchedule asynchronous stands) order at
 unfolding picks
-given_apart beside stands order m was at h e but =
-    passed_now m.place was (is_picked pick.Given beside stands) order at but
-    (moved_here beside stands order m pick.Given h ∙ (ap (λ b. is_down_in m.after && b) e ∙ and-false (is_down_in m.after)))
+to_schedule_apart asynchronous stands order m was at h e but =
+    passed_now m.place was (is_picked pick.ToSchedule asynchronous stands) order at but
+    (moved_here asynchronous stands order m pick.ToSchedule h ∙ (ap (λ b. is_down_in m.after && b) e ∙ and-false (is_down_in m.after)))

@@ -6,8 +6,8 @@ use Rattle.sleep_model.specs.declared.machine.Link.{Link}
 use Rattle.sleep_model.specs.declared.place.Stand.{Stand}
 use Rattle.sleep_model.specs.declared.place.Stand.TheVariants as stand
 use Rattle.sleep_model.specs.Links.{first_places}
-use Rattle.sleep_model.specs.Order.{is_among, is_link, with_state, links_added, links_set, active_of, children_from, consumers_of, hanging, holding}
-use Rattle.sleep_model.specs.Stands.{stand_at, is_prepared, is_unsettled, is_low}
+use Rattle.sleep_model.specs.Order.{is_among, is_link, with_state, links_added, links_set, active_of, children_from, consumers_of, dependents, superiors}
+use Rattle.sleep_model.specs.Stands.{stand_at, is_prepared, is_not_down, is_not_up}
 use Rattle.device_links.specs.Linked.{Linked}
 use Rattle.async_board.specs.declared.pick.Pick.TheVariants as pick
 use Rattle.async_board.specs.declared.walk.Layout.{Layout}
@@ -60,9 +60,9 @@ not_prepared stand.Rescheduled e = absurd (true≢false e)
 not_prepared stand.Resuming e = absurd (true≢false e)
 not_prepared stand.Resumed e = absurd (true≢false e)
 
-not_picked : (beside : List Bool) (stands : List Stand) (d : ℕ) → is_picked pick.Prepared beside stands d ≡ false → stand_at stands d ≡ stand.Unprepared
+not_picked : (asynchronous : List Bool) (stands : List Stand) (d : ℕ) → is_picked pick.Prepared asynchronous stands d ≡ false → stand_at stands d ≡ stand.Unprepared
 unfolding is_picked picks
-not_picked beside stands d e = not_prepared (stand_at stands d) e
+not_picked asynchronous stands d e = not_prepared (stand_at stands d) e
 
 module _ (l : Layout) (w : Walk) (h : IsWalk l w) (covers : (d : ℕ) → d < length l.links.parents → is_among (order_of l) d ≡ true) where
   abbrev n : ℕ
@@ -76,29 +76,29 @@ module _ (l : Layout) (w : Walk) (h : IsWalk l w) (covers : (d : ℕ) → d < le
       each : (d : ℕ) → d < n → stand_at w.stands.items d ≡ stand.Unprepared
       each d k =
           let f = found (order_of l) d (covers d k) in
-          not_picked l.beside.items w.stands.items d
-          (subst (λ (x : ℕ). is_picked pick.Prepared l.beside.items w.stands.items x ≡ false) f.2 (h.cursors.prepared.behind f.0 (omega (arith, e)) f.1))
+          not_picked l.asynchronous.items w.stands.items d
+          (subst (λ (x : ℕ). is_picked pick.Prepared l.asynchronous.items w.stands.items x ≡ false) f.2 (h.cursors.prepared.behind f.0 (omega (arith, e)) f.1))
 
   none_open : w.cursors.prepared ≡ 0 → w.open_above.items ≡ replicate n 0
   none_open e =
       ext_get_or 0 w.open_above.items (replicate n 0) (h.above.size ∙ sym (length-replicate n 0))
       (λ d k. h.above.each d (omega (arith, k, h.above.size))
-      ∙ (ap length (none_pass (λ x. is_low (stand_at w.stands.items x)) (first_places (holding l.links.parents (active_of l.links.links) d)) low)
+      ∙ (ap length (none_pass (λ x. is_not_up (stand_at w.stands.items x)) (first_places (superiors l.links.parents (active_of l.links.links) d)) not_up)
       ∙ sym (zeros n d)))
     where
-      low : (x : ℕ) → is_low (stand_at w.stands.items x) ≡ false
-      low x = ap (λ ss. is_low (stand_at ss x)) (all_rest e) ∙ ap is_low (fresh_stands n x)
+      not_up : (x : ℕ) → is_not_up (stand_at w.stands.items x) ≡ false
+      not_up x = ap (λ ss. is_not_up (stand_at ss x)) (all_rest e) ∙ ap is_not_up (fresh_stands n x)
 
-  all_open : w.cursors.prepared ≡ 0 → (d : ℕ) → d < n → get_or w.open_below.items d 0 ≡ length (first_places (hanging l.links.parents (active_of l.links.links) d))
-  all_open e d k = h.below.each d k ∙ ap length (all_pass (λ x. is_unsettled (stand_at w.stands.items x)) (first_places (hanging l.links.parents (active_of l.links.links) d)) unsettled)
+  all_open : w.cursors.prepared ≡ 0 → (d : ℕ) → d < n → get_or w.open_below.items d 0 ≡ length (first_places (dependents l.links.parents (active_of l.links.links) d))
+  all_open e d k = h.below.each d k ∙ ap length (all_pass (λ x. is_not_down (stand_at w.stands.items x)) (first_places (dependents l.links.parents (active_of l.links.links) d)) unsettled)
     where
-      unsettled : (x : ℕ) → is_unsettled (stand_at w.stands.items x) ≡ true
-      unsettled x = ap (λ ss. is_unsettled (stand_at ss x)) (all_rest e) ∙ ap is_unsettled (fresh_stands n x)
+      unsettled : (x : ℕ) → is_not_down (stand_at w.stands.items x) ≡ true
+      unsettled x = ap (λ ss. is_not_down (stand_at ss x)) (all_rest e) ∙ ap is_not_down (fresh_stands n x)
 
   -- over links that show the same below all but one
   module _ (but : ℕ) (ls : List Link) (same : (d : ℕ) → d ≢ but → consumers_of d (active_of ls) ≡ consumers_of d (active_of l.links.links)) where
     rested : (l' : Layout) → l'.links ≡ record { parents = l.links.parents; links = ls } → MayRestart l' but w
-    rested l' e = subst (λ (k : Linked). MayRestart (record { links = k; places = l'.places; beside = l'.beside }) but w) (sym e) (record {
+    rested l' e = subst (λ (k : Linked). MayRestart (record { links = k; places = l'.places; asynchronous = l'.asynchronous }) but w) (sym e) (record {
       size = record { stands = h.size; below = h.below.size; above = h.above.size };
       rest = λ z. record {
         stands = all_rest z;

@@ -7,8 +7,8 @@ use Rattle.std.proofs.Math.Dec.{eqb-suc-zero}
 use Rattle.sleep_model.specs.declared.machine.Link.{Link}
 use Rattle.sleep_model.specs.declared.place.Stand.{Stand}
 use Rattle.sleep_model.specs.Links.{first_places}
-use Rattle.sleep_model.specs.Order.{active_of, hanging, holding}
-use Rattle.sleep_model.specs.Stands.{stand_at, is_unsettled, is_low}
+use Rattle.sleep_model.specs.Order.{active_of, dependents, superiors}
+use Rattle.sleep_model.specs.Stands.{stand_at, is_not_down, is_not_up}
 use Rattle.sleep_model.specs.Walk.{first_where}
 use Rattle.sleep_model.proofs.Searches.{find_is_first}
 use Rattle.async_board.specs.Counts.{IsCount}
@@ -76,12 +76,12 @@ none_counted n p row counts d h z = sym (first_once p (row d)) ∙ none_found p 
     zero_at = (read counts d (eqb-true (get_or counts d 1) 0 z)).1
 
 pub below_none : (ps : List (Option ℕ)) (ls : List Link) (stands : List Stand) (counts : List ℕ) (d : ℕ) → IsBelow ps ls stands counts → (get_or counts d 1 == 0) ≡ true
-    → first_where (λ e. is_unsettled (stand_at stands e)) (hanging ps (active_of ls) d) ≡ None
-below_none ps ls stands counts d h z = none_counted (length ps) (λ e. is_unsettled (stand_at stands e)) (hanging ps (active_of ls)) counts d h z
+    → first_where (λ e. is_not_down (stand_at stands e)) (dependents ps (active_of ls) d) ≡ None
+below_none ps ls stands counts d h z = none_counted (length ps) (λ e. is_not_down (stand_at stands e)) (dependents ps (active_of ls)) counts d h z
 
 pub above_none : (ps : List (Option ℕ)) (ls : List Link) (stands : List Stand) (counts : List ℕ) (d : ℕ) → IsAbove ps ls stands counts → (get_or counts d 1 == 0) ≡ true
-    → first_where (λ e. is_low (stand_at stands e)) (holding ps (active_of ls) d) ≡ None
-above_none ps ls stands counts d h z = none_counted (length ps) (λ e. is_low (stand_at stands e)) (holding ps (active_of ls)) counts d h z
+    → first_where (λ e. is_not_up (stand_at stands e)) (superiors ps (active_of ls) d) ≡ None
+above_none ps ls stands counts d h z = none_counted (length ps) (λ e. is_not_up (stand_at stands e)) (superiors ps (active_of ls)) counts d h z
 
 -- none passes exactly where none is found
 none_or_found : (p : ℕ → Bool) (xs : List ℕ) → (length (filter p xs) == 0) ≡ is_none (first_where p xs)

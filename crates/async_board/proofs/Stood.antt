@@ -5,9 +5,9 @@ use Rattle.sleep_model.specs.declared.place.Stand.{Stand}
 use Rattle.sleep_model.specs.declared.place.Stand.TheVariants as stand
 use Rattle.std.proofs.lemmas.List.{length-replicate, set-get_or}
 use Rattle.sleep_model.specs.declared.machine.Link.{Link}
-use Rattle.sleep_model.specs.Order.{active_of, hanging, holding}
+use Rattle.sleep_model.specs.Order.{active_of, dependents, superiors}
 use Rattle.sleep_model.specs.Links.{first_places}
-use Rattle.sleep_model.specs.Stands.{stand_at, is_low, is_unsettled}
+use Rattle.sleep_model.specs.Stands.{stand_at, is_not_up, is_not_down}
 use Rattle.async_board.specs.declared.walk.Layout.{Layout}
 use Rattle.async_board.specs.declared.walk.Walk.{Walk}
 use Rattle.async_board.specs.Counts.{IsLengths}
@@ -31,35 +31,35 @@ pub stands_anew : (stands : List Stand) (d : ℕ) (s : Stand) → d < length sta
 stands_anew stands d s l = get_or-set_same stands d s stand.Unprepared l
 
 -- who is low is a device
-pub low_within : (stands : List Stand) (x : ℕ) → is_low (stand_at stands x) ≡ true → x < length stands
-low_within [] x h = absurd (false≢true h)
-low_within (s ∷ stands) zero h = omega arith
-low_within (s ∷ stands) (suc x) h = omega (arith, low_within stands x h)
+pub not_up_within : (stands : List Stand) (x : ℕ) → is_not_up (stand_at stands x) ≡ true → x < length stands
+not_up_within [] x h = absurd (false≢true h)
+not_up_within (s ∷ stands) zero h = omega arith
+not_up_within (s ∷ stands) (suc x) h = omega (arith, not_up_within stands x h)
 
-module _ (beside : List Bool) (stands : List Stand) (order places : List ℕ) (d : ℕ) (s : Stand) (placed : IsPlaced order places) where
+module _ (asynchronous : List Bool) (stands : List Stand) (order places : List ℕ) (d : ℕ) (s : Stand) (placed : IsPlaced order places) where
   other : (i : ℕ) → i < length order → i ≢ get_or places d 0 → get_or order i 0 ≡ d → ⊥
   other i l ne e = ne (sym (placed.once i l) ∙ ap (λ x. get_or places x 0) e)
 
-  picked_same : (what : Pick) (x : ℕ) → (x ≡ d → ⊥) → is_picked what beside (set stands d s) x ≡ is_picked what beside stands x
+  picked_same : (what : Pick) (x : ℕ) → (x ≡ d → ⊥) → is_picked what asynchronous (set stands d s) x ≡ is_picked what asynchronous stands x
   unfolding is_picked
-  picked_same what x ne = ap (λ t. picks what t (is_so beside x)) (others_stand stands d x s ne)
+  picked_same what x ne = ap (λ t. picks what t (is_so asynchronous x)) (others_stand stands d x s ne)
 
-  module _ (m : Moved) (place : m.place ≡ get_or places d 0) (before : m.before ≡ stand_at stands d) (flag : m.beside ≡ is_so beside d) (within : d < length order) where
+  module _ (m : Moved) (place : m.place ≡ get_or places d 0) (before : m.before ≡ stand_at stands d) (flag : m.asynchronous ≡ is_so asynchronous d) (within : d < length order) where
     device_here : get_or order m.place 0 ≡ d
     device_here = ap (λ i. get_or order i 0) place ∙ placed.here d within
 
-    was_here : (what : Pick) → picks what m.before m.beside ≡ is_picked what beside stands (get_or order m.place 0)
+    was_here : (what : Pick) → picks what m.before m.asynchronous ≡ is_picked what asynchronous stands (get_or order m.place 0)
     unfolding is_picked
-    was_here what = ap (λ t. picks what t m.beside) before ∙ (ap (λ b. picks what (stand_at stands d) b) flag ∙ ap (λ x. picks what (stand_at stands x) (is_so beside x)) (sym device_here))
+    was_here what = ap (λ t. picks what t m.asynchronous) before ∙ (ap (λ b. picks what (stand_at stands d) b) flag ∙ ap (λ x. picks what (stand_at stands x) (is_so asynchronous x)) (sym device_here))
 
-    passed_but : (what : Pick) (at : ℕ) → IsPassed (is_picked what beside stands) order at → IsPassedBut m.place (picks what m.before m.beside) (is_picked what beside (set stands d s)) order at
+    passed_but : (what : Pick) (at : ℕ) → IsPassed (is_picked what asynchronous stands) order at → IsPassedBut m.place (picks what m.before m.asynchronous) (is_picked what asynchronous (set stands d s)) order at
     passed_but what at h = record {
       fits = h.fits;
       before = λ i l ne. picked_same what (get_or order i 0) (other i (let f : at ≤ length order = h.fits in omega arith) (λ e. ne (e ∙ sym place))) ∙ h.before i l;
       here = λ l. was_here what ∙ h.before m.place l;
     }
 
-    ahead_but : (what : Pick) (at : ℕ) → IsAhead (is_picked what beside stands) order at → IsAheadBut m.place (picks what m.before m.beside) (is_picked what beside (set stands d s)) order at
+    ahead_but : (what : Pick) (at : ℕ) → IsAhead (is_picked what asynchronous stands) order at → IsAheadBut m.place (picks what m.before m.asynchronous) (is_picked what asynchronous (set stands d s)) order at
     ahead_but what at h = record {
       fits = h.fits;
       behind = λ i l k ne. picked_same what (get_or order i 0) (other i k (λ e. ne (e ∙ sym place))) ∙ h.behind i l k;
@@ -67,23 +67,23 @@ module _ (beside : List Bool) (stands : List Stand) (order places : List ℕ) (d
     }
 
     -- the cursors, from before the device moved
-    pub cursors_but : (c : Cursors) → AreCursors beside stands order c → AreCursorsBut m beside (set stands d s) order c
+    pub cursors_but : (c : Cursors) → AreCursors asynchronous stands order c → AreCursorsBut m asynchronous (set stands d s) order c
     cursors_but c h = record {
       unprepared = passed_but pick.Unprepared c.unprepared h.unprepared;
       going = passed_but pick.Going c.going h.going;
-      given = passed_but pick.Given c.given h.given;
+      to_schedule = passed_but pick.ToSchedule c.to_schedule h.to_schedule;
       up = passed_but pick.Up c.up h.up;
-      low = passed_but pick.Low c.low h.low;
+      not_up = passed_but pick.NotUp c.not_up h.not_up;
       ready = ahead_but pick.Ready c.ready h.ready;
       prepared = ahead_but pick.Prepared c.prepared h.prepared;
     }
 
     -- the device that moved, as it stands now
-    pub is_moved : m.after ≡ s → d < length stands → IsMoved beside (set stands d s) order m
+    pub is_moved : m.after ≡ s → d < length stands → IsMoved asynchronous (set stands d s) order m
     is_moved after l = record {
       within = rw place (placed.within d within);
       after = after ∙ (sym (stands_anew stands d s l) ∙ ap (stand_at (set stands d s)) (sym device_here));
-      beside = flag ∙ ap (is_so beside) (sym device_here);
+      asynchronous = flag ∙ ap (is_so asynchronous) (sym device_here);
     }
 
 -- ---- the first stands
@@ -107,16 +107,16 @@ zeros (suc n) zero = refl
 zeros (suc n) (suc d) = zeros n d
 
 -- all are below and not through, and none is up
-pub fresh_below : (ps : List (Option ℕ)) (ls : List Link) (counts : List ℕ) → IsLengths (length ps) (λ d. first_places (hanging ps (active_of ls) d)) counts → IsBelow ps ls (replicate (length ps) stand.Unprepared) counts
+pub fresh_below : (ps : List (Option ℕ)) (ls : List Link) (counts : List ℕ) → IsLengths (length ps) (λ d. first_places (dependents ps (active_of ls) d)) counts → IsBelow ps ls (replicate (length ps) stand.Unprepared) counts
 fresh_below ps ls counts h = record {
   size = h.size;
-  each = λ d l. h.each d l ∙ ap length (sym (all_pass (λ x. is_unsettled (stand_at (replicate (length ps) stand.Unprepared) x)) (first_places (hanging ps (active_of ls) d)) (λ x. ap is_unsettled (fresh_stands (length ps) x))));
+  each = λ d l. h.each d l ∙ ap length (sym (all_pass (λ x. is_not_down (stand_at (replicate (length ps) stand.Unprepared) x)) (first_places (dependents ps (active_of ls) d)) (λ x. ap is_not_down (fresh_stands (length ps) x))));
 }
 
 pub fresh_above : (ps : List (Option ℕ)) (ls : List Link) → IsAbove ps ls (replicate (length ps) stand.Unprepared) (replicate (length ps) 0)
 fresh_above ps ls = record {
   size = length-replicate (length ps) 0;
-  each = λ d l. zeros (length ps) d ∙ ap length (sym (none_pass (λ x. is_low (stand_at (replicate (length ps) stand.Unprepared) x)) (first_places (holding ps (active_of ls) d)) (λ x. ap is_low (fresh_stands (length ps) x))));
+  each = λ d l. zeros (length ps) d ∙ ap length (sym (none_pass (λ x. is_not_up (stand_at (replicate (length ps) stand.Unprepared) x)) (first_places (superiors ps (active_of ls) d)) (λ x. ap is_not_up (fresh_stands (length ps) x))));
 }
 
 -- what a device that is not prepared is found by
@@ -128,9 +128,9 @@ fresh_passed : (p : ℕ → Bool) (xs : List ℕ) → IsPassed p xs 0
 fresh_passed p xs = record { fits = omega arith; before = λ i l. absurd (omega arith) }
 
 -- what no device is that is not prepared
-fresh_none : (what : Pick) (beside : List Bool) (n x : ℕ) → ((b : Bool) → picks what stand.Unprepared b ≡ false) → is_picked what beside (replicate n stand.Unprepared) x ≡ false
+fresh_none : (what : Pick) (asynchronous : List Bool) (n x : ℕ) → ((b : Bool) → picks what stand.Unprepared b ≡ false) → is_picked what asynchronous (replicate n stand.Unprepared) x ≡ false
 unfolding is_picked
-fresh_none what beside n x h = ap (λ t. picks what t (is_so beside x)) (fresh_stands n x) ∙ h (is_so beside x)
+fresh_none what asynchronous n x h = ap (λ t. picks what t (is_so asynchronous x)) (fresh_stands n x) ∙ h (is_so asynchronous x)
 
 fresh_beyond : (p : ℕ → Bool) (xs : List ℕ) → ((x : ℕ) → p x ≡ false) → IsPassed p xs (length xs)
 fresh_beyond p xs h = record { fits = omega arith; before = λ i l. h (get_or xs i 0) }
@@ -144,34 +144,34 @@ no_picks pick.Unprepared e b = absurd (false≢true (sym e))
 no_picks pick.Prepared e b = refl
 no_picks pick.Ready e b = refl
 no_picks pick.Going e b = refl
-no_picks pick.Given e b = refl
+no_picks pick.ToSchedule e b = refl
 no_picks pick.Up e b = refl
-no_picks pick.Low e b = refl
+no_picks pick.NotUp e b = refl
 
-pub fresh_cursors : (beside : List Bool) (m : ℕ) (order : List ℕ) (n : ℕ) → n ≡ length order
-    → AreCursors beside (replicate m stand.Unprepared) order (record { unprepared = 0; going = n; given = n; up = n; low = n; ready = 0; prepared = 0 })
-fresh_cursors beside m order n e = record {
-  unprepared = fresh_passed (is_picked pick.Unprepared beside (replicate m stand.Unprepared)) order;
+pub fresh_cursors : (asynchronous : List Bool) (m : ℕ) (order : List ℕ) (n : ℕ) → n ≡ length order
+    → AreCursors asynchronous (replicate m stand.Unprepared) order (record { unprepared = 0; going = n; to_schedule = n; up = n; not_up = n; ready = 0; prepared = 0 })
+fresh_cursors asynchronous m order n e = record {
+  unprepared = fresh_passed (is_picked pick.Unprepared asynchronous (replicate m stand.Unprepared)) order;
   going = beyond pick.Going refl;
-  given = beyond pick.Given refl;
+  to_schedule = beyond pick.ToSchedule refl;
   up = beyond pick.Up refl;
-  low = beyond pick.Low refl;
-  ready = fresh_ahead (is_picked pick.Ready beside (replicate m stand.Unprepared)) order (λ x. fresh_none pick.Ready beside m x (no_picks pick.Ready refl));
-  prepared = fresh_ahead (is_picked pick.Prepared beside (replicate m stand.Unprepared)) order (λ x. fresh_none pick.Prepared beside m x (no_picks pick.Prepared refl));
+  not_up = beyond pick.NotUp refl;
+  ready = fresh_ahead (is_picked pick.Ready asynchronous (replicate m stand.Unprepared)) order (λ x. fresh_none pick.Ready asynchronous m x (no_picks pick.Ready refl));
+  prepared = fresh_ahead (is_picked pick.Prepared asynchronous (replicate m stand.Unprepared)) order (λ x. fresh_none pick.Prepared asynchronous m x (no_picks pick.Prepared refl));
 }
   where
-    beyond : (what : Pick) → is_first_found what ≡ false → IsPassed (is_picked what beside (replicate m stand.Unprepared)) order n
-    beyond what f = subst (λ (k : ℕ). IsPassed (is_picked what beside (replicate m stand.Unprepared)) order k) (sym e) (fresh_beyond (is_picked what beside (replicate m stand.Unprepared)) order (λ x. fresh_none what beside m x (no_picks what f)))
+    beyond : (what : Pick) → is_first_found what ≡ false → IsPassed (is_picked what asynchronous (replicate m stand.Unprepared)) order n
+    beyond what f = subst (λ (k : ℕ). IsPassed (is_picked what asynchronous (replicate m stand.Unprepared)) order k) (sym e) (fresh_beyond (is_picked what asynchronous (replicate m stand.Unprepared)) order (λ x. fresh_none what asynchronous m x (no_picks what f)))
 
 -- a walk in which no device is prepared
 pub fresh_walk : (l : Layout) (w : Walk) (n : ℕ) → n ≡ length (order_of l) → n ≡ length l.links.parents → w.stands.items ≡ replicate n stand.Unprepared
-    → w.cursors ≡ record { unprepared = 0; going = n; given = n; up = n; low = n; ready = 0; prepared = 0 }
-    → IsLengths (length l.links.parents) (λ d. first_places (hanging l.links.parents (active_of l.links.links) d)) w.open_below.items → w.open_above.items ≡ replicate n 0 → IsWalk l w
+    → w.cursors ≡ record { unprepared = 0; going = n; to_schedule = n; up = n; not_up = n; ready = 0; prepared = 0 }
+    → IsLengths (length l.links.parents) (λ d. first_places (dependents l.links.parents (active_of l.links.links) d)) w.open_below.items → w.open_above.items ≡ replicate n 0 → IsWalk l w
 fresh_walk l w n e f stands cursors below above = record {
   size = ap length stands ∙ (length-replicate n stand.Unprepared ∙ f);
   cursors =
-      subst (λ (ss : List Stand). AreCursors l.beside.items ss (order_of l) w.cursors) (sym stands)
-      (subst (λ (c : Cursors). AreCursors l.beside.items (replicate n stand.Unprepared) (order_of l) c) (sym cursors) (fresh_cursors l.beside.items n (order_of l) n e));
+      subst (λ (ss : List Stand). AreCursors l.asynchronous.items ss (order_of l) w.cursors) (sym stands)
+      (subst (λ (c : Cursors). AreCursors l.asynchronous.items (replicate n stand.Unprepared) (order_of l) c) (sym cursors) (fresh_cursors l.asynchronous.items n (order_of l) n e));
   below = subst (λ (ss : List Stand). IsBelow l.links.parents l.links.links ss w.open_below.items) (sym fresh) (fresh_below l.links.parents l.links.links w.open_below.items below);
   above =
       subst (λ (ss : List Stand). IsAbove l.links.parents l.links.links ss w.open_above.items) (sym fresh)

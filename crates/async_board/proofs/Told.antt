@@ -14,7 +14,7 @@ use Rattle.sleep_model.specs.declared.place.Stand.TheVariants as stand
 use Rattle.sleep_model.specs.Devices.{is_async_device}
 use Rattle.sleep_model.specs.Order.{order, below, above, links_after, links_at, parents_of}
 use Rattle.sleep_model.specs.Runtime.{is_async}
-use Rattle.sleep_model.specs.Stands.{stands, stand_at, is_ready, is_unsettled, is_going_down, is_down_in, is_low}
+use Rattle.sleep_model.specs.Stands.{stands, stand_at, is_ready, is_not_down, is_going_down, is_down_in, is_not_up}
 use Rattle.sleep_model.specs.Walk.{first_where, last_where}
 use Rattle.async_board.specs.Boards.{stands_on, first_board, board_after}
 use Rattle.async_board.specs.AtPlaces.{board_at, Tells}
@@ -29,7 +29,7 @@ stands_down m past p e = absurd (false≢true e)
 -- no device is prepared at first
 pub board_first : (m : Machine) → first_board (parents_of m.devices) (reverse m.links) (map is_async m.devices) ≡ board_at m []
 board_first m =
-    ap (λ (n : ℕ). record { parents = parents_of m.devices; links = reverse m.links; beside = map is_async m.devices; suspend = replicate n stand.Unprepared; late = replicate n stand.Unprepared; noirq = replicate n stand.Unprepared })
+    ap (λ (n : ℕ). record { parents = parents_of m.devices; links = reverse m.links; asynchronous = map is_async m.devices; suspend = replicate n stand.Unprepared; late = replicate n stand.Unprepared; noirq = replicate n stand.Unprepared })
     (length-map m.devices (λ (x : Device). x.parent))
 
 module _ (m : Machine) (past : List Entry) where
@@ -45,13 +45,13 @@ module _ (m : Machine) (past : List Entry) where
     closes = λ p e. ap (λ (ss : List Stand). first_where (λ d. is_going_down (stand_at ss d)) (order m past)) (stands_down m past p e);
     gives = λ p e. ap (λ (ss : List Stand). first_where (λ d. is_down_in (stand_at ss d) && is_async_device m d) (order m past)) (stands_down m past p e);
     raises = λ p e. ap (λ (ss : List Stand). first_where (λ d. is_down_in (stand_at ss d) && not (is_async_device m d)) (order m past)) (stands_down m past p e);
-    opens = λ p e. ap (λ (ss : List Stand). first_where (λ d. is_low (stand_at ss d)) (order m past)) (stands_down m past p e);
-    waits_for_below = λ p d e. ap (λ (ss : List Stand). first_where (λ x. is_unsettled (stand_at ss x)) (below m past d)) (stands_down m past p e);
-    waits_for_above = λ p d e. ap (λ (ss : List Stand). first_where (λ x. is_low (stand_at ss x)) (above m past d)) (stands_down m past p e);
+    opens = λ p e. ap (λ (ss : List Stand). first_where (λ d. is_not_up (stand_at ss d)) (order m past)) (stands_down m past p e);
+    waits_for_below = λ p d e. ap (λ (ss : List Stand). first_where (λ x. is_not_down (stand_at ss x)) (below m past d)) (stands_down m past p e);
+    waits_for_above = λ p d e. ap (λ (ss : List Stand). first_where (λ x. is_not_up (stand_at ss x)) (above m past d)) (stands_down m past p e);
     left_alone = λ d. refl;
   }
 
 -- an entry that changes no link moves the board alone
 pub board_next : (m : Machine) (past : List Entry) (e : Entry) → links_after e.kind (links_at m past) ≡ links_at m past → board_after e.kind (board_at m past) ≡ board_at m (e ∷ past)
 board_next m past e same =
-    ap (λ (ls : List Link). record { parents = parents_of m.devices; links = ls; beside = map is_async m.devices; suspend = stands (length m.devices) phase.Suspend (e ∷ past); late = stands (length m.devices) phase.Late (e ∷ past); noirq = stands (length m.devices) phase.Noirq (e ∷ past) }) (sym same)
+    ap (λ (ls : List Link). record { parents = parents_of m.devices; links = ls; asynchronous = map is_async m.devices; suspend = stands (length m.devices) phase.Suspend (e ∷ past); late = stands (length m.devices) phase.Late (e ∷ past); noirq = stands (length m.devices) phase.Noirq (e ∷ past) }) (sym same)

@@ -2,10 +2,10 @@
 use Rattle.std.proofs.Common.{◌≡◌, ◌<◌, ◌≤◌, ◌+◌, ◌∙◌, ℕ, Bool, true, false, not, ◌==◌, ◌||◌, ◌&&◌, ◌⊎◌, inl, inr, List, [], ◌∷◌, length, filter, get_or, slice_get, cond, Option, None, refl, sym, ap, subst, arith}
 use Rattle.std.proofs.lemmas.Bool.{false≢true, true≢false, eqb-true, eqb-false, or_cases}
 use Rattle.sleep_model.specs.declared.machine.Link.{Link}
-use Rattle.sleep_model.specs.Order.{is_among, children_from, consumers_of, suppliers_of, parent_of, hanging, holding, is_parent}
+use Rattle.sleep_model.specs.Order.{is_among, children_from, consumers_of, suppliers_of, parent_of, dependents, superiors, is_parent}
 use Rattle.sleep_model.specs.Links.{first_places, IsOrder}
 use Rattle.sleep_model.proofs.Walks.{AllDifferent, same_eq}
-use Rattle.sleep_model.proofs.Hanging.{among_app, among_first, among_rest, within_of}
+use Rattle.sleep_model.proofs.Dependents.{among_app, among_first, among_rest, within_of}
 use Rattle.sleep_model.proofs.Ordering.{different_filter, kept_passes}
 use Rattle.sleep_model.proofs.Acyclic.{few, among_filter}
 use Rattle.sleep_model.proofs.FirstPlaces.{among_first_places, among_children, among_parent, consumers_linked, suppliers_linked}
@@ -22,7 +22,7 @@ first_different (x ∷ xs) = (
 )
 
 -- who is above e is who e is below of, where e is a device
-pub across : (ps : List (Option ℕ)) (ls : List Link) (d e : ℕ) → e < length ps → is_among (holding ps ls e) d ≡ is_among (hanging ps ls d) e
+pub across : (ps : List (Option ℕ)) (ls : List Link) (d e : ℕ) → e < length ps → is_among (superiors ps ls e) d ≡ is_among (dependents ps ls d) e
 across ps ls d e l =
     among_app (parent_of (slice_get ps e)) (suppliers_of e ls) d
     ∙ (ap (λ b. b || is_among (suppliers_of e ls) d) (among_parent ps e d)
@@ -33,19 +33,19 @@ across ps ls d e l =
     here : 0 + e ≡ e
     here = omega arith
 
-pub above_across : (ps : List (Option ℕ)) (ls : List Link) (d e : ℕ) → e < length ps → is_among (first_places (holding ps ls e)) d ≡ is_among (first_places (hanging ps ls d)) e
-above_across ps ls d e l = among_first_places (holding ps ls e) d ∙ (across ps ls d e l ∙ sym (among_first_places (hanging ps ls d) e))
+pub above_across : (ps : List (Option ℕ)) (ls : List Link) (d e : ℕ) → e < length ps → is_among (first_places (superiors ps ls e)) d ≡ is_among (first_places (dependents ps ls d)) e
+above_across ps ls d e l = among_first_places (superiors ps ls e) d ∙ (across ps ls d e l ∙ sym (among_first_places (dependents ps ls d) e))
 
-pub below_across : (ps : List (Option ℕ)) (ls : List Link) (d e : ℕ) → d < length ps → is_among (first_places (hanging ps ls e)) d ≡ is_among (first_places (holding ps ls d)) e
-below_across ps ls d e l = among_first_places (hanging ps ls e) d ∙ (sym (across ps ls e d l) ∙ sym (among_first_places (holding ps ls d) e))
+pub below_across : (ps : List (Option ℕ)) (ls : List Link) (d e : ℕ) → d < length ps → is_among (first_places (dependents ps ls e)) d ≡ is_among (first_places (superiors ps ls d)) e
+below_across ps ls d e l = among_first_places (dependents ps ls e) d ∙ (sym (across ps ls e d l) ∙ sym (among_first_places (superiors ps ls d) e))
 
 -- who hangs below a device of the order stands in the order
-pub order_hangs : (hang : ℕ → List ℕ) (xs : List ℕ) → IsOrder hang xs → (d x : ℕ) → is_among xs d ≡ true → is_among (hang d) x ≡ true → is_among xs x ≡ true
-order_hangs hang [] h d x m n = absurd (false≢true m)
-order_hangs hang (y ∷ ys) h d x m n = by_place (order_hangs hang ys h.2 d x) (or_cases (y == d) (is_among ys d) m)
+pub order_depends : (dependents_of : ℕ → List ℕ) (xs : List ℕ) → IsOrder dependents_of xs → (d x : ℕ) → is_among xs d ≡ true → is_among (dependents_of d) x ≡ true → is_among xs x ≡ true
+order_depends dependents_of [] h d x m n = absurd (false≢true m)
+order_depends dependents_of (y ∷ ys) h d x m n = by_place (order_depends dependents_of ys h.2 d x) (or_cases (y == d) (is_among ys d) m)
   where
-    by_place : (is_among ys d ≡ true → is_among (hang d) x ≡ true → is_among ys x ≡ true) → ((y == d) ≡ true) ⊎ (is_among ys d ≡ true) → is_among (y ∷ ys) x ≡ true
-    by_place rest (inl e) = among_rest y ys x (within_of ys (hang y) h.1 x (subst (λ (z : ℕ). is_among (hang z) x ≡ true) (sym (eqb-true y d e)) n))
+    by_place : (is_among ys d ≡ true → is_among (dependents_of d) x ≡ true → is_among ys x ≡ true) → ((y == d) ≡ true) ⊎ (is_among ys d ≡ true) → is_among (y ∷ ys) x ≡ true
+    by_place rest (inl e) = among_rest y ys x (within_of ys (dependents_of y) h.1 x (subst (λ (z : ℕ). is_among (dependents_of z) x ≡ true) (sym (eqb-true y d e)) n))
     by_place rest (inr e) = among_rest y ys x (rest e n)
 
 -- ---- how many pass

@@ -8,7 +8,7 @@ abbrev pub board_of : Inside → BoardState
 board_of b = record {
   parents = b.layout.links.parents;
   links = b.layout.links.links;
-  beside = b.layout.beside.items;
+  asynchronous = b.layout.asynchronous.items;
   suspend = b.suspend.stands.items;
   late = b.late.stands.items;
   noirq = b.noirq.stands.items;

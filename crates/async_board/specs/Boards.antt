@@ -11,25 +11,25 @@ use Rattle.sleep_model.specs.declared.place.AsyncWork.{AsyncWork}
 use Rattle.sleep_model.specs.declared.place.AsyncWork.TheVariants.{Idle}
 use Rattle.sleep_model.specs.Devices.{work_by}
 use Rattle.sleep_model.specs.Links.{first_places}
-use Rattle.sleep_model.specs.Order.{active_of, hanging, holding, order_by}
-use Rattle.sleep_model.specs.Stands.{stands_after, device_of, stand_at, by_phase, is_unprepared, is_prepared, is_ready, is_unsettled, is_going_down, is_down_in, is_left_alone, is_low}
+use Rattle.sleep_model.specs.Order.{active_of, dependents, superiors, order_by}
+use Rattle.sleep_model.specs.Stands.{stands_after, device_of, stand_at, by_phase, is_unprepared, is_prepared, is_ready, is_not_down, is_going_down, is_down_in, is_direct_complete, is_not_up}
 use Rattle.sleep_model.specs.Walk.{is_so, first_where, last_where}
 
 -- the parent of each device, the links, the newest first, which devices are asynchronous, and where each stands in the three pairs of phases
 pub record BoardState : Type 0 where
   pub parents : List (Option ℕ)
   pub links : List Link
-  pub beside : List Bool
+  pub asynchronous : List Bool
   pub suspend : List Stand
   pub late : List Stand
   pub noirq : List Stand
 
 -- a board on which no device is prepared
 abbrev pub first_board : List (Option ℕ) → List Link → List Bool → BoardState
-first_board parents links beside = record {
+first_board parents links asynchronous = record {
   parents = parents;
   links = links;
-  beside = beside;
+  asynchronous = asynchronous;
   suspend = replicate (length parents) stand.Unprepared;
   late = replicate (length parents) stand.Unprepared;
   noirq = replicate (length parents) stand.Unprepared;
@@ -89,54 +89,54 @@ next_completed_on board = last_where (λ d. is_prepared (stand_at board.suspend 
 abbrev pub next_down_on : BoardState → Phase → Option ℕ
 next_down_on board p = last_where (λ d. is_ready (stand_at (stands_on board p) d)) (order_on board)
 
--- the first device that is given out on the way down and not through (async_synchronize_full)
+-- the first device that is scheduled on the way down and not through (async_synchronize_full)
 abbrev pub waits_down_on : BoardState → Phase → Option ℕ
 waits_down_on board p = first_where (λ d. is_going_down (stand_at (stands_on board p) d)) (order_on board)
 
 -- the first asynchronous device that is down (dpm_async_fn)
-abbrev pub next_given_on : BoardState → Phase → Option ℕ
-next_given_on board p =
-    first_where (λ d. is_down_in (stand_at (stands_on board p) d) && is_so board.beside d) (order_on board)
+abbrev pub next_to_schedule_on : BoardState → Phase → Option ℕ
+next_to_schedule_on board p =
+    first_where (λ d. is_down_in (stand_at (stands_on board p) d) && is_so board.asynchronous d) (order_on board)
 
 -- the first synchronous device that is down (dpm_resume)
 abbrev pub next_up_on : BoardState → Phase → Option ℕ
 next_up_on board p =
-    first_where (λ d. is_down_in (stand_at (stands_on board p) d) && not (is_so board.beside d)) (order_on board)
+    first_where (λ d. is_down_in (stand_at (stands_on board p) d) && not (is_so board.asynchronous d)) (order_on board)
 
 -- the first device that is not yet up (async_synchronize_full)
 abbrev pub waits_up_on : BoardState → Phase → Option ℕ
-waits_up_on board p = first_where (λ d. is_low (stand_at (stands_on board p) d)) (order_on board)
+waits_up_on board p = first_where (λ d. is_not_up (stand_at (stands_on board p) d)) (order_on board)
 
 -- the first device below d that is not through (dpm_wait_for_subordinate)
 abbrev pub waits_below_on : BoardState → Phase → ℕ → Option ℕ
 waits_below_on board p d =
-    first_where (λ e. is_unsettled (stand_at (stands_on board p) e)) (hanging board.parents (active_of board.links) d)
+    first_where (λ e. is_not_down (stand_at (stands_on board p) e)) (dependents board.parents (active_of board.links) d)
 
 -- the first device above d that is not yet up (dpm_wait_for_superior)
 abbrev pub waits_above_on : BoardState → Phase → ℕ → Option ℕ
 waits_above_on board p d =
-    first_where (λ e. is_low (stand_at (stands_on board p) e)) (holding board.parents (active_of board.links) d)
+    first_where (λ e. is_not_up (stand_at (stands_on board p) e)) (superiors board.parents (active_of board.links) d)
 
 -- how many devices below d are not through (dpm_wait_for_subordinate)
 abbrev pub open_below_on : BoardState → Phase → ℕ → ℕ
 open_below_on board p d =
-    length (filter (λ e. is_unsettled (stand_at (stands_on board p) e))
-    (first_places (hanging board.parents (active_of board.links) d)))
+    length (filter (λ e. is_not_down (stand_at (stands_on board p) e))
+    (first_places (dependents board.parents (active_of board.links) d)))
 
 -- how many devices above d are not yet up (dpm_wait_for_superior)
 abbrev pub open_above_on : BoardState → Phase → ℕ → ℕ
 open_above_on board p d =
-    length (filter (λ e. is_low (stand_at (stands_on board p) e))
-    (first_places (holding board.parents (active_of board.links) d)))
+    length (filter (λ e. is_not_up (stand_at (stands_on board p) e))
+    (first_places (superiors board.parents (active_of board.links) d)))
 
--- all devices below d are left alone (direct_complete)
-abbrev pub all_left_alone_on : BoardState → ℕ → Bool
-all_left_alone_on board d =
-    list_all (λ e. is_left_alone (stand_at board.suspend e)) (hanging board.parents (active_of board.links) d)
+-- all devices below d are direct-complete (direct_complete)
+abbrev pub all_direct_complete_on : BoardState → ℕ → Bool
+all_direct_complete_on board d =
+    list_all (λ e. is_direct_complete (stand_at board.suspend e)) (dependents board.parents (active_of board.links) d)
 
 -- the work of its own of device d: a synchronous one has none (async_schedule_dev)
 abbrev pub work_on : BoardState → ℕ → AsyncWork
 work_on board d =
-    if is_so board.beside d
+    if is_so board.asynchronous d
     then work_by (stand_at board.suspend d) (stand_at board.late d) (stand_at board.noirq d)
     else Idle

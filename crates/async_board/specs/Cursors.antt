@@ -24,25 +24,25 @@ pub record IsAheadBut (k : ℕ) (was : Bool) (p : ℕ → Bool) (xs : List ℕ) 
 pub record IsMoved (flags : List Bool) (stands : List Stand) (order : List ℕ) (m : Moved) : Type 0 where
   pub within : m.place < length order
   pub after : m.after ≡ stand_at stands (slice_index_or order m.place 0)
-  pub beside : m.beside ≡ is_so flags (slice_index_or order m.place 0)
+  pub asynchronous : m.asynchronous ≡ is_so flags (slice_index_or order m.place 0)
 
 -- the cursors of devices that stand so in this order
-pub record AreCursors (beside : List Bool) (stands : List Stand) (order : List ℕ) (c : Cursors) : Type 0 where
-  pub unprepared : IsPassed (is_picked pick.Unprepared beside stands) order c.unprepared
-  pub going : IsPassed (is_picked pick.Going beside stands) order c.going
-  pub given : IsPassed (is_picked pick.Given beside stands) order c.given
-  pub up : IsPassed (is_picked pick.Up beside stands) order c.up
-  pub low : IsPassed (is_picked pick.Low beside stands) order c.low
-  pub ready : IsAhead (is_picked pick.Ready beside stands) order c.ready
-  pub prepared : IsAhead (is_picked pick.Prepared beside stands) order c.prepared
+pub record AreCursors (asynchronous : List Bool) (stands : List Stand) (order : List ℕ) (c : Cursors) : Type 0 where
+  pub unprepared : IsPassed (is_picked pick.Unprepared asynchronous stands) order c.unprepared
+  pub going : IsPassed (is_picked pick.Going asynchronous stands) order c.going
+  pub to_schedule : IsPassed (is_picked pick.ToSchedule asynchronous stands) order c.to_schedule
+  pub up : IsPassed (is_picked pick.Up asynchronous stands) order c.up
+  pub not_up : IsPassed (is_picked pick.NotUp asynchronous stands) order c.not_up
+  pub ready : IsAhead (is_picked pick.Ready asynchronous stands) order c.ready
+  pub prepared : IsAhead (is_picked pick.Prepared asynchronous stands) order c.prepared
 
 -- the cursors of devices that stand so in this order, but from before this one moved
-pub record AreCursorsBut (m : Moved) (beside : List Bool) (stands : List Stand) (order : List ℕ) (c : Cursors)
+pub record AreCursorsBut (m : Moved) (asynchronous : List Bool) (stands : List Stand) (order : List ℕ) (c : Cursors)
     : Type 0 where
-  pub unprepared : IsPassedBut m.place (picks pick.Unprepared m.before m.beside) (is_picked pick.Unprepared beside stands) order c.unprepared
-  pub going : IsPassedBut m.place (picks pick.Going m.before m.beside) (is_picked pick.Going beside stands) order c.going
-  pub given : IsPassedBut m.place (picks pick.Given m.before m.beside) (is_picked pick.Given beside stands) order c.given
-  pub up : IsPassedBut m.place (picks pick.Up m.before m.beside) (is_picked pick.Up beside stands) order c.up
-  pub low : IsPassedBut m.place (picks pick.Low m.before m.beside) (is_picked pick.Low beside stands) order c.low
-  pub ready : IsAheadBut m.place (picks pick.Ready m.before m.beside) (is_picked pick.Ready beside stands) order c.ready
-  pub prepared : IsAheadBut m.place (picks pick.Prepared m.before m.beside) (is_picked pick.Prepared beside stands) order c.prepared
+  pub unprepared : IsPassedBut m.place (picks pick.Unprepared m.before m.asynchronous) (is_picked pick.Unprepared asynchronous stands) order c.unprepared
+  pub going : IsPassedBut m.place (picks pick.Going m.before m.asynchronous) (is_picked pick.Going asynchronous stands) order c.going
+  pub to_schedule : IsPassedBut m.place (picks pick.ToSchedule m.before m.asynchronous) (is_picked pick.ToSchedule asynchronous stands) order c.to_schedule
+  pub up : IsPassedBut m.place (picks pick.Up m.before m.asynchronous) (is_picked pick.Up asynchronous stands) order c.up
+  pub not_up : IsPassedBut m.place (picks pick.NotUp m.before m.asynchronous) (is_picked pick.NotUp asynchronous stands) order c.not_up
+  pub ready : IsAheadBut m.place (picks pick.Ready m.before m.asynchronous) (is_picked pick.Ready asynchronous stands) order c.ready
+  pub prepared : IsAheadBut m.place (picks pick.Prepared m.before m.asynchronous) (is_picked pick.Prepared asynchronous stands) order c.prepared

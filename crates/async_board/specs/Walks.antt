@@ -4,8 +4,8 @@ use Rattle.sleep_model.specs.declared.machine.Link.{Link}
 use Rattle.sleep_model.specs.declared.place.Stand.{Stand}
 use Rattle.sleep_model.specs.declared.place.Stand.TheVariants as stand
 use Rattle.sleep_model.specs.Links.{first_places}
-use Rattle.sleep_model.specs.Order.{active_of, hanging, holding, order_by}
-use Rattle.sleep_model.specs.Stands.{stand_at, is_unsettled, is_low}
+use Rattle.sleep_model.specs.Order.{active_of, dependents, superiors, order_by}
+use Rattle.sleep_model.specs.Stands.{stand_at, is_not_down, is_not_up}
 use Rattle.async_board.specs.Counts.{IsCount}
 use Rattle.async_board.specs.Cursors.{AreCursors}
 use Rattle.async_board.specs.declared.walk.Layout.{Layout}
@@ -27,14 +27,14 @@ failed_after _ before = before
 -- how many devices right below each are not through with the phase on the way down
 abbrev pub IsBelow : List (Option ℕ) → List Link → List Stand → List ℕ → Type 0
 IsBelow parents links stands counts =
-    IsCount (length parents) (λ d. is_unsettled (stand_at stands d))
-    (λ d. first_places (hanging parents (active_of links) d)) counts
+    IsCount (length parents) (λ d. is_not_down (stand_at stands d))
+    (λ d. first_places (dependents parents (active_of links) d)) counts
 
 -- how many devices right above each are not yet up
 abbrev pub IsAbove : List (Option ℕ) → List Link → List Stand → List ℕ → Type 0
 IsAbove parents links stands counts =
-    IsCount (length parents) (λ d. is_low (stand_at stands d))
-    (λ d. first_places (holding parents (active_of links) d)) counts
+    IsCount (length parents) (λ d. is_not_up (stand_at stands d))
+    (λ d. first_places (superiors parents (active_of links) d)) counts
 
 -- the order that the links of a layout leave
 abbrev pub order_of : Layout → List ℕ
@@ -47,7 +47,7 @@ IsLayout l = IsPlaced (order_of l) l.places.items
 -- a pair of phases over a layout: a stand for each device, the cursors, and how many devices each waits for
 pub record IsWalk (l : Layout) (w : Walk) : Type 0 where
   pub size : length w.stands.items ≡ length l.links.parents
-  pub cursors : AreCursors l.beside.items w.stands.items (order_of l) w.cursors
+  pub cursors : AreCursors l.asynchronous.items w.stands.items (order_of l) w.cursors
   pub below : IsBelow l.links.parents l.links.links w.stands.items w.open_below.items
   pub above : IsAbove l.links.parents l.links.links w.stands.items w.open_above.items
 
@@ -62,7 +62,7 @@ pub record IsRested (l : Layout) (but : ℕ) (w : Walk) : Type 0 where
   pub stands : w.stands.items ≡ replicate (length l.links.parents) stand.Unprepared
   pub above : w.open_above.items ≡ replicate (length l.links.parents) 0
   pub below : (d : ℕ) → d < length l.links.parents → d ≢ but
-      → slice_index_or w.open_below.items d 0 ≡ length (first_places (hanging l.links.parents (active_of l.links.links) d))
+      → slice_index_or w.open_below.items d 0 ≡ length (first_places (dependents l.links.parents (active_of l.links.links) d))
 
 -- a pair of phases may begin anew over a layout whose links have changed right below this supplier alone: where no device is prepared, only the supplier's count may be another
 pub record MayRestart (l : Layout) (supplier : ℕ) (w : Walk) : Type 0 where

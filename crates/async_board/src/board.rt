@@ -7,7 +7,7 @@ ghost use Rattle.async_board.specs.Walks.{IsWalk, IsBelow, IsAbove, MayRestart};
 
 use crate::moves::put;
 use crate::pick::{Look, Pick, first_picked, is_so, last_picked, stand_at};
-use crate::rows::{all_left_alone, count_at, first_low, first_unsettled, is_none};
+use crate::rows::{all_direct_complete, count_at, first_not_down, first_not_up, is_none};
 use crate::stand::{ended_by, is_at_work, skipped_for, work_in};
 use crate::walk::{Layout, Walk, places_of, refill_places};
 use device_links::Links;
@@ -62,18 +62,18 @@ fn begin_anew(layout: &Layout, supplier: u32, suspend: &mut Walk, late: &mut Wal
 impl Board {
     ghost use Rattle.std.specs.Prelude.{◌≡◌, ◌<◌, IfOk, OnOk, OnErr, None, is_none, length};
     ghost use Rattle.sleep_model.specs.Order.{links_added, links_set};
-    ghost use Rattle.async_board.specs.Boards.{first_board, board_after, put_in_all, put_in, skip_in, stands_on, order_on, next_prepared_on, next_completed_on, next_down_on, waits_down_on, next_given_on, next_up_on, waits_up_on, waits_below_on, waits_above_on, open_below_on, open_above_on, all_left_alone_on, work_on};
+    ghost use Rattle.async_board.specs.Boards.{first_board, board_after, put_in_all, put_in, skip_in, stands_on, order_on, next_prepared_on, next_completed_on, next_down_on, waits_down_on, next_to_schedule_on, next_up_on, waits_up_on, waits_below_on, waits_above_on, open_below_on, open_above_on, all_direct_complete_on, work_on};
 
-    /// A board over these links, on which no device is prepared; `beside` says for each device
+    /// A board over these links, on which no device is prepared; `asynchronous` says for each device
     /// whether it is asynchronous. `Mem` if there is no memory for it.
-    pub fn wired(alloc: Global, links: Links, beside: Vec<bool>) -> Result<Board, Mem>
-        ensures { IfOk result (λ b. b ≡ first_board links.parents links.links beside.items) }
+    pub fn wired(alloc: Global, links: Links, asynchronous: Vec<bool>) -> Result<Board, Mem>
+        ensures { IfOk result (λ b. b ≡ first_board links.parents links.links asynchronous.items) }
     {
         let places = places_of(alloc, links.order())?;
         let layout = Layout {
             links,
             places,
-            beside,
+            asynchronous,
         };
         let suspend = Walk::new(alloc, &layout)?;
         let late = Walk::new(alloc, &layout)?;
@@ -158,7 +158,7 @@ impl Board {
     /// is no memory for it, or where the link cannot be added; nothing has changed then.
     pub fn add_link(&mut self, supplier: u32, consumer: u32) -> Result<(), Mem>
         ensures ok { OnOk result (self.new ≡ first_board self.old.parents
-            (links_added supplier consumer None self.old.links) self.old.beside) }
+            (links_added supplier consumer None self.old.links) self.old.asynchronous) }
         ensures err { OnErr result (self.new ≡ self.old) }
     {
         let _devices = self.layout.links.order().len();
@@ -183,7 +183,7 @@ impl Board {
     /// `Mem` where there is no such link; nothing has changed then.
     pub fn set_link(&mut self, supplier: u32, consumer: u32, active: bool) -> Result<(), Mem>
         ensures ok { OnOk result (self.new ≡ first_board self.old.parents
-            (links_set supplier consumer active None self.old.links) self.old.beside) }
+            (links_set supplier consumer active None self.old.links) self.old.asynchronous) }
         ensures err { OnErr result (self.new ≡ self.old) }
     {
         let _devices = self.layout.links.order().len();
@@ -206,7 +206,7 @@ impl Board {
     fn walk(&self, p: Phase) -> &Walk
         ensures stands { result.now.stands.items ≡ stands_on self.now p }
         ensures size { length result.now.stands.items ≡ length self.now.parents }
-        ensures cursors { AreCursors self.now.beside result.now.stands.items
+        ensures cursors { AreCursors self.now.asynchronous result.now.stands.items
             (order_on self.now) result.now.cursors }
         ensures below { IsBelow self.now.parents self.now.links
             result.now.stands.items result.now.open_below.items }
@@ -224,12 +224,12 @@ impl Board {
     fn look<'a>(&'a self, walk: &'a Walk) -> Look<'a>
         ensures order { result.order.now ≡ order_on self.now }
         ensures stands { result.stands.now ≡ walk.now.stands.items }
-        ensures beside { result.beside.now ≡ self.now.beside }
+        ensures asynchronous { result.asynchronous.now ≡ self.now.asynchronous }
     {
         Look {
             order: self.layout.links.order(),
             stands: walk.stands.as_slice(),
-            beside: self.layout.beside.as_slice(),
+            asynchronous: self.layout.asynchronous.as_slice(),
         }
     }
 
@@ -268,8 +268,8 @@ impl Board {
         last_picked(&self.look(walk), Pick::Ready, walk.cursors.ready)
     }
 
-    /// The first device that a phase has given out on the way down and that is not through with it
-    /// (`async_synchronize_full`). It is at hand once the walk gives out no more; before, it takes
+    /// The first device that a phase has scheduled on the way down and that is not through with it
+    /// (`async_synchronize_full`). It is at hand once the walk schedules no more; before, it takes
     /// a search.
     #[tactic(auto, unfolding(crate::specs::Picks::picks, crate::specs::Picks::is_picked))]
     pub fn waits_down(&self, p: Phase) -> Option<u32>
@@ -279,14 +279,14 @@ impl Board {
         first_picked(&self.look(walk), Pick::Going, walk.cursors.going)
     }
 
-    /// The first asynchronous device that is down and that the way up has not given out
+    /// The first asynchronous device that is down and that the way up has not scheduled
     /// (`dpm_async_fn`).
     #[tactic(auto, unfolding(crate::specs::Picks::picks, crate::specs::Picks::is_picked))]
-    pub fn next_given(&self, p: Phase) -> Option<u32>
-        ensures { result ≡ next_given_on self.now p }
+    pub fn next_to_schedule(&self, p: Phase) -> Option<u32>
+        ensures { result ≡ next_to_schedule_on self.now p }
     {
         let walk = self.walk(p);
-        first_picked(&self.look(walk), Pick::Given, walk.cursors.given)
+        first_picked(&self.look(walk), Pick::ToSchedule, walk.cursors.to_schedule)
     }
 
     /// The first synchronous device that is down (`dpm_resume`).
@@ -304,7 +304,7 @@ impl Board {
         ensures { result ≡ waits_up_on self.now p }
     {
         let walk = self.walk(p);
-        first_picked(&self.look(walk), Pick::Low, walk.cursors.low)
+        first_picked(&self.look(walk), Pick::NotUp, walk.cursors.not_up)
     }
 
     /// The first device right below one that is not through with a phase on the way down
@@ -316,7 +316,7 @@ impl Board {
         if is_none(&walk.open_below, device) {
             None
         } else {
-            first_unsettled(&walk.stands, &self.layout.links, device)
+            first_not_down(&walk.stands, &self.layout.links, device)
         }
     }
 
@@ -329,7 +329,7 @@ impl Board {
         if is_none(&walk.open_above, device) {
             None
         } else {
-            first_low(&walk.stands, &self.layout.links, device)
+            first_not_up(&walk.stands, &self.layout.links, device)
         }
     }
 
@@ -343,7 +343,7 @@ impl Board {
         if (device as usize) < walk.open_below.len() {
             count_at(&walk.open_below, device) == 0
         } else {
-            first_unsettled(&walk.stands, &self.layout.links, device).is_none()
+            first_not_down(&walk.stands, &self.layout.links, device).is_none()
         }
     }
 
@@ -357,7 +357,7 @@ impl Board {
         if (device as usize) < walk.open_above.len() {
             count_at(&walk.open_above, device) == 0
         } else {
-            first_low(&walk.stands, &self.layout.links, device).is_none()
+            first_not_up(&walk.stands, &self.layout.links, device).is_none()
         }
     }
 
@@ -377,18 +377,18 @@ impl Board {
         count_at(&self.walk(p).open_above, device)
     }
 
-    /// Whether the suspend phase has left alone all devices right below one (`direct_complete`).
-    pub fn all_left_alone(&self, device: u32) -> bool
-        ensures { result ≡ all_left_alone_on self.now device }
+    /// Whether all devices right below one are direct-complete (`power.direct_complete`).
+    pub fn all_direct_complete(&self, device: u32) -> bool
+        ensures { result ≡ all_direct_complete_on self.now device }
     {
-        all_left_alone(&self.suspend.stands, &self.layout.links, device)
+        all_direct_complete(&self.suspend.stands, &self.layout.links, device)
     }
 
     /// Whether a device is asynchronous (`power.async_suspend`); not where there is no such device.
-    pub fn is_beside(&self, device: u32) -> bool
-        ensures { result ≡ is_so self.now.beside device }
+    pub fn is_asynchronous(&self, device: u32) -> bool
+        ensures { result ≡ is_so self.now.asynchronous device }
     {
-        is_so(&self.layout.beside, device)
+        is_so(&self.layout.asynchronous, device)
     }
 
     /// Where an asynchronous device's own work stands; a synchronous one has none
@@ -396,7 +396,7 @@ impl Board {
     pub fn work(&self, device: u32) -> AsyncWork
         ensures { result ≡ work_on self.now device }
     {
-        if !self.is_beside(device) {
+        if !self.is_asynchronous(device) {
             return AsyncWork::Idle;
         }
         let suspend = self.stand(Phase::Suspend, device);

@@ -13,9 +13,9 @@ use sleep_model::Stand;
 pub(crate) struct Cursors {
     pub(crate) unprepared: usize,
     pub(crate) going: usize,
-    pub(crate) given: usize,
+    pub(crate) to_schedule: usize,
     pub(crate) up: usize,
-    pub(crate) low: usize,
+    pub(crate) not_up: usize,
     pub(crate) ready: usize,
     pub(crate) prepared: usize,
 }
@@ -27,7 +27,7 @@ pub(crate) struct Moved {
     pub(crate) place: usize,
     pub(crate) before: Stand,
     pub(crate) after: Stand,
-    pub(crate) beside: bool,
+    pub(crate) asynchronous: bool,
 }
 
 // Moves the cursor of a first device, after a device has moved. Most moves leave it where it is: the
@@ -35,14 +35,14 @@ pub(crate) struct Moved {
 #[inline(always)]
 #[tactic(auto, using(crate::proofs::Moved::passed_now, crate::proofs::Moved::passed_still, crate::proofs::Moved::moved_here))]
 fn move_first(at: &mut usize, look: &Look<'_>, what: Pick, moved: Moved)
-    requires here { IsMoved look.now.beside.now look.now.stands.now look.now.order.now moved }
-    requires but { IsPassedBut moved.place (picks what moved.before moved.beside)
-        (is_picked what look.now.beside.now look.now.stands.now) look.now.order.now at.old }
-    ensures { IsPassed (is_picked what look.now.beside.now look.now.stands.now)
+    requires here { IsMoved look.now.asynchronous.now look.now.stands.now look.now.order.now moved }
+    requires but { IsPassedBut moved.place (picks what moved.before moved.asynchronous)
+        (is_picked what look.now.asynchronous.now look.now.stands.now) look.now.order.now at.old }
+    ensures { IsPassed (is_picked what look.now.asynchronous.now look.now.stands.now)
         look.now.order.now at.new }
 {
-    let was = picks(what, moved.before, moved.beside);
-    let is = picks(what, moved.after, moved.beside);
+    let was = picks(what, moved.before, moved.asynchronous);
+    let is = picks(what, moved.after, moved.asynchronous);
     if was == is {
         return;
     }
@@ -53,20 +53,20 @@ fn move_first(at: &mut usize, look: &Look<'_>, what: Pick, moved: Moved)
     }
 }
 
-// Moves the cursor of the devices that are given out and not through, after a device has moved. While
-// the walk gives out, towards the order's head, it follows the walk; it moves on once the walk is over,
+// Moves the cursor of the devices that are scheduled and not through, after a device has moved. While
+// the walk schedules, towards the order's head, it follows the walk; it moves on once the walk is over,
 // and nobody asks before.
 #[inline(always)]
 #[tactic(auto, using(crate::proofs::Moved::passed_now, crate::proofs::Moved::passed_still, crate::proofs::Moved::moved_here))]
 fn move_going(at: &mut usize, look: &Look<'_>, moved: Moved, is_over: bool)
-    requires here { IsMoved look.now.beside.now look.now.stands.now look.now.order.now moved }
-    requires but { IsPassedBut moved.place (picks pick.Going moved.before moved.beside)
-        (is_picked pick.Going look.now.beside.now look.now.stands.now) look.now.order.now at.old }
-    ensures { IsPassed (is_picked pick.Going look.now.beside.now look.now.stands.now)
+    requires here { IsMoved look.now.asynchronous.now look.now.stands.now look.now.order.now moved }
+    requires but { IsPassedBut moved.place (picks pick.Going moved.before moved.asynchronous)
+        (is_picked pick.Going look.now.asynchronous.now look.now.stands.now) look.now.order.now at.old }
+    ensures { IsPassed (is_picked pick.Going look.now.asynchronous.now look.now.stands.now)
         look.now.order.now at.new }
 {
-    let was = picks(Pick::Going, moved.before, moved.beside);
-    let is = picks(Pick::Going, moved.after, moved.beside);
+    let was = picks(Pick::Going, moved.before, moved.asynchronous);
+    let is = picks(Pick::Going, moved.after, moved.asynchronous);
     if was == is {
         return;
     }
@@ -80,19 +80,19 @@ fn move_going(at: &mut usize, look: &Look<'_>, moved: Moved, is_over: bool)
 // Moves the cursors of the devices that are down, after a device has moved. One of the two alone looks
 // for it: the first if it is asynchronous, else the second.
 #[inline(always)]
-fn move_down(given: &mut usize, up: &mut usize, look: &Look<'_>, moved: Moved)
-    requires here { IsMoved look.now.beside.now look.now.stands.now look.now.order.now moved }
-    requires given { IsPassedBut moved.place (picks pick.Given moved.before moved.beside)
-        (is_picked pick.Given look.now.beside.now look.now.stands.now) look.now.order.now given.old }
-    requires up { IsPassedBut moved.place (picks pick.Up moved.before moved.beside)
-        (is_picked pick.Up look.now.beside.now look.now.stands.now) look.now.order.now up.old }
-    ensures given { IsPassed (is_picked pick.Given look.now.beside.now look.now.stands.now)
-        look.now.order.now given.new }
-    ensures up { IsPassed (is_picked pick.Up look.now.beside.now look.now.stands.now)
+fn move_down(to_schedule: &mut usize, up: &mut usize, look: &Look<'_>, moved: Moved)
+    requires here { IsMoved look.now.asynchronous.now look.now.stands.now look.now.order.now moved }
+    requires to_schedule { IsPassedBut moved.place (picks pick.ToSchedule moved.before moved.asynchronous)
+        (is_picked pick.ToSchedule look.now.asynchronous.now look.now.stands.now) look.now.order.now to_schedule.old }
+    requires up { IsPassedBut moved.place (picks pick.Up moved.before moved.asynchronous)
+        (is_picked pick.Up look.now.asynchronous.now look.now.stands.now) look.now.order.now up.old }
+    ensures to_schedule { IsPassed (is_picked pick.ToSchedule look.now.asynchronous.now look.now.stands.now)
+        look.now.order.now to_schedule.new }
+    ensures up { IsPassed (is_picked pick.Up look.now.asynchronous.now look.now.stands.now)
         look.now.order.now up.new }
 {
-    if moved.beside {
-        move_first(given, look, Pick::Given, moved);
+    if moved.asynchronous {
+        move_first(to_schedule, look, Pick::ToSchedule, moved);
     } else {
         move_first(up, look, Pick::Up, moved);
     }
@@ -102,14 +102,14 @@ fn move_down(given: &mut usize, up: &mut usize, look: &Look<'_>, moved: Moved)
 #[inline(always)]
 #[tactic(auto, using(crate::proofs::Moved::ahead_now, crate::proofs::Moved::ahead_still, crate::proofs::Moved::moved_here))]
 fn move_last(at: &mut usize, look: &Look<'_>, what: Pick, moved: Moved)
-    requires here { IsMoved look.now.beside.now look.now.stands.now look.now.order.now moved }
-    requires but { IsAheadBut moved.place (picks what moved.before moved.beside)
-        (is_picked what look.now.beside.now look.now.stands.now) look.now.order.now at.old }
-    ensures { IsAhead (is_picked what look.now.beside.now look.now.stands.now)
+    requires here { IsMoved look.now.asynchronous.now look.now.stands.now look.now.order.now moved }
+    requires but { IsAheadBut moved.place (picks what moved.before moved.asynchronous)
+        (is_picked what look.now.asynchronous.now look.now.stands.now) look.now.order.now at.old }
+    ensures { IsAhead (is_picked what look.now.asynchronous.now look.now.stands.now)
         look.now.order.now at.new }
 {
-    let was = picks(what, moved.before, moved.beside);
-    let is = picks(what, moved.after, moved.beside);
+    let was = picks(what, moved.before, moved.asynchronous);
+    let is = picks(what, moved.after, moved.asynchronous);
     if was == is {
         return;
     }
@@ -121,19 +121,19 @@ fn move_last(at: &mut usize, look: &Look<'_>, what: Pick, moved: Moved)
 }
 
 /// Moves the cursors after a device has moved. `failed`: a device has failed on the way down, so that
-/// the walk gives out no more.
+/// the walk schedules no more.
 #[inline(always)]
 pub(crate) fn move_cursors(cursors: &mut Cursors, look: &Look<'_>, moved: Moved, failed: bool)
-    requires here { IsMoved look.now.beside.now look.now.stands.now look.now.order.now moved }
-    requires but { AreCursorsBut moved look.now.beside.now look.now.stands.now
+    requires here { IsMoved look.now.asynchronous.now look.now.stands.now look.now.order.now moved }
+    requires but { AreCursorsBut moved look.now.asynchronous.now look.now.stands.now
         look.now.order.now cursors.old }
-    ensures { AreCursors look.now.beside.now look.now.stands.now look.now.order.now cursors.new }
+    ensures { AreCursors look.now.asynchronous.now look.now.stands.now look.now.order.now cursors.new }
 {
     move_first(&mut cursors.unprepared, look, Pick::Unprepared, moved);
     move_last(&mut cursors.prepared, look, Pick::Prepared, moved);
     move_last(&mut cursors.ready, look, Pick::Ready, moved);
     let is_over = failed || cursors.ready == 0;
     move_going(&mut cursors.going, look, moved, is_over);
-    move_down(&mut cursors.given, &mut cursors.up, look, moved);
-    move_first(&mut cursors.low, look, Pick::Low, moved);
+    move_down(&mut cursors.to_schedule, &mut cursors.up, look, moved);
+    move_first(&mut cursors.not_up, look, Pick::NotUp, moved);
 }

@@ -14,4 +14,6 @@ mod walk;
 
 pub use board::Board;
 pub use law::board_tells;
-pub use stand::{is_down_in, is_left_alone, is_low, is_prepared, is_ready, is_taken, is_unsettled};
+pub use stand::{
+    is_direct_complete, is_down_in, is_not_down, is_not_up, is_prepared, is_ready, is_taken,
+};

@@ -8,12 +8,12 @@ ghost use Rattle.async_board.specs.Walks.{IsBelow, IsAbove, IsLayout, IsWalk, fa
 use crate::counts::shift;
 use crate::cursors::{Moved, move_cursors};
 use crate::pick::{Look, is_so};
-use crate::stand::{is_low, is_unsettled};
+use crate::stand::{is_not_down, is_not_up};
 use crate::walk::{Layout, Walk};
 use device_links::Links;
 use sleep_model::Stand;
 
-// Notes whether the walk on the way down gives out no more, once a device has moved to there: one has
+// Notes whether the walk on the way down schedules no more, once a device has moved to there: one has
 // failed since it was prepared.
 #[inline(always)]
 fn note_failure(failed: &mut bool, after: Stand)
@@ -45,8 +45,8 @@ fn move_below(
         (slice_set stands.now device after) counts.new.items }
 {
     let _order = links.order();
-    let was = is_unsettled(before);
-    let is = is_unsettled(after);
+    let was = is_not_down(before);
+    let is = is_not_down(after);
     if was != is {
         let above = links.above(device);
         shift(counts, above, was, is);
@@ -71,8 +71,8 @@ fn move_above(
     ensures { IsAbove links.now.parents links.now.links
         (slice_set stands.now device after) counts.new.items }
 {
-    let was = is_low(before);
-    let is = is_low(after);
+    let was = is_not_up(before);
+    let is = is_not_up(after);
     if was != is {
         let below = links.below(device);
         shift(counts, below, was, is);
@@ -97,7 +97,7 @@ fn move_device(walk: &mut Walk, layout: &Layout, device: u32, before: Stand, aft
         place: layout.places[number],
         before,
         after,
-        beside: is_so(&layout.beside, device),
+        asynchronous: is_so(&layout.asynchronous, device),
     };
     move_below(
         &mut walk.open_below,
@@ -120,7 +120,7 @@ fn move_device(walk: &mut Walk, layout: &Layout, device: u32, before: Stand, aft
     let look = Look {
         order,
         stands: walk.stands.as_slice(),
-        beside: layout.beside.as_slice(),
+        asynchronous: layout.asynchronous.as_slice(),
     };
     move_cursors(&mut walk.cursors, &look, moved, walk.failed);
 }
@@ -168,7 +168,7 @@ fn to_prepared(walk: &mut Walk, layout: &Layout, device: u32)
     }
 }
 
-// A device that was not taken is given out on the way down.
+// A device that was not taken is scheduled on the way down.
 #[inline(never)]
 fn to_scheduled(walk: &mut Walk, layout: &Layout, device: u32)
     requires laid { IsLayout layout.now }
@@ -183,7 +183,7 @@ fn to_scheduled(walk: &mut Walk, layout: &Layout, device: u32)
     }
 }
 
-// A device begins on the way down: an asynchronous one was given out, a synchronous one not.
+// A device begins on the way down: an asynchronous one was scheduled, a synchronous one not.
 #[inline(never)]
 fn to_suspending(walk: &mut Walk, layout: &Layout, device: u32)
     requires laid { IsLayout layout.now }
@@ -214,7 +214,7 @@ fn to_suspended(walk: &mut Walk, layout: &Layout, device: u32)
     }
 }
 
-// A device that is down is given out on the way up.
+// A device that is down is scheduled on the way up.
 #[inline(never)]
 fn to_rescheduled(walk: &mut Walk, layout: &Layout, device: u32)
     requires laid { IsLayout layout.now }
@@ -229,7 +229,7 @@ fn to_rescheduled(walk: &mut Walk, layout: &Layout, device: u32)
     }
 }
 
-// A device begins on the way up: an asynchronous one was given out, a synchronous one not.
+// A device begins on the way up: an asynchronous one was scheduled, a synchronous one not.
 #[inline(never)]
 fn to_resuming(walk: &mut Walk, layout: &Layout, device: u32)
     requires laid { IsLayout layout.now }

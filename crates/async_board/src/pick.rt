@@ -17,14 +17,14 @@ pub(crate) enum Pick {
     Prepared,
     /// Prepared and not yet taken on the way down.
     Ready,
-    /// Given out on the way down and not through.
+    /// Scheduled on the way down and not through.
     Going,
     /// Asynchronous, and down.
-    Given,
+    ToSchedule,
     /// Synchronous, and down.
     Up,
     /// Not yet up.
-    Low,
+    NotUp,
 }
 
 /// The devices in order, where each stands, and which are asynchronous.
@@ -32,23 +32,23 @@ pub(crate) enum Pick {
 pub(crate) struct Look<'a> {
     pub(crate) order: &'a [u32],
     pub(crate) stands: &'a [Stand],
-    pub(crate) beside: &'a [bool],
+    pub(crate) asynchronous: &'a [bool],
 }
 
 /// Whether a device that stands there, asynchronous or not, is looked for.
 #[inline(always)]
 #[tactic(auto, unfolding(crate::specs::Picks::picks))]
-pub(crate) fn picks(pick: Pick, stand: Stand, beside: bool) -> bool
-    ensures { result ≡ picks pick stand beside }
+pub(crate) fn picks(pick: Pick, stand: Stand, asynchronous: bool) -> bool
+    ensures { result ≡ picks pick stand asynchronous }
 {
     match pick {
         Pick::Unprepared => stand::is_unprepared(stand),
         Pick::Prepared => stand::is_prepared(stand),
         Pick::Ready => stand::is_ready(stand),
         Pick::Going => stand::is_going_down(stand),
-        Pick::Given => stand::is_down_in(stand) && beside,
-        Pick::Up => stand::is_down_in(stand) && !beside,
-        Pick::Low => stand::is_low(stand),
+        Pick::ToSchedule => stand::is_down_in(stand) && asynchronous,
+        Pick::Up => stand::is_down_in(stand) && !asynchronous,
+        Pick::NotUp => stand::is_not_up(stand),
     }
 }
 
@@ -76,17 +76,17 @@ pub(crate) fn is_so(flags: &[bool], device: u32) -> bool
 #[inline]
 #[tactic(auto, unfolding(crate::specs::Picks::is_picked))]
 pub(crate) fn is_picked(look: &Look<'_>, pick: Pick, device: u32) -> bool
-    ensures { result ≡ is_picked pick look.now.beside.now look.now.stands.now device }
+    ensures { result ≡ is_picked pick look.now.asynchronous.now look.now.stands.now device }
 {
     let stand = stand_at(look.stands, device);
-    picks(pick, stand, is_so(look.beside, device))
+    picks(pick, stand, is_so(look.asynchronous, device))
 }
 
 /// The first place from this one on whose device is looked for, else the number of places.
 pub(crate) fn first_from(look: &Look<'_>, pick: Pick, from: usize) -> usize
-    requires { IsPassed (is_picked pick look.now.beside.now look.now.stands.now)
+    requires { IsPassed (is_picked pick look.now.asynchronous.now look.now.stands.now)
         look.now.order.now from }
-    ensures { IsFirst (is_picked pick look.now.beside.now look.now.stands.now)
+    ensures { IsFirst (is_picked pick look.now.asynchronous.now look.now.stands.now)
         look.now.order.now result }
 {
     for at in from..look.order.len() {
@@ -99,9 +99,9 @@ pub(crate) fn first_from(look: &Look<'_>, pick: Pick, from: usize) -> usize
 
 /// One more than the last place before this one whose device is looked for, else 0.
 pub(crate) fn last_before(look: &Look<'_>, pick: Pick, from: usize) -> usize
-    requires { IsAhead (is_picked pick look.now.beside.now look.now.stands.now)
+    requires { IsAhead (is_picked pick look.now.asynchronous.now look.now.stands.now)
         look.now.order.now from }
-    ensures { IsLast (is_picked pick look.now.beside.now look.now.stands.now)
+    ensures { IsLast (is_picked pick look.now.asynchronous.now look.now.stands.now)
         look.now.order.now result }
 {
     let mut at = from;
@@ -124,9 +124,9 @@ fn device_at(order: &[u32], at: usize) -> Option<u32>
 /// The first device that is looked for, where none before this place is.
 #[tactic(auto, using(crate::proofs::Picked::first_is))]
 pub(crate) fn first_picked(look: &Look<'_>, pick: Pick, from: usize) -> Option<u32>
-    requires { IsPassed (is_picked pick look.now.beside.now look.now.stands.now)
+    requires { IsPassed (is_picked pick look.now.asynchronous.now look.now.stands.now)
         look.now.order.now from }
-    ensures { result ≡ first_where (is_picked pick look.now.beside.now look.now.stands.now)
+    ensures { result ≡ first_where (is_picked pick look.now.asynchronous.now look.now.stands.now)
         look.now.order.now }
 {
     let at = first_from(look, pick, from);
@@ -136,9 +136,9 @@ pub(crate) fn first_picked(look: &Look<'_>, pick: Pick, from: usize) -> Option<u
 /// The last device that is looked for, where none from this place on is.
 #[tactic(auto, using(crate::proofs::Picked::last_is, crate::proofs::Picked::last_none))]
 pub(crate) fn last_picked(look: &Look<'_>, pick: Pick, from: usize) -> Option<u32>
-    requires { IsAhead (is_picked pick look.now.beside.now look.now.stands.now)
+    requires { IsAhead (is_picked pick look.now.asynchronous.now look.now.stands.now)
         look.now.order.now from }
-    ensures { result ≡ last_where (is_picked pick look.now.beside.now look.now.stands.now)
+    ensures { result ≡ last_where (is_picked pick look.now.asynchronous.now look.now.stands.now)
         look.now.order.now }
 {
     match last_before(look, pick, from) {

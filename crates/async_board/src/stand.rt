@@ -38,15 +38,15 @@ pub(crate) fn work_in(p: Phase, stand: Stand, other: AsyncWork) -> AsyncWork
     ensures { result ≡ work_in p stand other }
 {
     match stand {
-        Stand::Scheduled => AsyncWork::Given(p),
+        Stand::Scheduled => AsyncWork::Scheduled(p),
         Stand::Suspending => AsyncWork::Inside(p),
-        Stand::Rescheduled => AsyncWork::Given(p.mirror()),
+        Stand::Rescheduled => AsyncWork::Scheduled(p.mirror()),
         Stand::Resuming => AsyncWork::Inside(p.mirror()),
         _ => other,
     }
 }
 
-/// Whether the device is given out or inside its callback, on the way down or up.
+/// Whether the device is scheduled or inside its callback, on the way down or up.
 #[inline]
 pub(crate) fn is_at_work(stand: Stand) -> bool
     ensures yes { OnTrue result ((p : Phase) (other : AsyncWork) → work_in p stand other ≡ work_in p stand Idle) }
@@ -81,8 +81,8 @@ pub fn is_ready(stand: Stand) -> bool
 }
 
 /// Whether the device is not through with the phase on the way down (`power.completion`).
-pub fn is_unsettled(stand: Stand) -> bool
-    ensures { result ≡ stands.is_unsettled stand }
+pub fn is_not_down(stand: Stand) -> bool
+    ensures { result ≡ stands.is_not_down stand }
 {
     matches!(
         stand,
@@ -90,7 +90,7 @@ pub fn is_unsettled(stand: Stand) -> bool
     )
 }
 
-/// Whether the device is given out on the way down and not through (`async_schedule_dev`).
+/// Whether the device is scheduled on the way down and not through (`async_schedule_dev`).
 pub(crate) fn is_going_down(stand: Stand) -> bool
     ensures { result ≡ stands.is_going_down stand }
 {
@@ -105,16 +105,16 @@ pub fn is_down_in(stand: Stand) -> bool
     matches!(stand, Stand::Suspended)
 }
 
-/// Whether the device is left alone (`power.direct_complete`).
-pub fn is_left_alone(stand: Stand) -> bool
-    ensures { result ≡ stands.is_left_alone stand }
+/// Whether the device is direct-complete (`power.direct_complete`).
+pub fn is_direct_complete(stand: Stand) -> bool
+    ensures { result ≡ stands.is_direct_complete stand }
 {
     matches!(stand, Stand::Direct)
 }
 
 /// Whether the device went down and is not yet up (`power.completion`).
-pub fn is_low(stand: Stand) -> bool
-    ensures { result ≡ stands.is_low stand }
+pub fn is_not_up(stand: Stand) -> bool
+    ensures { result ≡ stands.is_not_up stand }
 {
     matches!(
         stand,

@@ -2,7 +2,7 @@
 
 ghost use Rattle.std.specs.Prelude.{◌≡◌, ◌≢◌, ◌<◌, ℕ, true, IfOk, length, replicate, slice_index_or};
 ghost use Rattle.std.specs.Bool.{OnTrue};
-ghost use Rattle.sleep_model.specs.Order.{active_of, is_among, hanging};
+ghost use Rattle.sleep_model.specs.Order.{active_of, is_among, dependents};
 ghost use Rattle.sleep_model.proofs.Walks.{AllDifferent};
 ghost use Rattle.sleep_model.specs.Links.{first_places};
 ghost use Rattle.sleep_model.specs.declared.place.Stand.TheVariants as stand;
@@ -21,7 +21,7 @@ use std::alloc::Global;
 pub(crate) struct Layout {
     pub(crate) links: Links,
     pub(crate) places: Vec<usize>,
-    pub(crate) beside: Vec<bool>,
+    pub(crate) asynchronous: Vec<bool>,
 }
 
 /// Where the devices stand in a pair of phases, where searches among them begin, and how many
@@ -79,7 +79,7 @@ pub(crate) fn places_of(alloc: Global, order: &[u32]) -> Result<Vec<usize>, Mem>
 fn count_below(counts: &mut [usize], links: &Links)
     requires size { length counts.old ≡ length links.now.parents }
     ensures { IsLengths (length links.now.parents)
-        (λ d. first_places (hanging links.now.parents (active_of links.now.links) d)) counts.new }
+        (λ d. first_places (dependents links.now.parents (active_of links.now.links) d)) counts.new }
 {
     let order = links.order();
     for device in order {
@@ -91,7 +91,7 @@ fn count_below(counts: &mut [usize], links: &Links)
 fn recount_below(counts: &mut Vec<usize>, links: &Links)
     requires size { length counts.old.items ≡ length links.now.parents }
     ensures { IsLengths (length links.now.parents)
-        (λ d. first_places (hanging links.now.parents (active_of links.now.links) d)) counts.new.items }
+        (λ d. first_places (dependents links.now.parents (active_of links.now.links) d)) counts.new.items }
 {
     count_below(counts, links);
 }
@@ -101,9 +101,9 @@ fn recount_at(counts: &mut Vec<usize>, links: &Links, device: u32)
     requires size { length counts.old.items ≡ length links.now.parents }
     requires others { (d : ℕ) → d < length links.now.parents → d ≢ device →
         slice_index_or counts.old.items d 0
-        ≡ length (first_places (hanging links.now.parents (active_of links.now.links) d)) }
+        ≡ length (first_places (dependents links.now.parents (active_of links.now.links) d)) }
     ensures { IsLengths (length links.now.parents)
-        (λ d. first_places (hanging links.now.parents (active_of links.now.links) d)) counts.new.items }
+        (λ d. first_places (dependents links.now.parents (active_of links.now.links) d)) counts.new.items }
 {
     let number = device as usize;
     if number < counts.len() {
@@ -114,7 +114,7 @@ fn recount_at(counts: &mut Vec<usize>, links: &Links, device: u32)
 // How many devices hang right below each.
 fn counts_below(alloc: Global, links: &Links) -> Result<Vec<usize>, Mem>
     ensures { IfOk result (λ v. IsLengths (length links.now.parents)
-        (λ d. first_places (hanging links.now.parents (active_of links.now.links) d)) v.items) }
+        (λ d. first_places (dependents links.now.parents (active_of links.now.links) d)) v.items) }
 {
     let mut counts = vec![in alloc; 0; links.order().len()]?;
     recount_below(&mut counts, links);
@@ -124,14 +124,14 @@ fn counts_below(alloc: Global, links: &Links) -> Result<Vec<usize>, Mem>
 // Where the searches begin among so many devices, none of which is prepared. Each cursor stands at
 // what it looks for from the outset, so that only a move of such a device can concern it.
 fn first_cursors(count: usize) -> Cursors
-    ensures { result ≡ record { unprepared = 0; going = count; given = count; up = count; low = count; ready = 0; prepared = 0 } }
+    ensures { result ≡ record { unprepared = 0; going = count; to_schedule = count; up = count; not_up = count; ready = 0; prepared = 0 } }
 {
     Cursors {
         unprepared: 0,
         going: count,
-        given: count,
+        to_schedule: count,
         up: count,
-        low: count,
+        not_up: count,
         ready: 0,
         prepared: 0,
     }
@@ -162,7 +162,7 @@ impl Walk {
         ensures stands { self.new.stands.items
             ≡ replicate (length layout.now.links.parents) stand.Unprepared }
         ensures below { IsLengths (length layout.now.links.parents)
-            (λ d. first_places (hanging layout.now.links.parents (active_of layout.now.links.links) d))
+            (λ d. first_places (dependents layout.now.links.parents (active_of layout.now.links.links) d))
             self.new.open_below.items }
         ensures above { self.new.open_above.items ≡ replicate (length layout.now.links.parents) 0 }
     {

@@ -17,7 +17,7 @@ use Rattle.sleep_model.specs.declared.word.EventNow.{EventNow}
 use Rattle.phase_table.specs.declared.phase.Phase.{Phase}
 use Rattle.phase_table.specs.declared.phase.Phase.TheVariants as phase
 use Rattle.phase_table.specs.Phases.{mirror}
-use Rattle.sleep_model.specs.Answers.{errno_with, errors, error_of_number}
+use Rattle.sleep_base.specs.Errno.{errno_with, errors, error_of_number}
 use Rattle.sleep_model.specs.Attempt.{freeze_since, sleep_of}
 use Rattle.sleep_model.specs.Devices.{callback, phase_failed, is_async_device, stand_in}
 use Rattle.sleep_model.specs.Notifiers.{told, cpus_off, stopped, call_order, other_cpus, syscore_parts}
@@ -270,5 +270,5 @@ module _ (m : Machine) (past : List Entry) (time : ℕ) (now : EventNow) (who : 
       let g = first_found (λ z. is_down_in (stand_in m past (mirror p) z) && not (is_async_device m z)) (order m past) d n in
       begins_up p d stand.Suspended false false i refl (down_is (stand_in m past (mirror p) d) (and_first (is_down_in (stand_in m past (mirror p) d)) (not (is_async_device m d)) g.passes)) refl (omega arith)
   devices_fall w _ _ (Made.Completes d n) t h = completes d (last_found (λ x. is_prepared (stand_in m past phase.Suspend x)) (order m past) d n).passes
-  devices_fall w _ _ Made.AsksBegin t h = devices_less m past true (not (is_some (phase_failed past))) (leads_true (not (is_some (phase_failed past))))
+  devices_fall w _ _ Made.PlatformBegins t h = devices_less m past true (not (is_some (phase_failed past))) (leads_true (not (is_some (phase_failed past))))
   devices_fall w there k _ t h = devices_less m past (prepares_ahead there (is_some (phase_failed past))) (prepares_if (stage_after k (Some there)) (is_some (phase_failed (with k)))) refl

@@ -1,6 +1,6 @@
 use async_board::{
-    Board, board_tells, is_down_in, is_left_alone, is_low, is_prepared, is_ready, is_taken,
-    is_unsettled,
+    Board, board_tells, is_direct_complete, is_down_in, is_not_down, is_not_up, is_prepared,
+    is_ready, is_taken,
 };
 use device_links::Links;
 use sleep_base::{Errno, Mem};
@@ -24,10 +24,10 @@ fn link_three(rt: &impl Abort, links: &mut Links) {
 }
 
 /// A board over those three, which of them are asynchronous.
-fn board_of(rt: &impl Abort, alloc: Global, beside: [bool; 3]) -> Result<Board, Mem> {
-    let beside = Vec::from_array(alloc, beside)?;
+fn board_of(rt: &impl Abort, alloc: Global, asynchronous: [bool; 3]) -> Result<Board, Mem> {
+    let asynchronous = Vec::from_array(alloc, asynchronous)?;
     let links = three(rt, alloc)?;
-    Board::wired(alloc, links, beside)
+    Board::wired(alloc, links, asynchronous)
 }
 
 /// Notes each of these entries.
@@ -144,20 +144,20 @@ fn expect_prepared(rt: &impl Abort, board: &Board) {
 fn expect_walk_down(rt: &impl Abort, board: &Board) {
     expect_device(rt, board.next_down(Phase::Suspend), Some(0));
     expect_device(rt, board.waits_down(Phase::Suspend), Some(1));
-    assert!(rt; board.all_left_alone(1) && !board.all_left_alone(0));
-    assert!(rt; board.is_beside(1) && !board.is_beside(0));
+    assert!(rt; board.all_direct_complete(1) && !board.all_direct_complete(0));
+    assert!(rt; board.is_asynchronous(1) && !board.is_asynchronous(0));
 }
 
 fn expect_walk_up(rt: &impl Abort, board: &Board) {
     expect_device(rt, board.next_down(Phase::Suspend), None);
     expect_device(rt, board.waits_down(Phase::Suspend), None);
-    expect_device(rt, board.next_given(Phase::Suspend), Some(1));
+    expect_device(rt, board.next_to_schedule(Phase::Suspend), Some(1));
     expect_device(rt, board.next_up(Phase::Suspend), Some(0));
     expect_device(rt, board.waits_up(Phase::Suspend), Some(0));
 }
 
 fn expect_rescheduled(rt: &impl Abort, board: &Board) {
-    expect_device(rt, board.next_given(Phase::Suspend), None);
+    expect_device(rt, board.next_to_schedule(Phase::Suspend), None);
     assert!(rt; matches!(board.stand(Phase::Suspend, 1), Stand::Rescheduled));
     assert!(rt; matches!(board.stand(Phase::Late, 1), Stand::Prepared));
 }
@@ -205,10 +205,12 @@ fn expect_anew(rt: &impl Abort, board: &mut Board) -> Result<(), Mem> {
 #[test]
 fn stands_are_told_apart(rt: HostRuntime) -> Result<(), Fail> {
     let failed = Stand::Failed;
-    assert!(rt; is_prepared(failed) && is_taken(failed) && !is_unsettled(failed));
+    assert!(rt; is_prepared(failed) && is_taken(failed) && !is_not_down(failed));
     assert!(rt; is_ready(Stand::Prepared) && !is_taken(Stand::Prepared));
     assert!(rt;
-        is_down_in(Stand::Suspended) && is_low(Stand::Resuming) && is_left_alone(Stand::Direct)
+        is_down_in(Stand::Suspended)
+            && is_not_up(Stand::Resuming)
+            && is_direct_complete(Stand::Direct)
     );
     board_tells();
     Ok(())

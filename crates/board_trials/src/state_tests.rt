@@ -20,7 +20,7 @@ const CALM: [(Kind, Stage); 24] = [
     ),
     (
         Kind::Froze(Group::Kernel, FrozeEnd::AllFrozen),
-        Stage::Asks(PlatDo::Begin),
+        Stage::PlatformDown(PlatDo::Begin),
     ),
     (Kind::PlatformDo(PlatDo::Begin, None), Stage::Prepares),
     (
@@ -29,7 +29,7 @@ const CALM: [(Kind, Stage); 24] = [
     ),
     (
         Kind::Done(Phase::Suspend, None),
-        Stage::Asks(PlatDo::Prepare),
+        Stage::PlatformDown(PlatDo::Prepare),
     ),
     (
         Kind::PlatformDo(PlatDo::Prepare, None),
@@ -38,7 +38,7 @@ const CALM: [(Kind, Stage); 24] = [
     (Kind::Done(Phase::Late, None), Stage::Downs(Phase::Noirq)),
     (
         Kind::Done(Phase::Noirq, None),
-        Stage::Asks(PlatDo::PrepareLate),
+        Stage::PlatformDown(PlatDo::PrepareLate),
     ),
     (
         Kind::PlatformDo(PlatDo::PrepareLate, None),
@@ -59,7 +59,7 @@ const CALM: [(Kind, Stage); 24] = [
     ),
     (
         Kind::Done(Phase::Early, None),
-        Stage::Tells(PlatUndo::Finish),
+        Stage::PlatformUp(PlatUndo::Finish),
     ),
     (
         Kind::PlatformUndo(PlatUndo::Finish),
@@ -68,7 +68,7 @@ const CALM: [(Kind, Stage); 24] = [
     (Kind::Done(Phase::Resume, None), Stage::Completes),
     (
         Kind::Done(Phase::Complete, None),
-        Stage::Tells(PlatUndo::End),
+        Stage::PlatformUp(PlatUndo::End),
     ),
     (Kind::PlatformUndo(PlatUndo::End), Stage::Clears),
     (Kind::Clear, Stage::Thaws(Thaw::All)),
@@ -89,15 +89,15 @@ const FAILED: [(Kind, Stage); 11] = [
     ),
     (
         Kind::PlatformDo(PlatDo::Begin, Some(Errno::EIO)),
-        Stage::Tells(PlatUndo::End),
+        Stage::PlatformUp(PlatUndo::End),
     ),
     (
         Kind::Done(Phase::Suspend, Some(Errno::EIO)),
-        Stage::Tells(PlatUndo::Recover),
+        Stage::PlatformUp(PlatUndo::Recover),
     ),
     (
         Kind::PlatformDo(PlatDo::Prepare, Some(Errno::EIO)),
-        Stage::Tells(PlatUndo::Finish),
+        Stage::PlatformUp(PlatUndo::Finish),
     ),
     (
         Kind::Done(Phase::Noirq, Some(Errno::EIO)),
@@ -105,7 +105,7 @@ const FAILED: [(Kind, Stage); 11] = [
     ),
     (
         Kind::PlatformDo(PlatDo::PrepareLate, Some(Errno::EIO)),
-        Stage::Tells(PlatUndo::Wake),
+        Stage::PlatformUp(PlatUndo::Wake),
     ),
     (Kind::CpuBusy(1), Stage::StartsCpus),
     (Kind::SyscoreCheck(Some(Errno::EBUSY)), Stage::StartsIrqs),
@@ -217,21 +217,21 @@ fn kept_of_two(alloc: Global) -> Result<Devices, Fail> {
 fn devices_keep_what_they_answer(rt: HostRuntime) -> Result<(), Fail> {
     let mut devices = kept_of_two(rt.alloc())?;
     assert!(rt; !devices.statuses().is_set(0) && devices.statuses().is_set(1));
-    expect_willing(&rt, &mut devices);
+    expect_asks_direct(&rt, &mut devices);
     expect_callback(&rt, &mut devices);
     expect_errors(&rt, &mut devices);
     expect_asked(&rt, &mut devices);
     Ok(())
 }
 
-fn expect_willing(rt: &impl Abort, devices: &mut Devices) {
+fn expect_asks_direct(rt: &impl Abort, devices: &mut Devices) {
     devices.note(Kind::Prepare { device: 1, r: 1 }, TASK);
-    assert!(rt; !devices.willing().is_set(0) && devices.willing().is_set(1));
+    assert!(rt; !devices.asks_direct().is_set(0) && devices.asks_direct().is_set(1));
 }
 
 fn expect_callback(rt: &impl Abort, devices: &mut Devices) {
     devices.note(Kind::Begin(Phase::Late, 0), TASK);
-    assert!(rt; devices.callback().is_some() && devices.takes_late());
+    assert!(rt; devices.callback().is_some() && devices.disabled_by_late());
     devices.note(Kind::End(Phase::Late, 0, Some(Errno::EIO)), TASK);
     assert!(rt; devices.callback().is_none());
 }
@@ -253,7 +253,7 @@ fn expect_errors(rt: &impl Abort, devices: &mut Devices) {
 
 fn expect_asked(rt: &impl Abort, devices: &mut Devices) {
     devices.note(Kind::Skip(Phase::Suspend, 1, SkipCause::Direct), TASK);
-    assert!(rt; devices.leaves_alone());
+    assert!(rt; devices.disabled_by_direct());
     let r = None;
     let to_suspended = false;
     let device = 1;

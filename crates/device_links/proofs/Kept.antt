@@ -4,11 +4,11 @@ use Rattle.std.specs.List.{range_with_len}
 use Rattle.std.proofs.lemmas.Bool.{eqb-true}
 use Rattle.std.proofs.lemmas.List.{append-nil, length-map, length-replicate}
 use Rattle.sleep_model.specs.declared.machine.Link.{Link}
-use Rattle.sleep_model.specs.Order.{is_among, children_from, suppliers_of, parent_of, hanging, holding, EachAfterParent, order_by}
+use Rattle.sleep_model.specs.Order.{is_among, children_from, suppliers_of, parent_of, dependents, superiors, EachAfterParent, order_by}
 use Rattle.sleep_model.specs.Links.{AreLinks, is_dependent}
-use Rattle.sleep_model.proofs.Hanging.{among_first, among_rest}
-use Rattle.sleep_model.proofs.Acyclic.{order_ranked, links_descend, hanging_within, others_same}
-use Rattle.sleep_model.proofs.FirstPlaces.{hanging_new, holding_new, holding_other, suppliers_new, suppliers_other}
+use Rattle.sleep_model.proofs.Dependents.{among_first, among_rest}
+use Rattle.sleep_model.proofs.Acyclic.{order_ranked, links_descend, dependents_within, others_same}
+use Rattle.sleep_model.proofs.FirstPlaces.{dependents_new, holding_new, holding_other, suppliers_new, suppliers_other}
 use Rattle.device_rows.specs.Table.{Table, row_at, places_at, hung}
 use Rattle.device_links.specs.Walks.{IsWalkable, AreMarks}
 use Rattle.device_links.specs.Kept.{IsTableOf, IsKept, IsWhole, HavePlaces, near_below, near_above}
@@ -26,7 +26,7 @@ kept_new ps l after hangs below suppliers above order h b s a o = record {
   after = after;
   few = omega arith;
   linked = tt;
-  all_hanging = table_same (length ps) (λ d. children_from d 0 ps) (hanging ps []) hangs h (λ d. append-nil (children_from d 0 ps));
+  all_dependents = table_same (length ps) (λ d. children_from d 0 ps) (dependents ps []) hangs h (λ d. append-nil (children_from d 0 ps));
   once_below = table_same (length ps) (λ d. children_from d 0 ps) (near_below ps []) below b (λ d. below_none ps d);
   all_suppliers = record {
     count = ap length s ∙ length-replicate (length ps) [];
@@ -40,19 +40,19 @@ kept_new ps l after hangs below suppliers above order h b s a o = record {
 }
 
 -- what hangs right below, as the table tells it
-pub hang_is : (ps : List (Option ℕ)) (ls : List Link) (t : Table) → IsTableOf (length ps) (hanging ps ls) t.rows → row_at t ≡ hanging ps ls
-hang_is ps ls t h = λ i d. h.each d i
+pub dependents_is : (ps : List (Option ℕ)) (ls : List Link) (t : Table) → IsTableOf (length ps) (dependents ps ls) t.rows → row_at t ≡ dependents ps ls
+dependents_is ps ls t h = λ i d. h.each d i
 
-pub walkable_of : (ps : List (Option ℕ)) (ls : List Link) → EachAfterParent 0 ps → AreLinks ps ls → IsWalkable (length ps) (hanging ps ls)
+pub walkable_of : (ps : List (Option ℕ)) (ls : List Link) → EachAfterParent 0 ps → AreLinks ps ls → IsWalkable (length ps) (dependents ps ls)
 walkable_of ps ls after linked = record {
   descends = links_descend ps after ls linked (order_ranked ps after ls linked);
-  within = hanging_within ps after ls linked;
+  within = dependents_within ps after ls linked;
 }
 
-pub walkable : (ps : List (Option ℕ)) (ls : List Link) → EachAfterParent 0 ps → AreLinks ps ls → (t : Table) → IsTableOf (length ps) (hanging ps ls) t.rows → IsWalkable (length t.rows) (row_at t)
+pub walkable : (ps : List (Option ℕ)) (ls : List Link) → EachAfterParent 0 ps → AreLinks ps ls → (t : Table) → IsTableOf (length ps) (dependents ps ls) t.rows → IsWalkable (length t.rows) (row_at t)
 walkable ps ls after linked t h =
     subst (λ k. IsWalkable k (row_at t)) (sym h.count)
-    (subst (λ (hang : ℕ → List ℕ). IsWalkable (length ps) hang) (sym (hang_is ps ls t h)) (walkable_of ps ls after linked))
+    (subst (λ (dependents_of : ℕ → List ℕ). IsWalkable (length ps) dependents_of) (sym (dependents_is ps ls t h)) (walkable_of ps ls after linked))
 
 -- the others of the order, by their marks
 pub by_marks : (n : ℕ) (marks : List Bool) (ds : List ℕ) → AreMarks marks n ds → (xs : List ℕ) → ((d : ℕ) → is_among xs d ≡ true → d < n) → filter (λ d. not (get_or marks d false)) xs ≡ filter (λ d. not (is_among ds d)) xs
@@ -72,7 +72,7 @@ kept_more ps ls hangs below suppliers above order k l open' missing order' order
   after = k.after;
   few = omega (arith, open'.few);
   linked = (open'.stand.0, open'.stand.1, open'.new, missing, k.linked);
-  all_hanging = table_push (length ps) (hanging ps ls) (hanging ps (l ∷ ls)) hangs k.all_hanging l.supplier l.consumer open'.stand.0 (hanging_new ps l ls) (λ d e. others_same ps k.after l ls d e);
+  all_dependents = table_push (length ps) (dependents ps ls) (dependents ps (l ∷ ls)) hangs k.all_dependents l.supplier l.consumer open'.stand.0 (dependents_new ps l ls) (λ d e. others_same ps k.after l ls d e);
   once_below = table_unless (length ps) (near_below ps ls) (near_below ps (l ∷ ls)) below k.once_below left_out l.supplier l.consumer open'.stand.0
       (below_here ps l ls open'.stand.1 open'.new ∙ ap (λ b. cond b (near_below ps ls l.supplier) (near_below ps ls l.supplier ++ l.consumer ∷ [])) (sym is))
       (λ d e. below_other ps l ls d e);
@@ -92,29 +92,29 @@ places_new ps below above b a = record {
 
 -- and with one more link, where the rows of its ends have places for all that they may hold
 pub places_more : (ps : List (Option ℕ)) → EachAfterParent 0 ps → (l : Link) (ls : List Link) (below above below' above' : Table) → HavePlaces ps ls below above
-    → ((d : ℕ) → places_at below d ≤ places_at below' d) → length (hanging ps (l ∷ ls) l.supplier) ≤ places_at below' l.supplier
-    → ((d : ℕ) → places_at above d ≤ places_at above' d) → length (holding ps (l ∷ ls) l.consumer) ≤ places_at above' l.consumer
+    → ((d : ℕ) → places_at below d ≤ places_at below' d) → length (dependents ps (l ∷ ls) l.supplier) ≤ places_at below' l.supplier
+    → ((d : ℕ) → places_at above d ≤ places_at above' d) → length (superiors ps (l ∷ ls) l.consumer) ≤ places_at above' l.consumer
     → HavePlaces ps (l ∷ ls) below' above'
 places_more ps after l ls below above below' above' h b s a c = record {
   below = λ d. by_supplier d (l.supplier == d) refl;
   above = λ d. by_consumer d (l.consumer == d) refl;
 }
   where
-    by_supplier : (d : ℕ) (t : Bool) → (l.supplier == d) ≡ t → length (hanging ps (l ∷ ls) d) ≤ places_at below' d
-    by_supplier d true e = subst (λ (x : ℕ). length (hanging ps (l ∷ ls) x) ≤ places_at below' x) (eqb-true l.supplier d e) s
+    by_supplier : (d : ℕ) (t : Bool) → (l.supplier == d) ≡ t → length (dependents ps (l ∷ ls) d) ≤ places_at below' d
+    by_supplier d true e = subst (λ (x : ℕ). length (dependents ps (l ∷ ls) x) ≤ places_at below' x) (eqb-true l.supplier d e) s
     by_supplier d false e = let same = ap length (others_same ps after l ls d e) in let had = h.below d in let more = b d in omega (arith, same, had, more)
 
-    by_consumer : (d : ℕ) (t : Bool) → (l.consumer == d) ≡ t → length (holding ps (l ∷ ls) d) ≤ places_at above' d
-    by_consumer d true e = subst (λ (x : ℕ). length (holding ps (l ∷ ls) x) ≤ places_at above' x) (eqb-true l.consumer d e) c
+    by_consumer : (d : ℕ) (t : Bool) → (l.consumer == d) ≡ t → length (superiors ps (l ∷ ls) d) ≤ places_at above' d
+    by_consumer d true e = subst (λ (x : ℕ). length (superiors ps (l ∷ ls) x) ≤ places_at above' x) (eqb-true l.consumer d e) c
     by_consumer d false e = let same = ap length (holding_other ps l ls d e) in let had = h.above d in let more = a d in omega (arith, same, had, more)
 
 -- what hangs below the supplier, and stands above the consumer, counted by the tables
-pub hanging_count : (ps : List (Option ℕ)) (l : Link) (ls : List Link) → length (hanging ps (l ∷ ls) l.supplier) ≡ length (hanging ps ls l.supplier) + 1
-hanging_count ps l ls = ap length (hanging_new ps l ls) ∙ length-append (hanging ps ls l.supplier) (l.consumer ∷ [])
+pub dependents_count : (ps : List (Option ℕ)) (l : Link) (ls : List Link) → length (dependents ps (l ∷ ls) l.supplier) ≡ length (dependents ps ls l.supplier) + 1
+dependents_count ps l ls = ap length (dependents_new ps l ls) ∙ length-append (dependents ps ls l.supplier) (l.consumer ∷ [])
 
-pub holding_count : (ps : List (Option ℕ)) (l : Link) (ls : List Link) → length (holding ps (l ∷ ls) l.consumer) ≤ length (suppliers_of l.consumer ls) + 2
+pub holding_count : (ps : List (Option ℕ)) (l : Link) (ls : List Link) → length (superiors ps (l ∷ ls) l.consumer) ≤ length (suppliers_of l.consumer ls) + 2
 holding_count ps l ls =
-    let whole = ap length (holding_new ps l ls) ∙ length-append (holding ps ls l.consumer) (l.supplier ∷ []) in
+    let whole = ap length (holding_new ps l ls) ∙ length-append (superiors ps ls l.consumer) (l.supplier ∷ []) in
     let parts = length-append (parent_of (slice_get ps l.consumer)) (suppliers_of l.consumer ls) in
     let one = one_parent (slice_get ps l.consumer) in
     omega (arith, whole, parts, one)

@@ -10,10 +10,10 @@ use Rattle.std.proofs.lemmas.List.{append-nil, take_all, take_more, take-append-
 use Rattle.std.proofs.lemmas.List.Elements.{filter-append}
 use Rattle.std.proofs.lemmas.Option.{slice_get_within, get_or_from_slice_get}
 use Rattle.sleep_model.specs.declared.machine.Link.{Link}
-use Rattle.sleep_model.specs.Order.{is_among, hanging, moved, last_places, order_by, EachAfterParent}
+use Rattle.sleep_model.specs.Order.{is_among, dependents, moved, last_places, order_by, EachAfterParent}
 use Rattle.sleep_model.specs.Links.{AreLinks, IsOrder, is_dependent}
 use Rattle.sleep_model.proofs.Acyclic.{order_ranked, order_covers, order_within, links_descend, nothing_below, moved_before, among_last}
-use Rattle.sleep_model.proofs.Hanging.{Within, among_app, among_first, among_rest, within_of, among_onto, Descends, IsClosed, visited}
+use Rattle.sleep_model.proofs.Dependents.{Within, among_app, among_first, among_rest, within_of, among_onto, Descends, IsClosed, visited}
 use Rattle.sleep_model.proofs.Walks.{among_drop, same_eq}
 use Rattle.device_links.specs.Walks.{IsWalked}
 use Rattle.device_links.specs.Moves.{StandsFirst, Leaves}
@@ -37,23 +37,23 @@ first_at xs i one other l h e n = record {
   not_yet = among_more xs i other l ∙ (ap (λ b. b || (get_or xs i 0 == other)) h ∙ n);
 }
 
-module _ (hang : ℕ → List ℕ) where
+module _ (dependents_of : ℕ → List ℕ) where
   -- from any place of an order on all that hang below its devices stand there too
-  order_drop : (xs : List ℕ) (k : ℕ) → IsOrder hang xs → IsOrder hang (drop k xs)
+  order_drop : (xs : List ℕ) (k : ℕ) → IsOrder dependents_of xs → IsOrder dependents_of (drop k xs)
   order_drop xs zero h = h
   order_drop [] (suc k) h = tt
   order_drop (x ∷ xs) (suc k) h = order_drop xs k h.2
 
-  order_closed : (xs : List ℕ) → IsOrder hang xs → IsClosed hang xs
+  order_closed : (xs : List ℕ) → IsOrder dependents_of xs → IsClosed dependents_of xs
   order_closed [] h d m = absurd (false≢true m)
   order_closed (x ∷ xs) h d m = by_place (λ e. order_closed xs h.2 d e) (or_cases (x == d) (is_among xs d) m)
     where
-      by_place : (is_among xs d ≡ true → Within (hang d) xs) → ((x == d) ≡ true) ⊎ (is_among xs d ≡ true) → (y : ℕ) → is_among (hang d) y ≡ true → is_among (x ∷ xs) y ≡ true
-      by_place rest (inl e) y n = among_rest x xs y (within_of xs (hang x) h.1 y (subst (λ (z : ℕ). is_among (hang z) y ≡ true) (sym (eqb-true x d e)) n))
+      by_place : (is_among xs d ≡ true → Within (dependents_of d) xs) → ((x == d) ≡ true) ⊎ (is_among xs d ≡ true) → (y : ℕ) → is_among (dependents_of d) y ≡ true → is_among (x ∷ xs) y ≡ true
+      by_place rest (inl e) y n = among_rest x xs y (within_of xs (dependents_of x) h.1 y (subst (λ (z : ℕ). is_among (dependents_of z) y ≡ true) (sym (eqb-true x d e)) n))
       by_place rest (inr e) y n = among_rest x xs y (rest e y n)
 
   -- each device stands once
-  order_once : (xs : List ℕ) (k s : ℕ) → IsOrder hang xs → is_among (take k xs) s ≡ true → is_among (drop k xs) s ≡ false
+  order_once : (xs : List ℕ) (k s : ℕ) → IsOrder dependents_of xs → is_among (take k xs) s ≡ true → is_among (drop k xs) s ≡ false
   order_once xs zero s h m = absurd (false≢true m)
   order_once [] (suc k) s h m = absurd (false≢true m)
   order_once (x ∷ xs) (suc k) s h m = by_place (order_once xs k s h.2) (or_cases (x == s) (is_among (take k xs) s) m)
@@ -63,7 +63,7 @@ module _ (hang : ℕ → List ℕ) where
       by_place rest (inr e) = rest e
 
 module _ (ps : List (Option ℕ)) (after : EachAfterParent 0 ps) (ls : List Link) (linked : AreLinks ps ls) where
-  fix : Descends (hanging ps ls) (moved (length ps) (hanging ps ls))
+  fix : Descends (dependents ps ls) (moved (length ps) (dependents ps ls))
   fix = links_descend ps after ls linked (order_ranked ps after ls linked)
 
   -- what stands before a device does not hang below it
@@ -74,7 +74,7 @@ module _ (ps : List (Option ℕ)) (after : EachAfterParent 0 ps) (ls : List Link
       rest = drop f.place (order_by ps ls)
 
       gone : is_among rest s ≡ false
-      gone = order_once (hanging ps ls) (order_by ps ls) f.place s (order_ranked ps after ls linked) f.here
+      gone = order_once (dependents ps ls) (order_by ps ls) f.place s (order_ranked ps after ls linked) f.here
 
       other : (c == s) ≡ false
       other = false_from_ne_true _ (λ e. true≢false (sym f.here ∙ (ap (is_among (take f.place (order_by ps ls))) (sym (eqb-true c s e)) ∙ f.not_yet)))
@@ -87,16 +87,16 @@ module _ (ps : List (Option ℕ)) (after : EachAfterParent 0 ps) (ls : List Link
           by_part (inl e) = absurd (true≢false (sym e ∙ f.not_yet))
           by_part (inr e) = e
 
-      none : is_among rest s ≡ (is_among (moved (length ps) (hanging ps ls) c) s || is_among rest s) → is_among (moved (length ps) (hanging ps ls) c) s ≡ false
-      none e = sym (or-false (is_among (moved (length ps) (hanging ps ls) c) s)) ∙ (ap (λ b. is_among (moved (length ps) (hanging ps ls) c) s || b) (sym gone) ∙ (sym e ∙ gone))
+      none : is_among rest s ≡ (is_among (moved (length ps) (dependents ps ls) c) s || is_among rest s) → is_among (moved (length ps) (dependents ps ls) c) s ≡ false
+      none e = sym (or-false (is_among (moved (length ps) (dependents ps ls) c) s)) ∙ (ap (λ b. is_among (moved (length ps) (dependents ps ls) c) s || b) (sym gone) ∙ (sym e ∙ gone))
 
       by_place : (c < length ps) ⊎ (length ps ≤ c) → is_dependent ps ls c s ≡ false
       by_place (inl l) = none (
-          ap (λ xs. is_among xs s) (sym (visited (hanging ps ls) (moved (length ps) (hanging ps ls)) fix rest (order_closed (hanging ps ls) rest (order_drop (hanging ps ls) (order_by ps ls) f.place (order_ranked ps after ls linked))) c (here l)))
-          ∙ among_onto (moved (length ps) (hanging ps ls) c) rest s)
+          ap (λ xs. is_among xs s) (sym (visited (dependents ps ls) (moved (length ps) (dependents ps ls)) fix rest (order_closed (dependents ps ls) rest (order_drop (dependents ps ls) (order_by ps ls) f.place (order_ranked ps after ls linked))) c (here l)))
+          ∙ among_onto (moved (length ps) (dependents ps ls) c) rest s)
       by_place (inr l) =
           ap (λ xs. is_among xs s) (fix c)
-          ∙ (ap (λ xs. is_among (c ∷ flat_map (moved (length ps) (hanging ps ls)) xs) s) (nothing_below ps after ls linked c l) ∙ ap (λ b. b || false) other)
+          ∙ (ap (λ xs. is_among (c ∷ flat_map (moved (length ps) (dependents ps ls)) xs) s) (nothing_below ps after ls linked c l) ∙ ap (λ b. b || false) other)
 
   pub apart_by : (s c : ℕ) (b : Bool) → OnTrue b (StandsFirst (order_by ps ls) s c) → b ≡ true → is_dependent ps ls c s ≡ false
   apart_by s c true h e = stands_apart s c h
@@ -133,16 +133,16 @@ module _ (ps : List (Option ℕ)) (after : EachAfterParent 0 ps) where
   order_stays l newest ls linked same missing =
       sym (
       ap (λ m. filter (λ d. not (is_among m d)) (order_by ps (newest ∷ ls)) ++ last_places m)
-      (moved_before ps after l (newest ∷ ls) missing ∙ ap (λ c. moved (length ps) (hanging ps (newest ∷ ls)) c) (sym same))
-      ∙ moved_again (moved (length ps) (hanging ps (newest ∷ ls)) newest.consumer) (order_by ps ls))
+      (moved_before ps after l (newest ∷ ls) missing ∙ ap (λ c. moved (length ps) (dependents ps (newest ∷ ls)) c) (sym same))
+      ∙ moved_again (moved (length ps) (dependents ps (newest ∷ ls)) newest.consumer) (order_by ps ls))
 
   -- what a walk found moves its consumer
-  pub order_moved : (ls : List Link) → AreLinks ps ls → (l : Link) (order found : List ℕ) (marks : List Bool) → order ≡ order_by ps ls → IsWalked (length ps) (hanging ps ls) l.consumer l.supplier found marks
+  pub order_moved : (ls : List Link) → AreLinks ps ls → (l : Link) (order found : List ℕ) (marks : List Bool) → order ≡ order_by ps ls → IsWalked (length ps) (dependents ps ls) l.consumer l.supplier found marks
       → filter (λ d. not (get_or marks d false)) order ++ found ≡ order_by ps (l ∷ ls)
   order_moved ls linked l order found marks ordered w =
       ap (λ xs. filter (λ d. not (get_or marks d false)) xs ++ found) ordered
-      ∙ (ap (λ xs. xs ++ found) (by_marks (length ps) marks (moved (length ps) (hanging ps ls) l.consumer) w.marked (order_by ps ls) (order_within ps after ls linked))
-      ∙ (ap (λ xs. filter (λ d. not (is_among (moved (length ps) (hanging ps ls) l.consumer) d)) (order_by ps ls) ++ xs) w.places
+      ∙ (ap (λ xs. xs ++ found) (by_marks (length ps) marks (moved (length ps) (dependents ps ls) l.consumer) w.marked (order_by ps ls) (order_within ps after ls linked))
+      ∙ (ap (λ xs. filter (λ d. not (is_among (moved (length ps) (dependents ps ls) l.consumer) d)) (order_by ps ls) ++ xs) w.places
       ∙ ap (λ m. filter (λ d. not (is_among m d)) (order_by ps ls) ++ last_places m) (sym (moved_before ps after l ls w.missing))))
 
 -- the newest link, which was added last
@@ -159,7 +159,7 @@ module _ (ps : List (Option ℕ)) (after : EachAfterParent 0 ps) (ls : List Link
       → OnTrue b (Leaves (record { parents = ps; links = ls }) l (order_by ps ls))
   stays new earlier e same false h = tt
   stays new earlier e same true h = record {
-    no_path = no_path (hanging ps ls) (moved (length ps) (hanging ps ls)) (fix ps after ls linked) l.consumer l.supplier missing;
+    no_path = no_path (dependents ps ls) (moved (length ps) (dependents ps ls)) (fix ps after ls linked) l.consumer l.supplier missing;
     missing = missing;
     ordered = subst (λ (xs : List Link). order_by ps xs ≡ order_by ps (l ∷ xs)) (sym e)
         (order_stays ps after l new earlier (subst (AreLinks ps) e linked) same (subst (λ (xs : List Link). is_dependent ps xs l.consumer l.supplier ≡ false) e missing));
@@ -168,7 +168,7 @@ module _ (ps : List (Option ℕ)) (after : EachAfterParent 0 ps) (ls : List Link
       missing : is_dependent ps ls l.consumer l.supplier ≡ false
       missing = stands_apart ps after ls linked l.supplier l.consumer h
 
-  pub leaves_moved : (order found : List ℕ) (marks : List Bool) → order ≡ order_by ps ls → IsWalked (length ps) (hanging ps ls) l.consumer l.supplier found marks
+  pub leaves_moved : (order found : List ℕ) (marks : List Bool) → order ≡ order_by ps ls → IsWalked (length ps) (dependents ps ls) l.consumer l.supplier found marks
       → (r : Result (Vec ℕ Global) Mem) → IfOk r (λ v. v.items ≡ filter (λ d. not (get_or marks d false)) order ++ found) → IfOk r (λ v. Leaves (record { parents = ps; links = ls }) l v.items)
   leaves_moved order found marks e w (Err m) h = tt
   leaves_moved order found marks e w (Ok v) h = record {

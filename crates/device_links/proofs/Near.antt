@@ -4,9 +4,9 @@ use Rattle.std.proofs.lemmas.List.{append-nil, take-append-drop, reverse-append}
 use Rattle.std.proofs.lemmas.Bool.{true≢false, eqb-true}
 use Rattle.sleep_model.specs.declared.machine.Link.{Link}
 use Rattle.sleep_model.specs.Links.{first_places, is_linked}
-use Rattle.sleep_model.specs.Order.{active_of, children_from, consumers_of, suppliers_of, is_parent, parent_of, hanging, holding}
+use Rattle.sleep_model.specs.Order.{active_of, children_from, consumers_of, suppliers_of, is_parent, parent_of, dependents, superiors}
 use Rattle.sleep_model.proofs.Changing.{active_linked}
-use Rattle.sleep_model.proofs.FirstPlaces.{first_places_push, first_children, first_parent, hanging_new, holding_new, holding_other, hangs_already, holds_already}
+use Rattle.sleep_model.proofs.FirstPlaces.{first_places_push, first_children, first_parent, dependents_new, holding_new, holding_other, depends_already, holds_already}
 use Rattle.device_links.specs.Kept.{near_below, near_above, is_shown_below, is_shown_above}
 
 -- ---- one more link
@@ -19,43 +19,43 @@ not_active ls s c e = by_test (is_linked (active_of ls) s c) refl
     by_test false f = refl
     by_test true f = absurd (true≢false (sym (active_linked ls s c f) ∙ e))
 
-hanging_other : (ps : List (Option ℕ)) (l : Link) (ls : List Link) (d : ℕ) → (l.supplier == d) ≡ false → hanging ps (l ∷ ls) d ≡ hanging ps ls d
-hanging_other ps l ls d e = ap (λ xs. children_from d 0 ps ++ xs) (ap (λ b. consumers_of d ls ++ cond b (l.consumer ∷ []) []) e ∙ append-nil (consumers_of d ls))
+dependents_other : (ps : List (Option ℕ)) (l : Link) (ls : List Link) (d : ℕ) → (l.supplier == d) ≡ false → dependents ps (l ∷ ls) d ≡ dependents ps ls d
+dependents_other ps l ls d e = ap (λ xs. children_from d 0 ps ++ xs) (ap (λ b. consumers_of d ls ++ cond b (l.consumer ∷ []) []) e ∙ append-nil (consumers_of d ls))
 
 module _ (ps : List (Option ℕ)) (l : Link) (ls : List Link) where
   pub below_here : l.consumer < length ps → is_linked ls l.supplier l.consumer ≡ false
       → near_below ps (l ∷ ls) l.supplier ≡ cond (not l.active || is_parent l.supplier (get_or ps l.consumer None)) (near_below ps ls l.supplier) (near_below ps ls l.supplier ++ l.consumer ∷ [])
   below_here within new = by_state l.active
     where
-      by_state : (b : Bool) → first_places (hanging ps (cond b (l ∷ active_of ls) (active_of ls)) l.supplier) ≡ cond (not b || is_parent l.supplier (get_or ps l.consumer None)) (near_below ps ls l.supplier) (near_below ps ls l.supplier ++ l.consumer ∷ [])
+      by_state : (b : Bool) → first_places (dependents ps (cond b (l ∷ active_of ls) (active_of ls)) l.supplier) ≡ cond (not b || is_parent l.supplier (get_or ps l.consumer None)) (near_below ps ls l.supplier) (near_below ps ls l.supplier ++ l.consumer ∷ [])
       by_state false = refl
       by_state true =
-          ap first_places (hanging_new ps l (active_of ls))
-          ∙ (first_places_push (hanging ps (active_of ls) l.supplier) l.consumer
-          ∙ ap (λ b. cond b (near_below ps ls l.supplier) (near_below ps ls l.supplier ++ l.consumer ∷ [])) (hangs_already ps (active_of ls) l.supplier l.consumer within (not_active ls l.supplier l.consumer new)))
+          ap first_places (dependents_new ps l (active_of ls))
+          ∙ (first_places_push (dependents ps (active_of ls) l.supplier) l.consumer
+          ∙ ap (λ b. cond b (near_below ps ls l.supplier) (near_below ps ls l.supplier ++ l.consumer ∷ [])) (depends_already ps (active_of ls) l.supplier l.consumer within (not_active ls l.supplier l.consumer new)))
 
   pub below_other : (d : ℕ) → (l.supplier == d) ≡ false → near_below ps (l ∷ ls) d ≡ near_below ps ls d
   below_other d e = by_state l.active
     where
-      by_state : (b : Bool) → first_places (hanging ps (cond b (l ∷ active_of ls) (active_of ls)) d) ≡ near_below ps ls d
+      by_state : (b : Bool) → first_places (dependents ps (cond b (l ∷ active_of ls) (active_of ls)) d) ≡ near_below ps ls d
       by_state false = refl
-      by_state true = ap first_places (hanging_other ps l (active_of ls) d e)
+      by_state true = ap first_places (dependents_other ps l (active_of ls) d e)
 
   pub above_here : is_linked ls l.supplier l.consumer ≡ false
       → near_above ps (l ∷ ls) l.consumer ≡ cond (not l.active || is_parent l.supplier (get_or ps l.consumer None)) (near_above ps ls l.consumer) (near_above ps ls l.consumer ++ l.supplier ∷ [])
   above_here new = by_state l.active
     where
-      by_state : (b : Bool) → first_places (holding ps (cond b (l ∷ active_of ls) (active_of ls)) l.consumer) ≡ cond (not b || is_parent l.supplier (get_or ps l.consumer None)) (near_above ps ls l.consumer) (near_above ps ls l.consumer ++ l.supplier ∷ [])
+      by_state : (b : Bool) → first_places (superiors ps (cond b (l ∷ active_of ls) (active_of ls)) l.consumer) ≡ cond (not b || is_parent l.supplier (get_or ps l.consumer None)) (near_above ps ls l.consumer) (near_above ps ls l.consumer ++ l.supplier ∷ [])
       by_state false = refl
       by_state true =
           ap first_places (holding_new ps l (active_of ls))
-          ∙ (first_places_push (holding ps (active_of ls) l.consumer) l.supplier
+          ∙ (first_places_push (superiors ps (active_of ls) l.consumer) l.supplier
           ∙ ap (λ b. cond b (near_above ps ls l.consumer) (near_above ps ls l.consumer ++ l.supplier ∷ [])) (holds_already ps (active_of ls) l.supplier l.consumer (not_active ls l.supplier l.consumer new)))
 
   pub above_other : (d : ℕ) → (l.consumer == d) ≡ false → near_above ps (l ∷ ls) d ≡ near_above ps ls d
   above_other d e = by_state l.active
     where
-      by_state : (b : Bool) → first_places (holding ps (cond b (l ∷ active_of ls) (active_of ls)) d) ≡ near_above ps ls d
+      by_state : (b : Bool) → first_places (superiors ps (cond b (l ∷ active_of ls) (active_of ls)) d) ≡ near_above ps ls d
       by_state false = refl
       by_state true = ap first_places (holding_other ps l (active_of ls) d e)
 
@@ -142,21 +142,21 @@ suppliers_few d (l ∷ ls) = by_state l.active (suppliers_few d ls)
     by_state false r = omega (arith, length-append (suppliers_of d ls) one)
     by_state true r = omega (arith, length-append (suppliers_of d ls) one, length-append (suppliers_of d (active_of ls)) one)
 
-pub below_few : (ps : List (Option ℕ)) (ls : List Link) (d : ℕ) → length (near_below ps ls d) ≤ length (hanging ps ls d)
+pub below_few : (ps : List (Option ℕ)) (ls : List Link) (d : ℕ) → length (near_below ps ls d) ≤ length (dependents ps ls d)
 below_few ps ls d =
-    omega (arith, first_few (hanging ps (active_of ls) d), length-append (children_from d 0 ps) (consumers_of d (active_of ls)), length-append (children_from d 0 ps) (consumers_of d ls), consumers_few d ls)
+    omega (arith, first_few (dependents ps (active_of ls) d), length-append (children_from d 0 ps) (consumers_of d (active_of ls)), length-append (children_from d 0 ps) (consumers_of d ls), consumers_few d ls)
 
-pub above_few : (ps : List (Option ℕ)) (ls : List Link) (d : ℕ) → length (near_above ps ls d) ≤ length (holding ps ls d)
+pub above_few : (ps : List (Option ℕ)) (ls : List Link) (d : ℕ) → length (near_above ps ls d) ≤ length (superiors ps ls d)
 above_few ps ls d =
-    omega (arith, first_few (holding ps (active_of ls) d), length-append (parent_of (slice_get ps d)) (suppliers_of d (active_of ls)), length-append (parent_of (slice_get ps d)) (suppliers_of d ls), suppliers_few d ls)
+    omega (arith, first_few (superiors ps (active_of ls) d), length-append (parent_of (slice_get ps d)) (suppliers_of d (active_of ls)), length-append (parent_of (slice_get ps d)) (suppliers_of d ls), suppliers_few d ls)
 
 -- later links only add
-hanging_more : (ps : List (Option ℕ)) (later ls : List Link) (d : ℕ) → length (hanging ps ls d) ≤ length (hanging ps (later ++ ls) d)
-hanging_more ps [] ls d = omega arith
-hanging_more ps (l ∷ later) ls d =
-    omega (arith, hanging_more ps later ls d, length-append (children_from d 0 ps) (consumers_of d (later ++ ls)), length-append (children_from d 0 ps) (consumers_of d (l ∷ later ++ ls)), length-append (consumers_of d (later ++ ls)) (cond (l.supplier == d) (l.consumer ∷ []) []))
+dependents_more : (ps : List (Option ℕ)) (later ls : List Link) (d : ℕ) → length (dependents ps ls d) ≤ length (dependents ps (later ++ ls) d)
+dependents_more ps [] ls d = omega arith
+dependents_more ps (l ∷ later) ls d =
+    omega (arith, dependents_more ps later ls d, length-append (children_from d 0 ps) (consumers_of d (later ++ ls)), length-append (children_from d 0 ps) (consumers_of d (l ∷ later ++ ls)), length-append (consumers_of d (later ++ ls)) (cond (l.supplier == d) (l.consumer ∷ []) []))
 
-holding_more : (ps : List (Option ℕ)) (later ls : List Link) (d : ℕ) → length (holding ps ls d) ≤ length (holding ps (later ++ ls) d)
+holding_more : (ps : List (Option ℕ)) (later ls : List Link) (d : ℕ) → length (superiors ps ls d) ≤ length (superiors ps (later ++ ls) d)
 holding_more ps [] ls d = omega arith
 holding_more ps (l ∷ later) ls d =
     omega (arith, holding_more ps later ls d, length-append (parent_of (slice_get ps d)) (suppliers_of d (later ++ ls)), length-append (parent_of (slice_get ps d)) (suppliers_of d (l ∷ later ++ ls)), length-append (suppliers_of d (later ++ ls)) (cond (l.consumer == d) (l.supplier ∷ []) []))
@@ -165,8 +165,8 @@ holding_more ps (l ∷ later) ls d =
 parts : (links : List Link) (i : ℕ) → reverse (drop i links) ++ reverse (take i links) ≡ reverse links
 parts links i = sym (reverse-append (take i links) (drop i links)) ∙ ap reverse (take-append-drop i links)
 
-pub hanging_part : (ps : List (Option ℕ)) (links : List Link) (i d : ℕ) → length (hanging ps (reverse (take i links)) d) ≤ length (hanging ps (reverse links) d)
-hanging_part ps links i d = subst (λ (ls : List Link). length (hanging ps (reverse (take i links)) d) ≤ length (hanging ps ls d)) (parts links i) (hanging_more ps (reverse (drop i links)) (reverse (take i links)) d)
+pub dependents_part : (ps : List (Option ℕ)) (links : List Link) (i d : ℕ) → length (dependents ps (reverse (take i links)) d) ≤ length (dependents ps (reverse links) d)
+dependents_part ps links i d = subst (λ (ls : List Link). length (dependents ps (reverse (take i links)) d) ≤ length (dependents ps ls d)) (parts links i) (dependents_more ps (reverse (drop i links)) (reverse (take i links)) d)
 
-pub holding_part : (ps : List (Option ℕ)) (links : List Link) (i d : ℕ) → length (holding ps (reverse (take i links)) d) ≤ length (holding ps (reverse links) d)
-holding_part ps links i d = subst (λ (ls : List Link). length (holding ps (reverse (take i links)) d) ≤ length (holding ps ls d)) (parts links i) (holding_more ps (reverse (drop i links)) (reverse (take i links)) d)
+pub holding_part : (ps : List (Option ℕ)) (links : List Link) (i d : ℕ) → length (superiors ps (reverse (take i links)) d) ≤ length (superiors ps (reverse links) d)
+holding_part ps links i d = subst (λ (ls : List Link). length (superiors ps (reverse (take i links)) d) ≤ length (superiors ps ls d)) (parts links i) (holding_more ps (reverse (drop i links)) (reverse (take i links)) d)

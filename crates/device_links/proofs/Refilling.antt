@@ -3,12 +3,12 @@ use Rattle.std.proofs.Common.{◌≡◌, ◌<◌, ◌≤◌, ◌+◌, ◌∙◌,
 use Rattle.std.proofs.lemmas.Bool.{true≢false, eqb-true}
 use Rattle.std.proofs.lemmas.List.{append-nil, take_more, length-take-le, take-append-drop}
 use Rattle.sleep_model.specs.declared.machine.Link.{Link}
-use Rattle.sleep_model.specs.Order.{children_from, is_parent, hanging, holding}
+use Rattle.sleep_model.specs.Order.{children_from, is_parent, dependents, superiors}
 use Rattle.sleep_model.proofs.Children.{children_push}
-use Rattle.sleep_model.proofs.FirstPlaces.{hanging_new, holding_new}
+use Rattle.sleep_model.proofs.FirstPlaces.{dependents_new, holding_new}
 use Rattle.device_links.specs.Kept.{near_below, near_above, is_shown_below, is_shown_above}
 use Rattle.device_links.specs.Passes.{AreApart}
-use Rattle.device_links.proofs.Near.{below_few, above_few, below_next, above_next, hanging_part, holding_part}
+use Rattle.device_links.proofs.Near.{below_few, above_few, below_next, above_next, dependents_part, holding_part}
 use Rattle.device_links.proofs.Tabulating.{newest, apart_all}
 
 -- ---- children
@@ -77,16 +77,16 @@ module _ (ps : List (Option ℕ)) (links : List Link) (i : ℕ) (l : Link) (with
       let a = apart_here apart in
       ap (λ (ls : List Link). near_above ps ls d) (newest links i l within at) ∙ above_next ps l (reverse (take i links)) d a.2
 
-  pub below_room : (d : ℕ) → is_shown_below ps l d ≡ true → length (near_below ps (reverse (take i links)) d) < length (hanging ps (reverse links) d)
-  below_room d e = subst (λ (x : ℕ). length (near_below ps (reverse (take i links)) x) < length (hanging ps (reverse links) x)) (supplier_is ps l d e) (
+  pub below_room : (d : ℕ) → is_shown_below ps l d ≡ true → length (near_below ps (reverse (take i links)) d) < length (dependents ps (reverse links) d)
+  below_room d e = subst (λ (x : ℕ). length (near_below ps (reverse (take i links)) x) < length (dependents ps (reverse links) x)) (supplier_is ps l d e) (
       let few = below_few ps (reverse (take i links)) l.supplier in
-      let more = ap length (ap (λ (ls : List Link). hanging ps ls l.supplier) (newest links i l within at) ∙ hanging_new ps l (reverse (take i links))) ∙ length-append (hanging ps (reverse (take i links)) l.supplier) (l.consumer ∷ []) in
-      let most = hanging_part ps links (i + 1) l.supplier in
+      let more = ap length (ap (λ (ls : List Link). dependents ps ls l.supplier) (newest links i l within at) ∙ dependents_new ps l (reverse (take i links))) ∙ length-append (dependents ps (reverse (take i links)) l.supplier) (l.consumer ∷ []) in
+      let most = dependents_part ps links (i + 1) l.supplier in
       omega (arith, few, more, most))
 
-  pub above_room : (d : ℕ) → is_shown_above ps l d ≡ true → length (near_above ps (reverse (take i links)) d) < length (holding ps (reverse links) d)
-  above_room d e = subst (λ (x : ℕ). length (near_above ps (reverse (take i links)) x) < length (holding ps (reverse links) x)) (consumer_is ps l d e) (
+  pub above_room : (d : ℕ) → is_shown_above ps l d ≡ true → length (near_above ps (reverse (take i links)) d) < length (superiors ps (reverse links) d)
+  above_room d e = subst (λ (x : ℕ). length (near_above ps (reverse (take i links)) x) < length (superiors ps (reverse links) x)) (consumer_is ps l d e) (
       let few = above_few ps (reverse (take i links)) l.consumer in
-      let more = ap length (ap (λ (ls : List Link). holding ps ls l.consumer) (newest links i l within at) ∙ holding_new ps l (reverse (take i links))) ∙ length-append (holding ps (reverse (take i links)) l.consumer) (l.supplier ∷ []) in
+      let more = ap length (ap (λ (ls : List Link). superiors ps ls l.consumer) (newest links i l within at) ∙ holding_new ps l (reverse (take i links))) ∙ length-append (superiors ps (reverse (take i links)) l.consumer) (l.supplier ∷ []) in
       let most = holding_part ps links (i + 1) l.consumer in
       omega (arith, few, more, most))

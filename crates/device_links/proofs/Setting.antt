@@ -4,8 +4,8 @@ use Rattle.std.proofs.lemmas.Bool.{true≢false, eqb-true, eqb-false}
 use Rattle.std.proofs.lemmas.List.{append-nil, length-map, reverse-append, get_or-set_same, get_or-set_other}
 use Rattle.sleep_model.specs.declared.machine.Link.{Link}
 use Rattle.sleep_model.specs.Links.{first_places, is_linked}
-use Rattle.sleep_model.specs.Order.{is_link, with_state, active_of, children_from, consumers_of, suppliers_of, parent_of, hanging, holding}
-use Rattle.sleep_model.proofs.Changing.{same_supplier, same_consumer, suppliers_kept, hanging_kept, links_kept, order_kept}
+use Rattle.sleep_model.specs.Order.{is_link, with_state, active_of, children_from, consumers_of, suppliers_of, parent_of, dependents, superiors}
+use Rattle.sleep_model.proofs.Changing.{same_supplier, same_consumer, suppliers_kept, dependents_kept, links_kept, order_kept}
 use Rattle.device_rows.specs.Table.{Table, places_at}
 use Rattle.device_links.specs.declared.fault.LinkFault.{LinkFault}
 use Rattle.device_links.specs.Adds.{Stand, Lacks}
@@ -101,19 +101,19 @@ module _ (s c : ℕ) (to : Bool) where
           one_supplier d to (record l { active = to }) rest other ∙ (same ∙ sym (one_supplier d l.active l (active_of ls) other))
 
   module _ (ps : List (Option ℕ)) (ls : List Link) where
-    hanging_same : (d : ℕ) → hanging ps (map (with_state s c to) ls) d ≡ hanging ps ls d
-    hanging_same d = ap (λ (hang : ℕ → List ℕ). hang d) (hanging_kept (with_state s c to) (same_supplier s c to) (same_consumer s c to) ps ls)
+    dependents_same : (d : ℕ) → dependents ps (map (with_state s c to) ls) d ≡ dependents ps ls d
+    dependents_same d = ap (λ (dependents_of : ℕ → List ℕ). dependents_of d) (dependents_kept (with_state s c to) (same_supplier s c to) (same_consumer s c to) ps ls)
 
-    holding_same : (d : ℕ) → holding ps (map (with_state s c to) ls) d ≡ holding ps ls d
+    holding_same : (d : ℕ) → superiors ps (map (with_state s c to) ls) d ≡ superiors ps ls d
     holding_same d = ap (λ xs. parent_of (slice_get ps d) ++ xs) (suppliers_kept (with_state s c to) (same_supplier s c to) (same_consumer s c to) d ls)
 
     pub set_apart : (hangs below suppliers above : List (List ℕ)) (order : List ℕ) → IsKept ps ls hangs below suppliers above order → AreApart ps (map (with_state s c to) ls)
     set_apart hangs below suppliers above order k = linked_apart ps (map (with_state s c to) ls) (links_kept (with_state s c to) (same_supplier s c to) (same_consumer s c to) ps ls k.linked)
 
-    pub set_below : (below above : Table) → HavePlaces ps ls below above → (d : ℕ) → length (hanging ps (map (with_state s c to) ls) d) ≤ places_at below d
-    set_below below above h d = let e = ap length (hanging_same d) in let l = h.below d in omega (arith, e, l)
+    pub set_below : (below above : Table) → HavePlaces ps ls below above → (d : ℕ) → length (dependents ps (map (with_state s c to) ls) d) ≤ places_at below d
+    set_below below above h d = let e = ap length (dependents_same d) in let l = h.below d in omega (arith, e, l)
 
-    pub set_above : (below above : Table) → HavePlaces ps ls below above → (d : ℕ) → length (holding ps (map (with_state s c to) ls) d) ≤ places_at above d
+    pub set_above : (below above : Table) → HavePlaces ps ls below above → (d : ℕ) → length (superiors ps (map (with_state s c to) ls) d) ≤ places_at above d
     set_above below above h d = let e = ap length (holding_same d) in let l = h.above d in omega (arith, e, l)
 
     -- all is kept where the rows of both ends are made anew
@@ -127,7 +127,7 @@ module _ (s c : ℕ) (to : Bool) where
         after = w.kept.after;
         few = omega (arith, w.kept.few, length-map ls (with_state s c to));
         linked = links_kept (with_state s c to) (same_supplier s c to) (same_consumer s c to) ps ls w.kept.linked;
-        all_hanging = table_same (length ps) (hanging ps ls) (hanging ps (map (with_state s c to) ls)) hangs w.kept.all_hanging hanging_same;
+        all_dependents = table_same (length ps) (dependents ps ls) (dependents ps (map (with_state s c to) ls)) hangs w.kept.all_dependents dependents_same;
         once_below =
             subst (IsTableOf (length ps) (near_below ps (map (with_state s c to) ls))) (sym b)
             (table_set (length ps) (near_below ps ls) (near_below ps (map (with_state s c to) ls)) below.rows w.kept.once_below s sl

@@ -4,10 +4,10 @@ use Rattle.std.specs.List.{range_with_len}
 use Rattle.std.proofs.lemmas.List.{take_more, take-append-drop, reverse-append}
 use Rattle.std.proofs.lemmas.Bool.{true≢false}
 use Rattle.sleep_model.specs.declared.machine.Link.{Link}
-use Rattle.sleep_model.specs.Order.{is_among, children_from, suppliers_of, hanging, EachAfterParent}
+use Rattle.sleep_model.specs.Order.{is_among, children_from, suppliers_of, dependents, EachAfterParent}
 use Rattle.sleep_model.specs.Links.{is_linked}
 use Rattle.sleep_model.proofs.Acyclic.{others_same}
-use Rattle.sleep_model.proofs.FirstPlaces.{hanging_new, suppliers_new, suppliers_other, suppliers_linked}
+use Rattle.sleep_model.proofs.FirstPlaces.{dependents_new, suppliers_new, suppliers_other, suppliers_linked}
 use Rattle.device_rows.specs.Table.{Table, row_at}
 use Rattle.device_links.specs.declared.at_once.Tables.{Tables}
 use Rattle.device_links.specs.Kept.{IsTableOf, near_below, near_above}
@@ -18,13 +18,13 @@ use Rattle.device_links.proofs.RowsMade.{table_push, table_unless}
 
 -- without links
 pub tables_new : (ps : List (Option ℕ)) → length ps < 2 ^ 32 → EachAfterParent 0 ps → (t : Tables)
-    → IsTableOf (length ps) (λ d. children_from d 0 ps) t.hanging.rows → IsTableOf (length ps) (λ d. children_from d 0 ps) t.below.rows → t.suppliers.rows ≡ replicate (length ps) [] → t.above.rows ≡ map option_to_list ps → AreTables ps [] t
+    → IsTableOf (length ps) (λ d. children_from d 0 ps) t.dependents.rows → IsTableOf (length ps) (λ d. children_from d 0 ps) t.below.rows → t.suppliers.rows ≡ replicate (length ps) [] → t.above.rows ≡ map option_to_list ps → AreTables ps [] t
 tables_new ps l after t h b s a =
-    let k = kept_new ps l after t.hanging.rows t.below.rows t.suppliers.rows t.above.rows (range_with_len 0 (length ps)) h b s a refl in
-    record { all_hanging = k.all_hanging; once_below = k.once_below; all_suppliers = k.all_suppliers; once_above = k.once_above; places = places_new ps t.below t.above k.once_below k.once_above }
+    let k = kept_new ps l after t.dependents.rows t.below.rows t.suppliers.rows t.above.rows (range_with_len 0 (length ps)) h b s a refl in
+    record { all_dependents = k.all_dependents; once_below = k.once_below; all_suppliers = k.all_suppliers; once_above = k.once_above; places = places_new ps t.below t.above k.once_below k.once_above }
 
 pub rows_of : (ps : List (Option ℕ)) (ls : List Link) (t : Tables) → AreTables ps ls t → HaveRows (length ps) t
-rows_of ps ls t h = record { hanging = h.all_hanging.count; below = h.once_below.count; suppliers = h.all_suppliers.count; above = h.once_above.count }
+rows_of ps ls t h = record { dependents = h.all_dependents.count; below = h.once_below.count; suppliers = h.all_suppliers.count; above = h.once_above.count }
 
 -- whether the link stands, as the row of its consumer tells
 stands_as : (ps : List (Option ℕ)) (ls : List Link) (t : Tables) → AreTables ps ls t → (s c : ℕ) → is_among (row_at t.suppliers c) s ≡ is_linked ls s c
@@ -41,7 +41,7 @@ new_of ps ls t h l a = record { supplier = a.0; consumer = a.1; new = stands_as 
 -- with one more link
 pub tables_more : (ps : List (Option ℕ)) → EachAfterParent 0 ps → (ls : List Link) (old new : Tables) → AreTables ps ls old → (l : Link) → AreApart ps (l ∷ ls) → IsHung ps l old new → AreTables ps (l ∷ ls) new
 tables_more ps after ls old new k l apart u = record {
-  all_hanging = hangs;
+  all_dependents = hangs;
   once_below =
       subst (IsTableOf (length ps) (near_below ps (l ∷ ls))) (sym u.below.rows)
       (table_unless (length ps) (near_below ps ls) (near_below ps (l ∷ ls)) old.below.rows k.once_below (is_left_out ps l) l.supplier l.consumer apart.0
@@ -57,10 +57,10 @@ tables_more ps after ls old new k l apart u = record {
       (let made = u.above.made in let is = ap length (supplies.each l.consumer ∙ suppliers_new l ls) ∙ length-append (suppliers_of l.consumer ls) (l.supplier ∷ []) in let most = holding_count ps l ls in omega (arith, made, is, most));
 }
   where
-    hangs : IsTableOf (length ps) (hanging ps (l ∷ ls)) new.hanging.rows
+    hangs : IsTableOf (length ps) (dependents ps (l ∷ ls)) new.dependents.rows
     hangs =
-        subst (IsTableOf (length ps) (hanging ps (l ∷ ls))) (sym u.hanging)
-        (table_push (length ps) (hanging ps ls) (hanging ps (l ∷ ls)) old.hanging.rows k.all_hanging l.supplier l.consumer apart.0 (hanging_new ps l ls) (λ d e. others_same ps after l ls d e))
+        subst (IsTableOf (length ps) (dependents ps (l ∷ ls))) (sym u.dependents)
+        (table_push (length ps) (dependents ps ls) (dependents ps (l ∷ ls)) old.dependents.rows k.all_dependents l.supplier l.consumer apart.0 (dependents_new ps l ls) (λ d e. others_same ps after l ls d e))
 
     supplies : IsTableOf (length ps) (λ d. suppliers_of d (l ∷ ls)) new.suppliers.rows
     supplies =

@@ -7,7 +7,7 @@ use Rattle.std.proofs.lemmas.Bool.{true≢false, false≢true, eqb-true, eqb-fal
 use Rattle.std.proofs.Math.Bool.{or-false}
 use Rattle.sleep_model.specs.Order.{is_among, last_places}
 use Rattle.sleep_model.specs.Links.{LeadsTo, IsPath}
-use Rattle.sleep_model.proofs.Hanging.{among_app, among_first, among_rest, among_flat, Within, onto, onto_app, among_onto, last_onto, Descends, IsClosed, visited, visits, not_below_itself, leads_below}
+use Rattle.sleep_model.proofs.Dependents.{among_app, among_first, among_rest, among_flat, Within, onto, onto_app, among_onto, last_onto, Descends, IsClosed, visited, visits, not_below_itself, leads_below}
 use Rattle.device_links.specs.declared.walk.Frame.{Frame}
 use Rattle.device_links.specs.Walks.{AreMarks, on_path}
 
@@ -105,24 +105,24 @@ path_over (f ∷ fs) path = ap (λ xs. f.device ∷ xs) (path_over fs path) ∙ 
     behind [] xs = refl
     behind (g ∷ gs) xs = behind gs (g.device ∷ xs)
 
-module _ (hang : ℕ → List ℕ) where
+module _ (dependents_of : ℕ → List ℕ) where
   -- the next device hangs right below the top, and so on down to the first
   abbrev pub Linked : ℕ → List Frame → ℕ → Type 0
   Linked from [] x = x ≡ from
-  Linked from (f ∷ rest) x = (is_among (hang f.device) x ≡ true) × Linked from rest f.device
+  Linked from (f ∷ rest) x = (is_among (dependents_of f.device) x ≡ true) × Linked from rest f.device
 
   abbrev pub Chain : ℕ → List Frame → Type 0
   Chain from [] = Unit {0}
   Chain from (f ∷ rest) = Linked from rest f.device
 
-  pub linked_path : (from : ℕ) (fs : List Frame) (x : ℕ) (xs : List ℕ) (last : ℕ) → Linked from fs x → LeadsTo hang x xs last → IsPath hang (on_path fs (x ∷ xs)) from last
+  pub linked_path : (from : ℕ) (fs : List Frame) (x : ℕ) (xs : List ℕ) (last : ℕ) → Linked from fs x → LeadsTo dependents_of x xs last → IsPath dependents_of (on_path fs (x ∷ xs)) from last
   linked_path from [] x xs last h p = (h, p)
   linked_path from (f ∷ rest) x xs last h p = linked_path from rest f.device (x ∷ xs) last h.1 (h.0, p)
 
   -- all that hang right below a device of the walk are walked, but those that are left, once those above it are
   abbrev pub Waits : List Frame → List ℕ → Type 0
   Waits [] out = Unit {0}
-  Waits (f ∷ rest) out = Within (drop f.left (hang f.device)) out × Waits rest (f.device ∷ out)
+  Waits (f ∷ rest) out = Within (drop f.left (dependents_of f.device)) out × Waits rest (f.device ∷ out)
 
   pub waits_more : (fs : List Frame) (out more : List ℕ) → Within out more → Waits fs out → Waits fs more
   waits_more [] out more i h = tt
@@ -143,22 +143,22 @@ module _ (hang : ℕ → List ℕ) where
   -- each device of the walk is registered, and has those that are left below it
   abbrev pub Sized : ℕ → List Frame → Type 0
   Sized n [] = Unit {0}
-  Sized n (f ∷ rest) = (f.device < n) × (f.left ≤ length (hang f.device)) × Sized n rest
+  Sized n (f ∷ rest) = (f.device < n) × (f.left ≤ length (dependents_of f.device)) × Sized n rest
 
   module _ (W : ℕ → List ℕ) where
     -- what the walk leaves at its end
     abbrev pub finish : List Frame → List ℕ → List ℕ
     finish [] out = out
-    finish (f ∷ rest) out = finish rest (f.device ∷ onto (flat_map W (take f.left (hang f.device))) out)
+    finish (f ∷ rest) out = finish rest (f.device ∷ onto (flat_map W (take f.left (dependents_of f.device))) out)
 
     -- how many steps it makes at most
     abbrev pub weight : List Frame → ℕ
     weight [] = 0
-    weight (f ∷ rest) = 1 + 2 * length (flat_map W (take f.left (hang f.device))) + weight rest
+    weight (f ∷ rest) = 1 + 2 * length (flat_map W (take f.left (dependents_of f.device))) + weight rest
 
     -- where a walk stands
     pub record Walking (n from target : ℕ) (fs : List Frame) (out : List ℕ) (marks : List Bool) : Type 0 where
-      pub closed : IsClosed hang out
+      pub closed : IsClosed dependents_of out
       pub waits : Waits fs out
       pub chain : Chain from fs
       pub clear : Clear target fs
@@ -167,24 +167,24 @@ module _ (hang : ℕ → List ℕ) where
       pub noted : AreMarks marks n (devices fs ++ out)
       pub ends : finish fs out ≡ onto (W from) []
 
-    module _ (fix : Descends hang W) where
-      walked : (d : ℕ) → d ∷ onto (flat_map W (take (length (hang d)) (hang d))) [] ≡ onto (W d) []
-      walked d = ap (λ xs. d ∷ onto (flat_map W xs) []) (take_all (length (hang d)) (hang d) (omega arith)) ∙ sym (visits hang W fix [] d refl)
+    module _ (fix : Descends dependents_of W) where
+      walked : (d : ℕ) → d ∷ onto (flat_map W (take (length (dependents_of d)) (dependents_of d))) [] ≡ onto (W d) []
+      walked d = ap (λ xs. d ∷ onto (flat_map W xs) []) (take_all (length (dependents_of d)) (dependents_of d) (omega arith)) ∙ sym (visits dependents_of W fix [] d refl)
 
       -- where a path leads from a device of the walk's own to what hangs below its top, that hangs below itself
-      pub loops : (from c : ℕ) (fs : List Frame) (x : ℕ) (xs : List ℕ) → Linked from fs x → LeadsTo hang x xs c → is_among (devices fs) c ≡ true → is_among (flat_map W (hang c)) c ≡ true
+      pub loops : (from c : ℕ) (fs : List Frame) (x : ℕ) (xs : List ℕ) → Linked from fs x → LeadsTo dependents_of x xs c → is_among (devices fs) c ≡ true → is_among (flat_map W (dependents_of c)) c ≡ true
       loops from c [] x xs h p i = absurd (false≢true i)
       loops from c (g ∷ gs) x xs h p i = by_place (loops from c gs g.device (x ∷ xs) h.1 (h.0, p)) (or_cases (g.device == c) (is_among (devices gs) c) i)
         where
-          by_place : (is_among (devices gs) c ≡ true → is_among (flat_map W (hang c)) c ≡ true) → ((g.device == c) ≡ true) ⊎ (is_among (devices gs) c ≡ true) → is_among (flat_map W (hang c)) c ≡ true
-          by_place rec (inl e) = subst (λ (y : ℕ). is_among (flat_map W (hang y)) c ≡ true) (eqb-true g.device c e) (among_flat hang W fix c (hang g.device) x h.0 (leads_below hang W fix x xs c p))
+          by_place : (is_among (devices gs) c ≡ true → is_among (flat_map W (dependents_of c)) c ≡ true) → ((g.device == c) ≡ true) ⊎ (is_among (devices gs) c ≡ true) → is_among (flat_map W (dependents_of c)) c ≡ true
+          by_place rec (inl e) = subst (λ (y : ℕ). is_among (flat_map W (dependents_of y)) c ≡ true) (eqb-true g.device c e) (among_flat dependents_of W fix c (dependents_of g.device) x h.0 (leads_below dependents_of W fix x xs c p))
           by_place rec (inr e) = rec e
 
       -- at the beginning
-      pub begins : (n from target : ℕ) → from < n → (from == target) ≡ false → Walking n from target (record { device = from; left = length (hang from) } ∷ []) [] (set (replicate n false) from true)
+      pub begins : (n from target : ℕ) → from < n → (from == target) ≡ false → Walking n from target (record { device = from; left = length (dependents_of from) } ∷ []) [] (set (replicate n false) from true)
       begins n from target l e = record {
         closed = λ d m. absurd (false≢true m);
-        waits = (λ d m. absurd (false≢true (sym (ap (λ xs. is_among xs d) (drop_all (length (hang from)) (hang from) (omega arith))) ∙ m)), tt);
+        waits = (λ d m. absurd (false≢true (sym (ap (λ xs. is_among xs d) (drop_all (length (dependents_of from)) (dependents_of from) (omega arith))) ∙ m)), tt);
         chain = refl;
         clear = (e, tt);
         missing = refl;
@@ -203,14 +203,14 @@ module _ (hang : ℕ → List ℕ) where
         missing = or_from (f.device == target) (is_among out target) w.clear.0 w.missing;
         sized = w.sized.2;
         noted = marks_same marks n (f.device ∷ devices rest ++ out) (devices rest ++ f.device ∷ out) w.noted (in_front (devices rest) f.device out);
-        ends = ap (λ k. finish rest (f.device ∷ onto (flat_map W (take k (hang f.device))) out)) (sym z) ∙ w.ends;
+        ends = ap (λ k. finish rest (f.device ∷ onto (flat_map W (take k (dependents_of f.device))) out)) (sym z) ∙ w.ends;
       }
         where
-          below_all : Within (hang f.device) out
-          below_all = subst (λ (k : ℕ). Within (drop k (hang f.device)) out) z w.waits.0
+          below_all : Within (dependents_of f.device) out
+          below_all = subst (λ (k : ℕ). Within (drop k (dependents_of f.device)) out) z w.waits.0
 
-          by_place : (d : ℕ) → ((f.device == d) ≡ true) ⊎ (is_among out d ≡ true) → Within (hang d) (f.device ∷ out)
-          by_place d (inl e) = subst (λ (y : ℕ). Within (hang y) (f.device ∷ out)) (eqb-true f.device d e) (λ x m. among_rest f.device out x (below_all x m))
+          by_place : (d : ℕ) → ((f.device == d) ≡ true) ⊎ (is_among out d ≡ true) → Within (dependents_of d) (f.device ∷ out)
+          by_place d (inl e) = subst (λ (y : ℕ). Within (dependents_of y) (f.device ∷ out)) (eqb-true f.device d e) (λ x m. among_rest f.device out x (below_all x m))
           by_place d (inr e) = λ x m. among_rest f.device out x (w.closed d e x m)
 
           lower : (fs : List Frame) → Linked from fs f.device → Chain from fs
@@ -223,34 +223,34 @@ module _ (hang : ℕ → List ℕ) where
           ap (flat_map W) (take_more xs k c l ∙ ap (λ y. take k xs ++ y ∷ []) (sym e))
           ∙ (flat_map-append W (take k xs) (c ∷ []) ∙ ap (λ ys. flat_map W (take k xs) ++ ys) (append-nil (W c)))
 
-      module _ (n from target : ℕ) (f : Frame) (rest : List Frame) (out : List ℕ) (marks : List Bool) (w : Walking n from target (f ∷ rest) out marks) (k c : ℕ) (last : f.left ≡ k + 1) (at : c ≡ get_or (hang f.device) k c) where
-        pub in_row : k < length (hang f.device)
+      module _ (n from target : ℕ) (f : Frame) (rest : List Frame) (out : List ℕ) (marks : List Bool) (w : Walking n from target (f ∷ rest) out marks) (k c : ℕ) (last : f.left ≡ k + 1) (at : c ≡ get_or (dependents_of f.device) k c) where
+        pub in_row : k < length (dependents_of f.device)
         in_row = omega (arith, w.sized.1)
 
-        pub hangs : is_among (hang f.device) c ≡ true
-        hangs = among_at (hang f.device) k c in_row at
+        pub hangs : is_among (dependents_of f.device) c ≡ true
+        hangs = among_at (dependents_of f.device) k c in_row at
 
-        ends_next : finish rest (f.device ∷ onto (flat_map W (take k (hang f.device))) (onto (W c) out)) ≡ onto (W from) []
+        ends_next : finish rest (f.device ∷ onto (flat_map W (take k (dependents_of f.device))) (onto (W c) out)) ≡ onto (W from) []
         ends_next =
-            ap (λ o. finish rest (f.device ∷ o)) (sym (onto_app (flat_map W (take k (hang f.device))) (W c) out))
-            ∙ ap (λ ys. finish rest (f.device ∷ onto ys out)) (sym (flat_next (hang f.device) k c in_row at))
-            ∙ ap (λ j. finish rest (f.device ∷ onto (flat_map W (take j (hang f.device))) out)) (sym last)
+            ap (λ o. finish rest (f.device ∷ o)) (sym (onto_app (flat_map W (take k (dependents_of f.device))) (W c) out))
+            ∙ ap (λ ys. finish rest (f.device ∷ onto ys out)) (sym (flat_next (dependents_of f.device) k c in_row at))
+            ∙ ap (λ j. finish rest (f.device ∷ onto (flat_map W (take j (dependents_of f.device))) out)) (sym last)
             ∙ w.ends
 
-        waits_next : (more : List ℕ) → Within out more → is_among more c ≡ true → Within (drop k (hang f.device)) more
+        waits_next : (more : List ℕ) → Within out more → is_among more c ≡ true → Within (drop k (dependents_of f.device)) more
         waits_next more i m d h =
-            by_place (or_cases (c == d) (is_among (drop (k + 1) (hang f.device)) d) (ap (λ ys. is_among ys d) (sym (drop_more (hang f.device) k c in_row ∙ ap (λ y. y ∷ drop (k + 1) (hang f.device)) (sym at))) ∙ h))
+            by_place (or_cases (c == d) (is_among (drop (k + 1) (dependents_of f.device)) d) (ap (λ ys. is_among ys d) (sym (drop_more (dependents_of f.device) k c in_row ∙ ap (λ y. y ∷ drop (k + 1) (dependents_of f.device)) (sym at))) ∙ h))
           where
-            by_place : ((c == d) ≡ true) ⊎ (is_among (drop (k + 1) (hang f.device)) d ≡ true) → is_among more d ≡ true
+            by_place : ((c == d) ≡ true) ⊎ (is_among (drop (k + 1) (dependents_of f.device)) d ≡ true) → is_among more d ≡ true
             by_place (inl e) = subst (λ (y : ℕ). is_among more y ≡ true) (eqb-true c d e) m
-            by_place (inr e) = i d (w.waits.0 d (ap (λ j. is_among (drop j (hang f.device)) d) last ∙ e))
+            by_place (inr e) = i d (w.waits.0 d (ap (λ j. is_among (drop j (dependents_of f.device)) d) last ∙ e))
 
         -- a device that was entered was walked, as none hangs below itself
         pub was_walked : is_among (f.device ∷ devices rest ++ out) c ≡ true → is_among out c ≡ true
         was_walked m = by_place (or_cases (is_among (f.device ∷ devices rest) c) (is_among out c) (sym (among_app (f.device ∷ devices rest) out c) ∙ m))
           where
             by_place : (is_among (f.device ∷ devices rest) c ≡ true) ⊎ (is_among out c ≡ true) → is_among out c ≡ true
-            by_place (inl e) = absurd (true≢false (sym (loops from c (f ∷ rest) c [] (hangs, w.chain) refl e) ∙ not_below_itself hang W fix c))
+            by_place (inl e) = absurd (true≢false (sym (loops from c (f ∷ rest) c [] (hangs, w.chain) refl e) ∙ not_below_itself dependents_of W fix c))
             by_place (inr e) = e
 
         -- a device that was walked is passed
@@ -263,15 +263,15 @@ module _ (hang : ℕ → List ℕ) where
           missing = w.missing;
           sized = (w.sized.0, omega (arith, w.sized.1), w.sized.2);
           noted = w.noted;
-          ends = ap (λ o. finish rest (f.device ∷ onto (flat_map W (take k (hang f.device))) o)) (sym (visited hang W fix out w.closed c m)) ∙ ends_next;
+          ends = ap (λ o. finish rest (f.device ∷ onto (flat_map W (take k (dependents_of f.device))) o)) (sym (visited dependents_of W fix out w.closed c m)) ∙ ends_next;
         }
 
         -- another is walked first
-        pub enters : c < n → (c == target) ≡ false → is_among (f.device ∷ devices rest ++ out) c ≡ false → Walking n from target (record { device = c; left = length (hang c) } ∷ record { device = f.device; left = k } ∷ rest) out (set marks c true)
+        pub enters : c < n → (c == target) ≡ false → is_among (f.device ∷ devices rest ++ out) c ≡ false → Walking n from target (record { device = c; left = length (dependents_of c) } ∷ record { device = f.device; left = k } ∷ rest) out (set marks c true)
         enters l t m = record {
           closed = w.closed;
           waits = (
-            λ d h. absurd (false≢true (sym (ap (λ xs. is_among xs d) (drop_all (length (hang c)) (hang c) (omega arith))) ∙ h)),
+            λ d h. absurd (false≢true (sym (ap (λ xs. is_among xs d) (drop_all (length (dependents_of c)) (dependents_of c) (omega arith))) ∙ h)),
             (waits_next (c ∷ out) (λ d h. among_rest c out d h) (among_first c out), waits_more rest (f.device ∷ out) (f.device ∷ c ∷ out) (λ d h. by_place d (or_cases (f.device == d) (is_among out d) h)) w.waits.1),
           );
           chain = (hangs, w.chain);
@@ -279,7 +279,7 @@ module _ (hang : ℕ → List ℕ) where
           missing = w.missing;
           sized = (l, omega arith, (w.sized.0, omega (arith, w.sized.1), w.sized.2));
           noted = marks_more marks n (f.device ∷ devices rest ++ out) w.noted c l;
-          ends = ap (λ o. finish rest (f.device ∷ onto (flat_map W (take k (hang f.device))) o)) (ap (λ xs. c ∷ onto (flat_map W xs) out) (take_all (length (hang c)) (hang c) (omega arith)) ∙ sym (visits hang W fix out c fresh)) ∙ ends_next;
+          ends = ap (λ o. finish rest (f.device ∷ onto (flat_map W (take k (dependents_of f.device))) o)) (ap (λ xs. c ∷ onto (flat_map W xs) out) (take_all (length (dependents_of c)) (dependents_of c) (omega arith)) ∙ sym (visits dependents_of W fix out c fresh)) ∙ ends_next;
         }
           where
             fresh : is_among out c ≡ false
@@ -290,20 +290,20 @@ module _ (hang : ℕ → List ℕ) where
             by_place d (inr e) = among_rest f.device (c ∷ out) d (among_rest c out d e)
 
         -- each step leaves fewer
-        pub fewer : weight (record { device = c; left = length (hang c) } ∷ record { device = f.device; left = k } ∷ rest) < weight (f ∷ rest)
+        pub fewer : weight (record { device = c; left = length (dependents_of c) } ∷ record { device = f.device; left = k } ∷ rest) < weight (f ∷ rest)
         fewer =
-            let a = ap (λ j. length (flat_map W (take j (hang f.device)))) last in
-            let b = ap length (flat_next (hang f.device) k c in_row at) in
-            let e = length-append (flat_map W (take k (hang f.device))) (W c) in
+            let a = ap (λ j. length (flat_map W (take j (dependents_of f.device)))) last in
+            let b = ap length (flat_next (dependents_of f.device) k c in_row at) in
+            let e = length-append (flat_map W (take k (dependents_of f.device))) (W c) in
             let g = ap length (fix c) in
-            let h = ap (λ xs. length (flat_map W xs)) (take_all (length (hang c)) (hang c) (omega arith)) in
+            let h = ap (λ xs. length (flat_map W xs)) (take_all (length (dependents_of c)) (dependents_of c) (omega arith)) in
             omega (arith, a, b, e, g, h)
 
         pub fewer_passed : weight (record { device = f.device; left = k } ∷ rest) < weight (f ∷ rest)
         fewer_passed =
-            let a = ap (λ j. length (flat_map W (take j (hang f.device)))) last in
-            let b = ap length (flat_next (hang f.device) k c in_row at) in
-            let e = length-append (flat_map W (take k (hang f.device))) (W c) in
+            let a = ap (λ j. length (flat_map W (take j (dependents_of f.device)))) last in
+            let b = ap length (flat_next (dependents_of f.device) k c in_row at) in
+            let e = length-append (flat_map W (take k (dependents_of f.device))) (W c) in
             let g = ap length (fix c) in
             omega (arith, a, b, e, g)
 
@@ -319,6 +319,6 @@ module _ (hang : ℕ → List ℕ) where
           same d = sym (or-false (is_among (W from) d)) ∙ (sym (among_onto (W from) [] d) ∙ ap (λ ys. is_among ys d) (sym w.ends))
 
       -- where the target does not hang below, no path leads there
-      pub no_path : (from target : ℕ) → is_among (W from) target ≡ false → (path : List ℕ) → IsPath hang path from target → ⊥
+      pub no_path : (from target : ℕ) → is_among (W from) target ≡ false → (path : List ℕ) → IsPath dependents_of path from target → ⊥
       no_path from target n [] p = p
-      no_path from target n (x ∷ xs) p = absurd (true≢false (sym (subst (λ (y : ℕ). is_among (W y) target ≡ true) p.0 (leads_below hang W fix x xs target p.1)) ∙ n))
+      no_path from target n (x ∷ xs) p = absurd (true≢false (sym (subst (λ (y : ℕ). is_among (W y) target ≡ true) p.0 (leads_below dependents_of W fix x xs target p.1)) ∙ n))

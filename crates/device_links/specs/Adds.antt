@@ -1,7 +1,7 @@
 -- What is answered where a link is added, or its state set.
 use Rattle.std.specs.Prelude.{◌≡◌, ◌≤◌, ◌<◌, ◌⊎◌, ℕ, Bool, true, false, List, ◌∷◌, length, map, Option, Some, None, Result, Ok, Err}
 use Rattle.sleep_model.specs.declared.machine.Link.{Link}
-use Rattle.sleep_model.specs.Order.{hanging, with_state}
+use Rattle.sleep_model.specs.Order.{dependents, with_state}
 use Rattle.sleep_model.specs.Links.{IsPath, is_linked}
 use Rattle.device_links.specs.declared.fault.LinkFault.{LinkFault}
 use Rattle.device_links.specs.declared.fault.LinkFault.TheVariants as fault
@@ -19,7 +19,7 @@ pub record IsOpen (l : Linked) (supplier consumer : ℕ) : Type 0 where
 
 -- a path from the consumer to the supplier, by steps to what hangs right below
 abbrev pub Closes : Linked → ℕ → ℕ → List ℕ → Type 0
-Closes l supplier consumer path = IsPath (hanging l.parents l.links) path consumer supplier
+Closes l supplier consumer path = IsPath (dependents l.parents l.links) path consumer supplier
 
 -- why a link is refused before anything is walked, in the order of the tests
 abbrev pub Refuses : Linked → ℕ → ℕ → Option LinkFault → Type 0

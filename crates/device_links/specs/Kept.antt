@@ -1,7 +1,7 @@
 -- What is kept of links.
 use Rattle.std.specs.Prelude.{◌≡◌, ◌≤◌, ◌<◌, ◌^◌, ℕ, Bool, not, ◌==◌, ◌&&◌, List, [], length, slice_index_or, Option, None}
 use Rattle.sleep_model.specs.declared.machine.Link.{Link}
-use Rattle.sleep_model.specs.Order.{EachAfterParent, is_parent, active_of, hanging, holding, suppliers_of, order_by}
+use Rattle.sleep_model.specs.Order.{EachAfterParent, is_parent, active_of, dependents, superiors, suppliers_of, order_by}
 use Rattle.sleep_model.specs.Links.{AreLinks, first_places}
 use Rattle.device_rows.specs.Table.{Table, places_at}
 
@@ -12,11 +12,11 @@ pub record IsTableOf (n : ℕ) (f : ℕ → List ℕ) (rows : List (List ℕ)) :
 
 -- what must sleep before d does, by the links that are active, each once (dpm_wait_for_subordinate)
 abbrev pub near_below : List (Option ℕ) → List Link → ℕ → List ℕ
-near_below parents links d = first_places (hanging parents (active_of links) d)
+near_below parents links d = first_places (dependents parents (active_of links) d)
 
 -- what must be awake before d is, by the links that are active, each once (dpm_wait_for_superior)
 abbrev pub near_above : List (Option ℕ) → List Link → ℕ → List ℕ
-near_above parents links d = first_places (holding parents (active_of links) d)
+near_above parents links d = first_places (superiors parents (active_of links) d)
 
 -- a link shows its consumer below that device: it is active, and the consumer is no child, which stands there already
 abbrev pub is_shown_below : List (Option ℕ) → Link → ℕ → Bool
@@ -28,8 +28,8 @@ is_shown_above parents l d = l.active && l.consumer == d && not (is_parent l.sup
 
 -- the rows have places for all that may come to stand there, were every link active
 pub record HavePlaces (parents : List (Option ℕ)) (links : List Link) (seen_below seen_above : Table) : Type 0 where
-  pub below : (d : ℕ) → length (hanging parents links d) ≤ places_at seen_below d
-  pub above : (d : ℕ) → length (holding parents links d) ≤ places_at seen_above d
+  pub below : (d : ℕ) → length (dependents parents links d) ≤ places_at seen_below d
+  pub above : (d : ℕ) → length (superiors parents links d) ≤ places_at seen_above d
 
 -- the tables and the order are those of the parents and the links
 pub record IsKept (parents : List (Option ℕ)) (links : List Link) (hangs below suppliers above : List (List ℕ)) (order : List ℕ) : Type 0 where
@@ -37,7 +37,7 @@ pub record IsKept (parents : List (Option ℕ)) (links : List Link) (hangs below
   pub after : EachAfterParent 0 parents
   pub few : length links ≤ 4000
   pub linked : AreLinks parents links
-  pub all_hanging : IsTableOf (length parents) (hanging parents links) hangs
+  pub all_dependents : IsTableOf (length parents) (dependents parents links) hangs
   pub once_below : IsTableOf (length parents) (near_below parents links) below
   pub all_suppliers : IsTableOf (length parents) (λ d. suppliers_of d links) suppliers
   pub once_above : IsTableOf (length parents) (near_above parents links) above

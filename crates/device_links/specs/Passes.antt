@@ -1,7 +1,7 @@
 -- Links that are made at once: their tables, and one walk after another over what hangs below.
 use Rattle.std.specs.Prelude.{◌≡◌, ◌≤◌, ◌<◌, ◌+◌, ◌++◌, ◌||◌, ℕ, Bool, true, false, not, List, [], ◌∷◌, length, filter, reverse, flat_map, slice_index_or, if◌then◌else◌, Option, Some, None}
 use Rattle.sleep_model.specs.declared.machine.Link.{Link}
-use Rattle.sleep_model.specs.Order.{is_among, is_parent, hanging, suppliers_of, last_places, moved, order_by}
+use Rattle.sleep_model.specs.Order.{is_among, is_parent, dependents, suppliers_of, last_places, moved, order_by}
 use Rattle.sleep_model.specs.Links.{AreLinks, IsOrder, is_linked}
 use Rattle.device_rows.specs.Table.{Table, row_at, places_at, hung}
 use Rattle.device_links.specs.declared.at_once.Tables.{Tables}
@@ -42,7 +42,7 @@ Tells false P = P → ⊥
 
 -- the tables are those of the parents and the links
 pub record AreTables (parents : List (Option ℕ)) (links : List Link) (t : Tables) : Type 0 where
-  pub all_hanging : IsTableOf (length parents) (hanging parents links) t.hanging.rows
+  pub all_dependents : IsTableOf (length parents) (dependents parents links) t.dependents.rows
   pub once_below : IsTableOf (length parents) (near_below parents links) t.below.rows
   pub all_suppliers : IsTableOf (length parents) (λ d. suppliers_of d links) t.suppliers.rows
   pub once_above : IsTableOf (length parents) (near_above parents links) t.above.rows
@@ -50,7 +50,7 @@ pub record AreTables (parents : List (Option ℕ)) (links : List Link) (t : Tabl
 
 -- each table has so many rows
 pub record HaveRows (n : ℕ) (t : Tables) : Type 0 where
-  pub hanging : length t.hanging.rows ≡ n
+  pub dependents : length t.dependents.rows ≡ n
   pub below : length t.below.rows ≡ n
   pub suppliers : length t.suppliers.rows ≡ n
   pub above : length t.above.rows ≡ n
@@ -67,9 +67,9 @@ is_left_out parents l = not l.active || is_parent l.supplier (slice_index_or par
 
 -- the tables with one more link; what is left out is not put there, but has its places
 pub record IsHung (parents : List (Option ℕ)) (l : Link) (old new : Tables) : Type 0 where
-  pub hanging : new.hanging.rows ≡ hung old.hanging.rows (Some l.supplier) l.consumer
+  pub dependents : new.dependents.rows ≡ hung old.dependents.rows (Some l.supplier) l.consumer
   pub suppliers : new.suppliers.rows ≡ hung old.suppliers.rows (Some l.consumer) l.supplier
-  pub below : IsNear (is_left_out parents l) l.supplier l.consumer (length (row_at new.hanging l.supplier) + 2) old.below new.below
+  pub below : IsNear (is_left_out parents l) l.supplier l.consumer (length (row_at new.dependents l.supplier) + 2) old.below new.below
   pub above : IsNear (is_left_out parents l) l.consumer l.supplier (length (row_at new.suppliers l.consumer) + 2) old.above new.above
 
 -- the tables of all these links, or one of them stands twice or between others than the devices
@@ -81,26 +81,26 @@ Tabulates parents links (Some t) = AreApart parents links × AreTables parents l
 
 -- no device hangs below itself: as many levels as devices reach all below each
 abbrev pub IsAcyclic : ℕ → (ℕ → List ℕ) → Type 0
-IsAcyclic n hang = (d : ℕ) → moved n hang d ≡ d ∷ flat_map (moved n hang) (hang d)
+IsAcyclic n dependents_of = (d : ℕ) → moved n dependents_of d ≡ d ∷ flat_map (moved n dependents_of) (dependents_of d)
 
 -- between two walks: each device that was visited stands before all that hang below it, and has both its marks
-pub record AreVisits (n : ℕ) (hang : ℕ → List ℕ) (v : Visits) : Type 0 where
-  pub ordered : IsOrder hang v.out
+pub record AreVisits (n : ℕ) (dependents_of : ℕ → List ℕ) (v : Visits) : Type 0 where
+  pub ordered : IsOrder dependents_of v.out
   pub within : (d : ℕ) → is_among v.out d ≡ true → d < n
   pub entered : AreMarks v.entered.items n v.out
   pub left : AreMarks v.left.items n v.out
 
 -- a device was visited, with all that hangs below it but what was visited before, each at its last place
-pub record IsVisited (n : ℕ) (hang : ℕ → List ℕ) (from : ℕ) (old new : Visits) : Type 0 where
-  pub visits : AreVisits n hang new
+pub record IsVisited (n : ℕ) (dependents_of : ℕ → List ℕ) (from : ℕ) (old new : Visits) : Type 0 where
+  pub visits : AreVisits n dependents_of new
   pub here : is_among new.out from ≡ true
   pub kept : (d : ℕ) → is_among old.out d ≡ true → is_among new.out d ≡ true
-  pub placed : IsAcyclic n hang → new.out ≡ filter (λ d. not (is_among old.out d)) (last_places (moved n hang from)) ++ old.out
+  pub placed : IsAcyclic n dependents_of → new.out ≡ filter (λ d. not (is_among old.out d)) (last_places (moved n dependents_of from)) ++ old.out
 
 -- a device was visited, or a cycle was met
 abbrev pub Goes : ℕ → (ℕ → List ℕ) → ℕ → Visits → Visits → Bool → Type 0
-Goes n hang from old new true = IsVisited n hang from old new
-Goes n hang from old new false = IsAcyclic n hang → ⊥
+Goes n dependents_of from old new true = IsVisited n dependents_of from old new
+Goes n dependents_of from old new false = IsAcyclic n dependents_of → ⊥
 
 -- the order that the links leave, or they close a cycle
 abbrev pub Orders : List (Option ℕ) → List Link → Option (List ℕ) → Type 0

@@ -8,9 +8,9 @@ marked (x ∷ xs) marks = marked xs (slice_set marks x true)
 
 -- the marks after one device: where it is marked, all that hangs right below it is
 abbrev pub spread_by : (ℕ → List ℕ) → ℕ → List Bool → List Bool
-spread_by hang d marks = if slice_index_or marks d false then marked (hang d) marks else marks
+spread_by dependents_of d marks = if slice_index_or marks d false then marked (dependents_of d) marks else marks
 
 -- the marks after these devices in turn
 abbrev pub spread : (ℕ → List ℕ) → List ℕ → List Bool → List Bool
-spread hang [] marks = marks
-spread hang (d ∷ ds) marks = spread hang ds (spread_by hang d marks)
+spread dependents_of [] marks = marks
+spread dependents_of (d ∷ ds) marks = spread dependents_of ds (spread_by dependents_of d marks)

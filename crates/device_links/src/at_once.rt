@@ -4,7 +4,7 @@ ghost use Rattle.std.specs.Prelude.{◌≡◌, ◌<◌, ◌^◌, [], IfOk, OnOk,
 ghost use Rattle.sleep_model.specs.Order.{EachAfterParent};
 ghost use Rattle.device_links.specs.Passes.{AreTables, HaveRows, IsHung, IsNear, IsNew, Tabulates, Tells};
 
-use crate::tables::{children_of, hang, is_left_out, parents_of, places_for};
+use crate::tables::{children_of, dependents_of, is_left_out, parents_of, places_for};
 use device_rows::Rows;
 use sleep_base::Mem;
 use sleep_model::Link;
@@ -13,7 +13,7 @@ use std::alloc::Global;
 /// What hangs right below the devices and stands right above them, as `Links` keeps it.
 #[derive(Drop)]
 pub(crate) struct Tables {
-    pub(crate) hanging: Rows,
+    pub(crate) dependents: Rows,
     pub(crate) below: Rows,
     pub(crate) suppliers: Rows,
     pub(crate) above: Rows,
@@ -26,7 +26,7 @@ fn without_links(alloc: Global, parents: &[Option<u32>]) -> Result<Tables, Mem>
     ensures { IfOk result (AreTables parents.now []) }
 {
     Ok(Tables {
-        hanging: children_of(alloc, parents)?,
+        dependents: children_of(alloc, parents)?,
         below: children_of(alloc, parents)?,
         suppliers: Rows::with_rows(alloc, parents.len())?,
         above: parents_of(alloc, parents)?,
@@ -73,10 +73,10 @@ fn hang_link(parents: &[Option<u32>], tables: &mut Tables, link: Link) -> Result
         consumer,
         ..
     } = link;
-    hang(&mut tables.hanging, Some(supplier), consumer)?;
-    hang(&mut tables.suppliers, Some(consumer), supplier)?;
+    dependents_of(&mut tables.dependents, Some(supplier), consumer)?;
+    dependents_of(&mut tables.suppliers, Some(consumer), supplier)?;
     let left_out = is_left_out(parents, link);
-    let below = places_for(&tables.hanging, supplier);
+    let below = places_for(&tables.dependents, supplier);
     let above = places_for(&tables.suppliers, consumer);
     hang_near(&mut tables.below, left_out, supplier, consumer, below)?;
     hang_near(&mut tables.above, left_out, consumer, supplier, above)?;

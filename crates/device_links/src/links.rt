@@ -26,7 +26,7 @@ pub struct Links {
     parents: Vec<Option<u32>>,
     links: Vec<Link>,
     // What hangs right below a device, its children before its consumers: what a walk goes over.
-    hanging: Rows,
+    dependents: Rows,
     below: Rows,
     suppliers: Rows,
     above: Rows,
@@ -43,12 +43,12 @@ impl Model for Links {
     ghost view = { λ l. record { parents = l.parents.items; links = reverse l.links.items } };
 
     ghost invariant = { λ l. IsWhole l.parents.items (reverse l.links.items)
-        l.hanging.rows l.below l.suppliers.rows l.above l.order.items };
+        l.dependents.rows l.below l.suppliers.rows l.above l.order.items };
 }
 
 impl Links {
     ghost use Rattle.std.specs.Prelude.{◌≡◌, ◌∷◌, [], ◌<◌, ◌≤◌, ℕ, true, IfOk, OnOk, OnErr, length};
-    ghost use Rattle.sleep_model.specs.Order.{EachAfterParent, is_among, hanging, order_by};
+    ghost use Rattle.sleep_model.specs.Order.{EachAfterParent, is_among, dependents, order_by};
     ghost use Rattle.sleep_model.specs.Links.{IsOrder, is_dependent, is_linked};
     ghost use Rattle.device_links.specs.Walks.{Finds, IsWalked};
     ghost use Rattle.device_links.specs.Adds.{Adds, IsOpen, Lacks, Refuses, Sets, outcome, with_link, with_set};
@@ -69,7 +69,7 @@ impl Links {
         Ok(Links {
             parents: Vec::from_slice(alloc, parents)?,
             links: Vec::new(alloc),
-            hanging: children_of(alloc, parents)?,
+            dependents: children_of(alloc, parents)?,
             below: children_of(alloc, parents)?,
             suppliers: Rows::with_rows(alloc, parents.len())?,
             above: parents_of(alloc, parents)?,
@@ -98,11 +98,11 @@ impl Links {
         let Some(tables) = tables_of(alloc, parents, links)? else {
             return Ok(None);
         };
-        let Some(order) = order_of(alloc, parents, &tables.hanging, links)? else {
+        let Some(order) = order_of(alloc, parents, &tables.dependents, links)? else {
             return Ok(None);
         };
         let Tables {
-            hanging,
+            dependents,
             below,
             suppliers,
             above,
@@ -110,7 +110,7 @@ impl Links {
         Ok(Some(Links {
             parents: Vec::from_slice(alloc, parents)?,
             links: Vec::from_slice(alloc, links)?,
-            hanging,
+            dependents,
             below,
             suppliers,
             above,
@@ -199,7 +199,7 @@ impl Links {
     pub fn order(&self) -> &[u32]
         ensures order { result.now ≡ order_by self.now.parents self.now.links }
         ensures count { length result.now ≡ length self.now.parents }
-        ensures ranked { IsOrder (hanging self.now.parents self.now.links) result.now }
+        ensures ranked { IsOrder (dependents self.now.parents self.now.links) result.now }
         ensures covers { (d : ℕ) → d < length self.now.parents → is_among result.now d ≡ true }
         ensures within { (d : ℕ) → is_among result.now d ≡ true → d < length self.now.parents }
     {
@@ -238,7 +238,7 @@ impl Links {
         if stands_first(&self.order, supplier, consumer) {
             return false;
         }
-        consumer == supplier || comes_to(&self.hanging, &self.order, consumer, supplier)
+        consumer == supplier || comes_to(&self.dependents, &self.order, consumer, supplier)
     }
 
     // Why the link is refused before anything is walked.
@@ -276,10 +276,10 @@ impl Links {
     fn find(&self, supplier: u32, consumer: u32) -> Result<Found, Mem>
         requires { consumer < length self.now.parents }
         ensures { IfOk result (Finds (length self.now.parents)
-            (hanging self.now.parents self.now.links) consumer supplier) }
+            (dependents self.now.parents self.now.links) consumer supplier) }
     {
         let alloc = *self.order.allocator();
-        walk(alloc, &self.hanging, &self.order, consumer, supplier)
+        walk(alloc, &self.dependents, &self.order, consumer, supplier)
     }
 
     // Whether a link leaves the order as it is: the newest one has moved this consumer to its end, and the
@@ -315,7 +315,7 @@ impl Links {
     // The order in which what a walk below the consumer found has moved to the end.
     fn moved_last(&self, link: Link, below: &[u32], marks: &[bool]) -> Result<Vec<u32>, Mem>
         requires { IsWalked (length self.now.parents)
-            (hanging self.now.parents self.now.links) link.consumer link.supplier below.now marks.now }
+            (dependents self.now.parents self.now.links) link.consumer link.supplier below.now marks.now }
         ensures { IfOk result (λ order. Leaves self.now link order.items) }
     {
         moved_last(*self.order.allocator(), &self.order, marks, below)
@@ -330,14 +330,14 @@ impl Links {
         ensures err { OnErr result (self.new ≡ self.old) }
     {
         let left_out = is_left_out(&self.parents, link);
-        let most_below = places_for(&self.hanging, link.supplier);
+        let most_below = places_for(&self.dependents, link.supplier);
         let most_above = places_for(&self.suppliers, link.consumer);
         self.links.reserve(1)?;
-        self.hanging.make_room(link.supplier)?;
+        self.dependents.make_room(link.supplier)?;
         self.suppliers.make_room(link.consumer)?;
         make_near(&mut self.below, link.supplier, most_below)?;
         make_near(&mut self.above, link.consumer, most_above)?;
-        self.hanging.push(link.supplier, link.consumer);
+        self.dependents.push(link.supplier, link.consumer);
         self.suppliers.push(link.consumer, link.supplier);
         push_unless(&mut self.below, left_out, link.supplier, link.consumer);
         push_unless(&mut self.above, left_out, link.consumer, link.supplier);

@@ -1,7 +1,7 @@
 //! The states of links, and the rows that show the active ones.
 
 ghost use Rattle.std.specs.Prelude.{◌≡◌, ◌<◌, ◌≤◌, ◌^◌, [], ℕ, length, map, option_to_list, reverse, slice_get, slice_set};
-ghost use Rattle.sleep_model.specs.Order.{children_from, hanging, holding, parent_of, with_state};
+ghost use Rattle.sleep_model.specs.Order.{children_from, dependents, superiors, parent_of, with_state};
 ghost use Rattle.device_rows.specs.Table.{row_at, places_at};
 ghost use Rattle.device_links.specs.Kept.{near_below, near_above, is_shown_below, is_shown_above};
 ghost use Rattle.device_links.specs.Passes.{AreApart};
@@ -48,7 +48,7 @@ fn is_shown_above(parents: &[Option<u32>], link: Link, device: u32) -> bool
 pub(crate) fn refill_below(table: &mut Rows, parents: &[Option<u32>], links: &[Link], device: u32)
     requires numbered { length parents.now < 2 ^ 32 }
     requires within { device < length table.old.rows }
-    requires places { length (hanging parents.now (reverse links.now) device) ≤ places_at table.old device }
+    requires places { length (dependents parents.now (reverse links.now) device) ≤ places_at table.old device }
     requires apart { AreApart parents.now (reverse links.now) }
     ensures rows { table.new.rows ≡
         slice_set table.old.rows device (near_below parents.now (reverse links.now) device) }
@@ -79,7 +79,7 @@ fn push_children(table: &mut Rows, parents: &[Option<u32>], device: u32)
 fn push_consumers(table: &mut Rows, parents: &[Option<u32>], links: &[Link], device: u32)
     requires within { device < length table.old.rows }
     requires children { row_at table.old device ≡ children_from device 0 parents.now }
-    requires places { length (hanging parents.now (reverse links.now) device) ≤ places_at table.old device }
+    requires places { length (dependents parents.now (reverse links.now) device) ≤ places_at table.old device }
     requires apart { AreApart parents.now (reverse links.now) }
     ensures rows { table.new.rows ≡
         slice_set table.old.rows device (near_below parents.now (reverse links.now) device) }
@@ -96,7 +96,7 @@ fn push_consumers(table: &mut Rows, parents: &[Option<u32>], links: &[Link], dev
 pub(crate) fn refill_above(table: &mut Rows, parents: &[Option<u32>], links: &[Link], device: u32)
     requires device { device < length parents.now }
     requires within { device < length table.old.rows }
-    requires places { length (holding parents.now (reverse links.now) device) ≤ places_at table.old device }
+    requires places { length (superiors parents.now (reverse links.now) device) ≤ places_at table.old device }
     requires apart { AreApart parents.now (reverse links.now) }
     ensures rows { table.new.rows ≡
         slice_set table.old.rows device (near_above parents.now (reverse links.now) device) }
@@ -125,7 +125,7 @@ fn push_suppliers(table: &mut Rows, parents: &[Option<u32>], links: &[Link], dev
     requires device { device < length parents.now }
     requires within { device < length table.old.rows }
     requires parent { row_at table.old device ≡ parent_of (slice_get parents.now device) }
-    requires places { length (holding parents.now (reverse links.now) device) ≤ places_at table.old device }
+    requires places { length (superiors parents.now (reverse links.now) device) ≤ places_at table.old device }
     requires apart { AreApart parents.now (reverse links.now) }
     ensures rows { table.new.rows ≡
         slice_set table.old.rows device (near_above parents.now (reverse links.now) device) }

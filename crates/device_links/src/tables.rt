@@ -13,7 +13,7 @@ use sleep_model::Link;
 use std::alloc::Global;
 
 /// Puts a number at the end of a row, where there is one to put it.
-pub(crate) fn hang(table: &mut Rows, row: Option<u32>, number: u32) -> Result<(), Mem>
+pub(crate) fn dependents_of(table: &mut Rows, row: Option<u32>, number: u32) -> Result<(), Mem>
     requires { IfSome row (λ r. r < length table.old.rows) }
     ensures { OnOk result (table.new.rows ≡ hung table.old.rows row number) }
 {
@@ -32,7 +32,7 @@ pub(crate) fn children_of(alloc: Global, parents: &[Option<u32>]) -> Result<Rows
 {
     let mut table = Rows::with_rows(alloc, parents.len())?;
     for (number, parent) in parents.iter().enumerate() {
-        hang(&mut table, *parent, number as u32)?;
+        dependents_of(&mut table, *parent, number as u32)?;
     }
     Ok(table)
 }

@@ -1,7 +1,7 @@
 //! The order of links that are made at once, by walks over all devices that none visits twice.
 
 ghost use Rattle.std.specs.Prelude.{◌≡◌, ◌<◌, ◌^◌, ℕ, true, IfOk, length, reverse, option_map};
-ghost use Rattle.sleep_model.specs.Order.{EachAfterParent, hanging, is_among};
+ghost use Rattle.sleep_model.specs.Order.{EachAfterParent, dependents, is_among};
 ghost use Rattle.device_rows.specs.Table.{row_at};
 ghost use Rattle.device_links.specs.Kept.{IsTableOf};
 ghost use Rattle.device_links.specs.Passes.{AreApart, AreVisits, Goes, Orders};
@@ -83,7 +83,7 @@ pub(crate) fn order_of(
     requires numbered { length parents.now < 2 ^ 32 }
     requires after { EachAfterParent 0 parents.now }
     requires apart { AreApart parents.now (reverse links.now) }
-    requires hanging { IsTableOf (length parents.now) (hanging parents.now (reverse links.now)) table.now.rows }
+    requires dependents { IsTableOf (length parents.now) (dependents parents.now (reverse links.now)) table.now.rows }
     ensures { IfOk result (λ order. Orders parents.now (reverse links.now) (option_map (λ v. v.items) order)) }
 {
     let count = parents.len();

@@ -9,7 +9,7 @@ use Rattle.serde_json.specs.Data.{Data}
 use Rattle.sleep_model.specs.declared.machine.Link.{Link}
 use Rattle.sleep_model.specs.Accepted.{IsAccepted}
 use Rattle.sleep_model.specs.Links.{AreLinks, is_linked}
-use Rattle.sleep_model.specs.Order.{is_among, hanging, moved, parents_of}
+use Rattle.sleep_model.specs.Order.{is_among, dependents, moved, parents_of}
 use Rattle.machine_file.specs.Members.{items_of, list_in}
 use Rattle.machine_file.specs.Places.{first_not_after, first_item, item_place}
 use Rattle.machine_file.specs.Form.{is_device_form, is_link_form, unformed_item}
@@ -99,7 +99,7 @@ module _ (seed n : ℕ) (some : 1 ≤ n) (few : n ≤ 1000) where
       ap₂ (λ a b. not a && not b) (other_name l.supplier l.consumer (omega (arith, r.up, r.low)) (omega (arith, r.low)) (λ s. omega (arith, s, r.up)))
       (linked_same n l before few r h ∙ apart)
 
-  opened : (l : Link) (before : List Link) → Rises n l → EachOf (Rises n) before → is_among (moved (length ps) (hanging ps before) l.consumer) l.supplier ≡ false
+  opened : (l : Link) (before : List Link) → Rises n l → EachOf (Rises n) before → is_among (moved (length ps) (dependents ps before) l.consumer) l.supplier ≡ false
       → closes_no_cycle file (map link_datum before) (link_datum l) ≡ true
   opened l before r h apart =
       let names = named_devices seed n in
@@ -107,7 +107,7 @@ module _ (seed n : ℕ) (some : 1 ≤ n) (few : n ≤ 1000) where
       let links : map (link_of (devices_named file)) (map link_datum before) ≡ before = ap (λ ns. map (link_of ns) (map link_datum before)) names ∙ links_same n before few h in
       let supplier : place_among (devices_named file) (drawn_name l.supplier) ≡ l.supplier = ap (λ ns. place_among ns (drawn_name l.supplier)) names ∙ name_placed n l.supplier few (omega (arith, r.up, r.low)) in
       let consumer : place_among (devices_named file) (drawn_name l.consumer) ≡ l.consumer = ap (λ ns. place_among ns (drawn_name l.consumer)) names ∙ name_placed n l.consumer few r.low in
-      (λ i. not (is_among (moved (length (parents_of (devices i))) (hanging (parents_of (devices i)) (links i)) (consumer i)) (supplier i))) ∙ ap not apart
+      (λ i. not (is_among (moved (length (parents_of (devices i))) (dependents (parents_of (devices i)) (links i)) (consumer i)) (supplier i))) ∙ ap not apart
 
   -- each link in turn is new, and closes no cycle
   links_new : (before ls : List Link) (k : ℕ) → EachOf (Rises n) before → EachOf (Rises n) ls → AreLinks ps (reverse ls ++ before)

@@ -6,7 +6,7 @@ use Rattle.std.proofs.lemmas.Bool.{and_parts, and_from, false≢true}
 use Rattle.serde_json.specs.Data.{Data}
 use Rattle.serde_json.specs.Find.{get}
 use Rattle.sleep_model.specs.Answers.{is_for}
-use Rattle.sleep_model.specs.Order.{is_among, hanging, moved, parents_of}
+use Rattle.sleep_model.specs.Order.{is_among, dependents, moved, parents_of}
 use Rattle.machine_file.specs.Look.{is_some_and, is_none_or, is_number, is_list, has_only}
 use Rattle.machine_file.specs.Members.{may_have, has_text, list_in, number_at, file_members}
 use Rattle.machine_file.specs.Places.{unless, first_not, first_not_after, first_item, first_operation_of, item_place}
@@ -240,7 +240,7 @@ module _ (d : Data) (unbroken : first_broken d ≡ None) where
       let before : map (link_of (devices_named v)) (map (link_again d) b) ≡ map (link_of (devices_named d)) b =
       ap (λ ns. map (link_of ns) (map (link_again d) b)) names
       ∙ seen_alike (link_of (devices_named d)) (link_again d) (link_of (devices_named d)) b (weaker KeptLink (λ o. link_of (devices_named d) (link_again d o) ≡ link_of (devices_named d) o) b (link_same d kept) h) in
-      λ i. not (is_among (moved (length (parents_of (whole_devices_same d kept i))) (hanging (parents_of (whole_devices_same d kept i)) (before i)) (place_among (names i) (s.consumer i))) (place_among (names i) (s.supplier i)))
+      λ i. not (is_among (moved (length (parents_of (whole_devices_same d kept i))) (dependents (parents_of (whole_devices_same d kept i)) (before i)) (place_among (names i) (s.consumer i))) (place_among (names i) (s.supplier i)))
 
   cyclic_kept : cyclic_link v ≡ None
   cyclic_kept =

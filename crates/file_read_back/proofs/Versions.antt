@@ -7,7 +7,7 @@ use Rattle.serde_json.specs.Data.{Data, Members, no_members, member, no_items}
 use Rattle.serde_json.specs.Find.{as_array, as_object}
 use Rattle.sleep_model.specs.declared.machine.What.{What}
 use Rattle.sleep_model.specs.declared.machine.What.TheVariants as what
-use Rattle.sleep_model.specs.Order.{is_among, hanging, moved, parents_of}
+use Rattle.sleep_model.specs.Order.{is_among, dependents, moved, parents_of}
 use Rattle.sleep_model.specs.Text.{down_word}
 use Rattle.machine_file.specs.Look.{is_some_and, is_none_or, is_number, are_named, has_only, text_at, text_of}
 use Rattle.machine_file.specs.Members.{must_have, may_have, has_text, items_of, list_in, number_at, file_members, link_members}
@@ -220,7 +220,7 @@ module _ (d e : Data) (of : IsSecondOf d e) where
     cyclic_same = λ i.
         option_map (item_place (codes "links"))
         (first_not_after
-        (λ before l. not (is_among (moved (length (parents_of (all_devices i))) (hanging (parents_of (all_devices i)) (map (link_of (names i)) before)) (place_among (names i) (text_at (codes "consumer") l))) (place_among (names i) (text_at (codes "supplier") l))))
+        (λ before l. not (is_among (moved (length (parents_of (all_devices i))) (dependents (parents_of (all_devices i)) (map (link_of (names i)) before)) (place_among (names i) (text_at (codes "consumer") l))) (place_among (names i) (text_at (codes "supplier") l))))
         [] 0 (links i))
 
     formed_kept : unformed_operation e ≡ None

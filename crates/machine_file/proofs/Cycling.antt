@@ -3,7 +3,7 @@ use Rattle.std.proofs.Common.{◌≡◌, ◌<◌, ◌≤◌, ◌+◌, ◌++◌, 
 use Rattle.std.proofs.lemmas.List.{append-nil, append_assoc, take_more, reverse-append, length-reverse, length-take-le}
 use Rattle.std.proofs.lemmas.Bool.{true≢false}
 use Rattle.sleep_model.specs.declared.machine.Link.{Link}
-use Rattle.sleep_model.specs.Order.{EachAfterParent, is_among, hanging, moved}
+use Rattle.sleep_model.specs.Order.{EachAfterParent, is_among, dependents, moved}
 use Rattle.sleep_model.specs.Links.{AreLinks}
 use Rattle.sleep_model.proofs.Acyclic.{links_descend, order_ranked}
 use Rattle.sleep_model.proofs.Paths.{no_path_moved, path_below}
@@ -45,7 +45,7 @@ module _ (ps : List (Option ℕ)) (after : EachAfterParent 0 ps) (ls : List Link
       w ≡ record { parents = v.parents; links = record { supplier = l.supplier; consumer = l.consumer; active = l.active } ∷ v.links } → Adding ps ls (i + 1) w
   is_added v w a h e =
       let answer : Adds linked_so l.supplier l.consumer (Ok tt) = subst (λ (u : Linked). Adds u l.supplier l.consumer (Ok tt)) a.is h in
-      let apart : is_among (moved (length ps) (hanging ps earlier) l.consumer) l.supplier ≡ false = no_path_moved (hanging ps earlier) (length ps) l.consumer l.supplier answer.1 in
+      let apart : is_among (moved (length ps) (dependents ps earlier) l.consumer) l.supplier ≡ false = no_path_moved (dependents ps earlier) (length ps) l.consumer l.supplier answer.1 in
       record {
         is = e ∙ ap (λ (u : Linked). record { parents = u.parents; links = l ∷ u.links }) a.is ∙ ap (λ (ks : List Link). record { parents = ps; links = ks }) (sym more);
         linked = subst (AreLinks ps) (sym more) (ready.supplier, ready.consumer, ready.new, apart, a.linked);
@@ -56,8 +56,8 @@ module _ (ps : List (Option ℕ)) (after : EachAfterParent 0 ps) (ls : List Link
   pub is_cycle : (v : Linked) (path : List ℕ) → Adding ps ls i v → Adds v l.supplier l.consumer (Err (link.Cycle path)) → Some i ≡ later_from (closes_nothing ps) ls 0
   is_cycle v path a h =
       let answer : Adds linked_so l.supplier l.consumer (Err (link.Cycle path)) = subst (λ (u : Linked). Adds u l.supplier l.consumer (Err (link.Cycle path))) a.is h in
-      let below : is_among (moved (length ps) (hanging ps earlier) l.consumer) l.supplier ≡ true =
-      path_below (hanging ps earlier) (moved (length ps) (hanging ps earlier)) (links_descend ps after earlier a.linked (order_ranked ps after earlier a.linked)) path l.consumer l.supplier answer.1 in
+      let below : is_among (moved (length ps) (dependents ps earlier) l.consumer) l.supplier ≡ true =
+      path_below (dependents ps earlier) (moved (length ps) (dependents ps earlier)) (links_descend ps after earlier a.linked (order_ranked ps after earlier a.linked)) path l.consumer l.supplier answer.1 in
       later_here (closes_nothing ps) ls i l within at (ap not below) ∙ sym a.search
 
   -- no other fault comes

@@ -6,7 +6,7 @@ use Rattle.std.proofs.lemmas.Bool.{and_from, and_parts, leb-true, not-true}
 use Rattle.std.proofs.lemmas.List.{take_more, take_all, reverse-append}
 use Rattle.serde_json.specs.Data.{Data}
 use Rattle.sleep_model.specs.declared.machine.Link.{Link}
-use Rattle.sleep_model.specs.Order.{EachAfterParent, is_among, hanging, moved, parents_of}
+use Rattle.sleep_model.specs.Order.{EachAfterParent, is_among, dependents, moved, parents_of}
 use Rattle.sleep_model.specs.Links.{AreLinks}
 use Rattle.machine_file.specs.Members.{list_in}
 use Rattle.machine_file.specs.Places.{item_place, first_not_after}
@@ -45,7 +45,7 @@ module _ (ps : List (Option ℕ)) (ls : List Link) (fresh : AreFresh ps ls) (ope
       let l = get_or ls i no_link in
       let earlier = reverse (take i ls) in
       let here : IsFresh ps earlier l = fresh.each i within in
-      let apart : is_among (moved (length ps) (hanging ps earlier) l.consumer) l.supplier ≡ false = not-true _ (later_each (closes_nothing ps) ls no_link i within open_ended) in
+      let apart : is_among (moved (length ps) (dependents ps earlier) l.consumer) l.supplier ≡ false = not-true _ (later_each (closes_nothing ps) ls no_link i within open_ended) in
       let one : suc i ≡ i + 1 = omega arith in
       let more : reverse (take (suc i) ls) ≡ l ∷ earlier = ap (λ n. reverse (take n ls)) one ∙ ap reverse (take_more ls i no_link within) ∙ reverse-append (take i ls) (l ∷ []) in
       subst (AreLinks ps) (sym more) (here.supplier, here.consumer, here.new, apart, added i (omega arith))

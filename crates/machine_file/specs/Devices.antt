@@ -5,7 +5,7 @@ use Rattle.serde_json.specs.Data.{Data}
 use Rattle.sleep_model.specs.declared.flags.DeviceFlags.{DeviceFlags}
 use Rattle.sleep_model.specs.declared.machine.Device.{Device}
 use Rattle.sleep_model.specs.declared.machine.Link.{Link}
-use Rattle.sleep_model.specs.Order.{is_among, hanging, moved, parents_of}
+use Rattle.sleep_model.specs.Order.{is_among, dependents, moved, parents_of}
 use Rattle.machine_file.specs.Look.{is_none_or, text_at}
 use Rattle.machine_file.specs.Members.{has_text, list_in, truth_at, word_at}
 use Rattle.machine_file.specs.Places.{first_item, first_later_item}
@@ -71,7 +71,7 @@ abbrev pub closes_no_cycle : Data → List Data → Data → Bool
 closes_no_cycle file before l =
     let names = devices_named file in
     let parents = parents_of (whole_devices file) in
-    let below = moved (length parents) (hanging parents (map (link_of names) before)) (place_among names (text_at (codes "consumer") l)) in
+    let below = moved (length parents) (dependents parents (map (link_of names) before)) (place_among names (text_at (codes "consumer") l)) in
     not (is_among below (place_among names (text_at (codes "supplier") l)))
 
 -- where a link closes a cycle

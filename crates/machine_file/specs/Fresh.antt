@@ -1,12 +1,12 @@
 -- Links that may be added in turn, unless they close a cycle.
 use Rattle.std.specs.Prelude.{◌≡◌, ◌≤◌, ◌<◌, ℕ, Bool, false, not, List, length, take, reverse, slice_index_or, Option}
 use Rattle.sleep_model.specs.declared.machine.Link.{Link}
-use Rattle.sleep_model.specs.Order.{is_among, hanging, moved}
+use Rattle.sleep_model.specs.Order.{is_among, dependents, moved}
 use Rattle.sleep_model.specs.Links.{is_linked}
 
 -- its supplier is not its consumer, and hangs nowhere below it by the parents and these links (device_is_dependent)
 abbrev pub closes_nothing : List (Option ℕ) → List Link → Link → Bool
-closes_nothing parents before l = not (is_among (moved (length parents) (hanging parents before) l.consumer) l.supplier)
+closes_nothing parents before l = not (is_among (moved (length parents) (dependents parents before) l.consumer) l.supplier)
 
 -- both its ends are registered, and it is none of these
 pub record IsFresh (parents : List (Option ℕ)) (before : List Link) (l : Link) : Type 0 where

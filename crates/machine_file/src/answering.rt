@@ -9,8 +9,8 @@ ghost use Rattle.sleep_model.specs.Text.{down_word};
 
 use crate::numbered::{device_name, notifier_name, syscore_name};
 use crate::writer::{JsonWriter, Written};
-use sleep_base::Mem;
-use sleep_model::{Answer, Machine, PlatDo, What, error_of_number};
+use sleep_base::{Errno, Mem};
+use sleep_model::{Answer, Machine, PlatDo, What};
 
 fn thing_word(what: What) -> &'static [u8]
     ensures { result.now ≡ thing_word what }
@@ -58,7 +58,7 @@ fn put_phase(out: &mut JsonWriter, what: What) -> Result<(), Mem>
 fn put_ret(out: &mut JsonWriter, ret: i32) -> Result<(), Mem>
     ensures { OnOk result (out.new ≡ with_row out.old (row (codes "ret") (error_or (error_of_number ret) ret))) }
 {
-    match error_of_number(ret) {
+    match Errno::of_answer(ret) {
         Some(error) => out.text("ret", error.name().as_bytes()),
         None => out.integer_unless_zero("ret", ret),
     }

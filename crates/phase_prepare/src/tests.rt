@@ -9,8 +9,8 @@ use std::test::Fail;
 #[test]
 fn devices_are_prepared_and_completed(rt: HostRuntime) -> Result<(), Fail> {
     let links = Links::new(rt.alloc(), &[None, Some(0), Some(1)])?;
-    let beside = vec![in rt.alloc(); false; 3]?;
-    let mut board = Board::wired(rt.alloc(), links, beside)?;
+    let asynchronous = vec![in rt.alloc(); false; 3]?;
+    let mut board = Board::wired(rt.alloc(), links, asynchronous)?;
     for (device, r) in [(0, 0), (1, 1)] {
         match prepare_due(&board, None, r) {
             Due::Makes(

@@ -5,11 +5,11 @@ use Rattle.phase_table.specs.Phases.{is_up}
 use Rattle.sleep_model.specs.declared.entry.Entry.{Entry}
 use Rattle.sleep_model.specs.declared.machine.Machine.{Machine}
 use Rattle.sleep_model.specs.declared.word.EventNow.{EventNow}
-use Rattle.sleep_model.specs.Devices.{up_due, given_due}
+use Rattle.sleep_model.specs.Devices.{up_due, scheduled_due}
 use Rattle.async_board.specs.AtPlaces.{board_at}
-use Rattle.phase_resume.specs.Ups.{walk_due_on, given_up_on}
+use Rattle.phase_resume.specs.Ups.{walk_due_on, scheduled_up_on}
 
 -- the walk and the devices do what is due of them
 pub record Follows (m : Machine) (past : List Entry) (now : EventNow) : Type 0 where
   pub walk : (p : Phase) → is_up p ≡ true → walk_due_on (board_at m past) p ≡ up_due m past p None
-  pub given : (p : Phase) (d : ℕ) → is_up p ≡ true → given_up_on (board_at m past) p d ≡ given_due m past now p d
+  pub scheduled : (p : Phase) (d : ℕ) → is_up p ≡ true → scheduled_up_on (board_at m past) p d ≡ scheduled_due m past now p d

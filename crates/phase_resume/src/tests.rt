@@ -6,13 +6,13 @@ use sleep_model::{Due, Kind, Phase, Why};
 use std::test::Fail;
 
 /// Of a chain of three devices the first failed to suspend and the last is asynchronous: the way up
-/// gives out the last, brings up the second, waits for the last, and leaves the first as it is.
+/// schedules the last, brings up the second, waits for the last, and leaves the first as it is.
 #[test]
 fn the_walk_goes_up(rt: HostRuntime) -> Result<(), Fail> {
     let links = Links::new(rt.alloc(), &[None, Some(0), Some(1)])?;
-    let mut beside = vec![in rt.alloc(); false; 2]?;
-    beside.push(true)?;
-    let mut board = Board::wired(rt.alloc(), links, beside)?;
+    let mut asynchronous = vec![in rt.alloc(); false; 2]?;
+    asynchronous.push(true)?;
+    let mut board = Board::wired(rt.alloc(), links, asynchronous)?;
     let p = Phase::Noirq;
     for kind in [
         Kind::Begin(p, 2),

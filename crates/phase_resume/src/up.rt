@@ -1,11 +1,11 @@
 ghost use Rattle.std.specs.Prelude.{◌≡◌};
-ghost use Rattle.phase_resume.specs.Ups.{walk_due_on, given_up_on, close_up_on};
+ghost use Rattle.phase_resume.specs.Ups.{walk_due_on, scheduled_up_on, close_up_on};
 
 use async_board::Board;
 use sleep_model::{Due, Kind, Phase, Why};
 
 /// What the walk of a phase on the way up does next, where it is inside no callback
-/// (`dpm_noirq_resume_devices`, `dpm_resume_early`, `dpm_resume`). First it gives out each
+/// (`dpm_noirq_resume_devices`, `dpm_resume_early`, `dpm_resume`). First it schedules each
 /// asynchronous device that the mirror phase suspended, then it takes the synchronous ones from the
 /// first to the last, each once all above it are up, and it ends once all are up. It brings up no
 /// device that the mirror phase did not suspend.
@@ -13,7 +13,7 @@ pub fn walk_due(board: &Board, p: Phase) -> Due
     ensures { result ≡ walk_due_on board.now p }
 {
     let down = p.mirror();
-    if let Some(device) = board.next_given(down) {
+    if let Some(device) = board.next_to_schedule(down) {
         return Due::Makes(Kind::Schedule(p, device));
     }
     match board.next_up(down) {
@@ -22,10 +22,10 @@ pub fn walk_due(board: &Board, p: Phase) -> Due
     }
 }
 
-/// What a device does next that a phase on the way up has given out or taken
+/// What a device does next that a phase on the way up has scheduled or taken
 /// (`dpm_wait_for_superior`, `device_resume`): it waits for all above it, and then begins.
 pub fn device_due(board: &Board, p: Phase, device: u32) -> Due
-    ensures { result ≡ given_up_on board.now p device }
+    ensures { result ≡ scheduled_up_on board.now p device }
 {
     match board.waits_above(p.mirror(), device) {
         Some(other) => Due::Waits(Why::Device(other)),

@@ -8,8 +8,8 @@ use Rattle.phase_table.specs.Phases.{is_down}
 use Rattle.sleep_model.specs.declared.entry.Entry.{Entry}
 use Rattle.sleep_model.specs.declared.machine.Machine.{Machine}
 use Rattle.sleep_model.specs.declared.word.EventNow.{EventNow}
-use Rattle.sleep_model.specs.Devices.{phase_failed, next_down, walk_down, down_due, given_due}
-use Rattle.phase_suspend.specs.Downs.{walk_down_on, walk_due_on, given_down_on}
+use Rattle.sleep_model.specs.Devices.{phase_failed, next_down, walk_down, down_due, scheduled_due}
+use Rattle.phase_suspend.specs.Downs.{walk_down_on, walk_due_on, scheduled_down_on}
 use Rattle.phase_suspend.specs.AtPlaces.{down_at, Follows}
 
 module _ (m : Machine) (past : List Entry) (now : EventNow) where
@@ -31,11 +31,11 @@ module _ (m : Machine) (past : List Entry) (now : EventNow) where
   walk_is phase.Noirq e = walk_same phase.Noirq e (phase_failed past) (next_down m past phase.Noirq)
   walk_is p e = absurd (false≢true e)
 
-  given_is : (p : Phase) (d : ℕ) → is_down p ≡ true → given_down_on (down_at m past now) p d ≡ given_due m past now p d
-  given_is phase.Suspend d e = refl
-  given_is phase.Late d e = refl
-  given_is phase.Noirq d e = refl
-  given_is p d e = absurd (false≢true e)
+  scheduled_is : (p : Phase) (d : ℕ) → is_down p ≡ true → scheduled_down_on (down_at m past now) p d ≡ scheduled_due m past now p d
+  scheduled_is phase.Suspend d e = refl
+  scheduled_is phase.Late d e = refl
+  scheduled_is phase.Noirq d e = refl
+  scheduled_is p d e = absurd (false≢true e)
 
   pub follows : Follows m past now
-  follows = record { walk = walk_is; given = given_is; answer = λ d to_suspended. refl }
+  follows = record { walk = walk_is; scheduled = scheduled_is; answer = λ d to_suspended. refl }

@@ -10,9 +10,9 @@ use Rattle.sleep_model.specs.declared.entry.SkipCause.TheVariants as skip
 use Rattle.sleep_model.specs.declared.place.Due.{Due}
 use Rattle.sleep_model.specs.declared.place.Due.TheVariants.{Makes}
 use Rattle.sleep_model.specs.Devices.{after_device, unless_failed}
-use Rattle.sleep_model.specs.Stands.{stand_at, is_left_alone}
+use Rattle.sleep_model.specs.Stands.{stand_at, is_direct_complete}
 use Rattle.sleep_model.specs.Walk.{is_so, or_else}
-use Rattle.async_board.specs.Boards.{BoardState, next_down_on, waits_down_on, waits_below_on, all_left_alone_on}
+use Rattle.async_board.specs.Boards.{BoardState, next_down_on, waits_down_on, waits_below_on, all_direct_complete_on}
 use Rattle.phase_suspend.specs.declared.down.Down.{Down}
 use Rattle.phase_suspend.specs.declared.down.DownEnv.{DownEnv}
 
@@ -21,7 +21,7 @@ pub record DownState : Type 0 where
   pub board : BoardState
   pub failed : Option Errno
   pub own : Option Errno
-  pub willing : List Bool
+  pub asks_direct : List Bool
   pub statuses : List Bool
   pub wakeup : List Bool
   pub pending : Bool
@@ -32,20 +32,20 @@ down_state down env = record {
   board = env.board.now;
   failed = down.failed;
   own = down.own;
-  willing = env.willing.now;
+  asks_direct = env.asks_direct.now;
   statuses = env.statuses.now;
   wakeup = env.wakeup.now;
   pending = env.pending;
 }
 
--- d is left alone by suspend (__device_suspend, direct_complete)
+-- d is direct-complete by suspend (__device_suspend, direct_complete)
 abbrev pub is_direct_now_on : DownState → ℕ → Bool
-is_direct_now_on s d = is_so s.willing d && is_so s.statuses d && not (is_so s.wakeup d) && all_left_alone_on s.board d
+is_direct_now_on s d = is_so s.asks_direct d && is_so s.statuses d && not (is_so s.wakeup d) && all_direct_complete_on s.board d
 
 -- phase p leaves d alone (__device_suspend, __device_suspend_late, direct_complete)
 abbrev pub is_direct_on : DownState → Phase → ℕ → Bool
 is_direct_on s phase.Suspend d = is_direct_now_on s d
-is_direct_on s p d = is_left_alone (stand_at s.board.suspend d)
+is_direct_on s p d = is_direct_complete (stand_at s.board.suspend d)
 
 -- a device at its turn (__device_suspend)
 abbrev pub taken_on : DownState → Phase → ℕ → Kind
@@ -56,7 +56,7 @@ taken_on s p d =
 -- the walk down at that device (__device_suspend, dpm_async_fn)
 abbrev pub take_down_on : DownState → Phase → ℕ → Due
 take_down_on s p d =
-    if is_so s.board.beside d then Makes (kind.Schedule p d)
+    if is_so s.board.asynchronous d then Makes (kind.Schedule p d)
     else after_device (waits_below_on s.board p d) (Makes (taken_on s p d))
 
 -- the end of a phase on the way down (dpm_suspend, async_synchronize_full)
@@ -72,6 +72,6 @@ walk_down_on s p error next = close_down_on s p
 abbrev pub walk_due_on : DownState → Phase → Due
 walk_due_on s p = walk_down_on s p s.failed (next_down_on s.board p)
 
--- a device that is given out on the way down, at its turn (async_suspend)
-abbrev pub given_down_on : DownState → Phase → ℕ → Due
-given_down_on s p d = after_device (waits_below_on s.board p d) (Makes (unless_failed s.failed p d (taken_on s p d)))
+-- a device that is scheduled on the way down, at its turn (async_suspend)
+abbrev pub scheduled_down_on : DownState → Phase → ℕ → Due
+scheduled_down_on s p d = after_device (waits_below_on s.board p d) (Makes (unless_failed s.failed p d (taken_on s p d)))

@@ -1,9 +1,9 @@
 ghost use Rattle.std.specs.Prelude.{◌≡◌, None};
 ghost use Rattle.sleep_model.specs.Devices.{unless_failed};
 ghost use Rattle.sleep_model.specs.Walk.{or_else};
-ghost use Rattle.phase_suspend.specs.Downs.{down_state, is_direct_on, taken_on, take_down_on, close_down_on, walk_due_on, given_down_on};
+ghost use Rattle.phase_suspend.specs.Downs.{down_state, is_direct_on, taken_on, take_down_on, close_down_on, walk_due_on, scheduled_down_on};
 
-use async_board::{Board, is_left_alone};
+use async_board::{Board, is_direct_complete};
 use device_rows::Flags;
 use sleep_base::Errno;
 use sleep_model::{Due, Kind, Phase, SkipCause, Why};
@@ -23,7 +23,7 @@ pub struct DownEnv<'a> {
     /// Where each device stands.
     pub board: &'a Board,
     /// Which devices answered 1 to their last prepare.
-    pub willing: &'a Flags,
+    pub asks_direct: &'a Flags,
     /// Which devices are runtime suspended.
     pub statuses: &'a Flags,
     /// Which devices may wake the machine.
@@ -39,16 +39,16 @@ fn is_direct(env: &DownEnv<'_>, p: Phase, device: u32) -> bool
 {
     match p {
         Phase::Suspend => {
-            env.willing.is_set(device)
+            env.asks_direct.is_set(device)
                 && env.statuses.is_set(device)
                 && !env.wakeup.is_set(device)
-                && env.board.all_left_alone(device)
+                && env.board.all_direct_complete(device)
         }
-        _ => is_left_alone(env.board.stand(Phase::Suspend, device)),
+        _ => is_direct_complete(env.board.stand(Phase::Suspend, device)),
     }
 }
 
-// What a device makes at its turn: a pending wakeup skips it, it is left alone, or its callback
+// What a device makes at its turn: a pending wakeup skips it, it is direct-complete, or its callback
 // begins.
 fn taken(env: &DownEnv<'_>, p: Phase, device: u32) -> Kind
     ensures { (down : Down) → result ≡ taken_on (down_state down env.now) p device }
@@ -75,8 +75,8 @@ impl Down {
 
     /// What the walk of a phase on the way down does next, where it is inside no callback
     /// (`dpm_suspend`, `dpm_suspend_late`, `dpm_noirq_suspend_devices`). It takes the devices from
-    /// the last to the first, gives out the asynchronous ones, waits for all below a synchronous
-    /// one before it begins, is left alone or is skipped, and ends once all that were given out are
+    /// the last to the first, schedules the asynchronous ones, waits for all below a synchronous
+    /// one before it begins, is direct-complete or is skipped, and ends once all that were scheduled are
     /// through: by an error, or where no device is left.
     pub fn walk_due(&self, env: &DownEnv<'_>, p: Phase) -> Due
         ensures { result ≡ walk_due_on (down_state self.now env.now) p }
@@ -87,10 +87,10 @@ impl Down {
         }
     }
 
-    /// What a device does next that a phase on the way down has given out (`__device_suspend`): it
-    /// waits for all below it, and is then skipped by an error or a wakeup, left alone, or begins.
+    /// What a device does next that a phase on the way down has scheduled (`__device_suspend`): it
+    /// waits for all below it, and is then skipped by an error or a wakeup, direct-complete, or begins.
     pub fn device_due(&self, env: &DownEnv<'_>, p: Phase, device: u32) -> Due
-        ensures { result ≡ given_down_on (down_state self.now env.now) p device }
+        ensures { result ≡ scheduled_down_on (down_state self.now env.now) p device }
     {
         match env.board.waits_below(p, device) {
             Some(other) => Due::Waits(Why::Device(other)),
@@ -109,19 +109,19 @@ impl Down {
         }
     }
 
-    // The walk at a device, where no error stands: an asynchronous one is given out.
+    // The walk at a device, where no error stands: an asynchronous one is scheduled.
     fn take(&self, env: &DownEnv<'_>, p: Phase, device: u32) -> Due
         requires { self.now.failed ≡ None }
         ensures { result ≡ take_down_on (down_state self.now env.now) p device }
     {
-        if env.board.is_beside(device) {
+        if env.board.is_asynchronous(device) {
             Due::Makes(Kind::Schedule(p, device))
         } else {
             self.device_due(env, p, device)
         }
     }
 
-    // The end of the walk, once all that were given out are through.
+    // The end of the walk, once all that were scheduled are through.
     fn close(&self, env: &DownEnv<'_>, p: Phase) -> Due
         ensures { result ≡ close_down_on (down_state self.now env.now) p }
     {

@@ -4,7 +4,7 @@ ghost use Rattle.std.specs.Prelude.{◌≡◌};
 ghost use Rattle.sleep_model.specs.Runtime.{runtime_answer};
 ghost use Rattle.phase_suspend.specs.Spanned.{runtime_due_on};
 
-use async_board::{Board, is_left_alone, is_prepared, is_taken};
+use async_board::{Board, is_direct_complete, is_prepared, is_taken};
 use sleep_base::Errno;
 use sleep_model::Phase;
 
@@ -12,21 +12,21 @@ use sleep_model::Phase;
 /// its runtime PM is disabled, else `EAGAIN` exactly where it is prepared and is to be suspended,
 /// else 0 (`__pm_runtime_set_status`, `rpm_check_suspend_allowed`).
 ///
-/// Runtime PM is disabled for a device that suspend left alone, where `leaves_alone` says that
-/// resume is not done since, and for one that late has taken, where `takes_late` says that early is
+/// Runtime PM is disabled for a device that is direct-complete, where `disabled_by_direct` says that
+/// resume is not done since, and for one that late has taken, where `disabled_by_late` says that early is
 /// not done since.
 pub fn runtime_due(
     board: &Board,
-    leaves_alone: bool,
-    takes_late: bool,
+    disabled_by_direct: bool,
+    disabled_by_late: bool,
     device: u32,
     to_suspended: bool,
 ) -> Option<Errno>
-    ensures { result ≡ runtime_due_on board.now leaves_alone takes_late device to_suspended }
+    ensures { result ≡ runtime_due_on board.now disabled_by_direct disabled_by_late device to_suspended }
 {
     let stand = board.stand(Phase::Suspend, device);
-    let is_off = (leaves_alone && is_left_alone(stand))
-        || (takes_late && is_taken(board.stand(Phase::Late, device)));
+    let is_off = (disabled_by_direct && is_direct_complete(stand))
+        || (disabled_by_late && is_taken(board.stand(Phase::Late, device)));
     if is_off {
         Some(Errno::EACCES)
     } else if is_prepared(stand) && to_suspended {

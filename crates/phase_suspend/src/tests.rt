@@ -15,11 +15,11 @@ const FINE: Down = Down {
 
 /// Three devices, the second below the first and the third below the second, of which the last may
 /// be asynchronous; all are prepared.
-fn prepared_chain(alloc: Global, is_beside: bool) -> Result<Board, Mem> {
+fn prepared_chain(alloc: Global, is_asynchronous: bool) -> Result<Board, Mem> {
     let links = Links::new(alloc, &[None, Some(0), Some(1)])?;
-    let mut beside = vec![in alloc; false; 2]?;
-    beside.push(is_beside)?;
-    let mut board = Board::wired(alloc, links, beside)?;
+    let mut asynchronous = vec![in alloc; false; 2]?;
+    asynchronous.push(is_asynchronous)?;
+    let mut board = Board::wired(alloc, links, asynchronous)?;
     for device in 0..3 {
         board.note(Kind::Prepare { device, r: 1 });
     }
@@ -35,7 +35,7 @@ fn flags(alloc: Global, set: &[u32]) -> Result<Flags, Mem> {
     Ok(flags)
 }
 
-/// The walk gives out the asynchronous child, waits for it before its parent begins, and a
+/// The walk schedules the asynchronous child, waits for it before its parent begins, and a
 /// synchronous error ends it, which is answered in place of a later one.
 #[test]
 fn the_walk_goes_down(rt: HostRuntime) -> Result<(), Fail> {
@@ -52,7 +52,7 @@ fn the_walk_goes_down(rt: HostRuntime) -> Result<(), Fail> {
     for (number, kind) in steps.iter().enumerate() {
         let env = DownEnv {
             board: &board,
-            willing: &none,
+            asks_direct: &none,
             statuses: &none,
             wakeup: &none,
             pending: false,
@@ -72,7 +72,7 @@ fn the_walk_goes_down(rt: HostRuntime) -> Result<(), Fail> {
     }
     let env = DownEnv {
         board: &board,
-        willing: &none,
+        asks_direct: &none,
         statuses: &none,
         wakeup: &none,
         pending: true,
@@ -95,15 +95,15 @@ fn the_walk_goes_down(rt: HostRuntime) -> Result<(), Fail> {
 }
 
 /// Suspend leaves alone a device that is willing, runtime suspended and no source of wakeup, where
-/// all below it are left alone; noirq follows suspend; a wakeup comes first, but not in noirq.
+/// all below it are direct-complete; noirq follows suspend; a wakeup comes first, but not in noirq.
 #[test]
-fn devices_are_left_alone(rt: HostRuntime) -> Result<(), Fail> {
+fn devices_are_direct_complete(rt: HostRuntime) -> Result<(), Fail> {
     let mut board = prepared_chain(rt.alloc(), false)?;
     let all = flags(rt.alloc(), &[0, 1, 2])?;
     let none = flags(rt.alloc(), &[])?;
     let env = DownEnv {
         board: &board,
-        willing: &all,
+        asks_direct: &all,
         statuses: &all,
         wakeup: &none,
         pending: false,
@@ -121,7 +121,7 @@ fn devices_are_left_alone(rt: HostRuntime) -> Result<(), Fail> {
     for pending in [false, true] {
         let env = DownEnv {
             board: &board,
-            willing: &all,
+            asks_direct: &all,
             statuses: &all,
             wakeup: &none,
             pending,
@@ -157,14 +157,14 @@ fn requests_are_answered(rt: HostRuntime) -> Result<(), Fail> {
     assert_eq!(rt; runtime_due(&board, true, true, 2, false), None);
     board.note(Kind::Skip(Phase::Suspend, 2, SkipCause::Direct));
     board.note(Kind::Begin(Phase::Late, 1));
-    for (device, leaves_alone, takes_late, answer) in [
+    for (device, disabled_by_direct, disabled_by_late, answer) in [
         (0, true, true, None),
         (1, false, true, Some(Errno::EACCES)),
         (1, true, false, None),
         (2, true, false, Some(Errno::EACCES)),
         (2, false, true, None),
     ] {
-        let asked = runtime_due(&board, leaves_alone, takes_late, device, false);
+        let asked = runtime_due(&board, disabled_by_direct, disabled_by_late, device, false);
         assert_eq!(rt; asked, answer, "{device}");
     }
     Ok(())

@@ -40,9 +40,12 @@ macro_rules! by_phase {
     (@name $from:expr; $($phase:ident $mirror:ident $ways:tt $name:literal;)*) => {
         match $from { $(Phase::$phase => $name,)* }
     };
-    (@named $from:expr; $($phase:ident $mirror:ident $ways:tt $name:literal;)*) => {
-        match $from { $($name => Some(Phase::$phase),)* _ => None }
-    };
+    (@named $from:expr; $($phase:ident $mirror:ident $ways:tt $name:literal;)*) => {{
+        $(if $from == $name.as_bytes() {
+            return Some(Phase::$phase);
+        })*
+        None
+    }};
     (@rows $from:expr; $($phase:ident $mirror:ident $ways:tt $name:literal;)*) => {
         [$($from(Phase::$phase)),*]
     };
@@ -114,7 +117,15 @@ impl Phase {
         ensures found { IfSome result (λ p. text.now ≡ phase_name p) }
         ensures none { IfNone result ((p : Phase) → text.now ≢ phase_name p) }
     {
-        by_phase!(named of text)
+        Phase::of_bytes(text.as_bytes())
+    }
+
+    /// The phase whose name these bytes are. None exactly where they are no phase's name.
+    pub fn of_bytes(bytes: &[u8]) -> Option<Phase>
+        ensures found { IfSome result (λ p. bytes.now ≡ phase_name p) }
+        ensures none { IfNone result ((p : Phase) → bytes.now ≢ phase_name p) }
+    {
+        by_phase!(named of bytes)
     }
 }
 

@@ -1,6 +1,6 @@
 ghost use Rattle.std.specs.Prelude.{◌≡◌, ◌≢◌, IfSome, IfNone};
 ghost use Rattle.sleep_base.specs.declared.errno.Errno.{Errno};
-ghost use Rattle.sleep_base.specs.Errno.{number_of, name_of};
+ghost use Rattle.sleep_base.specs.Errno.{number_of, name_of, error_of_number};
 
 /// An error of the kernel that a callback, a test or a write can answer
 /// (`include/uapi/asm-generic/errno-base.h`).
@@ -15,35 +15,49 @@ pub enum Errno {
     EINVAL,
 }
 
+/// Picks one column of the table of errors: each error has its number and its name.
+macro_rules! by_error {
+    (@number $from:expr; $($error:ident $number:tt $name:literal;)*) => {
+        match $from { $(Errno::$error => $number,)* }
+    };
+    (@name $from:expr; $($error:ident $number:tt $name:literal;)*) => {
+        match $from { $(Errno::$error => $name,)* }
+    };
+    (@answered $from:expr; $($error:ident $number:tt $name:literal;)*) => {
+        match $from { $(-$number => Some(Errno::$error),)* _ => None }
+    };
+    (@named $from:expr; $($error:ident $number:tt $name:literal;)*) => {{
+        $(if $from == $name.as_bytes() {
+            return Some(Errno::$error);
+        })*
+        None
+    }};
+    ($column:ident of $from:expr) => {
+        by_error! { @$column $from;
+            EINTR 4 "EINTR";
+            EIO 5 "EIO";
+            EAGAIN 11 "EAGAIN";
+            EACCES 13 "EACCES";
+            EBUSY 16 "EBUSY";
+            ENODEV 19 "ENODEV";
+            EINVAL 22 "EINVAL";
+        }
+    };
+}
+
 impl Errno {
     /// The number that Linux gives the error, 4 to 22.
     pub fn number(self) -> u8
         ensures { result ≡ number_of self }
     {
-        match self {
-            Errno::EINTR => 4,
-            Errno::EIO => 5,
-            Errno::EAGAIN => 11,
-            Errno::EACCES => 13,
-            Errno::EBUSY => 16,
-            Errno::ENODEV => 19,
-            Errno::EINVAL => 22,
-        }
+        by_error!(number of self)
     }
 
     /// The error's name as the log and the machine file spell it, such as `EBUSY`.
     pub fn name(self) -> &'static str
         ensures { result.now ≡ name_of self }
     {
-        match self {
-            Errno::EINTR => "EINTR",
-            Errno::EIO => "EIO",
-            Errno::EAGAIN => "EAGAIN",
-            Errno::EACCES => "EACCES",
-            Errno::EBUSY => "EBUSY",
-            Errno::ENODEV => "ENODEV",
-            Errno::EINVAL => "EINVAL",
-        }
+        by_error!(name of self)
     }
 
     /// The error of that name. None exactly where the text is no error's name.
@@ -51,15 +65,22 @@ impl Errno {
         ensures found { IfSome result (λ e. text.now ≡ name_of e) }
         ensures none { IfNone result ((e : Errno) → text.now ≢ name_of e) }
     {
-        match text.as_bytes() {
-            b"EINTR" => Some(Errno::EINTR),
-            b"EIO" => Some(Errno::EIO),
-            b"EAGAIN" => Some(Errno::EAGAIN),
-            b"EACCES" => Some(Errno::EACCES),
-            b"EBUSY" => Some(Errno::EBUSY),
-            b"ENODEV" => Some(Errno::ENODEV),
-            b"EINVAL" => Some(Errno::EINVAL),
-            _ => None,
-        }
+        Errno::of_bytes(text.as_bytes())
+    }
+
+    /// The error whose name these bytes are. None exactly where they are no error's name.
+    pub fn of_bytes(bytes: &[u8]) -> Option<Errno>
+        ensures found { IfSome result (λ e. bytes.now ≡ name_of e) }
+        ensures none { IfNone result ((e : Errno) → bytes.now ≢ name_of e) }
+    {
+        by_error!(named of bytes)
+    }
+
+    /// The error that a callback's answer means: one below 0. None for 0 and above, and for a number
+    /// of no error that callbacks know.
+    pub fn of_answer(answer: i32) -> Option<Errno>
+        ensures { result ≡ error_of_number answer }
+    {
+        by_error!(answered of answer)
     }
 }

@@ -18,9 +18,13 @@ fn names_of_errors(rt: HostRuntime) {
         assert_eq!(rt; Errno::of_name(name), Some(error), "{name}");
         assert_eq!(rt; error.name(), name);
         assert_eq!(rt; error.number(), number, "{name}");
+        assert_eq!(rt; Errno::of_answer(-i32::from(number)), Some(error));
     }
     for text in ["EBUS", "EBUSYX", "ebusy", ""] {
         assert_eq!(rt; Errno::of_name(text), None, "{text}");
+    }
+    for answer in [0, 1, 5, -1, -6, -23, i32::MIN] {
+        assert_eq!(rt; Errno::of_answer(answer), None, "{answer}");
     }
 }
 

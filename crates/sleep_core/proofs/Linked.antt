@@ -46,7 +46,7 @@ maker_unlinked m past now _ _ Made.Ends h = h
 maker_unlinked m past now _ _ _ h = h
 
 device_unlinked : (m : Machine) (past : List Entry) (now : EventNow) (d : ℕ) (k : Kind) → DeviceMade m past now d k → Changes k → ⊥
-device_unlinked m past now d _ (DeviceMade.OwnEnds p r down beside work stands) h = h
+device_unlinked m past now d _ (DeviceMade.OwnEnds p r down asynchronous work stands) h = h
 device_unlinked m past now d _ _ h = h
 
 work_unlinked : (m : Machine) (past : List Entry) (now : EventNow) (w : Work) (k : Kind) → WorkMade m past now w k → Changes k → ⊥
@@ -75,7 +75,7 @@ unprepared m past legal none p i = none_stands m past (subst (Standing m past) (
 
 board_linked : (m : Machine) (past : List Entry) → JournalPart m past → maker past ≡ None → (ls : List Link)
     → first_board (parents_of m.devices) ls (map is_async m.devices)
-    ≡ record { parents = parents_of m.devices; links = ls; beside = map is_async m.devices; suspend = stands (length m.devices) phase.Suspend past; late = stands (length m.devices) phase.Late past; noirq = stands (length m.devices) phase.Noirq past }
+    ≡ record { parents = parents_of m.devices; links = ls; asynchronous = map is_async m.devices; suspend = stands (length m.devices) phase.Suspend past; late = stands (length m.devices) phase.Late past; noirq = stands (length m.devices) phase.Noirq past }
 board_linked m past legal none ls =
     let a = unprepared m past legal none phase.Suspend InSuspend in
     let b = unprepared m past legal none phase.Late InLate in
@@ -87,7 +87,7 @@ board_linked m past legal none ls =
     ∙ ap (λ (ss : List Stand). with_stands (stands (length m.devices) phase.Suspend past) (stands (length m.devices) phase.Late past) ss) (sym c)))
   where
     with_stands : List Stand → List Stand → List Stand → BoardState
-    with_stands x y z = record { parents = parents_of m.devices; links = ls; beside = map is_async m.devices; suspend = x; late = y; noirq = z }
+    with_stands x y z = record { parents = parents_of m.devices; links = ls; asynchronous = map is_async m.devices; suspend = x; late = y; noirq = z }
 
 -- where an entry that is due changes links, no device is prepared
 pub settles : (m : Machine) (past : List Entry) → JournalPart m past → (time : ℕ) (now : EventNow) (who : Actor) (k : Kind) → due m past who now ≡ Makes k → Settles m past (record { time = time; now = now; actor = who; kind = k })

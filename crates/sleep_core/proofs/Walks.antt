@@ -4,7 +4,7 @@ use Rattle.std.proofs.lemmas.Bool.{false≢true}
 use Rattle.phase_table.specs.declared.phase.Phase.{Phase}
 use Rattle.phase_table.specs.Phases.{is_down, is_up}
 use Rattle.sleep_model.specs.declared.word.EventNow.{EventNow}
-use Rattle.sleep_model.specs.Devices.{phase_failed, own_error, willing}
+use Rattle.sleep_model.specs.Devices.{phase_failed, own_error, asks_direct}
 use Rattle.sleep_model.specs.Runtime.{may_wake, statuses}
 use Rattle.async_board.specs.AtPlaces.{board_at}
 use Rattle.phase_suspend.specs.declared.down.Down.{Down}
@@ -24,10 +24,10 @@ seen_is core now env down seen failed own =
     ap (λ b. record start { board = b }) seen.board
     ∙ (ap (λ f. record start { board = board_at m past; failed = f }) failed
     ∙ (ap (λ o. record start { board = board_at m past; failed = phase_failed past; own = o }) own
-    ∙ (ap (λ w. record start { board = board_at m past; failed = phase_failed past; own = own_error past; willing = w }) seen.willing_are
-    ∙ (ap (λ s. record start { board = board_at m past; failed = phase_failed past; own = own_error past; willing = willing (length m.devices) past; statuses = s }) seen.statuses_are
-    ∙ (ap (λ w. record start { board = board_at m past; failed = phase_failed past; own = own_error past; willing = willing (length m.devices) past; statuses = statuses m.devices past; wakeup = w }) seen.wakeup_are
-    ∙ ap (λ (p : _). record { board = board_at m past; failed = phase_failed past; own = own_error past; willing = willing (length m.devices) past; statuses = statuses m.devices past; wakeup = map may_wake m.devices; pending = p }) seen.pending_is)))))
+    ∙ (ap (λ w. record start { board = board_at m past; failed = phase_failed past; own = own_error past; asks_direct = w }) seen.asks_direct_are
+    ∙ (ap (λ s. record start { board = board_at m past; failed = phase_failed past; own = own_error past; asks_direct = asks_direct (length m.devices) past; statuses = s }) seen.statuses_are
+    ∙ (ap (λ w. record start { board = board_at m past; failed = phase_failed past; own = own_error past; asks_direct = asks_direct (length m.devices) past; statuses = statuses m.devices past; wakeup = w }) seen.wakeup_are
+    ∙ ap (λ (p : _). record { board = board_at m past; failed = phase_failed past; own = own_error past; asks_direct = asks_direct (length m.devices) past; statuses = statuses m.devices past; wakeup = map may_wake m.devices; pending = p }) seen.pending_is)))))
 
 -- a phase that is not on the way down is on the way up
 pub up_if_not : (p : Phase) → (is_down p ≡ true) ⊎ (is_up p ≡ true) → is_down p ≡ false → is_up p ≡ true

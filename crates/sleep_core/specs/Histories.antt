@@ -11,7 +11,7 @@ use Rattle.sleep_model.specs.declared.place.Seat.{Seat}
 use Rattle.sleep_model.specs.declared.word.Stamp.{Stamp}
 use Rattle.sleep_model.specs.Attempt.{failed, freeze_since, sleep_of}
 use Rattle.sleep_model.specs.Autosleep.{work, is_queued, runs, runs_after}
-use Rattle.sleep_model.specs.Devices.{callback, phase_failed, own_error, willing}
+use Rattle.sleep_model.specs.Devices.{callback, phase_failed, own_error, asks_direct}
 use Rattle.sleep_model.specs.Freezer.{freezings}
 use Rattle.sleep_model.specs.Guard.{in_force, forgotten}
 use Rattle.sleep_model.specs.Lock.{holder, is_on}
@@ -19,7 +19,7 @@ use Rattle.sleep_model.specs.Marks.{raised}
 use Rattle.sleep_model.specs.Notifiers.{call_order, told, cpus_off, stopped}
 use Rattle.sleep_model.specs.Order.{links_added, links_after, links_at, links_set, parents_of}
 use Rattle.sleep_model.specs.Path.{attempts, attempts_after, maker}
-use Rattle.sleep_model.specs.Runtime.{is_async, statuses, leaves_alone, takes_late}
+use Rattle.sleep_model.specs.Runtime.{is_async, statuses, disabled_by_direct, disabled_by_late}
 use Rattle.sleep_model.specs.Seats.{seats}
 use Rattle.sleep_model.specs.Stands.{stands}
 use Rattle.sleep_model.specs.Table.{stage_of}
@@ -58,10 +58,10 @@ devices_of m past = record {
   callback = callback past;
   failed = phase_failed past;
   own_error = own_error past;
-  willing = willing (length m.devices) past;
+  asks_direct = asks_direct (length m.devices) past;
   statuses = statuses m.devices past;
-  leaves_alone = leaves_alone past;
-  takes_late = takes_late past;
+  disabled_by_direct = disabled_by_direct past;
+  disabled_by_late = disabled_by_late past;
 }
 
 -- where each device stands
@@ -69,7 +69,7 @@ abbrev pub board_of : Machine → List Entry → BoardState
 board_of m past = record {
   parents = parents_of m.devices;
   links = links_at m past;
-  beside = map is_async m.devices;
+  asynchronous = map is_async m.devices;
   suspend = stands (length m.devices) phase.Suspend past;
   late = stands (length m.devices) phase.Late past;
   noirq = stands (length m.devices) phase.Noirq past;
@@ -133,9 +133,9 @@ Changes _ = ⊥
 -- a board after an entry: where links change it begins anew, with no device prepared (device_link_add)
 abbrev pub moved_board : Kind → BoardState → BoardState
 moved_board (kind.LinkAdd supplier consumer None) board =
-    first_board board.parents (links_added supplier consumer None board.links) board.beside
+    first_board board.parents (links_added supplier consumer None board.links) board.asynchronous
 moved_board (kind.LinkState supplier consumer active None) board =
-    first_board board.parents (links_set supplier consumer active None board.links) board.beside
+    first_board board.parents (links_set supplier consumer active None board.links) board.asynchronous
 moved_board k board = board_after k board
 
 -- no device is prepared where an entry changes links, so that the board begins anew behind it

@@ -5,7 +5,7 @@ use Rattle.phase_table.specs.Phases.{is_down, mirror}
 use Rattle.sleep_model.specs.declared.place.Stand.{Stand}
 use Rattle.sleep_model.specs.declared.place.Stand.TheVariants as stand
 use Rattle.sleep_model.specs.declared.word.EventNow.{EventNow}
-use Rattle.sleep_model.specs.Devices.{willing}
+use Rattle.sleep_model.specs.Devices.{asks_direct}
 use Rattle.sleep_model.specs.Guard.{pending}
 use Rattle.sleep_model.specs.Runtime.{may_wake, statuses}
 use Rattle.sleep_model.specs.Stands.{stand_at}
@@ -18,12 +18,12 @@ use Rattle.sleep_core.specs.Cores.{CoreState}
 -- it is where devices stand, which are willing, runtime suspended and sources of wakeup, and whether a wakeup is pending
 pub record AreSeen (core : CoreState) (now : EventNow) (env : DownEnv) : Type 0 where
   pub board : env.board.now ≡ board_at core.machine (entries core.past)
-  pub willing_are : env.willing.now ≡ willing (length core.machine.devices) (entries core.past)
+  pub asks_direct_are : env.asks_direct.now ≡ asks_direct (length core.machine.devices) (entries core.past)
   pub statuses_are : env.statuses.now ≡ statuses core.machine.devices (entries core.past)
   pub wakeup_are : env.wakeup.now ≡ map may_wake core.machine.devices
   pub pending_is : env.pending ≡ pending (entries core.past) now
 
--- device d was given out on the way down, and has not begun (async_schedule_dev)
+-- device d was scheduled on the way down, and has not begun (async_schedule_dev)
 abbrev pub is_scheduled : Stand → Bool
 is_scheduled stand.Scheduled = true
 is_scheduled _ = false
@@ -33,7 +33,7 @@ abbrev pub is_rescheduled : Stand → Bool
 is_rescheduled stand.Rescheduled = true
 is_rescheduled _ = false
 
--- device d was given out in phase p, has not begun, and waits for no other (dpm_async_fn)
+-- device d was scheduled in phase p, has not begun, and waits for no other (dpm_async_fn)
 abbrev pub is_ready_on : BoardState → Phase → ℕ → Bool
 is_ready_on board p d =
     if is_down p then is_scheduled (stand_at (stands_on board p) d) && is_none (waits_below_on board p d)

@@ -168,7 +168,7 @@ impl<'m> Core<'m> {
         match stage {
             Stage::Notifies => self.notify_due(),
             Stage::Freezes(group) => self.freeze_due(now, group),
-            Stage::Asks(step) => self.ask_due(step),
+            Stage::PlatformDown(step) => self.ask_due(step),
             Stage::Prepares => self.prepare_due(),
             Stage::Downs(p) => self.down_due(now, p),
             Stage::StopsCpus => self.cpu_off_due(now),
@@ -179,7 +179,7 @@ impl<'m> Core<'m> {
             Stage::StartsSyscore => self.start_due(),
             Stage::StartsIrqs => Due::Makes(Kind::Irqs { on: true }),
             Stage::StartsCpus => self.cpu_on_due(),
-            Stage::Tells(step) => Due::Makes(Kind::PlatformUndo(step)),
+            Stage::PlatformUp(step) => Due::Makes(Kind::PlatformUndo(step)),
             Stage::Ups(p) => self.up_due(p),
             Stage::Completes => self.complete_due(),
             Stage::Clears => Due::Makes(Kind::Clear),

@@ -54,22 +54,22 @@ impl<'m> Model for History<'m> {
 }
 
 /// Which devices are asynchronous.
-fn beside(alloc: Global, devices: &[Device]) -> Result<Vec<bool>, Mem>
+fn asynchronous(alloc: Global, devices: &[Device]) -> Result<Vec<bool>, Mem>
     ensures { IfOk result (λ v. v.items ≡ map is_async devices.now) }
 {
-    let mut beside = Vec::with_capacity(alloc, devices.len())?;
+    let mut asynchronous = Vec::with_capacity(alloc, devices.len())?;
     for device in devices {
-        beside.push(device.flags.has(DeviceFlags::ASYNC))?;
+        asynchronous.push(device.flags.has(DeviceFlags::ASYNC))?;
     }
-    Ok(beside)
+    Ok(asynchronous)
 }
 
 /// The board of these devices and links, on which nobody is prepared.
 fn first_board(alloc: Global, devices: &[Device], links: Links) -> Result<Board, Mem>
     ensures { IfOk result (λ b. b ≡ first_board links.parents links.links (map is_async devices.now)) }
 {
-    let beside = beside(alloc, devices)?;
-    Board::wired(alloc, links, beside)
+    let asynchronous = asynchronous(alloc, devices)?;
+    Board::wired(alloc, links, asynchronous)
 }
 
 /// An entry that is of no device moves the board where it changes links: it begins anew. `Mem` where there is

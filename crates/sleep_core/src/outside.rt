@@ -25,7 +25,7 @@ use sleep_model::{
     Actor, Due, Entry, EventNow, Journal, JournalEntry, Kind, Phase, Stamp, Stand, pos,
 };
 
-/// Whether a device that stands there was given out on the way down, and has not begun.
+/// Whether a device that stands there was scheduled on the way down, and has not begun.
 fn is_scheduled(stand: Stand) -> bool
     ensures { result ≡ is_scheduled stand }
 {
@@ -187,7 +187,7 @@ impl<'m> Core<'m> {
         self.history.board().links().above(device)
     }
 
-    /// Whether an asynchronous device was given out in a phase, has not begun, and waits for no other: for none right
+    /// Whether an asynchronous device was scheduled in a phase, has not begun, and waits for no other: for none right
     /// below it on the way down (`dpm_wait_for_subordinate`), for none right above it on the way up
     /// (`dpm_wait_for_superior`).
     pub fn is_ready(&self, phase: Phase, device: u32) -> bool

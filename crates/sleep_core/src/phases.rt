@@ -2,7 +2,7 @@
 
 ghost use Rattle.std.specs.Prelude.{◌≡◌, true, ◌⊎◌, None, IfSome};
 ghost use Rattle.phase_table.specs.Phases.{is_down, is_up};
-ghost use Rattle.sleep_model.specs.Devices.{callback, device_error, phase_failed, next_prepared, next_completed, down_due, up_due, prepare_due, complete_due, given_due, device_due, async_work};
+ghost use Rattle.sleep_model.specs.Devices.{callback, device_error, phase_failed, next_prepared, next_completed, down_due, up_due, prepare_due, complete_due, scheduled_due, device_due, async_work};
 ghost use Rattle.sleep_model.specs.Runtime.{runtime_due};
 ghost use Rattle.sleep_state.specs.Places.{entries};
 ghost use Rattle.phase_prepare.specs.AtPlaces.{prepare_number};
@@ -33,10 +33,10 @@ impl<'m> Core<'m> {
         down.walk_due(&self.down_env(now), p)
     }
 
-    /// A device that is given out on the way down.
-    fn given_down(&self, now: EventNow, p: Phase, device: u32) -> Due
+    /// A device that is scheduled on the way down.
+    fn scheduled_down(&self, now: EventNow, p: Phase, device: u32) -> Due
         requires { is_down p ≡ true }
-        ensures { result ≡ given_due self.now.machine (entries self.now.past) now p device }
+        ensures { result ≡ scheduled_due self.now.machine (entries self.now.past) now p device }
     {
         let down = Down {
             failed: self.phase_failed(),
@@ -52,7 +52,7 @@ impl<'m> Core<'m> {
         let devices = self.history.devices();
         DownEnv {
             board: self.board(),
-            willing: devices.willing(),
+            asks_direct: devices.asks_direct(),
             statuses: devices.statuses(),
             wakeup: &self.wakeup,
             pending: self.pending(now),
@@ -117,20 +117,20 @@ impl<'m> Core<'m> {
         let devices = self.history.devices();
         phase_suspend::runtime_due(
             self.board(),
-            devices.leaves_alone(),
-            devices.takes_late(),
+            devices.disabled_by_direct(),
+            devices.disabled_by_late(),
             device,
             to_suspended,
         )
     }
 
-    /// An asynchronous device that is given out in that phase.
-    fn given_due(&self, now: EventNow, p: Phase, device: u32) -> Due
+    /// An asynchronous device that is scheduled in that phase.
+    fn scheduled_due(&self, now: EventNow, p: Phase, device: u32) -> Due
         requires { (is_down p ≡ true) ⊎ (is_up p ≡ true) }
-        ensures { result ≡ given_due self.now.machine (entries self.now.past) now p device }
+        ensures { result ≡ scheduled_due self.now.machine (entries self.now.past) now p device }
     {
         if p.is_down() {
-            self.given_down(now, p, device)
+            self.scheduled_down(now, p, device)
         } else {
             phase_resume::device_due(self.board(), p, device)
         }
@@ -143,7 +143,7 @@ impl<'m> Core<'m> {
     {
         match self.board().work(device) {
             AsyncWork::Idle => Due::Waits(Why::NotScheduled),
-            AsyncWork::Given(p) => self.given_due(now, p, device),
+            AsyncWork::Scheduled(p) => self.scheduled_due(now, p, device),
             AsyncWork::Inside(p) => Due::Makes(Kind::End(p, device, self.device_error(p, device))),
         }
     }

@@ -29,7 +29,7 @@ abbrev pub SideAt : Option Stage → Option Errno → Bool → Option Sleep → 
 SideAt None f n s = s ≡ None
 SideAt (Some stage.Notifies) f n s = (f ≡ None) × (n ≡ false) × (s ≡ None)
 SideAt (Some (stage.Freezes g)) f n s = (f ≡ None) × (n ≡ false) × (s ≡ None)
-SideAt (Some (stage.Asks step)) f n s = (f ≡ None) × (n ≡ false) × (s ≡ None)
+SideAt (Some (stage.PlatformDown step)) f n s = (f ≡ None) × (n ≡ false) × (s ≡ None)
 SideAt (Some stage.Prepares) f n s = (f ≡ None) × (n ≡ false) × (s ≡ None)
 SideAt (Some (stage.Downs p)) f n s = (f ≡ None) × (n ≡ false) × (s ≡ None)
 SideAt (Some stage.StopsCpus) f n s = (f ≡ None) × (n ≡ false) × (s ≡ None)

@@ -18,7 +18,7 @@ use Rattle.sleep_model.specs.Order.{is_among, links_after, links_at, order, orde
 use Rattle.sleep_model.specs.Stands.{stands, stands_after, stand_after, stand_at, device_of, by_phase, is_prepared}
 use Rattle.sleep_model.specs.Walk.{first_where, last_where, or_else}
 use Rattle.sleep_laws.proofs.Made.{Down, InSuspend, InLate, InNoirq, Up, InResume, InEarly, InResumeNoirq}
-use Rattle.sleep_model.proofs.Hanging.{among_first, among_rest}
+use Rattle.sleep_model.proofs.Dependents.{among_first, among_rest}
 use Rattle.sleep_laws.proofs.Telling.{some≢none}
 use Rattle.sleep_laws.proofs.Activity.{different}
 

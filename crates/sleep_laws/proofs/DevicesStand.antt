@@ -23,7 +23,7 @@ use Rattle.sleep_model.specs.Devices.{phase_failed, is_async_device, stand_in, w
 use Rattle.sleep_model.specs.Laws.{DependentsFirst, SuppliersFirst, Owed, Restored, EntersDown, NoneStands, may_come_up, is_asleep}
 use Rattle.sleep_model.specs.Legal.{JournalPart}
 use Rattle.sleep_model.specs.Order.{order, below, above, is_among}
-use Rattle.sleep_model.specs.Stands.{stands, stand_at, is_prepared, is_unsettled, is_settled_well, is_down_in, is_left_alone, is_low}
+use Rattle.sleep_model.specs.Stands.{stands, stand_at, is_prepared, is_not_down, is_down_or_direct, is_down_in, is_direct_complete, is_not_up}
 use Rattle.sleep_model.specs.Table.{stage_of}
 use Rattle.sleep_laws.proofs.Boards.{at, at_is, three, stands_length, first_none, last_found, first_found}
 use Rattle.sleep_laws.proofs.Holding.{Moved, Opens, Makes, Beside, Owns, Aside, moved}
@@ -35,7 +35,7 @@ use Rattle.sleep_laws.proofs.Reaching.{DevicesAsleep, enters_down}
 use Rattle.sleep_laws.proofs.Restoring.{StandsRestored, restored}
 use Rattle.sleep_laws.proofs.Standing.{errs, Fines, Standing, down_is}
 use Rattle.sleep_laws.proofs.Turning.{never}
-use Rattle.sleep_model.proofs.Hanging.{among_first, among_rest}
+use Rattle.sleep_model.proofs.Dependents.{among_first, among_rest}
 
 -- ---- small facts
 
@@ -56,8 +56,8 @@ not_down _ InResumeNoirq = refl
 
 -- ---- dependents go down first
 
--- a device that goes down without an error, and is through, is down or left alone
-through_well : (s : Stand) → when_going false s ≡ true → is_unsettled s ≡ false → is_settled_well s ≡ true
+-- a device that goes down without an error, and is through, is down or direct-complete
+through_well : (s : Stand) → when_going false s ≡ true → is_not_down s ≡ false → is_down_or_direct s ≡ true
 through_well stand.Direct h u = refl
 through_well stand.Suspended h u = refl
 through_well stand.Unprepared h u = absurd (true≢false u)
@@ -66,19 +66,19 @@ through_well stand.Scheduled h u = absurd (true≢false u)
 through_well stand.Suspending h u = absurd (true≢false u)
 through_well _ h u = never h
 
-below_well : (m : Machine) (past : List Entry) (moods : Phase → Mood) (full : Bool) (p : Phase) (d : ℕ) → Fines m past moods full → Down p → moods p ≡ Going → phase_failed past ≡ None → waits_below m past p d ≡ None → list_all (λ e. is_settled_well (stand_in m past p e)) (below m past d) ≡ true
+below_well : (m : Machine) (past : List Entry) (moods : Phase → Mood) (full : Bool) (p : Phase) (d : ℕ) → Fines m past moods full → Down p → moods p ≡ Going → phase_failed past ≡ None → waits_below m past p d ≡ None → list_all (λ e. is_down_or_direct (stand_in m past p e)) (below m past d) ≡ true
 below_well m past moods full p d h i g f w =
-    all_pass (λ e. is_settled_well (stand_in m past p e)) (below m past d) (λ x b.
+    all_pass (λ e. is_down_or_direct (stand_in m past p e)) (below m past d) (λ x b.
     let goes : when_going (errs past) (at (three m past x) p) ≡ true = subst (λ (a : Mood). allows a (errs past) (at (three m past x) p) ≡ true) g ((h x).allowed p i) in
     let well : when_going false (stand_in m past p x) ≡ true = subst (λ (s : Stand). when_going false s ≡ true) (at_is m past p x i) (subst (λ (r : Option Errno). when_going (is_some r) (at (three m past x) p) ≡ true) f goes) in
-    through_well (stand_in m past p x) well (first_none (λ e. is_unsettled (stand_in m past p e)) (below m past d) w x b))
+    through_well (stand_in m past p x) well (first_none (λ e. is_not_down (stand_in m past p e)) (below m past d) w x b))
 
 down_goes : (p : Phase) → Down p → in_down p p ≡ Going
 down_goes _ InSuspend = refl
 down_goes _ InLate = refl
 down_goes _ InNoirq = refl
 
--- only where devices go down may one be given out on the way down
+-- only where devices go down may one be scheduled on the way down
 scheduled_going : (a : Mood) (e : Bool) → allows a e stand.Scheduled ≡ true → a ≡ Going
 scheduled_going Going e h = refl
 scheduled_going Empty e h = never h
@@ -111,14 +111,14 @@ dependents_moved m past now _ _ h (Makes who here there k a e c x) = maker_depen
 dependents_moved m past now _ _ h (Beside who k a x) = aside_dependents m past k x
 dependents_moved m past now _ _ h (Owns d k x) = own_dependents m past now d k x (standing m past h)
 
--- a device begins to go down only where all below it are down, or were left alone
+-- a device begins to go down only where all below it are down, or were direct-complete
 pub dependents_first : (m : Machine) (past : List Entry) (e : Entry) → JournalPart m (e ∷ past) → DependentsFirst m past e.kind
 dependents_first m past e h = dependents_moved m past e.now e.actor e.kind h.1 (moved m past e h)
 
 -- ---- suppliers come up first
 
-above_up : (m : Machine) (past : List Entry) (p : Phase) (d : ℕ) → waits_above m past p d ≡ None → list_all (λ e. not (is_low (stand_in m past p e))) (above m past d) ≡ true
-above_up m past p d w = all_pass (λ e. not (is_low (stand_in m past p e))) (above m past d) (λ x a. ap not (first_none (λ e. is_low (stand_in m past p e)) (above m past d) w x a))
+above_up : (m : Machine) (past : List Entry) (p : Phase) (d : ℕ) → waits_above m past p d ≡ None → list_all (λ e. not (is_not_up (stand_in m past p e))) (above m past d) ≡ true
+above_up m past p d w = all_pass (λ e. not (is_not_up (stand_in m past p e))) (above m past d) (λ x a. ap not (first_none (λ e. is_not_up (stand_in m past p e)) (above m past d) w x a))
 
 maker_suppliers : (m : Machine) (past : List Entry) (now : EventNow) (there : Stage) (k : Kind) → Made m past now there k → SuppliersFirst m past k
 maker_suppliers m past now _ _ (Made.BeginsUp p d u c g n w) = λ q. above_up m past (mirror p) d w
@@ -218,7 +218,7 @@ stands_restored m past e h = restored_moved m past e.now e.actor e.kind h.1 (mov
 
 -- ---- all are down where the machine enters
 
-settled_down : (s t : Stand) → when_settled s ≡ true → is_prepared s ≡ true → (is_left_alone s ≡ true → is_left_alone t ≡ true) → (is_down_in s || is_left_alone t) ≡ true
+settled_down : (s t : Stand) → when_settled s ≡ true → is_prepared s ≡ true → (is_direct_complete s ≡ true → is_direct_complete t ≡ true) → (is_down_in s || is_direct_complete t) ≡ true
 settled_down stand.Suspended t h p a = refl
 settled_down stand.Direct t h p a = a refl
 settled_down stand.Unprepared t h p a = never p
@@ -248,7 +248,7 @@ enters_moved m past now _ _ h (Makes who here there k a e c x) = maker_enters m 
 enters_moved m past now _ _ h (Beside who k a x) = aside_enters m past k x
 enters_moved m past now _ _ h (Owns d k x) = own_enters m past now d k x
 
--- each device of the order is down, or was left alone, where the machine enters
+-- each device of the order is down, or was direct-complete, where the machine enters
 pub devices_down : (m : Machine) (past : List Entry) (e : Entry) → JournalPart m (e ∷ past) → DevicesAsleep m past e.kind
 devices_down m past e h = enters_moved m past e.now e.actor e.kind h.1 (moved m past e h)
 
@@ -266,7 +266,7 @@ all_restored m past e h = restored m past e h (stands_restored m past e h)
 pub all_down : (m : Machine) (past : List Entry) (e : Entry) → JournalPart m (e ∷ past) → EntersDown m past e.kind
 all_down m past e h = enters_down m past e h (devices_down m past e h)
 
--- ---- the stage of a device that is given out
+-- ---- the stage of a device that is scheduled
 
 in_downs : (p q : Phase) (e : Bool) → Down q → allows (in_down p q) e stand.Scheduled ≡ true → stage.Downs p ≡ stage.Downs q
 in_downs phase.Suspend _ e InSuspend h = refl
@@ -284,33 +284,33 @@ in_ups _ _ e InSuspend h = never h
 in_ups _ _ e InLate h = never h
 in_ups _ _ e InNoirq h = never h
 
-in_asks : (a : PlatDo) (q : Phase) (e : Bool) → Down q → allows (mood (stage.Asks a) q) e stand.Scheduled ≡ true → ⊥
-in_asks down.Begin _ e i h = never h
-in_asks down.Prepare _ e InSuspend h = never h
-in_asks down.Prepare _ e InLate h = never h
-in_asks down.Prepare _ e InNoirq h = never h
-in_asks down.PrepareLate _ e i h = never h
+in_platform_down : (a : PlatDo) (q : Phase) (e : Bool) → Down q → allows (mood (stage.PlatformDown a) q) e stand.Scheduled ≡ true → ⊥
+in_platform_down down.Begin _ e i h = never h
+in_platform_down down.Prepare _ e InSuspend h = never h
+in_platform_down down.Prepare _ e InLate h = never h
+in_platform_down down.Prepare _ e InNoirq h = never h
+in_platform_down down.PrepareLate _ e i h = never h
 
-in_tells : (a : PlatUndo) (q : Phase) (e : Bool) → Down q → allows (mood (stage.Tells a) q) e stand.Scheduled ≡ true → ⊥
-in_tells undo.Recover _ e InSuspend h = never h
-in_tells undo.Recover _ e InLate h = never h
-in_tells undo.Recover _ e InNoirq h = never h
-in_tells undo.Finish _ e InSuspend h = never h
-in_tells undo.Finish _ e InLate h = never h
-in_tells undo.Finish _ e InNoirq h = never h
-in_tells undo.Wake _ e i h = never h
-in_tells undo.End _ e i h = never h
+in_platform_up : (a : PlatUndo) (q : Phase) (e : Bool) → Down q → allows (mood (stage.PlatformUp a) q) e stand.Scheduled ≡ true → ⊥
+in_platform_up undo.Recover _ e InSuspend h = never h
+in_platform_up undo.Recover _ e InLate h = never h
+in_platform_up undo.Recover _ e InNoirq h = never h
+in_platform_up undo.Finish _ e InSuspend h = never h
+in_platform_up undo.Finish _ e InLate h = never h
+in_platform_up undo.Finish _ e InNoirq h = never h
+in_platform_up undo.Wake _ e i h = never h
+in_platform_up undo.End _ e i h = never h
 
 scheduled_at : (st : Option Stage) (q : Phase) (e : Bool) → Down q → allows (mood_if st q) e stand.Scheduled ≡ true → st ≡ Some (stage.Downs q)
 scheduled_at (Some (stage.Downs p)) q e i h = ap Some (in_downs p q e i h)
 scheduled_at (Some (stage.Ups p)) q e i h = absurd (in_ups p q e i h)
-scheduled_at (Some (stage.Asks a)) q e i h = absurd (in_asks a q e i h)
-scheduled_at (Some (stage.Tells a)) q e i h = absurd (in_tells a q e i h)
+scheduled_at (Some (stage.PlatformDown a)) q e i h = absurd (in_platform_down a q e i h)
+scheduled_at (Some (stage.PlatformUp a)) q e i h = absurd (in_platform_up a q e i h)
 scheduled_at None q e i h = never h
 scheduled_at (Some _) q e i h = never h
 
--- a device that was given out on the way down stands in its phase
-pub given_stage : (m : Machine) (past : List Entry) → JournalPart m past → (p : Phase) (d : ℕ) → Down p → stand_in m past p d ≡ stand.Scheduled → stage_of past ≡ Some (stage.Downs p)
-given_stage m past h p d i e =
+-- a device that was scheduled on the way down stands in its phase
+pub scheduled_stage : (m : Machine) (past : List Entry) → JournalPart m past → (p : Phase) (d : ℕ) → Down p → stand_in m past p d ≡ stand.Scheduled → stage_of past ≡ Some (stage.Downs p)
+scheduled_stage m past h p d i e =
     let s : Standing m past (stage_of past) = standing m past h in
     scheduled_at (stage_of past) p (errs past) i (subst (λ (x : Stand). allows (mood_if (stage_of past) p) (errs past) x ≡ true) (at_is m past p d i ∙ e) ((s.0 d).allowed p i))

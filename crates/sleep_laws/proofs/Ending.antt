@@ -17,7 +17,7 @@ use Rattle.sleep_model.specs.declared.machine.Op.{Op}
 use Rattle.sleep_model.specs.declared.machine.PlatUndo.TheVariants as undo
 use Rattle.sleep_model.specs.declared.place.Work.{Work}
 use Rattle.sleep_model.specs.declared.place.AsyncWork.{AsyncWork}
-use Rattle.sleep_model.specs.declared.place.AsyncWork.TheVariants.{Idle, Given, Inside as Within}
+use Rattle.sleep_model.specs.declared.place.AsyncWork.TheVariants.{Idle, Scheduled, Inside as Within}
 use Rattle.sleep_model.specs.declared.place.Callback.{Callback}
 use Rattle.sleep_model.specs.declared.place.Due.{Due}
 use Rattle.sleep_model.specs.declared.place.Due.TheVariants as turn
@@ -32,7 +32,7 @@ use Rattle.phase_table.specs.declared.phase.Phase.{Phase}
 use Rattle.phase_table.specs.declared.phase.Phase.TheVariants as phase
 use Rattle.phase_table.specs.Phases.{mirror}
 use Rattle.sleep_model.specs.Attempt.{sleep_of, freeze_since, freeze_due, enter_due, if_left, or_next, stage_due, stage_or_next, due_at, attempt_due, gives_up_at, cpu_kind, failed}
-use Rattle.sleep_model.specs.Devices.{callback, phase_failed, is_async_device, stand_in, waits_below, waits_down, waits_above, waits_up, next_down, next_up, next_given, next_prepared, next_completed, async_work, work_by, work_in, down_due, walk_down, take_down, phase_error, up_due, walk_up, prepare_due, complete_due, device_due, given_due, after_device, taken, unless_failed}
+use Rattle.sleep_model.specs.Devices.{callback, phase_failed, is_async_device, stand_in, waits_below, waits_down, waits_above, waits_up, next_down, next_up, next_to_schedule, next_prepared, next_completed, async_work, work_by, work_in, down_due, walk_down, take_down, phase_error, up_due, walk_up, prepare_due, complete_due, device_due, scheduled_due, after_device, taken, unless_failed}
 use Rattle.sleep_model.specs.Due.{due, own_due}
 use Rattle.sleep_model.specs.Legal.{JournalPart, is_made, is_enabled, none_enabled, none_expires, is_idle, sooner, next_time, journal_time, alarm_at, deadline_at, pending_nap, next_sleep, next_expiry}
 use Rattle.sleep_model.specs.Numbers.{time_of}
@@ -42,7 +42,7 @@ use Rattle.sleep_model.specs.Path.{attempts, maker, maker_after, is_actor, is_sa
 use Rattle.sleep_model.specs.Calls.{calls_due, made, is_calling}
 use Rattle.sleep_model.specs.Guard.{pending}
 use Rattle.sleep_model.specs.Runtime.{is_async}
-use Rattle.sleep_model.specs.Stands.{is_prepared, is_ready, is_unsettled, is_going_down, is_down_in, is_low}
+use Rattle.sleep_model.specs.Stands.{is_prepared, is_ready, is_not_down, is_going_down, is_down_in, is_not_up}
 use Rattle.sleep_model.specs.Table.{stage_of, behind}
 use Rattle.sleep_model.specs.Walk.{first_where, last_where}
 use Rattle.sleep_model.proofs.Walks.{AllDifferent}
@@ -54,7 +54,7 @@ use Rattle.sleep_laws.proofs.Making.{Proper, ProperIf, stage_proper}
 use Rattle.sleep_laws.proofs.MakingOwn.{entry_made}
 use Rattle.sleep_laws.proofs.Moods.{Mood, Settled, in_down, in_up, allows, when_settled}
 use Rattle.sleep_laws.proofs.Ranks.{Behind, behind_last, order_behind, order_apart, last_behind, first_before, first_or_behind, last_there, first_there, above_below, IsRanked}
-use Rattle.sleep_laws.proofs.Standing.{is_given, down_is, errs, Fines, Standing}
+use Rattle.sleep_laws.proofs.Standing.{is_scheduled, down_is, errs, Fines, Standing}
 use Rattle.sleep_laws.proofs.Telling.{some≢none}
 use Rattle.sleep_laws.proofs.Turning.{never}
 use Rattle.sleep_laws.proofs.Underway.{is_suspending, is_resuming, IsCalled, TakesLast, Calls, Underway, underway}
@@ -77,7 +77,7 @@ not_true : (b : Bool) → not b ≡ true → b ≡ false
 not_true true e = never e
 not_true false e = refl
 
--- ---- the work of a device that is given out
+-- ---- the work of a device that is scheduled
 
 -- the devices are settled in the phases before q
 abbrev SettledBefore : (Phase → Mood) → (q : Phase) → Down q → Type 0
@@ -127,19 +127,19 @@ down_settled _ InNoirq = (refl, refl)
 abbrev StuckAt : Machine → List Entry → EventNow → ℕ → Type 0
 StuckAt m past now d = is_made (device_due m past now d (async_work m past d)) ≡ false
 
-unsettled_goes : (s : Stand) → is_unsettled s ≡ true → is_prepared s ≡ true → is_ready s ≡ false → is_going_down s ≡ true
-unsettled_goes stand.Scheduled u p r = refl
-unsettled_goes stand.Suspending u p r = refl
-unsettled_goes stand.Prepared u p r = never (sym r)
-unsettled_goes stand.Unprepared u p r = never p
-unsettled_goes _ u p r = never u
+not_down_goes : (s : Stand) → is_not_down s ≡ true → is_prepared s ≡ true → is_ready s ≡ false → is_going_down s ≡ true
+not_down_goes stand.Scheduled u p r = refl
+not_down_goes stand.Suspending u p r = refl
+not_down_goes stand.Prepared u p r = never (sym r)
+not_down_goes stand.Unprepared u p r = never p
+not_down_goes _ u p r = never u
 
-unsettled_ready : (s : Stand) → is_unsettled s ≡ true → is_prepared s ≡ true → is_going_down s ≡ false → is_ready s ≡ true
-unsettled_ready stand.Prepared u p g = refl
-unsettled_ready stand.Scheduled u p g = never (sym g)
-unsettled_ready stand.Suspending u p g = never (sym g)
-unsettled_ready stand.Unprepared u p g = never p
-unsettled_ready _ u p g = never u
+not_down_ready : (s : Stand) → is_not_down s ≡ true → is_prepared s ≡ true → is_going_down s ≡ false → is_ready s ≡ true
+not_down_ready stand.Prepared u p g = refl
+not_down_ready stand.Scheduled u p g = never (sym g)
+not_down_ready stand.Suspending u p g = never (sym g)
+not_down_ready stand.Unprepared u p g = never p
+not_down_ready _ u p g = never u
 
 -- a turn that waits for nobody is made
 waits_made : (o : Option ℕ) (k : Kind) → is_made (after_device o (turn.Makes k)) ≡ false → (d : ℕ) × (o ≡ Some d)
@@ -177,25 +177,25 @@ module _ (m : Machine) (past : List Entry) (ranks : IsRanked m past) (now : Even
 
       waits : (e : ℕ) → is_among (order m past) g ≡ true → stand_in m past p g ≡ stand.Scheduled → waits_below m past p g ≡ Some e → ⊥
       waits e o s w =
-          let f : Found (λ x. is_unsettled (stand_in m past p x)) (below m past g) e = first_found (λ x. is_unsettled (stand_in m past p x)) (below m past g) e w in
+          let f : Found (λ x. is_not_down (stand_in m past p x)) (below m past g) e = first_found (λ x. is_not_down (stand_in m past p x)) (below m past g) e w in
           let b : Behind (order m past) g e = order_behind (below m past) (order m past) ranks g e o f.among in
           let still : is_going_down (stand_in m past p e) ≡ false = last_behind (λ d. is_going_down (stand_in m past p d)) (order m past) apart g e l b in
-          let ready : is_ready (stand_in m past p e) ≡ true = unsettled_ready (stand_in m past p e) f.passes (prepared e (behind_last (order m past) g e b)) still in
+          let ready : is_ready (stand_in m past p e) ≡ true = not_down_ready (stand_in m past p e) f.passes (prepared e (behind_last (order m past) g e b)) still in
           let taken : is_ready (at (three m past e) p) ≡ false = takes g e b (ap is_ready (at_is m past p g i ∙ s)) in
           true≢false (sym ready ∙ (ap is_ready (sym (at_is m past p e i)) ∙ taken))
 
       scheduled : stand_in m past p g ≡ stand.Scheduled → is_among (order m past) g ≡ true → ⊥
       scheduled e o =
-          let a : is_async_device m g ≡ true = (h.0 g).given p i (ap is_given (at_is m past p g i ∙ e)) in
-          let w : async_work m past g ≡ Given p = work_at m past (in_down p) true h.0 p i (down_settled p i) g stand.Scheduled (Given p) (λ other. refl) e a in
-          let s : is_made (given_due m past now p g) ≡ false = subst (λ (x : AsyncWork). is_made (device_due m past now g x) ≡ false) w (stuck g o a) in
-          let d = waits_made (waits_below m past p g) (unless_failed (phase_failed past) p g (taken m past now p g)) (down_given p i s) in
+          let a : is_async_device m g ≡ true = (h.0 g).scheduled p i (ap is_scheduled (at_is m past p g i ∙ e)) in
+          let w : async_work m past g ≡ Scheduled p = work_at m past (in_down p) true h.0 p i (down_settled p i) g stand.Scheduled (Scheduled p) (λ other. refl) e a in
+          let s : is_made (scheduled_due m past now p g) ≡ false = subst (λ (x : AsyncWork). is_made (device_due m past now g x) ≡ false) w (stuck g o a) in
+          let d = waits_made (waits_below m past p g) (unless_failed (phase_failed past) p g (taken m past now p g)) (down_scheduled p i s) in
           waits d.0 o e d.1
         where
-          down_given : (p : Phase) → Down p → is_made (given_due m past now p g) ≡ false → is_made (after_device (waits_below m past p g) (turn.Makes (unless_failed (phase_failed past) p g (taken m past now p g)))) ≡ false
-          down_given _ InSuspend x = x
-          down_given _ InLate x = x
-          down_given _ InNoirq x = x
+          down_scheduled : (p : Phase) → Down p → is_made (scheduled_due m past now p g) ≡ false → is_made (after_device (waits_below m past p g) (turn.Makes (unless_failed (phase_failed past) p g (taken m past now p g)))) ≡ false
+          down_scheduled _ InSuspend x = x
+          down_scheduled _ InLate x = x
+          down_scheduled _ InNoirq x = x
 
       by_stand : (s : Stand) → stand_in m past p g ≡ s → is_going_down (stand_in m past p g) ≡ true → is_among (order m past) g ≡ true → ⊥
       by_stand stand.Scheduled e t o = scheduled e o
@@ -222,10 +222,10 @@ module _ (m : Machine) (past : List Entry) (ranks : IsRanked m past) (now : Even
       below_goes : (x : ℕ) → waits_below m past p d ≡ Some x → ⊥
       below_goes x w =
           let t : Found (λ y. is_ready (stand_in m past p y)) (order m past) d = last_found (λ y. is_ready (stand_in m past p y)) (order m past) d n in
-          let f : Found (λ y. is_unsettled (stand_in m past p y)) (below m past d) x = first_found (λ y. is_unsettled (stand_in m past p y)) (below m past d) x w in
+          let f : Found (λ y. is_not_down (stand_in m past p y)) (below m past d) x = first_found (λ y. is_not_down (stand_in m past p y)) (below m past d) x w in
           let b : Behind (order m past) d x = order_behind (below m past) (order m past) ranks d x t.among f.among in
           let o : is_among (order m past) x ≡ true = behind_last (order m past) d x b in
-          none_goes x o (unsettled_goes (stand_in m past p x) f.passes (prepared x o) (last_behind (λ y. is_ready (stand_in m past p y)) (order m past) apart d x n b))
+          none_goes x o (not_down_goes (stand_in m past p x) f.passes (prepared x o) (last_behind (λ y. is_ready (stand_in m past p y)) (order m past) apart d x n b))
 
       by_async : (b : Bool) → is_made (cond b (turn.Makes (kind.Schedule p d)) (after_device (waits_below m past p d) (turn.Makes (taken m past now p d)))) ≡ false → ⊥
       by_async true x = true≢false x
@@ -247,15 +247,15 @@ up_settled _ InResume = tt
 up_settled _ InEarly = refl
 up_settled _ InResumeNoirq = (refl, refl)
 
-low_prepared : (s : Stand) → is_low s ≡ true → is_prepared s ≡ true
-low_prepared stand.Unprepared e = never e
-low_prepared _ e = refl
+not_up_prepared : (s : Stand) → is_not_up s ≡ true → is_prepared s ≡ true
+not_up_prepared stand.Unprepared e = never e
+not_up_prepared _ e = refl
 
--- what a device that was given out on the way up makes
-up_given : (m : Machine) (past : List Entry) (now : EventNow) (q : Phase) (d : ℕ) → Down q → is_made (given_due m past now (mirror q) d) ≡ false → is_made (after_device (waits_above m past q d) (turn.Makes (kind.Begin (mirror q) d))) ≡ false
-up_given m past now _ d InSuspend x = x
-up_given m past now _ d InLate x = x
-up_given m past now _ d InNoirq x = x
+-- what a device that was scheduled on the way up makes
+up_scheduled : (m : Machine) (past : List Entry) (now : EventNow) (q : Phase) (d : ℕ) → Down q → is_made (scheduled_due m past now (mirror q) d) ≡ false → is_made (after_device (waits_above m past q d) (turn.Makes (kind.Begin (mirror q) d))) ≡ false
+up_scheduled m past now _ d InSuspend x = x
+up_scheduled m past now _ d InLate x = x
+up_scheduled m past now _ d InNoirq x = x
 
 module _ (m : Machine) (past : List Entry) (ranks : IsRanked m past) (now : EventNow) (p : Phase) (u : Up p) (h : Standing m past (Some (stage.Ups p))) (calls : Calls m past (mirror p) is_resuming) (free : callback past ≡ None) (stuck : (d : ℕ) → is_among (order m past) d ≡ true → is_async_device m d ≡ true → StuckAt m past now d) where
   apart_up : AllDifferent (order m past)
@@ -264,20 +264,20 @@ module _ (m : Machine) (past : List Entry) (ranks : IsRanked m past) (now : Even
   down_of : Down (mirror p)
   down_of = mirror_down p u
 
-  low_among : (d : ℕ) → is_low (stand_in m past (mirror p) d) ≡ true → is_among (order m past) d ≡ true
-  low_among d l = in_order m past (in_up p) false h.0 (mirror p) d (mirror_down p u) (low_prepared (stand_in m past (mirror p) d) l)
+  not_up_among : (d : ℕ) → is_not_up (stand_in m past (mirror p) d) ≡ true → is_among (order m past) d ≡ true
+  not_up_among d l = in_order m past (in_up p) false h.0 (mirror p) d (mirror_down p u) (not_up_prepared (stand_in m past (mirror p) d) l)
 
   -- the first device that is not up waits for none above it
-  first_free : (g : ℕ) → first_where (λ d. is_low (stand_in m past (mirror p) d)) (order m past) ≡ Some g → (e : ℕ) → waits_above m past (mirror p) g ≡ Some e → ⊥
+  first_free : (g : ℕ) → first_where (λ d. is_not_up (stand_in m past (mirror p) d)) (order m past) ≡ Some g → (e : ℕ) → waits_above m past (mirror p) g ≡ Some e → ⊥
   first_free g l e w =
-      let f : Found (λ x. is_low (stand_in m past (mirror p) x)) (above m past g) e = first_found (λ x. is_low (stand_in m past (mirror p) x)) (above m past g) e w in
-      let b : Behind (order m past) e g = order_behind (below m past) (order m past) ranks e g (low_among e f.passes) (above_below m past g e f.among) in
-      true≢false (sym f.passes ∙ first_before (λ x. is_low (stand_in m past (mirror p) x)) (order m past) apart_up g e l b)
+      let f : Found (λ x. is_not_up (stand_in m past (mirror p) x)) (above m past g) e = first_found (λ x. is_not_up (stand_in m past (mirror p) x)) (above m past g) e w in
+      let b : Behind (order m past) e g = order_behind (below m past) (order m past) ranks e g (not_up_among e f.passes) (above_below m past g e f.among) in
+      true≢false (sym f.passes ∙ first_before (λ x. is_not_up (stand_in m past (mirror p) x)) (order m past) apart_up g e l b)
 
   -- it can go on, unless it is a synchronous one that is down
-  first_goes : (g : ℕ) → first_where (λ d. is_low (stand_in m past (mirror p) d)) (order m past) ≡ Some g → (stand_in m past (mirror p) g ≡ stand.Suspended → ⊥) → ⊥
+  first_goes : (g : ℕ) → first_where (λ d. is_not_up (stand_in m past (mirror p) d)) (order m past) ≡ Some g → (stand_in m past (mirror p) g ≡ stand.Suspended → ⊥) → ⊥
   first_goes g l down =
-      let f : Found (λ d. is_low (stand_in m past (mirror p) d)) (order m past) g = first_found (λ d. is_low (stand_in m past (mirror p) d)) (order m past) g l in
+      let f : Found (λ d. is_not_up (stand_in m past (mirror p) d)) (order m past) g = first_found (λ d. is_not_up (stand_in m past (mirror p) d)) (order m past) g l in
       by_stand (stand_in m past (mirror p) g) refl f.passes f.among
     where
       is_sync : is_resuming (stand_in m past (mirror p) g) ≡ true → is_async_device m g ≡ true
@@ -295,69 +295,69 @@ module _ (m : Machine) (past : List Entry) (ranks : IsRanked m past) (now : Even
 
       rescheduled : stand_in m past (mirror p) g ≡ stand.Rescheduled → is_among (order m past) g ≡ true → ⊥
       rescheduled e o =
-          let a : is_async_device m g ≡ true = (h.0 g).given (mirror p) (mirror_down p u) (ap is_given (at_is m past (mirror p) g (mirror_down p u) ∙ e)) in
-          let w : async_work m past g ≡ Given (mirror (mirror p)) = work_at m past (in_up p) false h.0 (mirror p) (mirror_down p u) (up_settled p u) g stand.Rescheduled (Given (mirror (mirror p))) (λ other. refl) e a in
-          let s : is_made (given_due m past now (mirror (mirror p)) g) ≡ false = subst (λ (x : AsyncWork). is_made (device_due m past now g x) ≡ false) w (stuck g o a) in
-          let d = waits_made (waits_above m past (mirror p) g) (kind.Begin (mirror (mirror p)) g) (up_given m past now (mirror p) g (mirror_down p u) s) in
+          let a : is_async_device m g ≡ true = (h.0 g).scheduled (mirror p) (mirror_down p u) (ap is_scheduled (at_is m past (mirror p) g (mirror_down p u) ∙ e)) in
+          let w : async_work m past g ≡ Scheduled (mirror (mirror p)) = work_at m past (in_up p) false h.0 (mirror p) (mirror_down p u) (up_settled p u) g stand.Rescheduled (Scheduled (mirror (mirror p))) (λ other. refl) e a in
+          let s : is_made (scheduled_due m past now (mirror (mirror p)) g) ≡ false = subst (λ (x : AsyncWork). is_made (device_due m past now g x) ≡ false) w (stuck g o a) in
+          let d = waits_made (waits_above m past (mirror p) g) (kind.Begin (mirror (mirror p)) g) (up_scheduled m past now (mirror p) g (mirror_down p u) s) in
           first_free g l d.0 d.1
 
-      by_stand : (s : Stand) → stand_in m past (mirror p) g ≡ s → is_low (stand_in m past (mirror p) g) ≡ true → is_among (order m past) g ≡ true → ⊥
+      by_stand : (s : Stand) → stand_in m past (mirror p) g ≡ s → is_not_up (stand_in m past (mirror p) g) ≡ true → is_among (order m past) g ≡ true → ⊥
       by_stand stand.Suspended e t o = down e
       by_stand stand.Rescheduled e t o = rescheduled e o
       by_stand stand.Resuming e t o = resuming e o
-      by_stand stand.Unprepared e t o = true≢false (sym t ∙ ap is_low e)
-      by_stand _ e t o = true≢false (sym t ∙ ap is_low e)
+      by_stand stand.Unprepared e t o = true≢false (sym t ∙ ap is_not_up e)
+      by_stand _ e t o = true≢false (sym t ∙ ap is_not_up e)
 
   -- none is low, where none is down that has to be taken next
-  none_low : next_given m past (mirror p) ≡ None → ((g : ℕ) → first_where (λ d. is_low (stand_in m past (mirror p) d)) (order m past) ≡ Some g → stand_in m past (mirror p) g ≡ stand.Suspended → is_async_device m g ≡ false → ⊥) → (d : ℕ) → is_among (order m past) d ≡ true → is_low (stand_in m past (mirror p) d) ≡ true → ⊥
-  none_low n sync d o low =
-      let l = first_there (λ x. is_low (stand_in m past (mirror p) x)) (order m past) d o low in
+  none_not_up : next_to_schedule m past (mirror p) ≡ None → ((g : ℕ) → first_where (λ d. is_not_up (stand_in m past (mirror p) d)) (order m past) ≡ Some g → stand_in m past (mirror p) g ≡ stand.Suspended → is_async_device m g ≡ false → ⊥) → (d : ℕ) → is_among (order m past) d ≡ true → is_not_up (stand_in m past (mirror p) d) ≡ true → ⊥
+  none_not_up n sync d o low =
+      let l = first_there (λ x. is_not_up (stand_in m past (mirror p) x)) (order m past) d o low in
       first_goes l.0 l.1 (λ e. by_async l.0 l.1 e (is_async_device m l.0) refl)
     where
-      by_async : (g : ℕ) → first_where (λ x. is_low (stand_in m past (mirror p) x)) (order m past) ≡ Some g → stand_in m past (mirror p) g ≡ stand.Suspended → (b : Bool) → is_async_device m g ≡ b → ⊥
+      by_async : (g : ℕ) → first_where (λ x. is_not_up (stand_in m past (mirror p) x)) (order m past) ≡ Some g → stand_in m past (mirror p) g ≡ stand.Suspended → (b : Bool) → is_async_device m g ≡ b → ⊥
       by_async g l e false a = sync g l e a
       by_async g l e true a =
-          let given : (is_down_in (stand_in m past (mirror p) g) && is_async_device m g) ≡ true = rw (e, a) refl in
-          let f : Found (λ x. is_low (stand_in m past (mirror p) x)) (order m past) g = first_found (λ x. is_low (stand_in m past (mirror p) x)) (order m past) g l in
-          true≢false (sym given ∙ first_none (λ x. is_down_in (stand_in m past (mirror p) x) && is_async_device m x) (order m past) n g f.among)
+          let scheduled : (is_down_in (stand_in m past (mirror p) g) && is_async_device m g) ≡ true = rw (e, a) refl in
+          let f : Found (λ x. is_not_up (stand_in m past (mirror p) x)) (order m past) g = first_found (λ x. is_not_up (stand_in m past (mirror p) x)) (order m past) g l in
+          true≢false (sym scheduled ∙ first_none (λ x. is_down_in (stand_in m past (mirror p) x) && is_async_device m x) (order m past) n g f.among)
 
   -- the walk up goes on
   up_goes : is_made (up_due m past p (callback past)) ≡ false → ⊥
-  up_goes e = by_walk (next_given m past (mirror p)) (next_up m past (mirror p)) refl refl (subst (λ (o : Option Callback). is_made (up_due m past p o) ≡ false) free e)
+  up_goes e = by_walk (next_to_schedule m past (mirror p)) (next_up m past (mirror p)) refl refl (subst (λ (o : Option Callback). is_made (up_due m past p o) ≡ false) free e)
     where
       sync_test : (g : ℕ) → stand_in m past (mirror p) g ≡ stand.Suspended → is_async_device m g ≡ false → (is_down_in (stand_in m past (mirror p) g) && not (is_async_device m g)) ≡ true
       sync_test g e a = rw (e, a) refl
 
-      next_stands : (d : ℕ) → next_up m past (mirror p) ≡ Some d → is_low (stand_in m past (mirror p) d) ≡ true
+      next_stands : (d : ℕ) → next_up m past (mirror p) ≡ Some d → is_not_up (stand_in m past (mirror p) d) ≡ true
       next_stands d n =
           let f : Found (λ x. is_down_in (stand_in m past (mirror p) x) && not (is_async_device m x)) (order m past) d = first_found (λ x. is_down_in (stand_in m past (mirror p) x) && not (is_async_device m x)) (order m past) d n in
-          ap is_low (down_is (stand_in m past (mirror p) d) (and_left (is_down_in (stand_in m past (mirror p) d)) (not (is_async_device m d)) f.passes))
+          ap is_not_up (down_is (stand_in m past (mirror p) d) (and_left (is_down_in (stand_in m past (mirror p) d)) (not (is_async_device m d)) f.passes))
 
-      is_of_order : (g : ℕ) → first_where (λ x. is_low (stand_in m past (mirror p) x)) (order m past) ≡ Some g → is_among (order m past) g ≡ true
-      is_of_order g l = (first_found (λ x. is_low (stand_in m past (mirror p) x)) (order m past) g l).among
+      is_of_order : (g : ℕ) → first_where (λ x. is_not_up (stand_in m past (mirror p) x)) (order m past) ≡ Some g → is_among (order m past) g ≡ true
+      is_of_order g l = (first_found (λ x. is_not_up (stand_in m past (mirror p) x)) (order m past) g l).among
 
       -- no synchronous device is down where none is taken next
-      none_next : next_up m past (mirror p) ≡ None → (g : ℕ) → first_where (λ x. is_low (stand_in m past (mirror p) x)) (order m past) ≡ Some g → stand_in m past (mirror p) g ≡ stand.Suspended → is_async_device m g ≡ false → ⊥
+      none_next : next_up m past (mirror p) ≡ None → (g : ℕ) → first_where (λ x. is_not_up (stand_in m past (mirror p) x)) (order m past) ≡ Some g → stand_in m past (mirror p) g ≡ stand.Suspended → is_async_device m g ≡ false → ⊥
       none_next n g l s a = true≢false (sym (sync_test g s a) ∙ first_none (λ x. is_down_in (stand_in m past (mirror p) x) && not (is_async_device m x)) (order m past) n g (is_of_order g l))
 
       -- the one that is taken next is the first that is down, and waits for none
-      waits_next : (d x : ℕ) → next_up m past (mirror p) ≡ Some d → waits_above m past (mirror p) d ≡ Some x → (g : ℕ) → first_where (λ y. is_low (stand_in m past (mirror p) y)) (order m past) ≡ Some g → stand_in m past (mirror p) g ≡ stand.Suspended → is_async_device m g ≡ false → ⊥
+      waits_next : (d x : ℕ) → next_up m past (mirror p) ≡ Some d → waits_above m past (mirror p) d ≡ Some x → (g : ℕ) → first_where (λ y. is_not_up (stand_in m past (mirror p) y)) (order m past) ≡ Some g → stand_in m past (mirror p) g ≡ stand.Suspended → is_async_device m g ≡ false → ⊥
       waits_next d x n w g l s a = by_place (first_or_behind (λ y. is_down_in (stand_in m past (mirror p) y) && not (is_async_device m y)) (order m past) d g n (sync_test g s a) (is_of_order g l))
         where
           by_place : (d ≡ g) ⊎ Behind (order m past) d g → ⊥
           by_place (inl same) = first_free g l x (subst (λ (y : ℕ). waits_above m past (mirror p) y ≡ Some x) same w)
-          by_place (inr b) = true≢false (sym (next_stands d n) ∙ first_before (λ y. is_low (stand_in m past (mirror p) y)) (order m past) apart_up g d l b)
+          by_place (inr b) = true≢false (sym (next_stands d n) ∙ first_before (λ y. is_not_up (stand_in m past (mirror p) y)) (order m past) apart_up g d l b)
 
-      by_walk : (g o : Option ℕ) → next_given m past (mirror p) ≡ g → next_up m past (mirror p) ≡ o → is_made (walk_up m past p g o) ≡ false → ⊥
+      by_walk : (g o : Option ℕ) → next_to_schedule m past (mirror p) ≡ g → next_up m past (mirror p) ≡ o → is_made (walk_up m past p g o) ≡ false → ⊥
       by_walk (Some d) o f n x = true≢false x
       by_walk None None f n x =
           let w = waits_made (waits_up m past (mirror p)) (kind.Done p None) x in
-          let t : Found (λ y. is_low (stand_in m past (mirror p) y)) (order m past) w.0 = first_found (λ y. is_low (stand_in m past (mirror p) y)) (order m past) w.0 w.1 in
-          none_low f (none_next n) w.0 t.among t.passes
+          let t : Found (λ y. is_not_up (stand_in m past (mirror p) y)) (order m past) w.0 = first_found (λ y. is_not_up (stand_in m past (mirror p) y)) (order m past) w.0 w.1 in
+          none_not_up f (none_next n) w.0 t.among t.passes
       by_walk None (Some d) f n x =
           let w = waits_made (waits_above m past (mirror p) d) (kind.Begin p d) x in
-          let t : Found (λ y. is_low (stand_in m past (mirror p) y)) (above m past d) w.0 = first_found (λ y. is_low (stand_in m past (mirror p) y)) (above m past d) w.0 w.1 in
-          none_low f (waits_next d w.0 n w.1) w.0 (low_among w.0 t.passes) t.passes
+          let t : Found (λ y. is_not_up (stand_in m past (mirror p) y)) (above m past d) w.0 = first_found (λ y. is_not_up (stand_in m past (mirror p) y)) (above m past d) w.0 w.1 in
+          none_not_up f (waits_next d w.0 n w.1) w.0 (not_up_among w.0 t.passes) t.passes
 
 -- ---- the stages
 

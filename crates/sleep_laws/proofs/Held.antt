@@ -25,7 +25,7 @@ use Rattle.sleep_model.specs.Lock.{holder}
 use Rattle.sleep_model.specs.Path.{maker}
 use Rattle.sleep_model.specs.Table.{stage_of, stage_after}
 use Rattle.sleep_model.specs.Word.{visible}
-use Rattle.sleep_laws.proofs.DevicesStand.{given_stage}
+use Rattle.sleep_laws.proofs.DevicesStand.{scheduled_stage}
 use Rattle.sleep_laws.proofs.Few.{few_registered}
 use Rattle.sleep_laws.proofs.Guarding.{Shows, Says, AllSay, guarded_of}
 use Rattle.sleep_laws.proofs.Holding.{HolderOf, StageMaker, held as lock}
@@ -37,7 +37,7 @@ use Rattle.sleep_laws.proofs.MakingOwn.{by_maker, entry_made}
 abbrev pub HeldAt : Stage → Option Errno → Option ℕ → Option ℕ → Type 0
 HeldAt stage.Notifies error guard force = force ≡ guard
 HeldAt (stage.Freezes g) error guard force = force ≡ guard
-HeldAt (stage.Asks step) error guard force = force ≡ guard
+HeldAt (stage.PlatformDown step) error guard force = force ≡ guard
 HeldAt stage.Prepares error guard force = force ≡ guard
 HeldAt (stage.Downs p) error guard force = error ≡ None → force ≡ guard
 HeldAt stage.StopsCpus error guard force = force ≡ guard
@@ -93,7 +93,7 @@ held_made m past now _ _ h (Made.NoirqFails r b) = tt
 held_made m past now _ _ h (Made.SuspendEnds b) = h b.well
 held_made m past now _ _ h (Made.LateEnds b) = λ e. h b.well
 held_made m past now _ _ h (Made.NoirqEnds b) = h b.well
-held_made m past now _ _ h (Made.AsksPrepare) = λ e. h
+held_made m past now _ _ h (Made.PlatformPrepares) = λ e. h
 held_made m past now _ _ h (Made.FindsCpu k n w) = tt
 held_made m past now _ _ h (Made.FindsCheck w) = tt
 held_made m past now _ _ h (Made.PartFails x r n) = tt
@@ -102,10 +102,10 @@ held_made m past now _ _ h (Made.Wakes s e f) = tt
 held_made m past now _ _ h (Made.StartsPart x n) = tt
 held_made m past now _ _ h Made.StartsIrqs = tt
 held_made m past now _ _ h (Made.StartsCpu k n) = tt
-held_made m past now _ _ h Made.TellsWake = tt
-held_made m past now _ _ h Made.TellsFinish = tt
-held_made m past now _ _ h Made.TellsRecover = tt
-held_made m past now _ _ h Made.TellsEnd = tt
+held_made m past now _ _ h Made.PlatformWakes = tt
+held_made m past now _ _ h Made.PlatformFinishes = tt
+held_made m past now _ _ h Made.PlatformRecovers = tt
+held_made m past now _ _ h Made.PlatformEnds = tt
 held_made m past now _ _ h (Made.EndsUp p q d r up c) = tt
 held_made m past now _ _ h (Made.SchedulesUp p d up c n) = tt
 held_made m past now _ _ h (Made.BeginsUp p d up c g n w) = tt
@@ -180,7 +180,7 @@ entry_guards m past now who k l h (ByMaker _ here there _ own at come x) = maker
 entry_guards m past now _ k l h (ByTask i _ other (TaskMade.Freezes s go asked)) = h
 entry_guards m past now _ _ l h (ByTask i _ other (TaskMade.Steps s k o go at x)) = step_guards m past now _ _ o k l h x
 entry_guards m past now _ k l h (ByWork w _ other awake over at x) = work_guards m past now w k l h x
-entry_guards m past now _ k l h (ByDevice d _ other x) = device_guards m past now d k (λ p i e. given_stage m past l p d i e) h x
+entry_guards m past now _ k l h (ByDevice d _ other x) = device_guards m past now d k (λ p i e. scheduled_stage m past l p d i e) h x
 entry_guards m past now _ _ l h ByTime = h
 
 -- the guard at each place of a legal journal

@@ -12,7 +12,7 @@ use Rattle.sleep_model.specs.declared.place.Stage.TheVariants as stage
 use Rattle.sleep_model.specs.declared.word.EventNow.{EventNow}
 use Rattle.phase_table.specs.declared.phase.Phase.TheVariants as phase
 use Rattle.sleep_model.specs.Devices.{is_device}
-use Rattle.sleep_model.specs.Notifiers.{irqs_off, asked_platform}
+use Rattle.sleep_model.specs.Notifiers.{irqs_off, owes_platform}
 use Rattle.sleep_model.specs.Table.{stage_after}
 use Rattle.sleep_laws.proofs.Holding.{Aside, Kept, entry_of}
 use Rattle.sleep_laws.proofs.Made.{Made, Comes, DeviceMade, EntryMade, PastNotifiers}
@@ -31,7 +31,7 @@ abbrev pub begun_at : Option Stage → Bool
 begun_at None = false
 begun_at (Some stage.Notifies) = false
 begun_at (Some (stage.Freezes g)) = false
-begun_at (Some (stage.Asks down.Begin)) = false
+begun_at (Some (stage.PlatformDown down.Begin)) = false
 begun_at (Some stage.Clears) = false
 begun_at (Some (stage.Thaws those)) = false
 begun_at (Some stage.Posts) = false
@@ -42,7 +42,7 @@ begun_at _ = true
 abbrev pub prepared_at : Option Stage → Bool
 prepared_at (Some (stage.Downs phase.Late)) = true
 prepared_at (Some (stage.Downs phase.Noirq)) = true
-prepared_at (Some (stage.Asks down.PrepareLate)) = true
+prepared_at (Some (stage.PlatformDown down.PrepareLate)) = true
 prepared_at (Some stage.StopsCpus) = true
 prepared_at (Some stage.StopsIrqs) = true
 prepared_at (Some stage.Checks) = true
@@ -51,8 +51,8 @@ prepared_at (Some stage.Enters) = true
 prepared_at (Some stage.StartsSyscore) = true
 prepared_at (Some stage.StartsIrqs) = true
 prepared_at (Some stage.StartsCpus) = true
-prepared_at (Some (stage.Tells undo.Wake)) = true
-prepared_at (Some (stage.Tells undo.Finish)) = true
+prepared_at (Some (stage.PlatformUp undo.Wake)) = true
+prepared_at (Some (stage.PlatformUp undo.Finish)) = true
 prepared_at (Some (stage.Ups phase.ResumeNoirq)) = true
 prepared_at (Some (stage.Ups phase.Early)) = true
 prepared_at _ = false
@@ -67,29 +67,29 @@ late_at (Some stage.Enters) = true
 late_at (Some stage.StartsSyscore) = true
 late_at (Some stage.StartsIrqs) = true
 late_at (Some stage.StartsCpus) = true
-late_at (Some (stage.Tells undo.Wake)) = true
+late_at (Some (stage.PlatformUp undo.Wake)) = true
 late_at _ = false
 
 -- interrupts and the platform are as the stage tells
 abbrev pub Exact : Option Stage → List Entry → Type 0
-Exact s past = (irqs_off past ≡ irqs_at s) × (asked_platform down.Begin past ≡ begun_at s) × (asked_platform down.Prepare past ≡ prepared_at s) × (asked_platform down.PrepareLate past ≡ late_at s)
+Exact s past = (irqs_off past ≡ irqs_at s) × (owes_platform down.Begin past ≡ begun_at s) × (owes_platform down.Prepare past ≡ prepared_at s) × (owes_platform down.PrepareLate past ≡ late_at s)
 
 exact_comes : (m : Machine) (past : List Entry) (here there : Stage) → Comes m past here there → Exact (Some here) past → Exact (Some there) past
 exact_comes m past _ _ (PastNotifiers e) h = h
 exact_comes m past _ _ _ h = h
 
 exact_makes : (m : Machine) (past : List Entry) (time : ℕ) (now : EventNow) (who : Actor) (there : Stage) (k : Kind) → is_device who ≡ false → Made m past now there k → Exact (Some there) past → Exact (stage_after k (Some there)) (entry_of time now who k ∷ past)
-exact_makes m past time now who _ _ a Made.AsksBegin h = (h.0, refl, h.2, h.3)
+exact_makes m past time now who _ _ a Made.PlatformBegins h = (h.0, refl, h.2, h.3)
 exact_makes m past time now who _ _ a (Made.BeginFails r) h = (h.0, refl, h.2, h.3)
-exact_makes m past time now who _ _ a Made.AsksPrepare h = (h.0, h.1, refl, h.3)
+exact_makes m past time now who _ _ a Made.PlatformPrepares h = (h.0, h.1, refl, h.3)
 exact_makes m past time now who _ _ a (Made.PrepareFails r) h = (h.0, h.1, refl, h.3)
-exact_makes m past time now who _ _ a Made.AsksPrepareLate h = (h.0, h.1, h.2, refl)
+exact_makes m past time now who _ _ a Made.PlatformPreparesLate h = (h.0, h.1, h.2, refl)
 exact_makes m past time now who _ _ a (Made.PrepareLateFails r) h = (h.0, h.1, h.2, refl)
 exact_makes m past time now who _ _ a Made.StopsIrqs h = (refl, h.1, h.2, h.3)
 exact_makes m past time now who _ _ a Made.StartsIrqs h = (refl, h.1, h.2, h.3)
-exact_makes m past time now who _ _ a Made.TellsWake h = (h.0, h.1, h.2, refl)
-exact_makes m past time now who _ _ a Made.TellsFinish h = (h.0, h.1, refl, h.3)
-exact_makes m past time now who _ _ a Made.TellsEnd h = (h.0, refl, h.2, h.3)
+exact_makes m past time now who _ _ a Made.PlatformWakes h = (h.0, h.1, h.2, refl)
+exact_makes m past time now who _ _ a Made.PlatformFinishes h = (h.0, h.1, refl, h.3)
+exact_makes m past time now who _ _ a Made.PlatformEnds h = (h.0, refl, h.2, h.3)
 exact_makes m past time now who _ _ a _ h = h
 
 exact_beside : (m : Machine) (past : List Entry) (time : ℕ) (now : EventNow) (who : Actor) (k : Kind) (s : Option Stage) → EntryMade m past now who k → is_device who ≡ false → Aside s k → Exact s past → Exact s (entry_of time now who k ∷ past)

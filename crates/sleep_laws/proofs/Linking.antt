@@ -29,7 +29,7 @@ use Rattle.sleep_laws.proofs.Telling.{some≢none}
 -- ---- who changes no link
 
 pub maker_links : (m : Machine) (past : List Entry) (now : EventNow) (there : Stage) (k : Kind) → Made m past now there k → (ls : List Link) → links_after k ls ≡ ls
-maker_links m past now _ _ Made.TellsWake ls = refl
+maker_links m past now _ _ Made.PlatformWakes ls = refl
 maker_links m past now _ _ _ ls = refl
 
 pub work_links : (m : Machine) (past : List Entry) (now : EventNow) (w : Work) (k : Kind) → WorkMade m past now w k → (ls : List Link) → links_after k ls ≡ ls

@@ -25,14 +25,14 @@ use Rattle.sleep_model.specs.declared.place.Stand.TheVariants as stand
 use Rattle.sleep_model.specs.declared.place.Sleep.{Sleep}
 use Rattle.sleep_model.specs.declared.place.Work.{Work}
 use Rattle.sleep_model.specs.declared.place.Work.TheVariants.{Resting, Reading, Saving, Attempting, Looking, Napping, Closing}
-use Rattle.sleep_model.specs.declared.place.AsyncWork.TheVariants.{Given, Inside}
+use Rattle.sleep_model.specs.declared.place.AsyncWork.TheVariants.{Scheduled, Inside}
 use Rattle.sleep_model.specs.declared.word.EventNow.{EventNow}
 use Rattle.phase_table.specs.declared.phase.Phase.{Phase}
 use Rattle.phase_table.specs.declared.phase.Phase.TheVariants as phase
 use Rattle.phase_table.specs.Phases.{mirror, tests_wakeup}
 use Rattle.sleep_model.specs.Attempt.{failed, freeze_since, sleep_of, sleeps_now}
 use Rattle.sleep_model.specs.Autosleep.{work, seen_count}
-use Rattle.sleep_model.specs.Devices.{callback, phase_failed, phase_error, is_direct, is_async_device, stand_in, waits_below, waits_above, waits_down, waits_up, next_down, next_given, next_up, next_prepared, next_completed, async_work}
+use Rattle.sleep_model.specs.Devices.{callback, phase_failed, phase_error, is_direct, is_async_device, stand_in, waits_below, waits_above, waits_down, waits_up, next_down, next_to_schedule, next_up, next_prepared, next_completed, async_work}
 use Rattle.sleep_model.specs.Due.{is_over}
 use Rattle.sleep_model.specs.Freezer.{freezing, left}
 use Rattle.sleep_model.specs.Guard.{in_force, pending}
@@ -90,7 +90,7 @@ pub record Settles (m : Machine) (past : List Entry) (p : Phase) : Type 0 where
 -- a phase on the way up, whose mirror is p, ends
 pub record Rises (m : Machine) (past : List Entry) (p : Phase) : Type 0 where
   pub free : callback past ≡ None
-  pub given : next_given m past p ≡ None
+  pub scheduled : next_to_schedule m past p ≡ None
   pub next : next_up m past p ≡ None
   pub waits : waits_up m past p ≡ None
 
@@ -106,12 +106,12 @@ pub data Made (m : Machine) (past : List Entry) (now : EventNow) : Stage → Kin
   KernelTimesOut : (since n x : ℕ) → freeze_since past ≡ Some since → Made m past now (stage.Freezes group.Kernel) (kind.Froze group.Kernel (froze.Timeout n x))
   UserWakes : (since n x : ℕ) → freeze_since past ≡ Some since → pending past now ≡ true → Made m past now (stage.Freezes group.User) (kind.Froze group.User (froze.Wakeup n x))
   KernelWakes : (since n x : ℕ) → freeze_since past ≡ Some since → pending past now ≡ true → Made m past now (stage.Freezes group.Kernel) (kind.Froze group.Kernel (froze.Wakeup n x))
-  AsksBegin : Made m past now (stage.Asks down.Begin) (kind.PlatformDo down.Begin None)
-  AsksPrepare : Made m past now (stage.Asks down.Prepare) (kind.PlatformDo down.Prepare None)
-  AsksPrepareLate : Made m past now (stage.Asks down.PrepareLate) (kind.PlatformDo down.PrepareLate None)
-  BeginFails : (r : Errno) → Made m past now (stage.Asks down.Begin) (kind.PlatformDo down.Begin (Some r))
-  PrepareFails : (r : Errno) → Made m past now (stage.Asks down.Prepare) (kind.PlatformDo down.Prepare (Some r))
-  PrepareLateFails : (r : Errno) → Made m past now (stage.Asks down.PrepareLate) (kind.PlatformDo down.PrepareLate (Some r))
+  PlatformBegins : Made m past now (stage.PlatformDown down.Begin) (kind.PlatformDo down.Begin None)
+  PlatformPrepares : Made m past now (stage.PlatformDown down.Prepare) (kind.PlatformDo down.Prepare None)
+  PlatformPreparesLate : Made m past now (stage.PlatformDown down.PrepareLate) (kind.PlatformDo down.PrepareLate None)
+  BeginFails : (r : Errno) → Made m past now (stage.PlatformDown down.Begin) (kind.PlatformDo down.Begin (Some r))
+  PrepareFails : (r : Errno) → Made m past now (stage.PlatformDown down.Prepare) (kind.PlatformDo down.Prepare (Some r))
+  PrepareLateFails : (r : Errno) → Made m past now (stage.PlatformDown down.PrepareLate) (kind.PlatformDo down.PrepareLate (Some r))
   Prepares : (d : ℕ) (r : ℤ) → phase_failed past ≡ None → next_prepared m past ≡ Some d → Made m past now stage.Prepares (kind.Prepare d r)
   PreparesNot : (r : Errno) → phase_failed past ≡ Some r → Made m past now stage.Prepares (kind.Done phase.Prepare (Some r))
   Prepared : phase_failed past ≡ None → next_prepared m past ≡ None → Made m past now stage.Prepares (kind.Done phase.Prepare None)
@@ -139,13 +139,13 @@ pub data Made (m : Machine) (past : List Entry) (now : EventNow) : Stage → Kin
   StartsPart : (x : ℕ) → next_started m past ≡ Some x → Made m past now stage.StartsSyscore (kind.SyscoreResume x)
   StartsIrqs : Made m past now stage.StartsIrqs (kind.Irqs true)
   StartsCpu : (k : ℕ) → next_cpu_on m past ≡ Some k → Made m past now stage.StartsCpus (kind.CpuOn k)
-  TellsWake : Made m past now (stage.Tells undo.Wake) (kind.PlatformUndo undo.Wake)
-  TellsFinish : Made m past now (stage.Tells undo.Finish) (kind.PlatformUndo undo.Finish)
-  TellsRecover : Made m past now (stage.Tells undo.Recover) (kind.PlatformUndo undo.Recover)
-  TellsEnd : Made m past now (stage.Tells undo.End) (kind.PlatformUndo undo.End)
+  PlatformWakes : Made m past now (stage.PlatformUp undo.Wake) (kind.PlatformUndo undo.Wake)
+  PlatformFinishes : Made m past now (stage.PlatformUp undo.Finish) (kind.PlatformUndo undo.Finish)
+  PlatformRecovers : Made m past now (stage.PlatformUp undo.Recover) (kind.PlatformUndo undo.Recover)
+  PlatformEnds : Made m past now (stage.PlatformUp undo.End) (kind.PlatformUndo undo.End)
   EndsUp : (p q : Phase) (d : ℕ) (r : Option Errno) → Up p → callback past ≡ Some (record { phase = q; device = d }) → Made m past now (stage.Ups p) (kind.End p d r)
-  SchedulesUp : (p : Phase) (d : ℕ) → Up p → callback past ≡ None → next_given m past (mirror p) ≡ Some d → Made m past now (stage.Ups p) (kind.Schedule p d)
-  BeginsUp : (p : Phase) (d : ℕ) → Up p → callback past ≡ None → next_given m past (mirror p) ≡ None → next_up m past (mirror p) ≡ Some d → waits_above m past (mirror p) d ≡ None → Made m past now (stage.Ups p) (kind.Begin p d)
+  SchedulesUp : (p : Phase) (d : ℕ) → Up p → callback past ≡ None → next_to_schedule m past (mirror p) ≡ Some d → Made m past now (stage.Ups p) (kind.Schedule p d)
+  BeginsUp : (p : Phase) (d : ℕ) → Up p → callback past ≡ None → next_to_schedule m past (mirror p) ≡ None → next_up m past (mirror p) ≡ Some d → waits_above m past (mirror p) d ≡ None → Made m past now (stage.Ups p) (kind.Begin p d)
   ResumeNoirqEnds : Rises m past phase.Noirq → Made m past now (stage.Ups phase.ResumeNoirq) (kind.Done phase.ResumeNoirq None)
   EarlyEnds : Rises m past phase.Late → Made m past now (stage.Ups phase.Early) (kind.Done phase.Early None)
   ResumeEnds : Rises m past phase.Suspend → Made m past now (stage.Ups phase.Resume) (kind.Done phase.Resume None)
@@ -164,7 +164,7 @@ pub data Comes (m : Machine) (past : List Entry) : Stage → Stage → Type 0 wh
   PastCpus : next_cpu_off m past ≡ None → Comes m past stage.StopsCpus stage.StopsIrqs
   PastParts : next_stopped m past ≡ None → Comes m past stage.StopsSyscore stage.Enters
   PastPartsUp : next_started m past ≡ None → Comes m past stage.StartsSyscore stage.StartsIrqs
-  PastCpusUp : next_cpu_on m past ≡ None → Comes m past stage.StartsCpus (stage.Tells undo.Wake)
+  PastCpusUp : next_cpu_on m past ≡ None → Comes m past stage.StartsCpus (stage.PlatformUp undo.Wake)
   PastPosts : next_posted m past ≡ None → Comes m past stage.Posts stage.Ends
 
 -- ---- tasks
@@ -234,20 +234,20 @@ pub data WorkMade (m : Machine) (past : List Entry) (now : EventNow) : Work → 
 
 -- ---- an asynchronous device
 
--- a device that was given out in phase p on the way down, and waits for none below it
-pub record GivenAt (m : Machine) (past : List Entry) (p : Phase) (d : ℕ) : Type 0 where
+-- a device that was scheduled in phase p on the way down, and waits for none below it
+pub record ScheduledAt (m : Machine) (past : List Entry) (p : Phase) (d : ℕ) : Type 0 where
   pub beside : is_async_device m d ≡ true
-  pub work : async_work m past d ≡ Given p
+  pub work : async_work m past d ≡ Scheduled p
   pub stands : stand_in m past p d ≡ stand.Scheduled
   pub waits : waits_below m past p d ≡ None
 
 -- what device d makes of its own
 pub data DeviceMade (m : Machine) (past : List Entry) (now : EventNow) (d : ℕ) : Kind → Type 0 where
-  OwnFails : (p : Phase) (r : Errno) → Down p → GivenAt m past p d → phase_failed past ≡ Some r → DeviceMade m past now d (kind.Skip p d skip.Error)
-  OwnFinds : (p : Phase) → Down p → GivenAt m past p d → phase_failed past ≡ None → tests_wakeup p ≡ true → pending past now ≡ true → DeviceMade m past now d (kind.Skip p d skip.Pending)
-  OwnLeaves : (p : Phase) → Down p → GivenAt m past p d → phase_failed past ≡ None → (tests_wakeup p && pending past now) ≡ false → is_direct m past p d ≡ true → DeviceMade m past now d (kind.Skip p d skip.Direct)
-  OwnBegins : (p : Phase) → Down p → GivenAt m past p d → phase_failed past ≡ None → (tests_wakeup p && pending past now) ≡ false → is_direct m past p d ≡ false → DeviceMade m past now d (kind.Begin p d)
-  OwnRises : (p : Phase) → Up p → is_async_device m d ≡ true → async_work m past d ≡ Given p → stand_in m past (mirror p) d ≡ stand.Rescheduled → waits_above m past (mirror p) d ≡ None → DeviceMade m past now d (kind.Begin p d)
+  OwnFails : (p : Phase) (r : Errno) → Down p → ScheduledAt m past p d → phase_failed past ≡ Some r → DeviceMade m past now d (kind.Skip p d skip.Error)
+  OwnFinds : (p : Phase) → Down p → ScheduledAt m past p d → phase_failed past ≡ None → tests_wakeup p ≡ true → pending past now ≡ true → DeviceMade m past now d (kind.Skip p d skip.Pending)
+  OwnLeaves : (p : Phase) → Down p → ScheduledAt m past p d → phase_failed past ≡ None → (tests_wakeup p && pending past now) ≡ false → is_direct m past p d ≡ true → DeviceMade m past now d (kind.Skip p d skip.Direct)
+  OwnBegins : (p : Phase) → Down p → ScheduledAt m past p d → phase_failed past ≡ None → (tests_wakeup p && pending past now) ≡ false → is_direct m past p d ≡ false → DeviceMade m past now d (kind.Begin p d)
+  OwnRises : (p : Phase) → Up p → is_async_device m d ≡ true → async_work m past d ≡ Scheduled p → stand_in m past (mirror p) d ≡ stand.Rescheduled → waits_above m past (mirror p) d ≡ None → DeviceMade m past now d (kind.Begin p d)
   OwnEnds : (p : Phase) (r : Option Errno) → Down p → is_async_device m d ≡ true → async_work m past d ≡ Inside p → stand_in m past p d ≡ stand.Suspending → DeviceMade m past now d (kind.End p d r)
   OwnRose : (p : Phase) (r : Option Errno) → Up p → is_async_device m d ≡ true → async_work m past d ≡ Inside p → stand_in m past (mirror p) d ≡ stand.Resuming → DeviceMade m past now d (kind.End p d r)
 

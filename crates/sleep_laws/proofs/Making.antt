@@ -31,13 +31,13 @@ use Rattle.phase_table.specs.declared.phase.Phase.TheVariants as phase
 use Rattle.phase_table.specs.Phases.{is_down, mirror, tests_wakeup}
 use Rattle.sleep_model.specs.Answers.{answer, answer_number, error_of_number}
 use Rattle.sleep_model.specs.Attempt.{answered, failed, freeze_since, gives_up_at, sleep_of, if_left, stage_due, froze_due, freeze_due, cpu_kind, enter_due, busy_error, or_next, stage_or_next, due_at}
-use Rattle.sleep_model.specs.Devices.{callback, phase_failed, phase_error, own_error, own_error_after, phase_failed_after, error_in, unless_own, is_device, is_direct, is_async_device, waits_below, waits_above, waits_down, waits_up, next_down, next_given, next_up, next_prepared, next_completed, down_due, walk_down, take_down, after_device, up_due, walk_up, prepare_due, complete_due, device_error}
+use Rattle.sleep_model.specs.Devices.{callback, phase_failed, phase_error, own_error, own_error_after, phase_failed_after, error_in, unless_own, is_device, is_direct, is_async_device, waits_below, waits_above, waits_down, waits_up, next_down, next_to_schedule, next_up, next_prepared, next_completed, down_due, walk_down, take_down, after_device, up_due, walk_up, prepare_due, complete_due, device_error}
 use Rattle.sleep_model.specs.Freezer.{left}
 use Rattle.sleep_model.specs.Guard.{pending}
 use Rattle.sleep_model.specs.Notifiers.{next_called, next_posted, next_cpu_off, next_cpu_on, next_stopped, next_started}
 use Rattle.sleep_model.specs.Numbers.{time_of}
 use Rattle.sleep_model.specs.Path.{attempts, maker, is_actor}
-use Rattle.sleep_model.specs.Table.{stage_of, stage_after, behind, by_error, by_froze, by_case, behind_down, behind_asked, failed_asked, failed_freeze, failed_phase, behind_freeze, behind_told, after_done}
+use Rattle.sleep_model.specs.Table.{stage_of, stage_after, behind, by_error, by_froze, by_case, behind_down, behind_platform_down, failed_platform_down, failed_freeze, failed_phase, behind_freeze, behind_platform_up, after_done}
 use Rattle.sleep_model.specs.Walk.{or_else}
 use Rattle.sleep_model.specs.Word.{position}
 use Rattle.sleep_laws.proofs.Made.{Down, InSuspend, InLate, InNoirq, Up, InResume, InEarly, InResumeNoirq, AtTurn, Breaks, Settles, Rises, Made, Comes, AtOnce, PastNotifiers, PastCpus, PastParts, PastPartsUp, PastCpusUp, PastPosts, EntryMade, ByMaker}
@@ -91,21 +91,21 @@ failed_freeze_proper : (g : Group) → Proper (failed_freeze g)
 failed_freeze_proper group.User = tt
 failed_freeze_proper group.Kernel = tt
 
-behind_asked_proper : (a : PlatDo) → Proper (behind_asked a)
-behind_asked_proper down.Begin = tt
-behind_asked_proper down.Prepare = InLate
-behind_asked_proper down.PrepareLate = tt
+behind_platform_down_proper : (a : PlatDo) → Proper (behind_platform_down a)
+behind_platform_down_proper down.Begin = tt
+behind_platform_down_proper down.Prepare = InLate
+behind_platform_down_proper down.PrepareLate = tt
 
-failed_asked_proper : (a : PlatDo) → Proper (failed_asked a)
-failed_asked_proper down.Begin = tt
-failed_asked_proper down.Prepare = tt
-failed_asked_proper down.PrepareLate = tt
+failed_platform_down_proper : (a : PlatDo) → Proper (failed_platform_down a)
+failed_platform_down_proper down.Begin = tt
+failed_platform_down_proper down.Prepare = tt
+failed_platform_down_proper down.PrepareLate = tt
 
-behind_told_proper : (a : PlatUndo) → Proper (behind_told a)
-behind_told_proper undo.Recover = InResume
-behind_told_proper undo.Wake = InResumeNoirq
-behind_told_proper undo.Finish = InResume
-behind_told_proper undo.End = tt
+behind_platform_up_proper : (a : PlatUndo) → Proper (behind_platform_up a)
+behind_platform_up_proper undo.Recover = InResume
+behind_platform_up_proper undo.Wake = InResumeNoirq
+behind_platform_up_proper undo.Finish = InResume
+behind_platform_up_proper undo.End = tt
 
 done_proper : (p : Phase) (r : Option Errno) → Proper (after_done p r)
 done_proper phase.Prepare r = by_error_proper r (stage.Downs phase.Suspend) (failed_phase phase.Prepare) InSuspend tt
@@ -122,13 +122,13 @@ done_proper phase.Complete r = tt
 after_proper : (k : Kind) (before : Option Stage) → ProperIf before → ProperIf (stage_after k before)
 after_proper (kind.NotifyPrepare x r) before h = by_error_proper r stage.Notifies stage.Posts tt tt
 after_proper (kind.Froze g end) before h = by_froze_proper end (behind_freeze g) (failed_freeze g) (behind_freeze_proper g) (failed_freeze_proper g)
-after_proper (kind.PlatformDo step r) before h = by_error_proper r (behind_asked step) (failed_asked step) (behind_asked_proper step) (failed_asked_proper step)
+after_proper (kind.PlatformDo step r) before h = by_error_proper r (behind_platform_down step) (failed_platform_down step) (behind_platform_down_proper step) (failed_platform_down_proper step)
 after_proper (kind.Done p r) before h = done_proper p r
 after_proper (kind.Irqs on) before h = by_case_proper on stage.StartsCpus stage.Checks tt tt
 after_proper (kind.SyscoreCheck r) before h = by_error_proper r stage.StopsSyscore stage.StartsIrqs tt tt
 after_proper (kind.SyscoreSuspend x r) before h = by_error_proper r stage.StopsSyscore stage.StartsSyscore tt tt
 after_proper (kind.Enter busy) before h = by_case_proper busy stage.StartsSyscore stage.Enters tt tt
-after_proper (kind.PlatformUndo step) before h = behind_told_proper step
+after_proper (kind.PlatformUndo step) before h = behind_platform_up_proper step
 after_proper (kind.Thaw thaw.Kernel) before h = tt
 after_proper (kind.Thaw thaw.All) before h = tt
 after_proper (kind.Attempt n guarded) before h = tt
@@ -178,12 +178,12 @@ freeze_kernel_made : (m : Machine) (past : List Entry) (now : EventNow) (none : 
 freeze_kernel_made m past now none None e = Made.FreezesKernel e
 freeze_kernel_made m past now none (Some since) e = froze_kernel_made m past now none since (left m group.Kernel past) e refl
 
-ask_made : (m : Machine) (past : List Entry) (now : EventNow) (step : PlatDo) (r : Option Errno) → Made m past now (stage.Asks step) (kind.PlatformDo step r)
-ask_made m past now down.Begin None = Made.AsksBegin
+ask_made : (m : Machine) (past : List Entry) (now : EventNow) (step : PlatDo) (r : Option Errno) → Made m past now (stage.PlatformDown step) (kind.PlatformDo step r)
+ask_made m past now down.Begin None = Made.PlatformBegins
 ask_made m past now down.Begin (Some r) = Made.BeginFails r
-ask_made m past now down.Prepare None = Made.AsksPrepare
+ask_made m past now down.Prepare None = Made.PlatformPrepares
 ask_made m past now down.Prepare (Some r) = Made.PrepareFails r
-ask_made m past now down.PrepareLate None = Made.AsksPrepareLate
+ask_made m past now down.PrepareLate None = Made.PlatformPreparesLate
 ask_made m past now down.PrepareLate (Some r) = Made.PrepareLateFails r
 
 prepare_made : (m : Machine) (past : List Entry) (now : EventNow) (none : Type 0) (r : Option Errno) (o : Option ℕ) → phase_failed past ≡ r → next_prepared m past ≡ o → OnDue (Made m past now stage.Prepares) none (prepare_due m past r o)
@@ -280,14 +280,14 @@ rises_made m past now _ InResume b = Made.ResumeEnds b
 rises_made m past now _ InEarly b = Made.EarlyEnds b
 rises_made m past now _ InResumeNoirq b = Made.ResumeNoirqEnds b
 
-walk_up_made : (m : Machine) (past : List Entry) (now : EventNow) (none : Type 0) (p : Phase) → Up p → callback past ≡ None → (g o : Option ℕ) → next_given m past (mirror p) ≡ g → next_up m past (mirror p) ≡ o → OnDue (Made m past now (stage.Ups p)) none (walk_up m past p g o)
+walk_up_made : (m : Machine) (past : List Entry) (now : EventNow) (none : Type 0) (p : Phase) → Up p → callback past ≡ None → (g o : Option ℕ) → next_to_schedule m past (mirror p) ≡ g → next_up m past (mirror p) ≡ o → OnDue (Made m past now (stage.Ups p)) none (walk_up m past p g o)
 walk_up_made m past now none p up c (Some d) o e f = Made.SchedulesUp p d up c e
 walk_up_made m past now none p up c None (Some d) e f = on_after _ _ (waits_above m past (mirror p) d) _ (λ w. Made.BeginsUp p d up c e f w)
-walk_up_made m past now none p up c None None e f = on_after _ _ (waits_up m past (mirror p)) _ (λ w. rises_made m past now p up (record { free = c; given = e; next = f; waits = w }))
+walk_up_made m past now none p up c None None e f = on_after _ _ (waits_up m past (mirror p)) _ (λ w. rises_made m past now p up (record { free = c; scheduled = e; next = f; waits = w }))
 
 up_made : (m : Machine) (past : List Entry) (now : EventNow) (none : Type 0) (p : Phase) → Up p → (c : Option Callback) → callback past ≡ c → OnDue (Made m past now (stage.Ups p)) none (up_due m past p c)
 up_made m past now none p up (Some c) e = Made.EndsUp p c.phase c.device (device_error m past p c.device) up e
-up_made m past now none p up None e = walk_up_made m past now none p up e (next_given m past (mirror p)) (next_up m past (mirror p)) refl refl
+up_made m past now none p up None e = walk_up_made m past now none p up e (next_to_schedule m past (mirror p)) (next_up m past (mirror p)) refl refl
 
 -- ---- the other stages
 
@@ -322,7 +322,7 @@ start_made : (m : Machine) (past : List Entry) (now : EventNow) (o : Option ℕ)
 start_made m past now None e = PastPartsUp e
 start_made m past now (Some x) e = Made.StartsPart x e
 
-cpu_on_made : (m : Machine) (past : List Entry) (now : EventNow) (o : Option ℕ) → next_cpu_on m past ≡ o → OnDue (Made m past now stage.StartsCpus) (Comes m past stage.StartsCpus (stage.Tells undo.Wake)) (if_left kind.CpuOn o)
+cpu_on_made : (m : Machine) (past : List Entry) (now : EventNow) (o : Option ℕ) → next_cpu_on m past ≡ o → OnDue (Made m past now stage.StartsCpus) (Comes m past stage.StartsCpus (stage.PlatformUp undo.Wake)) (if_left kind.CpuOn o)
 cpu_on_made m past now None e = PastCpusUp e
 cpu_on_made m past now (Some x) e = Made.StartsCpu x e
 
@@ -339,7 +339,7 @@ stage_made : (m : Machine) (past : List Entry) (now : EventNow) (here : Stage) �
 stage_made m past now stage.Notifies h = notify_made m past now (next_called m past) refl
 stage_made m past now (stage.Freezes group.User) h = freeze_user_made m past now _ (freeze_since past) refl
 stage_made m past now (stage.Freezes group.Kernel) h = freeze_kernel_made m past now _ (freeze_since past) refl
-stage_made m past now (stage.Asks step) h = ask_made m past now step (answered m past (what.Platform step))
+stage_made m past now (stage.PlatformDown step) h = ask_made m past now step (answered m past (what.Platform step))
 stage_made m past now stage.Prepares h = prepare_made m past now _ (phase_failed past) (next_prepared m past) refl refl
 stage_made m past now (stage.Downs p) h = down_made m past now _ p h (callback past) refl
 stage_made m past now stage.StopsCpus h = cpu_made m past now (next_cpu_off m past) (pending past now) refl refl
@@ -350,10 +350,10 @@ stage_made m past now stage.Enters h = enter_made m past now _ (sleep_of past) (
 stage_made m past now stage.StartsSyscore h = start_made m past now (next_started m past) refl
 stage_made m past now stage.StartsIrqs h = Made.StartsIrqs
 stage_made m past now stage.StartsCpus h = cpu_on_made m past now (next_cpu_on m past) refl
-stage_made m past now (stage.Tells undo.Wake) h = Made.TellsWake
-stage_made m past now (stage.Tells undo.Finish) h = Made.TellsFinish
-stage_made m past now (stage.Tells undo.Recover) h = Made.TellsRecover
-stage_made m past now (stage.Tells undo.End) h = Made.TellsEnd
+stage_made m past now (stage.PlatformUp undo.Wake) h = Made.PlatformWakes
+stage_made m past now (stage.PlatformUp undo.Finish) h = Made.PlatformFinishes
+stage_made m past now (stage.PlatformUp undo.Recover) h = Made.PlatformRecovers
+stage_made m past now (stage.PlatformUp undo.End) h = Made.PlatformEnds
 stage_made m past now (stage.Ups p) h = up_made m past now _ p h (callback past) refl
 stage_made m past now stage.Completes h = complete_made m past now _ (next_completed m past) refl
 stage_made m past now stage.Clears h = Made.Clears

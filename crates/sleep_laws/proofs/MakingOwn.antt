@@ -28,7 +28,7 @@ use Rattle.sleep_model.specs.declared.place.Stand.TheVariants as stand
 use Rattle.sleep_model.specs.declared.place.Work.{Work}
 use Rattle.sleep_model.specs.declared.place.AsyncWork.{AsyncWork}
 use Rattle.sleep_model.specs.declared.place.Work.TheVariants.{Resting, Reading, Saving, Attempting, Looking, Napping, Closing}
-use Rattle.sleep_model.specs.declared.place.AsyncWork.TheVariants.{Idle, Given, Inside}
+use Rattle.sleep_model.specs.declared.place.AsyncWork.TheVariants.{Idle, Scheduled, Inside}
 use Rattle.sleep_model.specs.declared.word.EventNow.{EventNow}
 use Rattle.phase_table.specs.declared.phase.Phase.{Phase}
 use Rattle.phase_table.specs.declared.phase.Phase.TheVariants as phase
@@ -51,7 +51,7 @@ use Rattle.sleep_model.specs.Steps.{seat_due, step_due, read_due, count_due, sta
 use Rattle.sleep_model.specs.Table.{stage_of, stage_after}
 use Rattle.sleep_model.specs.Tasks.{is_line, is_user, freezes_at, is_mem, is_off}
 use Rattle.sleep_model.specs.Word.{visible}
-use Rattle.sleep_laws.proofs.Made.{Made, Comes, AtOnce, PastNotifiers, PastCpus, PastParts, PastPartsUp, PastCpusUp, PastPosts, Down, InSuspend, InLate, InNoirq, Up, InResume, InEarly, InResumeNoirq, StepMade, seat_of, MayGo, TaskMade, WorkMade, GivenAt, DeviceMade, EntryMade, ByTask, ByWork, ByDevice, ByTime}
+use Rattle.sleep_laws.proofs.Made.{Made, Comes, AtOnce, PastNotifiers, PastCpus, PastParts, PastPartsUp, PastCpusUp, PastPosts, Down, InSuspend, InLate, InNoirq, Up, InResume, InEarly, InResumeNoirq, StepMade, seat_of, MayGo, TaskMade, WorkMade, ScheduledAt, DeviceMade, EntryMade, ByTask, ByWork, ByDevice, ByTime}
 use Rattle.sleep_laws.proofs.Making.{OnlyMade, maker_made, stage_proper}
 
 only_if : (P : Kind → Type 0) (b : Bool) (x y : Due) → (b ≡ true → OnlyMade P x) → (b ≡ false → OnlyMade P y) → OnlyMade P (cond b x y)
@@ -203,21 +203,21 @@ HasWork _ = Unit {0}
 -- what the work of a device tells of where it stands
 abbrev TellsStand : (Phase → Stand) → AsyncWork → Type 0
 TellsStand on Idle = Unit {0}
-TellsStand on (Given p) = (Down p × (on p ≡ stand.Scheduled)) ⊎ (Up p × (on (mirror p) ≡ stand.Rescheduled))
+TellsStand on (Scheduled p) = (Down p × (on p ≡ stand.Scheduled)) ⊎ (Up p × (on (mirror p) ≡ stand.Rescheduled))
 TellsStand on (Inside p) = (Down p × (on p ≡ stand.Suspending)) ⊎ (Up p × (on (mirror p) ≡ stand.Resuming))
 
-work_in_tells : (on : Phase → Stand) (p : Phase) → Down p → Up (mirror p) → mirror (mirror p) ≡ p → (s : Stand) (other : AsyncWork) → on p ≡ s → TellsStand on other → TellsStand on (work_in p s other)
-work_in_tells on p d u r stand.Scheduled other e h = inl (d, e)
-work_in_tells on p d u r stand.Suspending other e h = inl (d, e)
-work_in_tells on p d u r stand.Rescheduled other e h = inr (u, ap on r ∙ e)
-work_in_tells on p d u r stand.Resuming other e h = inr (u, ap on r ∙ e)
-work_in_tells on p d u r _ other e h = h
+work_in_platform_up : (on : Phase → Stand) (p : Phase) → Down p → Up (mirror p) → mirror (mirror p) ≡ p → (s : Stand) (other : AsyncWork) → on p ≡ s → TellsStand on other → TellsStand on (work_in p s other)
+work_in_platform_up on p d u r stand.Scheduled other e h = inl (d, e)
+work_in_platform_up on p d u r stand.Suspending other e h = inl (d, e)
+work_in_platform_up on p d u r stand.Rescheduled other e h = inr (u, ap on r ∙ e)
+work_in_platform_up on p d u r stand.Resuming other e h = inr (u, ap on r ∙ e)
+work_in_platform_up on p d u r _ other e h = h
 
 work_by_tells : (on : Phase → Stand) → TellsStand on (work_by (on phase.Suspend) (on phase.Late) (on phase.Noirq))
 work_by_tells on =
-    work_in_tells on phase.Suspend InSuspend InResume refl (on phase.Suspend) _ refl
-    (work_in_tells on phase.Late InLate InEarly refl (on phase.Late) _ refl
-    (work_in_tells on phase.Noirq InNoirq InResumeNoirq refl (on phase.Noirq) Idle refl tt))
+    work_in_platform_up on phase.Suspend InSuspend InResume refl (on phase.Suspend) _ refl
+    (work_in_platform_up on phase.Late InLate InEarly refl (on phase.Late) _ refl
+    (work_in_platform_up on phase.Noirq InNoirq InResumeNoirq refl (on phase.Noirq) Idle refl tt))
 
 down_of : (p : Phase) → Down p → is_down p ≡ true
 down_of _ InSuspend = refl
@@ -229,20 +229,20 @@ up_of _ InResume = refl
 up_of _ InEarly = refl
 up_of _ InResumeNoirq = refl
 
-given_made : (m : Machine) (past : List Entry) (now : EventNow) (d : ℕ) (p : Phase) → Down p → GivenAt m past p d → (r : Option Errno) → phase_failed past ≡ r → (t b a : Bool) → tests_wakeup p ≡ t → pending past now ≡ b → is_direct m past p d ≡ a → DeviceMade m past now d (unless_failed r p d (cond (t && b) (kind.Skip p d skip.Pending) (cond a (kind.Skip p d skip.Direct) (kind.Begin p d))))
-given_made m past now d p down at (Some r) f t b a e g h = DeviceMade.OwnFails p r down at f
-given_made m past now d p down at None f true true a e g h = DeviceMade.OwnFinds p down at f e g
-given_made m past now d p down at None f true false true e g h = DeviceMade.OwnLeaves p down at f (rw (e, g) refl) h
-given_made m past now d p down at None f true false false e g h = DeviceMade.OwnBegins p down at f (rw (e, g) refl) h
-given_made m past now d p down at None f false b true e g h = DeviceMade.OwnLeaves p down at f (rw e refl) h
-given_made m past now d p down at None f false b false e g h = DeviceMade.OwnBegins p down at f (rw e refl) h
+scheduled_made : (m : Machine) (past : List Entry) (now : EventNow) (d : ℕ) (p : Phase) → Down p → ScheduledAt m past p d → (r : Option Errno) → phase_failed past ≡ r → (t b a : Bool) → tests_wakeup p ≡ t → pending past now ≡ b → is_direct m past p d ≡ a → DeviceMade m past now d (unless_failed r p d (cond (t && b) (kind.Skip p d skip.Pending) (cond a (kind.Skip p d skip.Direct) (kind.Begin p d))))
+scheduled_made m past now d p down at (Some r) f t b a e g h = DeviceMade.OwnFails p r down at f
+scheduled_made m past now d p down at None f true true a e g h = DeviceMade.OwnFinds p down at f e g
+scheduled_made m past now d p down at None f true false true e g h = DeviceMade.OwnLeaves p down at f (rw (e, g) refl) h
+scheduled_made m past now d p down at None f true false false e g h = DeviceMade.OwnBegins p down at f (rw (e, g) refl) h
+scheduled_made m past now d p down at None f false b true e g h = DeviceMade.OwnLeaves p down at f (rw e refl) h
+scheduled_made m past now d p down at None f false b false e g h = DeviceMade.OwnBegins p down at f (rw e refl) h
 
-down_given_made : (m : Machine) (past : List Entry) (now : EventNow) (d : ℕ) (p : Phase) (b : Bool) → is_down p ≡ b → is_async_device m d ≡ true → async_work m past d ≡ Given p → TellsStand (λ q. stand_in m past q d) (Given p) → OnlyMade (DeviceMade m past now d) (cond b (after_device (waits_below m past p d) (Makes (unless_failed (phase_failed past) p d (taken m past now p d)))) (after_device (waits_above m past (mirror p) d) (Makes (kind.Begin p d))))
-down_given_made m past now d p true e a w (inl h) =
-    only_after (DeviceMade m past now d) (waits_below m past p d) _ (λ o. given_made m past now d p h.0 (record { beside = a; work = w; stands = h.1; waits = o }) (phase_failed past) refl (tests_wakeup p) (pending past now) (is_direct m past p d) refl refl refl)
-down_given_made m past now d p false e a w (inr h) = only_after (DeviceMade m past now d) (waits_above m past (mirror p) d) _ (λ o. DeviceMade.OwnRises p h.0 a w h.1 o)
-down_given_made m past now d p true e a w (inr h) = absurd (true≢false (sym e ∙ up_of p h.0))
-down_given_made m past now d p false e a w (inl h) = absurd (true≢false (sym (down_of p h.0) ∙ e))
+down_scheduled_made : (m : Machine) (past : List Entry) (now : EventNow) (d : ℕ) (p : Phase) (b : Bool) → is_down p ≡ b → is_async_device m d ≡ true → async_work m past d ≡ Scheduled p → TellsStand (λ q. stand_in m past q d) (Scheduled p) → OnlyMade (DeviceMade m past now d) (cond b (after_device (waits_below m past p d) (Makes (unless_failed (phase_failed past) p d (taken m past now p d)))) (after_device (waits_above m past (mirror p) d) (Makes (kind.Begin p d))))
+down_scheduled_made m past now d p true e a w (inl h) =
+    only_after (DeviceMade m past now d) (waits_below m past p d) _ (λ o. scheduled_made m past now d p h.0 (record { beside = a; work = w; stands = h.1; waits = o }) (phase_failed past) refl (tests_wakeup p) (pending past now) (is_direct m past p d) refl refl refl)
+down_scheduled_made m past now d p false e a w (inr h) = only_after (DeviceMade m past now d) (waits_above m past (mirror p) d) _ (λ o. DeviceMade.OwnRises p h.0 a w h.1 o)
+down_scheduled_made m past now d p true e a w (inr h) = absurd (true≢false (sym e ∙ up_of p h.0))
+down_scheduled_made m past now d p false e a w (inl h) = absurd (true≢false (sym (down_of p h.0) ∙ e))
 
 inside_made : (m : Machine) (past : List Entry) (now : EventNow) (d : ℕ) (p : Phase) (r : Option Errno) → is_async_device m d ≡ true → async_work m past d ≡ Inside p → TellsStand (λ q. stand_in m past q d) (Inside p) → DeviceMade m past now d (kind.End p d r)
 inside_made m past now d p r a w (inl h) = DeviceMade.OwnEnds p r h.0 a w h.1
@@ -253,16 +253,16 @@ async_tells : (m : Machine) (past : List Entry) (d : ℕ) (b : Bool) → is_asyn
 async_tells m past d false e w f = inl (sym f ∙ rw e refl)
 async_tells m past d true e w f = inr (refl, subst (TellsStand (λ q. stand_in m past q d)) (sym (rw e refl) ∙ f) (work_by_tells (λ q. stand_in m past q d)))
 
-given≢idle : (p : Phase) → Given p ≡ Idle → ⊥
-given≢idle p e = subst HasWork e tt
+scheduled≢idle : (p : Phase) → Scheduled p ≡ Idle → ⊥
+scheduled≢idle p e = subst HasWork e tt
 
 inside≢idle : (p : Phase) → Inside p ≡ Idle → ⊥
 inside≢idle p e = subst HasWork e tt
 
 device_made : (m : Machine) (past : List Entry) (now : EventNow) (d : ℕ) (w : AsyncWork) → async_work m past d ≡ w → (w ≡ Idle) ⊎ ((is_async_device m d ≡ true) × TellsStand (λ q. stand_in m past q d) w) → OnlyMade (DeviceMade m past now d) (device_due m past now d w)
 device_made m past now d Idle f h = tt
-device_made m past now d (Given p) f (inl e) = absurd (given≢idle p e)
-device_made m past now d (Given p) f (inr h) = down_given_made m past now d p (is_down p) refl h.0 f h.1
+device_made m past now d (Scheduled p) f (inl e) = absurd (scheduled≢idle p e)
+device_made m past now d (Scheduled p) f (inr h) = down_scheduled_made m past now d p (is_down p) refl h.0 f h.1
 device_made m past now d (Inside p) f (inl e) = absurd (inside≢idle p e)
 device_made m past now d (Inside p) f (inr h) = inside_made m past now d p (device_error m past p d) h.0 f h.1
 
@@ -335,8 +335,8 @@ stage_comes m past now _ _ k (PastPartsUp e) h = past_up m past now k h
     past_up m past now _ Made.StartsIrqs = refl
 stage_comes m past now _ _ k (PastCpusUp e) h = past_cpus_up m past now k h
   where
-    past_cpus_up : (m : Machine) (past : List Entry) (now : EventNow) (k : Kind) → Made m past now (stage.Tells undo.Wake) k → stage_after k (Some stage.StartsCpus) ≡ stage_after k (Some (stage.Tells undo.Wake))
-    past_cpus_up m past now _ Made.TellsWake = refl
+    past_cpus_up : (m : Machine) (past : List Entry) (now : EventNow) (k : Kind) → Made m past now (stage.PlatformUp undo.Wake) k → stage_after k (Some stage.StartsCpus) ≡ stage_after k (Some (stage.PlatformUp undo.Wake))
+    past_cpus_up m past now _ Made.PlatformWakes = refl
 stage_comes m past now _ _ k (PastPosts e) h = past_posts m past now k h
   where
     past_posts : (m : Machine) (past : List Entry) (now : EventNow) (k : Kind) → Made m past now stage.Ends k → stage_after k (Some stage.Posts) ≡ stage_after k (Some stage.Ends)

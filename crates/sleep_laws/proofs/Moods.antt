@@ -9,7 +9,7 @@ use Rattle.sleep_model.specs.declared.place.Stand.{Stand}
 use Rattle.sleep_model.specs.declared.place.Stand.TheVariants as stand
 use Rattle.phase_table.specs.declared.phase.Phase.{Phase}
 use Rattle.phase_table.specs.declared.phase.Phase.TheVariants as phase
-use Rattle.sleep_model.specs.Stands.{is_ready, is_going_down, is_prepared, is_low}
+use Rattle.sleep_model.specs.Stands.{is_ready, is_going_down, is_prepared, is_not_up}
 
 -- what the devices have come to in a pair of phases: none is prepared, none is taken, they go down, they are down, a failure has stopped them, they come up, they are up
 pub data Mood : Type 0 where
@@ -54,9 +54,9 @@ in_suspend here other q = other
 abbrev pub mood : Stage → Phase → Mood
 mood stage.Notifies q = Empty
 mood (stage.Freezes g) q = Empty
-mood (stage.Asks down.Begin) q = Empty
-mood (stage.Asks down.Prepare) q = in_suspend Settled Fresh q
-mood (stage.Asks down.PrepareLate) q = Settled
+mood (stage.PlatformDown down.Begin) q = Empty
+mood (stage.PlatformDown down.Prepare) q = in_suspend Settled Fresh q
+mood (stage.PlatformDown down.PrepareLate) q = Settled
 mood stage.Prepares q = Fresh
 mood (stage.Downs p) q = in_down p q
 mood stage.StopsCpus q = Settled
@@ -67,10 +67,10 @@ mood stage.Enters q = Settled
 mood stage.StartsSyscore q = Settled
 mood stage.StartsIrqs q = Settled
 mood stage.StartsCpus q = Settled
-mood (stage.Tells undo.Wake) q = Settled
-mood (stage.Tells undo.Finish) q = in_suspend Settled Risen q
-mood (stage.Tells undo.Recover) q = in_suspend Halted Risen q
-mood (stage.Tells undo.End) q = Empty
+mood (stage.PlatformUp undo.Wake) q = Settled
+mood (stage.PlatformUp undo.Finish) q = in_suspend Settled Risen q
+mood (stage.PlatformUp undo.Recover) q = in_suspend Halted Risen q
+mood (stage.PlatformUp undo.End) q = Empty
 mood (stage.Ups p) q = in_up p q
 mood stage.Completes q = Risen
 mood _ q = Empty
@@ -191,7 +191,7 @@ going_settled stand.Scheduled h r b = absurd (true≢false b)
 going_settled stand.Suspending h r b = absurd (true≢false b)
 going_settled _ h r b = absurd (true≢false (sym h))
 
-pub coming_risen : (s : Stand) → when_coming s ≡ true → is_low s ≡ false → when_risen s ≡ true
+pub coming_risen : (s : Stand) → when_coming s ≡ true → is_not_up s ≡ false → when_risen s ≡ true
 coming_risen stand.Unprepared h l = refl
 coming_risen stand.Prepared h l = refl
 coming_risen stand.Failed h l = refl

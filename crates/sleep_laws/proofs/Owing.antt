@@ -38,10 +38,10 @@ owed_made m past now _ _ Made.StartsIrqs h d = λ e. h.0
 owed_made m past now _ _ (Made.StartsPart x e) h d = first_passes (is_so (stopped (length m.syscore) past)) (syscore_parts m) x e
 owed_made m past now _ _ (Made.StartsCpu k e) h d = first_passes (is_so (cpus_off m.cpus past)) (other_cpus m) k e
 owed_made m past now _ _ (Made.Posts x e) h d = first_passes (is_so (told m past)) (call_order m) x e
-owed_made m past now _ _ Made.TellsWake h d = h.3
-owed_made m past now _ _ Made.TellsFinish h d = h.2
-owed_made m past now _ _ Made.TellsRecover h d = refl
-owed_made m past now _ _ Made.TellsEnd h d = h.1
+owed_made m past now _ _ Made.PlatformWakes h d = h.3
+owed_made m past now _ _ Made.PlatformFinishes h d = h.2
+owed_made m past now _ _ Made.PlatformRecovers h d = refl
+owed_made m past now _ _ Made.PlatformEnds h d = h.1
 owed_made m past now _ _ _ h d = tt
 
 owed_own : (m : Machine) (past : List Entry) (now : EventNow) (x : ℕ) (k : Kind) → DeviceMade m past now x k → DeviceOwed m past k → Owed m past k

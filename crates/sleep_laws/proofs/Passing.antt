@@ -21,7 +21,7 @@ use Rattle.phase_table.specs.declared.phase.Phase.TheVariants as phase
 use Rattle.sleep_model.specs.Devices.{callback, is_device, is_async_device, stand_in, waits_down, waits_up, next_down, next_prepared, next_completed}
 use Rattle.sleep_model.specs.Legal.{JournalPart}
 use Rattle.sleep_model.specs.Order.{order, is_among}
-use Rattle.sleep_model.specs.Stands.{stand_at, is_unprepared, is_prepared, is_ready, is_going_down, is_low}
+use Rattle.sleep_model.specs.Stands.{stand_at, is_unprepared, is_prepared, is_ready, is_going_down, is_not_up}
 use Rattle.sleep_model.specs.Table.{stage_of, stage_after}
 use Rattle.sleep_laws.proofs.Boards.{Three, at, at_is, three, all_three, first_none, last_none}
 use Rattle.sleep_laws.proofs.Holding.{Kept, Aside, at_stage, at_made}
@@ -41,7 +41,7 @@ module _ (m : Machine) (past : List Entry) where
   full_fine : (moods : Phase → Mood) → Fines m past moods true → (x : ℕ) → is_among (order m past) x ≡ true → is_prepared (stand_in m past phase.Suspend x) ≡ true
   full_fine moods h x = (h x).prepared
 
-  -- no device is given out and not through, where the walk down waits for none
+  -- no device is scheduled and not through, where the walk down waits for none
   none_goes : (moods : Phase → Mood) (full : Bool) → Fines m past moods full → (p : Phase) → Down p → waits_down m past p ≡ None → (x : ℕ) → is_going_down (at (three m past x) p) ≡ false
   none_goes moods full h p i w x =
       none_so (order m past) (is_async_device m x) moods full (errs past) x (three m past x) (h x) is_going_down refl p i
@@ -52,10 +52,10 @@ module _ (m : Machine) (past : List Entry) where
       none_so (order m past) (is_async_device m x) moods full (errs past) x (three m past x) (h x) is_ready refl p i
       (λ o. ap is_ready (at_is m past p x i) ∙ last_none (λ d. is_ready (stand_in m past p d)) (order m past) n x o)
 
-  none_low : (moods : Phase → Mood) (full : Bool) → Fines m past moods full → (p : Phase) → Down p → waits_up m past p ≡ None → (x : ℕ) → is_low (at (three m past x) p) ≡ false
-  none_low moods full h p i w x =
-      none_so (order m past) (is_async_device m x) moods full (errs past) x (three m past x) (h x) is_low refl p i
-      (λ o. ap is_low (at_is m past p x i) ∙ first_none (λ d. is_low (stand_in m past p d)) (order m past) w x o)
+  none_not_up : (moods : Phase → Mood) (full : Bool) → Fines m past moods full → (p : Phase) → Down p → waits_up m past p ≡ None → (x : ℕ) → is_not_up (at (three m past x) p) ≡ false
+  none_not_up moods full h p i w x =
+      none_so (order m past) (is_async_device m x) moods full (errs past) x (three m past x) (h x) is_not_up refl p i
+      (λ o. ap is_not_up (at_is m past p x i) ∙ first_none (λ d. is_not_up (stand_in m past p d)) (order m past) w x o)
 
   -- a phase on the way down stops by an error, or settles
   stops : (moods : Phase → Mood) (full : Bool) → Fines m past moods full → (p : Phase) → Down p → moods p ≡ Going → waits_down m past p ≡ None → (x : ℕ) → allows Halted false (at (three m past x) p) ≡ true
@@ -70,7 +70,7 @@ module _ (m : Machine) (past : List Entry) where
 
   rises : (moods : Phase → Mood) (full : Bool) → Fines m past moods full → (p : Phase) → Down p → moods p ≡ Coming → Rises m past p → (x : ℕ) → allows Risen false (at (three m past x) p) ≡ true
   rises moods full h p i c r x =
-      coming_risen (at (three m past x) p) (subst (λ (a : Mood). allows a (errs past) (at (three m past x) p) ≡ true) c ((h x).allowed p i)) (none_low moods full h p i r.waits x)
+      coming_risen (at (three m past x) p) (subst (λ (a : Mood). allows a (errs past) (at (three m past x) p) ≡ true) c ((h x).allowed p i)) (none_not_up moods full h p i r.waits x)
 
 prepared_of : (s : Stand) → is_unprepared s ≡ false → is_prepared s ≡ true
 prepared_of stand.Unprepared e = absurd (true≢false e)
@@ -82,18 +82,18 @@ module _ (m : Machine) (past : List Entry) (time : ℕ) (now : EventNow) (who : 
   abbrev by : Kind → Entry
   by k = record { time = time; now = now; actor = who; kind = k }
 
-  asks_begin : Standing m past (Some (stage.Asks down.Begin)) → Standing m (by (kind.PlatformDo down.Begin None) ∷ past) (Some stage.Prepares)
-  asks_begin h = (else_fines m past (λ q. Empty) (λ q. Fresh) false false (errs past) h.0 (λ x q i a. empty_fresh (at (three m past x) q) a) (λ x. tt), h.1)
+  platform_begins : Standing m past (Some (stage.PlatformDown down.Begin)) → Standing m (by (kind.PlatformDo down.Begin None) ∷ past) (Some stage.Prepares)
+  platform_begins h = (else_fines m past (λ q. Empty) (λ q. Fresh) false false (errs past) h.0 (λ x q i a. empty_fresh (at (three m past x) q) a) (λ x. tt), h.1)
 
-  asks_prepare : Standing m past (Some (stage.Asks down.Prepare)) → Standing m (by (kind.PlatformDo down.Prepare None) ∷ past) (Some (stage.Downs phase.Late))
-  asks_prepare h = (else_fines m past (in_suspend Settled Fresh) (in_down phase.Late) true true (errs past) h.0 allowed (full_fine m past (in_suspend Settled Fresh) h.0), free_call m (callback past) stand.Suspending phase.Late (three m past) h.1)
+  platform_prepares : Standing m past (Some (stage.PlatformDown down.Prepare)) → Standing m (by (kind.PlatformDo down.Prepare None) ∷ past) (Some (stage.Downs phase.Late))
+  platform_prepares h = (else_fines m past (in_suspend Settled Fresh) (in_down phase.Late) true true (errs past) h.0 allowed (full_fine m past (in_suspend Settled Fresh) h.0), free_call m (callback past) stand.Suspending phase.Late (three m past) h.1)
     where
       allowed : (x : ℕ) (q : Phase) → Down q → allows (in_suspend Settled Fresh q) (errs past) (at (three m past x) q) ≡ true → allows (in_down phase.Late q) (errs past) (at (three m past x) q) ≡ true
       allowed x _ InSuspend a = a
       allowed x _ InLate a = fresh_going (errs past) (at (three m past x) phase.Late) a
       allowed x _ InNoirq a = a
 
-  prepare_fails : (r : Errno) → Standing m past (Some (stage.Asks down.Prepare)) → Standing m (by (kind.PlatformDo down.Prepare (Some r)) ∷ past) (Some (stage.Tells undo.Finish))
+  prepare_fails : (r : Errno) → Standing m past (Some (stage.PlatformDown down.Prepare)) → Standing m (by (kind.PlatformDo down.Prepare (Some r)) ∷ past) (Some (stage.PlatformUp undo.Finish))
   prepare_fails r h = (else_fines m past (in_suspend Settled Fresh) (in_suspend Settled Risen) true false (errs past) h.0 allowed (λ x. tt), h.1)
     where
       allowed : (x : ℕ) (q : Phase) → Down q → allows (in_suspend Settled Fresh q) (errs past) (at (three m past x) q) ≡ true → allows (in_suspend Settled Risen q) (errs past) (at (three m past x) q) ≡ true
@@ -105,7 +105,7 @@ module _ (m : Machine) (past : List Entry) (time : ℕ) (now : EventNow) (who : 
   turns_back : (full : Bool) → Fines m past (λ q. Settled) full → Fines m past (λ q. Settled) false
   turns_back full h = else_fines m past (λ q. Settled) (λ q. Settled) full false (errs past) h (λ x q i a. a) (λ x. tt)
 
-  prepares_not : (r : Errno) → Standing m past (Some stage.Prepares) → Standing m (by (kind.Done phase.Prepare (Some r)) ∷ past) (Some (stage.Tells undo.Recover))
+  prepares_not : (r : Errno) → Standing m past (Some stage.Prepares) → Standing m (by (kind.Done phase.Prepare (Some r)) ∷ past) (Some (stage.PlatformUp undo.Recover))
   prepares_not r h = (else_fines m past (λ q. Fresh) (in_suspend Halted Risen) false false false h.0 allowed (λ x. tt), h.1)
     where
       allowed : (x : ℕ) (q : Phase) → Down q → allows Fresh (errs past) (at (three m past x) q) ≡ true → allows (in_suspend Halted Risen q) false (at (three m past x) q) ≡ true
@@ -124,7 +124,7 @@ module _ (m : Machine) (past : List Entry) (time : ℕ) (now : EventNow) (who : 
       allowed x _ InLate a = a
       allowed x _ InNoirq a = a
 
-  suspend_fails : (r : Errno) → Breaks m past phase.Suspend r → Standing m past (Some (stage.Downs phase.Suspend)) → Standing m (by (kind.Done phase.Suspend (Some r)) ∷ past) (Some (stage.Tells undo.Recover))
+  suspend_fails : (r : Errno) → Breaks m past phase.Suspend r → Standing m past (Some (stage.Downs phase.Suspend)) → Standing m (by (kind.Done phase.Suspend (Some r)) ∷ past) (Some (stage.PlatformUp undo.Recover))
   suspend_fails r b h = (else_fines m past (in_down phase.Suspend) (in_suspend Halted Risen) true false false h.0 allowed (λ x. tt), b.free)
     where
       allowed : (x : ℕ) (q : Phase) → Down q → allows (in_down phase.Suspend q) (errs past) (at (three m past x) q) ≡ true → allows (in_suspend Halted Risen q) false (at (three m past x) q) ≡ true
@@ -148,7 +148,7 @@ module _ (m : Machine) (past : List Entry) (time : ℕ) (now : EventNow) (who : 
       allowed x _ InLate a = a
       allowed x _ InNoirq a = halted_coming (at (three m past x) phase.Noirq) (stops m past (in_down phase.Noirq) true h.0 phase.Noirq InNoirq refl b.waits x)
 
-  suspend_ends : Settles m past phase.Suspend → Standing m past (Some (stage.Downs phase.Suspend)) → Standing m (by (kind.Done phase.Suspend None) ∷ past) (Some (stage.Asks down.Prepare))
+  suspend_ends : Settles m past phase.Suspend → Standing m past (Some (stage.Downs phase.Suspend)) → Standing m (by (kind.Done phase.Suspend None) ∷ past) (Some (stage.PlatformDown down.Prepare))
   suspend_ends s h = (else_fines m past (in_down phase.Suspend) (in_suspend Settled Fresh) true true false h.0 allowed (full_fine m past (in_down phase.Suspend) h.0), s.free)
     where
       allowed : (x : ℕ) (q : Phase) → Down q → allows (in_down phase.Suspend q) (errs past) (at (three m past x) q) ≡ true → allows (in_suspend Settled Fresh q) false (at (three m past x) q) ≡ true
@@ -164,7 +164,7 @@ module _ (m : Machine) (past : List Entry) (time : ℕ) (now : EventNow) (who : 
       allowed x _ InLate a = settles m past (in_down phase.Late) true h.0 phase.Late InLate refl s x
       allowed x _ InNoirq a = fresh_going false (at (three m past x) phase.Noirq) a
 
-  noirq_ends : Settles m past phase.Noirq → Standing m past (Some (stage.Downs phase.Noirq)) → Standing m (by (kind.Done phase.Noirq None) ∷ past) (Some (stage.Asks down.PrepareLate))
+  noirq_ends : Settles m past phase.Noirq → Standing m past (Some (stage.Downs phase.Noirq)) → Standing m (by (kind.Done phase.Noirq None) ∷ past) (Some (stage.PlatformDown down.PrepareLate))
   noirq_ends s h = (else_fines m past (in_down phase.Noirq) (λ q. Settled) true true false h.0 allowed (full_fine m past (in_down phase.Noirq) h.0), s.free)
     where
       allowed : (x : ℕ) (q : Phase) → Down q → allows (in_down phase.Noirq q) (errs past) (at (three m past x) q) ≡ true → allows Settled false (at (three m past x) q) ≡ true
@@ -172,24 +172,24 @@ module _ (m : Machine) (past : List Entry) (time : ℕ) (now : EventNow) (who : 
       allowed x _ InLate a = a
       allowed x _ InNoirq a = settles m past (in_down phase.Noirq) true h.0 phase.Noirq InNoirq refl s x
 
-  tells_wake : Standing m past (Some (stage.Tells undo.Wake)) → Standing m (by (kind.PlatformUndo undo.Wake) ∷ past) (Some (stage.Ups phase.ResumeNoirq))
-  tells_wake h = (else_fines m past (λ q. Settled) (in_up phase.ResumeNoirq) false false (errs past) h.0 allowed (λ x. tt), free_call m (callback past) stand.Resuming phase.Noirq (three m past) h.1)
+  platform_wakes : Standing m past (Some (stage.PlatformUp undo.Wake)) → Standing m (by (kind.PlatformUndo undo.Wake) ∷ past) (Some (stage.Ups phase.ResumeNoirq))
+  platform_wakes h = (else_fines m past (λ q. Settled) (in_up phase.ResumeNoirq) false false (errs past) h.0 allowed (λ x. tt), free_call m (callback past) stand.Resuming phase.Noirq (three m past) h.1)
     where
       allowed : (x : ℕ) (q : Phase) → Down q → allows Settled (errs past) (at (three m past x) q) ≡ true → allows (in_up phase.ResumeNoirq q) (errs past) (at (three m past x) q) ≡ true
       allowed x _ InSuspend a = a
       allowed x _ InLate a = a
       allowed x _ InNoirq a = settled_coming (at (three m past x) phase.Noirq) a
 
-  tells_finish : Standing m past (Some (stage.Tells undo.Finish)) → Standing m (by (kind.PlatformUndo undo.Finish) ∷ past) (Some (stage.Ups phase.Resume))
-  tells_finish h = (else_fines m past (in_suspend Settled Risen) (in_up phase.Resume) false false (errs past) h.0 allowed (λ x. tt), free_call m (callback past) stand.Resuming phase.Suspend (three m past) h.1)
+  platform_finishes : Standing m past (Some (stage.PlatformUp undo.Finish)) → Standing m (by (kind.PlatformUndo undo.Finish) ∷ past) (Some (stage.Ups phase.Resume))
+  platform_finishes h = (else_fines m past (in_suspend Settled Risen) (in_up phase.Resume) false false (errs past) h.0 allowed (λ x. tt), free_call m (callback past) stand.Resuming phase.Suspend (three m past) h.1)
     where
       allowed : (x : ℕ) (q : Phase) → Down q → allows (in_suspend Settled Risen q) (errs past) (at (three m past x) q) ≡ true → allows (in_up phase.Resume q) (errs past) (at (three m past x) q) ≡ true
       allowed x _ InSuspend a = settled_coming (at (three m past x) phase.Suspend) a
       allowed x _ InLate a = a
       allowed x _ InNoirq a = a
 
-  tells_recover : Standing m past (Some (stage.Tells undo.Recover)) → Standing m (by (kind.PlatformUndo undo.Recover) ∷ past) (Some (stage.Ups phase.Resume))
-  tells_recover h = (else_fines m past (in_suspend Halted Risen) (in_up phase.Resume) false false (errs past) h.0 allowed (λ x. tt), free_call m (callback past) stand.Resuming phase.Suspend (three m past) h.1)
+  platform_recovers : Standing m past (Some (stage.PlatformUp undo.Recover)) → Standing m (by (kind.PlatformUndo undo.Recover) ∷ past) (Some (stage.Ups phase.Resume))
+  platform_recovers h = (else_fines m past (in_suspend Halted Risen) (in_up phase.Resume) false false (errs past) h.0 allowed (λ x. tt), free_call m (callback past) stand.Resuming phase.Suspend (three m past) h.1)
     where
       allowed : (x : ℕ) (q : Phase) → Down q → allows (in_suspend Halted Risen q) (errs past) (at (three m past x) q) ≡ true → allows (in_up phase.Resume q) (errs past) (at (three m past x) q) ≡ true
       allowed x _ InSuspend a = halted_coming (at (three m past x) phase.Suspend) a
@@ -204,7 +204,7 @@ module _ (m : Machine) (past : List Entry) (time : ℕ) (now : EventNow) (who : 
       allowed x _ InLate a = settled_coming (at (three m past x) phase.Late) a
       allowed x _ InNoirq a = rises m past (in_up phase.ResumeNoirq) false h.0 phase.Noirq InNoirq refl r x
 
-  early_ends : Rises m past phase.Late → Standing m past (Some (stage.Ups phase.Early)) → Standing m (by (kind.Done phase.Early None) ∷ past) (Some (stage.Tells undo.Finish))
+  early_ends : Rises m past phase.Late → Standing m past (Some (stage.Ups phase.Early)) → Standing m (by (kind.Done phase.Early None) ∷ past) (Some (stage.PlatformUp undo.Finish))
   early_ends r h = (else_fines m past (in_up phase.Early) (in_suspend Settled Risen) false false false h.0 allowed (λ x. tt), r.free)
     where
       allowed : (x : ℕ) (q : Phase) → Down q → allows (in_up phase.Early q) (errs past) (at (three m past x) q) ≡ true → allows (in_suspend Settled Risen q) false (at (three m past x) q) ≡ true
@@ -220,7 +220,7 @@ module _ (m : Machine) (past : List Entry) (time : ℕ) (now : EventNow) (who : 
       allowed x _ InLate a = a
       allowed x _ InNoirq a = a
 
-  completed : next_completed m past ≡ None → Standing m past (Some stage.Completes) → Standing m (by (kind.Done phase.Complete None) ∷ past) (Some (stage.Tells undo.End))
+  completed : next_completed m past ≡ None → Standing m past (Some stage.Completes) → Standing m (by (kind.Done phase.Complete None) ∷ past) (Some (stage.PlatformUp undo.End))
   completed n h = (else_fines m past (λ q. Risen) (λ q. Empty) false false false h.0 allowed (λ x. tt), h.1)
     where
       unprepared : (s : Stand) → is_prepared s ≡ false → when_empty s ≡ true
@@ -234,8 +234,8 @@ module _ (m : Machine) (past : List Entry) (time : ℕ) (now : EventNow) (who : 
 
   -- what the maker makes leaves the devices where they may stand at the stage after
   pub maker_stands : (there : Stage) (k : Kind) → Made m past now there k → Standing m past (Some there) → Standing m (by k ∷ past) (stage_after k (Some there))
-  maker_stands _ _ Made.AsksBegin h = asks_begin h
-  maker_stands _ _ Made.AsksPrepare h = asks_prepare h
+  maker_stands _ _ Made.PlatformBegins h = platform_begins h
+  maker_stands _ _ Made.PlatformPrepares h = platform_prepares h
   maker_stands _ _ (Made.PrepareFails r) h = prepare_fails r h
   maker_stands _ _ (Made.PrepareLateFails r) h = (turns_back true h.0, h.1)
   maker_stands _ _ (Made.Prepares d r f n) h = prepares m past time now who task d r n h
@@ -257,9 +257,9 @@ module _ (m : Machine) (past : List Entry) (time : ℕ) (now : EventNow) (who : 
   maker_stands _ _ (Made.PartFails x r n) h = (turns_back true h.0, h.1)
   maker_stands _ _ (Made.EntersNot s w) h = (turns_back true h.0, h.1)
   maker_stands _ _ (Made.Wakes s e f) h = (turns_back true h.0, h.1)
-  maker_stands _ _ Made.TellsWake h = tells_wake h
-  maker_stands _ _ Made.TellsFinish h = tells_finish h
-  maker_stands _ _ Made.TellsRecover h = tells_recover h
+  maker_stands _ _ Made.PlatformWakes h = platform_wakes h
+  maker_stands _ _ Made.PlatformFinishes h = platform_finishes h
+  maker_stands _ _ Made.PlatformRecovers h = platform_recovers h
   maker_stands _ _ (Made.EndsUp p q d r u c) h = ends_up m past time now who task p q d r u c h
   maker_stands _ _ (Made.SchedulesUp p d u c n) h = schedules_up m past time now who task p d u c n h
   maker_stands _ _ (Made.BeginsUp p d u c g n w) h = begins_up m past time now who task p d u n h

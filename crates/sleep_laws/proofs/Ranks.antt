@@ -7,12 +7,12 @@ use Rattle.sleep_model.specs.declared.entry.Entry.{Entry}
 use Rattle.sleep_model.specs.declared.machine.Machine.{Machine}
 use Rattle.sleep_model.specs.declared.machine.Link.{Link}
 use Rattle.sleep_model.specs.Links.{IsOrder, AreLinks}
-use Rattle.sleep_model.specs.Order.{is_among, is_parent, hanging, below, above, order, links_at, active_of, parents_of, parent_of, suppliers_of, consumers_of, children_from, EachAfterParent}
+use Rattle.sleep_model.specs.Order.{is_among, is_parent, dependents, below, above, order, links_at, active_of, parents_of, parent_of, suppliers_of, consumers_of, children_from, EachAfterParent}
 use Rattle.sleep_model.specs.Walk.{first_where, last_where, or_else}
 use Rattle.sleep_model.proofs.Acyclic.{order_ranked}
-use Rattle.sleep_model.proofs.Changing.{active_hanging, fewer_order}
+use Rattle.sleep_model.proofs.Changing.{active_dependents, fewer_order}
 use Rattle.sleep_model.proofs.FirstPlaces.{suppliers_linked, consumers_linked, among_children, among_parent}
-use Rattle.sleep_model.proofs.Hanging.{among_app, among_first, among_rest, within_of}
+use Rattle.sleep_model.proofs.Dependents.{among_app, among_first, among_rest, within_of}
 use Rattle.sleep_model.proofs.Walks.{AllDifferent}
 use Rattle.sleep_laws.proofs.Boards.{last_found, first_none, last_none}
 
@@ -32,17 +32,17 @@ behind_last (x ∷ xs) d e (inl h) = among_rest x xs e h.1
 behind_last (x ∷ xs) d e (inr h) = among_rest x xs e (behind_last xs d e h)
 
 -- what hangs right below a device of an order stands behind it
-pub order_behind : (hang : ℕ → List ℕ) (xs : List ℕ) → IsOrder hang xs → (d e : ℕ) → is_among xs d ≡ true → is_among (hang d) e ≡ true → Behind xs d e
-order_behind hang [] h d e m b = absurd (true≢false (sym m))
-order_behind hang (x ∷ xs) h d e m b = by_place (or_cases (x == d) (is_among xs d) m) (λ k. order_behind hang xs h.2 d e k b)
+pub order_behind : (dependents_of : ℕ → List ℕ) (xs : List ℕ) → IsOrder dependents_of xs → (d e : ℕ) → is_among xs d ≡ true → is_among (dependents_of d) e ≡ true → Behind xs d e
+order_behind dependents_of [] h d e m b = absurd (true≢false (sym m))
+order_behind dependents_of (x ∷ xs) h d e m b = by_place (or_cases (x == d) (is_among xs d) m) (λ k. order_behind dependents_of xs h.2 d e k b)
   where
     by_place : ((x == d) ≡ true) ⊎ (is_among xs d ≡ true) → (is_among xs d ≡ true → Behind xs d e) → Behind (x ∷ xs) d e
-    by_place (inl s) rest = let same : x ≡ d = eqb-true x d s in inl (same, within_of xs (hang x) h.1 e (subst (λ (y : ℕ). is_among (hang y) e ≡ true) (sym same) b))
+    by_place (inl s) rest = let same : x ≡ d = eqb-true x d s in inl (same, within_of xs (dependents_of x) h.1 e (subst (λ (y : ℕ). is_among (dependents_of y) e ≡ true) (sym same) b))
     by_place (inr k) rest = inr (rest k)
 
-pub order_apart : (hang : ℕ → List ℕ) (xs : List ℕ) → IsOrder hang xs → AllDifferent xs
-order_apart hang [] h = tt
-order_apart hang (x ∷ xs) h = (h.0, order_apart hang xs h.2)
+pub order_apart : (dependents_of : ℕ → List ℕ) (xs : List ℕ) → IsOrder dependents_of xs → AllDifferent xs
+order_apart dependents_of [] h = tt
+order_apart dependents_of (x ∷ xs) h = (h.0, order_apart dependents_of xs h.2)
 
 -- ---- searches
 
@@ -126,7 +126,7 @@ above_below m past d e h = by_cases (or_cases (is_among (parent_of (slice_get ps
     ls : List Link
     ls = active_of (links_at m past)
 
-    by_cases : (is_among (parent_of (slice_get (parents_of m.devices) d)) e ≡ true) ⊎ (is_among (suppliers_of d (active_of (links_at m past))) e ≡ true) → is_among (hanging (parents_of m.devices) (active_of (links_at m past)) e) d ≡ true
+    by_cases : (is_among (parent_of (slice_get (parents_of m.devices) d)) e ≡ true) ⊎ (is_among (suppliers_of d (active_of (links_at m past))) e ≡ true) → is_among (dependents (parents_of m.devices) (active_of (links_at m past)) e) d ≡ true
     by_cases (inl p) = among_app (children_from e 0 ps) (consumers_of e ls) d ∙ or_left (is_among (children_from e 0 ps) d) (is_among (consumers_of e ls) d) (child_of ps e d (sym (among_parent ps d e) ∙ p))
     by_cases (inr s) = among_app (children_from e 0 ps) (consumers_of e ls) d ∙ or_right (is_among (children_from e 0 ps) d) (is_among (consumers_of e ls) d) (consumers_linked ls e d ∙ (sym (suppliers_linked ls e d) ∙ s))
 
@@ -136,5 +136,5 @@ IsRanked m past = IsOrder (below m past) (order m past)
 
 pub ranked : (m : Machine) (past : List Entry) → EachAfterParent 0 (parents_of m.devices) → AreLinks (parents_of m.devices) (links_at m past) → IsRanked m past
 ranked m past after links =
-    fewer_order (hanging (parents_of m.devices) (links_at m past)) (below m past) (active_hanging (parents_of m.devices) (links_at m past)) (order m past)
+    fewer_order (dependents (parents_of m.devices) (links_at m past)) (below m past) (active_dependents (parents_of m.devices) (links_at m past)) (order m past)
     (order_ranked (parents_of m.devices) after (links_at m past) links)

@@ -135,7 +135,7 @@ if_same P Q false f h = tt
 -- user tasks are frozen from the end of their freeze to the entering
 abbrev pub user_at : Option Stage → Bool
 user_at (Some (stage.Freezes group.Kernel)) = true
-user_at (Some (stage.Asks step)) = true
+user_at (Some (stage.PlatformDown step)) = true
 user_at (Some stage.Prepares) = true
 user_at (Some (stage.Downs p)) = true
 user_at (Some stage.StopsCpus) = true
@@ -147,7 +147,7 @@ user_at _ = false
 
 -- and so are kernel threads
 abbrev pub kernel_at : Option Stage → Bool
-kernel_at (Some (stage.Asks step)) = true
+kernel_at (Some (stage.PlatformDown step)) = true
 kernel_at (Some stage.Prepares) = true
 kernel_at (Some (stage.Downs p)) = true
 kernel_at (Some stage.StopsCpus) = true

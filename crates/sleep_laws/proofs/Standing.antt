@@ -15,24 +15,24 @@ use Rattle.phase_table.specs.declared.phase.Phase.TheVariants as phase
 use Rattle.phase_table.specs.Phases.{mirror, is_down}
 use Rattle.sleep_model.specs.Devices.{callback, phase_failed, error_in, is_async_device, stand_in}
 use Rattle.sleep_model.specs.Order.{order, is_among}
-use Rattle.sleep_model.specs.Stands.{is_prepared, is_ready, is_down_in, is_left_alone, ended_by, device_of}
+use Rattle.sleep_model.specs.Stands.{is_prepared, is_ready, is_down_in, is_direct_complete, ended_by, device_of}
 use Rattle.sleep_laws.proofs.Boards.{order_stays, Three, at, at_is, three, three_after, moved_all, Change, Here, Away, all_three}
 use Rattle.sleep_laws.proofs.Made.{Down, InSuspend, InLate, InNoirq, Up, InResume, InEarly, InResumeNoirq}
 use Rattle.sleep_laws.proofs.Moods.{Mood, Empty, Fresh, Going, Settled, Halted, Coming, Risen, mood_if, in_down, in_up, allows, allows_unprepared, when_fresh, when_going, when_coming, unprepared_is, allows_more}
 
 -- ---- one device
 
--- given out and not yet begun, on the way down or up (async_schedule_dev)
-abbrev pub is_given : Stand → Bool
-is_given stand.Scheduled = true
-is_given stand.Rescheduled = true
-is_given _ = false
+-- scheduled and not yet begun, on the way down or up (async_schedule_dev)
+abbrev pub is_scheduled : Stand → Bool
+is_scheduled stand.Scheduled = true
+is_scheduled stand.Rescheduled = true
+is_scheduled _ = false
 
 -- all devices of the order are prepared at these stages: from the way down on until a failure or the entering
 abbrev pub is_full : Stage → Bool
 is_full (stage.Downs p) = true
-is_full (stage.Asks down.Prepare) = true
-is_full (stage.Asks down.PrepareLate) = true
+is_full (stage.PlatformDown down.Prepare) = true
+is_full (stage.PlatformDown down.PrepareLate) = true
 is_full stage.StopsCpus = true
 is_full stage.StopsIrqs = true
 is_full stage.Checks = true
@@ -57,9 +57,9 @@ pub record IsFine (o : List ℕ) (async : Bool) (moods : Phase → Mood) (full e
   pub allowed : (q : Phase) → Down q → allows (moods q) error (at t q) ≡ true
   pub alike : (q : Phase) → Down q → is_prepared (at t q) ≡ is_prepared t.suspend
   pub of_order : is_prepared t.suspend ≡ true → is_among o d ≡ true
-  pub alone : (q : Phase) → Down q → is_left_alone (at t q) ≡ true → is_left_alone t.suspend ≡ true
+  pub alone : (q : Phase) → Down q → is_direct_complete (at t q) ≡ true → is_direct_complete t.suspend ≡ true
   pub prepared : When full (is_among o d ≡ true → is_prepared t.suspend ≡ true)
-  pub given : (q : Phase) → Down q → is_given (at t q) ≡ true → async ≡ true
+  pub scheduled : (q : Phase) → Down q → is_scheduled (at t q) ≡ true → async ≡ true
 
 at_all : (q : Phase) (s : Stand) → Down q → at (all_three s) q ≡ s
 at_all _ s InSuspend = refl
@@ -72,9 +72,9 @@ unprepared_fine o async moods error d = record {
   allowed = λ q i. subst (λ (s : Stand). allows (moods q) error s ≡ true) (sym (at_all q stand.Unprepared i)) (allows_unprepared (moods q) error);
   alike = λ q i. ap is_prepared (at_all q stand.Unprepared i);
   of_order = λ e. absurd (true≢false (sym e));
-  alone = λ q i e. absurd (true≢false (sym e ∙ ap is_left_alone (at_all q stand.Unprepared i)));
+  alone = λ q i e. absurd (true≢false (sym e ∙ ap is_direct_complete (at_all q stand.Unprepared i)));
   prepared = tt;
-  given = λ q i e. absurd (true≢false (sym e ∙ ap is_given (at_all q stand.Unprepared i)));
+  scheduled = λ q i e. absurd (true≢false (sym e ∙ ap is_scheduled (at_all q stand.Unprepared i)));
 }
 
 -- a device that no phase has stands rightly in any order
@@ -89,7 +89,7 @@ empty_fine o after async error d t h = record {
   of_order = λ e. absurd (true≢false (sym e ∙ empty_unprepared error t.suspend (h.allowed phase.Suspend InSuspend)));
   alone = h.alone;
   prepared = tt;
-  given = h.given;
+  scheduled = h.scheduled;
 }
 
 -- a prepared one stands rightly where none is taken
@@ -98,9 +98,9 @@ prepared_fine o async error d among = record {
   allowed = λ q i. ap when_fresh (at_all q stand.Prepared i);
   alike = λ q i. ap is_prepared (at_all q stand.Prepared i);
   of_order = λ e. among;
-  alone = λ q i e. absurd (true≢false (sym e ∙ ap is_left_alone (at_all q stand.Prepared i)));
+  alone = λ q i e. absurd (true≢false (sym e ∙ ap is_direct_complete (at_all q stand.Prepared i)));
   prepared = tt;
-  given = λ q i e. absurd (true≢false (sym e ∙ ap is_given (at_all q stand.Prepared i)));
+  scheduled = λ q i e. absurd (true≢false (sym e ∙ ap is_scheduled (at_all q stand.Prepared i)));
 }
 
 module _ (o : List ℕ) (async : Bool) (moods : Phase → Mood) (full error : Bool) (d : ℕ) (t : Three) (h : IsFine o async moods full error d t) where
@@ -112,12 +112,12 @@ module _ (o : List ℕ) (async : Bool) (moods : Phase → Mood) (full error : Bo
     of_order = h.of_order;
     alone = h.alone;
     prepared = h.prepared;
-    given = h.given;
+    scheduled = h.scheduled;
   }
 
   -- the devices come to something else, where this one stands rightly
   pub fine_else : (then : Phase → Mood) (all after : Bool) → ((q : Phase) → Down q → allows (then q) after (at t q) ≡ true) → When all (is_among o d ≡ true → is_prepared t.suspend ≡ true) → IsFine o async then all after d t
-  fine_else then all after right every = record { allowed = right; alike = h.alike; of_order = h.of_order; alone = h.alone; prepared = every; given = h.given }
+  fine_else then all after right every = record { allowed = right; alike = h.alike; of_order = h.of_order; alone = h.alone; prepared = every; scheduled = h.scheduled }
 
   -- the device stands unprepared where it is not of the order
   pub outside : is_among o d ≡ false → (q : Phase) → Down q → at t q ≡ stand.Unprepared
@@ -137,14 +137,14 @@ module _ (o : List ℕ) (async : Bool) (moods : Phase → Mood) (full error : Bo
 
   -- the device moves in phase p alone
   module _ (p : Phase) (i : Down p) (s : Stand) (u : Three) (changes : (q : Phase) → Down q → Change p s t u q) (after : Bool) where
-    fine_turn : is_prepared s ≡ true → is_prepared (at t p) ≡ true → is_left_alone (at t p) ≡ false → allows (moods p) after s ≡ true → (error ≡ true → after ≡ true) → (is_left_alone s ≡ true → is_left_alone u.suspend ≡ true) → (is_given s ≡ true → async ≡ true) → IsFine o async moods full after d u
+    fine_turn : is_prepared s ≡ true → is_prepared (at t p) ≡ true → is_direct_complete (at t p) ≡ false → allows (moods p) after s ≡ true → (error ≡ true → after ≡ true) → (is_direct_complete s ≡ true → is_direct_complete u.suspend ≡ true) → (is_scheduled s ≡ true → async ≡ true) → IsFine o async moods full after d u
     fine_turn ready was apart right more lone gives = record {
       allowed = λ q j. by_allowed q j (changes q j);
       alike = λ q j. by_prepared q j (changes q j) ∙ sym (by_prepared phase.Suspend InSuspend (changes phase.Suspend InSuspend));
       of_order = λ e. h.of_order before;
       alone = λ q j e. by_alone q j e (changes q j);
       prepared = when_any full _ (λ e. by_prepared phase.Suspend InSuspend (changes phase.Suspend InSuspend));
-      given = λ q j e. by_given q j e (changes q j);
+      scheduled = λ q j e. by_scheduled q j e (changes q j);
     }
       where
         before : is_prepared t.suspend ≡ true
@@ -158,17 +158,17 @@ module _ (o : List ℕ) (async : Bool) (moods : Phase → Mood) (full error : Bo
         by_prepared q j (Here e f) = ap is_prepared f ∙ ready
         by_prepared q j (Away f) = ap is_prepared f ∙ (h.alike q j ∙ before)
 
-        stays : Change p s t u phase.Suspend → is_left_alone t.suspend ≡ true → is_left_alone u.suspend ≡ true
-        stays (Here e f) k = absurd (true≢false (sym k ∙ (ap (λ (r : Phase). is_left_alone (at t r)) e ∙ apart)))
-        stays (Away f) k = ap is_left_alone f ∙ k
+        stays : Change p s t u phase.Suspend → is_direct_complete t.suspend ≡ true → is_direct_complete u.suspend ≡ true
+        stays (Here e f) k = absurd (true≢false (sym k ∙ (ap (λ (r : Phase). is_direct_complete (at t r)) e ∙ apart)))
+        stays (Away f) k = ap is_direct_complete f ∙ k
 
-        by_alone : (q : Phase) → Down q → is_left_alone (at u q) ≡ true → Change p s t u q → is_left_alone u.suspend ≡ true
-        by_alone q j k (Here e f) = lone (ap is_left_alone (sym f) ∙ k)
-        by_alone q j k (Away f) = stays (changes phase.Suspend InSuspend) (h.alone q j (ap is_left_alone (sym f) ∙ k))
+        by_alone : (q : Phase) → Down q → is_direct_complete (at u q) ≡ true → Change p s t u q → is_direct_complete u.suspend ≡ true
+        by_alone q j k (Here e f) = lone (ap is_direct_complete (sym f) ∙ k)
+        by_alone q j k (Away f) = stays (changes phase.Suspend InSuspend) (h.alone q j (ap is_direct_complete (sym f) ∙ k))
 
-        by_given : (q : Phase) → Down q → is_given (at u q) ≡ true → Change p s t u q → async ≡ true
-        by_given q j k (Here e f) = gives (ap is_given (sym f) ∙ k)
-        by_given q j k (Away f) = h.given q j (ap is_given (sym f) ∙ k)
+        by_scheduled : (q : Phase) → Down q → is_scheduled (at u q) ≡ true → Change p s t u q → async ≡ true
+        by_scheduled q j k (Here e f) = gives (ap is_scheduled (sym f) ∙ k)
+        by_scheduled q j k (Away f) = h.scheduled q j (ap is_scheduled (sym f) ∙ k)
 
 -- ---- all devices
 
@@ -205,13 +205,13 @@ Standing m past st = Fines m past (λ q. mood_if st q) (is_full_if st) × CallIf
 
 -- a device moves in one phase alone
 module _ (m : Machine) (past : List Entry) (e : Entry) (d : ℕ) (is : device_of e.kind ≡ Some d) (moods : Phase → Mood) (full : Bool) (h : Fines m past moods full) where
-  pub turn : (p : Phase) → Down p → (b s : Stand) → stand_in m past p d ≡ b → is_prepared b ≡ true → is_left_alone b ≡ false → is_prepared s ≡ true → allows (moods p) (errs (e ∷ past)) s ≡ true → (errs past ≡ true → errs (e ∷ past) ≡ true) → (is_left_alone s ≡ true → is_left_alone (three_after e.kind (three m past d)).suspend ≡ true) → (is_given s ≡ true → is_async_device m d ≡ true) → ((q : Phase) → Down q → Change p s (three m past d) (three_after e.kind (three m past d)) q) → Fines m (e ∷ past) moods full
+  pub turn : (p : Phase) → Down p → (b s : Stand) → stand_in m past p d ≡ b → is_prepared b ≡ true → is_direct_complete b ≡ false → is_prepared s ≡ true → allows (moods p) (errs (e ∷ past)) s ≡ true → (errs past ≡ true → errs (e ∷ past) ≡ true) → (is_direct_complete s ≡ true → is_direct_complete (three_after e.kind (three m past d)).suspend ≡ true) → (is_scheduled s ≡ true → is_async_device m d ≡ true) → ((q : Phase) → Down q → Change p s (three m past d) (three_after e.kind (three m past d)) q) → Fines m (e ∷ past) moods full
   turn p i b s stands was apart ready right more lone gives changes =
       let here : at (three m past d) p ≡ b = at_is m past p d i ∙ stands in
       subst (λ (o : List ℕ). (x : ℕ) → IsFine o (is_async_device m x) moods full (errs (e ∷ past)) x (three m (e ∷ past) x)) (sym (order_stays m past e d is))
       (moved_all m past e d is (λ (x : ℕ) (t : Three). IsFine (order m past) (is_async_device m x) moods full (errs (e ∷ past)) x t)
       (λ x. fine_more (order m past) (is_async_device m x) moods full (errs past) x (three m past x) (h x) (errs (e ∷ past)) more)
-      (fine_turn (order m past) (is_async_device m d) moods full (errs past) d (three m past d) (h d) p i s (three_after e.kind (three m past d)) changes (errs (e ∷ past)) ready (ap is_prepared here ∙ was) (ap is_left_alone here ∙ apart) right more lone gives))
+      (fine_turn (order m past) (is_async_device m d) moods full (errs past) d (three m past d) (h d) p i s (three_after e.kind (three m past d)) changes (errs (e ∷ past)) ready (ap is_prepared here ∙ was) (ap is_direct_complete here ∙ apart) right more lone gives))
 
 -- ---- what the moods tell
 
@@ -225,7 +225,7 @@ coming_allows _ InResume e s h = h
 coming_allows _ InEarly e s h = h
 coming_allows _ InResumeNoirq e s h = h
 
--- a device that is given out, or inside its callback, on the way down stands so only while they go down
+-- a device that is scheduled, or inside its callback, on the way down stands so only while they go down
 pub scheduled_goes : (a : Mood) (e f : Bool) (s : Stand) → allows a e stand.Scheduled ≡ true → when_going f s ≡ true → allows a f s ≡ true
 scheduled_goes Going e f s k h = h
 scheduled_goes Empty e f s k h = absurd (true≢false (sym k))
@@ -290,10 +290,10 @@ pub ended_prepared : (r : Option Errno) → is_prepared (ended_by r) ≡ true
 ended_prepared None = refl
 ended_prepared (Some x) = refl
 
-pub ended_apart : (r : Option Errno) → is_left_alone (ended_by r) ≡ false
+pub ended_apart : (r : Option Errno) → is_direct_complete (ended_by r) ≡ false
 ended_apart None = refl
 ended_apart (Some x) = refl
 
-pub ended_given : (r : Option Errno) → is_given (ended_by r) ≡ false
-ended_given None = refl
-ended_given (Some x) = refl
+pub ended_scheduled : (r : Option Errno) → is_scheduled (ended_by r) ≡ false
+ended_scheduled None = refl
+ended_scheduled (Some x) = refl

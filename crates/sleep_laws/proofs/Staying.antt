@@ -12,7 +12,7 @@ use Rattle.sleep_model.specs.declared.place.Seat.{Seat}
 use Rattle.sleep_model.specs.declared.word.EventNow.{EventNow}
 use Rattle.sleep_model.specs.Legal.{JournalPart}
 use Rattle.sleep_model.specs.Links.{IsOrder, is_linked, is_dependent, link_add_due, link_state_due}
-use Rattle.sleep_model.specs.Order.{hanging, links_after, links_at, order, parents_of}
+use Rattle.sleep_model.specs.Order.{dependents, links_after, links_at, order, parents_of}
 use Rattle.sleep_model.specs.Path.{maker}
 use Rattle.sleep_model.proofs.Acyclic.{order_ranked}
 use Rattle.sleep_laws.specs.Ends.{IsOrdered}
@@ -51,5 +51,5 @@ module _ (m : Machine) (past : List Entry) (underway : is_some (maker past) ≡ 
 pub links_stay : (m : Machine) (past : List Entry) (e : Entry) → JournalPart m (e ∷ past) → LinksStay m past e
 links_stay m past e h underway = entry_stays m past underway e.now e.actor e.kind (entry_made m past e h)
 
-pub in_order : (m : Machine) → IsOrdered m → (past : List Entry) → JournalPart m past → IsOrder (hanging (parents_of m.devices) (links_at m past)) (order m past)
+pub in_order : (m : Machine) → IsOrdered m → (past : List Entry) → JournalPart m past → IsOrder (dependents (parents_of m.devices) (links_at m past)) (order m past)
 in_order m o past h = order_ranked (parents_of m.devices) o.parents (links_at m past) (links_stand m o.scripts o.links past h)

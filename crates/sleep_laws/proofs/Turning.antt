@@ -18,13 +18,13 @@ use Rattle.sleep_model.specs.declared.word.EventNow.{EventNow}
 use Rattle.phase_table.specs.declared.phase.Phase.{Phase}
 use Rattle.phase_table.specs.declared.phase.Phase.TheVariants as phase
 use Rattle.phase_table.specs.Phases.{mirror}
-use Rattle.sleep_model.specs.Devices.{callback, unless_own, phase_failed, error_in, is_device, is_async_device, is_direct, stand_in, next_down, next_up, next_given, next_prepared}
+use Rattle.sleep_model.specs.Devices.{callback, unless_own, phase_failed, error_in, is_device, is_async_device, is_direct, stand_in, next_down, next_up, next_to_schedule, next_prepared}
 use Rattle.sleep_model.specs.Order.{order, is_among}
-use Rattle.sleep_model.specs.Stands.{is_unprepared, is_prepared, is_ready, is_down_in, is_left_alone, ended_by, device_of}
+use Rattle.sleep_model.specs.Stands.{is_unprepared, is_prepared, is_ready, is_down_in, is_direct_complete, ended_by, device_of}
 use Rattle.sleep_laws.proofs.Boards.{Three, at, at_is, three, three_after, moved_all, moved_other, moved_own, turned, turned_down, turned_up, all_three, mirror_down, first_found, last_found}
 use Rattle.sleep_laws.proofs.Made.{Down, InSuspend, InLate, InNoirq, Up, InResume, InEarly, InResumeNoirq, AtTurn, DeviceMade}
 use Rattle.sleep_laws.proofs.Moods.{Mood, Fresh, Risen, mood_if, in_down, in_up, allows}
-use Rattle.sleep_laws.proofs.Standing.{IsFine, unprepared_fine, prepared_fine, fine_else, errs, Fines, Inside, InsideIf, CallIf, Standing, turn, going_allows, coming_allows, scheduled_goes, suspending_goes, rescheduled_comes, resuming_comes, ready_is, down_is, fails_error, error_stays, ended_prepared, ended_apart, ended_given, is_full_if}
+use Rattle.sleep_laws.proofs.Standing.{IsFine, unprepared_fine, prepared_fine, fine_else, errs, Fines, Inside, InsideIf, CallIf, Standing, turn, going_allows, coming_allows, scheduled_goes, suspending_goes, rescheduled_comes, resuming_comes, ready_is, down_is, fails_error, error_stays, ended_prepared, ended_apart, ended_scheduled, is_full_if}
 
 pub never : {A : Type 0} → false ≡ true → A
 never e = absurd (true≢false (sym e))
@@ -74,7 +74,7 @@ module _ (m : Machine) (past : List Entry) (time : ℕ) (now : EventNow) (who : 
     free_call m (callback past) stand.Suspending p (three m (by (kind.Skip p d skip.Pending) ∷ past)) t.free,
   )
 
-  direct_alone : (p : Phase) (d : ℕ) → Down p → is_direct m past p d ≡ true → is_left_alone (three_after (kind.Skip p d skip.Direct) (three m past d)).suspend ≡ true
+  direct_alone : (p : Phase) (d : ℕ) → Down p → is_direct m past p d ≡ true → is_direct_complete (three_after (kind.Skip p d skip.Direct) (three m past d)).suspend ≡ true
   direct_alone _ d InSuspend e = refl
   direct_alone _ d InLate e = e
   direct_alone _ d InNoirq e = e
@@ -119,15 +119,15 @@ module _ (m : Machine) (past : List Entry) (time : ℕ) (now : EventNow) (who : 
       let x : Inside m (record { phase = q; device = d }) stand.Suspending p (three m past) = called (callback past) (record { phase = q; device = d }) stand.Suspending p (three m past) c h.1 in (
         turn m past (by (kind.End p d r)) d refl (in_down p) true h.0 p i stand.Suspending (ended_by r) (sym (at_is m past p d i) ∙ x.inside) refl refl (ended_prepared r)
             (going_allows p i (is_some (error_in p r (phase_failed past))) (ended_by r) (fails_error p i r (phase_failed past))) (error_stays p r (phase_failed past))
-            (λ y. absurd (true≢false (sym y ∙ ended_apart r))) (λ y. absurd (true≢false (sym y ∙ ended_given r)))
+            (λ y. absurd (true≢false (sym y ∙ ended_apart r))) (λ y. absurd (true≢false (sym y ∙ ended_scheduled r)))
             (λ k j. turned_down p k (ended_by r) (all_three stand.Resumed) (three m past d) i j),
         ends_call stand.Suspending p (three m (by (kind.End p d r) ∷ past)),
       )
 
   -- ---- the maker's walk up
 
-  pub given_stands : (p : Phase) (d : ℕ) → next_given m past p ≡ Some d → (stand_in m past p d ≡ stand.Suspended) × (is_async_device m d ≡ true)
-  given_stands p d n =
+  pub scheduled_stands : (p : Phase) (d : ℕ) → next_to_schedule m past p ≡ Some d → (stand_in m past p d ≡ stand.Suspended) × (is_async_device m d ≡ true)
+  scheduled_stands p d n =
       let x = and_both (is_down_in (stand_in m past p d)) (is_async_device m d) (first_found (λ y. is_down_in (stand_in m past p y) && is_async_device m y) (order m past) d n).passes in
       (down_is (stand_in m past p d) x.0, x.1)
 
@@ -140,9 +140,9 @@ module _ (m : Machine) (past : List Entry) (time : ℕ) (now : EventNow) (who : 
       not_true true e = never e
       not_true false e = refl
 
-  pub schedules_up : (p : Phase) (d : ℕ) → Up p → callback past ≡ None → next_given m past (mirror p) ≡ Some d → Standing m past (Some (stage.Ups p)) → Standing m (by (kind.Schedule p d) ∷ past) (Some (stage.Ups p))
+  pub schedules_up : (p : Phase) (d : ℕ) → Up p → callback past ≡ None → next_to_schedule m past (mirror p) ≡ Some d → Standing m past (Some (stage.Ups p)) → Standing m (by (kind.Schedule p d) ∷ past) (Some (stage.Ups p))
   schedules_up p d u c n h =
-      let x = given_stands (mirror p) d n in (
+      let x = scheduled_stands (mirror p) d n in (
         turn m past (by (kind.Schedule p d)) d refl (in_up p) false h.0 (mirror p) (mirror_down p u) stand.Suspended stand.Rescheduled x.0 refl refl refl
             (coming_allows p u (errs past) stand.Rescheduled refl) (λ y. y) (λ y. never y) (λ y. x.1)
             (λ q j. turned_up p q stand.Rescheduled stand.Scheduled (three m past d) u j),
@@ -249,7 +249,7 @@ module _ (m : Machine) (past : List Entry) (time : ℕ) (now : EventNow) (d : �
     calls (kind.Skip p d skip.Direct) refl,
   )
     where
-      lone : (p : Phase) → Down p → is_direct m past p d ≡ true → is_left_alone (three_after (kind.Skip p d skip.Direct) (three m past d)).suspend ≡ true
+      lone : (p : Phase) → Down p → is_direct m past p d ≡ true → is_direct_complete (three_after (kind.Skip p d skip.Direct) (three m past d)).suspend ≡ true
       lone _ InSuspend x = refl
       lone _ InLate x = x
       lone _ InNoirq x = x
@@ -266,7 +266,7 @@ module _ (m : Machine) (past : List Entry) (time : ℕ) (now : EventNow) (d : �
   own_ends p r i e = (
     turn m past (own (kind.End p d r)) d refl moods (is_full_if st) h.0 p i stand.Suspending (ended_by r) e refl refl (ended_prepared r)
         (suspending_goes (moods p) (errs past) (is_some (error_in p r (phase_failed past))) (ended_by r) (allowed_as p stand.Suspending i e) (fails_error p i r (phase_failed past))) (error_stays p r (phase_failed past))
-        (λ y. absurd (true≢false (sym y ∙ ended_apart r))) (λ y. absurd (true≢false (sym y ∙ ended_given r)))
+        (λ y. absurd (true≢false (sym y ∙ ended_apart r))) (λ y. absurd (true≢false (sym y ∙ ended_scheduled r)))
         (λ k j. turned_down p k (ended_by r) (all_three stand.Resumed) (three m past d) i j),
     calls (kind.End p d r) refl,
   )

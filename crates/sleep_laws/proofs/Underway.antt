@@ -18,7 +18,7 @@ use Rattle.sleep_model.specs.declared.word.EventNow.{EventNow}
 use Rattle.phase_table.specs.declared.phase.Phase.{Phase}
 use Rattle.phase_table.specs.declared.phase.Phase.TheVariants as phase
 use Rattle.phase_table.specs.Phases.{mirror}
-use Rattle.sleep_model.specs.Devices.{callback, unless_own, is_device, is_async_device, stand_in, next_down, next_given}
+use Rattle.sleep_model.specs.Devices.{callback, unless_own, is_device, is_async_device, stand_in, next_down, next_to_schedule}
 use Rattle.sleep_model.specs.Legal.{JournalPart}
 use Rattle.sleep_model.specs.Order.{order, order_by, links_after, links_at, parents_of, is_among}
 use Rattle.sleep_model.specs.Stands.{is_prepared, is_ready, ended_by, device_of}
@@ -33,7 +33,7 @@ use Rattle.sleep_laws.proofs.Passing.{maker_stands, stands_kept}
 use Rattle.sleep_laws.proofs.Ranks.{Behind, behind_first, last_behind}
 use Rattle.sleep_laws.proofs.Standing.{errs, Fines, Inside, Standing}
 use Rattle.sleep_laws.proofs.Telling.{some≢none}
-use Rattle.sleep_laws.proofs.Turning.{never, turned_at, turned_mirror, ready_stands, prepared_all, called, given_stands}
+use Rattle.sleep_laws.proofs.Turning.{never, turned_at, turned_mirror, ready_stands, prepared_all, called, scheduled_stands}
 
 -- inside a callback on the way down, or up (dpm_run_callback)
 abbrev pub is_suspending : Stand → Bool
@@ -234,10 +234,10 @@ module _ (m : Machine) (past : List Entry) (time : ℕ) (now : EventNow) (who : 
       ended_out None = refl
       ended_out (Some x) = refl
 
-  schedules_up : (p : Phase) (d : ℕ) → next_given m past (mirror p) ≡ Some d → Standing m past (Some (stage.Ups p)) → WalksAt m past (stage.Ups p) → WalksAt m (by (kind.Schedule p d) ∷ past) (stage.Ups p)
+  schedules_up : (p : Phase) (d : ℕ) → next_to_schedule m past (mirror p) ≡ Some d → Standing m past (Some (stage.Ups p)) → WalksAt m past (stage.Ups p) → WalksAt m (by (kind.Schedule p d) ∷ past) (stage.Ups p)
   schedules_up p d n h w = λ u.
       calls_on m past (by (kind.Schedule p d)) d refl (mirror p) is_resuming (w u) refl
-      (ap is_resuming (stood_up p d u (kind.Schedule p d) stand.Suspended stand.Rescheduled stand.Scheduled refl refl (given_stands m past time now who task (mirror p) d n).0 refl h))
+      (ap is_resuming (stood_up p d u (kind.Schedule p d) stand.Suspended stand.Rescheduled stand.Scheduled refl refl (scheduled_stands m past time now who task (mirror p) d n).0 refl h))
 
   begins_up : (p : Phase) (d : ℕ) → callback past ≡ None → Standing m past (Some (stage.Ups p)) → WalksAt m past (stage.Ups p) → WalksAt m (by (kind.Begin p d) ∷ past) (stage.Ups p)
   begins_up p d c h w = λ u.
@@ -265,11 +265,11 @@ module _ (m : Machine) (past : List Entry) (time : ℕ) (now : EventNow) (who : 
   maker_walks _ k (Made.Prepared f n) h w =
       let after : Standing m (by k ∷ past) (Some (stage.Downs phase.Suspend)) = maker_stands m past time now who task stage.Prepares k (Made.Prepared f n) h in
       λ i. starts_down k (λ ls. refl) phase.Suspend InSuspend (λ q. Fresh) false h.0 refl (λ x. (after.0 x).prepared) (λ x. refl)
-  maker_walks _ k Made.AsksPrepare h w = λ i. starts_down k (λ ls. refl) phase.Late InLate (in_suspend Settled Fresh) true h.0 refl (λ x. (h.0 x).prepared) (λ x. refl)
+  maker_walks _ k Made.PlatformPrepares h w = λ i. starts_down k (λ ls. refl) phase.Late InLate (in_suspend Settled Fresh) true h.0 refl (λ x. (h.0 x).prepared) (λ x. refl)
   maker_walks _ k (Made.LateEnds s) h w = λ i. starts_down k (λ ls. refl) phase.Noirq InNoirq (in_down phase.Late) true h.0 refl (λ x. (h.0 x).prepared) (λ x. refl)
-  maker_walks _ k Made.TellsWake h w = λ u. starts_up k phase.Noirq InNoirq (λ q. Settled) false Settled settled_apart h.0 refl (λ x. refl)
-  maker_walks _ k Made.TellsFinish h w = λ u. starts_up k phase.Suspend InSuspend (in_suspend Settled Risen) false Settled settled_apart h.0 refl (λ x. refl)
-  maker_walks _ k Made.TellsRecover h w = λ u. starts_up k phase.Suspend InSuspend (in_suspend Halted Risen) false Halted halted_apart h.0 refl (λ x. refl)
+  maker_walks _ k Made.PlatformWakes h w = λ u. starts_up k phase.Noirq InNoirq (λ q. Settled) false Settled settled_apart h.0 refl (λ x. refl)
+  maker_walks _ k Made.PlatformFinishes h w = λ u. starts_up k phase.Suspend InSuspend (in_suspend Settled Risen) false Settled settled_apart h.0 refl (λ x. refl)
+  maker_walks _ k Made.PlatformRecovers h w = λ u. starts_up k phase.Suspend InSuspend (in_suspend Halted Risen) false Halted halted_apart h.0 refl (λ x. refl)
   maker_walks _ k (Made.LateFails r b) h w = λ u. starts_up k phase.Late InLate (in_down phase.Late) true Going going_apart h.0 refl (λ x. refl)
   maker_walks _ k (Made.NoirqFails r b) h w = λ u. starts_up k phase.Noirq InNoirq (in_down phase.Noirq) true Going going_apart h.0 refl (λ x. refl)
   maker_walks _ k (Made.ResumeNoirqEnds r) h w = λ u. starts_up k phase.Late InLate (in_up phase.ResumeNoirq) false Settled settled_apart h.0 refl (λ x. refl)

@@ -4,7 +4,7 @@ use Rattle.sleep_model.specs.declared.entry.Entry.{Entry}
 use Rattle.sleep_model.specs.declared.machine.Machine.{Machine}
 use Rattle.sleep_model.specs.Legal.{JournalPart}
 use Rattle.sleep_model.specs.Links.{IsOrder}
-use Rattle.sleep_model.specs.Order.{hanging, links_after, links_at, order, parents_of}
+use Rattle.sleep_model.specs.Order.{dependents, links_after, links_at, order, parents_of}
 use Rattle.sleep_model.specs.Path.{maker}
 use Rattle.sleep_laws.specs.Ends.{IsOrdered}
 
@@ -16,4 +16,4 @@ LinksStay m past e = is_some (maker past) ≡ true → links_after e.kind (links
 abbrev pub AllInOrder : Type 0
 AllInOrder =
     (m : Machine) → IsOrdered m → (past : List Entry) → JournalPart m past
-    → IsOrder (hanging (parents_of m.devices) (links_at m past)) (order m past)
+    → IsOrder (dependents (parents_of m.devices) (links_at m past)) (order m past)

@@ -8,7 +8,7 @@ ghost use Rattle.sleep_model.specs.Laws.{DependentsFirst, SuppliersFirst, Restor
 ghost use Rattle.sleep_model.specs.Parts.{journal};
 
 /// A device begins to go down in a phase only where all below it, its children and its consumers, are
-/// down in that phase or were left alone (`drivers/base/power/main.c`, `dpm_wait_for_subordinate`).
+/// down in that phase or were direct-complete (`drivers/base/power/main.c`, `dpm_wait_for_subordinate`).
 #[tactic(auto, using(crate::proofs::DevicesStand::dependents_first))]
 pub fn dependents_first()
     ensures { HoldsAtEntries (λ m past e. DependentsFirst m past e.kind) }
@@ -41,7 +41,7 @@ pub fn undo_only_what_is_owed()
 {}
 
 /// The machine enters sleep only where all is down that sleep wants down: each device down through
-/// noirq or left alone, no task left of those that were asked to freeze, the other processors and
+/// noirq or direct-complete, no task left of those that were asked to freeze, the other processors and
 /// interrupts off, each part of the core suspended (`kernel/power/suspend.c`, `suspend_enter`).
 #[tactic(auto, using(crate::proofs::DevicesStand::all_down))]
 pub fn enters_only_with_all_down()
@@ -71,7 +71,7 @@ pub fn found_tests_are_true()
 
 /// Each actor's entries outside attempts of its own are its own steps, once and in order: a script's
 /// are of its operation under way and none comes behind its exit, the autosleep work's follow its
-/// course, an asynchronous device's are of the phase that it was given out in (`kernel/power/main.c`,
+/// course, an asynchronous device's are of the phase that it was scheduled in (`kernel/power/main.c`,
 /// `kernel/power/autosleep.c`, `drivers/base/power/main.c`, `dpm_async_fn`); jumps are made by time.
 #[tactic(auto, using(crate::proofs::Stepping::in_order))]
 pub fn steps_once_and_in_order()

@@ -127,7 +127,7 @@ fn failures_turn_back(rt: HostRuntime) -> Result<(), Fail> {
     expect_each(&rt, rt.alloc(), &failures::MACHINES)
 }
 
-/// Devices with suppliers, asynchronous ones, and some that are left alone.
+/// Devices with suppliers, asynchronous ones, and some that are direct-complete.
 #[test]
 fn devices_keep_their_order(rt: HostRuntime) -> Result<(), Fail> {
     expect_each(&rt, rt.alloc(), &devices::MACHINES)

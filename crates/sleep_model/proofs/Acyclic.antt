@@ -7,12 +7,12 @@ use Rattle.std.proofs.lemmas.Bool.Decides.{nat_tests}
 use Rattle.std.proofs.Math.Bool.{or-false}
 use Rattle.sleep_model.specs.declared.machine.Link.{Link}
 use Rattle.sleep_model.specs.Links.{AllAmong}
-use Rattle.sleep_model.specs.Order.{is_among, children_from, consumers_of, hanging, EachAfterParent, last_places, moved, order_by}
+use Rattle.sleep_model.specs.Order.{is_among, children_from, consumers_of, dependents, EachAfterParent, last_places, moved, order_by}
 use Rattle.sleep_model.specs.Links.{IsOrder, AreLinks}
 use Rattle.sleep_model.proofs.Walks.{AllDifferent, below_run}
 use Rattle.sleep_model.proofs.Ordering.{not_in_filter, kept_passes, different_filter, order_by_different}
 use Rattle.sleep_model.proofs.Children.{children_none, children_within, children_after}
-use Rattle.sleep_model.proofs.Hanging.{among_app, among_first, among_rest, Within, within_of, all_of, put, onto, onto_app, among_onto, last_onto, Descends, among_flat}
+use Rattle.sleep_model.proofs.Dependents.{among_app, among_first, among_rest, Within, within_of, all_of, put, onto, onto_app, among_onto, last_onto, Descends, among_flat}
 
 -- ---- lists
 
@@ -122,94 +122,94 @@ within_run a (suc n) d m = by_place (within_run (a + 1) n d) (or_cases (a == d) 
 
 -- ---- an order gives enough levels
 
-module _ (hang : ℕ → List ℕ) where
-  deep : (ds : List ℕ) → IsOrder hang ds → (n : ℕ) → length ds ≤ n → (d : ℕ) → is_among ds d ≡ true → moved n hang d ≡ moved (suc n) hang d
+module _ (dependents_of : ℕ → List ℕ) where
+  deep : (ds : List ℕ) → IsOrder dependents_of ds → (n : ℕ) → length ds ≤ n → (d : ℕ) → is_among ds d ≡ true → moved n dependents_of d ≡ moved (suc n) dependents_of d
   deep [] h n l d m = absurd (false≢true m)
   deep (x ∷ xs) h zero l d m = absurd (omega arith)
   deep (x ∷ xs) h (suc n) l d m = by_place (deep xs h.2 n (omega arith)) (deep xs h.2 (suc n) (omega arith) d) (or_cases (x == d) (is_among xs d) m)
     where
-      by_place : ((c : ℕ) → is_among xs c ≡ true → moved n hang c ≡ moved (suc n) hang c) → (is_among xs d ≡ true → moved (suc n) hang d ≡ moved (suc (suc n)) hang d)
-          → ((x == d) ≡ true) ⊎ (is_among xs d ≡ true) → moved (suc n) hang d ≡ moved (suc (suc n)) hang d
+      by_place : ((c : ℕ) → is_among xs c ≡ true → moved n dependents_of c ≡ moved (suc n) dependents_of c) → (is_among xs d ≡ true → moved (suc n) dependents_of d ≡ moved (suc (suc n)) dependents_of d)
+          → ((x == d) ≡ true) ⊎ (is_among xs d ≡ true) → moved (suc n) dependents_of d ≡ moved (suc (suc n)) dependents_of d
       by_place below rest (inl e) =
-          subst (λ (y : ℕ). moved (suc n) hang y ≡ moved (suc (suc n)) hang y) (eqb-true x d e)
-          (ap (λ ys. x ∷ ys) (flat_same (moved n hang) (moved (suc n) hang) (hang x) (λ c i. below c (within_of xs (hang x) h.1 c i))))
+          subst (λ (y : ℕ). moved (suc n) dependents_of y ≡ moved (suc (suc n)) dependents_of y) (eqb-true x d e)
+          (ap (λ ys. x ∷ ys) (flat_same (moved n dependents_of) (moved (suc n) dependents_of) (dependents_of x) (λ c i. below c (within_of xs (dependents_of x) h.1 c i))))
       by_place below rest (inr e) = rest e
 
   -- as many levels as devices are enough
-  pub descends : (order : List ℕ) → IsOrder hang order → ((d : ℕ) → is_among order d ≡ false → hang d ≡ []) → (n : ℕ) → length order ≤ n → Descends hang (moved n hang)
+  pub descends : (order : List ℕ) → IsOrder dependents_of order → ((d : ℕ) → is_among order d ≡ false → dependents_of d ≡ []) → (n : ℕ) → length order ≤ n → Descends dependents_of (moved n dependents_of)
   descends order h bare n l d = by_test (is_among order d) refl
     where
-      empty : (k : ℕ) → hang d ≡ [] → moved k hang d ≡ d ∷ flat_map (moved k hang) (hang d)
-      empty zero e = ap (λ cs. d ∷ flat_map (moved zero hang) cs) (sym e)
-      empty (suc k) e = ap (λ cs. d ∷ flat_map (moved k hang) cs) e ∙ ap (λ cs. d ∷ flat_map (moved (suc k) hang) cs) (sym e)
+      empty : (k : ℕ) → dependents_of d ≡ [] → moved k dependents_of d ≡ d ∷ flat_map (moved k dependents_of) (dependents_of d)
+      empty zero e = ap (λ cs. d ∷ flat_map (moved zero dependents_of) cs) (sym e)
+      empty (suc k) e = ap (λ cs. d ∷ flat_map (moved k dependents_of) cs) e ∙ ap (λ cs. d ∷ flat_map (moved (suc k) dependents_of) cs) (sym e)
 
-      by_test : (b : Bool) → is_among order d ≡ b → moved n hang d ≡ d ∷ flat_map (moved n hang) (hang d)
+      by_test : (b : Bool) → is_among order d ≡ b → moved n dependents_of d ≡ d ∷ flat_map (moved n dependents_of) (dependents_of d)
       by_test true e = deep order h n l d e
       by_test false e = empty n (bare d e)
 
   -- ---- a walk leaves an order
 
-  module _ (W : ℕ → List ℕ) (fix : Descends hang W) where
-    put_order : (out : List ℕ) (d : ℕ) → IsOrder hang out → Within (hang d) out → IsOrder hang (put out d)
+  module _ (W : ℕ → List ℕ) (fix : Descends dependents_of W) where
+    put_order : (out : List ℕ) (d : ℕ) → IsOrder dependents_of out → Within (dependents_of d) out → IsOrder dependents_of (put out d)
     put_order out d h i = by_test (is_among out d) refl
       where
-        by_test : (b : Bool) → is_among out d ≡ b → IsOrder hang (cond b out (d ∷ out))
+        by_test : (b : Bool) → is_among out d ≡ b → IsOrder dependents_of (cond b out (d ∷ out))
         by_test true e = h
-        by_test false e = (e, all_of out (hang d) i, h)
+        by_test false e = (e, all_of out (dependents_of d) i, h)
 
-    flat_order : (k : ℕ) → ((o : List ℕ) → IsOrder hang o → (d : ℕ) → length (W d) ≤ k → IsOrder hang (onto (W d) o)) → (out : List ℕ) → IsOrder hang out → (cs : List ℕ) → length (flat_map W cs) ≤ k → IsOrder hang (onto (flat_map W cs) out)
+    flat_order : (k : ℕ) → ((o : List ℕ) → IsOrder dependents_of o → (d : ℕ) → length (W d) ≤ k → IsOrder dependents_of (onto (W d) o)) → (out : List ℕ) → IsOrder dependents_of out → (cs : List ℕ) → length (flat_map W cs) ≤ k → IsOrder dependents_of (onto (flat_map W cs) out)
     flat_order k rec out h [] l = h
     flat_order k rec out h (c ∷ cs) l =
-        subst (IsOrder hang) (sym (onto_app (W c) (flat_map W cs) out))
+        subst (IsOrder dependents_of) (sym (onto_app (W c) (flat_map W cs) out))
         (rec (onto (flat_map W cs) out) (flat_order k rec out h cs (omega (arith, length-append (W c) (flat_map W cs)))) c (omega (arith, length-append (W c) (flat_map W cs))))
 
-    walk_order : (k : ℕ) (out : List ℕ) → IsOrder hang out → (d : ℕ) → length (W d) ≤ k → IsOrder hang (onto (W d) out)
+    walk_order : (k : ℕ) (out : List ℕ) → IsOrder dependents_of out → (d : ℕ) → length (W d) ≤ k → IsOrder dependents_of (onto (W d) out)
     walk_order zero out h d l = let e = ap length (fix d) in absurd (omega arith)
     walk_order (suc k) out h d l =
-        let cs = flat_map W (hang d) in
-        subst (λ (ys : List ℕ). IsOrder hang (onto ys out)) (sym (fix d))
-        (put_order (onto cs out) d (flat_order k (walk_order k) out h (hang d) (omega (arith, ap length (fix d))))
-        (λ c m. among_onto cs out c ∙ ap (λ b. b || is_among out c) (among_flat hang W fix c (hang d) c m (ap (λ ys. is_among ys c) (fix c) ∙ among_first c (flat_map W (hang c))))))
+        let cs = flat_map W (dependents_of d) in
+        subst (λ (ys : List ℕ). IsOrder dependents_of (onto ys out)) (sym (fix d))
+        (put_order (onto cs out) d (flat_order k (walk_order k) out h (dependents_of d) (omega (arith, ap length (fix d))))
+        (λ c m. among_onto cs out c ∙ ap (λ b. b || is_among out c) (among_flat dependents_of W fix c (dependents_of d) c m (ap (λ ys. is_among ys c) (fix c) ∙ among_first c (flat_map W (dependents_of c))))))
 
-    pub last_order : (d : ℕ) → IsOrder hang (last_places (W d))
-    last_order d = subst (IsOrder hang) (sym (last_onto (W d))) (walk_order (length (W d)) [] tt d (omega arith))
+    pub last_order : (d : ℕ) → IsOrder dependents_of (last_places (W d))
+    last_order d = subst (IsOrder dependents_of) (sym (last_onto (W d))) (walk_order (length (W d)) [] tt d (omega arith))
 
 -- an order by what hangs below its devices alone
-same_order : (hang hang' : ℕ → List ℕ) (xs : List ℕ) → IsOrder hang xs → ((d : ℕ) → is_among xs d ≡ true → hang' d ≡ hang d) → IsOrder hang' xs
-same_order hang hang' [] h e = tt
-same_order hang hang' (x ∷ xs) h e = (
+same_order : (dependents_of dependents_of' : ℕ → List ℕ) (xs : List ℕ) → IsOrder dependents_of xs → ((d : ℕ) → is_among xs d ≡ true → dependents_of' d ≡ dependents_of d) → IsOrder dependents_of' xs
+same_order dependents_of dependents_of' [] h e = tt
+same_order dependents_of dependents_of' (x ∷ xs) h e = (
   h.0,
   subst (AllAmong xs) (sym (e x (among_first x xs))) h.1,
-  same_order hang hang' xs h.2 (λ d m. e d (among_rest x xs d m)),
+  same_order dependents_of dependents_of' xs h.2 (λ d m. e d (among_rest x xs d m)),
 )
 
 -- what was moved stands behind the others
-moved_order : (hang hang' : ℕ → List ℕ) (M back : List ℕ) → IsOrder hang' back → ((d : ℕ) → is_among back d ≡ is_among M d)
-    → ((d y : ℕ) → is_among M d ≡ false → is_among (hang' d) y ≡ true → (is_among M y ≡ true) ⊎ (is_among (hang d) y ≡ true))
-    → (xs : List ℕ) → IsOrder hang xs → IsOrder hang' (filter (λ d. not (is_among M d)) xs ++ back)
-moved_order hang hang' M back b same step [] h = b
-moved_order hang hang' M back b same step (x ∷ xs) h = by_test (moved_order hang hang' M back b same step xs h.2) (is_among M x) refl
+moved_order : (dependents_of dependents_of' : ℕ → List ℕ) (M back : List ℕ) → IsOrder dependents_of' back → ((d : ℕ) → is_among back d ≡ is_among M d)
+    → ((d y : ℕ) → is_among M d ≡ false → is_among (dependents_of' d) y ≡ true → (is_among M y ≡ true) ⊎ (is_among (dependents_of d) y ≡ true))
+    → (xs : List ℕ) → IsOrder dependents_of xs → IsOrder dependents_of' (filter (λ d. not (is_among M d)) xs ++ back)
+moved_order dependents_of dependents_of' M back b same step [] h = b
+moved_order dependents_of dependents_of' M back b same step (x ∷ xs) h = by_test (moved_order dependents_of dependents_of' M back b same step xs h.2) (is_among M x) refl
   where
-    stands : (y : ℕ) → (is_among M y ≡ true) ⊎ (is_among (hang x) y ≡ true) → is_among (filter (λ d. not (is_among M d)) xs ++ back) y ≡ true
+    stands : (y : ℕ) → (is_among M y ≡ true) ⊎ (is_among (dependents_of x) y ≡ true) → is_among (filter (λ d. not (is_among M d)) xs ++ back) y ≡ true
     stands y (inl m) = among_app (filter (λ d. not (is_among M d)) xs) back y ∙ or_right (is_among (filter (λ d. not (is_among M d)) xs) y) (is_among back y) (same y ∙ m)
     stands y (inr m) = among_app (filter (λ d. not (is_among M d)) xs) back y ∙ by_moved (is_among M y) refl
       where
         by_moved : (c : Bool) → is_among M y ≡ c → (is_among (filter (λ d. not (is_among M d)) xs) y || is_among back y) ≡ true
         by_moved true e = or_right (is_among (filter (λ d. not (is_among M d)) xs) y) (is_among back y) (same y ∙ e)
-        by_moved false e = or_left (is_among (filter (λ d. not (is_among M d)) xs) y) (is_among back y) (kept_among (λ d. not (is_among M d)) xs y (ap not e) (within_of xs (hang x) h.1 y m))
+        by_moved false e = or_left (is_among (filter (λ d. not (is_among M d)) xs) y) (is_among back y) (kept_among (λ d. not (is_among M d)) xs y (ap not e) (within_of xs (dependents_of x) h.1 y m))
 
-    by_test : IsOrder hang' (filter (λ d. not (is_among M d)) xs ++ back) → (c : Bool) → is_among M x ≡ c → IsOrder hang' (cond (not c) (x ∷ filter (λ d. not (is_among M d)) xs) (filter (λ d. not (is_among M d)) xs) ++ back)
+    by_test : IsOrder dependents_of' (filter (λ d. not (is_among M d)) xs ++ back) → (c : Bool) → is_among M x ≡ c → IsOrder dependents_of' (cond (not c) (x ∷ filter (λ d. not (is_among M d)) xs) (filter (λ d. not (is_among M d)) xs) ++ back)
     by_test rest true e = rest
     by_test rest false e = (
       among_app (filter (λ d. not (is_among M d)) xs) back x ∙ or_from (is_among (filter (λ d. not (is_among M d)) xs) x) (is_among back x) (not_in_filter (λ d. not (is_among M d)) xs x h.0) (same x ∙ e),
-      all_of (filter (λ d. not (is_among M d)) xs ++ back) (hang' x) (λ y m. stands y (step x y e m)),
+      all_of (filter (λ d. not (is_among M d)) xs ++ back) (dependents_of' x) (λ y m. stands y (step x y e m)),
       rest,
     )
 
 -- ---- one more link
 
 -- a link changes nothing for a device below which its supplier does not hang
-module _ (hang hang' : ℕ → List ℕ) (s : ℕ) (others : (d : ℕ) → (s == d) ≡ false → hang' d ≡ hang d) where
+module _ (dependents_of dependents_of' : ℕ → List ℕ) (s : ℕ) (others : (d : ℕ) → (s == d) ≡ false → dependents_of' d ≡ dependents_of d) where
   not_in_flat : (f : ℕ → List ℕ) (cs : List ℕ) → is_among (flat_map f cs) s ≡ false → (c : ℕ) → is_among cs c ≡ true → is_among (f c) s ≡ false
   not_in_flat f [] n c m = absurd (false≢true m)
   not_in_flat f (x ∷ cs) n c m = by_place (or_parts (is_among (f x) s) (is_among (flat_map f cs) s) (sym (among_app (f x) (flat_map f cs) s) ∙ n)) (λ k. not_in_flat f cs k c) (or_cases (x == c) (is_among cs c) m)
@@ -218,13 +218,13 @@ module _ (hang hang' : ℕ → List ℕ) (s : ℕ) (others : (d : ℕ) → (s ==
       by_place p rest (inl e) = subst (λ (y : ℕ). is_among (f y) s ≡ false) (eqb-true x c e) p.0
       by_place p rest (inr e) = rest p.1 e
 
-  pub same_moved : (n d : ℕ) → is_among (moved n hang d) s ≡ false → moved n hang' d ≡ moved n hang d
+  pub same_moved : (n d : ℕ) → is_among (moved n dependents_of d) s ≡ false → moved n dependents_of' d ≡ moved n dependents_of d
   same_moved zero d h = refl
   same_moved (suc n) d h =
-      let parts = or_parts (d == s) (is_among (flat_map (moved n hang) (hang d)) s) h in
+      let parts = or_parts (d == s) (is_among (flat_map (moved n dependents_of) (dependents_of d)) s) h in
       let other : (s == d) ≡ false = ne_eqb s d (λ e. eqb-false d s parts.0 (sym e)) in
-      ap (λ cs. d ∷ flat_map (moved n hang') cs) (others d other)
-      ∙ ap (λ ys. d ∷ ys) (flat_same (moved n hang') (moved n hang) (hang d) (λ c m. same_moved n c (not_in_flat (moved n hang) (hang d) parts.1 c m)))
+      ap (λ cs. d ∷ flat_map (moved n dependents_of') cs) (others d other)
+      ∙ ap (λ ys. d ∷ ys) (flat_same (moved n dependents_of') (moved n dependents_of) (dependents_of d) (λ c m. same_moved n c (not_in_flat (moved n dependents_of) (dependents_of d) parts.1 c m)))
 
 -- ---- the order of links
 
@@ -241,8 +241,8 @@ module _ (ps : List (Option ℕ)) (after : EachAfterParent 0 ps) where
       by_place rest (inl n) = rest n
       by_place rest (inr n) = of_link (l.supplier == d) n
 
-  pub hanging_within : (ls : List Link) → AreLinks ps ls → (d x : ℕ) → is_among (hanging ps ls d) x ≡ true → x < length ps
-  hanging_within ls h d x m = by_place (or_cases (is_among (children_from d 0 ps) x) (is_among (consumers_of d ls) x) (sym (among_app (children_from d 0 ps) (consumers_of d ls) x) ∙ m))
+  pub dependents_within : (ls : List Link) → AreLinks ps ls → (d x : ℕ) → is_among (dependents ps ls d) x ≡ true → x < length ps
+  dependents_within ls h d x m = by_place (or_cases (is_among (children_from d 0 ps) x) (is_among (consumers_of d ls) x) (sym (among_app (children_from d 0 ps) (consumers_of d ls) x) ∙ m))
     where
       by_place : (is_among (children_from d 0 ps) x ≡ true) ⊎ (is_among (consumers_of d ls) x ≡ true) → x < length ps
       by_place (inl n) = let l = children_within d 0 ps x n in omega arith
@@ -256,24 +256,24 @@ module _ (ps : List (Option ℕ)) (after : EachAfterParent 0 ps) where
       ap (λ xs. xs ++ cond (k.supplier == d) (k.consumer ∷ []) []) (no_consumers ls h.4 d l) ∙ ap (λ b. cond b (k.consumer ∷ []) []) other
 
   -- nothing hangs below a device that is not registered
-  pub nothing_below : (ls : List Link) → AreLinks ps ls → (d : ℕ) → length ps ≤ d → hanging ps ls d ≡ []
+  pub nothing_below : (ls : List Link) → AreLinks ps ls → (d : ℕ) → length ps ≤ d → dependents ps ls d ≡ []
   nothing_below ls h d l = ap (λ xs. xs ++ consumers_of d ls) (children_none d 0 ps after (omega arith)) ∙ no_consumers ls h d l
 
-  moved_within : (hang : ℕ → List ℕ) → ((d x : ℕ) → is_among (hang d) x ≡ true → x < length ps) → (n d : ℕ) → d < length ps → (x : ℕ) → is_among (moved n hang d) x ≡ true → x < length ps
-  moved_within hang f zero d l x m = let same : d ≡ x = eqb-true d x (sym (or-false (d == x)) ∙ m) in omega arith
-  moved_within hang f (suc n) d l x m = by_place (λ c i. moved_within hang f n c (f d c i) x) (or_cases (d == x) (is_among (flat_map (moved n hang) (hang d)) x) m)
+  moved_within : (dependents_of : ℕ → List ℕ) → ((d x : ℕ) → is_among (dependents_of d) x ≡ true → x < length ps) → (n d : ℕ) → d < length ps → (x : ℕ) → is_among (moved n dependents_of d) x ≡ true → x < length ps
+  moved_within dependents_of f zero d l x m = let same : d ≡ x = eqb-true d x (sym (or-false (d == x)) ∙ m) in omega arith
+  moved_within dependents_of f (suc n) d l x m = by_place (λ c i. moved_within dependents_of f n c (f d c i) x) (or_cases (d == x) (is_among (flat_map (moved n dependents_of) (dependents_of d)) x) m)
     where
-      each : (cs : List ℕ) → ((c : ℕ) → is_among cs c ≡ true → is_among (moved n hang c) x ≡ true → x < length ps) → is_among (flat_map (moved n hang) cs) x ≡ true → x < length ps
+      each : (cs : List ℕ) → ((c : ℕ) → is_among cs c ≡ true → is_among (moved n dependents_of c) x ≡ true → x < length ps) → is_among (flat_map (moved n dependents_of) cs) x ≡ true → x < length ps
       each [] g n' = absurd (false≢true n')
-      each (c ∷ cs) g n' = by_first (each cs (λ y i. g y (among_rest c cs y i))) (or_cases (is_among (moved n hang c) x) (is_among (flat_map (moved n hang) cs) x) (sym (among_app (moved n hang c) (flat_map (moved n hang) cs) x) ∙ n'))
+      each (c ∷ cs) g n' = by_first (each cs (λ y i. g y (among_rest c cs y i))) (or_cases (is_among (moved n dependents_of c) x) (is_among (flat_map (moved n dependents_of) cs) x) (sym (among_app (moved n dependents_of c) (flat_map (moved n dependents_of) cs) x) ∙ n'))
         where
-          by_first : (is_among (flat_map (moved n hang) cs) x ≡ true → x < length ps) → (is_among (moved n hang c) x ≡ true) ⊎ (is_among (flat_map (moved n hang) cs) x ≡ true) → x < length ps
+          by_first : (is_among (flat_map (moved n dependents_of) cs) x ≡ true → x < length ps) → (is_among (moved n dependents_of c) x ≡ true) ⊎ (is_among (flat_map (moved n dependents_of) cs) x ≡ true) → x < length ps
           by_first rest (inl p) = g c (among_first c cs) p
           by_first rest (inr p) = rest p
 
-      by_place : ((c : ℕ) → is_among (hang d) c ≡ true → is_among (moved n hang c) x ≡ true → x < length ps) → ((d == x) ≡ true) ⊎ (is_among (flat_map (moved n hang) (hang d)) x ≡ true) → x < length ps
+      by_place : ((c : ℕ) → is_among (dependents_of d) c ≡ true → is_among (moved n dependents_of c) x ≡ true → x < length ps) → ((d == x) ≡ true) ⊎ (is_among (flat_map (moved n dependents_of) (dependents_of d)) x ≡ true) → x < length ps
       by_place g (inl e) = let same : d ≡ x = eqb-true d x e in omega arith
-      by_place g (inr e) = each (hang d) g e
+      by_place g (inr e) = each (dependents_of d) g e
 
   pub among_last : (xs : List ℕ) (d : ℕ) → is_among (last_places xs) d ≡ is_among xs d
   among_last xs d = ap (λ ys. is_among ys d) (last_onto xs) ∙ (among_onto xs [] d ∙ or-false (is_among xs d))
@@ -284,11 +284,11 @@ module _ (ps : List (Option ℕ)) (after : EachAfterParent 0 ps) where
   order_within (l ∷ ls) h d m = by_place (order_within ls h.4 d) (or_cases (is_among (filter (λ x. not (is_among M x)) (order_by ps ls)) d) (is_among (last_places M) d) (sym (among_app (filter (λ x. not (is_among M x)) (order_by ps ls)) (last_places M) d) ∙ m))
     where
       M : List ℕ
-      M = moved (length ps) (hanging ps (l ∷ ls)) l.consumer
+      M = moved (length ps) (dependents ps (l ∷ ls)) l.consumer
 
       by_place : (is_among (order_by ps ls) d ≡ true → d < length ps) → (is_among (filter (λ x. not (is_among M x)) (order_by ps ls)) d ≡ true) ⊎ (is_among (last_places M) d ≡ true) → d < length ps
       by_place rest (inl n) = rest (among_filter (λ x. not (is_among M x)) (order_by ps ls) d n)
-      by_place rest (inr n) = moved_within (hanging ps (l ∷ ls)) (hanging_within (l ∷ ls) h) (length ps) l.consumer h.1 d (sym (among_last M d) ∙ n)
+      by_place rest (inr n) = moved_within (dependents ps (l ∷ ls)) (dependents_within (l ∷ ls) h) (length ps) l.consumer h.1 d (sym (among_last M d) ∙ n)
 
   -- and all of them
   pub order_covers : (ls : List Link) → (d : ℕ) → d < length ps → is_among (order_by ps ls) d ≡ true
@@ -296,7 +296,7 @@ module _ (ps : List (Option ℕ)) (after : EachAfterParent 0 ps) where
   order_covers (l ∷ ls) d i = among_app (filter (λ x. not (is_among M x)) (order_by ps ls)) (last_places M) d ∙ by_test (order_covers ls d i) (is_among M d) refl
     where
       M : List ℕ
-      M = moved (length ps) (hanging ps (l ∷ ls)) l.consumer
+      M = moved (length ps) (dependents ps (l ∷ ls)) l.consumer
 
       by_test : is_among (order_by ps ls) d ≡ true → (b : Bool) → is_among M d ≡ b → (is_among (filter (λ x. not (is_among M x)) (order_by ps ls)) d || is_among (last_places M) d) ≡ true
       by_test rest true e = or_right (is_among (filter (λ x. not (is_among M x)) (order_by ps ls)) d) (is_among (last_places M) d) (among_last M d ∙ e)
@@ -306,7 +306,7 @@ module _ (ps : List (Option ℕ)) (after : EachAfterParent 0 ps) where
   pub order_length : (ls : List Link) → AreLinks ps ls → length (order_by ps ls) ≡ length ps
   order_length ls h = omega (arith, few (length ps) (order_by ps ls) (order_by_different ps ls) (order_within ls h), many (length ps) (order_by ps ls) (order_covers ls))
 
-  run_order : (a n : ℕ) → a + n ≡ length ps → IsOrder (hanging ps []) (range_with_len a n)
+  run_order : (a n : ℕ) → a + n ≡ length ps → IsOrder (dependents ps []) (range_with_len a n)
   run_order a zero e = tt
   run_order a (suc n) e = (
     below_run (a + 1) n a (omega arith),
@@ -315,64 +315,64 @@ module _ (ps : List (Option ℕ)) (after : EachAfterParent 0 ps) where
   )
 
   -- levels enough for what hangs below by these links
-  pub links_descend : (ls : List Link) → AreLinks ps ls → IsOrder (hanging ps ls) (order_by ps ls) → Descends (hanging ps ls) (moved (length ps) (hanging ps ls))
+  pub links_descend : (ls : List Link) → AreLinks ps ls → IsOrder (dependents ps ls) (order_by ps ls) → Descends (dependents ps ls) (moved (length ps) (dependents ps ls))
   links_descend ls h o =
-      descends (hanging ps ls) (order_by ps ls) o
+      descends (dependents ps ls) (order_by ps ls) o
       (λ d n. by_place d n (cases_lt d (length ps)))
       (length ps) (few (length ps) (order_by ps ls) (order_by_different ps ls) (order_within ls h))
     where
-      by_place : (d : ℕ) → is_among (order_by ps ls) d ≡ false → (d < length ps) ⊎ (length ps ≤ d) → hanging ps ls d ≡ []
+      by_place : (d : ℕ) → is_among (order_by ps ls) d ≡ false → (d < length ps) ⊎ (length ps ≤ d) → dependents ps ls d ≡ []
       by_place d n (inl l) = absurd (true≢false (sym (order_covers ls d l) ∙ n))
       by_place d n (inr l) = nothing_below ls h d l
 
   -- what hangs below is the same but for the supplier of a new link
-  pub others_same : (l : Link) (ls : List Link) (d : ℕ) → (l.supplier == d) ≡ false → hanging ps (l ∷ ls) d ≡ hanging ps ls d
+  pub others_same : (l : Link) (ls : List Link) (d : ℕ) → (l.supplier == d) ≡ false → dependents ps (l ∷ ls) d ≡ dependents ps ls d
   others_same l ls d e = ap (λ xs. children_from d 0 ps ++ xs) (ap (λ b. consumers_of d ls ++ cond b (l.consumer ∷ []) []) e ∙ append-nil (consumers_of d ls))
 
   -- a new link moves what hung below its consumer before
-  pub moved_before : (l : Link) (ls : List Link) → is_among (moved (length ps) (hanging ps ls) l.consumer) l.supplier ≡ false → moved (length ps) (hanging ps (l ∷ ls)) l.consumer ≡ moved (length ps) (hanging ps ls) l.consumer
-  moved_before l ls n = same_moved (hanging ps ls) (hanging ps (l ∷ ls)) l.supplier (others_same l ls) (length ps) l.consumer n
+  pub moved_before : (l : Link) (ls : List Link) → is_among (moved (length ps) (dependents ps ls) l.consumer) l.supplier ≡ false → moved (length ps) (dependents ps (l ∷ ls)) l.consumer ≡ moved (length ps) (dependents ps ls) l.consumer
+  moved_before l ls n = same_moved (dependents ps ls) (dependents ps (l ∷ ls)) l.supplier (others_same l ls) (length ps) l.consumer n
 
   -- each device stands before all that hang right below it
-  pub order_ranked : (ls : List Link) → AreLinks ps ls → IsOrder (hanging ps ls) (order_by ps ls)
+  pub order_ranked : (ls : List Link) → AreLinks ps ls → IsOrder (dependents ps ls) (order_by ps ls)
   order_ranked [] h = run_order 0 (length ps) (omega arith)
   order_ranked (l ∷ ls) h = with_link (order_ranked ls h.4)
     where
       M : List ℕ
-      M = moved (length ps) (hanging ps (l ∷ ls)) l.consumer
+      M = moved (length ps) (dependents ps (l ∷ ls)) l.consumer
 
-      same : moved (length ps) (hanging ps (l ∷ ls)) l.consumer ≡ moved (length ps) (hanging ps ls) l.consumer
+      same : moved (length ps) (dependents ps (l ∷ ls)) l.consumer ≡ moved (length ps) (dependents ps ls) l.consumer
       same = moved_before l ls h.3
 
       not_supplier : (d : ℕ) → is_among M d ≡ true → (l.supplier == d) ≡ false
       not_supplier d m = ne_eqb l.supplier d (λ e. true≢false (sym (subst (λ (y : ℕ). is_among M y ≡ true) (sym e) m) ∙ (ap (λ ys. is_among ys l.supplier) same ∙ h.3)))
 
-      consumer_first : (n : ℕ) (hang : ℕ → List ℕ) (d : ℕ) → is_among (moved n hang d) d ≡ true
-      consumer_first zero hang d = among_first d []
-      consumer_first (suc n) hang d = among_first d (flat_map (moved n hang) (hang d))
+      consumer_first : (n : ℕ) (dependents_of : ℕ → List ℕ) (d : ℕ) → is_among (moved n dependents_of d) d ≡ true
+      consumer_first zero dependents_of d = among_first d []
+      consumer_first (suc n) dependents_of d = among_first d (flat_map (moved n dependents_of) (dependents_of d))
 
       of_link : (b : Bool) (y : ℕ) → is_among (cond b (l.consumer ∷ []) []) y ≡ true → is_among M y ≡ true
       of_link false y m = absurd (false≢true m)
-      of_link true y m = subst (λ (z : ℕ). is_among M z ≡ true) (eqb-true l.consumer y (sym (or-false (l.consumer == y)) ∙ m)) (consumer_first (length ps) (hanging ps (l ∷ ls)) l.consumer)
+      of_link true y m = subst (λ (z : ℕ). is_among M z ≡ true) (eqb-true l.consumer y (sym (or-false (l.consumer == y)) ∙ m)) (consumer_first (length ps) (dependents ps (l ∷ ls)) l.consumer)
 
-      step : (d y : ℕ) → is_among M d ≡ false → is_among (hanging ps (l ∷ ls) d) y ≡ true → (is_among M y ≡ true) ⊎ (is_among (hanging ps ls d) y ≡ true)
+      step : (d y : ℕ) → is_among M d ≡ false → is_among (dependents ps (l ∷ ls) d) y ≡ true → (is_among M y ≡ true) ⊎ (is_among (dependents ps ls d) y ≡ true)
       step d y n m = by_child (or_cases (is_among (children_from d 0 ps) y) (is_among (consumers_of d (l ∷ ls)) y) (sym (among_app (children_from d 0 ps) (consumers_of d (l ∷ ls)) y) ∙ m))
         where
-          old : (is_among (children_from d 0 ps) y || is_among (consumers_of d ls) y) ≡ true → (is_among M y ≡ true) ⊎ (is_among (hanging ps ls d) y ≡ true)
+          old : (is_among (children_from d 0 ps) y || is_among (consumers_of d ls) y) ≡ true → (is_among M y ≡ true) ⊎ (is_among (dependents ps ls d) y ≡ true)
           old e = inr (among_app (children_from d 0 ps) (consumers_of d ls) y ∙ e)
 
-          by_consumer : (is_among (consumers_of d ls) y ≡ true) ⊎ (is_among (cond (l.supplier == d) (l.consumer ∷ []) []) y ≡ true) → (is_among M y ≡ true) ⊎ (is_among (hanging ps ls d) y ≡ true)
+          by_consumer : (is_among (consumers_of d ls) y ≡ true) ⊎ (is_among (cond (l.supplier == d) (l.consumer ∷ []) []) y ≡ true) → (is_among M y ≡ true) ⊎ (is_among (dependents ps ls d) y ≡ true)
           by_consumer (inl e) = old (or_right (is_among (children_from d 0 ps) y) (is_among (consumers_of d ls) y) e)
           by_consumer (inr e) = inl (of_link (l.supplier == d) y e)
 
-          by_child : (is_among (children_from d 0 ps) y ≡ true) ⊎ (is_among (consumers_of d (l ∷ ls)) y ≡ true) → (is_among M y ≡ true) ⊎ (is_among (hanging ps ls d) y ≡ true)
+          by_child : (is_among (children_from d 0 ps) y ≡ true) ⊎ (is_among (consumers_of d (l ∷ ls)) y ≡ true) → (is_among M y ≡ true) ⊎ (is_among (dependents ps ls d) y ≡ true)
           by_child (inl e) = old (or_left (is_among (children_from d 0 ps) y) (is_among (consumers_of d ls) y) e)
           by_child (inr e) = by_consumer (or_cases (is_among (consumers_of d ls) y) (is_among (cond (l.supplier == d) (l.consumer ∷ []) []) y) (sym (among_app (consumers_of d ls) (cond (l.supplier == d) (l.consumer ∷ []) []) y) ∙ e))
 
-      with_link : IsOrder (hanging ps ls) (order_by ps ls) → IsOrder (hanging ps (l ∷ ls)) (filter (λ x. not (is_among M x)) (order_by ps ls) ++ last_places M)
+      with_link : IsOrder (dependents ps ls) (order_by ps ls) → IsOrder (dependents ps (l ∷ ls)) (filter (λ x. not (is_among M x)) (order_by ps ls) ++ last_places M)
       with_link o =
-          moved_order (hanging ps ls) (hanging ps (l ∷ ls)) M (last_places M)
-          (same_order (hanging ps ls) (hanging ps (l ∷ ls)) (last_places M)
-          (subst (λ (ys : List ℕ). IsOrder (hanging ps ls) (last_places ys)) (sym same) (last_order (hanging ps ls) (moved (length ps) (hanging ps ls)) (links_descend ls h.4 o) l.consumer))
+          moved_order (dependents ps ls) (dependents ps (l ∷ ls)) M (last_places M)
+          (same_order (dependents ps ls) (dependents ps (l ∷ ls)) (last_places M)
+          (subst (λ (ys : List ℕ). IsOrder (dependents ps ls) (last_places ys)) (sym same) (last_order (dependents ps ls) (moved (length ps) (dependents ps ls)) (links_descend ls h.4 o) l.consumer))
           (λ d m. others_same l ls d (not_supplier d (sym (among_last M d) ∙ m))))
           (among_last M) step (order_by ps ls) o

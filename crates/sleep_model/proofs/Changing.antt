@@ -3,9 +3,9 @@ use Rattle.std.proofs.Common.{◌≡◌, ◌<◌, ◌∙◌, ℕ, Bool, true, fa
 use Rattle.std.proofs.lemmas.Bool.{true≢false, or_cases, or_left, or_right}
 use Rattle.sleep_model.specs.declared.machine.Link.{Link}
 use Rattle.sleep_model.specs.Links.{AllAmong, IsOrder, AreLinks, is_linked}
-use Rattle.sleep_model.specs.Order.{is_among, is_link, with_state, active_of, children_from, consumers_of, suppliers_of, hanging, moved, moved_last, order_by}
+use Rattle.sleep_model.specs.Order.{is_among, is_link, with_state, active_of, children_from, consumers_of, suppliers_of, dependents, moved, moved_last, order_by}
 use Rattle.sleep_model.proofs.FirstPlaces.{consumers_linked}
-use Rattle.sleep_model.proofs.Hanging.{among_app, among_first, among_rest, within_of, all_of}
+use Rattle.sleep_model.proofs.Dependents.{among_app, among_first, among_rest, within_of, all_of}
 
 -- ---- a state alone changes
 
@@ -43,8 +43,8 @@ module _ (f : Link → Link) (s : (l : Link) → (f l).supplier ≡ l.supplier) 
       ap (λ b. (((f l).supplier == x) && ((f l).consumer == y)) || b) (linked_kept ls x y)
       ∙ ap₂ (λ a b. ((a == x) && (b == y)) || is_linked ls x y) (s l) (c l)
 
-  pub hanging_kept : (ps : List (Option ℕ)) (ls : List Link) → hanging ps (map f ls) ≡ hanging ps ls
-  hanging_kept ps ls = λ i d. ap (λ xs. children_from d 0 ps ++ xs) (consumers_kept d ls) i
+  pub dependents_kept : (ps : List (Option ℕ)) (ls : List Link) → dependents ps (map f ls) ≡ dependents ps ls
+  dependents_kept ps ls = λ i d. ap (λ xs. children_from d 0 ps ++ xs) (consumers_kept d ls) i
 
   pub links_kept : (ps : List (Option ℕ)) (ls : List Link) → AreLinks ps ls → AreLinks ps (map f ls)
   links_kept ps [] h = tt
@@ -52,17 +52,17 @@ module _ (f : Link → Link) (s : (l : Link) → (f l).supplier ≡ l.supplier) 
     subst (λ (x : ℕ). x < length ps) (sym (s l)) h.0,
     subst (λ (x : ℕ). x < length ps) (sym (c l)) h.1,
     linked_kept ls (f l).supplier (f l).consumer ∙ (ap₂ (is_linked ls) (s l) (c l) ∙ h.2),
-    ap (λ (hang : ℕ → List ℕ). is_among (moved (length ps) hang (f l).consumer) (f l).supplier) (hanging_kept ps ls)
-        ∙ (ap₂ (λ x y. is_among (moved (length ps) (hanging ps ls) x) y) (c l) (s l) ∙ h.3),
+    ap (λ (dependents_of : ℕ → List ℕ). is_among (moved (length ps) dependents_of (f l).consumer) (f l).supplier) (dependents_kept ps ls)
+        ∙ (ap₂ (λ x y. is_among (moved (length ps) (dependents ps ls) x) y) (c l) (s l) ∙ h.3),
     links_kept ps ls h.4,
   )
 
   pub order_kept : (ps : List (Option ℕ)) (ls : List Link) → order_by ps (map f ls) ≡ order_by ps ls
   order_kept ps [] = refl
   order_kept ps (l ∷ ls) =
-      ap (λ xs. moved_last (moved (length ps) (hanging ps (map f (l ∷ ls))) (f l).consumer) xs) (order_kept ps ls)
-      ∙ (ap (λ (hang : ℕ → List ℕ). moved_last (moved (length ps) hang (f l).consumer) (order_by ps ls)) (hanging_kept ps (l ∷ ls))
-      ∙ ap (λ x. moved_last (moved (length ps) (hanging ps (l ∷ ls)) x) (order_by ps ls)) (c l))
+      ap (λ xs. moved_last (moved (length ps) (dependents ps (map f (l ∷ ls))) (f l).consumer) xs) (order_kept ps ls)
+      ∙ (ap (λ (dependents_of : ℕ → List ℕ). moved_last (moved (length ps) dependents_of (f l).consumer) (order_by ps ls)) (dependents_kept ps (l ∷ ls))
+      ∙ ap (λ x. moved_last (moved (length ps) (dependents ps (l ∷ ls)) x) (order_by ps ls)) (c l))
 
 -- ---- the active ones
 
@@ -80,14 +80,14 @@ active_linked (l ∷ ls) s c e = by_state (active_linked ls s c) l.active e
     by_state rest true f = by_place rest (or_cases (is_link s c l) (is_linked (active_of ls) s c) f)
 
 -- what hangs below by active links hangs below
-pub active_hanging : (ps : List (Option ℕ)) (ls : List Link) (d e : ℕ) → is_among (hanging ps (active_of ls) d) e ≡ true → is_among (hanging ps ls d) e ≡ true
-active_hanging ps ls d e m = among_app (children_from d 0 ps) (consumers_of d ls) e ∙ by_place (or_cases (is_among (children_from d 0 ps) e) (is_among (consumers_of d (active_of ls)) e) (sym (among_app (children_from d 0 ps) (consumers_of d (active_of ls)) e) ∙ m))
+pub active_dependents : (ps : List (Option ℕ)) (ls : List Link) (d e : ℕ) → is_among (dependents ps (active_of ls) d) e ≡ true → is_among (dependents ps ls d) e ≡ true
+active_dependents ps ls d e m = among_app (children_from d 0 ps) (consumers_of d ls) e ∙ by_place (or_cases (is_among (children_from d 0 ps) e) (is_among (consumers_of d (active_of ls)) e) (sym (among_app (children_from d 0 ps) (consumers_of d (active_of ls)) e) ∙ m))
   where
     by_place : (is_among (children_from d 0 ps) e ≡ true) ⊎ (is_among (consumers_of d (active_of ls)) e ≡ true) → (is_among (children_from d 0 ps) e || is_among (consumers_of d ls) e) ≡ true
     by_place (inl f) = or_left (is_among (children_from d 0 ps) e) (is_among (consumers_of d ls) e) f
     by_place (inr f) = or_right (is_among (children_from d 0 ps) e) (is_among (consumers_of d ls) e) (consumers_linked ls d e ∙ active_linked ls d e (sym (consumers_linked (active_of ls) d e) ∙ f))
 
 -- an order stays one where less hangs below its devices
-pub fewer_order : (hang hang' : ℕ → List ℕ) → ((d e : ℕ) → is_among (hang' d) e ≡ true → is_among (hang d) e ≡ true) → (xs : List ℕ) → IsOrder hang xs → IsOrder hang' xs
-fewer_order hang hang' f [] h = tt
-fewer_order hang hang' f (x ∷ xs) h = (h.0, all_of xs (hang' x) (λ y m. within_of xs (hang x) h.1 y (f x y m)), fewer_order hang hang' f xs h.2)
+pub fewer_order : (dependents_of dependents_of' : ℕ → List ℕ) → ((d e : ℕ) → is_among (dependents_of' d) e ≡ true → is_among (dependents_of d) e ≡ true) → (xs : List ℕ) → IsOrder dependents_of xs → IsOrder dependents_of' xs
+fewer_order dependents_of dependents_of' f [] h = tt
+fewer_order dependents_of dependents_of' f (x ∷ xs) h = (h.0, all_of xs (dependents_of' x) (λ y m. within_of xs (dependents_of x) h.1 y (f x y m)), fewer_order dependents_of dependents_of' f xs h.2)

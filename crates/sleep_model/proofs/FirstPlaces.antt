@@ -5,10 +5,10 @@ use Rattle.std.proofs.lemmas.List.{append-nil, append_assoc}
 use Rattle.std.proofs.lemmas.Bool.{eqb-true, eqb-false, or_parts, ne_eqb, eq-eqb}
 use Rattle.std.proofs.Math.Bool.{or-false}
 use Rattle.sleep_model.specs.declared.machine.Link.{Link}
-use Rattle.sleep_model.specs.Order.{is_among, is_parent, children_from, consumers_of, suppliers_of, hanging, holding, parent_of}
+use Rattle.sleep_model.specs.Order.{is_among, is_parent, children_from, consumers_of, suppliers_of, dependents, superiors, parent_of}
 use Rattle.sleep_model.specs.Links.{first_places, is_linked}
 use Rattle.sleep_model.proofs.Walks.{AllDifferent, same_eq}
-use Rattle.sleep_model.proofs.Hanging.{among_app}
+use Rattle.sleep_model.proofs.Dependents.{among_app}
 
 -- ---- first places
 
@@ -61,8 +61,8 @@ pub list_any_among : (xs : List ℕ) (d : ℕ) → list_any (λ y. y == d) xs �
 list_any_among [] d = refl
 list_any_among (x ∷ xs) d = ap (λ b. (x == d) || b) (list_any_among xs d)
 
-pub hanging_new : (ps : List (Option ℕ)) (l : Link) (ls : List Link) → hanging ps (l ∷ ls) l.supplier ≡ hanging ps ls l.supplier ++ l.consumer ∷ []
-hanging_new ps l ls =
+pub dependents_new : (ps : List (Option ℕ)) (l : Link) (ls : List Link) → dependents ps (l ∷ ls) l.supplier ≡ dependents ps ls l.supplier ++ l.consumer ∷ []
+dependents_new ps l ls =
     ap (λ b. children_from l.supplier 0 ps ++ (consumers_of l.supplier ls ++ cond b (l.consumer ∷ []) [])) (same_eq l.supplier)
     ∙ sym (append_assoc (children_from l.supplier 0 ps) (consumers_of l.supplier ls) (l.consumer ∷ []))
 
@@ -72,10 +72,10 @@ suppliers_new l ls = ap (λ b. suppliers_of l.consumer ls ++ cond b (l.supplier 
 pub suppliers_other : (l : Link) (ls : List Link) (d : ℕ) → (l.consumer == d) ≡ false → suppliers_of d (l ∷ ls) ≡ suppliers_of d ls
 suppliers_other l ls d e = ap (λ b. suppliers_of d ls ++ cond b (l.supplier ∷ []) []) e ∙ append-nil (suppliers_of d ls)
 
-pub holding_new : (ps : List (Option ℕ)) (l : Link) (ls : List Link) → holding ps (l ∷ ls) l.consumer ≡ holding ps ls l.consumer ++ l.supplier ∷ []
+pub holding_new : (ps : List (Option ℕ)) (l : Link) (ls : List Link) → superiors ps (l ∷ ls) l.consumer ≡ superiors ps ls l.consumer ++ l.supplier ∷ []
 holding_new ps l ls = ap (λ xs. parent_of (slice_get ps l.consumer) ++ xs) (suppliers_new l ls) ∙ sym (append_assoc (parent_of (slice_get ps l.consumer)) (suppliers_of l.consumer ls) (l.supplier ∷ []))
 
-pub holding_other : (ps : List (Option ℕ)) (l : Link) (ls : List Link) (d : ℕ) → (l.consumer == d) ≡ false → holding ps (l ∷ ls) d ≡ holding ps ls d
+pub holding_other : (ps : List (Option ℕ)) (l : Link) (ls : List Link) (d : ℕ) → (l.consumer == d) ≡ false → superiors ps (l ∷ ls) d ≡ superiors ps ls d
 holding_other ps l ls d e = ap (λ xs. parent_of (slice_get ps d) ++ xs) (suppliers_other l ls d e)
 
 -- ---- what stands already
@@ -175,8 +175,8 @@ among_children d n (p ∷ ps) (suc k) l = by_test (among_children d (suc n) ps k
     by_test rest false = ap (is_among (children_from d (suc n) ps)) (sym later) ∙ rest
 
 -- a consumer that is not linked yet hangs right below only if it is a child
-pub hangs_already : (ps : List (Option ℕ)) (ls : List Link) (s c : ℕ) → c < length ps → is_linked ls s c ≡ false → is_among (hanging ps ls s) c ≡ is_parent s (get_or ps c None)
-hangs_already ps ls s c l n =
+pub depends_already : (ps : List (Option ℕ)) (ls : List Link) (s c : ℕ) → c < length ps → is_linked ls s c ≡ false → is_among (dependents ps ls s) c ≡ is_parent s (get_or ps c None)
+depends_already ps ls s c l n =
     among_app (children_from s 0 ps) (consumers_of s ls) c
     ∙ (ap (λ b. is_among (children_from s 0 ps) c || b) (consumers_linked ls s c ∙ n)
     ∙ (or-false (is_among (children_from s 0 ps) c)
@@ -192,7 +192,7 @@ among_parent (Some p ∷ ps) zero s = or-false (p == s)
 among_parent (p ∷ ps) (suc c) s = among_parent ps c s
 
 -- and its supplier stands above it already only if it is the parent
-pub holds_already : (ps : List (Option ℕ)) (ls : List Link) (s c : ℕ) → is_linked ls s c ≡ false → is_among (holding ps ls c) s ≡ is_parent s (get_or ps c None)
+pub holds_already : (ps : List (Option ℕ)) (ls : List Link) (s c : ℕ) → is_linked ls s c ≡ false → is_among (superiors ps ls c) s ≡ is_parent s (get_or ps c None)
 holds_already ps ls s c n =
     among_app (parent_of (slice_get ps c)) (suppliers_of c ls) s
     ∙ (ap (λ b. is_among (parent_of (slice_get ps c)) s || b) (suppliers_linked ls s c ∙ n)

@@ -2,7 +2,7 @@ pub mod Acyclic
 pub mod Changing
 pub mod Children
 pub mod FirstPlaces
-pub mod Hanging
+pub mod Dependents
 pub mod Journals
 pub mod Ordering
 pub mod Padding

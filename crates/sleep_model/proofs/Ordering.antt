@@ -6,7 +6,7 @@ use Rattle.std.proofs.lemmas.Bool.Decides.{nat_tests}
 use Rattle.sleep_model.specs.declared.entry.Entry.{Entry}
 use Rattle.sleep_model.specs.declared.machine.Machine.{Machine}
 use Rattle.sleep_model.specs.declared.machine.Link.{Link}
-use Rattle.sleep_model.specs.Order.{is_among, parents_of, hanging, last_places, moved, order_by, order, links_at}
+use Rattle.sleep_model.specs.Order.{is_among, parents_of, dependents, last_places, moved, order_by, order, links_at}
 use Rattle.sleep_model.proofs.Walks.{AllDifferent, same_eq, run_different}
 
 -- what is not in a list is not in a part of it
@@ -74,7 +74,7 @@ different_append (x ∷ xs) ys h g apart = (
 pub order_by_different : (ds : List (Option ℕ)) (ls : List Link) → AllDifferent (order_by ds ls)
 order_by_different ds [] = run_different 0 (length ds)
 order_by_different ds (l ∷ ls) =
-    let ms = moved (length ds) (hanging ds (l ∷ ls)) l.consumer in
+    let ms = moved (length ds) (dependents ds (l ∷ ls)) l.consumer in
     different_append (filter (λ d. not (is_among ms d)) (order_by ds ls)) (last_places ms) (different_filter (λ d. not (is_among ms d)) (order_by ds ls) (order_by_different ds ls)) (different_last ms)
     (λ d m. apart ms d (is_among ms d) refl m)
   where

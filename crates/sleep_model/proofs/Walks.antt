@@ -34,14 +34,14 @@ last_none p (x ∷ xs) h =
     rw (rest, here) refl
 
 -- nothing is left of a walk that has passed all
-pub last_unsettled_none : (xs : List ℕ) → last_where (λ d. not (is_among xs d)) xs ≡ None
-last_unsettled_none xs = last_none _ xs (λ d m. ap not m)
+pub last_not_down_none : (xs : List ℕ) → last_where (λ d. not (is_among xs d)) xs ≡ None
+last_not_down_none xs = last_none _ xs (λ d m. ap not m)
 
 -- the last device that is not among those from k + 1 on is the one at k
-pub last_unsettled : (xs : List ℕ) (k : ℕ) → AllDifferent xs → k < length xs → last_where (λ d. not (is_among (drop (suc k) xs) d)) xs ≡ Some (get_or xs k 0)
-last_unsettled [] k h l = absurd (omega arith)
-last_unsettled (x ∷ xs) zero h l = rw (last_unsettled_none xs, h.0) refl
-last_unsettled (x ∷ xs) (suc k) h l = rw (last_unsettled xs k h.1 (omega arith)) refl
+pub last_not_down : (xs : List ℕ) (k : ℕ) → AllDifferent xs → k < length xs → last_where (λ d. not (is_among (drop (suc k) xs) d)) xs ≡ Some (get_or xs k 0)
+last_not_down [] k h l = absurd (omega arith)
+last_not_down (x ∷ xs) zero h l = rw (last_not_down_none xs, h.0) refl
+last_not_down (x ∷ xs) (suc k) h l = rw (last_not_down xs k h.1 (omega arith)) refl
 
 -- the first device among those from k on is the one at k
 pub first_suspended : (xs : List ℕ) (k : ℕ) → AllDifferent xs → k < length xs → first_where (is_among (drop k xs)) xs ≡ Some (get_or xs k 0)

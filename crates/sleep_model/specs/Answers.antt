@@ -1,8 +1,7 @@
 -- What a callback answers, and what it reports meanwhile.
-use Rattle.std.specs.Prelude.{ℕ, suc, Bool, true, false, ◌==◌, ◌&&◌, List, [], ◌∷◌, ℤ, pos, negsuc, if◌then◌else◌, Option, Some, None}
+use Rattle.std.specs.Prelude.{ℕ, Bool, true, false, ◌==◌, ◌&&◌, List, [], ◌∷◌, ℤ, pos, if◌then◌else◌, Option, Some, None}
 use Rattle.sleep_base.specs.declared.errno.Errno.{Errno}
-use Rattle.sleep_base.specs.declared.errno.Errno.TheVariants.{EINTR, EIO, EAGAIN, EACCES, EBUSY, ENODEV, EINVAL}
-use Rattle.sleep_base.specs.Errno.{number_of}
+pub use Rattle.sleep_base.specs.Errno.{errno_with, errors, error_of_number}
 use Rattle.sleep_model.specs.declared.machine.Answer.{Answer}
 use Rattle.sleep_model.specs.declared.machine.Machine.{Machine}
 use Rattle.sleep_model.specs.declared.machine.PlatDo.{PlatDo}
@@ -47,20 +46,6 @@ own_or (Some own) general = Some own
 -- the answer of a thing in attempt n, where the machine gives one
 abbrev pub answer : Machine → What → ℕ → Option Answer
 answer m what n = own_or (answer_for what (Some n) m.answers) (answer_for what None m.answers)
-
--- the error with that number (include/uapi/asm-generic/errno-base.h)
-abbrev pub errno_with : ℕ → List Errno → Option Errno
-errno_with n [] = None
-errno_with n (r ∷ rest) = if number_of r == n then Some r else errno_with n rest
-
--- all errors
-abbrev pub errors : List Errno
-errors = EINTR ∷ EIO ∷ EAGAIN ∷ EACCES ∷ EBUSY ∷ ENODEV ∷ EINVAL ∷ []
-
--- the error that a callback's number means: one below 0
-abbrev pub error_of_number : ℤ → Option Errno
-error_of_number (pos n) = None
-error_of_number (negsuc n) = errno_with (suc n) errors
 
 -- the error that an answer is, if it is one
 abbrev pub answer_error : Option Answer → Option Errno

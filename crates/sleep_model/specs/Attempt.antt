@@ -143,7 +143,7 @@ abbrev pub stage_due : Machine → List Entry → EventNow → Stage → Due
 stage_due m past now stage.Notifies =
     if_left (λ x. kind.NotifyPrepare x (answered m past (what.Notifier x))) (next_called m past)
 stage_due m past now (stage.Freezes g) = freeze_due m past now g (freeze_since past)
-stage_due m past now (stage.Asks step) = Makes (kind.PlatformDo step (answered m past (what.Platform step)))
+stage_due m past now (stage.PlatformDown step) = Makes (kind.PlatformDo step (answered m past (what.Platform step)))
 stage_due m past now stage.Prepares = prepare_due m past (phase_failed past) (next_prepared m past)
 stage_due m past now (stage.Downs p) = down_due m past now p (callback past)
 stage_due m past now stage.StopsCpus = if_left (cpu_kind (pending past now)) (next_cpu_off m past)
@@ -155,7 +155,7 @@ stage_due m past now stage.Enters = enter_due m past now (sleep_of past)
 stage_due m past now stage.StartsSyscore = if_left kind.SyscoreResume (next_started m past)
 stage_due m past now stage.StartsIrqs = Makes (kind.Irqs true)
 stage_due m past now stage.StartsCpus = if_left kind.CpuOn (next_cpu_on m past)
-stage_due m past now (stage.Tells step) = Makes (kind.PlatformUndo step)
+stage_due m past now (stage.PlatformUp step) = Makes (kind.PlatformUndo step)
 stage_due m past now (stage.Ups p) = up_due m past p (callback past)
 stage_due m past now stage.Completes = complete_due (next_completed m past)
 stage_due m past now stage.Clears = Makes kind.Clear

@@ -1,4 +1,4 @@
--- The phases of devices, with asynchronous ones, errors and devices that are left alone (drivers/base/power/main.c).
+-- The phases of devices, with asynchronous ones, errors and devices that are direct-complete (drivers/base/power/main.c).
 use Rattle.std.specs.Prelude.{ℕ, Bool, true, false, not, ◌==◌, ◌&&◌, List, [], ◌∷◌, ℤ, pos, negsuc, length, map, if◌then◌else◌, Option, Some, None, replicate, slice_set}
 use Rattle.std.specs.List.{list_all}
 use Rattle.sleep_base.specs.declared.errno.Errno.{Errno}
@@ -17,7 +17,7 @@ use Rattle.sleep_model.specs.declared.machine.What.TheVariants as what
 use Rattle.phase_table.specs.declared.phase.Phase.{Phase}
 use Rattle.phase_table.specs.declared.phase.Phase.TheVariants as phase
 pub use Rattle.sleep_model.specs.declared.place.AsyncWork.{AsyncWork}
-pub use Rattle.sleep_model.specs.declared.place.AsyncWork.TheVariants.{Idle, Given, Inside}
+pub use Rattle.sleep_model.specs.declared.place.AsyncWork.TheVariants.{Idle, Scheduled, Inside}
 pub use Rattle.sleep_model.specs.declared.place.Callback.{Callback}
 use Rattle.sleep_model.specs.declared.place.Due.{Due}
 use Rattle.sleep_model.specs.declared.place.Due.TheVariants.{Makes, Waits}
@@ -29,7 +29,7 @@ use Rattle.sleep_model.specs.Order.{order, below, above}
 use Rattle.sleep_model.specs.Path.{attempts}
 use Rattle.phase_table.specs.Phases.{is_down, mirror, tests_wakeup}
 use Rattle.sleep_model.specs.Runtime.{is_async, may_wake, statuses}
-use Rattle.sleep_model.specs.Stands.{stands, stand_at, is_unprepared, is_prepared, is_ready, is_unsettled, is_going_down, is_down_in, is_left_alone, is_low}
+use Rattle.sleep_model.specs.Stands.{stands, stand_at, is_unprepared, is_prepared, is_ready, is_not_down, is_going_down, is_down_in, is_direct_complete, is_not_up}
 use Rattle.sleep_model.specs.Walk.{is_so, first_where, last_where, or_else}
 
 -- ---- callbacks
@@ -101,22 +101,22 @@ own_error (e ∷ past) = own_error_after e.kind (is_device e.actor) (own_error p
 abbrev pub phase_error : List Entry → Option Errno
 phase_error past = or_else (own_error past) (phase_failed past)
 
--- ---- devices that are left alone
+-- ---- devices that are direct-complete
 
 -- an answer of 1
 abbrev pub is_one : ℤ → Bool
 is_one (pos n) = n == 1
 is_one (negsuc n) = false
 
--- which devices may be left alone, after an entry (device_prepare, direct_complete)
-abbrev pub willing_after : Kind → List Bool → List Bool
-willing_after (kind.Prepare d r) before = slice_set before d (is_one r)
-willing_after _ before = before
+-- which devices may be direct-complete, after an entry (device_prepare, direct_complete)
+abbrev pub asks_direct_after : Kind → List Bool → List Bool
+asks_direct_after (kind.Prepare d r) before = slice_set before d (is_one r)
+asks_direct_after _ before = before
 
 -- which of n devices answered 1 to their last prepare (power.direct_complete)
-abbrev pub willing : ℕ → List Entry → List Bool
-willing n [] = replicate n false
-willing n (e ∷ past) = willing_after e.kind (willing n past)
+abbrev pub asks_direct : ℕ → List Entry → List Bool
+asks_direct n [] = replicate n false
+asks_direct n (e ∷ past) = asks_direct_after e.kind (asks_direct n past)
 
 -- device d of the machine is asynchronous (power.async_suspend)
 abbrev pub is_async_device : Machine → ℕ → Bool
@@ -130,20 +130,20 @@ may_wake_device m d = is_so (map may_wake m.devices) d
 abbrev pub stand_in : Machine → List Entry → Phase → ℕ → Stand
 stand_in m past p d = stand_at (stands (length m.devices) p past) d
 
--- d is left alone: it is willing, runtime suspended, no source of wakeup, and all below it were left alone (__device_suspend, direct_complete)
+-- d is direct-complete: it asked for direct-complete, is runtime suspended, may not wake the machine, and all below it are direct-complete (__device_suspend, direct_complete)
 abbrev pub is_direct_now : Machine → List Entry → ℕ → Bool
 is_direct_now m past d =
-    is_so (willing (length m.devices) past) d && is_so (statuses m.devices past) d && not (may_wake_device m d)
-    && list_all (λ e. is_left_alone (stand_in m past phase.Suspend e)) (below m past d)
+    is_so (asks_direct (length m.devices) past) d && is_so (statuses m.devices past) d && not (may_wake_device m d)
+    && list_all (λ e. is_direct_complete (stand_in m past phase.Suspend e)) (below m past d)
 
 -- phase p leaves d alone: suspend by what is so now, late and noirq where suspend did (__device_suspend, __device_suspend_late, direct_complete)
 abbrev pub is_direct : Machine → List Entry → Phase → ℕ → Bool
 is_direct m past phase.Suspend d = is_direct_now m past d
-is_direct m past p d = is_left_alone (stand_in m past phase.Suspend d)
+is_direct m past p d = is_direct_complete (stand_in m past phase.Suspend d)
 
 -- ---- the way down
 
--- a device at its turn: a pending wakeup skips it, it is left alone, or its callback begins (__device_suspend)
+-- a device at its turn: a pending wakeup skips it, direct-complete skips it, or its callback begins (__device_suspend)
 abbrev pub taken : Machine → List Entry → EventNow → Phase → ℕ → Kind
 taken m past now p d =
     if tests_wakeup p && pending past now then kind.Skip p d skip.Pending
@@ -156,9 +156,9 @@ after_device (Some d) next = Waits (why.Device d)
 
 -- the first device below d that is not through with phase p (dpm_wait_for_subordinate)
 abbrev pub waits_below : Machine → List Entry → Phase → ℕ → Option ℕ
-waits_below m past p d = first_where (λ e. is_unsettled (stand_in m past p e)) (below m past d)
+waits_below m past p d = first_where (λ e. is_not_down (stand_in m past p e)) (below m past d)
 
--- the first device that is given out and not through with phase p (async_synchronize_full)
+-- the first device that is scheduled and not through with phase p (async_synchronize_full)
 abbrev pub waits_down : Machine → List Entry → Phase → Option ℕ
 waits_down m past p = first_where (λ d. is_going_down (stand_in m past p d)) (order m past)
 
@@ -172,7 +172,7 @@ take_down m past now p d =
     if is_async_device m d then Makes (kind.Schedule p d)
     else after_device (waits_below m past p d) (Makes (taken m past now p d))
 
--- the end of a phase on the way down, once all that were given out are through (dpm_suspend, async_synchronize_full)
+-- the end of a phase on the way down, once all that were scheduled are through (dpm_suspend, async_synchronize_full)
 abbrev pub close_down : Machine → List Entry → Phase → Due
 close_down m past p = after_device (waits_down m past p) (Makes (kind.Done p (phase_error past)))
 
@@ -195,11 +195,11 @@ unless_failed (Some r) p d next = kind.Skip p d skip.Error
 
 -- the first device above d that is not yet up (dpm_wait_for_superior)
 abbrev pub waits_above : Machine → List Entry → Phase → ℕ → Option ℕ
-waits_above m past p d = first_where (λ e. is_low (stand_in m past p e)) (above m past d)
+waits_above m past p d = first_where (λ e. is_not_up (stand_in m past p e)) (above m past d)
 
--- the first asynchronous device that is down and not yet given out (dpm_resume, dpm_async_fn)
-abbrev pub next_given : Machine → List Entry → Phase → Option ℕ
-next_given m past p = first_where (λ d. is_down_in (stand_in m past p d) && is_async_device m d) (order m past)
+-- the first asynchronous device that is down and not yet scheduled (dpm_resume, dpm_async_fn)
+abbrev pub next_to_schedule : Machine → List Entry → Phase → Option ℕ
+next_to_schedule m past p = first_where (λ d. is_down_in (stand_in m past p d) && is_async_device m d) (order m past)
 
 -- the first synchronous device that is down (dpm_resume)
 abbrev pub next_up : Machine → List Entry → Phase → Option ℕ
@@ -207,7 +207,7 @@ next_up m past p = first_where (λ d. is_down_in (stand_in m past p d) && not (i
 
 -- the first device that is not yet up (async_synchronize_full)
 abbrev pub waits_up : Machine → List Entry → Phase → Option ℕ
-waits_up m past p = first_where (λ d. is_low (stand_in m past p d)) (order m past)
+waits_up m past p = first_where (λ d. is_not_up (stand_in m past p d)) (order m past)
 
 -- the walk up between callbacks: first it schedules, then each synchronous device waits for all above it (dpm_resume)
 abbrev pub walk_up : Machine → List Entry → Phase → Option ℕ → Option ℕ → Due
@@ -218,7 +218,7 @@ walk_up m past p None None = after_device (waits_up m past (mirror p)) (Makes (k
 -- a phase on the way up, at its walk: it tests for no wakeup (dpm_noirq_resume_devices, dpm_resume_early, dpm_resume)
 abbrev pub up_due : Machine → List Entry → Phase → Option Callback → Due
 up_due m past p (Some c) = Makes (kind.End p c.device (device_error m past p c.device))
-up_due m past p None = walk_up m past p (next_given m past (mirror p)) (next_up m past (mirror p))
+up_due m past p None = walk_up m past p (next_to_schedule m past (mirror p)) (next_up m past (mirror p))
 
 -- ---- prepare and complete
 
@@ -245,9 +245,9 @@ complete_due (Some d) = Makes (kind.Complete d)
 
 -- the work in phase p or its mirror of a device that stands so there, else the other (async_schedule_dev, dpm_run_callback)
 abbrev pub work_in : Phase → Stand → AsyncWork → AsyncWork
-work_in p stand.Scheduled other = Given p
+work_in p stand.Scheduled other = Scheduled p
 work_in p stand.Suspending other = Inside p
-work_in p stand.Rescheduled other = Given (mirror p)
+work_in p stand.Rescheduled other = Scheduled (mirror p)
 work_in p stand.Resuming other = Inside (mirror p)
 work_in p _ other = other
 
@@ -262,9 +262,9 @@ async_work m past d =
     then work_by (stand_in m past phase.Suspend d) (stand_in m past phase.Late d) (stand_in m past phase.Noirq d)
     else Idle
 
--- a device that is given out, at its turn: it waits as its phase wants (async_suspend, async_resume)
-abbrev pub given_due : Machine → List Entry → EventNow → Phase → ℕ → Due
-given_due m past now p d =
+-- a device that is scheduled, at its turn: it waits as its phase wants (async_suspend, async_resume)
+abbrev pub scheduled_due : Machine → List Entry → EventNow → Phase → ℕ → Due
+scheduled_due m past now p d =
     if is_down p
     then after_device (waits_below m past p d) (Makes (unless_failed (phase_failed past) p d (taken m past now p d)))
     else after_device (waits_above m past (mirror p) d) (Makes (kind.Begin p d))
@@ -272,5 +272,5 @@ given_due m past now p d =
 -- an asynchronous device, by where its work stands (async_suspend, async_resume)
 abbrev pub device_due : Machine → List Entry → EventNow → ℕ → AsyncWork → Due
 device_due m past now d Idle = Waits why.NotScheduled
-device_due m past now d (Given p) = given_due m past now p d
+device_due m past now d (Scheduled p) = scheduled_due m past now p d
 device_due m past now d (Inside p) = Makes (kind.End p d (device_error m past p d))

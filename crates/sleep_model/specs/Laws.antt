@@ -28,10 +28,10 @@ use Rattle.sleep_model.specs.declared.place.Stand.{Stand}
 use Rattle.sleep_model.specs.declared.place.Stand.TheVariants as stand
 use Rattle.sleep_model.specs.Attempt.{failed}
 use Rattle.sleep_model.specs.Autosleep.{Work, Resting, Reading, Saving, Attempting, Looking, Napping, Closing, work}
-use Rattle.sleep_model.specs.Devices.{AsyncWork, Idle, Given, Inside, callback, stand_in, async_work}
+use Rattle.sleep_model.specs.Devices.{AsyncWork, Idle, Scheduled, Inside, callback, stand_in, async_work}
 use Rattle.sleep_model.specs.Freezer.{unasked, freezings, left}
 use Rattle.sleep_model.specs.Guard.{CountPart, Finds, count_part, pending}
-use Rattle.sleep_model.specs.Notifiers.{told, asked_platform, cpus_off, other_cpus, irqs_off, stopped, syscore_parts}
+use Rattle.sleep_model.specs.Notifiers.{told, owes_platform, cpus_off, other_cpus, irqs_off, stopped, syscore_parts}
 use Rattle.sleep_model.specs.Numbers.{numbers, word_step}
 use Rattle.sleep_model.specs.Order.{order, below, above}
 use Rattle.sleep_model.specs.Path.{maker, is_same, is_actor}
@@ -39,20 +39,20 @@ use Rattle.phase_table.specs.Phases.{is_phase, is_down, is_up, mirror, tests_wak
 use Rattle.sleep_model.specs.Scripts.{entry_steps}
 use Rattle.sleep_model.specs.Seats.{seats, seat_at}
 use Rattle.sleep_model.specs.Walk.{is_so}
-use Rattle.sleep_model.specs.Stands.{stands, is_prepared, is_down_in, is_left_alone, is_settled_well, is_low}
+use Rattle.sleep_model.specs.Stands.{stands, is_prepared, is_down_in, is_direct_complete, is_down_or_direct, is_not_up}
 
 -- ---- devices
 
--- a device begins to go down only where all below it are down in that phase, or were left alone (dpm_wait_for_subordinate)
+-- a device begins to go down only where all below it are down in that phase, or were direct-complete (dpm_wait_for_subordinate)
 abbrev pub DependentsFirst : Machine → List Entry → Kind → Type 0
 DependentsFirst m past (kind.Begin p d) =
-    is_down p ≡ true → list_all (λ e. is_settled_well (stand_in m past p e)) (below m past d) ≡ true
+    is_down p ≡ true → list_all (λ e. is_down_or_direct (stand_in m past p e)) (below m past d) ≡ true
 DependentsFirst m past _ = Unit {0}
 
 -- a device begins to come up only where none above it is still down in that phase, or inside a callback (dpm_wait_for_superior)
 abbrev pub SuppliersFirst : Machine → List Entry → Kind → Type 0
 SuppliersFirst m past (kind.Begin p d) =
-    is_up p ≡ true → list_all (λ e. not (is_low (stand_in m past (mirror p) e))) (above m past d) ≡ true
+    is_up p ≡ true → list_all (λ e. not (is_not_up (stand_in m past (mirror p) e))) (above m past d) ≡ true
 SuppliersFirst m past _ = Unit {0}
 
 -- ---- what is owed
@@ -65,9 +65,9 @@ NoneStands m p past = stands (length m.devices) p past ≡ replicate (length m.d
 pub record NothingOwed (m : Machine) (past : List Entry) : Type 0 where
   pub notifiers : told m past ≡ replicate (length m.notifiers) false
   pub tasks : freezings m.actors past ≡ map (λ s. unasked) m.actors
-  pub begun : asked_platform down.Begin past ≡ false
-  pub prepared : asked_platform down.Prepare past ≡ false
-  pub prepared_late : asked_platform down.PrepareLate past ≡ false
+  pub begun : owes_platform down.Begin past ≡ false
+  pub prepared : owes_platform down.Prepare past ≡ false
+  pub prepared_late : owes_platform down.PrepareLate past ≡ false
   pub suspend : NoneStands m phase.Suspend past
   pub late : NoneStands m phase.Late past
   pub noirq : NoneStands m phase.Noirq past
@@ -81,7 +81,7 @@ abbrev pub Restored : Machine → List Entry → Kind → Type 0
 Restored m past (kind.Over n r) = NothingOwed m past
 Restored m past _ = Unit {0}
 
--- a device that may come up: it is down, or down and given out (power.is_suspended)
+-- a device that may come up: it is down, or down and scheduled (power.is_suspended)
 abbrev pub may_come_up : Stand → Bool
 may_come_up stand.Suspended = true
 may_come_up stand.Rescheduled = true
@@ -90,9 +90,9 @@ may_come_up _ = false
 -- a step of the platform on the way up is owed: the end, the finish and the wake for the step that they undo (platform_resume_end, platform_resume_finish, platform_resume_noirq)
 abbrev pub is_owed_by : List Entry → PlatUndo → Bool
 is_owed_by past undo.Recover = true
-is_owed_by past undo.End = asked_platform down.Begin past
-is_owed_by past undo.Finish = asked_platform down.Prepare past
-is_owed_by past undo.Wake = asked_platform down.PrepareLate past
+is_owed_by past undo.End = owes_platform down.Begin past
+is_owed_by past undo.Finish = owes_platform down.Prepare past
+is_owed_by past undo.Wake = owes_platform down.PrepareLate past
 
 -- an undo stands only for what is owed, so each stands once (device_resume, device_complete, suspend_finish)
 abbrev pub Owed : Machine → List Entry → Kind → Type 0
@@ -107,9 +107,9 @@ Owed m past _ = Unit {0}
 
 -- ---- what is so where the machine enters sleep
 
--- d is down through noirq, or was left alone (power.is_noirq_suspended, direct_complete)
+-- d is down through noirq, or was direct-complete (power.is_noirq_suspended, direct_complete)
 abbrev pub is_asleep : Machine → List Entry → ℕ → Bool
-is_asleep m past d = is_down_in (stand_in m past phase.Noirq d) || is_left_alone (stand_in m past phase.Suspend d)
+is_asleep m past d = is_down_in (stand_in m past phase.Noirq d) || is_direct_complete (stand_in m past phase.Suspend d)
 
 -- all is down that sleep wants down (suspend_enter)
 pub record AllDown (m : Machine) (past : List Entry) : Type 0 where
@@ -349,11 +349,11 @@ is_work_entry Closing kind.AutoAgain = true
 is_work_entry Closing kind.AutoOff = true
 is_work_entry _ _ = false
 
--- an entry of device d that is given out: it begins or is skipped, in its phase (async_suspend, async_resume)
-abbrev pub is_of_given : ℕ → Phase → Kind → Bool
-is_of_given d p (kind.Begin q e) = e == d && is_phase q p
-is_of_given d p (kind.Skip q e cause) = e == d && is_phase q p
-is_of_given d p _ = false
+-- an entry of device d that is scheduled: it begins or is skipped, in its phase (async_suspend, async_resume)
+abbrev pub is_of_scheduled : ℕ → Phase → Kind → Bool
+is_of_scheduled d p (kind.Begin q e) = e == d && is_phase q p
+is_of_scheduled d p (kind.Skip q e cause) = e == d && is_phase q p
+is_of_scheduled d p _ = false
 
 -- an entry of device d that is inside its callback: it ends (async_suspend, async_resume)
 abbrev pub is_of_inside : ℕ → Phase → Kind → Bool
@@ -363,7 +363,7 @@ is_of_inside d p _ = false
 -- an entry of asynchronous device d, where its work stands so (async_schedule_dev)
 abbrev pub is_device_entry : ℕ → AsyncWork → Kind → Bool
 is_device_entry d Idle k = false
-is_device_entry d (Given p) k = is_of_given d p k
+is_device_entry d (Scheduled p) k = is_of_scheduled d p k
 is_device_entry d (Inside p) k = is_of_inside d p k
 
 -- an entry of an actor outside attempts of its own is of its own steps, once and in order (own)

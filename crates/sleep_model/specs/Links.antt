@@ -5,7 +5,7 @@ use Rattle.sleep_base.specs.declared.errno.Errno.TheVariants.{EBUSY, ENODEV, EIN
 use Rattle.sleep_model.specs.declared.entry.Entry.{Entry}
 use Rattle.sleep_model.specs.declared.machine.Link.{Link}
 use Rattle.sleep_model.specs.declared.machine.Machine.{Machine}
-use Rattle.sleep_model.specs.Order.{is_among, parents_of, is_link, links_at, hanging, moved}
+use Rattle.sleep_model.specs.Order.{is_among, parents_of, is_link, links_at, dependents, moved}
 use Rattle.sleep_model.specs.Path.{maker}
 
 -- each of the devices is among those
@@ -15,8 +15,8 @@ AllAmong those (d ∷ ds) = (is_among those d ≡ true) × AllAmong those ds
 
 -- each device stands once, and before all that hang right below it (dpm_list)
 abbrev pub IsOrder : (ℕ → List ℕ) → List ℕ → Type 0
-IsOrder hang [] = Unit {0}
-IsOrder hang (d ∷ ds) = (is_among ds d ≡ false) × AllAmong ds (hang d) × IsOrder hang ds
+IsOrder dependents_of [] = Unit {0}
+IsOrder dependents_of (d ∷ ds) = (is_among ds d ≡ false) × AllAmong ds (dependents_of d) × IsOrder dependents_of ds
 
 -- each device at its first place alone
 abbrev pub first_places : List ℕ → List ℕ
@@ -25,13 +25,13 @@ first_places (d ∷ ds) = d ∷ filter (λ x. not (x == d)) (first_places ds)
 
 -- from d by these further steps, each to a device that hangs right below, to e
 abbrev pub LeadsTo : (ℕ → List ℕ) → ℕ → List ℕ → ℕ → Type 0
-LeadsTo hang d [] e = d ≡ e
-LeadsTo hang d (x ∷ xs) e = (is_among (hang d) x ≡ true) × LeadsTo hang x xs e
+LeadsTo dependents_of d [] e = d ≡ e
+LeadsTo dependents_of d (x ∷ xs) e = (is_among (dependents_of d) x ≡ true) × LeadsTo dependents_of x xs e
 
 -- a path from one device to another, both among it
 abbrev pub IsPath : (ℕ → List ℕ) → List ℕ → ℕ → ℕ → Type 0
-IsPath hang [] from to = ⊥
-IsPath hang (x ∷ xs) from to = (x ≡ from) × LeadsTo hang x xs to
+IsPath dependents_of [] from to = ⊥
+IsPath dependents_of (x ∷ xs) from to = (x ≡ from) × LeadsTo dependents_of x xs to
 
 -- the link stands among these
 abbrev pub is_linked : List Link → ℕ → ℕ → Bool
@@ -41,7 +41,7 @@ is_linked (l ∷ ls) supplier consumer = is_link supplier consumer l || is_linke
 -- the supplier is the consumer or hangs below it, by children and all links (device_is_dependent)
 abbrev pub is_dependent : List (Option ℕ) → List Link → ℕ → ℕ → Bool
 is_dependent parents links consumer supplier =
-    is_among (moved (length parents) (hanging parents links) consumer) supplier
+    is_among (moved (length parents) (dependents parents links) consumer) supplier
 
 -- links, the newest first, as they may be added in turn: between registered devices, none twice, and none whose supplier hangs below its consumer (device_link_add)
 abbrev pub AreLinks : List (Option ℕ) → List Link → Type 0

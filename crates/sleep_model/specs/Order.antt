@@ -81,12 +81,12 @@ suppliers_of d [] = []
 suppliers_of d (l ∷ earlier) = suppliers_of d earlier ++ (if l.consumer == d then l.supplier ∷ [] else [])
 
 -- the devices that hang below d by these links: its children, and its consumers (device_is_dependent)
-abbrev pub hanging : List (Option ℕ) → List Link → ℕ → List ℕ
-hanging parents links d = children_from d 0 parents ++ consumers_of d links
+abbrev pub dependents : List (Option ℕ) → List Link → ℕ → List ℕ
+dependents parents links d = children_from d 0 parents ++ consumers_of d links
 
 -- the devices that must sleep before d does, by the links that are active (dpm_wait_for_subordinate)
 abbrev pub below : Machine → List Entry → ℕ → List ℕ
-below m past d = hanging (parents_of m.devices) (active_of (links_at m past)) d
+below m past d = dependents (parents_of m.devices) (active_of (links_at m past)) d
 
 -- the parent at a place of the list, if there is one (struct device, parent)
 abbrev pub parent_of : Option (Option ℕ) → List ℕ
@@ -94,19 +94,19 @@ parent_of None = []
 parent_of (Some p) = option_to_list p
 
 -- the devices that d hangs below by these links: its parent, and its suppliers (dpm_wait_for_superior)
-abbrev pub holding : List (Option ℕ) → List Link → ℕ → List ℕ
-holding parents links d = parent_of (slice_get parents d) ++ suppliers_of d links
+abbrev pub superiors : List (Option ℕ) → List Link → ℕ → List ℕ
+superiors parents links d = parent_of (slice_get parents d) ++ suppliers_of d links
 
 -- the devices that must be awake before d is: its parent, and its suppliers by the links that are active (dpm_wait_for_superior)
 abbrev pub above : Machine → List Entry → ℕ → List ℕ
-above m past d = holding (parents_of m.devices) (active_of (links_at m past)) d
+above m past d = superiors (parents_of m.devices) (active_of (links_at m past)) d
 
 -- ---- the order
 
--- d, then all that hangs below it, each with its own, so many levels deep, where `hang` gives what hangs right below a device (device_reorder_to_tail)
+-- d, then all that hangs below it, each with its own, so many levels deep, where `dependents_of` gives what hangs right below a device (device_reorder_to_tail)
 abbrev pub moved : ℕ → (ℕ → List ℕ) → ℕ → List ℕ
-moved zero hang d = d ∷ []
-moved (suc levels) hang d = d ∷ flat_map (moved levels hang) (hang d)
+moved zero dependents_of d = d ∷ []
+moved (suc levels) dependents_of d = d ∷ flat_map (moved levels dependents_of) (dependents_of d)
 
 -- each device at its last place alone
 abbrev pub last_places : List ℕ → List ℕ
@@ -121,7 +121,7 @@ moved_last devices order = filter (λ d. not (is_among devices d)) order ++ last
 abbrev pub order_by : List (Option ℕ) → List Link → List ℕ
 order_by parents [] = range_with_len 0 (length parents)
 order_by parents (l ∷ earlier) =
-    moved_last (moved (length parents) (hanging parents (l ∷ earlier)) l.consumer) (order_by parents earlier)
+    moved_last (moved (length parents) (dependents parents (l ∷ earlier)) l.consumer) (order_by parents earlier)
 
 -- the devices in the order of their registration, moved by the links in turn, dormant ones too (dpm_list)
 abbrev pub order : Machine → List Entry → List ℕ

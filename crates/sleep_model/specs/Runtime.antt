@@ -12,7 +12,7 @@ use Rattle.sleep_model.specs.declared.machine.Device.{Device}
 use Rattle.sleep_model.specs.declared.machine.Machine.{Machine}
 use Rattle.phase_table.specs.declared.phase.Phase.{Phase}
 use Rattle.phase_table.specs.declared.phase.Phase.TheVariants as phase
-use Rattle.sleep_model.specs.Stands.{stands, stand_at, is_prepared, is_left_alone, is_taken}
+use Rattle.sleep_model.specs.Stands.{stands, stand_at, is_prepared, is_direct_complete, is_taken}
 
 -- ---- what the file says of a device
 
@@ -51,56 +51,56 @@ statuses devices (e ∷ past) = statuses_after e.kind (statuses devices past)
 
 -- ---- the spans in which runtime PM is disabled
 
--- a device is left alone by suspend, after a skip in that phase (__device_suspend, direct_complete)
-abbrev pub alone_by : Phase → SkipCause → Bool → Bool
-alone_by phase.Suspend Direct before = true
-alone_by p cause before = before
+-- a device is direct-complete by suspend, after a skip in that phase (__device_suspend, direct_complete)
+abbrev pub direct_disables : Phase → SkipCause → Bool → Bool
+direct_disables phase.Suspend Direct before = true
+direct_disables p cause before = before
 
 -- the end of resume is the end of it (device_resume, pm_runtime_enable)
-abbrev pub alone_until : Phase → Bool → Bool
-alone_until phase.Resume before = false
-alone_until p before = before
+abbrev pub direct_disables_until : Phase → Bool → Bool
+direct_disables_until phase.Resume before = false
+direct_disables_until p before = before
 
 -- suspend has left a device alone, and resume is not done since, after an entry (__device_suspend, device_resume)
-abbrev pub leaves_alone_after : Kind → Bool → Bool
-leaves_alone_after (Skip p d cause) before = alone_by p cause before
-leaves_alone_after (Done p r) before = alone_until p before
-leaves_alone_after _ before = before
+abbrev pub disabled_by_direct_after : Kind → Bool → Bool
+disabled_by_direct_after (Skip p d cause) before = direct_disables p cause before
+disabled_by_direct_after (Done p r) before = direct_disables_until p before
+disabled_by_direct_after _ before = before
 
 -- suspend has left a device alone, and resume is not done since (__device_suspend, device_resume)
-abbrev pub leaves_alone : List Entry → Bool
-leaves_alone [] = false
-leaves_alone (e ∷ past) = leaves_alone_after e.kind (leaves_alone past)
+abbrev pub disabled_by_direct : List Entry → Bool
+disabled_by_direct [] = false
+disabled_by_direct (e ∷ past) = disabled_by_direct_after e.kind (disabled_by_direct past)
 
 -- late has taken a device, after its begin or its skip in that phase (__device_suspend_late)
-abbrev pub late_by : Phase → Bool → Bool
-late_by phase.Late before = true
-late_by p before = before
+abbrev pub late_disables : Phase → Bool → Bool
+late_disables phase.Late before = true
+late_disables p before = before
 
 -- the end of early is the end of it (device_resume_early, pm_runtime_enable)
-abbrev pub late_until : Phase → Bool → Bool
-late_until phase.Early before = false
-late_until p before = before
+abbrev pub late_disables_until : Phase → Bool → Bool
+late_disables_until phase.Early before = false
+late_disables_until p before = before
 
 -- late has taken a device, and early is not done since, after an entry (__device_suspend_late, device_resume_early)
-abbrev pub takes_late_after : Kind → Bool → Bool
-takes_late_after (Begin p d) before = late_by p before
-takes_late_after (Skip p d cause) before = late_by p before
-takes_late_after (Done p r) before = late_until p before
-takes_late_after _ before = before
+abbrev pub disabled_by_late_after : Kind → Bool → Bool
+disabled_by_late_after (Begin p d) before = late_disables p before
+disabled_by_late_after (Skip p d cause) before = late_disables p before
+disabled_by_late_after (Done p r) before = late_disables_until p before
+disabled_by_late_after _ before = before
 
 -- late has taken a device, and early is not done since (__device_suspend_late, device_resume_early)
-abbrev pub takes_late : List Entry → Bool
-takes_late [] = false
-takes_late (e ∷ past) = takes_late_after e.kind (takes_late past)
+abbrev pub disabled_by_late : List Entry → Bool
+disabled_by_late [] = false
+disabled_by_late (e ∷ past) = disabled_by_late_after e.kind (disabled_by_late past)
 
--- d was left alone in suspend, and resume is not done since: runtime PM of it is disabled (__device_suspend, pm_runtime_disable)
-abbrev pub is_off_direct : Machine → ℕ → List Entry → Bool
-is_off_direct m d past = leaves_alone past && is_left_alone (stand_at (stands (length m.devices) phase.Suspend past) d)
+-- d was direct-complete in suspend, and resume is not done since: runtime PM of it is disabled (__device_suspend, pm_runtime_disable)
+abbrev pub is_disabled_direct : Machine → ℕ → List Entry → Bool
+is_disabled_direct m d past = disabled_by_direct past && is_direct_complete (stand_at (stands (length m.devices) phase.Suspend past) d)
 
 -- d was taken by late, and early is not done since: runtime PM of it is disabled (__device_suspend_late, __pm_runtime_disable)
-abbrev pub is_off_late : Machine → ℕ → List Entry → Bool
-is_off_late m d past = takes_late past && is_taken (stand_at (stands (length m.devices) phase.Late past) d)
+abbrev pub is_disabled_late : Machine → ℕ → List Entry → Bool
+is_disabled_late m d past = disabled_by_late past && is_taken (stand_at (stands (length m.devices) phase.Late past) d)
 
 -- d is prepared (power.is_prepared)
 abbrev pub is_prepared_device : Machine → ℕ → List Entry → Bool
@@ -116,4 +116,4 @@ runtime_answer disabled prepared to_suspended =
 -- what is answered for d at a place
 abbrev pub runtime_due : Machine → ℕ → Bool → List Entry → Option Errno
 runtime_due m d to_suspended past =
-    runtime_answer (is_off_direct m d past || is_off_late m d past) (is_prepared_device m d past) to_suspended
+    runtime_answer (is_disabled_direct m d past || is_disabled_late m d past) (is_prepared_device m d past) to_suspended

@@ -23,7 +23,7 @@ abbrev pub ended_by : Option Errno → Stand
 ended_by None = stand.Suspended
 ended_by (Some r) = stand.Failed
 
--- a device that is skipped is left alone, or given up (__device_suspend)
+-- a device that is skipped is direct-complete, or given up (__device_suspend)
 abbrev pub skipped_for : SkipCause → Stand
 skipped_for skip.Direct = stand.Direct
 skipped_for _ = stand.Failed
@@ -84,14 +84,14 @@ is_ready stand.Prepared = true
 is_ready _ = false
 
 -- not through with the phase on the way down (power.completion)
-abbrev pub is_unsettled : Stand → Bool
-is_unsettled stand.Unprepared = true
-is_unsettled stand.Prepared = true
-is_unsettled stand.Scheduled = true
-is_unsettled stand.Suspending = true
-is_unsettled _ = false
+abbrev pub is_not_down : Stand → Bool
+is_not_down stand.Unprepared = true
+is_not_down stand.Prepared = true
+is_not_down stand.Scheduled = true
+is_not_down stand.Suspending = true
+is_not_down _ = false
 
--- given out on the way down, and not through (async_schedule_dev)
+-- scheduled on the way down, and not through (async_schedule_dev)
 abbrev pub is_going_down : Stand → Bool
 is_going_down stand.Scheduled = true
 is_going_down stand.Suspending = true
@@ -102,25 +102,25 @@ abbrev pub is_down_in : Stand → Bool
 is_down_in stand.Suspended = true
 is_down_in _ = false
 
--- left alone (power.direct_complete)
-abbrev pub is_left_alone : Stand → Bool
-is_left_alone stand.Direct = true
-is_left_alone _ = false
+-- direct-complete (power.direct_complete)
+abbrev pub is_direct_complete : Stand → Bool
+is_direct_complete stand.Direct = true
+is_direct_complete _ = false
 
--- down, or left alone
-abbrev pub is_settled_well : Stand → Bool
-is_settled_well stand.Suspended = true
-is_settled_well stand.Direct = true
-is_settled_well _ = false
+-- down, or direct-complete
+abbrev pub is_down_or_direct : Stand → Bool
+is_down_or_direct stand.Suspended = true
+is_down_or_direct stand.Direct = true
+is_down_or_direct _ = false
 
--- not yet up: it is down, given out on the way up, or inside its callback (power.completion)
-abbrev pub is_low : Stand → Bool
-is_low stand.Suspended = true
-is_low stand.Rescheduled = true
-is_low stand.Resuming = true
-is_low _ = false
+-- not yet up: it is down, scheduled on the way up, or inside its callback (power.completion)
+abbrev pub is_not_up : Stand → Bool
+is_not_up stand.Suspended = true
+is_not_up stand.Rescheduled = true
+is_not_up stand.Resuming = true
+is_not_up _ = false
 
--- late has taken the device: it has begun, failed, was left alone, or has gone further (__device_suspend_late)
+-- late has taken the device: it has begun, failed, was direct-complete, or has gone further (__device_suspend_late)
 abbrev pub is_taken : Stand → Bool
 is_taken stand.Unprepared = false
 is_taken stand.Prepared = false

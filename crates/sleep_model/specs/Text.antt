@@ -27,6 +27,7 @@ use Rattle.sleep_model.specs.declared.machine.Device.{Device}
 use Rattle.sleep_model.specs.declared.machine.Script.{Script}
 use Rattle.sleep_model.specs.declared.machine.TaskKind.{TaskKind}
 use Rattle.sleep_model.specs.declared.machine.TaskKind.TheVariants.{Irq}
+use Rattle.sleep_model.specs.declared.machine.TaskKind.TheVariants as task_kind
 use Rattle.sleep_model.specs.declared.log.Log.{Log}
 use Rattle.sleep_model.specs.declared.log.LogEnd.{LogEnd}
 use Rattle.sleep_model.specs.declared.log.LogEnd.TheVariants.{Finished, Stuck}
@@ -74,6 +75,13 @@ guard_text (Some c) = codes "guarded " ++ decimal c
 abbrev pub script_word : TaskKind → List ℕ
 script_word Irq = codes "irq:"
 script_word _ = codes "task:"
+
+-- the word of a kind of task
+abbrev pub kind_word : TaskKind → List ℕ
+kind_word task_kind.User = codes "user"
+kind_word task_kind.Kthread = codes "kthread"
+kind_word task_kind.NoFreeze = codes "nofreeze"
+kind_word task_kind.Irq = codes "irq"
 
 -- a script as it is named in a log
 abbrev pub script_text : Option Script → List ℕ

@@ -38,7 +38,7 @@ pub enum State {
 
 /// How a freeze ended (`kernel/power/process.c`, `try_to_freeze_tasks`), with the number of tasks
 /// that were left and the first of them.
-#[derive(Clone, Copy)]
+#[derive(Clone, Copy, PartialEq, Eq)]
 pub enum FrozeEnd {
     AllFrozen,
     Timeout { left: u32, first: u32 },
@@ -55,7 +55,7 @@ pub enum SkipCause {
 
 /// What an entry says. Entries of tasks and of the autosleep work come first, then those of
 /// wakeup sources and of time, then those of attempts.
-#[derive(Clone, Copy)]
+#[derive(Clone, Copy, PartialEq, Eq)]
 pub enum Kind {
     Frozen,
     ReadWait,

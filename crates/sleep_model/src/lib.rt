@@ -1,7 +1,6 @@
 //! Plain data of a machine and of its sleep log, and the definitions that every contract cites.
 #![tactic(auto)]
 
-mod answer;
 mod entry;
 mod entry_list;
 mod flags;
@@ -10,12 +9,13 @@ mod list;
 mod log;
 mod machine;
 mod name;
+mod numbered;
 mod place;
 #[cfg(test)]
 mod tests;
 mod word;
+mod words;
 
-pub use answer::error_of_number;
 pub use entry::{
     Actor, Entry, FrozeEnd, Group, JournalEntry, Kind, SkipCause, SourceEntry, SourceList, State,
     Thaw,
@@ -33,3 +33,4 @@ pub use name::{NAME_BYTES, Name};
 pub use phase_table::Phase;
 pub use place::{AsyncWork, Callback, Due, Freezing, Seat, Sleep, Stage, Stand, Work};
 pub use word::{EventNow, Stamp, WordKind, WordStep, pos};
+pub use words::{link_word, runtime_word, state_word};

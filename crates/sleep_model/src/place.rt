@@ -35,18 +35,18 @@ pub enum Stand {
     Unprepared,
     /// Prepared, and not yet taken by the phase (`power.is_prepared`).
     Prepared,
-    /// Given out by the walk down, and not yet begun (`async_schedule_dev`, `async_suspend`).
+    /// Scheduled by the walk down, and not yet begun (`async_schedule_dev`, `async_suspend`).
     Scheduled,
     /// Inside its callback on the way down (`dpm_run_callback`).
     Suspending,
     /// Its callback failed, or it was skipped by an error or a wakeup (`power.completion` alone is done).
     Failed,
-    /// Left alone (`power.direct_complete`).
+    /// Direct-complete (`power.direct_complete`).
     Direct,
     /// Its callback on the way down answered 0 (`power.is_suspended`, `is_late_suspended`,
     /// `is_noirq_suspended`).
     Suspended,
-    /// Given out by the walk up, and not yet begun (`async_schedule_dev`, `async_resume`).
+    /// Scheduled by the walk up, and not yet begun (`async_schedule_dev`, `async_resume`).
     Rescheduled,
     /// Inside its callback on the way up (`dpm_run_callback`).
     Resuming,
@@ -63,7 +63,7 @@ pub enum Stage {
     /// A group of tasks is frozen (`freeze_processes`, `freeze_kernel_threads`).
     Freezes(Group),
     /// A step of the platform on the way down (`platform_suspend_begin` and its like).
-    Asks(PlatDo),
+    PlatformDown(PlatDo),
     /// Devices are prepared (`dpm_prepare`).
     Prepares,
     /// A phase on the devices' way down (`dpm_suspend`, `dpm_suspend_late`, `dpm_suspend_noirq`).
@@ -85,7 +85,7 @@ pub enum Stage {
     /// The other processors are started (`pm_sleep_enable_secondary_cpus`).
     StartsCpus,
     /// A step of the platform on the way up (`platform_resume_noirq` and its like).
-    Tells(PlatUndo),
+    PlatformUp(PlatUndo),
     /// A phase on the devices' way up (`dpm_resume_noirq`, `dpm_resume_early`, `dpm_resume`).
     Ups(Phase),
     /// Devices are completed (`dpm_complete`).
@@ -117,11 +117,11 @@ pub struct Callback {
 }
 
 /// Where an asynchronous device's own work stands (`drivers/base/power/main.c`,
-/// `async_schedule_dev`): it has none, it is given out, or it is inside its callback.
+/// `async_schedule_dev`): it has none, it is scheduled, or it is inside its callback.
 #[derive(Clone, Copy)]
 pub enum AsyncWork {
     Idle,
-    Given(Phase),
+    Scheduled(Phase),
     Inside(Phase),
 }
 

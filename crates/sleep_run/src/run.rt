@@ -158,7 +158,7 @@ fn waiting_for<'a>(core: &'a Core<'_>, phase: Phase, device: u32) -> &'a [u32] {
     }
 }
 
-/// Those of these devices are asked that are given out in that phase and wait for none.
+/// Those of these devices are asked that are scheduled in that phase and wait for none.
 #[inline(never)]
 fn stir_ready(core: &Core<'_>, waiters: &mut Waiters, phase: Phase, devices: &[u32]) {
     for device in devices {

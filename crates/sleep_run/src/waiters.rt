@@ -27,21 +27,21 @@ pub(crate) struct Waiters {
     auto: bool,
     devices: Asks,
     /// The asynchronous devices.
-    beside: Asks,
+    asynchronous: Asks,
     timers: bool,
 }
 
 /// The asynchronous ones among these devices.
-fn beside_of(alloc: Global, devices: &[Device]) -> Result<Asks, Mem>
+fn asynchronous_of(alloc: Global, devices: &[Device]) -> Result<Asks, Mem>
     requires { length devices.now < 2 ^ 32 }
 {
-    let mut beside = Asks::new(alloc, devices.len())?;
+    let mut asynchronous = Asks::new(alloc, devices.len())?;
     for (at, device) in devices.iter().enumerate() {
         if device.flags.has(DeviceFlags::ASYNC) {
-            beside.insert(at as u32);
+            asynchronous.insert(at as u32);
         }
     }
-    Ok(beside)
+    Ok(asynchronous)
 }
 
 impl Waiters {
@@ -65,7 +65,7 @@ impl Waiters {
             frozen: Asks::new(alloc, scripts)?,
             auto: true,
             devices: Asks::new(alloc, devices.len())?,
-            beside: beside_of(alloc, devices)?,
+            asynchronous: asynchronous_of(alloc, devices)?,
             timers: false,
         })
     }
@@ -163,7 +163,7 @@ impl Waiters {
 
     /// Whether no device is asynchronous.
     pub(crate) fn are_in_step(&self) -> bool {
-        self.beside.is_empty()
+        self.asynchronous.is_empty()
     }
 
     /// An asynchronous device may have something to do.
@@ -242,6 +242,6 @@ impl Waiters {
     pub(crate) fn stir_all(&mut self) {
         self.stir_scripts();
         self.timers = true;
-        self.devices.add(&self.beside);
+        self.devices.add(&self.asynchronous);
     }
 }

@@ -3,8 +3,8 @@ use Rattle.std.proofs.Common.{◌≡◌, ◌<◌, ◌≤◌, ◌==◌, ◌∙◌
 use Rattle.std.specs.List.{flat_map}
 use Rattle.std.proofs.lemmas.Bool.{false≢true, eqb-true, or_cases, false_from_ne_true}
 use Rattle.sleep_model.specs.declared.machine.Link.{Link}
-use Rattle.sleep_model.specs.Order.{is_among, children_from, consumers_of, hanging, moved, EachAfterParent}
-use Rattle.sleep_model.proofs.Hanging.{among_app, among_first, among_rest}
+use Rattle.sleep_model.specs.Order.{is_among, children_from, consumers_of, dependents, moved, EachAfterParent}
+use Rattle.sleep_model.proofs.Dependents.{among_app, among_first, among_rest}
 
 -- each link goes from a lesser to a greater device
 abbrev pub AreRising : List Link → Type 0
@@ -51,28 +51,28 @@ flat_after f d (c ∷ cs) h x m =
     by_place rest (inr n) = rest n
 
 module _ (ps : List (Option ℕ)) (after : EachAfterParent 0 ps) (links : List Link) (rising : AreRising links) where
-  hangs_after : (d x : ℕ) → is_among (hanging ps links d) x ≡ true → d < x
-  hangs_after d x m = by_place (or_cases (is_among (children_from d 0 ps) x) (is_among (consumers_of d links) x) (sym (among_app (children_from d 0 ps) (consumers_of d links) x) ∙ m))
+  depends_after : (d x : ℕ) → is_among (dependents ps links d) x ≡ true → d < x
+  depends_after d x m = by_place (or_cases (is_among (children_from d 0 ps) x) (is_among (consumers_of d links) x) (sym (among_app (children_from d 0 ps) (consumers_of d links) x) ∙ m))
     where
       by_place : (is_among (children_from d 0 ps) x ≡ true) ⊎ (is_among (consumers_of d links) x ≡ true) → d < x
       by_place (inl n) = child_after d 0 ps after x n
       by_place (inr n) = consumer_after d links rising x n
 
   -- what hangs below a device is not less
-  moved_after : (n d x : ℕ) → is_among (moved n (hanging ps links) d) x ≡ true → d ≤ x
+  moved_after : (n d x : ℕ) → is_among (moved n (dependents ps links) d) x ≡ true → d ≤ x
   moved_after zero d x m = by_same (or_cases (d == x) false m)
     where
       by_same : ((d == x) ≡ true) ⊎ (false ≡ true) → d ≤ x
       by_same (inl f) = let same : d ≡ x = eqb-true d x f in omega arith
       by_same (inr f) = absurd (false≢true f)
-  moved_after (suc n) d x m = by_place (moved_after n) (or_cases (d == x) (is_among (flat_map (moved n (hanging ps links)) (hanging ps links d)) x) m)
+  moved_after (suc n) d x m = by_place (moved_after n) (or_cases (d == x) (is_among (flat_map (moved n (dependents ps links)) (dependents ps links d)) x) m)
     where
-      by_place : ((c y : ℕ) → is_among (moved n (hanging ps links) c) y ≡ true → c ≤ y) → ((d == x) ≡ true) ⊎ (is_among (flat_map (moved n (hanging ps links)) (hanging ps links d)) x ≡ true) → d ≤ x
+      by_place : ((c y : ℕ) → is_among (moved n (dependents ps links) c) y ≡ true → c ≤ y) → ((d == x) ≡ true) ⊎ (is_among (flat_map (moved n (dependents ps links)) (dependents ps links d)) x ≡ true) → d ≤ x
       by_place rest (inl f) = let same : d ≡ x = eqb-true d x f in omega arith
       by_place rest (inr f) =
-          flat_after (moved n (hanging ps links)) d (hanging ps links d)
-          (λ c y i j. let one : d < c = hangs_after d c i in let other : c ≤ y = rest c y j in omega arith) x f
+          flat_after (moved n (dependents ps links)) d (dependents ps links d)
+          (λ c y i j. let one : d < c = depends_after d c i in let other : c ≤ y = rest c y j in omega arith) x f
 
   -- so a lesser device does not hang below a greater one
-  pub not_below : (n u v : ℕ) → u < v → is_among (moved n (hanging ps links) v) u ≡ false
+  pub not_below : (n u v : ℕ) → u < v → is_among (moved n (dependents ps links) v) u ≡ false
   not_below n u v l = false_from_ne_true _ (λ m. let h : v ≤ u = moved_after n v u m in absurd (omega arith))

@@ -5,18 +5,18 @@ use Rattle.sleep_model.specs.declared.entry.Actor.{Actor}
 use Rattle.sleep_model.specs.declared.entry.Kind.{Kind}
 use Rattle.sleep_model.specs.declared.machine.Device.{Device}
 use Rattle.sleep_model.specs.declared.place.Callback.{Callback}
-use Rattle.sleep_model.specs.Devices.{is_device, callback_after, phase_failed_after, own_error_after, willing_after}
-use Rattle.sleep_model.specs.Runtime.{starts_suspended, statuses_after, leaves_alone_after, takes_late_after}
+use Rattle.sleep_model.specs.Devices.{is_device, callback_after, phase_failed_after, own_error_after, asks_direct_after}
+use Rattle.sleep_model.specs.Runtime.{starts_suspended, statuses_after, disabled_by_direct_after, disabled_by_late_after}
 
--- the maker's callback, the errors of the open phase, the devices that may be left alone, their runtime statuses, and the spans in which runtime PM is disabled (struct dev_pm_info)
+-- the maker's callback, the errors of the open phase, the devices that may be direct-complete, their runtime statuses, and the spans in which runtime PM is disabled (struct dev_pm_info)
 pub record DeviceState : Type 0 where
   pub callback : Option Callback
   pub failed : Option Errno
   pub own_error : Option Errno
-  pub willing : List Bool
+  pub asks_direct : List Bool
   pub statuses : List Bool
-  pub leaves_alone : Bool
-  pub takes_late : Bool
+  pub disabled_by_direct : Bool
+  pub disabled_by_late : Bool
 
 -- no phase is open, and each device has the runtime status that the file gives it
 abbrev pub undisturbed : List Device → DeviceState
@@ -24,10 +24,10 @@ undisturbed devices = record {
   callback = None;
   failed = None;
   own_error = None;
-  willing = replicate (length devices) false;
+  asks_direct = replicate (length devices) false;
   statuses = map starts_suspended devices;
-  leaves_alone = false;
-  takes_late = false;
+  disabled_by_direct = false;
+  disabled_by_late = false;
 }
 
 -- what an entry of that actor does (dpm_run_callback, __pm_runtime_set_status)
@@ -36,8 +36,8 @@ devices_after kind who before = record {
   callback = callback_after kind (is_device who) before.callback;
   failed = phase_failed_after kind before.failed;
   own_error = own_error_after kind (is_device who) before.own_error;
-  willing = willing_after kind before.willing;
+  asks_direct = asks_direct_after kind before.asks_direct;
   statuses = statuses_after kind before.statuses;
-  leaves_alone = leaves_alone_after kind before.leaves_alone;
-  takes_late = takes_late_after kind before.takes_late;
+  disabled_by_direct = disabled_by_direct_after kind before.disabled_by_direct;
+  disabled_by_late = disabled_by_late_after kind before.disabled_by_late;
 }

@@ -1,28 +1,28 @@
 ghost use Rattle.std.specs.Prelude.{◌≡◌, map, IfOk};
 ghost use Rattle.sleep_model.specs.Answers.{error_of_number};
 ghost use Rattle.sleep_model.specs.Devices.{error_in, error_by, is_device};
-ghost use Rattle.sleep_model.specs.Runtime.{starts_suspended, alone_by, alone_until, late_by, late_until};
+ghost use Rattle.sleep_model.specs.Runtime.{starts_suspended, direct_disables, direct_disables_until, late_disables, late_disables_until};
 ghost use Rattle.sleep_model.specs.Walk.{or_else};
 
 use device_rows::Flags;
 use phase_table::Phase;
 use sleep_base::{Errno, Mem};
-use sleep_model::{Actor, Callback, Device, DeviceFlags, Kind, SkipCause, error_of_number};
+use sleep_model::{Actor, Callback, Device, DeviceFlags, Kind, SkipCause};
 use std::alloc::Global;
 use std::marker::Model;
 
 /// What the phases of devices keep beside where each device stands: the callback that the attempt's maker
-/// runs, the errors of the open phase, which devices may be left alone, their runtime statuses, and the
+/// runs, the errors of the open phase, which devices may be direct-complete, their runtime statuses, and the
 /// spans in which runtime PM is disabled (`drivers/base/power/main.c`, `drivers/base/power/runtime.c`).
 #[derive(Drop)]
 pub struct Devices {
     callback: Option<Callback>,
     failed: Option<Errno>,
     own_error: Option<Errno>,
-    willing: Flags,
+    asks_direct: Flags,
     statuses: Flags,
-    leaves_alone: bool,
-    takes_late: bool,
+    disabled_by_direct: bool,
+    disabled_by_late: bool,
 }
 
 impl Model for Devices {
@@ -34,10 +34,10 @@ impl Model for Devices {
       callback = d.callback;
       failed = d.failed;
       own_error = d.own_error;
-      willing = d.willing;
+      asks_direct = d.asks_direct;
       statuses = d.statuses;
-      leaves_alone = d.leaves_alone;
-      takes_late = d.takes_late;
+      disabled_by_direct = d.disabled_by_direct;
+      disabled_by_late = d.disabled_by_late;
     } };
 }
 
@@ -72,15 +72,15 @@ fn error_by(cause: SkipCause, before: Option<Errno>) -> Option<Errno>
 fn error_of(r: i32, before: Option<Errno>) -> Option<Errno>
     ensures { result ≡ or_else (error_of_number r) before }
 {
-    match error_of_number(r) {
+    match Errno::of_answer(r) {
         None => before,
         error => error,
     }
 }
 
 /// Suspend has left a device alone, after a skip.
-fn alone_by(phase: Phase, cause: SkipCause, before: bool) -> bool
-    ensures { result ≡ alone_by phase cause before }
+fn direct_disables(phase: Phase, cause: SkipCause, before: bool) -> bool
+    ensures { result ≡ direct_disables phase cause before }
 {
     match (phase, cause) {
         (Phase::Suspend, SkipCause::Direct) => true,
@@ -89,8 +89,8 @@ fn alone_by(phase: Phase, cause: SkipCause, before: bool) -> bool
 }
 
 /// It has left none alone any more, after resume.
-fn alone_until(phase: Phase, before: bool) -> bool
-    ensures { result ≡ alone_until phase before }
+fn direct_disables_until(phase: Phase, before: bool) -> bool
+    ensures { result ≡ direct_disables_until phase before }
 {
     match phase {
         Phase::Resume => false,
@@ -99,8 +99,8 @@ fn alone_until(phase: Phase, before: bool) -> bool
 }
 
 /// Late has taken a device, after a begin or a skip.
-fn late_by(phase: Phase, before: bool) -> bool
-    ensures { result ≡ late_by phase before }
+fn late_disables(phase: Phase, before: bool) -> bool
+    ensures { result ≡ late_disables phase before }
 {
     match phase {
         Phase::Late => true,
@@ -109,8 +109,8 @@ fn late_by(phase: Phase, before: bool) -> bool
 }
 
 /// It has taken none any more, after early.
-fn late_until(phase: Phase, before: bool) -> bool
-    ensures { result ≡ late_until phase before }
+fn late_disables_until(phase: Phase, before: bool) -> bool
+    ensures { result ≡ late_disables_until phase before }
 {
     match phase {
         Phase::Early => false,
@@ -122,7 +122,7 @@ impl Devices {
     ghost use Rattle.std.specs.Prelude.{◌≡◌, IfOk, Some, None, slice_set};
     ghost use Rattle.sleep_model.specs.Answers.{error_of_number};
     ghost use Rattle.sleep_model.specs.Devices.{unless_own, error_in, error_by, is_one};
-    ghost use Rattle.sleep_model.specs.Runtime.{set_status, alone_by, alone_until, late_by, late_until};
+    ghost use Rattle.sleep_model.specs.Runtime.{set_status, direct_disables, direct_disables_until, late_disables, late_disables_until};
     ghost use Rattle.sleep_model.specs.Walk.{or_else};
     ghost use Rattle.sleep_state.specs.DeviceStates.{devices_after, undisturbed};
 
@@ -135,10 +135,10 @@ impl Devices {
             callback: None,
             failed: None,
             own_error: None,
-            willing: Flags::new(alloc, devices.len())?,
+            asks_direct: Flags::new(alloc, devices.len())?,
             statuses: first_statuses(alloc, devices)?,
-            leaves_alone: false,
-            takes_late: false,
+            disabled_by_direct: false,
+            disabled_by_late: false,
         })
     }
 
@@ -171,28 +171,28 @@ impl Devices {
         self.own_error = None;
     }
 
-    /// A device was prepared: it may be left alone if it answered 1.
+    /// A device was prepared: it may be direct-complete if it answered 1.
     fn prepared(&mut self, device: u32, r: i32)
         ensures { self.new ≡ record self.old {
           failed = or_else (error_of_number r) self.old.failed;
-          willing = slice_set self.old.willing device (is_one r);
+          asks_direct = slice_set self.old.asks_direct device (is_one r);
         } }
     {
         self.failed = error_of(r, self.failed);
-        self.willing.set(device, r == 1);
+        self.asks_direct.set(device, r == 1);
     }
 
     /// A callback begins, in a device's own work or not.
     fn begun(&mut self, phase: Phase, device: u32, own: bool)
         ensures { self.new ≡ record self.old {
           callback = unless_own own self.old.callback (Some (record { phase = phase; device = device }));
-          takes_late = late_by phase self.old.takes_late;
+          disabled_by_late = late_disables phase self.old.disabled_by_late;
         } }
     {
         if !own {
             self.callback = Some(Callback { phase, device });
         }
-        self.takes_late = late_by(phase, self.takes_late);
+        self.disabled_by_late = late_disables(phase, self.disabled_by_late);
     }
 
     /// A callback ends, in a device's own work or not.
@@ -228,13 +228,13 @@ impl Devices {
     fn skipped(&mut self, phase: Phase, cause: SkipCause)
         ensures { self.new ≡ record self.old {
           failed = error_by cause self.old.failed;
-          leaves_alone = alone_by phase cause self.old.leaves_alone;
-          takes_late = late_by phase self.old.takes_late;
+          disabled_by_direct = direct_disables phase cause self.old.disabled_by_direct;
+          disabled_by_late = late_disables phase self.old.disabled_by_late;
         } }
     {
         self.failed = error_by(cause, self.failed);
-        self.leaves_alone = alone_by(phase, cause, self.leaves_alone);
-        self.takes_late = late_by(phase, self.takes_late);
+        self.disabled_by_direct = direct_disables(phase, cause, self.disabled_by_direct);
+        self.disabled_by_late = late_disables(phase, self.disabled_by_late);
     }
 
     /// A phase is done, and its errors are forgotten.
@@ -242,14 +242,14 @@ impl Devices {
         ensures { self.new ≡ record self.old {
           failed = None;
           own_error = None;
-          leaves_alone = alone_until phase self.old.leaves_alone;
-          takes_late = late_until phase self.old.takes_late;
+          disabled_by_direct = direct_disables_until phase self.old.disabled_by_direct;
+          disabled_by_late = late_disables_until phase self.old.disabled_by_late;
         } }
     {
         self.failed = None;
         self.own_error = None;
-        self.leaves_alone = alone_until(phase, self.leaves_alone);
-        self.takes_late = late_until(phase, self.takes_late);
+        self.disabled_by_direct = direct_disables_until(phase, self.disabled_by_direct);
+        self.disabled_by_late = late_disables_until(phase, self.disabled_by_late);
     }
 
     /// A request for a device's runtime status sets it if it is answered 0.
@@ -282,11 +282,11 @@ impl Devices {
         self.own_error
     }
 
-    /// Which devices may be left alone.
-    pub fn willing(&self) -> &Flags
-        ensures { result.now ≡ self.now.willing }
+    /// Which devices may be direct-complete.
+    pub fn asks_direct(&self) -> &Flags
+        ensures { result.now ≡ self.now.asks_direct }
     {
-        &self.willing
+        &self.asks_direct
     }
 
     /// Which devices are runtime suspended.
@@ -297,17 +297,17 @@ impl Devices {
     }
 
     /// Whether suspend has left a device alone, and resume is not done since.
-    pub fn leaves_alone(&self) -> bool
-        ensures { result ≡ self.now.leaves_alone }
+    pub fn disabled_by_direct(&self) -> bool
+        ensures { result ≡ self.now.disabled_by_direct }
     {
-        self.leaves_alone
+        self.disabled_by_direct
     }
 
     /// Whether late has taken a device, and early is not done since.
-    pub fn takes_late(&self) -> bool
-        ensures { result ≡ self.now.takes_late }
+    pub fn disabled_by_late(&self) -> bool
+        ensures { result ≡ self.now.disabled_by_late }
     {
-        self.takes_late
+        self.disabled_by_late
     }
 }
 

@@ -2,7 +2,7 @@ ghost use Rattle.std.specs.Prelude.{◌≡◌, ◌<◌, ◌^◌};
 ghost use Rattle.sleep_model.specs.Path.{attempts_after, maker_after};
 ghost use Rattle.sleep_model.specs.Attempt.{freeze_since_after, sleep_after, failed_after, freeze_error, busy_error};
 ghost use Rattle.sleep_model.specs.Walk.{or_else};
-ghost use Rattle.sleep_model.specs.Table.{stage_after, behind, behind_down, behind_up, behind_asked, failed_asked, behind_told, behind_freeze, failed_freeze, by_froze, behind_thaw, after_done, by_error, by_case};
+ghost use Rattle.sleep_model.specs.Table.{stage_after, behind, behind_down, behind_up, behind_platform_down, failed_platform_down, behind_platform_up, behind_freeze, failed_freeze, by_froze, behind_thaw, after_done, by_error, by_case};
 
 use sleep_base::Errno;
 use sleep_model::{Actor, FrozeEnd, Group, Kind, Phase, PlatDo, PlatUndo, Sleep, Stage, Thaw};
@@ -36,8 +36,8 @@ impl Model for Path {
 }
 
 /// The stage behind a step of the platform on the way down.
-fn behind_asked(step: PlatDo) -> Stage
-    ensures { result ≡ behind_asked step }
+fn behind_platform_down(step: PlatDo) -> Stage
+    ensures { result ≡ behind_platform_down step }
 {
     match step {
         PlatDo::Begin => Stage::Prepares,
@@ -47,19 +47,19 @@ fn behind_asked(step: PlatDo) -> Stage
 }
 
 /// The stage behind a step of the platform on the way down that failed.
-fn failed_asked(step: PlatDo) -> Stage
-    ensures { result ≡ failed_asked step }
+fn failed_platform_down(step: PlatDo) -> Stage
+    ensures { result ≡ failed_platform_down step }
 {
     match step {
-        PlatDo::Begin => Stage::Tells(PlatUndo::End),
-        PlatDo::Prepare => Stage::Tells(PlatUndo::Finish),
-        PlatDo::PrepareLate => Stage::Tells(PlatUndo::Wake),
+        PlatDo::Begin => Stage::PlatformUp(PlatUndo::End),
+        PlatDo::Prepare => Stage::PlatformUp(PlatUndo::Finish),
+        PlatDo::PrepareLate => Stage::PlatformUp(PlatUndo::Wake),
     }
 }
 
 /// The stage behind a step of the platform on the way up.
-fn behind_told(step: PlatUndo) -> Stage
-    ensures { result ≡ behind_told step }
+fn behind_platform_up(step: PlatUndo) -> Stage
+    ensures { result ≡ behind_platform_up step }
 {
     match step {
         PlatUndo::Recover | PlatUndo::Finish => Stage::Ups(Phase::Resume),
@@ -74,7 +74,7 @@ fn behind_freeze(group: Group) -> Stage
 {
     match group {
         Group::User => Stage::Freezes(Group::Kernel),
-        Group::Kernel => Stage::Asks(PlatDo::Begin),
+        Group::Kernel => Stage::PlatformDown(PlatDo::Begin),
     }
 }
 
@@ -105,18 +105,18 @@ fn after_done(phase: Phase, r: Option<Errno>) -> Stage
 {
     match (phase, r) {
         (Phase::Prepare, None) => Stage::Downs(Phase::Suspend),
-        (Phase::Suspend, None) => Stage::Asks(PlatDo::Prepare),
+        (Phase::Suspend, None) => Stage::PlatformDown(PlatDo::Prepare),
         (Phase::Late, None) => Stage::Downs(Phase::Noirq),
-        (Phase::Noirq, None) => Stage::Asks(PlatDo::PrepareLate),
-        (Phase::Prepare | Phase::Suspend, Some(_)) => Stage::Tells(PlatUndo::Recover),
+        (Phase::Noirq, None) => Stage::PlatformDown(PlatDo::PrepareLate),
+        (Phase::Prepare | Phase::Suspend, Some(_)) => Stage::PlatformUp(PlatUndo::Recover),
         (Phase::Late, Some(_)) => Stage::Ups(Phase::Early),
         (Phase::Noirq, Some(_)) => Stage::Ups(Phase::ResumeNoirq),
         (Phase::Syscore, _) => Stage::Enters,
         (Phase::SyscoreResume, _) => Stage::StartsIrqs,
         (Phase::ResumeNoirq, _) => Stage::Ups(Phase::Early),
-        (Phase::Early, _) => Stage::Tells(PlatUndo::Finish),
+        (Phase::Early, _) => Stage::PlatformUp(PlatUndo::Finish),
         (Phase::Resume, _) => Stage::Completes,
-        (Phase::Complete, _) => Stage::Tells(PlatUndo::End),
+        (Phase::Complete, _) => Stage::PlatformUp(PlatUndo::End),
     }
 }
 
@@ -142,9 +142,9 @@ fn behind_down(phase: Phase) -> Stage
     ensures { result ≡ behind_down phase }
 {
     match phase {
-        Phase::Suspend => Stage::Asks(PlatDo::Prepare),
+        Phase::Suspend => Stage::PlatformDown(PlatDo::Prepare),
         Phase::Late => Stage::Downs(Phase::Noirq),
-        _ => Stage::Asks(PlatDo::PrepareLate),
+        _ => Stage::PlatformDown(PlatDo::PrepareLate),
     }
 }
 
@@ -154,7 +154,7 @@ fn behind_up(phase: Phase) -> Stage
 {
     match phase {
         Phase::ResumeNoirq => Stage::Ups(Phase::Early),
-        Phase::Early => Stage::Tells(PlatUndo::Finish),
+        Phase::Early => Stage::PlatformUp(PlatUndo::Finish),
         _ => Stage::Completes,
     }
 }
@@ -167,7 +167,7 @@ pub fn behind(stage: Stage) -> Stage
     match stage {
         Stage::Notifies => Stage::Freezes(Group::User),
         Stage::Freezes(group) => behind_freeze(group),
-        Stage::Asks(step) => behind_asked(step),
+        Stage::PlatformDown(step) => behind_platform_down(step),
         Stage::Prepares => Stage::Downs(Phase::Suspend),
         Stage::Downs(phase) => behind_down(phase),
         Stage::StopsCpus => Stage::StopsIrqs,
@@ -177,10 +177,10 @@ pub fn behind(stage: Stage) -> Stage
         Stage::Enters => Stage::StartsSyscore,
         Stage::StartsSyscore => Stage::StartsIrqs,
         Stage::StartsIrqs => Stage::StartsCpus,
-        Stage::StartsCpus => Stage::Tells(PlatUndo::Wake),
-        Stage::Tells(step) => behind_told(step),
+        Stage::StartsCpus => Stage::PlatformUp(PlatUndo::Wake),
+        Stage::PlatformUp(step) => behind_platform_up(step),
         Stage::Ups(phase) => behind_up(phase),
-        Stage::Completes => Stage::Tells(PlatUndo::End),
+        Stage::Completes => Stage::PlatformUp(PlatUndo::End),
         Stage::Clears => Stage::Thaws(Thaw::All),
         Stage::Thaws(those) => behind_thaw(those),
         Stage::Posts => Stage::Ends,
@@ -197,7 +197,11 @@ fn stage_after(kind: Kind, before: Option<Stage>) -> Option<Stage>
         Kind::NotifyPrepare(_, r) => by_error(r, Stage::Notifies, Stage::Posts),
         Kind::Freeze(group) => Stage::Freezes(group),
         Kind::Froze(group, end) => after_freeze(group, end),
-        Kind::PlatformDo(step, r) => by_error(r, behind_asked(step), failed_asked(step)),
+        Kind::PlatformDo(step, r) => by_error(
+            r,
+            behind_platform_down(step),
+            failed_platform_down(step),
+        ),
         Kind::Done(phase, r) => after_done(phase, r),
         Kind::CpuOff(_) => Stage::StopsCpus,
         Kind::CpuBusy(_) | Kind::CpuOn(_) => Stage::StartsCpus,
@@ -206,7 +210,7 @@ fn stage_after(kind: Kind, before: Option<Stage>) -> Option<Stage>
         Kind::SyscoreSuspend(_, r) => by_error(r, Stage::StopsSyscore, Stage::StartsSyscore),
         Kind::Enter { busy } => by_case(busy, Stage::StartsSyscore, Stage::Enters),
         Kind::Wake { .. } | Kind::SyscoreResume(_) => Stage::StartsSyscore,
-        Kind::PlatformUndo(step) => behind_told(step),
+        Kind::PlatformUndo(step) => behind_platform_up(step),
         Kind::Clear => Stage::Thaws(Thaw::All),
         Kind::Thaw(those) => behind_thaw(those),
         Kind::NotifyPost(_) => Stage::Posts,

@@ -20,13 +20,13 @@ use Rattle.phase_table.specs.declared.phase.Phase.{Phase}
 use Rattle.phase_table.specs.declared.phase.Phase.TheVariants as phase
 use Rattle.phase_table.specs.Phases.{is_phase, mirror}
 use Rattle.sleep_model.specs.Answers.{is_thing}
-use Rattle.sleep_model.specs.Devices.{is_async_device, stand_in, next_down, next_given, next_up}
+use Rattle.sleep_model.specs.Devices.{is_async_device, stand_in, next_down, next_to_schedule, next_up}
 use Rattle.sleep_model.specs.Legal.{JournalPart}
 use Rattle.sleep_model.specs.Order.{order}
 use Rattle.sleep_model.specs.Stands.{stands, stands_after, stand_after, stand_at, device_of, ended_by, is_prepared, is_ready, is_down_in}
 use Rattle.sleep_model.specs.Table.{stage_of, stage_after}
 use Rattle.sleep_laws.proofs.Boards.{Three, at, at_is, three, three_after, moved as moves_each, moved_other, Change, Here, Away, turned_down, turned_up, all_three, mirror_down, first_found, last_found}
-use Rattle.sleep_laws.proofs.DevicesStand.{given_stage}
+use Rattle.sleep_laws.proofs.DevicesStand.{scheduled_stage}
 use Rattle.sleep_laws.proofs.Holding.{Moved, Opens, Makes, Beside, Owns, Aside, moved}
 use Rattle.sleep_laws.proofs.Made.{Down, InSuspend, InLate, InNoirq, Up, InResume, InEarly, InResumeNoirq, Made, DeviceMade}
 use Rattle.sleep_laws.proofs.MakingOwn.{by_maker}
@@ -246,8 +246,8 @@ module _ (m : Machine) (past : List Entry) where
   next_stands : (p : Phase) (d : ℕ) → next_down m past p ≡ Some d → stand_in m past p d ≡ stand.Prepared
   next_stands p d n = ready_is (stand_in m past p d) (last_found (λ y. is_ready (stand_in m past p y)) (order m past) d n).passes
 
-  given_stands : (p : Phase) (d : ℕ) → next_given m past p ≡ Some d → stand_in m past p d ≡ stand.Suspended
-  given_stands p d n = down_is (stand_in m past p d) (and_parts (is_down_in (stand_in m past p d)) (is_async_device m d) (first_found (λ y. is_down_in (stand_in m past p y) && is_async_device m y) (order m past) d n).passes).0
+  scheduled_stands : (p : Phase) (d : ℕ) → next_to_schedule m past p ≡ Some d → stand_in m past p d ≡ stand.Suspended
+  scheduled_stands p d n = down_is (stand_in m past p d) (and_parts (is_down_in (stand_in m past p d)) (is_async_device m d) (first_found (λ y. is_down_in (stand_in m past p y) && is_async_device m y) (order m past) d n).passes).0
 
   up_stands : (p : Phase) (d : ℕ) → next_up m past p ≡ Some d → stand_in m past p d ≡ stand.Suspended
   up_stands p d n = down_is (stand_in m past p d) (and_parts (is_down_in (stand_in m past p d)) (not (is_async_device m d)) (first_found (λ y. is_down_in (stand_in m past p y) && not (is_async_device m y)) (order m past) d n).passes).0
@@ -293,7 +293,7 @@ module _ (m : Machine) (past : List Entry) (time : ℕ) (now : EventNow) (who : 
   maker_fresh _ k (Made.LeavesDown p d i t e a) l h = moves_now p d k (Goes p i) refl (λ x b. refl) (λ a. next_may m past p d i t.next) h
   maker_fresh _ k (Made.BeginsDown p d i t e a) l h = begins_now m past time now who p d (Goes p i) (stood_down m past p d i stand.Prepared (next_stands m past p d t.next) refl) h
   maker_fresh _ k (Made.EndsUp p q d r u c) l h = moves_now p d k (Comes p u) refl (λ x b. refl) (λ a. absurd (true≢false (sym a ∙ end_up p u d r (three m past d)))) h
-  maker_fresh _ k (Made.SchedulesUp p d u c n) l h = moves_now p d k (Comes p u) refl (λ x b. refl) (λ a. low_may m past p d u stand.Suspended (given_stands m past (mirror p) d n) refl) h
+  maker_fresh _ k (Made.SchedulesUp p d u c n) l h = moves_now p d k (Comes p u) refl (λ x b. refl) (λ a. low_may m past p d u stand.Suspended (scheduled_stands m past (mirror p) d n) refl) h
   maker_fresh _ k (Made.BeginsUp p d u c g n w) l h = begins_now m past time now who p d (Comes p u) (stood_up m past p d u stand.Suspended (up_stands m past (mirror p) d n) refl) h
   maker_fresh _ k (Made.Prepares d r f n) l h = moves m past (by k) d refl (λ x b. refl) 5 5 (omega arith) (λ q j e. absurd (let low = (six_rank q j).0 in omega arith)) h
   maker_fresh _ k (Made.Completes d n) l h = moves m past (by k) d refl (λ x b. refl) 24 24 (omega arith) (λ q j e. absurd (let high = (six_rank q j).1 in omega arith)) h
@@ -329,7 +329,7 @@ module _ (m : Machine) (past : List Entry) (time : ℕ) (now : EventNow) (d : �
   device_fresh j k (DeviceMade.OwnLeaves p i g f t a) = moves_own k p stand.Scheduled stand.Direct refl (λ x y. refl) (at_is m past p d i ∙ g.stands) (λ q s a. may_scheduled q s) (λ q s. turned_down p q stand.Direct (three m past d) (three m past d) i s)
   device_fresh j k (DeviceMade.OwnEnds p r i a x s) = moves_own k p stand.Suspending (ended_by r) refl (λ x y. refl) (at_is m past p d i ∙ s) (λ q s a. ended_may q s r a) (λ q s. turned_down p q (ended_by r) (all_three stand.Resumed) (three m past d) i s)
   device_fresh j k (DeviceMade.OwnRose p r u a x s) = moves_own k (mirror p) stand.Resuming stand.Resumed refl (λ x y. refl) (at_is m past (mirror p) d (mirror_down p u) ∙ s) (λ q s a. absurd (true≢false (sym a ∙ resumed_may q s))) (λ q s. turned_up p q stand.Resumed (ended_by r) (three m past d) u s)
-  device_fresh j k (DeviceMade.OwnBegins p i g f t a) = begins_own p (Goes p i) (ap rank_if (given_stage m past j p d i g.stands)) (stood_down m past p d i stand.Scheduled g.stands refl)
+  device_fresh j k (DeviceMade.OwnBegins p i g f t a) = begins_own p (Goes p i) (ap rank_if (scheduled_stage m past j p d i g.stands)) (stood_down m past p d i stand.Scheduled g.stands refl)
   device_fresh j k (DeviceMade.OwnRises p u a w s n) = begins_own p (Comes p u) (ap rank_if (risen_stage m past j p d u s)) (stood_up m past p d u stand.Rescheduled s refl)
 
 -- ---- at each place
@@ -363,7 +363,7 @@ maker_once m past now _ _ _ h x b = absurd (true≢false (sym b))
 
 device_once : (m : Machine) (past : List Entry) (now : EventNow) (d : ℕ) (k : Kind) → JournalPart m past → DeviceMade m past now d k → Fresh m (rank_if (stage_of past)) past → (x : What) → begins x k ≡ true → begun x past ≡ false
 device_once m past now d _ j (DeviceMade.OwnBegins p i g f t a) h x b =
-    begun_is x p d past b (h p d (Goes p i) (During (ap rank_if (given_stage m past j p d i g.stands)) (ap (may p) (at_down m past p i d ∙ g.stands) ∙ may_scheduled p (Goes p i))))
+    begun_is x p d past b (h p d (Goes p i) (During (ap rank_if (scheduled_stage m past j p d i g.stands)) (ap (may p) (at_down m past p i d ∙ g.stands) ∙ may_scheduled p (Goes p i))))
 device_once m past now d _ j (DeviceMade.OwnRises p u a w s n) h x b =
     begun_is x p d past b (h p d (Comes p u) (During (ap rank_if (risen_stage m past j p d u s)) (low_may m past p d u stand.Rescheduled s refl)))
 device_once m past now d _ j _ h x b = absurd (true≢false (sym b))

@@ -1,4 +1,4 @@
--- The stage of a device that is given out on the way up.
+-- The stage of a device that is scheduled on the way up.
 use Rattle.std.proofs.Common.{◌≡◌, ◌∙◌, ℕ, Bool, true, List, Option, Some, None, refl, ap, subst}
 use Rattle.sleep_model.specs.declared.entry.Entry.{Entry}
 use Rattle.sleep_model.specs.declared.machine.Machine.{Machine}
@@ -43,32 +43,32 @@ in_downs phase.Noirq _ e InEarly h = never h
 in_downs phase.Noirq _ e InResumeNoirq h = never h
 in_downs _ _ e i h = never h
 
-in_asks : (a : PlatDo) (q : Phase) (e : Bool) → Up q → allows (mood (stage.Asks a) (mirror q)) e stand.Rescheduled ≡ true → ⊥
-in_asks down.Begin _ e i h = never h
-in_asks down.Prepare _ e InResume h = never h
-in_asks down.Prepare _ e InEarly h = never h
-in_asks down.Prepare _ e InResumeNoirq h = never h
-in_asks down.PrepareLate _ e i h = never h
+in_platform_down : (a : PlatDo) (q : Phase) (e : Bool) → Up q → allows (mood (stage.PlatformDown a) (mirror q)) e stand.Rescheduled ≡ true → ⊥
+in_platform_down down.Begin _ e i h = never h
+in_platform_down down.Prepare _ e InResume h = never h
+in_platform_down down.Prepare _ e InEarly h = never h
+in_platform_down down.Prepare _ e InResumeNoirq h = never h
+in_platform_down down.PrepareLate _ e i h = never h
 
-in_tells : (a : PlatUndo) (q : Phase) (e : Bool) → Up q → allows (mood (stage.Tells a) (mirror q)) e stand.Rescheduled ≡ true → ⊥
-in_tells undo.Recover _ e InResume h = never h
-in_tells undo.Recover _ e InEarly h = never h
-in_tells undo.Recover _ e InResumeNoirq h = never h
-in_tells undo.Finish _ e InResume h = never h
-in_tells undo.Finish _ e InEarly h = never h
-in_tells undo.Finish _ e InResumeNoirq h = never h
-in_tells undo.Wake _ e i h = never h
-in_tells undo.End _ e i h = never h
+in_platform_up : (a : PlatUndo) (q : Phase) (e : Bool) → Up q → allows (mood (stage.PlatformUp a) (mirror q)) e stand.Rescheduled ≡ true → ⊥
+in_platform_up undo.Recover _ e InResume h = never h
+in_platform_up undo.Recover _ e InEarly h = never h
+in_platform_up undo.Recover _ e InResumeNoirq h = never h
+in_platform_up undo.Finish _ e InResume h = never h
+in_platform_up undo.Finish _ e InEarly h = never h
+in_platform_up undo.Finish _ e InResumeNoirq h = never h
+in_platform_up undo.Wake _ e i h = never h
+in_platform_up undo.End _ e i h = never h
 
 rescheduled_at : (st : Option Stage) (q : Phase) (e : Bool) → Up q → allows (mood_if st (mirror q)) e stand.Rescheduled ≡ true → st ≡ Some (stage.Ups q)
 rescheduled_at (Some (stage.Ups p)) q e i h = ap Some (in_ups p q e i h)
 rescheduled_at (Some (stage.Downs p)) q e i h = absurd (in_downs p q e i h)
-rescheduled_at (Some (stage.Asks a)) q e i h = absurd (in_asks a q e i h)
-rescheduled_at (Some (stage.Tells a)) q e i h = absurd (in_tells a q e i h)
+rescheduled_at (Some (stage.PlatformDown a)) q e i h = absurd (in_platform_down a q e i h)
+rescheduled_at (Some (stage.PlatformUp a)) q e i h = absurd (in_platform_up a q e i h)
 rescheduled_at None q e i h = never h
 rescheduled_at (Some _) q e i h = never h
 
--- a device that was given out on the way up stands in its phase
+-- a device that was scheduled on the way up stands in its phase
 pub risen_stage : (m : Machine) (past : List Entry) → JournalPart m past → (p : Phase) (d : ℕ) → Up p → stand_in m past (mirror p) d ≡ stand.Rescheduled → stage_of past ≡ Some (stage.Ups p)
 risen_stage m past h p d i e =
     let s : Standing m past (stage_of past) = standing m past h in

@@ -135,7 +135,7 @@ pub fn broken_syscore_step_fails()
 pub fn broken_direct_complete()
     // The lowest device answers 0 to prepare, though the machine says 1.
     ensures answer { IsLegalLog direct_complete_machine (with_entries direct_complete (says 8 (kind.Prepare 2 (pos 0)) direct_complete_entries)) → ⊥ }
-    // The middle device is left alone before the one below it.
+    // The middle device is direct-complete before the one below it.
     ensures early { IsLegalLog direct_complete_machine (with_entries direct_complete (exchanged 10 direct_complete_entries)) → ⊥ }
     // The lowest begins its callback.
     ensures begun { IsLegalLog direct_complete_machine (with_entries direct_complete (says 10 (kind.Begin phase.Suspend 2) direct_complete_entries)) → ⊥ }

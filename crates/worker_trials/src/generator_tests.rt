@@ -182,8 +182,8 @@ fn twenty_devices_are_generated(rt: HostRuntime) -> Result<(), Fail> {
 /// What its devices hang below, and which are async.
 fn assert_twenty(rt: &impl Abort, alloc: Global, machine: &Machine) -> Result<(), Fail> {
     assert_eq!(rt; parents(alloc, machine)?.as_slice(), HANG.as_slice());
-    let beside = [0, 1, 3, 4, 6, 7, 10, 13, 16, 17, 19];
-    assert_eq!(rt; asyncs(alloc, machine)?.as_slice(), beside.as_slice());
+    let asynchronous = [0, 1, 3, 4, 6, 7, 10, 13, 16, 17, 19];
+    assert_eq!(rt; asyncs(alloc, machine)?.as_slice(), asynchronous.as_slice());
     Ok(())
 }
 
@@ -195,11 +195,11 @@ fn counts(alloc: Global, seed: u64, devices: u32) -> Result<Counts, Fail> {
         return Err("1 to 1,000 devices".into());
     }
     let machine = generate(alloc, seed, devices)?;
-    let beside = asyncs(alloc, &machine)?.len();
+    let asynchronous = asyncs(alloc, &machine)?.len();
     Ok((
         machine.devices.len(),
         roots(&machine),
-        beside,
+        asynchronous,
         machine.links.len(),
     ))
 }

@@ -13,10 +13,10 @@ pub move_cursors-requires-clause-but : goal.move_cursors-requires-clause-but
 move_cursors-requires-clause-but c =
     let l = c.args.layout.now in
     let w = c.args.walk.now in
-    let moved : Moved = record { place = c.index.result.now; before = c.args.before; after = c.args.after; beside = c.is_so.result } in
+    let moved : Moved = record { place = c.index.result.now; before = c.args.before; after = c.args.after; asynchronous = c.is_so.result } in
     let within : c.args.device < length (order_of l) = omega (arith, ap length c.order-order.ensures.order) in
     let place : c.index.result.now ≡ get_or l.places.items c.args.device 0 = c.index.ensures ∙ get_or_default l.places.items c.args.device c.index.result.now 0 (omega (arith, within, c.requires.laid.size)) in
     subst (λ (bs : List Bool). AreCursorsBut moved bs c.as_slice.result.now c.order-order.result.now w.cursors) (sym c.as_slice-2.ensures.value)
-    (subst (λ (ss : List Stand). AreCursorsBut moved l.beside.items ss c.order-order.result.now w.cursors) (sym c.as_slice.ensures.value)
-    (subst (λ (ds : List ℕ). AreCursorsBut moved l.beside.items (set w.stands.items c.args.device c.args.after) ds w.cursors) (sym c.order-order.ensures.order)
-    (cursors_but l.beside.items w.stands.items (order_of l) l.places.items c.args.device c.args.after c.requires.laid moved place c.requires.before (c.is_so.ensures ∙ ap (λ bs. is_so bs c.args.device) c.deref.ensures.value) within w.cursors c.requires.kept.cursors)))
+    (subst (λ (ss : List Stand). AreCursorsBut moved l.asynchronous.items ss c.order-order.result.now w.cursors) (sym c.as_slice.ensures.value)
+    (subst (λ (ds : List ℕ). AreCursorsBut moved l.asynchronous.items (set w.stands.items c.args.device c.args.after) ds w.cursors) (sym c.order-order.ensures.order)
+    (cursors_but l.asynchronous.items w.stands.items (order_of l) l.places.items c.args.device c.args.after c.requires.laid moved place c.requires.before (c.is_so.ensures ∙ ap (λ bs. is_so bs c.args.device) c.deref.ensures.value) within w.cursors c.requires.kept.cursors)))

@@ -8,8 +8,8 @@ use Rattle.device_links.proofs.depends.set_all.Goals as goal
 pub loop-device-preserved : goal.loop-device-preserved
 loop-device-preserved c =
     let order = c.args.order.now in
-    let hang = row_at c.args.table.now in
+    let dependents_of = row_at c.args.table.now in
     let i = c.loop-device.device-index in
     let d = get_or order i 0 in
-    c.set_below.ensures ∙ (ap (λ ms. spread_by hang d ms) c.loop-device.invariant
-    ∙ (sym (spread_more hang (take i order) d c.args.marks.now) ∙ ap (λ ds. spread hang ds c.args.marks.now) (sym (take_more order i 0 c.loop-device-test.true))))
+    c.set_below.ensures ∙ (ap (λ ms. spread_by dependents_of d ms) c.loop-device.invariant
+    ∙ (sym (spread_more dependents_of (take i order) d c.args.marks.now) ∙ ap (λ ds. spread dependents_of ds c.args.marks.now) (sym (take_more order i 0 c.loop-device-test.true))))

@@ -1,6 +1,6 @@
 use Rattle.std.proofs.Common.{◌≡◌, ◌≤◌, ◌∙◌, ◌++◌, ◌∷◌, [], true, length, take, reverse, get_or, sym, ap, subst, cond, arith}
 use Rattle.std.proofs.lemmas.List.{get_or_default}
-use Rattle.sleep_model.specs.Order.{hanging}
+use Rattle.sleep_model.specs.Order.{dependents}
 use Rattle.device_rows.specs.Table.{places_at}
 use Rattle.device_links.specs.Kept.{near_below, is_shown_below}
 use Rattle.device_links.proofs.InPlace.{IsRefilled, has_room, refill_first, refilled_row, refilled_more, refilled_as}
@@ -37,8 +37,8 @@ push-requires c =
     let within = c.loop-link-test.true in
     let is : is_shown_below ps l d ≡ true = sym c.is_shown_below.ensures ∙ c.if-is_shown_below.true in
     let row = near_below ps (reverse (take i ls)) d in
-    let most : length (hanging ps (reverse ls) d) ≤ places_at t d = let p = c.requires.places in let q = c.loop-link.invariant.places d in omega (arith, p, q) in
-    has_room t d (length (hanging ps (reverse ls) d)) row (refilled_row c.args.table.now.rows t.rows d row c.requires.within c.loop-link.invariant.rows) (below_room ps ls i l within (get_or_default ls i no_link l within) d is) most
+    let most : length (dependents ps (reverse ls) d) ≤ places_at t d = let p = c.requires.places in let q = c.loop-link.invariant.places d in omega (arith, p, q) in
+    has_room t d (length (dependents ps (reverse ls) d)) row (refilled_row c.args.table.now.rows t.rows d row c.requires.within c.loop-link.invariant.rows) (below_room ps ls i l within (get_or_default ls i no_link l within) d is) most
 
 pub loop-link-preserved : goal.loop-link-preserved
 loop-link-preserved c =

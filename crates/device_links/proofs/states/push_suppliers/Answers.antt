@@ -1,6 +1,6 @@
 use Rattle.std.proofs.Common.{◌≡◌, ◌≤◌, ◌∙◌, ◌++◌, ◌∷◌, [], true, length, take, reverse, get_or, sym, ap, subst, cond, arith}
 use Rattle.std.proofs.lemmas.List.{get_or_default}
-use Rattle.sleep_model.specs.Order.{holding}
+use Rattle.sleep_model.specs.Order.{superiors}
 use Rattle.device_rows.specs.Table.{places_at}
 use Rattle.device_links.specs.Kept.{near_above, is_shown_above}
 use Rattle.device_links.proofs.InPlace.{IsRefilled, has_room, refill_first, refilled_row, refilled_more, refilled_as}
@@ -30,8 +30,8 @@ push-requires c =
     let within = c.loop-link-test.true in
     let is : is_shown_above ps l d ≡ true = sym c.is_shown_above.ensures ∙ c.if-is_shown_above.true in
     let row = near_above ps (reverse (take i ls)) d in
-    let most : length (holding ps (reverse ls) d) ≤ places_at t d = let p = c.requires.places in let q = c.loop-link.invariant.places d in omega (arith, p, q) in
-    has_room t d (length (holding ps (reverse ls) d)) row (refilled_row c.args.table.now.rows t.rows d row c.requires.within c.loop-link.invariant.rows) (above_room ps ls i l within (get_or_default ls i no_link l within) d is) most
+    let most : length (superiors ps (reverse ls) d) ≤ places_at t d = let p = c.requires.places in let q = c.loop-link.invariant.places d in omega (arith, p, q) in
+    has_room t d (length (superiors ps (reverse ls) d)) row (refilled_row c.args.table.now.rows t.rows d row c.requires.within c.loop-link.invariant.rows) (above_room ps ls i l within (get_or_default ls i no_link l within) d is) most
 
 pub loop-link-preserved : goal.loop-link-preserved
 loop-link-preserved c =

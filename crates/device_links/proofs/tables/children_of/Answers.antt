@@ -6,8 +6,8 @@ use Rattle.device_links.specs.Kept.{IsTableOf}
 use Rattle.device_links.proofs.RowsMade.{table_child, parent_within, weaker}
 use Rattle.device_links.proofs.tables.children_of.Goals as goal
 
-pub hang-requires : goal.hang-requires
-hang-requires c =
+pub dependents_of-requires : goal.dependents_of-requires
+dependents_of-requires c =
     let ps = c.args.parents.now in
     let i = c.loop-number.number in
     weaker (get_or ps i None) (0 + i) (length c.loop-number.table.rows) (omega (arith, c.loop-number.invariant.count)) (parent_within 0 ps i c.requires.after c.loop-number-test.true)
@@ -21,7 +21,7 @@ loop-number-preserved c =
     let rows = c.loop-number.table.rows in
     let fits : length (take i ps) ≡ i = length-take-le i ps (omega arith) in
     let below = weaker p (0 + i) n (omega arith) (parent_within 0 ps i c.requires.after c.loop-number-test.true) in
-    subst (λ (rs : List (List ℕ)). IsTableOf n (λ d. children_from d 0 (take (i + 1) ps)) rs) (sym c.in_ok-hang.ensures)
+    subst (λ (rs : List (List ℕ)). IsTableOf n (λ d. children_from d 0 (take (i + 1) ps)) rs) (sym c.in_ok-dependents_of.ensures)
     (subst (λ (qs : List (Option ℕ)). IsTableOf n (λ d. children_from d 0 qs) (hung rows p i)) (sym (take_more ps i None c.loop-number-test.true))
     (subst (λ (k : ℕ). IsTableOf n (λ d. children_from d 0 (take i ps ++ p ∷ [])) (hung rows p k)) fits
     (table_child n (take i ps) p rows c.loop-number.invariant below)))

@@ -1,7 +1,7 @@
 use Rattle.std.proofs.Common.{◌≡◌, ◌<◌, ◌+◌, ◌-◌, ◌++◌, ◌∙◌, ℕ, Bool, [], List, length, take, reverse, filter, get_or, not, false, ap, sym, subst, arith}
 use Rattle.std.specs.List.{range_with_len}
 use Rattle.std.proofs.lemmas.List.{get_or_default}
-use Rattle.sleep_model.specs.Order.{hanging, is_among}
+use Rattle.sleep_model.specs.Order.{dependents, is_among}
 use Rattle.sleep_model.proofs.Acyclic.{order_within}
 use Rattle.device_links.specs.Passes.{Goes}
 use Rattle.device_links.proofs.Acyclicly.{links_acyclic}
@@ -16,22 +16,22 @@ visit-requires-clause-registered c =
     let l = get_or ls i no_link in
     let within : i < length ls = omega arith in
     let r = consumer_at c.args.parents.now ls i l within (get_or_default ls i no_link l within) c.requires.apart in
-    let count = c.requires.hanging.count in
+    let count = c.requires.dependents.count in
     subst (λ (n : ℕ). l.consumer < n) (sym count) r
 
 pub visit-requires-clause-within : goal.visit-requires-clause-within
-visit-requires-clause-within c = within_as c.args.parents.now (reverse c.args.links.now) c.args.table.now c.requires.hanging c.requires.after c.requires.apart
+visit-requires-clause-within c = within_as c.args.parents.now (reverse c.args.links.now) c.args.table.now c.requires.dependents c.requires.after c.requires.apart
 
 pub visit-requires-clause-visits : goal.visit-requires-clause-visits
-visit-requires-clause-visits c = visits_as c.args.parents.now (reverse c.args.links.now) c.args.table.now c.requires.hanging c.loop-i.visits c.loop-i.invariant.visits
+visit-requires-clause-visits c = visits_as c.args.parents.now (reverse c.args.links.now) c.args.table.now c.requires.dependents c.loop-i.visits c.loop-i.invariant.visits
 
 pub returns-then-not-branch : goal.returns-then-not-branch
 returns-then-not-branch c =
     let ps = c.args.parents.now in
     let ls = c.args.links.now in
     let l = get_or ls (c.loop-i.i - 1) no_link in
-    let g = goes_as ps (reverse ls) c.args.table.now c.requires.hanging l.consumer c.loop-i.visits c.visit.new.visits c.in_ok-visit.field-0 c.in_ok-visit.ensures in
-    λ linked. subst (λ (b : Bool). Goes (length ps) (hanging ps (reverse ls)) l.consumer c.loop-i.visits c.visit.new.visits b) c.if-not-branch.true g (links_acyclic ps c.requires.after (reverse ls) linked)
+    let g = goes_as ps (reverse ls) c.args.table.now c.requires.dependents l.consumer c.loop-i.visits c.visit.new.visits c.in_ok-visit.field-0 c.in_ok-visit.ensures in
+    λ linked. subst (λ (b : Bool). Goes (length ps) (dependents ps (reverse ls)) l.consumer c.loop-i.visits c.visit.new.visits b) c.if-not-branch.true g (links_acyclic ps c.requires.after (reverse ls) linked)
 
 pub loop-i-preserved : goal.loop-i-preserved
 loop-i-preserved c =
@@ -41,8 +41,8 @@ loop-i-preserved c =
     let l = get_or ls i no_link in
     let within : i < length ls = omega arith in
     let back : c.loop-i.i ≡ i + 1 = omega arith in
-    let g = goes_as ps (reverse ls) c.args.table.now c.requires.hanging l.consumer c.loop-i.visits c.visit.new.visits c.in_ok-visit.field-0 c.in_ok-visit.ensures in
-    let v = subst (λ (b : Bool). Goes (length ps) (hanging ps (reverse ls)) l.consumer c.loop-i.visits c.visit.new.visits b) c.if-not-branch.false g in
+    let g = goes_as ps (reverse ls) c.args.table.now c.requires.dependents l.consumer c.loop-i.visits c.visit.new.visits c.in_ok-visit.field-0 c.in_ok-visit.ensures in
+    let v = subst (λ (b : Bool). Goes (length ps) (dependents ps (reverse ls)) l.consumer c.loop-i.visits c.visit.new.visits b) c.if-not-branch.false g in
     let w = subst (λ (k : ℕ). AreWalked ps (reverse ls) (reverse (take k ls)) c.loop-i.visits) back c.loop-i.invariant in
     walked_next ps c.requires.after ls i l within (get_or_default ls i no_link l within) c.loop-i.visits c.visit.new.visits w v
 

@@ -28,7 +28,7 @@ invariant_of-self c =
     let d = c.args.consumer in
     let layout = c.self.inside.layout in
     record {
-      laid = subst (λ (k : Linked). IsLayout (record { links = k; places = layout.places; beside = layout.beside })) (sym c.in-Ok.ensures.ok)
+      laid = subst (λ (k : Linked). IsLayout (record { links = k; places = layout.places; asynchronous = layout.asynchronous })) (sym c.in-Ok.ensures.ok)
           (subst (λ (xs : List ℕ). IsPlaced xs layout.places.items)
           (sym (order_kept (with_state s d c.args.active) (same_supplier s d c.args.active) (same_consumer s d c.args.active) layout.links.parents layout.links.links)) c.self.invariant.laid);
       suspend = c.begin_anew.ensures.suspend;

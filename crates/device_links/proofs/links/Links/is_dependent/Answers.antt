@@ -1,11 +1,11 @@
 use Rattle.std.proofs.Common.{◌≡◌, ◌≤◌, ◌∙◌, ◌==◌, ℕ, List, false, true, length, ap, subst, reverse, sym, get_or, set, replicate, arith}
 use Rattle.std.proofs.lemmas.Bool.{ne_eqb}
 use Rattle.sleep_model.specs.Links.{is_dependent}
-use Rattle.sleep_model.specs.Order.{hanging}
+use Rattle.sleep_model.specs.Order.{dependents}
 use Rattle.std.specs.Bool.{OnTrue}
 use Rattle.device_links.specs.Linked.{Linked}
 use Rattle.device_links.specs.Spread.{spread}
-use Rattle.device_links.proofs.Kept.{hang_is}
+use Rattle.device_links.proofs.Kept.{dependents_is}
 use Rattle.device_links.specs.Moves.{StandsFirst}
 use Rattle.device_links.proofs.Moving.{apart_by}
 use Rattle.device_links.proofs.Spreading.{comes}
@@ -23,8 +23,8 @@ returns-else-consumer-supplier c =
     let apart : (from == to) ≡ false = ne_eqb from to (λ e. omega arith) in
     subst (λ (v : Linked). c.comes_to.result ≡ is_dependent v.parents v.links from to) c.self.view_is
     (c.comes_to.ensures
-    ∙ (ap (λ (hang : ℕ → List ℕ). get_or (spread hang c.deref-else-consumer-supplier.result.now (set (replicate 1024 false) from true)) to false) (hang_is ps ls old.hanging k.all_hanging)
-    ∙ (ap (λ (ds : List ℕ). get_or (spread (hanging ps ls) ds (set (replicate 1024 false) from true)) to false) (c.deref-else-consumer-supplier.ensures.value ∙ k.ordered)
+    ∙ (ap (λ (dependents_of : ℕ → List ℕ). get_or (spread dependents_of c.deref-else-consumer-supplier.result.now (set (replicate 1024 false) from true)) to false) (dependents_is ps ls old.dependents k.all_dependents)
+    ∙ (ap (λ (ds : List ℕ). get_or (spread (dependents ps ls) ds (set (replicate 1024 false) from true)) to false) (c.deref-else-consumer-supplier.ensures.value ∙ k.ordered)
     ∙ comes ps k.after ls k.linked 1024 from to few apart)))
 
 pub returns-then-stands_first : goal.returns-then-stands_first

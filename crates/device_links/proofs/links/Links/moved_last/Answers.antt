@@ -1,5 +1,5 @@
 use Rattle.std.proofs.Common.{◌<◌, ◌∙◌, ℕ, length, reverse, ap, sym, subst, IfOk}
-use Rattle.sleep_model.specs.Order.{hanging, is_among}
+use Rattle.sleep_model.specs.Order.{dependents, is_among}
 use Rattle.sleep_model.proofs.Acyclic.{order_within}
 use Rattle.device_links.specs.Linked.{Linked}
 use Rattle.device_links.specs.Moves.{Leaves}
@@ -14,7 +14,7 @@ moved_last-requires c =
     let ps = old.parents.items in
     let ls = reverse old.links.items in
     let marks = c.args.marks.now in
-    let w = subst (λ (v : Linked). IsWalked (length v.parents) (hanging v.parents v.links) c.args.link.consumer c.args.link.supplier c.args.below.now marks) (sym c.self.view_is) c.requires in
+    let w = subst (λ (v : Linked). IsWalked (length v.parents) (dependents v.parents v.links) c.args.link.consumer c.args.link.supplier c.args.below.now marks) (sym c.self.view_is) c.requires in
     λ d m. subst (λ (n : ℕ). d < n) (sym w.marked.count) (order_within ps k.after ls k.linked d (ap (λ o. is_among o d) (sym (c.deref.ensures.value ∙ k.ordered)) ∙ m))
 
 pub returns : goal.returns
@@ -26,6 +26,6 @@ returns c =
     let l = c.args.link in
     let marks = c.args.marks.now in
     let found = c.args.below.now in
-    let w = subst (λ (v : Linked). IsWalked (length v.parents) (hanging v.parents v.links) l.consumer l.supplier found marks) (sym c.self.view_is) c.requires in
+    let w = subst (λ (v : Linked). IsWalked (length v.parents) (dependents v.parents v.links) l.consumer l.supplier found marks) (sym c.self.view_is) c.requires in
     subst (λ (v : Linked). IfOk c.moved_last.result (λ o. Leaves v l o.items)) c.self.view_is
     (leaves_moved ps k.after ls k.linked l c.deref.result.now found marks (c.deref.ensures.value ∙ k.ordered) w c.moved_last.result c.moved_last.ensures)

@@ -1,5 +1,5 @@
 use Rattle.std.proofs.Common.{◌≡◌, ◌<◌, ◌∙◌, ℕ, List, length, ap, sym, subst, reverse, true}
-use Rattle.sleep_model.specs.Order.{is_among, hanging}
+use Rattle.sleep_model.specs.Order.{is_among, dependents}
 use Rattle.sleep_model.specs.Links.{IsOrder}
 use Rattle.sleep_model.proofs.Acyclic.{order_ranked, order_covers, order_within, order_length}
 use Rattle.device_links.specs.Linked.{Linked}
@@ -10,8 +10,8 @@ returns-clause-ranked c =
     let k = c.self.invariant.kept in
     let ps = c.self.inside.parents.items in
     let ls = reverse c.self.inside.links.items in
-    subst (λ (v : Linked). IsOrder (hanging v.parents v.links) c.deref.result.now) c.self.view_is
-    (subst (λ (o : List ℕ). IsOrder (hanging ps ls) o) (sym (c.deref.ensures.value ∙ k.ordered)) (order_ranked ps k.after ls k.linked))
+    subst (λ (v : Linked). IsOrder (dependents v.parents v.links) c.deref.result.now) c.self.view_is
+    (subst (λ (o : List ℕ). IsOrder (dependents ps ls) o) (sym (c.deref.ensures.value ∙ k.ordered)) (order_ranked ps k.after ls k.linked))
 
 pub returns-clause-covers : goal.returns-clause-covers
 returns-clause-covers c =

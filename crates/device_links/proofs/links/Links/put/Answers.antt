@@ -1,14 +1,14 @@
 use Rattle.std.proofs.Common.{◌≡◌, ◌≤◌, ℕ, List, arith, ◌++◌, ◌∷◌, ◌∙◌, [], Some, length, cond, reverse, ap, sym, subst, refl}
 use Rattle.std.proofs.lemmas.List.{reverse-append}
 use Rattle.sleep_model.specs.declared.machine.Link.{Link}
-use Rattle.sleep_model.specs.Order.{hanging, holding, order_by}
+use Rattle.sleep_model.specs.Order.{dependents, superiors, order_by}
 use Rattle.device_rows.specs.Table.{hung, places_at}
 use Rattle.device_links.specs.Linked.{Linked}
 use Rattle.device_links.specs.Moves.{Leaves, after_move}
 use Rattle.device_links.specs.Adds.{IsOpen}
 use Rattle.device_links.specs.Kept.{HavePlaces}
 use Rattle.device_links.specs.Passes.{is_left_out}
-use Rattle.device_links.proofs.Kept.{kept_more, kept_as, places_more, hanging_count, holding_count}
+use Rattle.device_links.proofs.Kept.{kept_more, kept_as, places_more, dependents_count, holding_count}
 use Rattle.device_links.proofs.links.Links.put.Goals as goal
 
 pub invariant_of-self-2 : goal.invariant_of-self-2
@@ -34,15 +34,15 @@ invariant_of-self-2 c =
     let seen' = c.push_unless-2.new.table in
     let more_below : (x : ℕ) → places_at old.below x ≤ places_at seen x = λ x. let p = c.make_near.ensures.places x in let q = c.push_unless.ensures.places x in omega (arith, p, q) in
     let more_above : (x : ℕ) → places_at old.above x ≤ places_at seen' x = λ x. let p = c.make_near-2.ensures.places x in let q = c.push_unless-2.ensures.places x in omega (arith, p, q) in
-    let fits_below : length (hanging ps (l ∷ ls) s) ≤ places_at seen s =
-    let p = c.in_ok-make_near.ensures.made in let q = c.push_unless.ensures.places s in let n = c.places_for-most_below.ensures in let e = ap length (k.all_hanging.each s) in let m = hanging_count ps l ls in
+    let fits_below : length (dependents ps (l ∷ ls) s) ≤ places_at seen s =
+    let p = c.in_ok-make_near.ensures.made in let q = c.push_unless.ensures.places s in let n = c.places_for-most_below.ensures in let e = ap length (k.all_dependents.each s) in let m = dependents_count ps l ls in
     omega (arith, p, q, n, e, m) in
-    let fits_above : length (holding ps (l ∷ ls) d) ≤ places_at seen' d =
+    let fits_above : length (superiors ps (l ∷ ls) d) ≤ places_at seen' d =
     let p = c.in_ok-make_near-2.ensures.made in let q = c.push_unless-2.ensures.places d in let n = c.places_for-most_above.ensures in let e = ap length (k.all_suppliers.each d) in let m = holding_count ps l ls in
     omega (arith, p, q, n, e, m) in
     let places : HavePlaces ps (reverse c.push-3.new.self.items) seen seen' =
     subst (λ (x : List Link). HavePlaces ps x seen seen') (sym links) (places_more ps k.after l ls old.below old.above seen seen' c.self.invariant.places more_below fits_below more_above fits_above) in
     record {
-      kept = kept_as refl (sym links) (sym hangs) (sym below) (sym suppliers) (sym above) (sym order) (kept_more ps ls old.hanging.rows old.below.rows old.suppliers.rows old.above.rows old.order.items k l open' leaves.missing (after_move c.args.moved (order_by ps ls)) leaves.ordered left_out is);
+      kept = kept_as refl (sym links) (sym hangs) (sym below) (sym suppliers) (sym above) (sym order) (kept_more ps ls old.dependents.rows old.below.rows old.suppliers.rows old.above.rows old.order.items k l open' leaves.missing (after_move c.args.moved (order_by ps ls)) leaves.ordered left_out is);
       places = places;
     }

@@ -1,7 +1,7 @@
 use Rattle.std.proofs.Common.{◌≡◌, ◌≤◌, ◌∙◌, List, length, map, reverse, true, ℕ, Option, set, sym, ap, subst}
 use Rattle.sleep_model.specs.declared.machine.Link.{Link}
 use Rattle.sleep_model.specs.Links.{is_linked}
-use Rattle.sleep_model.specs.Order.{with_state, hanging, holding}
+use Rattle.sleep_model.specs.Order.{with_state, dependents, superiors}
 use Rattle.device_rows.specs.Table.{places_at}
 use Rattle.device_links.specs.Adds.{Stand, with_set}
 use Rattle.device_links.specs.Kept.{IsWhole, near_below, near_above}
@@ -18,8 +18,8 @@ refill_below-requires-clause-places c =
     let s = c.args.supplier in
     let f = with_state s c.args.consumer c.args.to in
     let is : reverse c.deref-2.result.now ≡ map f ls = ap reverse (c.deref-2.ensures.value ∙ c.set_state.ensures) ∙ reversed_map f old.links.items in
-    subst (λ (qs : List (Option ℕ)). length (hanging qs (reverse c.deref-2.result.now) s) ≤ places_at old.below s) (sym c.deref.ensures.value)
-    (subst (λ (x : List Link). length (hanging ps x s) ≤ places_at old.below s) (sym is) (set_below s c.args.consumer c.args.to ps ls old.below old.above c.self.invariant.places s))
+    subst (λ (qs : List (Option ℕ)). length (dependents qs (reverse c.deref-2.result.now) s) ≤ places_at old.below s) (sym c.deref.ensures.value)
+    (subst (λ (x : List Link). length (dependents ps x s) ≤ places_at old.below s) (sym is) (set_below s c.args.consumer c.args.to ps ls old.below old.above c.self.invariant.places s))
 
 pub refill_below-requires-clause-apart : goal.refill_below-requires-clause-apart
 refill_below-requires-clause-apart c =
@@ -29,7 +29,7 @@ refill_below-requires-clause-apart c =
     let f = with_state c.args.supplier c.args.consumer c.args.to in
     let is : reverse c.deref-2.result.now ≡ map f ls = ap reverse (c.deref-2.ensures.value ∙ c.set_state.ensures) ∙ reversed_map f old.links.items in
     subst (λ (qs : List (Option ℕ)). AreApart qs (reverse c.deref-2.result.now)) (sym c.deref.ensures.value)
-    (subst (AreApart ps) (sym is) (set_apart c.args.supplier c.args.consumer c.args.to ps ls old.hanging.rows old.below.rows old.suppliers.rows old.above.rows old.order.items c.self.invariant.kept))
+    (subst (AreApart ps) (sym is) (set_apart c.args.supplier c.args.consumer c.args.to ps ls old.dependents.rows old.below.rows old.suppliers.rows old.above.rows old.order.items c.self.invariant.kept))
 
 pub refill_above-requires-clause-places : goal.refill_above-requires-clause-places
 refill_above-requires-clause-places c =
@@ -39,8 +39,8 @@ refill_above-requires-clause-places c =
     let d = c.args.consumer in
     let f = with_state c.args.supplier d c.args.to in
     let is : reverse c.deref-4.result.now ≡ map f ls = ap reverse (c.deref-4.ensures.value ∙ c.set_state.ensures) ∙ reversed_map f old.links.items in
-    subst (λ (qs : List (Option ℕ)). length (holding qs (reverse c.deref-4.result.now) d) ≤ places_at old.above d) (sym c.deref-3.ensures.value)
-    (subst (λ (x : List Link). length (holding ps x d) ≤ places_at old.above d) (sym is) (set_above c.args.supplier d c.args.to ps ls old.below old.above c.self.invariant.places d))
+    subst (λ (qs : List (Option ℕ)). length (superiors qs (reverse c.deref-4.result.now) d) ≤ places_at old.above d) (sym c.deref-3.ensures.value)
+    (subst (λ (x : List Link). length (superiors ps x d) ≤ places_at old.above d) (sym is) (set_above c.args.supplier d c.args.to ps ls old.below old.above c.self.invariant.places d))
 
 pub refill_above-requires-clause-apart : goal.refill_above-requires-clause-apart
 refill_above-requires-clause-apart c =
@@ -50,7 +50,7 @@ refill_above-requires-clause-apart c =
     let f = with_state c.args.supplier c.args.consumer c.args.to in
     let is : reverse c.deref-4.result.now ≡ map f ls = ap reverse (c.deref-4.ensures.value ∙ c.set_state.ensures) ∙ reversed_map f old.links.items in
     subst (λ (qs : List (Option ℕ)). AreApart qs (reverse c.deref-4.result.now)) (sym c.deref-3.ensures.value)
-    (subst (AreApart ps) (sym is) (set_apart c.args.supplier c.args.consumer c.args.to ps ls old.hanging.rows old.below.rows old.suppliers.rows old.above.rows old.order.items c.self.invariant.kept))
+    (subst (AreApart ps) (sym is) (set_apart c.args.supplier c.args.consumer c.args.to ps ls old.dependents.rows old.below.rows old.suppliers.rows old.above.rows old.order.items c.self.invariant.kept))
 
 pub invariant_of-self : goal.invariant_of-self
 invariant_of-self c =
@@ -67,8 +67,8 @@ invariant_of-self c =
     let there : Stand (record { parents = ps; links = ls }) s d = subst (λ (v : Linked). Stand v s d) (sym c.self.view_is) h.0 in
     let below = c.refill_below.ensures.rows ∙ (ap (λ (x : List Link). set old.below.rows s (near_below c.deref.result.now x s)) seen ∙ ap (λ (qs : List (Option ℕ)). set old.below.rows s (near_below qs (map f ls) s)) c.deref.ensures.value) in
     let above = c.refill_above.ensures.rows ∙ (ap (λ (x : List Link). set old.above.rows d (near_above c.deref-3.result.now x d)) seen' ∙ ap (λ (qs : List (Option ℕ)). set old.above.rows d (near_above qs (map f ls) d)) c.deref-3.ensures.value) in
-    subst (λ (x : List Link). IsWhole ps x old.hanging.rows c.refill_below.new.table old.suppliers.rows c.refill_above.new.table old.order.items) (sym is)
-    (whole_set s d c.args.to ps ls old.hanging.rows old.below old.suppliers.rows old.above old.order.items c.self.invariant there.0 there.1 c.refill_below.new.table c.refill_above.new.table below c.refill_below.ensures.places above c.refill_above.ensures.places)
+    subst (λ (x : List Link). IsWhole ps x old.dependents.rows c.refill_below.new.table old.suppliers.rows c.refill_above.new.table old.order.items) (sym is)
+    (whole_set s d c.args.to ps ls old.dependents.rows old.below old.suppliers.rows old.above old.order.items c.self.invariant there.0 there.1 c.refill_below.new.table c.refill_above.new.table below c.refill_below.ensures.places above c.refill_above.ensures.places)
 
 pub returns-clause-ok : goal.returns-clause-ok
 returns-clause-ok c =

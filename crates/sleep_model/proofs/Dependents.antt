@@ -78,14 +78,14 @@ onto_same (x ∷ xs) out h =
 
 -- ---- a walk below a device
 
-module _ (hang : ℕ → List ℕ) where
+module _ (dependents_of : ℕ → List ℕ) where
   -- W gives the device, then all that hangs below it, each with its own
   abbrev pub Descends : (ℕ → List ℕ) → Type 0
-  Descends W = (d : ℕ) → W d ≡ d ∷ flat_map W (hang d)
+  Descends W = (d : ℕ) → W d ≡ d ∷ flat_map W (dependents_of d)
 
   -- these with each that hangs right below one of them
   abbrev pub IsClosed : List ℕ → Type 0
-  IsClosed out = (d : ℕ) → is_among out d ≡ true → Within (hang d) out
+  IsClosed out = (d : ℕ) → is_among out d ≡ true → Within (dependents_of d) out
 
   module _ (W : ℕ → List ℕ) (fix : Descends W) where
     -- one of these, or one that hangs below one of them
@@ -103,20 +103,20 @@ module _ (hang : ℕ → List ℕ) where
     -- what hangs below a device has no more below it
     no_longer : (k d x : ℕ) → length (W d) ≤ k → is_among (W d) x ≡ true → length (W x) ≤ length (W d)
     no_longer zero d x l m = let e = ap length (fix d) in absurd (omega arith)
-    no_longer (suc k) d x l m = by_test (or_cases (d == x) (is_among (flat_map W (hang d)) x) (subst (λ (ys : List ℕ). is_among ys x ≡ true) (fix d) m)) (λ d' l' m'. no_longer k d' x l' m')
+    no_longer (suc k) d x l m = by_test (or_cases (d == x) (is_among (flat_map W (dependents_of d)) x) (subst (λ (ys : List ℕ). is_among ys x ≡ true) (fix d) m)) (λ d' l' m'. no_longer k d' x l' m')
       where
-        len : length (W d) ≡ suc (length (flat_map W (hang d)))
+        len : length (W d) ≡ suc (length (flat_map W (dependents_of d)))
         len = ap length (fix d)
 
-        by_test : ((d == x) ≡ true) ⊎ (is_among (flat_map W (hang d)) x ≡ true) → ((d' : ℕ) → length (W d') ≤ k → is_among (W d') x ≡ true → length (W x) ≤ length (W d')) → length (W x) ≤ length (W d)
+        by_test : ((d == x) ≡ true) ⊎ (is_among (flat_map W (dependents_of d)) x ≡ true) → ((d' : ℕ) → length (W d') ≤ k → is_among (W d') x ≡ true → length (W x) ≤ length (W d')) → length (W x) ≤ length (W d)
         by_test (inl e) rec = let same : d ≡ x = eqb-true d x e in let r : length (W x) ≡ length (W d) = ap (λ y. length (W y)) (sym same) in omega (arith, r)
-        by_test (inr h) rec = let r = in_flat k x rec (hang d) (omega (arith, len)) h in omega (arith, len, r)
+        by_test (inr h) rec = let r = in_flat k x rec (dependents_of d) (omega (arith, len)) h in omega (arith, len, r)
 
     -- no device hangs below itself
-    pub not_below_itself : (d : ℕ) → is_among (flat_map W (hang d)) d ≡ false
-    not_below_itself d = false_from_ne_true _ (λ m. too_long (in_flat (length (W d)) d (λ c l h. no_longer (length (W d)) c d l h) (hang d) (omega (arith, ap length (fix d))) m))
+    pub not_below_itself : (d : ℕ) → is_among (flat_map W (dependents_of d)) d ≡ false
+    not_below_itself d = false_from_ne_true _ (λ m. too_long (in_flat (length (W d)) d (λ c l h. no_longer (length (W d)) c d l h) (dependents_of d) (omega (arith, ap length (fix d))) m))
       where
-        too_long : length (W d) ≤ length (flat_map W (hang d)) → ⊥
+        too_long : length (W d) ≤ length (flat_map W (dependents_of d)) → ⊥
         too_long l = let e = ap length (fix d) in absurd (omega (arith, e, l))
 
     each_in : (k : ℕ) (out : List ℕ) (x : ℕ) → ((c : ℕ) → length (W c) ≤ k → is_among out c ≡ true → Within (W c) out) → (cs : List ℕ) → length (flat_map W cs) ≤ k → Within cs out → is_among (flat_map W cs) x ≡ true → is_among out x ≡ true
@@ -130,25 +130,25 @@ module _ (hang : ℕ → List ℕ) where
     -- with a device all that hangs below it is among a closed list
     all_in : (k : ℕ) (out : List ℕ) → IsClosed out → (d : ℕ) → length (W d) ≤ k → is_among out d ≡ true → Within (W d) out
     all_in zero out h d l m = let e = ap length (fix d) in absurd (omega arith)
-    all_in (suc k) out h d l m = λ x n. by_test x (or_cases (d == x) (is_among (flat_map W (hang d)) x) (subst (λ (ys : List ℕ). is_among ys x ≡ true) (fix d) n)) (λ c l' m'. all_in k out h c l' m')
+    all_in (suc k) out h d l m = λ x n. by_test x (or_cases (d == x) (is_among (flat_map W (dependents_of d)) x) (subst (λ (ys : List ℕ). is_among ys x ≡ true) (fix d) n)) (λ c l' m'. all_in k out h c l' m')
       where
-        len : length (W d) ≡ suc (length (flat_map W (hang d)))
+        len : length (W d) ≡ suc (length (flat_map W (dependents_of d)))
         len = ap length (fix d)
 
-        by_test : (x : ℕ) → ((d == x) ≡ true) ⊎ (is_among (flat_map W (hang d)) x ≡ true) → ((c : ℕ) → length (W c) ≤ k → is_among out c ≡ true → Within (W c) out) → is_among out x ≡ true
+        by_test : (x : ℕ) → ((d == x) ≡ true) ⊎ (is_among (flat_map W (dependents_of d)) x ≡ true) → ((c : ℕ) → length (W c) ≤ k → is_among out c ≡ true → Within (W c) out) → is_among out x ≡ true
         by_test x (inl e) rec = subst (λ (y : ℕ). is_among out y ≡ true) (eqb-true d x e) m
-        by_test x (inr n) rec = each_in k out x rec (hang d) (omega (arith, len)) (h d m) n
+        by_test x (inr n) rec = each_in k out x rec (dependents_of d) (omega (arith, len)) (h d m) n
 
     -- a device that was walked is not walked again
     pub visited : (out : List ℕ) → IsClosed out → (d : ℕ) → is_among out d ≡ true → onto (W d) out ≡ out
     visited out h d m = onto_same (W d) out (all_in (length (W d)) out h d (omega arith) m)
 
     -- a device that was not walked comes in front of all that hangs below it
-    pub visits : (out : List ℕ) (d : ℕ) → is_among out d ≡ false → onto (W d) out ≡ d ∷ onto (flat_map W (hang d)) out
+    pub visits : (out : List ℕ) (d : ℕ) → is_among out d ≡ false → onto (W d) out ≡ d ∷ onto (flat_map W (dependents_of d)) out
     visits out d n =
         ap (λ ys. onto ys out) (fix d)
-        ∙ ap (λ b. cond b (onto (flat_map W (hang d)) out) (d ∷ onto (flat_map W (hang d)) out))
-        (among_onto (flat_map W (hang d)) out d ∙ (ap (λ b. b || is_among out d) (not_below_itself d) ∙ n))
+        ∙ ap (λ b. cond b (onto (flat_map W (dependents_of d)) out) (d ∷ onto (flat_map W (dependents_of d)) out))
+        (among_onto (flat_map W (dependents_of d)) out d ∙ (ap (λ b. b || is_among out d) (not_below_itself d) ∙ n))
 
     pub among_flat : (e : ℕ) (cs : List ℕ) (c : ℕ) → is_among cs c ≡ true → is_among (W c) e ≡ true → is_among (flat_map W cs) e ≡ true
     among_flat e [] c m n = absurd (false≢true m)
@@ -159,6 +159,6 @@ module _ (hang : ℕ → List ℕ) where
         by_test rest (inr p) = or_right (is_among (W b) e) (is_among (flat_map W cs) e) (rest p)
 
     -- what a path leads to hangs below
-    pub leads_below : (d : ℕ) (xs : List ℕ) (e : ℕ) → LeadsTo hang d xs e → is_among (W d) e ≡ true
-    leads_below d [] e h = subst (λ (ys : List ℕ). is_among ys e ≡ true) (sym (fix d)) (subst (λ (y : ℕ). is_among (d ∷ flat_map W (hang d)) y ≡ true) h (among_first d (flat_map W (hang d))))
-    leads_below d (x ∷ xs) e h = subst (λ (ys : List ℕ). is_among ys e ≡ true) (sym (fix d)) (among_rest d (flat_map W (hang d)) e (among_flat e (hang d) x h.0 (leads_below x xs e h.1)))
+    pub leads_below : (d : ℕ) (xs : List ℕ) (e : ℕ) → LeadsTo dependents_of d xs e → is_among (W d) e ≡ true
+    leads_below d [] e h = subst (λ (ys : List ℕ). is_among ys e ≡ true) (sym (fix d)) (subst (λ (y : ℕ). is_among (d ∷ flat_map W (dependents_of d)) y ≡ true) h (among_first d (flat_map W (dependents_of d))))
+    leads_below d (x ∷ xs) e h = subst (λ (ys : List ℕ). is_among ys e ≡ true) (sym (fix d)) (among_rest d (flat_map W (dependents_of d)) e (among_flat e (dependents_of d) x h.0 (leads_below x xs e h.1)))
