@@ -6,13 +6,16 @@ usage: tools/worked.py
 tools/worked/ has for each log its machine file NAME.json and its text NAME.log, worked out apart from the
 program. The table LOGS says what each shows. A machine becomes the value that its file spells, a log the
 value that its text spells, an entry a line. What is written: specs/*.antt with the values, a module a
-subject; src/whole.rt, src/rounds.rt and src/texts.rt with the laws; and the proof of the law of a long log.
+subject; src/whole.rt, src/rounds.rt and src/texts.rt with the laws; the proof of the law of a long log; and the
+same machines and logs as tests of the program, in crates/sleep_main/src/rows (worked_rows.py).
 """
 
 import json
 import pathlib
 import re
 import sys
+
+import worked_rows
 
 ROOT = pathlib.Path(__file__).resolve().parent.parent
 CRATE = ROOT / "crates" / "worked_logs"
@@ -761,6 +764,7 @@ def main():
             write_halves(log)
             write_proofs(log)
     write_laws(logs)
+    worked_rows.write_rows(logs, ROOT / "crates" / "sleep_main" / "src" / "rows")
 
 
 if __name__ == "__main__":

@@ -1,36 +1,21 @@
-//! Tasks that are asked to freeze, and that wait.
+//! Tasks that are asked to freeze.
+//!
+//! `tools/worked.py` writes this file from `tools/worked/`.
 
 /// The machines, the status that each gives, and its log.
-pub(crate) const MACHINES: [(&str, u8, &str); 7] = [
-    (SLEEP_ALONE, 0, SLEEP_ALONE_LOG),
+pub(crate) const MACHINES: [(&str, u8, &str); 4] = [
     (FREEZE_TIMES_OUT, 0, FREEZE_TIMES_OUT_LOG),
     (KERNEL_FREEZE_TIMES_OUT, 0, KERNEL_FREEZE_TIMES_OUT_LOG),
     (READ_INTERRUPTED, 0, READ_INTERRUPTED_LOG),
     (SAVE_INTERRUPTED, 0, SAVE_INTERRUPTED_LOG),
-    (STUCK_AT_A_MARK, 6, STUCK_AT_A_MARK_LOG),
-    (STUCK_READ, 6, STUCK_READ_LOG),
 ];
 
-/// A task sleeps for five ms.
-const SLEEP_ALONE: &str =
-    r#"{"version": 1, "actors": [{"name": "w", "kind": "user", "script": [{"op": "sleep", "ms": 5}]}]}"#;
+/// A task that sleeps uninterruptibly: freezing gives up, first by its time and then by an event.
+pub(crate) const FREEZE_TIMES_OUT: &str =
+    r#"{"version":1,"sources":["lid"],"actors":[{"name":"b","kind":"user","script":[{"op":"sleep_d","ms":30000}]},{"name":"w","kind":"user","script":[{"op":"read"},{"op":"save"},{"op":"state","text":"mem"},{"op":"event","source":"lid"},{"op":"state","text":"mem"}]}]}"#;
 
 /// What the program writes for it.
-const SLEEP_ALONE_LOG: &str = "\
-0 0/0/0 task:w sleep 5
-5 0/0/0 time jump
-5 0/0/0 task:w slept
-5 0/0/0 task:w exit
-source autosleep 0 0 0 0 0 0 0
-finished
-";
-
-/// A task that sleeps and cannot be woken lets a freeze time out; an event ends the next freeze at once.
-const FREEZE_TIMES_OUT: &str =
-    r#"{"version": 1, "sources": ["lid"], "actors": [{"name": "b", "kind": "user", "script": [{"op": "sleep_d", "ms": 30000}]}, {"name": "w", "kind": "user", "script": [{"op": "read"}, {"op": "save"}, {"op": "state", "text": "mem"}, {"op": "event", "source": "lid"}, {"op": "state", "text": "mem"}]}]}"#;
-
-/// What the program writes for it.
-const FREEZE_TIMES_OUT_LOG: &str = "\
+pub(crate) const FREEZE_TIMES_OUT_LOG: &str = "\
 0 0/0/0 task:b sleep_d 30000
 0 0/0/0 task:w read 0
 0 0/0/0 task:w save 0 ok
@@ -57,12 +42,12 @@ source autosleep 0 0 0 0 0 0 0
 finished
 ";
 
-/// A kernel thread lets the second freeze time out: user tasks are thawed, too.
-const KERNEL_FREEZE_TIMES_OUT: &str =
-    r#"{"version": 1, "actors": [{"name": "b", "kind": "kthread", "script": [{"op": "sleep_d", "ms": 30000}]}, {"name": "w", "kind": "user", "script": [{"op": "state", "text": "mem"}]}]}"#;
+/// A kernel thread that sleeps uninterruptibly: freezing gives up, and all are let go.
+pub(crate) const KERNEL_FREEZE_TIMES_OUT: &str =
+    r#"{"version":1,"actors":[{"name":"b","kind":"kthread","script":[{"op":"sleep_d","ms":30000}]},{"name":"w","kind":"user","script":[{"op":"state","text":"mem"}]}]}"#;
 
 /// What the program writes for it.
-const KERNEL_FREEZE_TIMES_OUT_LOG: &str = "\
+pub(crate) const KERNEL_FREEZE_TIMES_OUT_LOG: &str = "\
 0 0/0/0 task:b sleep_d 30000
 0 0/0/0 task:w attempt 1 plain
 0 0/0/0 task:w freeze user
@@ -81,12 +66,12 @@ source autosleep 0 0 0 0 0 0 0
 finished
 ";
 
-/// A read that waits for the end of an event is interrupted by the freezer.
-const READ_INTERRUPTED: &str =
-    r#"{"version": 1, "sources": ["lid"], "actors": [{"name": "w", "kind": "user", "script": [{"op": "awake", "source": "lid"}, {"op": "read"}, {"op": "post", "mark": "z"}]}, {"name": "v", "kind": "user", "script": [{"op": "state", "text": "mem"}]}]}"#;
+/// A read that waits is interrupted as its task is asked to freeze.
+pub(crate) const READ_INTERRUPTED: &str =
+    r#"{"version":1,"sources":["lid"],"actors":[{"name":"w","kind":"user","script":[{"op":"awake","source":"lid"},{"op":"read"},{"op":"post","mark":"z"}]},{"name":"v","kind":"user","script":[{"op":"state","text":"mem"}]}]}"#;
 
 /// What the program writes for it.
-const READ_INTERRUPTED_LOG: &str = "\
+pub(crate) const READ_INTERRUPTED_LOG: &str = "\
 0 0/0/0 task:w awake lid
 0 0/0/0 task:w start lid
 0 1/0/0 task:v attempt 1 plain
@@ -128,12 +113,12 @@ source autosleep 0 0 0 0 0 0 0
 finished
 ";
 
-/// A save that waits for the end of an attempt is interrupted by the freezer.
-const SAVE_INTERRUPTED: &str =
-    r#"{"version": 1, "actors": [{"name": "v", "kind": "user", "script": [{"op": "state", "text": "mem"}]}, {"name": "w", "kind": "user", "script": [{"op": "save"}]}]}"#;
+/// A save that waits for another's attempt is interrupted as its task is asked to freeze.
+pub(crate) const SAVE_INTERRUPTED: &str =
+    r#"{"version":1,"actors":[{"name":"v","kind":"user","script":[{"op":"state","text":"mem"}]},{"name":"w","kind":"user","script":[{"op":"save"}]}]}"#;
 
 /// What the program writes for it.
-const SAVE_INTERRUPTED_LOG: &str = "\
+pub(crate) const SAVE_INTERRUPTED_LOG: &str = "\
 0 0/0/0 task:v attempt 1 plain
 0 0/0/0 task:w save 0 wait
 0 0/0/0 task:v freeze user
@@ -168,28 +153,4 @@ const SAVE_INTERRUPTED_LOG: &str = "\
 1000 0/0/0 task:v exit
 source autosleep 0 0 0 0 0 0 0
 finished
-";
-
-/// A task waits for a mark that nobody raises.
-const STUCK_AT_A_MARK: &str =
-    r#"{"version": 1, "actors": [{"name": "w", "kind": "user", "script": [{"op": "wait", "mark": "a"}]}]}"#;
-
-/// What the program writes for it.
-const STUCK_AT_A_MARK_LOG: &str = "\
-source autosleep 0 0 0 0 0 0 0
-stuck task:w mark a
-";
-
-/// A read waits for the end of an event that nobody ends.
-const STUCK_READ: &str =
-    r#"{"version": 1, "sources": ["lid"], "actors": [{"name": "w", "kind": "user", "script": [{"op": "awake", "source": "lid"}, {"op": "read"}]}]}"#;
-
-/// What the program writes for it.
-const STUCK_READ_LOG: &str = "\
-0 0/0/0 task:w awake lid
-0 0/0/0 task:w start lid
-0 1/0/0 task:w read wait
-source lid 1 1 0 0 0 0 0
-source autosleep 0 0 0 0 0 0 0
-stuck task:w read
 ";
