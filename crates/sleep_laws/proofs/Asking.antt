@@ -1,5 +1,5 @@
 -- Whom the freezes of an attempt have asked, by stages: all tasks of their group but the attempt's maker.
-use Rattle.std.proofs.Common.{◌≡◌, ◌∙◌, ℕ, zero, suc, Bool, true, false, not, ◌&&◌, ◌||◌, List, [], ◌∷◌, Option, Some, None, is_some, cond, refl, sym, ap, subst, arith, slice_set}
+use Rattle.std.proofs.Common.{◌≡◌, ℕ, zero, suc, Bool, true, false, not, ◌&&◌, ◌||◌, List, [], ◌∷◌, Option, Some, None, is_some, cond, refl, sym, ap, subst, arith, slice_set}
 use Rattle.std.proofs.lemmas.Bool.Decides.{nat_tests}
 use Rattle.sleep_model.specs.declared.entry.Actor.{Actor}
 use Rattle.sleep_model.specs.declared.entry.Actor.TheVariants as actor
@@ -179,8 +179,7 @@ asked_makes m past time now who there k a x h = (
 
 asked_beside : (m : Machine) (past : List Entry) (time : ℕ) (now : EventNow) (who : Actor) (k : Kind) (s : Option Stage) → EntryMade m past now who k → is_device who ≡ false → Aside s k → IsAsked m s past → IsAsked m s (entry_of time now who k ∷ past)
 asked_beside m past time now who _ s x a Aside.Frozen h =
-    let fs : List Freezing = freezings m.actors past in
-    (
+    let fs : List Freezing = freezings m.actors past in (
       h.0,
       if_same (AllAsked group.User m (maker past) fs) (AllAsked group.User m (maker past) (put_frozen who fs)) (asks_user s (freeze_since past)) (put_stay group.User (maker past) m.actors fs who) h.1,
       if_same (AllAsked group.Kernel m (maker past) fs) (AllAsked group.Kernel m (maker past) (put_frozen who fs)) (asks_kernel s (freeze_since past)) (put_stay group.Kernel (maker past) m.actors fs who) h.2,

@@ -1,5 +1,5 @@
 -- All is down where the machine enters.
-use Rattle.std.proofs.Common.{◌≡◌, ◌∙◌, ◌+◌, ℕ, zero, suc, Bool, true, false, not, ◌&&◌, ◌||◌, List, [], ◌∷◌, Option, Some, cond, length, refl, sym, ap, arith}
+use Rattle.std.proofs.Common.{◌≡◌, ◌∙◌, ◌+◌, ℕ, suc, Bool, true, false, not, ◌&&◌, ◌||◌, List, [], ◌∷◌, Option, Some, cond, length, refl, sym, ap, arith}
 use Rattle.std.specs.List.{list_all}
 use Rattle.std.proofs.lemmas.List.{length-set, length-replicate}
 use Rattle.sleep_model.specs.declared.entry.Actor.{Actor}
@@ -20,7 +20,7 @@ use Rattle.sleep_model.specs.Laws.{EntersDown, is_asleep, is_at_rest, others_of}
 use Rattle.sleep_model.specs.Legal.{JournalPart}
 use Rattle.sleep_model.specs.Order.{order}
 use Rattle.sleep_model.specs.Path.{maker, is_actor}
-use Rattle.sleep_model.specs.Seats.{seats, seats_after, seat_part, seat_after, SeatPart, seat_at, first_seat}
+use Rattle.sleep_model.specs.Seats.{seats, seats_after, seat_part, seat_after, seat_at, first_seat}
 use Rattle.sleep_laws.proofs.Asking.{IsAsked, asked_kept, asked_from, both}
 use Rattle.sleep_laws.proofs.Holding.{Aside, Moved, Opens, Makes, Beside, Owns, at_made, moved}
 use Rattle.sleep_laws.proofs.Levels.{Exact, exact_kept}

@@ -1,10 +1,9 @@
 -- Each thing is taken down once before it is brought back.
-use Rattle.std.proofs.Common.{◌≡◌, ◌∙◌, ℕ, Bool, true, false, not, List, [], ◌∷◌, length, Option, Some, None, refl, sym, ap, cond}
+use Rattle.std.proofs.Common.{◌≡◌, ◌∙◌, ℕ, Bool, true, false, not, List, ◌∷◌, length, Option, Some, refl, sym, ap}
 use Rattle.std.proofs.lemmas.Bool.{true≢false}
 use Rattle.sleep_model.specs.declared.entry.Actor.{Actor}
 use Rattle.sleep_model.specs.declared.entry.Entry.{Entry}
 use Rattle.sleep_model.specs.declared.entry.Kind.{Kind}
-use Rattle.sleep_model.specs.declared.entry.Kind.TheVariants as kind
 use Rattle.sleep_model.specs.declared.machine.Machine.{Machine}
 use Rattle.sleep_model.specs.declared.place.Stage.{Stage}
 use Rattle.sleep_model.specs.declared.place.Stand.{Stand}
@@ -24,7 +23,7 @@ use Rattle.sleep_laws.proofs.DevicesStand.{inside_is, not_down}
 use Rattle.sleep_laws.proofs.Flags.{first_passes}
 use Rattle.sleep_laws.proofs.Holding.{Aside, Moved, Opens, Makes, Beside, Owns, at_made, moved}
 use Rattle.sleep_laws.proofs.Levels.{Exact, exact_kept}
-use Rattle.sleep_laws.proofs.Made.{Down, Made, DeviceMade}
+use Rattle.sleep_laws.proofs.Made.{Made, DeviceMade}
 use Rattle.sleep_laws.proofs.Passing.{standing_made}
 use Rattle.sleep_laws.proofs.Standing.{Standing}
 use Rattle.sleep_laws.proofs.Turning.{never}

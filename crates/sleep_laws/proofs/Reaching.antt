@@ -20,16 +20,12 @@ use Rattle.sleep_model.specs.declared.place.Stage.TheVariants as stage
 use Rattle.sleep_model.specs.declared.word.EventNow.{EventNow}
 use Rattle.sleep_model.specs.Devices.{is_device}
 use Rattle.sleep_model.specs.Freezer.{is_in, is_task, freezings, freezings_after, freezing_at, all_asked, put_frozen, keeps_waiting, left_from, left}
-use Rattle.sleep_model.specs.Laws.{EntersDown, is_asleep}
-use Rattle.sleep_model.specs.Legal.{JournalPart}
 use Rattle.sleep_model.specs.Notifiers.{cpus_off, stopped, other_cpus, syscore_parts}
-use Rattle.sleep_model.specs.Order.{order}
 use Rattle.sleep_model.specs.Seats.{SeatPart, Exits, Stays, seats, seats_after, seat_after, seat_at, seat_part}
 use Rattle.sleep_model.specs.Table.{stage_after}
 use Rattle.sleep_model.specs.Walk.{is_so}
 use Rattle.sleep_laws.proofs.Flags.{first_none, last_none, all_twice}
-use Rattle.sleep_laws.proofs.Holding.{Aside, Moved, Opens, Makes, Beside, Owns, Kept, at_made, entry_of, moved, IsMaker}
-use Rattle.sleep_laws.proofs.Levels.{Exact, exact_kept}
+use Rattle.sleep_laws.proofs.Holding.{Aside, Kept, entry_of, IsMaker}
 use Rattle.sleep_laws.proofs.Made.{Made, Comes, DeviceMade, EntryMade, AtOnce, PastNotifiers, PastCpus, PastParts, PastPartsUp, PastCpusUp, PastPosts}
 
 -- ---- tasks that are left stay none
