@@ -6,8 +6,10 @@ usage: tools/worked.py
 tools/worked/ has for each log its machine file NAME.json and its text NAME.log, worked out apart from the
 program. The table LOGS says what each shows. A machine becomes the value that its file spells, a log the
 value that its text spells, an entry a line. What is written: specs/*.antt with the values, a module a
-subject; src/whole.rt, src/rounds.rt and src/texts.rt with the laws; the proof of the law of a long log; and the
-same machines and logs as tests of the program, in crates/sleep_main/src/rows (worked_rows.py).
+subject; src/whole.rt, src/rounds.rt and src/texts.rt with the laws; the proof of the law of a long log; the
+logs of tools/worked/broken and the laws that refuse them, in specs/Refuted.antt and src/refuted.rt
+(worked_refuted.py); and the same machines and logs as tests of the program, in crates/sleep_main/src/rows
+(worked_rows.py).
 """
 
 import json
@@ -15,6 +17,7 @@ import pathlib
 import re
 import sys
 
+import worked_refuted
 import worked_rows
 
 ROOT = pathlib.Path(__file__).resolve().parent.parent
@@ -744,6 +747,19 @@ def write_texts(logs):
     (CRATE / "src" / "texts.rt").write_text("".join(laws))
 
 
+def write_refuted(logs):
+    """The broken logs that a law refuses, with those laws."""
+    modules = {log.name: log.module for log in logs}
+    broken = []
+    for name, machine, _, _, says in worked_refuted.REFUTED:
+        tree = json.loads((INPUT / f"{machine}.json").read_text())
+        broken.append(Worked("Refuted", name, says, tree, (INPUT / "broken" / f"{name}.log").read_text()))
+    comments = [log.says[0].lower() + log.says[1:].rstrip(".") for log in broken]
+    texts = [list_text(f"{log.name}_entries", says, log.entries()) for log, says in zip(broken, comments)]
+    write_module("Refuted", "Entries of broken logs that a law of sleep refuses.", texts)
+    (CRATE / "src" / "refuted.rt").write_text(worked_refuted.laws(broken, modules))
+
+
 def write_laws(logs):
     laws = [LAWS_HEAD, *ghost_uses(logs, "_machine", ""), *map(legal_law, logs)]
     (CRATE / "src" / "whole.rt").write_text("".join(laws))
@@ -764,6 +780,7 @@ def main():
             write_halves(log)
             write_proofs(log)
     write_laws(logs)
+    write_refuted(logs)
     worked_rows.write_rows(logs, ROOT / "crates" / "sleep_main" / "src" / "rows")
 
 

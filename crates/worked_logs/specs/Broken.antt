@@ -1,10 +1,11 @@
 -- Ways to break a log.
-use Rattle.std.specs.Prelude.{ℕ, ◌+◌, List, [], ◌∷◌, ◌++◌, take, drop}
+use Rattle.std.specs.Prelude.{ℕ, ◌+◌, List, [], ◌∷◌, ◌++◌, take, drop, reverse}
 use Rattle.sleep_model.specs.declared.entry.Actor.{Actor}
 use Rattle.sleep_model.specs.declared.entry.Entry.{Entry}
 use Rattle.sleep_model.specs.declared.entry.JournalEntry.{JournalEntry}
 use Rattle.sleep_model.specs.declared.entry.Kind.{Kind}
 use Rattle.sleep_model.specs.declared.log.Log.{Log}
+use Rattle.sleep_model.specs.declared.machine.Machine.{Machine}
 
 -- the entry with that place, from 0, is left out
 abbrev pub left_out : ℕ → List Entry → List Entry
@@ -62,3 +63,12 @@ with_stamp k pos tick entries = take k entries ++ first_stamped pos tick (drop k
 -- the log with other entries
 abbrev pub with_entries : Log → List Entry → Log
 with_entries log entries = record log { entries = entries }
+
+-- the law fails at the first of the later entries, from those before it
+abbrev pub FailsNext : (Machine → List Entry → Kind → Type 0) → Machine → List Entry → List Entry → Type 0
+FailsNext law m past [] = ⊥
+FailsNext law m past (e ∷ later) = law m past e.kind → ⊥
+
+-- the law fails at the entry with that place, from 0
+abbrev pub FailsAt : (Machine → List Entry → Kind → Type 0) → Machine → ℕ → List Entry → Type 0
+FailsAt law m k entries = FailsNext law m (reverse (take k entries)) (drop k entries)

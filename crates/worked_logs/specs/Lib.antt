@@ -11,6 +11,7 @@ pub mod LaptopUp
 pub mod LinkTexts
 pub mod Links
 pub mod Merging
+pub mod Refuted
 pub mod Rounds
 pub mod Terms
 pub mod Texts

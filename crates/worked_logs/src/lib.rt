@@ -5,6 +5,7 @@
 pub mod broken;
 pub mod merged;
 pub mod orders;
+pub mod refuted;
 pub mod rounds;
 pub mod texts;
 pub mod whole;
