@@ -42,7 +42,7 @@ impl Model for Devices {
 }
 
 /// Whether that actor is an asynchronous device.
-fn is_device(who: Actor) -> bool
+pub fn is_device(who: Actor) -> bool
     ensures { result ≡ is_device who }
 {
     matches!(who, Actor::Dev(_))
