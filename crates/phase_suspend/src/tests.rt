@@ -94,7 +94,7 @@ fn the_walk_goes_down(rt: HostRuntime) -> Result<(), Fail> {
     Ok(())
 }
 
-/// Suspend leaves alone a device that is willing, runtime suspended and no source of wakeup, where
+/// A device is direct-complete in suspend that asks for it, is runtime suspended and no source of wakeup, where
 /// all below it are direct-complete; noirq follows suspend; a wakeup comes first, but not in noirq.
 #[test]
 fn devices_are_direct_complete(rt: HostRuntime) -> Result<(), Fail> {

@@ -66,13 +66,13 @@ fn log_of(entries: EntryList, stats: Vec<Stats>, end: LogEnd) -> Log
 }
 
 /// The scripts whose sleeps have come to their ends may go on.
-fn stir_slept(core: &Core<'_>, waiters: &mut Waiters) {
+fn wake_sleepers(core: &Core<'_>, waiters: &mut Waiters) {
     let mut next = core.next_slept(None);
     for _ in 0..u32::MAX {
         let Some(script) = next else {
             break;
         };
-        waiters.stir_slept(script);
+        waiters.wake_sleeper(script);
         next = core.next_slept(Some(script));
     }
 }
@@ -186,8 +186,8 @@ impl<'m> Run<'m> {
         wait_unless(rt, to <= LAST_MOMENT && self.floor.tick < u64::MAX);
         let now = self.events.look();
         self.floor = self.core.jump(now, to, self.floor)?;
-        self.waiters.stir_time();
-        stir_slept(&self.core, &mut self.waiters);
+        self.waiters.wake_for_time();
+        wake_sleepers(&self.core, &mut self.waiters);
         Ok(())
     }
 
@@ -197,7 +197,7 @@ impl<'m> Run<'m> {
         ensures after { AfterRest self.old self.new result }
     {
         if !self.is_resting() {
-            self.waiters.stir_all();
+            self.waiters.wake_all();
             return Ok(Rest::GoesOn);
         }
         if self.is_whole() {

@@ -160,10 +160,10 @@ fn waiting_for<'a>(core: &'a Core<'_>, phase: Phase, device: u32) -> &'a [u32] {
 
 /// Those of these devices are asked that are scheduled in that phase and wait for none.
 #[inline(never)]
-fn stir_ready(core: &Core<'_>, waiters: &mut Waiters, phase: Phase, devices: &[u32]) {
+fn wake_ready(core: &Core<'_>, waiters: &mut Waiters, phase: Phase, devices: &[u32]) {
     for device in devices {
         if core.is_ready(phase, *device) {
-            waiters.stir_device(*device);
+            waiters.wake_device(*device);
         }
     }
 }
@@ -258,7 +258,7 @@ impl<'m> Run<'m> {
             Ok(stamp) => {
                 self.floor = stamp;
                 self.jobs.told_call(who, stamp);
-                self.waiters.stir_word();
+                self.waiters.wake_for_word();
                 Ok(())
             }
             Err(fault) => Err(fault_of(fault, source)),
@@ -285,7 +285,7 @@ impl<'m> Run<'m> {
         match make_whole(rt, one, &mut self.events, others, before, by, call) {
             Ok(stamp) => {
                 self.floor = stamp;
-                self.waiters.stir_word();
+                self.waiters.wake_for_word();
                 Ok(())
             }
             Err(fault) => Err(fault_of(fault, source)),
@@ -294,33 +294,33 @@ impl<'m> Run<'m> {
 
     /// A device is through with that phase: it has nothing to do, and those may that waited for it.
     #[inline(always)]
-    fn heed_end(&mut self, phase: Phase, device: u32)
+    fn wake_after_end(&mut self, phase: Phase, device: u32)
         ensures { self.new ≡ self.old }
     {
-        self.waiters.stir_maker(device);
+        self.waiters.wake_maker(device);
         if !self.waiters.are_in_step() {
             self.waiters.device_waits(device);
             let waiting = waiting_for(&self.core, phase, device);
-            stir_ready(&self.core, &mut self.waiters, phase, waiting);
+            wake_ready(&self.core, &mut self.waiters, phase, waiting);
         }
     }
 
     /// After an entry: who may have something to do by it.
     #[inline(always)]
-    fn heed(&mut self, kind: Kind)
+    fn wake_after(&mut self, kind: Kind)
         ensures { self.new ≡ self.old }
     {
         match kind {
             Kind::Schedule(phase, device) => {
-                stir_ready(&self.core, &mut self.waiters, phase, &[device]);
+                wake_ready(&self.core, &mut self.waiters, phase, &[device]);
             }
             Kind::End(phase, device, _) | Kind::Skip(phase, device, _) => {
-                self.heed_end(phase, device);
+                self.wake_after_end(phase, device);
             }
-            Kind::Post(_) => self.waiters.stir_marks(),
-            Kind::Over { .. } | Kind::AutoDone | Kind::AutoOff => self.waiters.stir_lock(),
-            Kind::Freeze(_) | Kind::Thaw(_) | Kind::Wake { .. } => self.waiters.stir_scripts(),
-            Kind::Frozen | Kind::Exit => self.waiters.stir_word(),
+            Kind::Post(_) => self.waiters.wake_for_mark(),
+            Kind::Over { .. } | Kind::AutoDone | Kind::AutoOff => self.waiters.wake_for_lock(),
+            Kind::Freeze(_) | Kind::Thaw(_) | Kind::Wake { .. } => self.waiters.wake_scripts(),
+            Kind::Frozen | Kind::Exit => self.waiters.wake_for_word(),
             _ => {}
         }
     }
@@ -348,7 +348,7 @@ impl<'m> Run<'m> {
             } => {
                 self.floor = stamp;
                 self.jobs.told_turn(who, stamp, kind, attempt);
-                self.heed(kind);
+                self.wake_after(kind);
                 Ok(Tried::Made)
             }
             CoreTurn::NotYet(why) => Ok(Tried::Waits(why)),

@@ -167,21 +167,21 @@ impl Waiters {
     }
 
     /// An asynchronous device may have something to do.
-    pub(crate) fn stir_device(&mut self, device: u32) {
+    pub(crate) fn wake_device(&mut self, device: u32) {
         self.devices.insert(device);
     }
 
     /// A device is through with a phase, for which the maker of an attempt may wait.
     #[inline(always)]
-    pub(crate) fn stir_maker(&mut self, device: u32) {
+    pub(crate) fn wake_maker(&mut self, device: u32) {
         if self.awaited == Some(device) {
-            self.stir_any_maker();
+            self.wake_any_maker();
         }
     }
 
     /// The maker of an attempt may go on.
     #[inline(never)]
-    fn stir_any_maker(&mut self) {
+    fn wake_any_maker(&mut self) {
         if let Some(script) = self.maker {
             self.scripts.insert(script);
         }
@@ -192,55 +192,55 @@ impl Waiters {
 
     /// The word made a step, or a task has come further.
     #[inline(never)]
-    pub(crate) fn stir_word(&mut self) {
+    pub(crate) fn wake_for_word(&mut self) {
         self.scripts.take(&mut self.for_word);
         self.auto = true;
     }
 
     /// A mark was raised.
     #[inline(never)]
-    pub(crate) fn stir_marks(&mut self) {
+    pub(crate) fn wake_for_mark(&mut self) {
         self.scripts.take(&mut self.for_mark);
     }
 
     /// The autosleep lock was let go, or the work is queued.
     #[inline(never)]
-    pub(crate) fn stir_lock(&mut self) {
+    pub(crate) fn wake_for_lock(&mut self) {
         self.scripts.take(&mut self.for_lock);
         self.auto = true;
     }
 
     /// Scripts that wait, but for those that sleep or are frozen.
-    fn stir_awake(&mut self) {
-        self.stir_word();
-        self.stir_marks();
-        self.stir_lock();
-        self.stir_any_maker();
+    fn wake_but_sleepers(&mut self) {
+        self.wake_for_word();
+        self.wake_for_mark();
+        self.wake_for_lock();
+        self.wake_any_maker();
     }
 
     /// Whatever may have ended: tasks are asked to freeze or let go, the machine wakes.
     #[inline(never)]
-    pub(crate) fn stir_scripts(&mut self) {
-        self.stir_awake();
+    pub(crate) fn wake_scripts(&mut self) {
+        self.wake_but_sleepers();
         self.scripts.take(&mut self.asleep);
         self.scripts.take(&mut self.frozen);
     }
 
     /// A script's sleep has come to its end.
-    pub(crate) fn stir_slept(&mut self, script: u32) {
+    pub(crate) fn wake_sleeper(&mut self, script: u32) {
         self.asleep.remove(script);
         self.scripts.insert(script);
     }
 
     /// Time has jumped. Devices wait for no moment, nor do frozen scripts; those that sleep are told one by one.
-    pub(crate) fn stir_time(&mut self) {
-        self.stir_awake();
+    pub(crate) fn wake_for_time(&mut self) {
+        self.wake_but_sleepers();
         self.timers = true;
     }
 
     /// Everybody is to be asked.
-    pub(crate) fn stir_all(&mut self) {
-        self.stir_scripts();
+    pub(crate) fn wake_all(&mut self) {
+        self.wake_scripts();
         self.timers = true;
         self.devices.add(&self.asynchronous);
     }
