@@ -1,4 +1,4 @@
-use super::*;
+use wakeup_guard::Guard;
 use sleep_model::{EventNow, Group, Kind};
 
 fn word(inpr: u32, count: u32, hard: u32) -> EventNow {

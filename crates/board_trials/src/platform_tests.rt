@@ -1,4 +1,4 @@
-use super::*;
+use platform_steps::Platform;
 use sleep_base::Errno;
 use sleep_model::{Kind, ListOf, Machine, Name, Notifier, PlatDo, PlatPart, PlatUndo};
 use std::alloc::Global;

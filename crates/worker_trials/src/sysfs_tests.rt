@@ -1,4 +1,4 @@
-use super::*;
+use sleep_sysfs::{decode_state, is_autosleep_text, read_count, saved_number, write_autosleep, write_count, write_state};
 use sleep_base::Errno;
 use sleep_model::{Due, EventNow, Kind, State, Why};
 

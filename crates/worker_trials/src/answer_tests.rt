@@ -1,4 +1,4 @@
-use super::*;
+use answer_book::AnswerBook;
 use sleep_base::Errno;
 use sleep_model::{Answer, ListOf, Phase, PlatDo, What};
 use std::alloc::Global;

@@ -1,4 +1,4 @@
-use super::*;
+use phase_suspend::{Down, DownEnv, down_follows, runtime_due};
 use async_board::Board;
 use device_links::Links;
 use device_rows::Flags;

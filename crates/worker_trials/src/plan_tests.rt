@@ -1,7 +1,7 @@
 ghost use Rattle.std.specs.Prelude.{◌≡◌, length, IfOk};
 ghost use Rattle.sleep_model.specs.Scripts.{operations};
 
-use super::*;
+use script_plan::Plan;
 use sleep_model::{ListOf, Name, Op, Script, Step, TaskKind, Text};
 use std::alloc::Global;
 use std::test::Fail;

@@ -1,4 +1,4 @@
-use super::*;
+use autosleep_loop::Autosleep;
 use sleep_model::{Actor, Due, EventNow, Kind, State, Why, Work};
 use std::test::Fail;
 

@@ -1,4 +1,4 @@
-use super::*;
+use syscore_ops::Syscore;
 use sleep_base::Errno;
 use sleep_model::Kind;
 use std::test::Fail;

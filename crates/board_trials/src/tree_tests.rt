@@ -1,4 +1,4 @@
-use super::*;
+use device_tree::{Tree, TreeFault, request};
 use bitflags::Flags;
 use sleep_base::Errno;
 use sleep_model::{Device, DeviceFlags, Name, Runtime};

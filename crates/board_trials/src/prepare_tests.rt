@@ -1,4 +1,4 @@
-use super::*;
+use phase_prepare::{complete_due, prepare_due, prepare_follows};
 use async_board::Board;
 use device_links::Links;
 use sleep_base::Errno;

@@ -1,4 +1,4 @@
-use super::*;
+use task_freezer::{Freezer, Round};
 use sleep_model::{Actor, Freezing, Group, Kind, ListOf, Name, Script, TaskKind, Thaw};
 use std::alloc::Global;
 use std::test::Fail;

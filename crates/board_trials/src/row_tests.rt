@@ -1,4 +1,4 @@
-use super::*;
+use device_rows::{Flags, Rows, Stack};
 use std::test::Fail;
 
 /// What is pushed into a row stands at its end, and other rows stay.

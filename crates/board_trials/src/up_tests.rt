@@ -1,4 +1,4 @@
-use super::*;
+use phase_resume::{device_due, up_follows, walk_due};
 use async_board::Board;
 use device_links::Links;
 use sleep_base::Errno;
