@@ -44,7 +44,6 @@ fn a_freeze_asks_its_group(rt: HostRuntime) -> Result<(), Fail> {
     }
     let left = freezer.left(Group::User);
     assert_eq!(rt; (left.count, left.first), (2, Some(1)));
-    assert_eq!(rt; freezer.left_count(Group::User), 2);
     freezer.note(Actor::Script(1), Kind::Exit);
     let left = freezer.left(Group::User);
     assert_eq!(rt; (left.count, left.first), (1, Some(4)));

@@ -18,7 +18,7 @@ use std::alloc::{AllocError, Global};
 use std::marker::Model;
 use std::sync::Wait;
 use thiserror::Error;
-use wakeup_source::{CallBy, SourceFault, WakeSource};
+use wakeup_source::{CallBy, MOST_ENTRIES, SourceFault, WakeSource};
 
 /// What a whole run gives.
 #[derive(Drop)]
@@ -81,7 +81,7 @@ pub(crate) struct Run<'m> {
     /// The sources' entries, each behind as many of the core's journal as it says.
     pub(crate) others: Vec<OtherEntry>,
     /// The wakeup sources, `autosleep` last.
-    pub(crate) sources: Vec<WakeSource<60000>>,
+    pub(crate) sources: Vec<WakeSource<MOST_ENTRIES>>,
     pub(crate) jobs: Jobs<'m>,
     /// The last stamp that anybody made.
     pub(crate) floor: Stamp,
@@ -112,7 +112,7 @@ pub(crate) fn wait_unless<R: Wait>(rt: &R, holds: bool)
 }
 
 /// So many sources, none of which was ever called.
-fn sources_of(alloc: Global, many: u32) -> Result<Vec<WakeSource<60000>>, AllocError>
+fn sources_of(alloc: Global, many: u32) -> Result<Vec<WakeSource<MOST_ENTRIES>>, AllocError>
     ensures { IfOk result (λ v. v.items ≡ first_sources many) }
 {
     let mut sources = Vec::with_capacity(alloc, many as usize)?;
@@ -123,7 +123,7 @@ fn sources_of(alloc: Global, many: u32) -> Result<Vec<WakeSource<60000>>, AllocE
 }
 
 /// The sources of a machine, `autosleep` last, none of which was ever called.
-fn all_sources(alloc: Global, machine: &Machine) -> Result<Vec<WakeSource<60000>>, AllocError>
+fn all_sources(alloc: Global, machine: &Machine) -> Result<Vec<WakeSource<MOST_ENTRIES>>, AllocError>
     requires { IsAccepted machine.now }
     ensures { IfOk result (λ v. v.items ≡ first_sources (length machine.now.sources + 1)) }
 {
@@ -158,7 +158,7 @@ fn waiting_for<'a>(core: &'a Core<'_>, phase: Phase, device: u32) -> &'a [u32] {
     }
 }
 
-/// Those of these devices are asked that are scheduled in that phase and wait for none.
+/// Wakes those of these devices that are scheduled in that phase and wait for none.
 #[inline(never)]
 fn wake_ready(core: &Core<'_>, waiters: &mut Waiters, phase: Phase, devices: &[u32]) {
     for device in devices {
@@ -188,7 +188,7 @@ impl<'m> Run<'m> {
     fn of_parts(
         machine: &'m Machine,
         core: Core<'m>,
-        sources: Vec<WakeSource<60000>>,
+        sources: Vec<WakeSource<MOST_ENTRIES>>,
         jobs: Jobs<'m>,
         waiters: Waiters,
         others: Vec<OtherEntry>,
@@ -292,7 +292,7 @@ impl<'m> Run<'m> {
         }
     }
 
-    /// A device is through with that phase: it has nothing to do, and those may that waited for it.
+    /// Wakes those that waited for a device, which is through with that phase and has nothing to do itself.
     #[inline(always)]
     fn wake_after_end(&mut self, phase: Phase, device: u32)
         ensures { self.new ≡ self.old }
@@ -305,7 +305,7 @@ impl<'m> Run<'m> {
         }
     }
 
-    /// After an entry: who may have something to do by it.
+    /// Wakes those that may have something to do by an entry.
     #[inline(always)]
     fn wake_after(&mut self, kind: Kind)
         ensures { self.new ≡ self.old }

@@ -6,7 +6,7 @@ use sleep_model::{Actor, Device, DeviceFlags, Why};
 use std::alloc::Global;
 
 /// Who may have something to do, and so is asked in a round: scripts, the autosleep work, asynchronous
-/// devices, timers. Whoever waits is asked again once something may have ended the wait: an entry, a step of
+/// devices, timers. Whoever waits is woken, and so asked again, once something may have ended the wait: an entry, a step of
 /// the event word, a jump of time. None of this is part of what is promised: whoever was left out is found
 /// before time jumps.
 #[derive(Drop)]
@@ -166,12 +166,12 @@ impl Waiters {
         self.asynchronous.is_empty()
     }
 
-    /// An asynchronous device may have something to do.
+    /// Wakes an asynchronous device, which may have something to do.
     pub(crate) fn wake_device(&mut self, device: u32) {
         self.devices.insert(device);
     }
 
-    /// A device is through with a phase, for which the maker of an attempt may wait.
+    /// Wakes the maker of an attempt, where it waits for that device, which is through with a phase.
     #[inline(always)]
     pub(crate) fn wake_maker(&mut self, device: u32) {
         if self.awaited == Some(device) {
@@ -179,7 +179,7 @@ impl Waiters {
         }
     }
 
-    /// The maker of an attempt may go on.
+    /// Wakes the maker of an attempt that waits for a device.
     #[inline(never)]
     fn wake_any_maker(&mut self) {
         if let Some(script) = self.maker {
@@ -190,27 +190,27 @@ impl Waiters {
         self.maker = None;
     }
 
-    /// The word made a step, or a task has come further.
+    /// Wakes those that wait for the word, which made a step, or for a task, which has come further.
     #[inline(never)]
     pub(crate) fn wake_for_word(&mut self) {
         self.scripts.take(&mut self.for_word);
         self.auto = true;
     }
 
-    /// A mark was raised.
+    /// Wakes those that wait for a mark, since one was raised.
     #[inline(never)]
     pub(crate) fn wake_for_mark(&mut self) {
         self.scripts.take(&mut self.for_mark);
     }
 
-    /// The autosleep lock was let go, or the work is queued.
+    /// Wakes those that wait for the autosleep lock, which was let go, and the work, which may be queued.
     #[inline(never)]
     pub(crate) fn wake_for_lock(&mut self) {
         self.scripts.take(&mut self.for_lock);
         self.auto = true;
     }
 
-    /// Scripts that wait, but for those that sleep or are frozen.
+    /// Wakes the scripts that wait, but for those that sleep or are frozen.
     fn wake_but_sleepers(&mut self) {
         self.wake_for_word();
         self.wake_for_mark();
@@ -218,7 +218,7 @@ impl Waiters {
         self.wake_any_maker();
     }
 
-    /// Whatever may have ended: tasks are asked to freeze or let go, the machine wakes.
+    /// Wakes all scripts: tasks are asked to freeze or let go, or the machine wakes.
     #[inline(never)]
     pub(crate) fn wake_scripts(&mut self) {
         self.wake_but_sleepers();
@@ -226,19 +226,20 @@ impl Waiters {
         self.scripts.take(&mut self.frozen);
     }
 
-    /// A script's sleep has come to its end.
+    /// Wakes a script whose sleep has come to its end.
     pub(crate) fn wake_sleeper(&mut self, script: u32) {
         self.asleep.remove(script);
         self.scripts.insert(script);
     }
 
-    /// Time has jumped. Devices wait for no moment, nor do frozen scripts; those that sleep are told one by one.
+    /// Wakes whoever may wait for a moment, since time has jumped. Devices wait for none, nor do frozen scripts; those that
+    /// sleep are woken one by one.
     pub(crate) fn wake_for_time(&mut self) {
         self.wake_but_sleepers();
         self.timers = true;
     }
 
-    /// Everybody is to be asked.
+    /// Wakes everybody.
     pub(crate) fn wake_all(&mut self) {
         self.wake_scripts();
         self.timers = true;

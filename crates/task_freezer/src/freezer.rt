@@ -114,7 +114,7 @@ impl<'m> Freezer<'m> {
 
     /// How many tasks a freeze of the group still waits for (`try_to_freeze_tasks`, `todo`). It is
     /// counted already.
-    pub fn left_count(&self, group: Group) -> u32
+    fn left_count(&self, group: Group) -> u32
         ensures { result ≡ length (left_of group self.now) }
     {
         self.left.of(group)

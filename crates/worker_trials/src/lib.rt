@@ -29,3 +29,11 @@ mod script_tests;
 mod source_tests;
 #[cfg(test)]
 mod sysfs_tests;
+#[cfg(test)]
+mod word_overlap_tests;
+#[cfg(test)]
+mod word_table_tests;
+#[cfg(test)]
+mod word_tests;
+#[cfg(test)]
+mod word_thread_tests;

@@ -2,8 +2,8 @@ ghost use Rattle.std.specs.Prelude.{◌≡◌, []};
 ghost use Rattle.event_word.specs.Seats.{AreNew, made_of};
 ghost use Rattle.event_word.specs.Lists.{tokens};
 
-use super::table_tests::{step, word};
-use super::*;
+use crate::word_table_tests::{step, word};
+use event_word::{EventSeat, EventTable, Events, LookSeat};
 use sleep_model::EventNow;
 use std::alloc::AllocError;
 use std::sync::{Barrier, Wait};

@@ -3,7 +3,7 @@ use mathlib.Core.Option.{some, some-injective, some-ne-none}
 use lib.ListN.{get_elem?}
 use Rattle.atomic_table.specs.Seated.{TableId}
 use Rattle.event_word.specs.Seats.{Token, IsSeatOf}
-use Rattle.event_word.proofs.table_tests.close_two.Goals as goal
+use Rattle.worker_trials.proofs.word_table_tests.close_two.Goals as goal
 
 each_of : (z : TableId) (a b : Token) → IsSeatOf z 0 a → IsSeatOf z 1 b → (k : ℕ) (t : Token) → get_elem? (a ∷ b ∷ []) k ≡ some t → IsSeatOf z k t
 each_of z a b first second zero t at = subst (IsSeatOf z 0) (some-injective a t at) first

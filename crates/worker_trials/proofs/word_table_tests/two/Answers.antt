@@ -2,7 +2,7 @@ use Rattle.std.proofs.Common.{rules, ap, ◌∙◌, ◌≡◌, ◌++◌, ◌∷�
 use Rattle.event_word.specs.declared.table.EventSeat.{EventSeat}
 use Rattle.event_word.specs.Seats.{Token, IsSeatOf, AreNew, made_of}
 use Rattle.event_word.specs.Lists.{tokens}
-use Rattle.event_word.proofs.table_tests.two.Goals as goal
+use Rattle.worker_trials.proofs.word_table_tests.two.Goals as goal
 
 last_two : (look : Token) (items rest mid : List EventSeat) (a b : EventSeat) → AreNew look (tokens items) → items ≡ mid ++ b ∷ [] → mid ≡ rest ++ a ∷ [] → length items ≡ 2
     → (IsSeatOf look.table_id 0 a.token × (made_of a.token ≡ [])) × (IsSeatOf look.table_id 1 b.token × (made_of b.token ≡ []))

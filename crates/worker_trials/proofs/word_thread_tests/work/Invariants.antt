@@ -1,7 +1,7 @@
 use Rattle.std.proofs.Common.{◌≡◌, length}
 use Rattle.event_word.specs.Steps.{is_active}
 use Rattle.event_word.specs.Seats.{number_of, made_of}
-use Rattle.event_word.proofs.thread_tests.work.Given as goal
+use Rattle.worker_trials.proofs.word_thread_tests.work.Given as goal
 
 abbrev pub invariant-loop-i : goal.invariant-loop-i
 invariant-loop-i l = (is_active (made_of l.seat.token) ≡ l.active) × (length (made_of l.seat.token) ≡ l.i)

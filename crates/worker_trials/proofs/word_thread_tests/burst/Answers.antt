@@ -2,13 +2,13 @@ use Rattle.std.proofs.Common.{rules, arith, ◌≡◌, ◌<◌, ◌∙◌, get_o
 use Rattle.std.proofs.lemmas.List.{length-map}
 use mathlib.Core.Option.{some, some-injective, some-ne-none}
 use lib.ListN.{get_elem?}
-use Rattle.event_word.specs.declared.thread_tests.Done.{Done}
+use Rattle.worker_trials.specs.declared.word_thread_tests.Done.{Done}
 use Rattle.atomic_table.proofs.Lists.{at_index, at_map}
 use Rattle.event_word.specs.declared.table.EventSeat.{EventSeat}
 use Rattle.event_word.specs.Seats.{Token, AreNew, AreAll, number_of}
 use Rattle.event_word.specs.Lists.{tokens}
 use Rattle.event_word.proofs.Seating.{all_back, new_at}
-use Rattle.event_word.proofs.thread_tests.burst.Goals as goal
+use Rattle.worker_trials.proofs.word_thread_tests.burst.Goals as goal
 
 within : {A : Type 0} (l : List A) (i : ℕ) (a : A) → get_elem? l i ≡ some a → i < length l
 within [] i a e = absurd (some-ne-none a (sym e))

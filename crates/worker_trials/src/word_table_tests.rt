@@ -2,7 +2,7 @@ ghost use Rattle.std.specs.Prelude.{◌≡◌, ◌+◌, ◌<◌, [], length, IfO
 ghost use Rattle.event_word.specs.Steps.{is_active};
 ghost use Rattle.event_word.specs.Seats.{IsSeatOf, sources_of, number_of, made_of};
 
-use super::*;
+use event_word::{Bump, EventSeat, EventTable, Events, LookSeat, TableSeat, close};
 use sleep_base::Mem;
 use sleep_model::{EventNow, pos};
 use std::alloc::Global;

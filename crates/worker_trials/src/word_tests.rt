@@ -1,4 +1,4 @@
-use super::*;
+use event_word::{Bump, Events, PlainEvents, look_from};
 use sleep_model::EventNow;
 
 fn word(inpr: u32, count: u32, hard: u32) -> EventNow {

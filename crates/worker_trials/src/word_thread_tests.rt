@@ -2,8 +2,8 @@ ghost use Rattle.std.specs.Prelude.{◌≡◌, ◌≤◌, [], map, IfOk};
 ghost use Rattle.event_word.specs.Seats.{AreAll, AreNew, number_of, made_of};
 ghost use Rattle.event_word.specs.Lists.{tokens};
 
-use super::table_tests::step;
-use super::*;
+use crate::word_table_tests::step;
+use event_word::{EventSeat, EventTable, Events, LookSeat, close};
 use sleep_model::pos;
 use std::alloc::{AllocError, Global};
 use std::sync::Wait;
