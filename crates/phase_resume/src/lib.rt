@@ -2,8 +2,6 @@
 #![tactic(auto)]
 
 mod law;
-#[cfg(test)]
-mod tests;
 mod up;
 
 pub use law::up_follows;

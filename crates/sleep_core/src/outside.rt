@@ -173,14 +173,14 @@ impl<'m> Core<'m> {
         self.history.tasks().next_slept(behind, self.now())
     }
 
-    /// The devices that hang right below one: its children, then its consumers, each once.
+    /// The devices that depend directly on one: its children, then its consumers, each once.
     pub fn below(&self, device: u32) -> &[u32]
         ensures { result.now ≡ first_places (below self.now.machine (entries self.now.past) device) }
     {
         self.history.board().links().below(device)
     }
 
-    /// The devices that one hangs right below: its parent, then its suppliers, each once.
+    /// The devices that one depends on directly: its parent, then its suppliers, each once.
     pub fn above(&self, device: u32) -> &[u32]
         ensures { result.now ≡ first_places (above self.now.machine (entries self.now.past) device) }
     {

@@ -25,6 +25,7 @@ use crate::state::Core;
 use event_word::{Events, look_from};
 use sleep_base::Mem;
 use sleep_model::{Actor, Due, Entry, EventNow, JournalEntry, Kind, Stamp, What, Why, pos};
+use sleep_state::is_device;
 use std::sync::Wait;
 use thiserror::Error;
 
@@ -50,13 +51,6 @@ pub enum CoreFault {
     /// of the open attempt's maker, nor of a device.
     #[error("out of memory")]
     Mem,
-}
-
-/// Whether it is an asynchronous device.
-fn is_device(who: Actor) -> bool
-    ensures { result ≡ is_device who }
-{
-    matches!(who, Actor::Dev(_))
 }
 
 /// The tick behind these two; a tick that would pass its range waits for ever.

@@ -12,12 +12,12 @@ ghost use Rattle.sleep_run.specs.AllEntries.{behind, ArePutBehind};
 use event_word::PlainEvents;
 use sleep_model::{OtherEntry, SourceCall, SourceEntry, Stamp};
 use std::sync::Wait;
-use wakeup_source::{CallBy, SourceFault, WakeSource};
+use wakeup_source::{CallBy, MOST_ENTRIES, SourceFault, WakeSource};
 
 /// A call on a source.
 fn make<R: Wait>(
     rt: &R,
-    source: &mut WakeSource<60000>,
+    source: &mut WakeSource<MOST_ENTRIES>,
     events: &mut PlainEvents,
     by: CallBy,
     call: SourceCall,
@@ -67,7 +67,7 @@ fn put_behind(others: &mut Vec<OtherEntry>, made: &[SourceEntry], before: usize)
 /// nothing has changed.
 pub(crate) fn make_whole<R: Wait>(
     rt: &R,
-    source: &mut WakeSource<60000>,
+    source: &mut WakeSource<MOST_ENTRIES>,
     events: &mut PlainEvents,
     others: &mut Vec<OtherEntry>,
     before: usize,

@@ -12,7 +12,7 @@ use sleep_core::Core;
 use sleep_model::{Actor, Due, EntryList, EventNow, ListOf, Log, LogEnd, Stats, Waiting};
 use std::alloc::{AllocError, Global};
 use std::sync::Wait;
-use wakeup_source::WakeSource;
+use wakeup_source::{MOST_ENTRIES, WakeSource};
 
 /// The greatest moment of a run, in ms. A run that comes past it waits for ever.
 const LAST_MOMENT: u64 = 1 << 63;
@@ -29,7 +29,7 @@ pub(crate) enum Rest {
 }
 
 /// The statistics of the sources at that moment.
-fn stats_of(alloc: Global, sources: &[WakeSource<60000>], at: u64) -> Result<Vec<Stats>, AllocError>
+fn stats_of(alloc: Global, sources: &[WakeSource<MOST_ENTRIES>], at: u64) -> Result<Vec<Stats>, AllocError>
     requires time { All (λ s. latest (bare s.past) ≤ at) sources.now }
     requires small { at ≤ 2 ^ 63 }
     ensures { IfOk result (λ v. v.items ≡ all_stats sources.now at) }
@@ -65,14 +65,14 @@ fn log_of(entries: EntryList, stats: Vec<Stats>, end: LogEnd) -> Log
     }
 }
 
-/// The scripts whose sleeps have come to their ends may go on.
-fn stir_slept(core: &Core<'_>, waiters: &mut Waiters) {
+/// Wakes the scripts whose sleeps have come to their ends.
+fn wake_sleepers(core: &Core<'_>, waiters: &mut Waiters) {
     let mut next = core.next_slept(None);
     for _ in 0..u32::MAX {
         let Some(script) = next else {
             break;
         };
-        waiters.stir_slept(script);
+        waiters.wake_sleeper(script);
         next = core.next_slept(Some(script));
     }
 }
@@ -186,8 +186,8 @@ impl<'m> Run<'m> {
         wait_unless(rt, to <= LAST_MOMENT && self.floor.tick < u64::MAX);
         let now = self.events.look();
         self.floor = self.core.jump(now, to, self.floor)?;
-        self.waiters.stir_time();
-        stir_slept(&self.core, &mut self.waiters);
+        self.waiters.wake_for_time();
+        wake_sleepers(&self.core, &mut self.waiters);
         Ok(())
     }
 
@@ -197,7 +197,7 @@ impl<'m> Run<'m> {
         ensures after { AfterRest self.old self.new result }
     {
         if !self.is_resting() {
-            self.waiters.stir_all();
+            self.waiters.wake_all();
             return Ok(Rest::GoesOn);
         }
         if self.is_whole() {

@@ -106,5 +106,5 @@ returns-in-Did-clause-after g c =
       arith,
       more_entries r.core.past c.turn.new.self.past r.others.items (made_entry r.core.past c.args.who t.0 r.floor c.in-Did.kind) c.self.invariant.1 (ap (λ (s : CoreState). s.past) did.1),
       ap (λ (s : RunState). length s.past) c.self.view_is,
-      ap (λ (s : RunState). length s.past) c.heed.ensures,
+      ap (λ (s : RunState). length s.past) c.wake_after.ensures,
     )
