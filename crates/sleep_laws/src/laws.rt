@@ -58,10 +58,11 @@ pub fn nothing_is_owed_twice()
     ensures { HoldsAtEntries (λ m past e. NotOwedAlready m past e.kind) }
 {}
 
-/// The machine enters sleep only where all is down that sleep wants down: each device down through noirq
-/// or direct-complete, each user task and each kernel thread, but who makes the attempt, frozen or gone,
-/// the other processors and interrupts off, each part of the core suspended (`kernel/power/suspend.c`,
-/// `suspend_enter`; `kernel/power/process.c`, `freeze_processes`, `freeze_kernel_threads`).
+/// The machine enters sleep only where all is down that sleep wants down: each device down in suspend, in
+/// late and in noirq, or direct-complete; each user task and each kernel thread, but who makes the
+/// attempt, frozen or gone; the platform told of its three steps; the other processors and interrupts
+/// off, each part of the core suspended (`kernel/power/suspend.c`, `suspend_enter`;
+/// `kernel/power/process.c`, `freeze_processes`, `freeze_kernel_threads`).
 #[tactic(auto, using(crate::proofs::DevicesStand::all_down))]
 pub fn enters_only_with_all_down()
     ensures { HoldsAtEntries (λ m past e. EntersDown m past e.kind) }

@@ -161,9 +161,15 @@ NotOwedAlready m past _ = Unit {0}
 
 -- ---- what is so where the machine enters sleep
 
+-- d is down in suspend, in late and in noirq (power.is_suspended, power.is_late_suspended, power.is_noirq_suspended)
+abbrev pub is_down_in_all : Machine → List Entry → ℕ → Bool
+is_down_in_all m past d =
+    is_down_in (stand_in m past phase.Suspend d) && is_down_in (stand_in m past phase.Late d)
+    && is_down_in (stand_in m past phase.Noirq d)
+
 -- d is down through noirq, or was direct-complete (power.is_noirq_suspended, direct_complete)
 abbrev pub is_asleep : Machine → List Entry → ℕ → Bool
-is_asleep m past d = is_down_in (stand_in m past phase.Noirq d) || is_direct_complete (stand_in m past phase.Suspend d)
+is_asleep m past d = is_down_in_all m past d || is_direct_complete (stand_in m past phase.Suspend d)
 
 -- task i does nothing more: it is frozen, or has exited (frozen, __refrigerator)
 abbrev pub is_at_rest : Machine → List Entry → ℕ → Bool
@@ -175,11 +181,14 @@ others_of g who i [] = []
 others_of g who i (s ∷ ss) =
     if is_in g s.kind && not (is_actor (actor.Script i) who) then i ∷ others_of g who (suc i) ss else others_of g who (suc i) ss
 
--- all is down that sleep wants down (suspend_enter)
+-- all is down that sleep wants down, and the platform has taken its three steps (suspend_enter)
 pub record AllDown (m : Machine) (past : List Entry) : Type 0 where
   pub devices : list_all (is_asleep m past) (order m past) ≡ true
   pub user_tasks : list_all (is_at_rest m past) (others_of group.User (maker past) 0 m.actors) ≡ true
   pub kernel_tasks : list_all (is_at_rest m past) (others_of group.Kernel (maker past) 0 m.actors) ≡ true
+  pub begun : owes_platform down.Begin past ≡ true
+  pub prepared : owes_platform down.Prepare past ≡ true
+  pub prepared_late : owes_platform down.PrepareLate past ≡ true
   pub cpus : list_all (is_so (cpus_off m.cpus past)) (other_cpus m) ≡ true
   pub irqs : irqs_off past ≡ true
   pub syscore : list_all (is_so (stopped (length m.syscore) past)) (syscore_parts m) ≡ true

@@ -7,7 +7,7 @@ ghost use Rattle.worked_logs.specs.Attempts.{parent_and_child_machine, smallest_
 ghost use Rattle.worked_logs.specs.Failures.{asynchronous_callback_fails_machine};
 ghost use Rattle.worked_logs.specs.Autosleep.{autosleep_machine};
 ghost use Rattle.worked_logs.specs.Broken.{FailsAt};
-ghost use Rattle.worked_logs.specs.Refuted.{never_resumed_entries, failed_is_resumed_entries, never_prepared_entries, begun_twice_entries, enters_without_a_freeze_entries};
+ghost use Rattle.worked_logs.specs.Refuted.{never_resumed_entries, failed_is_resumed_entries, never_prepared_entries, begun_twice_entries, down_in_noirq_alone_entries, enters_without_a_freeze_entries};
 
 /// No device resumes: each is completed while it is down.
 pub fn never_resumed_is_refused()
@@ -27,6 +27,11 @@ pub fn never_prepared_is_refused()
 /// The platform is told twice that the attempt begins, and once that it ends.
 pub fn begun_twice_is_refused()
     ensures { FailsAt (λ m past k. NotOwedAlready m past k) smallest_attempt_machine 8 begun_twice_entries }
+{}
+
+/// The devices go down in noirq alone, in neither suspend nor late, and the machine enters sleep.
+pub fn down_in_noirq_alone_is_refused()
+    ensures { FailsAt (λ m past k. EntersDown m past k) parent_and_child_machine 22 down_in_noirq_alone_entries }
 {}
 
 /// The machine enters sleep while a user task was never asked to freeze.
