@@ -13,7 +13,7 @@ use Rattle.sleep_model.specs.declared.word.EventNow.{EventNow}
 use Rattle.sleep_model.specs.declared.word.WordKind.{WordKind}
 use Rattle.sleep_model.specs.declared.word.WordKind.TheVariants as step
 use Rattle.sleep_model.specs.Calls.{note, made, notes_of, one_more}
-use Rattle.sleep_model.specs.Legal.{IsLegal, IsOwnCall, is_behind}
+use Rattle.sleep_model.specs.Legal.{IsLegal, IsOwnCall, IsOutside, is_behind}
 use Rattle.sleep_model.specs.Numbers.{numbers, time_of, word_step, after_step}
 use Rattle.sleep_model.specs.Parts.{Notes, Moves, part_of, journal}
 use Rattle.sleep_model.specs.Path.{is_same}
@@ -195,6 +195,7 @@ pub record CanCall (m : Machine) (past : List Entry) (time : ℕ) (word : EventN
   pub time_is : time ≡ time_of past
   pub may : SourceStep (history s past) time who (Notes s c)
   pub own : IsOwnCall m (journal past) (λ t. history t past) who (note s c)
+  pub out : IsOutside m (λ t. history t past) who
   pub there : s ≤ length m.sources
   pub places : length (history s past) + 4 ≤ most_entries
 
@@ -228,7 +229,7 @@ can_move : (m : Machine) (past : List Entry) (time : ℕ) (word : EventNow) (who
 can_move m past time word who s c h =
     let own = note_history s c time word who past in
     record {
-      legal = note_legal m past h.legal (entry_by time word who (note s c)) s c (note_part s c) h.word_is h.time_is h.may h.own h.there (omega (arith, h.places));
+      legal = note_legal m past h.legal (entry_by time word who (note s c)) s c (note_part s c) h.word_is h.time_is h.may h.own h.out h.there (omega (arith, h.places));
       word_is = h.word_is ∙ sym (note_numbers s c time word who past);
       time_is = h.time_is ∙ sym (note_time s c time word who past);
       owes = ap owed own ∙ note_owed s c time word who past;

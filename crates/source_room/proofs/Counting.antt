@@ -163,7 +163,7 @@ by_part : (m : Machine) (s : ℕ) (e : Entry) (past : List Entry) (who : Actor) 
     → Made m s who past → Made m s who (e ∷ past)
 by_part m s e past who n (Notes t call) p h there k =
     subst (λ (xs : List Entry). Follows s (made (length m.sources + 1) (λ t. history t (e ∷ past)) who) (calls_of m who xs) (noted_by s who (e ∷ past))) (sym (journal_same e past (ap is_kept p)))
-    (own_note m s e past who t call p there (λ same. next_of m (journal past) (λ t. history t past) e.actor who e.kind same n h) k)
+    (own_note m s e past who t call p there (λ same. next_of m (journal past) (λ t. history t past) e.actor who e.kind same n h.0) k)
 by_part m s e past who n (Moves t step) p h there k =
     subst (λ (xs : List Entry). Follows s (made (length m.sources + 1) (λ t. history t (e ∷ past)) who) (calls_of m who xs) (noted_by s who (e ∷ past))) (sym (journal_same e past (ap is_kept p)))
     (aside m s e past who (no_note who e (Moves t step) p refl) (ap (part_places s) p) (calls_of m who (journal past)) k)
@@ -207,7 +207,7 @@ timer_free : (m : Machine) (s : ℕ) (e : Entry) (past : List Entry) (part : Par
 timer_free m s e past (Moves t step) p i h = ap (part_places s) p
 timer_free m s e past OfJournal p i h = ap (part_places s) p
 timer_free m s e past OfTime p i h = ap (part_places s) p
-timer_free m s e past (Notes t call) p i h = by_actor e.actor i h
+timer_free m s e past (Notes t call) p i h = by_actor e.actor i h.0
   where
     free : (b : Bool) → ◌≡◌ {A = ℕ} (cond b 0 0) 0
     free true = refl

@@ -12,7 +12,7 @@ use Rattle.sleep_model.specs.declared.place.Due.{Due}
 use Rattle.sleep_model.specs.declared.place.Due.TheVariants.{Makes, Gone}
 use Rattle.sleep_model.specs.declared.word.EventNow.{EventNow}
 use Rattle.sleep_model.specs.declared.word.WordKind.{WordKind}
-use Rattle.sleep_model.specs.Calls.{calls_of, calls_due, made}
+use Rattle.sleep_model.specs.Calls.{calls_of, calls_due, is_calling, made}
 use Rattle.sleep_model.specs.Due.{due}
 use Rattle.sleep_model.specs.Legal.{JournalStep, JournalPart, OwnStep, SourcePart, IsOwnCall, is_behind, JointStep, JointPart, IsOnTime, Placed, is_idle, is_finished, next_time}
 use Rattle.sleep_model.specs.Numbers.{numbers, time_of}
@@ -185,13 +185,17 @@ placed (e ∷ past) same =
 
 -- ---- what ties them together
 
--- how many calls were made and are due, the call that comes next, whether a step is behind its call, and of a jump whether nobody is enabled, whether the run is over, and the least pending time
+-- how many calls were made and are due, the call that comes next, whether the actor is inside a call, whether a step is behind its call, and of a jump whether nobody is enabled, whether the run is over, and the least pending time
 abbrev pub Tie : Type 0
-Tie = ℕ × Option Kind × Bool × Bool × Bool × Option ℕ
+Tie = ℕ × Option Kind × Bool × Bool × Bool × Bool × Option ℕ
 
 -- how many calls an actor has made
 abbrev pub made_by : Machine → List Entry → Actor → ℕ
 made_by m past who = made (length m.sources + 1) (λ s. history s past) who
+
+-- the actor is inside a call
+abbrev pub is_inside : Machine → List Entry → Actor → Bool
+is_inside m past who = is_calling (length m.sources + 1) (λ s. history s past) who
 
 -- the call that an actor makes next
 abbrev pub call_given : Machine → List Entry → Actor → Option Kind
@@ -200,17 +204,17 @@ call_given m past who = slice_get (calls_of m who (journal past)) (made_by m pas
 
 -- what a place gives for an entry
 abbrev pub tie_given : Machine → List Entry → Entry → Part → Tie
-tie_given m past e OfJournal = (made_by m past e.actor, None, true, true, false, None)
-tie_given m past e (Notes s call) = (0, call_given m past e.actor, true, true, false, None)
-tie_given m past e (Moves s step) = (0, None, is_behind s e.actor past, true, false, None)
-tie_given m past e OfTime = (0, None, true, is_idle m (journal past) (λ s. history s past) (numbers past), is_finished m (journal past) (λ s. history s past) (numbers past), next_time m (journal past) (λ s. history s past))
+tie_given m past e OfJournal = (made_by m past e.actor, None, is_inside m past e.actor, true, true, false, None)
+tie_given m past e (Notes s call) = (0, call_given m past e.actor, is_inside m past e.actor, true, true, false, None)
+tie_given m past e (Moves s step) = (0, None, false, is_behind s e.actor past, true, false, None)
+tie_given m past e OfTime = (0, None, false, true, is_idle m (journal past) (λ s. history s past) (numbers past), is_finished m (journal past) (λ s. history s past) (numbers past), next_time m (journal past) (λ s. history s past))
 
 -- what the entry says
 abbrev pub tie_said : Machine → List Entry → Entry → Part → Tie
-tie_said m past e OfJournal = (calls_due m e.actor (journal past), None, true, true, false, None)
-tie_said m past e (Notes s call) = (0, Some e.kind, true, true, false, None)
-tie_said m past e (Moves s step) = (0, None, true, true, false, None)
-tie_said m past e OfTime = (0, None, true, true, false, Some e.time)
+tie_said m past e OfJournal = (calls_due m e.actor (journal past), None, false, true, true, false, None)
+tie_said m past e (Notes s call) = (0, Some e.kind, false, true, true, false, None)
+tie_said m past e (Moves s step) = (0, None, false, true, true, false, None)
+tie_said m past e OfTime = (0, None, false, true, true, false, Some e.time)
 
 -- what each of the newest n places gives, the newest first
 abbrev pub ties_given : Machine → ℕ → List Entry → List Tie
@@ -238,13 +242,13 @@ own_call m past (actor.Dev d) k next = next
 own_call m past actor.Time k next = next
 
 joint_step : (m : Machine) (past : List Entry) (e : Entry) (part : Part) → tie_given m past e part ≡ tie_said m past e part → JointStep m past e part
-joint_step m past e OfJournal same = ap (λ x. x.0) same
-joint_step m past e (Notes s call) same = own_call m past e.actor e.kind (ap (λ x. x.1) same)
-joint_step m past e (Moves s step) same = ap (λ x. x.2) same
+joint_step m past e OfJournal same = (ap (λ x. x.0) same, ap (λ x. x.2) same)
+joint_step m past e (Notes s call) same = (own_call m past e.actor e.kind (ap (λ x. x.1) same), ap (λ x. x.2) same)
+joint_step m past e (Moves s step) same = ap (λ x. x.3) same
 joint_step m past e OfTime same = record {
-  idle = ap (λ x. x.3) same;
-  goes_on = ap (λ x. x.4) same;
-  least = ap (λ x. x.5) same;
+  idle = ap (λ x. x.4) same;
+  goes_on = ap (λ x. x.5) same;
+  least = ap (λ x. x.6) same;
 }
 
 -- where the newest n agree, the parts fit together if they did before
