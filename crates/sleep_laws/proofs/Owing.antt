@@ -1,5 +1,5 @@
 -- An undo stands only for what is owed, and a test that found a wakeup only where one is pending.
-use Rattle.std.proofs.Common.{◌≡◌, ℕ, true, List, ◌∷◌, Option, Some, length, refl, sym}
+use Rattle.std.proofs.Common.{◌≡◌, ℕ, true, List, ◌∷◌, Option, Some, is_some, length, refl, sym, ap}
 use Rattle.std.proofs.lemmas.Bool.{true≢false}
 use Rattle.sleep_base.specs.declared.errno.Errno.TheVariants.{EINVAL}
 use Rattle.sleep_model.specs.declared.entry.Actor.{Actor}
@@ -47,6 +47,7 @@ owed_made m past now _ _ Made.PlatformWakes h d = h.3
 owed_made m past now _ _ Made.PlatformFinishes h d = h.2
 owed_made m past now _ _ Made.PlatformRecovers h d = refl
 owed_made m past now _ _ Made.PlatformEnds h d = h.1
+owed_made m past now _ _ (Made.Wakes s by_event e) h d = ap is_some e
 owed_made m past now _ _ _ h d = tt
 
 owed_own : (m : Machine) (past : List Entry) (now : EventNow) (x : ℕ) (k : Kind) → DeviceMade m past now x k → DeviceOwed m past k → Owed m past k

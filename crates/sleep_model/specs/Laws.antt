@@ -27,7 +27,7 @@ use Rattle.phase_table.specs.declared.phase.Phase.TheVariants as phase
 use Rattle.sleep_model.specs.declared.place.Seat.{Seat}
 use Rattle.sleep_model.specs.declared.place.Stand.{Stand}
 use Rattle.sleep_model.specs.declared.place.Stand.TheVariants as stand
-use Rattle.sleep_model.specs.Attempt.{failed}
+use Rattle.sleep_model.specs.Attempt.{failed, sleeps_now}
 use Rattle.sleep_model.specs.Autosleep.{Work, Resting, Reading, Saving, Attempting, Looking, Napping, Closing, work}
 use Rattle.sleep_model.specs.Devices.{AsyncWork, Idle, Scheduled, Inside, callback, stand_in, async_work}
 use Rattle.sleep_model.specs.Freezer.{unasked, freezing, freezings, is_in}
@@ -76,6 +76,7 @@ pub record NothingOwed (m : Machine) (past : List Entry) : Type 0 where
   pub cpus : cpus_off m.cpus past ≡ replicate m.cpus false
   pub irqs : irqs_off past ≡ false
   pub syscore : stopped (length m.syscore) past ≡ replicate (length m.syscore) false
+  pub awake : sleeps_now past ≡ false
 
 -- where an attempt is over nothing is owed (suspend_devices_and_enter)
 abbrev pub Restored : Machine → List Entry → Kind → Type 0
@@ -125,6 +126,7 @@ Owed m past (kind.SyscoreResume x) = is_so (stopped (length m.syscore) past) x �
 Owed m past (kind.CpuOn k) = is_so (cpus_off m.cpus past) k ≡ true
 Owed m past (kind.Irqs on) = on ≡ true → irqs_off past ≡ true
 Owed m past (kind.PlatformUndo step) = is_owed_by past step ≡ true
+Owed m past (kind.Wake by_event) = sleeps_now past ≡ true
 Owed m past _ = Unit {0}
 
 -- ---- what is done once
@@ -149,7 +151,7 @@ TakenOnce m past (kind.Skip p d cause) = is_down p ≡ true → may_go_down (sta
 TakenOnce m past (kind.End p d r) = is_down p ≡ true → is_suspending (stand_in m past p d) ≡ true
 TakenOnce m past _ = Unit {0}
 
--- a notifier, the platform, a processor, interrupts and the core are taken down only where no undo is owed to them already (pm_notifier_call_chain_robust, platform_suspend_begin, freeze_secondary_cpus, arch_suspend_disable_irqs, syscore_suspend)
+-- a notifier, the platform, a processor, interrupts and the core are taken down, and sleep is entered, only where no undo of that is owed already (pm_notifier_call_chain_robust, platform_suspend_begin, freeze_secondary_cpus, arch_suspend_disable_irqs, syscore_suspend, suspend_enter)
 abbrev pub NotOwedAlready : Machine → List Entry → Kind → Type 0
 NotOwedAlready m past (kind.NotifyPrepare x r) = is_so (told m past) x ≡ false
 NotOwedAlready m past (kind.PlatformDo step r) = owes_platform step past ≡ false
@@ -157,6 +159,7 @@ NotOwedAlready m past (kind.CpuOff k) = is_so (cpus_off m.cpus past) k ≡ false
 NotOwedAlready m past (kind.CpuBusy k) = is_so (cpus_off m.cpus past) k ≡ false
 NotOwedAlready m past (kind.Irqs on) = on ≡ false → irqs_off past ≡ false
 NotOwedAlready m past (kind.SyscoreSuspend x r) = is_so (stopped (length m.syscore) past) x ≡ false
+NotOwedAlready m past (kind.Enter busy) = sleeps_now past ≡ false
 NotOwedAlready m past _ = Unit {0}
 
 -- ---- what is so where the machine enters sleep

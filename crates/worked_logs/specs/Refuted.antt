@@ -196,6 +196,41 @@ begun_twice_entries =
     ∷ entry 1000 (word 0 0 0) (actor.Script 0) kind.Exit
     ∷ []
 
+-- the attempt is over while the machine sleeps
+abbrev pub never_woken_entries : List Entry
+never_woken_entries =
+    entry 0 (word 0 0 0) (actor.Script 0) (kind.Read 0)
+    ∷ entry 0 (word 0 0 0) (actor.Script 0) (kind.Saved 0)
+    ∷ entry 0 (word 0 0 0) (actor.Script 0) (kind.Attempt 1 (Some 0))
+    ∷ entry 0 (word 0 0 0) (actor.Script 0) (kind.Freeze group.User)
+    ∷ entry 0 (word 0 0 0) (actor.Script 0) (kind.Froze group.User froze.AllFrozen)
+    ∷ entry 0 (word 0 0 0) (actor.Script 0) (kind.Freeze group.Kernel)
+    ∷ entry 0 (word 0 0 0) (actor.Script 0) (kind.Froze group.Kernel froze.AllFrozen)
+    ∷ entry 0 (word 0 0 0) (actor.Script 0) (kind.PlatformDo down.Begin None)
+    ∷ entry 0 (word 0 0 0) (actor.Script 0) (kind.Done phase.Prepare None)
+    ∷ entry 0 (word 0 0 0) (actor.Script 0) (kind.Done phase.Suspend None)
+    ∷ entry 0 (word 0 0 0) (actor.Script 0) (kind.PlatformDo down.Prepare None)
+    ∷ entry 0 (word 0 0 0) (actor.Script 0) (kind.Done phase.Late None)
+    ∷ entry 0 (word 0 0 0) (actor.Script 0) (kind.Done phase.Noirq None)
+    ∷ entry 0 (word 0 0 0) (actor.Script 0) (kind.PlatformDo down.PrepareLate None)
+    ∷ entry 0 (word 0 0 0) (actor.Script 0) (kind.Irqs false)
+    ∷ entry 0 (word 0 0 0) (actor.Script 0) (kind.SyscoreCheck None)
+    ∷ entry 0 (word 0 0 0) (actor.Script 0) (kind.Enter false)
+    ∷ entry 1000 (word 0 0 0) actor.Time kind.Jump
+    ∷ entry 1000 (word 0 0 0) (actor.Script 0) (kind.Irqs true)
+    ∷ entry 1000 (word 0 0 0) (actor.Script 0) (kind.PlatformUndo up.Wake)
+    ∷ entry 1000 (word 0 0 0) (actor.Script 0) (kind.Done phase.ResumeNoirq None)
+    ∷ entry 1000 (word 0 0 0) (actor.Script 0) (kind.Done phase.Early None)
+    ∷ entry 1000 (word 0 0 0) (actor.Script 0) (kind.PlatformUndo up.Finish)
+    ∷ entry 1000 (word 0 0 0) (actor.Script 0) (kind.Done phase.Resume None)
+    ∷ entry 1000 (word 0 0 0) (actor.Script 0) (kind.Done phase.Complete None)
+    ∷ entry 1000 (word 0 0 0) (actor.Script 0) (kind.PlatformUndo up.End)
+    ∷ entry 1000 (word 0 0 0) (actor.Script 0) kind.Clear
+    ∷ entry 1000 (word 0 0 0) (actor.Script 0) (kind.Thaw thaw.All)
+    ∷ entry 1000 (word 0 0 0) (actor.Script 0) (kind.Over 1 None)
+    ∷ entry 1000 (word 0 0 0) (actor.Script 0) kind.Exit
+    ∷ []
+
 -- the devices go down in noirq alone, in neither suspend nor late, and the machine enters sleep
 abbrev pub down_in_noirq_alone_entries : List Entry
 down_in_noirq_alone_entries =

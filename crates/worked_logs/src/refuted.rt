@@ -2,12 +2,12 @@
 //!
 //! `tools/worked.py` writes this file from `tools/worked/broken`.
 
-ghost use Rattle.sleep_model.specs.Laws.{Owed, TakenOnce, NotOwedAlready, EntersDown};
+ghost use Rattle.sleep_model.specs.Laws.{Owed, TakenOnce, NotOwedAlready, Restored, EntersDown};
 ghost use Rattle.worked_logs.specs.Attempts.{parent_and_child_machine, smallest_attempt_machine};
 ghost use Rattle.worked_logs.specs.Failures.{asynchronous_callback_fails_machine};
 ghost use Rattle.worked_logs.specs.Autosleep.{autosleep_machine};
 ghost use Rattle.worked_logs.specs.Broken.{FailsAt};
-ghost use Rattle.worked_logs.specs.Refuted.{never_resumed_entries, failed_is_resumed_entries, never_prepared_entries, begun_twice_entries, down_in_noirq_alone_entries, enters_without_a_freeze_entries};
+ghost use Rattle.worked_logs.specs.Refuted.{never_resumed_entries, failed_is_resumed_entries, never_prepared_entries, begun_twice_entries, never_woken_entries, down_in_noirq_alone_entries, enters_without_a_freeze_entries};
 
 /// No device resumes: each is completed while it is down.
 pub fn never_resumed_is_refused()
@@ -27,6 +27,11 @@ pub fn never_prepared_is_refused()
 /// The platform is told twice that the attempt begins, and once that it ends.
 pub fn begun_twice_is_refused()
     ensures { FailsAt (λ m past k. NotOwedAlready m past k) smallest_attempt_machine 8 begun_twice_entries }
+{}
+
+/// The attempt is over while the machine sleeps.
+pub fn never_woken_is_refused()
+    ensures { FailsAt (λ m past k. Restored m past k) smallest_attempt_machine 28 never_woken_entries }
 {}
 
 /// The devices go down in noirq alone, in neither suspend nor late, and the machine enters sleep.
