@@ -1,7 +1,7 @@
 use Rattle.std.proofs.Common.{◌<◌, length, ap, arith}
 use Rattle.sleep_model.specs.Places.{all_operations}
 use Rattle.sleep_script.proofs.Scripted.{one_of_all}
-use Rattle.sleep_script.proofs.script.script_at.Goals as goal
+use Rattle.sleep_script.proofs.job.script_at.Goals as goal
 
 pub returns-clause-few : goal.returns-clause-few
 returns-clause-few c =
