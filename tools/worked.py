@@ -1,5 +1,5 @@
 #!/usr/bin/env python3
-"""Writes the whole worked logs of crates/worked_logs as terms, with the laws that they are legal.
+"""Writes the whole worked logs of crates/log_trials as terms, with the laws that they are legal.
 
 usage: tools/worked.py
 
@@ -21,7 +21,7 @@ import worked_refuted
 import worked_rows
 
 ROOT = pathlib.Path(__file__).resolve().parent.parent
-CRATE = ROOT / "crates" / "worked_logs"
+CRATE = ROOT / "crates" / "log_trials"
 INPUT = ROOT / "tools" / "worked"
 WIDTH = 110
 
@@ -568,10 +568,10 @@ def uses_of(text):
         if is_used(name, text):
             yield f"use {MODEL}.{place}.{{{name}}}"
     yield from (line for word, line in USES if re.search(rf"(?<![\w.]){word}\.", text))
-    yield f"use Rattle.worked_logs.specs.Terms.{{{', '.join(name for name in TERMS if is_used(name, text))}}}"
+    yield f"use Rattle.log_trials.specs.Terms.{{{', '.join(name for name in TERMS if is_used(name, text))}}}"
     for module, name, _ in (half for halves in HALVES.values() for half in halves):
         if is_used(name, text) and f"pub {name} " not in text:
-            yield f"use Rattle.worked_logs.specs.{module}.{{{name}}}"
+            yield f"use Rattle.log_trials.specs.{module}.{{{name}}}"
 
 
 def write_module(module, says, texts, crate=CRATE, more=""):
@@ -608,8 +608,8 @@ PLACES_HEAD = """\
 use Rattle.std.proofs.Common.{{refl, reverse, ℕ, List}}
 use Rattle.sleep_model.specs.declared.entry.Entry.{{Entry}}
 use Rattle.sleep_model.specs.Legal.{{JointPart}}
-use Rattle.worked_logs.specs.{module}.{{{name}_machine, {name}_entries}}
-use Rattle.worked_logs.proofs.Computed.{{before, joint_stretch}}
+use Rattle.log_trials.specs.{module}.{{{name}_machine, {name}_entries}}
+use Rattle.log_trials.proofs.Computed.{{before, joint_stretch}}
 
 -- the log without its newest n entries
 abbrev without : ℕ → List Entry
@@ -618,11 +618,11 @@ without n = before n (reverse {name}_entries)
 
 ANSWERS = """\
 use Rattle.std.proofs.Common.{{refl, reverse}}
-use Rattle.worked_logs.specs.{module}.{{{name}_machine, {name}_entries}}
+use Rattle.log_trials.specs.{module}.{{{name}_machine, {name}_entries}}
 use Rattle.sleep_model.specs.Parts.{{journal}}
-use Rattle.worked_logs.proofs.Computed.{{journal_part, source_part, placed}}
-use Rattle.worked_logs.proofs.{module}Places.{{{name}_fits}}
-use Rattle.worked_logs.proofs.whole.{name}_is_legal.Goals as goal
+use Rattle.log_trials.proofs.Computed.{{journal_part, source_part, placed}}
+use Rattle.log_trials.proofs.{module}Places.{{{name}_fits}}
+use Rattle.log_trials.proofs.whole.{name}_is_legal.Goals as goal
 
 pub returns-clause-legal : goal.returns-clause-legal
 returns-clause-legal c = record {{
@@ -679,7 +679,7 @@ ROUNDS_HEAD = """\
 //! time jumps where a round did nothing, one worker writes just these entries.
 
 ghost use Rattle.std.specs.Prelude.{◌≡◌};
-ghost use Rattle.worked_logs.specs.Rounds.{one_worker};
+ghost use Rattle.log_trials.specs.Rounds.{one_worker};
 """
 
 
@@ -688,7 +688,7 @@ def ghost_uses(logs, *endings):
     for module in dict.fromkeys(log.module for log in logs):
         names = [log.name + ending for log in logs if log.module == module for ending in endings]
         if names:
-            yield f"ghost use Rattle.worked_logs.specs.{module}.{{{', '.join(names)}}};\n"
+            yield f"ghost use Rattle.log_trials.specs.{module}.{{{', '.join(names)}}};\n"
 
 
 def legal_law(log):
@@ -742,7 +742,7 @@ def write_texts(logs):
         own = [log for log in logs if (log.module == "Links") == (module == "LinkTexts")]
         head = f"-- {says}, a line an entry.\nuse Rattle.std.specs.Prelude.{{ℕ, ◌++◌, List, codes}}\n\n"
         (CRATE / "specs" / f"{module}.antt").write_text(head + "\n".join(map(text_term, own)))
-        uses.append(f"ghost use Rattle.worked_logs.specs.{module}.{{{', '.join(f'{log.name}_text' for log in own)}}};\n")
+        uses.append(f"ghost use Rattle.log_trials.specs.{module}.{{{', '.join(f'{log.name}_text' for log in own)}}};\n")
     laws = [TEXTS_HEAD, *ghost_uses(logs, "_machine", ""), *uses, *map(text_law, logs)]
     (CRATE / "src" / "texts.rt").write_text("".join(laws))
 

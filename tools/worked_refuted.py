@@ -1,4 +1,4 @@
-"""The broken logs that a law of sleep refuses: written by tools/worked.py into crates/worked_logs."""
+"""The broken logs that a law of sleep refuses: written by tools/worked.py into crates/log_trials."""
 
 # Each log of tools/worked/broken: its name, the worked log whose machine it has, the law that refuses it, the
 # end of the line at which that law fails (the last such line), and what it shows.
@@ -39,9 +39,9 @@ def uses(modules):
     machines = dict.fromkeys(machine for _, machine, _, _, _ in REFUTED)
     for module in dict.fromkeys(modules[machine] for machine in machines):
         names = [f"{machine}_machine" for machine in machines if modules[machine] == module]
-        yield f"ghost use Rattle.worked_logs.specs.{module}.{{{', '.join(names)}}};\n"
-    yield "ghost use Rattle.worked_logs.specs.Broken.{FailsAt};\n"
-    yield f"ghost use Rattle.worked_logs.specs.Refuted.{{{', '.join(f'{row[0]}_entries' for row in REFUTED)}}};\n"
+        yield f"ghost use Rattle.log_trials.specs.{module}.{{{', '.join(names)}}};\n"
+    yield "ghost use Rattle.log_trials.specs.Broken.{FailsAt};\n"
+    yield f"ghost use Rattle.log_trials.specs.Refuted.{{{', '.join(f'{row[0]}_entries' for row in REFUTED)}}};\n"
 
 
 def laws(logs, modules):

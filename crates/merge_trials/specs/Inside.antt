@@ -6,7 +6,7 @@ use Rattle.sleep_model.specs.declared.entry.Kind.TheVariants as kind
 use Rattle.sleep_model.specs.declared.machine.Machine.{Machine}
 use Rattle.sleep_model.specs.declared.machine.Op.TheVariants as op
 use Rattle.sleep_model.specs.declared.machine.TaskKind.TheVariants as task
-use Rattle.worked_logs.specs.Terms.{bare, entry, once, script, word}
+use Rattle.log_trials.specs.Terms.{bare, entry, once, script, word}
 
 -- a line that reports one event on the first of two sources
 abbrev pub one_event_machine : Machine

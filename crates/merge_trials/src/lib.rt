@@ -8,11 +8,11 @@ ghost use Rattle.merge_trials.specs.Broken.{broken, chain_fits, count_fits, jump
 ghost use Rattle.merge_trials.specs.Inside.{exit_in_the_call, note_in_the_call, one_event_begun, one_event_machine, start_of_the_call, two_events_machine};
 ghost use Rattle.merge_trials.specs.Tests.{TestsTell};
 ghost use Rattle.merge_trials.specs.Worked.{IsApart, IsApartAgain};
-ghost use Rattle.worked_logs.specs.Attempts.{event_stops_a_device_machine, event_stops_a_device_entries, hard_event_machine, hard_event_entries, callback_reports_machine, callback_reports_entries};
-ghost use Rattle.worked_logs.specs.Autosleep.{autosleep_machine, autosleep_entries};
-ghost use Rattle.worked_logs.specs.Counts.{read_waits_machine, read_waits_entries, calls_of_a_line_machine};
-ghost use Rattle.worked_logs.specs.Merging.{two_workers};
-ghost use Rattle.worked_logs.specs.Timers.{event_expires_machine, event_expires_entries};
+ghost use Rattle.log_trials.specs.Attempts.{event_stops_a_device_machine, event_stops_a_device_entries, hard_event_machine, hard_event_entries, callback_reports_machine, callback_reports_entries};
+ghost use Rattle.log_trials.specs.Autosleep.{autosleep_machine, autosleep_entries};
+ghost use Rattle.log_trials.specs.Counts.{read_waits_machine, read_waits_entries, calls_of_a_line_machine};
+ghost use Rattle.log_trials.specs.Merging.{two_workers};
+ghost use Rattle.log_trials.specs.Timers.{event_expires_machine, event_expires_entries};
 
 /// What one worker makes: each entry's maker knows the entry before it.
 pub fn logs_are_kept_apart()

@@ -28,16 +28,16 @@ use Rattle.sleep_core.specs.Histories.{last_stamp}
 use Rattle.sleep_script.specs.Jobs.{JobState, after_turn, after_call, IsJobOf}
 use Rattle.sleep_script.proofs.Following.{own_entry, all_made, turns_few}
 use Rattle.event_word.specs.Steps.{has_places}
-use Rattle.log_grows.specs.Whole.{with_call, steps_of}
-use Rattle.log_grows.proofs.Calls.{CanCall, call_legal, call_owes_none, call_journal, call_word, moved, same_actor}
-use Rattle.log_grows.proofs.Growing.{first_legal, entry_legal, jump_legal}
-use Rattle.log_grows.proofs.Histories.{none_calls, none_owed, still_owe_none}
-use Rattle.log_grows.proofs.Idling.{enabled_outside}
-use Rattle.log_grows.proofs.Journals.{journal_more, time_journal, word_kept, due_part}
-use Rattle.log_grows.proofs.Room.{call_has_places}
-use Rattle.log_grows.proofs.Sourced.{IsNoteOf, call_sourced}
-use Rattle.log_grows.proofs.Timely.{newest, newest_timely, few_calls}
-use Rattle.source_room.proofs.Keeping.{histories_keep}
+use Rattle.growth_laws.specs.Whole.{with_call, steps_of}
+use Rattle.growth_laws.proofs.Calls.{CanCall, call_legal, call_owes_none, call_journal, call_word, moved, same_actor}
+use Rattle.growth_laws.proofs.Growing.{first_legal, entry_legal, jump_legal}
+use Rattle.growth_laws.proofs.Histories.{none_calls, none_owed, still_owe_none}
+use Rattle.growth_laws.proofs.Idling.{enabled_outside}
+use Rattle.growth_laws.proofs.Journals.{journal_more, time_journal, word_kept, due_part}
+use Rattle.growth_laws.proofs.Room.{call_has_places}
+use Rattle.growth_laws.proofs.Sourced.{IsNoteOf, call_sourced}
+use Rattle.growth_laws.proofs.Timely.{newest, newest_timely, few_calls}
+use Rattle.source_laws.proofs.Keeping.{histories_keep}
 use Rattle.wakeup_source.specs.declared.call_by.CallBy.{CallBy}
 use Rattle.wakeup_source.specs.SourceStates.{SourceState, bare, latest}
 use Rattle.wakeup_source.specs.Told.{word_after, MayCall, source_call}
