@@ -60,7 +60,7 @@ SECTIONS = [
     ("sleep_model", "The one log of separate histories", "own", ["Merge"]),
     ("sleep_model", "A journal, and a log's entries, as the code keeps them", "own", ["Journals", "JournalFields", "Woven", "ReaderFields"]),
     ("sleep_model", "Which logs can be written, and how many places a source needs", "own", ["Fits", "Places"]),
-    ("source_room", "What a source's history keeps to", "own", ["Room"]),
+    ("source_laws", "What a source's history keeps to", "own", ["Room"]),
     ("sleep_model", "The text of a log", "own", ["NameBytes", "Text"]),
     ("sleep_base", "The outside", "`include/uapi/asm-generic/errno-base.h`, for errors; the rest is own", ["Errno", "Faults", "Calls", "Streams", "Whole"]),
     ("device_rows", "Rows of device numbers", "own", ["Table"]),
@@ -83,7 +83,7 @@ SECTIONS = [
     ("sleep_sysfs", "The state that a text names", "`kernel/power/main.c`", ["Decoding"]),
     ("autosleep_loop", "Autosleep as one value", "`kernel/power/autosleep.c`", ["Autosleeps"]),
     ("script_plan", "A script's turns, counted once", "own", ["Plans", "PlanFields"]),
-    ("attempt_room", "How many entries an attempt may need", "own", ["Room"]),
+    ("attempt_laws", "How many entries an attempt may need", "own", ["Room"]),
     ("sleep_core", "The core", "own", ["Cores", "Turned", "Histories", "HistoryFields", "CoreFields", "Numbered", "Seen", "Stages", "Steps", "Reports", "ReportFields"]),
     ("borrowed_json", "What a JSON value over its text says", "own", ["View", "InRange"]),
     ("machine_file", "Accepted bytes: the first broken rule, and the machine that is spelled", "`include/linux/pm.h`, `drivers/base/core.c`; most is own", ["Whole", "Members", "Places", "Form", "Names", "Devices", "Operations", "Answering", "Limits", "Tree", "Look", "Rules", "Spelled"]),
@@ -101,7 +101,7 @@ SECTIONS = [
 ]
 
 # What no contract of the program speaks of: terms by which the definitions are tried.
-TRIALS = {"worked_logs", "file_laws", "merge_trials"}
+TRIALS = {"log_trials", "file_trials", "merge_trials"}
 
 DEFINITION = re.compile(r"(?:abbrev pub|unfoldable pub|pub record|pub data) (\w+)")
 TOGETHER = re.compile(r"  pub (\w+) :")

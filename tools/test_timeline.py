@@ -229,6 +229,15 @@ class Pages(unittest.TestCase):
             made = [(join.what, join.tail + 1, join.head + 1) for join in told.joins if join.what in ("found", "woke")]
             self.assertEqual(made, [(what, event, test)], name)
 
+    def test_the_first_of_many_events_is_joined(self):
+        """The same where 65,536 events were registered since the save: the count has 24 bits and does not start again."""
+        for name, (what, event, test) in FOUND.items():
+            text = (TOOLS / "worked" / f"{name}.log").read_text()
+            log = reading.read_log(re.sub(r"^(\d+ \d+)/1/", r"\1/65536/", text, flags=re.M).encode())
+            told = story.Story(log, machine.devices_seen(log))
+            made = [(join.what, join.tail + 1, join.head + 1) for join in told.joins if join.what in ("found", "woke")]
+            self.assertEqual(made, [(what, event, test)], name)
+
     def test_waits_are_shown(self):
         path = TOOLS / "worked" / "asynchronous_child.log"
         text, tree = path.read_text(), json.loads(path.with_suffix(".json").read_text())

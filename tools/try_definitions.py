@@ -7,7 +7,7 @@ For each machine the log that tools/second.py writes has to be what the definiti
 same statistics and the same end, and each source has to have as many places: each is a law that the prover
 has to close. With --interleaved the log is a merged one of tools/interleaved.py: it has to be legal, to have
 its end, and to be what the journal and the histories are merged to. FOLDER is a clone of this
-repository of its own, made where it is not there; the laws take the place of its crate worked_logs. Sixty
+repository of its own, made where it is not there; the laws take the place of its crate log_trials. Sixty
 machines take about a minute, once its libraries are checked. Ends with status 1 where a law stays open, and names it.
 """
 
@@ -273,13 +273,13 @@ ghost use Rattle.std.specs.List.{range_with_len};
 ghost use Rattle.std.specs.Prelude.{[], ◌∷◌, ◌≡◌, map, reverse};
 ghost use Rattle.sleep_model.specs.Legal.{IsLegalLog, IsFinishedLog, IsStuckLog, stats_of};
 ghost use Rattle.sleep_model.specs.Places.{places};
-ghost use Rattle.worked_logs.specs.Merging.{Merges};
-ghost use Rattle.worked_logs.specs.Rounds.{one_worker};
+ghost use Rattle.log_trials.specs.Merging.{Merges};
+ghost use Rattle.log_trials.specs.Rounds.{one_worker};
 """
 KEPT = ["Merging", "Rounds", "Terms"]
 STAMPED = """\
 use Rattle.sleep_model.specs.declared.entry.JournalEntry.{JournalEntry}
-use Rattle.worked_logs.specs.Merging.{ticked}
+use Rattle.log_trials.specs.Merging.{ticked}
 """
 
 
@@ -307,12 +307,12 @@ def main():
     merged = "--interleaved" in sys.argv
     if not folder.exists():
         subprocess.run(["git", "clone", "--quiet", ROOT, folder], check=True)
-    crate = folder / "crates" / "worked_logs"
+    crate = folder / "crates" / "log_trials"
     logs = logs_of(seed, machines, interleaved.Interleaved if merged else second.Run)
     write_crate(crate, logs, merged)
     ran = subprocess.run(["rt", "check"], cwd=crate, capture_output=True, text=True)
     said = ran.stdout + ran.stderr
-    open_laws = sorted(set(re.findall(r"worked_logs::(machine_\d+)_is_made: (?!proved)", said)))
+    open_laws = sorted(set(re.findall(r"log_trials::(machine_\d+)_is_made: (?!proved)", said)))
     for log in logs:
         if log.name in open_laws:
             print(f"{log.name}: {log.says}\n{log.text}")

@@ -5,7 +5,7 @@ usage: tools/try_rules.py SEED FILES
 
 Each file is nearly right. Where the second writing refuses it, the definitions have to name the same
 rule and the same place; where it accepts it, the machine that they read has to be written as the
-second writing does. The files become laws of the crate `file_laws`, which the prover computes, and are
+second writing does. The files become laws of the crate `file_trials`, which the prover computes, and are
 taken out again. Ends with status 1, and shows the laws that fail, where the two disagree.
 
 The second writing shares nothing with the definitions but what they are to say.
@@ -20,7 +20,7 @@ import subprocess
 import sys
 
 ROOT = pathlib.Path(__file__).resolve().parent.parent
-CRATE = ROOT / "crates" / "file_laws"
+CRATE = ROOT / "crates" / "file_trials"
 
 MEMBERS = "version alarm_ms cpus auto_cycles devices links syscore notifiers sources actors answers".split()
 LISTS = MEMBERS[4:]
@@ -341,7 +341,7 @@ ghost use Rattle.std.specs.Prelude.{◌≡◌, ◌++◌, Some, option_map};
 ghost use Rattle.sleep_model.specs.Text.{newline};
 ghost use Rattle.machine_file.specs.Whole.{machine_in};
 ghost use Rattle.machine_file.specs.Spelling.{spelling};
-ghost use Rattle.file_laws.specs.Files.{Breaks, file};
+ghost use Rattle.file_trials.specs.Files.{Breaks, file};
 """
 
 

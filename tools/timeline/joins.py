@@ -5,7 +5,7 @@ import collections
 
 from . import reading
 
-VISIBLE = 65_536  # The count that a task sees starts again at 0 here.
+VISIBLE = 1 << 24  # The count that a task sees starts again at 0 here.
 DOWN = ("suspend", "late", "noirq")
 NOTES = ("awake", "relax", "event", "expire")
 STEPS = ("start", "finish", "hard")

@@ -42,8 +42,14 @@ fn expect_open(rt: &impl Abort, board: &Board, below: [usize; 3], above: [usize;
     assert!(rt; board.links().order().len() == 3);
     for device in 0..3u32 {
         let number = device as usize;
-        assert_eq!(rt; board.is_free_below(Phase::Suspend, device), below[number] == 0);
-        assert_eq!(rt; board.is_free_above(Phase::Suspend, device), above[number] == 0);
+        assert_eq!(rt;
+            board.is_free_below(Phase::Suspend, device),
+            below[number] == 0
+        );
+        assert_eq!(rt;
+            board.is_free_above(Phase::Suspend, device),
+            above[number] == 0
+        );
     }
 }
 

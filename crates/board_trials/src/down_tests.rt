@@ -1,7 +1,7 @@
-use phase_suspend::{Down, DownEnv, down_follows, runtime_due};
 use async_board::Board;
 use device_links::Links;
 use device_rows::Flags;
+use phase_suspend::{Down, DownEnv, down_follows, runtime_due};
 use sleep_base::{Errno, Mem};
 use sleep_model::{Due, Kind, Phase, SkipCause, Why};
 use std::alloc::Global;

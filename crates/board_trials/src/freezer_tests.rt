@@ -1,7 +1,7 @@
-use task_freezer::{Freezer, Round};
 use sleep_model::{Actor, Freezing, Group, Kind, ListOf, Name, Script, TaskKind, Thaw};
 use std::alloc::Global;
 use std::test::Fail;
+use task_freezer::{Freezer, Round};
 
 const TASK: Actor = Actor::Script(0);
 

@@ -1,5 +1,5 @@
-use wakeup_guard::Guard;
 use sleep_model::{EventNow, Group, Kind};
+use wakeup_guard::Guard;
 
 fn word(inpr: u32, count: u32, hard: u32) -> EventNow {
     EventNow { inpr, count, hard }

@@ -1,6 +1,6 @@
-use phase_prepare::{complete_due, prepare_due, prepare_follows};
 use async_board::Board;
 use device_links::Links;
+use phase_prepare::{complete_due, prepare_due, prepare_follows};
 use sleep_base::Errno;
 use sleep_model::{Due, Kind, Phase};
 use std::test::Fail;

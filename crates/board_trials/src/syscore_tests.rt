@@ -1,7 +1,7 @@
-use syscore_ops::Syscore;
 use sleep_base::Errno;
 use sleep_model::Kind;
 use std::test::Fail;
+use syscore_ops::Syscore;
 
 fn suspended(kind: Kind) -> Option<u32> {
     match kind {

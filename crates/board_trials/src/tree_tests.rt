@@ -1,5 +1,5 @@
-use device_tree::{Tree, TreeFault, request};
 use bitflags::Flags;
+use device_tree::{Tree, TreeFault, request};
 use sleep_base::Errno;
 use sleep_model::{Device, DeviceFlags, Name, Runtime};
 use std::alloc::Global;

@@ -1,6 +1,6 @@
-use phase_resume::{device_due, up_follows, walk_due};
 use async_board::Board;
 use device_links::Links;
+use phase_resume::{device_due, up_follows, walk_due};
 use sleep_base::Errno;
 use sleep_model::{Due, Kind, Phase, Why};
 use std::test::Fail;

@@ -18,7 +18,6 @@ pub mod Fitted
 pub mod FittedFile
 pub mod Marked
 pub mod Worded
-pub mod Sounding
 pub mod Counting
 pub mod Machined
 pub mod Sheets

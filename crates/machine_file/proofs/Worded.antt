@@ -48,7 +48,7 @@ find_same p q [] e = refl
 find_same p q (x ∷ xs) e = ap (λ b. cond b (Some x) (find p xs)) (e x) ∙ ap (cond (q x) (Some x)) (find_same p q xs e)
 
 -- an operation of the table has its row's word
-pub word_there : (w : Word) (o : Data) → Some (op_row w) ≡ row_of o → has_text (codes "op") (op_row w).word o ≡ true
+word_there : (w : Word) (o : Data) → Some (op_row w) ≡ row_of o → has_text (codes "op") (op_row w).word o ≡ true
 word_there w o e = passes (λ r. has_text (codes "op") r.word o) (op_row w) operations (sym e)
 
 module _ (names : Known) (o : Data) where

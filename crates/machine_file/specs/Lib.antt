@@ -16,7 +16,6 @@ pub mod Broken
 pub mod Tests
 pub mod Knows
 pub mod OperationRows
-pub mod SoundOperations
 pub mod AnswerTests
 pub mod Seen
 pub mod Counted

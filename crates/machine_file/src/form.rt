@@ -101,8 +101,7 @@ pub(crate) fn is_link_form(value: &Value<'_>, second: bool) -> bool
     ensures { result ≡ is_link_form second (view value.now) }
 {
     has_link_members(value, second)
-        && must_be_text(value, "supplier")
-        && must_be_text(value, "consumer")
+        && has_ends(value)
         && may_be_one_of(value, "state", &LINK_STATES)
 }
 

@@ -1,7 +1,6 @@
 //! The operations of scripts: their form, who may make them, and what they name.
 
 ghost use Rattle.std.specs.Prelude.{◌≡◌, Some, ◌||◌, not, map, position, option_map, codes, ◌∷◌, nat_le, length};
-ghost use Rattle.std.specs.List.{list_all};
 ghost use Rattle.borrowed_json.specs.View.{view};
 ghost use Rattle.serde_json.specs.Find.{as_str};
 ghost use Rattle.machine_file.specs.Look.{is_some_and, is_none_or, has_only};
@@ -10,7 +9,6 @@ ghost use Rattle.machine_file.specs.Places.{first_not, first_operation, first_op
 ghost use Rattle.machine_file.specs.Names.{is_among_names};
 ghost use Rattle.machine_file.specs.Operations.{is_formed, is_allowed, has_count, has_short_text, is_state_form, has_length, has_mark, is_runtime_form, has_ends_named, is_link_state_form, changes_links, has_source, is_event_form, row_of, fits_row, names_source, names_device, unformed_operation, forbidden_operation, sourceless_operation, deviceless_operation};
 ghost use Rattle.machine_file.specs.OperationRows.{op_row, row_named, operation_test};
-ghost use Rattle.machine_file.specs.SoundOperations.{names_by_word, word_changes_links, is_sound_as, is_sound, is_sound_script, are_operations_sound};
 ghost use Rattle.machine_file.specs.Knows.{Knows, texts};
 ghost use Rattle.machine_file.specs.Broken.{place_of};
 
@@ -292,88 +290,4 @@ fn first_of_actors(test: OperationTest, known: &Known<'_>, actors: &[Value<'_>])
         }
     }
     None
-}
-
-// Whether what the operation of that word names is there. It has no members but those of its word.
-fn names_what_is_there(word: Word, operation: &Value<'_>, known: &Known<'_>) -> bool
-    ensures { result ≡ names_by_word word (texts known.now.sources) (texts known.now.devices) (view operation.now) }
-{
-    match word {
-        Word::Awake | Word::Relax | Word::Event => {
-            names_one_of(operation, "source", &known.sources)
-        }
-        Word::Runtime => names_one_of(operation, "device", &known.devices),
-        Word::Link | Word::LinkState => {
-            names_one_of(operation, "supplier", &known.devices)
-                && names_one_of(operation, "consumer", &known.devices)
-        }
-        _ => true,
-    }
-}
-
-fn changes_links(word: Word) -> bool
-    ensures { result ≡ word_changes_links word }
-{
-    matches!(word, Word::Link | Word::LinkState)
-}
-
-// Whether an operation of that word and of an actor of that kind passes all tests.
-fn is_sound_as(
-    word: Word,
-    second: bool,
-    known: &Known<'_>,
-    kind: &str,
-    operation: &Value<'_>,
-) -> bool
-    requires { Some (op_row word) ≡ row_of (view operation.now) }
-    ensures { result ≡ is_sound_as word second known.now kind.now (view operation.now) }
-{
-    (second || !changes_links(word))
-        && is_allowed(kind, word)
-        && is_formed(operation, word)
-        && names_what_is_there(word, operation, known)
-}
-
-// Whether an operation of an actor of that kind passes all tests, in a file of version 2 or of version 1.
-fn is_sound(second: bool, known: &Known<'_>, kind: &str, operation: &Value<'_>) -> bool
-    ensures { result ≡ is_sound second known.now kind.now (view operation.now) }
-{
-    match word_of(operation) {
-        Some(word) => is_sound_as(word, second, known, kind, operation),
-        None => false,
-    }
-}
-
-fn are_sound(second: bool, known: &Known<'_>, kind: &str, script: &[Value<'_>]) -> bool
-    ensures { result ≡ list_all (λ v. is_sound second known.now kind.now (view v)) script.now }
-{
-    script
-        .iter()
-        .all(|operation| is_sound(second, known, kind, operation))
-}
-
-fn is_sound_script(second: bool, known: &Known<'_>, actor: &Value<'_>) -> bool
-    ensures { result ≡ is_sound_script second known.now (view actor.now) }
-{
-    are_sound(
-        second,
-        known,
-        text_at(actor, "kind"),
-        list_in(actor, "script"),
-    )
-}
-
-fn are_sound_scripts(second: bool, known: &Known<'_>, actors: &[Value<'_>]) -> bool
-    ensures { result ≡ list_all (λ v. is_sound_script second known.now (view v)) actors.now }
-{
-    actors
-        .iter()
-        .all(|actor| is_sound_script(second, known, actor))
-}
-
-/// Whether all operations of a file pass all tests.
-pub(crate) fn are_operations_sound(tree: &Value<'_>, known: &Known<'_>) -> bool
-    ensures { result ≡ are_operations_sound known.now (view tree.now) }
-{
-    are_sound_scripts(is_second(tree), known, items(tree, Member::Actors))
 }

@@ -21,7 +21,7 @@ use crate::items::{is_second, misspelled_item, unformed_item};
 use crate::known::{Known, repeated_actor, repeated_callback, repeated_device, repeated_source};
 use crate::limits::{too_many, too_much};
 use crate::look::{has_number, has_only};
-use crate::operations::{OperationTest, are_operations_sound, first_operation};
+use crate::operations::{OperationTest, first_operation};
 use crate::pairs::{EndPlaces, Ends, loose_link, orphan, repeated_link};
 use crate::place::{Member, Place};
 use borrowed_json::Value;
@@ -171,19 +171,8 @@ fn sourceless(tree: &Value<'_>, known: &Known<'_>) -> Option<Place>
     }
 }
 
-/// The first rule of operations that is broken. Where none of them is, which is told in one pass, only
-/// the sources of reports are left.
+/// The first rule of operations that is broken.
 pub(crate) fn operation_broken(tree: &Value<'_>, known: &Known<'_>) -> Option<Broken>
-    requires { Knows known.now (view tree.now) }
-    ensures { option_map broken_view result ≡ first_of operation_rules (view tree.now) }
-{
-    if are_operations_sound(tree, known) {
-        return breaks(18, sourceless_report(tree, known));
-    }
-    first_operation_rule(tree, known)
-}
-
-fn first_operation_rule(tree: &Value<'_>, known: &Known<'_>) -> Option<Broken>
     requires { Knows known.now (view tree.now) }
     ensures { option_map broken_view result ≡ first_of operation_rules (view tree.now) }
 {

@@ -18,7 +18,7 @@ use Rattle.sleep_model.specs.Guard.{pending}
 use Rattle.sleep_model.specs.Laws.{test_part, disturbed, disturbed_after, entered, UndisturbedEnters, AnswersFailure}
 use Rattle.sleep_model.specs.Legal.{JournalPart}
 use Rattle.sleep_model.specs.Table.{stage_after}
-use Rattle.sleep_laws.proofs.Holding.{Aside, Moved, Opens, Makes, Beside, Owns, Kept, at_made, entry_of, moved}
+use Rattle.sleep_laws.proofs.Holding.{Aside, Moved, Opens, Makes, Beside, Owns, Kept, at_made, entry_of, moved, IsMaker}
 use Rattle.sleep_laws.proofs.Made.{InSuspend, InLate, InNoirq, InResume, InEarly, InResumeNoirq, Made, Comes, DeviceMade, EntryMade, AtOnce, PastNotifiers, PastCpus, PastParts, PastPartsUp, PastCpusUp, PastPosts}
 use Rattle.sleep_laws.proofs.Telling.{none≢some}
 
@@ -51,7 +51,7 @@ side_comes m past _ _ (PastPartsUp e) h = h
 side_comes m past _ _ (PastCpusUp e) h = h
 side_comes m past _ _ (PastPosts e) h = h
 
-side_makes : (m : Machine) (past : List Entry) (time : ℕ) (now : EventNow) (who : Actor) (there : Stage) (k : Kind) → is_device who ≡ false → Made m past now there k → Side (Some there) past → Side (stage_after k (Some there)) (entry_of time now who k ∷ past)
+side_makes : (m : Machine) (past : List Entry) (time : ℕ) (now : EventNow) (who : Actor) (there : Stage) (k : Kind) → IsMaker past who → Made m past now there k → Side (Some there) past → Side (stage_after k (Some there)) (entry_of time now who k ∷ past)
 side_makes m past time now who _ _ a (Made.NotifyFails x r e) h = (h.1, h.2)
 side_makes m past time now who _ _ a (Made.UserTimesOut s n x e) h = (h.1, h.2)
 side_makes m past time now who _ _ a (Made.KernelTimesOut s n x e) h = (h.1, h.2)

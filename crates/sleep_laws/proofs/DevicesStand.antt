@@ -11,6 +11,7 @@ use Rattle.sleep_model.specs.declared.machine.PlatDo.{PlatDo}
 use Rattle.sleep_model.specs.declared.machine.PlatDo.TheVariants as down
 use Rattle.sleep_model.specs.declared.machine.PlatUndo.{PlatUndo}
 use Rattle.sleep_model.specs.declared.machine.PlatUndo.TheVariants as undo
+use Rattle.sleep_model.specs.declared.place.Callback.{Callback}
 use Rattle.sleep_model.specs.declared.place.Stage.{Stage}
 use Rattle.sleep_model.specs.declared.place.Stage.TheVariants as stage
 use Rattle.sleep_model.specs.declared.place.Stand.{Stand}
@@ -19,21 +20,21 @@ use Rattle.sleep_model.specs.declared.word.EventNow.{EventNow}
 use Rattle.phase_table.specs.declared.phase.Phase.{Phase}
 use Rattle.phase_table.specs.declared.phase.Phase.TheVariants as phase
 use Rattle.phase_table.specs.Phases.{mirror, is_down, is_up}
-use Rattle.sleep_model.specs.Devices.{phase_failed, is_async_device, stand_in, waits_below, waits_above}
-use Rattle.sleep_model.specs.Laws.{DependentsFirst, SuppliersFirst, Owed, Restored, EntersDown, NoneStands, may_come_up, is_asleep}
+use Rattle.sleep_model.specs.Devices.{callback, phase_failed, is_async_device, stand_in, waits_below, waits_above}
+use Rattle.sleep_model.specs.Laws.{DependentsFirst, SuppliersFirst, Owed, Restored, EntersDown, NoneStands, may_come_up, is_resuming, is_back, is_back_in_all, is_asleep}
 use Rattle.sleep_model.specs.Legal.{JournalPart}
 use Rattle.sleep_model.specs.Order.{order, below, above, is_among}
 use Rattle.sleep_model.specs.Stands.{stands, stand_at, is_prepared, is_not_down, is_down_or_direct, is_down_in, is_direct_complete, is_not_up}
 use Rattle.sleep_model.specs.Table.{stage_of}
-use Rattle.sleep_laws.proofs.Boards.{at, at_is, three, stands_length, first_none, last_found, first_found}
+use Rattle.sleep_laws.proofs.Boards.{at, at_is, three, mirror_down, stands_length, first_none, last_found, first_found}
 use Rattle.sleep_laws.proofs.Holding.{Moved, Opens, Makes, Beside, Owns, Aside, moved}
 use Rattle.sleep_laws.proofs.Made.{Down, InSuspend, InLate, InNoirq, Up, InResume, InEarly, InResumeNoirq, Made, DeviceMade}
-use Rattle.sleep_laws.proofs.Moods.{Mood, Empty, Fresh, Going, Settled, Halted, Coming, Risen, mood, mood_if, in_down, in_up, allows, when_empty, when_going, when_settled}
+use Rattle.sleep_laws.proofs.Moods.{Mood, Empty, Fresh, Going, Settled, Halted, Coming, Risen, mood, mood_if, in_down, in_up, allows, when_empty, when_going, when_settled, when_risen}
 use Rattle.sleep_laws.proofs.Owing.{DeviceOwed, owed}
 use Rattle.sleep_laws.proofs.Passing.{standing, standing_made}
-use Rattle.sleep_laws.proofs.Reaching.{DevicesAsleep, enters_down}
+use Rattle.sleep_laws.proofs.Entering.{DevicesAsleep, enters_down}
 use Rattle.sleep_laws.proofs.Restoring.{StandsRestored, restored}
-use Rattle.sleep_laws.proofs.Standing.{errs, Fines, Standing, down_is}
+use Rattle.sleep_laws.proofs.Standing.{errs, Fines, InsideIf, Standing, down_is}
 use Rattle.sleep_laws.proofs.Turning.{never}
 use Rattle.sleep_model.proofs.Dependents.{among_first, among_rest}
 
@@ -49,7 +50,7 @@ not_up _ InSuspend = refl
 not_up _ InLate = refl
 not_up _ InNoirq = refl
 
-not_down : (p : Phase) → Up p → is_down p ≡ false
+pub not_down : (p : Phase) → Up p → is_down p ≡ false
 not_down _ InResume = refl
 not_down _ InEarly = refl
 not_down _ InResumeNoirq = refl
@@ -146,35 +147,69 @@ suppliers_first m past e h = suppliers_moved m past e.now e.actor e.kind (moved 
 
 -- ---- what is owed of devices
 
-maker_owed : (m : Machine) (past : List Entry) (now : EventNow) (there : Stage) (k : Kind) → Made m past now there k → DeviceOwed m past k
-maker_owed m past now _ _ (Made.BeginsUp p d u c g n w) =
+-- what a callback of the maker tells of its device
+pub inside_is : (m : Machine) (past : List Entry) (o : Option Callback) (q p : Phase) (d : ℕ) (s : Stand) → Down p → o ≡ Some (record { phase = q; device = d }) → InsideIf m o s p (three m past) → stand_in m past p d ≡ s
+inside_is m past o q p d s i e h = sym (at_is m past p d i) ∙ (subst (λ (c : Option Callback). InsideIf m c s p (three m past)) e h).inside
+
+-- a prepared device that has risen is back
+risen_back : (s : Stand) → when_risen s ≡ true → is_prepared s ≡ true → is_back s ≡ true
+risen_back stand.Prepared h p = refl
+risen_back stand.Failed h p = refl
+risen_back stand.Direct h p = refl
+risen_back stand.Resumed h p = refl
+risen_back stand.Unprepared h p = never p
+risen_back _ h p = never h
+
+back_in : (m : Machine) (past : List Entry) → Fines m past (λ q. Risen) false → (d : ℕ) → is_prepared (stand_in m past phase.Suspend d) ≡ true → (p : Phase) → Down p → is_back (stand_in m past p d) ≡ true
+back_in m past h d e p i = ap is_back (sym (at_is m past p d i)) ∙ risen_back (at (three m past d) p) ((h d).allowed p i) ((h d).alike p i ∙ e)
+
+all_back : (a b c : Bool) → a ≡ true → b ≡ true → c ≡ true → (a && b && c) ≡ true
+all_back true true true e f g = refl
+all_back false b c e f g = never e
+all_back true false c e f g = never f
+all_back true true false e f g = never g
+
+back_in_all : (m : Machine) (past : List Entry) → Fines m past (λ q. Risen) false → (d : ℕ) → is_prepared (stand_in m past phase.Suspend d) ≡ true → is_back_in_all m past d ≡ true
+back_in_all m past h d e =
+    all_back (is_back (stand_in m past phase.Suspend d)) (is_back (stand_in m past phase.Late d)) (is_back (stand_in m past phase.Noirq d))
+    (back_in m past h d e phase.Suspend InSuspend) (back_in m past h d e phase.Late InLate) (back_in m past h d e phase.Noirq InNoirq)
+
+and_left : (a b : Bool) → (a && b) ≡ true → a ≡ true
+and_left true b e = refl
+and_left false b e = never e
+
+maker_owed : (m : Machine) (past : List Entry) (now : EventNow) (there : Stage) (k : Kind) → Made m past now there k → Standing m past (Some there) → DeviceOwed m past k
+maker_owed m past now _ _ (Made.BeginsUp p d u c g n w) h =
     λ q. ap may_come_up (down_is (stand_in m past (mirror p) d) (and_left (is_down_in (stand_in m past (mirror p) d)) (not (is_async_device m d)) (first_found (λ y. is_down_in (stand_in m past (mirror p) y) && not (is_async_device m y)) (order m past) d n).passes))
-  where
-    and_left : (a b : Bool) → (a && b) ≡ true → a ≡ true
-    and_left true b e = refl
-    and_left false b e = never e
-maker_owed m past now _ _ (Made.BeginsDown p d i t e a) = λ q. never (sym (not_up p i) ∙ q)
-maker_owed m past now _ _ (Made.Completes d n) = (last_found (λ y. is_prepared (stand_in m past phase.Suspend y)) (order m past) d n).passes
-maker_owed m past now _ _ _ = tt
+maker_owed m past now _ _ (Made.SchedulesUp p d u c n) h =
+    λ q. and_left (is_down_in (stand_in m past (mirror p) d)) (is_async_device m d) (first_found (λ y. is_down_in (stand_in m past (mirror p) y) && is_async_device m y) (order m past) d n).passes
+maker_owed m past now _ _ (Made.EndsUp p q d r u c) h = λ e. ap is_resuming (inside_is m past (callback past) q (mirror p) d stand.Resuming (mirror_down p u) c h.1)
+maker_owed m past now _ _ (Made.BeginsDown p d i t e a) h = λ q. never (sym (not_up p i) ∙ q)
+maker_owed m past now _ _ (Made.SchedulesDown p d i c f n a) h = λ q. never (sym (not_up p i) ∙ q)
+maker_owed m past now _ _ (Made.EndsDown p q d r i c) h = λ e. never (sym (not_up p i) ∙ e)
+maker_owed m past now _ _ (Made.Completes d n) h = back_in_all m past h.0 d (last_found (λ y. is_prepared (stand_in m past phase.Suspend y)) (order m past) d n).passes
+maker_owed m past now _ _ _ h = tt
 
 own_owed : (m : Machine) (past : List Entry) (now : EventNow) (d : ℕ) (k : Kind) → DeviceMade m past now d k → DeviceOwed m past k
 own_owed m past now d _ (DeviceMade.OwnRises p u a w s n) = λ q. ap may_come_up s
+own_owed m past now d _ (DeviceMade.OwnRose p r u a w s) = λ q. ap is_resuming s
 own_owed m past now d _ (DeviceMade.OwnBegins p i g f t a) = λ q. never (sym (not_up p i) ∙ q)
+own_owed m past now d _ (DeviceMade.OwnEnds p r i a w s) = λ q. never (sym (not_up p i) ∙ q)
 own_owed m past now d _ _ = tt
 
 aside_owed : (m : Machine) (past : List Entry) (k : Kind) {s : Option Stage} → Aside s k → DeviceOwed m past k
 aside_owed m past _ Aside.Frozen = tt
 aside_owed m past _ _ = tt
 
-owed_moved : (m : Machine) (past : List Entry) (now : EventNow) (who : Actor) (k : Kind) → Moved m past now who k → DeviceOwed m past k
-owed_moved m past now _ _ (Opens who n guarded f e) = tt
-owed_moved m past now _ _ (Makes who here there k a e c x) = maker_owed m past now there k x
-owed_moved m past now _ _ (Beside who k a x) = aside_owed m past k x
-owed_moved m past now _ _ (Owns d k x) = own_owed m past now d k x
+owed_moved : (m : Machine) (past : List Entry) (now : EventNow) (who : Actor) (k : Kind) → JournalPart m past → Moved m past now who k → DeviceOwed m past k
+owed_moved m past now _ _ h (Opens who n guarded f e) = tt
+owed_moved m past now _ _ h (Makes who here there k a e c x) = maker_owed m past now there k x (standing_made m past h here there e c)
+owed_moved m past now _ _ h (Beside who k a x) = aside_owed m past k x
+owed_moved m past now _ _ h (Owns d k x) = own_owed m past now d k x
 
 -- a device comes up, or is completed, only where that is owed
 pub owed_device : (m : Machine) (past : List Entry) (e : Entry) → JournalPart m (e ∷ past) → DeviceOwed m past e.kind
-owed_device m past e h = owed_moved m past e.now e.actor e.kind (moved m past e h)
+owed_device m past e h = owed_moved m past e.now e.actor e.kind h.1 (moved m past e h)
 
 -- ---- none is left where an attempt is over
 
@@ -224,10 +259,26 @@ settled_down stand.Direct t h p a = a refl
 settled_down stand.Unprepared t h p a = never p
 settled_down _ t h p a = never h
 
+down_in : (m : Machine) (past : List Entry) → Fines m past (λ q. Settled) true → (x : ℕ) → is_among (order m past) x ≡ true → (q : Phase) → Down q → (is_down_in (stand_in m past q x) || is_direct_complete (stand_in m past phase.Suspend x)) ≡ true
+down_in m past h x o q i =
+    subst (λ (s : Stand). (is_down_in s || is_direct_complete (stand_in m past phase.Suspend x)) ≡ true) (at_is m past q x i)
+    (settled_down (at (three m past x) q) (stand_in m past phase.Suspend x) ((h x).allowed q i) ((h x).alike q i ∙ (h x).prepared o) ((h x).alone q i))
+
+all_or : (a b c d : Bool) → (a || d) ≡ true → (b || d) ≡ true → (c || d) ≡ true → ((a && b && c) || d) ≡ true
+all_or true true true d e f g = refl
+all_or a b c true e f g = by_or (a && b && c)
+  where
+    by_or : (x : Bool) → (x || true) ≡ true
+    by_or true = refl
+    by_or false = refl
+all_or false b c false e f g = never e
+all_or true false c false e f g = never f
+all_or true true false false e f g = never g
+
 all_asleep : (m : Machine) (past : List Entry) → Fines m past (λ q. Settled) true → list_all (is_asleep m past) (order m past) ≡ true
 all_asleep m past h = all_pass (is_asleep m past) (order m past) (λ x o.
-    settled_down (stand_in m past phase.Noirq x) (stand_in m past phase.Suspend x) ((h x).allowed phase.Noirq InNoirq)
-    ((h x).alike phase.Noirq InNoirq ∙ (h x).prepared o) ((h x).alone phase.Noirq InNoirq))
+    all_or (is_down_in (stand_in m past phase.Suspend x)) (is_down_in (stand_in m past phase.Late x)) (is_down_in (stand_in m past phase.Noirq x)) (is_direct_complete (stand_in m past phase.Suspend x))
+    (down_in m past h x o phase.Suspend InSuspend) (down_in m past h x o phase.Late InLate) (down_in m past h x o phase.Noirq InNoirq))
 
 maker_enters : (m : Machine) (past : List Entry) (now : EventNow) (there : Stage) (k : Kind) → Made m past now there k → Standing m past (Some there) → DevicesAsleep m past k
 maker_enters m past now _ _ (Made.Enters s w) h = all_asleep m past h.0

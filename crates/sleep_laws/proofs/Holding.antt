@@ -264,10 +264,15 @@ pub data Aside (s : Option Stage) : Kind → Type 0 where
   AutoOff : Aside s kind.AutoOff
   Jump : Aside s kind.Jump
 
+-- that actor makes the open attempt, which no device does
+pub record IsMaker (past : List Entry) (who : Actor) : Type 0 where
+  pub no_device : is_device who ≡ false
+  pub makes : is_actor who (maker past) ≡ true
+
 -- what an entry is to the attempt: it begins one, where none is open; its maker makes it; it touches none; or a device makes it
 pub data Moved (m : Machine) (past : List Entry) (now : EventNow) : Actor → Kind → Type 0 where
   Opens : (who : Actor) (n : ℕ) (guarded : Option ℕ) → maker past ≡ None → stage_of past ≡ None → Moved m past now who (kind.Attempt n guarded)
-  Makes : (who : Actor) (here there : Stage) (k : Kind) → is_device who ≡ false → stage_of past ≡ Some here → Comes m past here there → Made m past now there k → Moved m past now who k
+  Makes : (who : Actor) (here there : Stage) (k : Kind) → IsMaker past who → stage_of past ≡ Some here → Comes m past here there → Made m past now there k → Moved m past now who k
   Beside : (who : Actor) (k : Kind) → is_device who ≡ false → Aside (stage_of past) k → Moved m past now who k
   Owns : (d : ℕ) (k : Kind) → DeviceMade m past now d k → Moved m past now (actor.Dev d) k
 
@@ -350,7 +355,7 @@ work_moved m past now _ _ (WorkMade.Again o) a h = Beside actor.Auto _ refl Asid
 work_moved m past now _ _ (WorkMade.Closes o) a h = Beside actor.Auto _ refl Aside.AutoOff
 
 pub entry_moved : (m : Machine) (past : List Entry) (now : EventNow) (who : Actor) (k : Kind) → EntryMade m past now who k → Held (maker past) (holder past) (work past) (stage_of past) → Moved m past now who k
-entry_moved m past now who k (ByMaker _ here there _ a e c d) h = Makes who here there k (no_device who (maker past) (stage_of past) a h.2) e c d
+entry_moved m past now who k (ByMaker _ here there _ a e c d) h = Makes who here there k (record { no_device = no_device who (maker past) (stage_of past) a h.2; makes = a }) e c d
 entry_moved m past now _ _ (ByTask i _ a (TaskMade.Freezes s go f)) h = Beside (actor.Script i) kind.Frozen refl Aside.Frozen
 entry_moved m past now _ k (ByTask i _ a (TaskMade.Steps s _ op go e step)) h = step_moved m past now i _ _ op k step h
 entry_moved m past now _ k (ByWork w _ a s o e d) h = work_moved m past now w k d a (subst (λ (x : Work). Held (maker past) (holder past) x (stage_of past)) e h)
@@ -372,7 +377,7 @@ pub record Kept (m : Machine) (I : Option Stage → List Entry → Type 0) : Typ
   pub starts : I None []
   pub opens : (past : List Entry) (time : ℕ) (now : EventNow) (who : Actor) (n : ℕ) (guarded : Option ℕ) → I None past → I (Some stage.Notifies) (entry_of time now who (kind.Attempt n guarded) ∷ past)
   pub comes : (past : List Entry) (here there : Stage) → Comes m past here there → I (Some here) past → I (Some there) past
-  pub makes : (past : List Entry) (time : ℕ) (now : EventNow) (who : Actor) (there : Stage) (k : Kind) → is_device who ≡ false → Made m past now there k → I (Some there) past → I (stage_after k (Some there)) (entry_of time now who k ∷ past)
+  pub makes : (past : List Entry) (time : ℕ) (now : EventNow) (who : Actor) (there : Stage) (k : Kind) → IsMaker past who → Made m past now there k → I (Some there) past → I (stage_after k (Some there)) (entry_of time now who k ∷ past)
   pub beside : (past : List Entry) (time : ℕ) (now : EventNow) (who : Actor) (k : Kind) (s : Option Stage) → EntryMade m past now who k → is_device who ≡ false → Aside s k → I s past → I s (entry_of time now who k ∷ past)
   pub owns : (past : List Entry) (time : ℕ) (now : EventNow) (d : ℕ) (k : Kind) (s : Option Stage) → DeviceMade m past now d k → I s past → I s (entry_of time now (actor.Dev d) k ∷ past)
 

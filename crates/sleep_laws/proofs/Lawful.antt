@@ -7,6 +7,7 @@ use Rattle.sleep_model.specs.Legal.{JournalPart, IsLegal}
 use Rattle.sleep_model.specs.Parts.{journal}
 use Rattle.sleep_laws.proofs.Answering.{answers_failure, undisturbed_enters}
 use Rattle.sleep_laws.proofs.DevicesStand.{dependents_first, suppliers_first, all_restored, all_owed, all_down}
+use Rattle.sleep_laws.proofs.Once.{taken_once, not_owed_already}
 use Rattle.sleep_laws.proofs.Owing.{found_pending}
 use Rattle.sleep_laws.proofs.Stepping.{in_order}
 
@@ -17,6 +18,8 @@ laws_at m past e h =
       suppliers_first = suppliers_first m past e h;
       restored = all_restored m past e h;
       owed = all_owed m past e h;
+      taken_once = taken_once m past e h;
+      not_owed_already = not_owed_already m past e h;
       enters_down = all_down m past e h;
       undisturbed_enters = undisturbed_enters m past e h;
       answers_failure = answers_failure m past e h;

@@ -14,7 +14,7 @@ use Rattle.phase_table.specs.declared.phase.Phase.TheVariants as phase
 use Rattle.sleep_model.specs.Devices.{is_device}
 use Rattle.sleep_model.specs.Notifiers.{irqs_off, owes_platform}
 use Rattle.sleep_model.specs.Table.{stage_after}
-use Rattle.sleep_laws.proofs.Holding.{Aside, Kept, entry_of}
+use Rattle.sleep_laws.proofs.Holding.{Aside, Kept, entry_of, IsMaker}
 use Rattle.sleep_laws.proofs.Made.{Made, Comes, DeviceMade, EntryMade, PastNotifiers}
 
 -- interrupts are off at that stage (arch_suspend_disable_irqs)
@@ -78,7 +78,7 @@ exact_comes : (m : Machine) (past : List Entry) (here there : Stage) → Comes m
 exact_comes m past _ _ (PastNotifiers e) h = h
 exact_comes m past _ _ _ h = h
 
-exact_makes : (m : Machine) (past : List Entry) (time : ℕ) (now : EventNow) (who : Actor) (there : Stage) (k : Kind) → is_device who ≡ false → Made m past now there k → Exact (Some there) past → Exact (stage_after k (Some there)) (entry_of time now who k ∷ past)
+exact_makes : (m : Machine) (past : List Entry) (time : ℕ) (now : EventNow) (who : Actor) (there : Stage) (k : Kind) → IsMaker past who → Made m past now there k → Exact (Some there) past → Exact (stage_after k (Some there)) (entry_of time now who k ∷ past)
 exact_makes m past time now who _ _ a Made.PlatformBegins h = (h.0, refl, h.2, h.3)
 exact_makes m past time now who _ _ a (Made.BeginFails r) h = (h.0, refl, h.2, h.3)
 exact_makes m past time now who _ _ a Made.PlatformPrepares h = (h.0, h.1, refl, h.3)

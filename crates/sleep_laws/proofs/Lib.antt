@@ -1,9 +1,11 @@
 pub mod Activity
 pub mod Answering
+pub mod Asking
 pub mod Boards
 pub mod Closing
 pub mod DevicesStand
 pub mod Ending
+pub mod Entering
 pub mod Few
 pub mod Flags
 pub mod Guarding
@@ -16,6 +18,7 @@ pub mod Made
 pub mod Making
 pub mod MakingOwn
 pub mod Moods
+pub mod Once
 pub mod Operations
 pub mod Owing
 pub mod Passing

@@ -1,5 +1,5 @@
 -- The links at each place of a legal journal are such as may be added in turn.
-use Rattle.std.proofs.Common.{◌≡◌, ◌<◌, ◌∙◌, ℕ, Bool, true, false, List, [], ◌∷◌, length, map, reverse, Option, Some, None, refl, sym, subst}
+use Rattle.std.proofs.Common.{◌≡◌, ◌<◌, ◌∙◌, ℕ, Bool, true, false, List, [], ◌∷◌, length, reverse, Option, Some, None, refl, sym, subst}
 use Rattle.std.proofs.lemmas.List.{length-map}
 use Rattle.sleep_base.specs.declared.errno.Errno.{Errno}
 use Rattle.sleep_base.specs.declared.errno.Errno.TheVariants.{EBUSY, EINVAL}
@@ -19,7 +19,6 @@ use Rattle.sleep_model.specs.Accepted.{IsOp, AreScripts}
 use Rattle.sleep_model.specs.Legal.{JournalPart}
 use Rattle.sleep_model.specs.Links.{AreLinks, is_linked, is_dependent, add_answer, link_add_due}
 use Rattle.sleep_model.specs.Order.{links_after, links_at, parents_of, with_state}
-use Rattle.sleep_model.specs.Path.{maker}
 use Rattle.sleep_model.proofs.Changing.{links_kept, same_supplier, same_consumer}
 use Rattle.sleep_laws.proofs.Made.{Made, StepMade, TaskMade, WorkMade, DeviceMade, EntryMade, ByMaker, ByTask, ByWork, ByDevice, ByTime}
 use Rattle.sleep_laws.proofs.MakingOwn.{entry_made}

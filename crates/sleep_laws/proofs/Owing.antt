@@ -1,5 +1,5 @@
 -- An undo stands only for what is owed, and a test that found a wakeup only where one is pending.
-use Rattle.std.proofs.Common.{◌≡◌, ℕ, true, List, ◌∷◌, Option, Some, length, refl, sym}
+use Rattle.std.proofs.Common.{◌≡◌, ℕ, true, List, ◌∷◌, Option, Some, is_some, length, refl, sym, ap}
 use Rattle.std.proofs.lemmas.Bool.{true≢false}
 use Rattle.sleep_base.specs.declared.errno.Errno.TheVariants.{EINVAL}
 use Rattle.sleep_model.specs.declared.entry.Actor.{Actor}
@@ -9,27 +9,32 @@ use Rattle.sleep_model.specs.declared.entry.Kind.TheVariants as kind
 use Rattle.sleep_model.specs.declared.machine.Machine.{Machine}
 use Rattle.sleep_model.specs.declared.place.Stage.{Stage}
 use Rattle.sleep_model.specs.declared.word.EventNow.{EventNow}
-use Rattle.phase_table.specs.declared.phase.Phase.TheVariants as phase
 use Rattle.phase_table.specs.Phases.{is_up, mirror}
 use Rattle.sleep_model.specs.Devices.{stand_in}
 use Rattle.sleep_model.specs.Guard.{count_part}
-use Rattle.sleep_model.specs.Laws.{Owed, FoundPending, may_come_up}
+use Rattle.sleep_model.specs.Laws.{Owed, FoundPending, may_come_up, is_resuming, is_back_in_all}
 use Rattle.sleep_model.specs.Legal.{JournalPart}
 use Rattle.sleep_model.specs.Notifiers.{told, stopped, cpus_off, call_order, syscore_parts, other_cpus}
-use Rattle.sleep_model.specs.Stands.{is_prepared}
+use Rattle.sleep_model.specs.Stands.{is_down_in}
 use Rattle.sleep_model.specs.Walk.{is_so}
 use Rattle.sleep_laws.proofs.Flags.{first_passes}
 use Rattle.sleep_laws.proofs.Holding.{Aside, Moved, Opens, Makes, Beside, Owns, at_made, moved}
 use Rattle.sleep_laws.proofs.Levels.{Exact, exact_kept}
 use Rattle.sleep_laws.proofs.Made.{Made, DeviceMade}
 
--- the part of the law that is on devices: one comes up only if it may, and is completed only if it is prepared
+-- the part of the law that is on devices: one comes up only if it may, and is completed only where no other undo is owed to it
 abbrev pub DeviceOwed : Machine → List Entry → Kind → Type 0
+DeviceOwed m past (kind.Schedule p d) = is_up p ≡ true → is_down_in (stand_in m past (mirror p) d) ≡ true
 DeviceOwed m past (kind.Begin p d) = is_up p ≡ true → may_come_up (stand_in m past (mirror p) d) ≡ true
-DeviceOwed m past (kind.Complete d) = is_prepared (stand_in m past phase.Suspend d) ≡ true
+DeviceOwed m past (kind.End p d r) = is_up p ≡ true → is_resuming (stand_in m past (mirror p) d) ≡ true
+DeviceOwed m past (kind.Complete d) = is_back_in_all m past d ≡ true
 DeviceOwed m past _ = Unit {0}
 
 owed_made : (m : Machine) (past : List Entry) (now : EventNow) (there : Stage) (k : Kind) → Made m past now there k → Exact (Some there) past → DeviceOwed m past k → Owed m past k
+owed_made m past now _ _ (Made.SchedulesDown p x w c f n a) h d = d
+owed_made m past now _ _ (Made.SchedulesUp p x w c n) h d = d
+owed_made m past now _ _ (Made.EndsDown p q x r w c) h d = d
+owed_made m past now _ _ (Made.EndsUp p q x r w c) h d = d
 owed_made m past now _ _ (Made.BeginsDown p x w at t f) h d = d
 owed_made m past now _ _ (Made.BeginsUp p x w c g n a) h d = d
 owed_made m past now _ _ (Made.Completes x e) h d = d
@@ -42,11 +47,14 @@ owed_made m past now _ _ Made.PlatformWakes h d = h.3
 owed_made m past now _ _ Made.PlatformFinishes h d = h.2
 owed_made m past now _ _ Made.PlatformRecovers h d = refl
 owed_made m past now _ _ Made.PlatformEnds h d = h.1
+owed_made m past now _ _ (Made.Wakes s by_event e) h d = ap is_some e
 owed_made m past now _ _ _ h d = tt
 
 owed_own : (m : Machine) (past : List Entry) (now : EventNow) (x : ℕ) (k : Kind) → DeviceMade m past now x k → DeviceOwed m past k → Owed m past k
 owed_own m past now x _ (DeviceMade.OwnBegins p w g f t e) d = d
 owed_own m past now x _ (DeviceMade.OwnRises p w b a s e) d = d
+owed_own m past now x _ (DeviceMade.OwnEnds p r w b a s) d = d
+owed_own m past now x _ (DeviceMade.OwnRose p r w b a s) d = d
 owed_own m past now x _ _ d = tt
 
 owed_aside : (m : Machine) (past : List Entry) (k : Kind) {s : Option Stage} → Aside s k → Owed m past k

@@ -322,7 +322,7 @@ stands_kept m = record {
   starts = stands_starts m;
   opens = λ past time now who n guarded h. (else_fines m past (λ q. Empty) (λ q. Empty) false false false h.0 (λ x q i a. a) (λ x. tt), h.1);
   comes = λ past here there c h. stands_comes m past here there c h;
-  makes = λ past time now who there k task x h. maker_stands m past time now who task there k x h;
+  makes = λ past time now who there k task x h. maker_stands m past time now who task.no_device there k x h;
   beside = λ past time now who k s x task a h. stands_beside m past time now who k s a h;
   owns = λ past time now d k s x h. device_stands m past time now d s k h x;
 }

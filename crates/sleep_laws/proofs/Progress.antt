@@ -1,5 +1,5 @@
 -- Sources with an event in progress leave the word with one.
-use Rattle.std.proofs.Common.{◌≡◌, ◌≤◌, ◌<◌, ◌+◌, ℕ, zero, suc, Bool, true, false, List, [], ◌∷◌, Option, None, refl, ap, is_some, arith}
+use Rattle.std.proofs.Common.{◌≡◌, ◌≤◌, ◌<◌, ℕ, zero, suc, true, false, List, [], ◌∷◌, Option, None, refl, ap, is_some, arith}
 use Rattle.sleep_model.specs.declared.entry.Actor.{Actor}
 use Rattle.sleep_model.specs.declared.entry.Entry.{Entry}
 use Rattle.sleep_model.specs.declared.entry.Kind.{Kind}
@@ -8,7 +8,7 @@ use Rattle.sleep_model.specs.declared.word.EventNow.{EventNow}
 use Rattle.sleep_model.specs.declared.word.WordKind.TheVariants as step
 use Rattle.sleep_model.specs.Legal.{SourcePart, OwnStep}
 use Rattle.sleep_model.specs.Numbers.{numbers}
-use Rattle.sleep_model.specs.Parts.{Moves, part_of}
+use Rattle.sleep_model.specs.Parts.{part_of}
 use Rattle.sleep_model.specs.Sources.{history, since, since_after, owed}
 use Rattle.sleep_laws.proofs.Activity.{AllRun, runs_step, active, active_same, active_more, active_some, active_less}
 use Rattle.sleep_laws.proofs.Guarding.{since_of, finish_runs, since_same, moves_other, moves_own}

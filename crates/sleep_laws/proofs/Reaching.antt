@@ -20,21 +20,17 @@ use Rattle.sleep_model.specs.declared.place.Stage.TheVariants as stage
 use Rattle.sleep_model.specs.declared.word.EventNow.{EventNow}
 use Rattle.sleep_model.specs.Devices.{is_device}
 use Rattle.sleep_model.specs.Freezer.{is_in, is_task, freezings, freezings_after, freezing_at, all_asked, put_frozen, keeps_waiting, left_from, left}
-use Rattle.sleep_model.specs.Laws.{EntersDown, is_asleep}
-use Rattle.sleep_model.specs.Legal.{JournalPart}
 use Rattle.sleep_model.specs.Notifiers.{cpus_off, stopped, other_cpus, syscore_parts}
-use Rattle.sleep_model.specs.Order.{order}
 use Rattle.sleep_model.specs.Seats.{SeatPart, Exits, Stays, seats, seats_after, seat_after, seat_at, seat_part}
 use Rattle.sleep_model.specs.Table.{stage_after}
 use Rattle.sleep_model.specs.Walk.{is_so}
 use Rattle.sleep_laws.proofs.Flags.{first_none, last_none, all_twice}
-use Rattle.sleep_laws.proofs.Holding.{Aside, Moved, Opens, Makes, Beside, Owns, Kept, at_made, entry_of, moved}
-use Rattle.sleep_laws.proofs.Levels.{Exact, exact_kept}
+use Rattle.sleep_laws.proofs.Holding.{Aside, Kept, entry_of, IsMaker}
 use Rattle.sleep_laws.proofs.Made.{Made, Comes, DeviceMade, EntryMade, AtOnce, PastNotifiers, PastCpus, PastParts, PastPartsUp, PastCpusUp, PastPosts}
 
 -- ---- tasks that are left stay none
 
-cons≢nil : (x : ℕ) (xs : List ℕ) → x ∷ xs ≡ [] → ⊥
+pub cons≢nil : (x : ℕ) (xs : List ℕ) → x ∷ xs ≡ [] → ⊥
 cons≢nil x xs e = subst IsSome e tt
   where
     IsSome : List ℕ → Type 0
@@ -128,7 +124,7 @@ if_step P Q b false e f h = tt
 if_step P Q true true e f h = f h
 if_step P Q false true e f h = absurd (true≢false (sym e))
 
-if_same : (P Q : Type 0) (b : Bool) → (P → Q) → IfSo b P → IfSo b Q
+pub if_same : (P Q : Type 0) (b : Bool) → (P → Q) → IfSo b P → IfSo b Q
 if_same P Q true f h = f h
 if_same P Q false f h = tt
 
@@ -198,10 +194,10 @@ left_step g m past who k e h = left_kept g m.actors (freezings m.actors past) (s
 left_then : (g : Group) (m : Machine) (past : List Entry) (who : Actor) (k : Kind) (b c : Bool) → moves_tasks k ≡ false → (not c || b) ≡ true → IfSo b (left m g past ≡ []) → IfSo c (LeftAfter g m past who k)
 left_then g m past who k b c e f h = if_step (left m g past ≡ []) (LeftAfter g m past who k) b c f (left_step g m past who k e) h
 
-same_then : (P : Type 0) (b c : Bool) → (not c || b) ≡ true → IfSo b P → IfSo c P
+pub same_then : (P : Type 0) (b c : Bool) → (not c || b) ≡ true → IfSo b P → IfSo c P
 same_then P b c e h = if_step P P b c e (λ x. x) h
 
-reached_makes : (m : Machine) (past : List Entry) (time : ℕ) (now : EventNow) (who : Actor) (there : Stage) (k : Kind) → is_device who ≡ false → Made m past now there k → IsReached m (Some there) past → IsReached m (stage_after k (Some there)) (entry_of time now who k ∷ past)
+reached_makes : (m : Machine) (past : List Entry) (time : ℕ) (now : EventNow) (who : Actor) (there : Stage) (k : Kind) → IsMaker past who → Made m past now there k → IsReached m (Some there) past → IsReached m (stage_after k (Some there)) (entry_of time now who k ∷ past)
 reached_makes m past time now who _ _ a (Made.FreezesUser e) h = (tt, tt, tt, tt)
 reached_makes m past time now who _ _ a (Made.FreezesKernel e) h =
     let fs : List Freezing = freezings m.actors past in
@@ -242,33 +238,3 @@ reached_owns m past time now d _ s _ h = h
 
 pub reached_kept : (m : Machine) → Kept m (IsReached m)
 reached_kept m = record { starts = (tt, tt, tt, tt); opens = λ past time now who n guarded h. (tt, tt, tt, tt); comes = reached_comes m; makes = reached_makes m; beside = reached_beside m; owns = reached_owns m }
-
--- ---- the entering
-
--- where the maker enters, all that sleep wants down is down, if the devices are
-abbrev pub DevicesAsleep : Machine → List Entry → Kind → Type 0
-DevicesAsleep m past (kind.Enter false) = list_all (is_asleep m past) (order m past) ≡ true
-DevicesAsleep m past _ = Unit {0}
-
-enters_made : (m : Machine) (past : List Entry) (now : EventNow) (there : Stage) (k : Kind) → Made m past now there k → IsReached m (Some there) past → Exact (Some there) past → DevicesAsleep m past k → EntersDown m past k
-enters_made m past now _ _ (Made.Enters e f) r x d = record { devices = d; user_tasks = r.0; kernel_tasks = r.1; cpus = r.2; irqs = x.0; syscore = r.3 }
-enters_made m past now _ _ (Made.EntersNot e f) r x d = tt
-enters_made m past now _ _ _ r x d = tt
-
-enters_aside : (m : Machine) (past : List Entry) (k : Kind) {s : Option Stage} → Aside s k → EntersDown m past k
-enters_aside m past _ Aside.Frozen = tt
-enters_aside m past _ _ = tt
-
-enters_own : (m : Machine) (past : List Entry) (now : EventNow) (y : ℕ) (k : Kind) → DeviceMade m past now y k → EntersDown m past k
-enters_own m past now y _ (DeviceMade.OwnFails p r w g f) = tt
-enters_own m past now y _ _ = tt
-
-enters_moved : (m : Machine) (past : List Entry) (now : EventNow) (who : Actor) (k : Kind) → JournalPart m past → Moved m past now who k → DevicesAsleep m past k → EntersDown m past k
-enters_moved m past now who _ h (Opens _ n guarded f e) d = tt
-enters_moved m past now who k h (Makes _ here there _ a e c x) d = enters_made m past now there k x (at_made m (IsReached m) (reached_kept m) past h here there e c) (at_made m Exact (exact_kept m) past h here there e c) d
-enters_moved m past now who k h (Beside _ _ a x) d = enters_aside m past k x
-enters_moved m past now _ k h (Owns y _ x) d = enters_own m past now y k x
-
--- the machine enters only where all is down, where the devices are
-pub enters_down : (m : Machine) (past : List Entry) (e : Entry) → JournalPart m (e ∷ past) → DevicesAsleep m past e.kind → EntersDown m past e.kind
-enters_down m past e h d = enters_moved m past e.now e.actor e.kind h.1 (moved m past e h) d

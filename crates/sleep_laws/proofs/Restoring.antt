@@ -1,5 +1,5 @@
 -- What an attempt stopped is started again, by stages.
-use Rattle.std.proofs.Common.{◌≡◌, ◌∙◌, ℕ, zero, suc, Bool, true, false, List, [], ◌∷◌, length, length-set, map, replicate, Option, Some, None, refl, sym, ap, arith, slice_set}
+use Rattle.std.proofs.Common.{◌≡◌, ◌∙◌, ℕ, zero, suc, Bool, true, false, List, [], ◌∷◌, length, length-set, map, replicate, Option, Some, None, is_some, refl, sym, ap, arith, slice_set}
 use Rattle.std.proofs.lemmas.Bool.{true≢false}
 use Rattle.sleep_model.specs.declared.entry.Actor.{Actor}
 use Rattle.sleep_model.specs.declared.entry.Actor.TheVariants as actor
@@ -28,8 +28,9 @@ use Rattle.sleep_model.specs.Notifiers.{told, cpus_off, stopped, other_cpus}
 use Rattle.sleep_model.specs.Order.{is_among}
 use Rattle.sleep_model.specs.Table.{stage_of, stage_after}
 use Rattle.sleep_model.specs.Walk.{is_so}
+use Rattle.sleep_laws.proofs.Answering.{Side, side_kept}
 use Rattle.sleep_laws.proofs.Flags.{first_among, run_least, set_other, none_told, none_stopped, none_off}
-use Rattle.sleep_laws.proofs.Holding.{Aside, Moved, Opens, Makes, Beside, Owns, moved, Kept, at_made, entry_of}
+use Rattle.sleep_laws.proofs.Holding.{Aside, Moved, Opens, Makes, Beside, Owns, moved, Kept, at_made, entry_of, IsMaker}
 use Rattle.sleep_laws.proofs.Levels.{Exact, exact_kept}
 use Rattle.sleep_laws.proofs.Made.{Made, Comes, DeviceMade, TaskMade, StepMade, WorkMade, EntryMade, ByTask, ByMaker, ByWork, ByDevice, AtOnce, PastNotifiers, PastCpus, PastParts, PastPartsUp, PastCpusUp, PastPosts}
 
@@ -153,7 +154,7 @@ undone_comes m past _ _ (PastPosts e) h = (none_told m past e, h.1, h.2, h.3, h.
 other_cpu : (m : Machine) (past : List Entry) (k : ℕ) → is_among (other_cpus m) k ≡ true → (b : Bool) → is_so (cpus_off m.cpus past) 0 ≡ false → is_so (slice_set (cpus_off m.cpus past) k b) 0 ≡ false
 other_cpu m past k e b z = set_other (cpus_off m.cpus past) k b (run_least 1 _ k e) ∙ z
 
-undone_makes : (m : Machine) (past : List Entry) (time : ℕ) (now : EventNow) (who : Actor) (there : Stage) (k : Kind) → is_device who ≡ false → Made m past now there k → IsUndone m (Some there) past → IsUndone m (stage_after k (Some there)) (entry_of time now who k ∷ past)
+undone_makes : (m : Machine) (past : List Entry) (time : ℕ) (now : EventNow) (who : Actor) (there : Stage) (k : Kind) → IsMaker past who → Made m past now there k → IsUndone m (Some there) past → IsUndone m (stage_after k (Some there)) (entry_of time now who k ∷ past)
 undone_makes m past time now who _ _ a (Made.SuspendFails r x) h = (h.0, h.1, h.2, h.3, x.free, h.5)
 undone_makes m past time now who _ _ a (Made.SuspendEnds x) h = (h.0, h.1, h.2, h.3, x.free, h.5)
 undone_makes m past time now who _ _ a (Made.LateFails r x) h = h
@@ -213,7 +214,7 @@ pub nothing_owed : (m : Machine) (past : List Entry) → JournalPart m past → 
 nothing_owed m past h here e c suspend late noirq =
     let u : IsUndone m (Some stage.Ends) past = at_made m (IsUndone m) (undone_kept m) past h here stage.Ends e c in
     let x : Exact (Some stage.Ends) past = at_made m Exact (exact_kept m) past h here stage.Ends e c in
-    record { notifiers = u.0; tasks = u.3; begun = x.1; prepared = x.2; prepared_late = x.3; suspend = suspend; late = late; noirq = noirq; callbacks = u.4; cpus = u.1; irqs = x.0; syscore = u.2 }
+    record { notifiers = u.0; tasks = u.3; begun = x.1; prepared = x.2; prepared_late = x.3; suspend = suspend; late = late; noirq = noirq; callbacks = u.4; cpus = u.1; irqs = x.0; syscore = u.2; awake = ap is_some (at_made m Side (side_kept m) past h here stage.Ends e c).1 }
 
 -- ---- the law
 

@@ -349,7 +349,7 @@ underway_kept m =
       starts = (s.starts, tt);
       opens = λ past time now who n guarded h. (s.opens past time now who n guarded h.0, tt);
       comes = λ past here there c h. (s.comes past here there c h.0, walks_comes m past here there c h.1);
-      makes = λ past time now who there k task x h. (s.makes past time now who there k task x h.0, maker_walks m past time now who task there k x h.0 h.1);
+      makes = λ past time now who there k task x h. (s.makes past time now who there k task x h.0, maker_walks m past time now who task.no_device there k x h.0 h.1);
       beside = λ past time now who k st x task a h. (s.beside past time now who k st x task a h.0, walks_beside m past time now who k st a h.1);
       owns = λ past time now d k st x h. (s.owns past time now d k st x h.0, device_walks m past time now d k st x h.1);
     }

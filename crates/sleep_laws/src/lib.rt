@@ -10,7 +10,8 @@ pub use ends::{attempts_end_closed, attempts_rest_closed};
 pub use guarded::guarded_sleep;
 pub use laws::{
     all_laws, all_laws_of_logs, attempts_answer_their_failure, dependents_first,
-    enters_only_with_all_down, found_tests_are_true, restored, steps_once_and_in_order,
-    suppliers_first, undisturbed_attempts_enter, undo_only_what_is_owed,
+    devices_are_taken_once, enters_only_with_all_down, found_tests_are_true, nothing_is_owed_twice,
+    restored, steps_once_and_in_order, suppliers_first, undisturbed_attempts_enter,
+    undo_only_what_is_owed,
 };
 pub use links::{links_stay_through_attempts, order_keeps_dependents_behind};

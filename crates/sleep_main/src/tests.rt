@@ -1,6 +1,6 @@
 use crate::rows::{
-    attempts, broken, devices, diamonds, events, failures, freezer, generated, laptop, links, many,
-    sources, sysfs,
+    apart, attempts, autosleep, broken, counts, devices, diamonds, failures, freezing, generated,
+    laptop, links, many, timers,
 };
 use crate::top::run_words;
 use sleep_base::{MemSink, MemSource};
@@ -108,53 +108,25 @@ fn expect_each<R: Wait + Abort>(
     Ok(())
 }
 
-/// Attempts that sleep: a child suspends before its parent, and resumes behind it.
+/// Each worked machine gives its worked log: attempts that sleep, that a wakeup ends or that fail, links that change,
+/// tasks that freeze or wait, sources with timers, and writes to the files of sysfs.
 #[test]
-fn attempts_go_down_and_come_up(rt: HostRuntime) -> Result<(), Fail> {
-    expect_each(&rt, rt.alloc(), &attempts::MACHINES)
-}
-
-/// Events between the steps that lead to an attempt, in its middle and while the machine sleeps: whichever test
-/// comes first finds them.
-#[test]
-fn events_end_attempts(rt: HostRuntime) -> Result<(), Fail> {
-    expect_each(&rt, rt.alloc(), &events::MACHINES)
-}
-
-/// A failure at each place of an attempt: what was done before it is undone, and no more.
-#[test]
-fn failures_turn_back(rt: HostRuntime) -> Result<(), Fail> {
-    expect_each(&rt, rt.alloc(), &failures::MACHINES)
-}
-
-/// Devices with suppliers, asynchronous ones, and some that are direct-complete.
-#[test]
-fn devices_keep_their_order(rt: HostRuntime) -> Result<(), Fail> {
-    expect_each(&rt, rt.alloc(), &devices::MACHINES)
-}
-
-/// Links that are dormant, and links that tasks add or set: between attempts alone.
-#[test]
-fn links_change_between_attempts(rt: HostRuntime) -> Result<(), Fail> {
-    expect_each(&rt, rt.alloc(), &links::MACHINES)
-}
-
-/// Tasks that freeze, and that do not in time; waits that the freezer interrupts, and waits without an end.
-#[test]
-fn tasks_freeze(rt: HostRuntime) -> Result<(), Fail> {
-    expect_each(&rt, rt.alloc(), &freezer::MACHINES)
-}
-
-/// Events with a time, and a read that waits for the end of one.
-#[test]
-fn sources_report(rt: HostRuntime) -> Result<(), Fail> {
-    expect_each(&rt, rt.alloc(), &sources::MACHINES)
-}
-
-/// What is written to state, wakeup_count and autosleep, and the work of autosleep.
-#[test]
-fn texts_are_answered(rt: HostRuntime) -> Result<(), Fail> {
-    expect_each(&rt, rt.alloc(), &sysfs::MACHINES)
+fn worked_machines_write_their_logs(rt: HostRuntime) -> Result<(), Fail> {
+    let alloc = rt.alloc();
+    for machines in [
+        attempts::MACHINES.as_slice(),
+        failures::MACHINES.as_slice(),
+        devices::MACHINES.as_slice(),
+        links::MACHINES.as_slice(),
+        freezing::MACHINES.as_slice(),
+        counts::MACHINES.as_slice(),
+        timers::MACHINES.as_slice(),
+        autosleep::MACHINES.as_slice(),
+        apart::MACHINES.as_slice(),
+    ] {
+        expect_each(&rt, alloc, machines)?;
+    }
+    Ok(())
 }
 
 /// A laptop that its keys wake twice, and its alarm once.
@@ -170,9 +142,9 @@ fn a_laptop_sleeps_three_times(rt: HostRuntime) -> Result<(), Fail> {
 #[test]
 fn full_sources_are_told(rt: HostRuntime) -> Result<(), Fail> {
     for (file, said) in [
-        (sources::FULL, "source full: a\n"),
-        (sources::SECOND_FULL, "source full: lan\n"),
-        (sources::AUTOSLEEP_FULL, "source full: autosleep\n"),
+        (apart::FULL, "source full: a\n"),
+        (apart::SECOND_FULL, "source full: lan\n"),
+        (apart::AUTOSLEEP_FULL, "source full: autosleep\n"),
     ] {
         expect(&rt, rt.alloc(), file, 7, "", said)?;
     }
@@ -187,8 +159,8 @@ fn a_source_with_room_is_not_full(rt: HostRuntime) -> Result<(), Fail> {
     for _ in 0..30_000u32 {
         log.push_str("0 0/0/0 task:w relax a\n")?;
     }
-    log.push_str(sources::RELAXED_END)?;
-    expect(&rt, alloc, sources::RELAXED, 0, log.as_str(), "")
+    log.push_str(apart::RELAXED_END)?;
+    expect(&rt, alloc, apart::RELAXED, 0, log.as_str(), "")
 }
 
 /// 65,536 events, after which 16 bits would show the saved count again: the attempt is given up, and a save of their
@@ -262,7 +234,7 @@ fn other_words_are_refused(rt: HostRuntime) -> Result<(), Fail> {
 
 /// Runs the program with words of no form over a machine file, of which nothing is read.
 fn refuse<R: Wait + Abort>(rt: &R, alloc: Global, words: &[&str]) -> Result<(), Fail> {
-    let bytes = attempts::SMALL.as_bytes().to_vec(alloc)?;
+    let bytes = attempts::PARENT_AND_CHILD.as_bytes().to_vec(alloc)?;
     let count = bytes.len();
     let given = given(rt, alloc, words, bytes, &GOOD)?;
     assert_eq!(rt; given.status, 2);
@@ -275,11 +247,11 @@ fn refuse<R: Wait + Abort>(rt: &R, alloc: Global, words: &[&str]) -> Result<(), 
 /// A number of workers in one word with its option.
 #[test]
 fn a_run_is_asked_in_two_words(rt: HostRuntime) -> Result<(), Fail> {
-    let bytes = attempts::SMALL.as_bytes().to_vec(rt.alloc())?;
+    let bytes = attempts::PARENT_AND_CHILD.as_bytes().to_vec(rt.alloc())?;
     let words = ["sleep", "run", "--workers=1"];
     let given = given(&rt, rt.alloc(), &words, bytes, &GOOD)?;
     assert_eq!(rt; given.status, 0);
-    assert!(rt; given.out.as_slice() == attempts::SMALL_LOG.as_bytes());
+    assert!(rt; given.out.as_slice() == attempts::PARENT_AND_CHILD_LOG.as_bytes());
     Ok(())
 }
 
@@ -298,16 +270,16 @@ fn too_long_an_input_is_refused(rt: HostRuntime) -> Result<(), Fail> {
 #[test]
 fn a_failing_read_is_told(rt: HostRuntime) -> Result<(), Fail> {
     for chunk in [1usize, 64] {
-        let calls = attempts::SMALL.len() / chunk + 2;
+        let calls = attempts::PARENT_AND_CHILD.len() / chunk + 2;
         for call in 1..=calls as u64 {
             let streams = Streams {
                 read_chunk: chunk,
                 read_fails: &[call],
                 ..GOOD
             };
-            let bytes = attempts::SMALL.as_bytes().to_vec(rt.alloc())?;
+            let bytes = attempts::PARENT_AND_CHILD.as_bytes().to_vec(rt.alloc())?;
             let given = given(&rt, rt.alloc(), &RUN, bytes, &streams)?;
-            let comes = call as usize <= attempts::SMALL.len().div_ceil(chunk) + 1;
+            let comes = call as usize <= attempts::PARENT_AND_CHILD.len().div_ceil(chunk) + 1;
             assert_eq!(rt;
                 given.status,
                 if comes { 4 } else { 0 },
@@ -324,21 +296,21 @@ fn a_failing_read_is_told(rt: HostRuntime) -> Result<(), Fail> {
 /// A write that fails, at each call in turn: what came before it stands.
 #[test]
 fn a_failing_write_is_told(rt: HostRuntime) -> Result<(), Fail> {
-    let calls = attempts::SMALL_LOG.len().div_ceil(100);
+    let calls = attempts::PARENT_AND_CHILD_LOG.len().div_ceil(100);
     for call in 1..=calls {
         let streams = Streams {
             write_chunk: 100,
             write_fails: &[call as u64],
             ..GOOD
         };
-        let bytes = attempts::SMALL.as_bytes().to_vec(rt.alloc())?;
+        let bytes = attempts::PARENT_AND_CHILD.as_bytes().to_vec(rt.alloc())?;
         let given = given(&rt, rt.alloc(), &RUN, bytes, &streams)?;
         assert_eq!(rt; given.status, 5, "call {call}");
         let front = (call - 1)
             .saturating_mul(100)
-            .min(attempts::SMALL_LOG.len());
+            .min(attempts::PARENT_AND_CHILD_LOG.len());
         assert!(rt;
-            given.out.as_slice() == &attempts::SMALL_LOG.as_bytes()[..front],
+            given.out.as_slice() == &attempts::PARENT_AND_CHILD_LOG.as_bytes()[..front],
             "call {call}"
         );
         assert!(rt; given.err.as_slice() == b"write fault\n".as_slice());
@@ -353,7 +325,14 @@ fn a_failing_error_stream_changes_nothing(rt: HostRuntime) -> Result<(), Fail> {
         error_fails: &[1],
         ..GOOD
     };
-    for (file, status, out) in [(attempts::SMALL, 0, attempts::SMALL_LOG), ("{}", 3, "")] {
+    for (file, status, out) in [
+        (
+            attempts::PARENT_AND_CHILD,
+            0,
+            attempts::PARENT_AND_CHILD_LOG,
+        ),
+        ("{}", 3, ""),
+    ] {
         let bytes = file.as_bytes().to_vec(rt.alloc())?;
         let given = given(&rt, rt.alloc(), &RUN, bytes, &streams)?;
         assert_eq!(rt; given.status, status);

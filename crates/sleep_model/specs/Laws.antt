@@ -1,5 +1,5 @@
 -- What a reader believes of a legal log, each law at each entry, from the entries before it.
-use Rattle.std.specs.Prelude.{◌≡◌, ◌+◌, ℕ, ℤ, pos, negsuc, Bool, true, false, not, ◌==◌, ◌&&◌, ◌||◌, List, [], ◌∷◌, length, map, replicate, if◌then◌else◌, Option, Some, None, is_none, slice_get}
+use Rattle.std.specs.Prelude.{◌≡◌, ◌+◌, ℕ, suc, ℤ, pos, negsuc, Bool, true, false, not, ◌==◌, ◌&&◌, ◌||◌, List, [], ◌∷◌, length, map, replicate, if◌then◌else◌, Option, Some, None, is_none, slice_get}
 use Rattle.std.specs.List.{list_all}
 use Rattle.sleep_base.specs.declared.errno.Errno.{Errno}
 use Rattle.sleep_model.specs.declared.word.EventNow.{EventNow}
@@ -9,6 +9,7 @@ use Rattle.sleep_model.specs.declared.entry.Actor.TheVariants as actor
 use Rattle.sleep_model.specs.declared.entry.Entry.{Entry}
 use Rattle.sleep_model.specs.declared.entry.FrozeEnd.{FrozeEnd}
 use Rattle.sleep_model.specs.declared.entry.FrozeEnd.TheVariants as froze
+use Rattle.sleep_model.specs.declared.entry.Group.{Group}
 use Rattle.sleep_model.specs.declared.entry.Group.TheVariants as group
 use Rattle.sleep_model.specs.declared.entry.Kind.{Kind}
 use Rattle.sleep_model.specs.declared.entry.Kind.TheVariants as kind
@@ -26,10 +27,10 @@ use Rattle.phase_table.specs.declared.phase.Phase.TheVariants as phase
 use Rattle.sleep_model.specs.declared.place.Seat.{Seat}
 use Rattle.sleep_model.specs.declared.place.Stand.{Stand}
 use Rattle.sleep_model.specs.declared.place.Stand.TheVariants as stand
-use Rattle.sleep_model.specs.Attempt.{failed}
+use Rattle.sleep_model.specs.Attempt.{failed, sleeps_now}
 use Rattle.sleep_model.specs.Autosleep.{Work, Resting, Reading, Saving, Attempting, Looking, Napping, Closing, work}
 use Rattle.sleep_model.specs.Devices.{AsyncWork, Idle, Scheduled, Inside, callback, stand_in, async_work}
-use Rattle.sleep_model.specs.Freezer.{unasked, freezings, left}
+use Rattle.sleep_model.specs.Freezer.{unasked, freezing, freezings, is_in}
 use Rattle.sleep_model.specs.Guard.{CountPart, Finds, count_part, pending}
 use Rattle.sleep_model.specs.Notifiers.{told, owes_platform, cpus_off, other_cpus, irqs_off, stopped, syscore_parts}
 use Rattle.sleep_model.specs.Numbers.{numbers, word_step}
@@ -39,7 +40,7 @@ use Rattle.phase_table.specs.Phases.{is_phase, is_down, is_up, mirror, tests_wak
 use Rattle.sleep_model.specs.Scripts.{entry_steps}
 use Rattle.sleep_model.specs.Seats.{seats, seat_at}
 use Rattle.sleep_model.specs.Walk.{is_so}
-use Rattle.sleep_model.specs.Stands.{stands, is_prepared, is_down_in, is_direct_complete, is_down_or_direct, is_not_up}
+use Rattle.sleep_model.specs.Stands.{stands, is_unprepared, is_ready, is_down_in, is_direct_complete, is_down_or_direct, is_not_up}
 
 -- ---- devices
 
@@ -75,6 +76,7 @@ pub record NothingOwed (m : Machine) (past : List Entry) : Type 0 where
   pub cpus : cpus_off m.cpus past ≡ replicate m.cpus false
   pub irqs : irqs_off past ≡ false
   pub syscore : stopped (length m.syscore) past ≡ replicate (length m.syscore) false
+  pub awake : sleeps_now past ≡ false
 
 -- where an attempt is over nothing is owed (suspend_devices_and_enter)
 abbrev pub Restored : Machine → List Entry → Kind → Type 0
@@ -87,6 +89,25 @@ may_come_up stand.Suspended = true
 may_come_up stand.Rescheduled = true
 may_come_up _ = false
 
+-- inside its callback on the way up (dpm_run_callback)
+abbrev pub is_resuming : Stand → Bool
+is_resuming stand.Resuming = true
+is_resuming _ = false
+
+-- prepared, and neither down nor on its way down or up: in a pair of phases nothing is owed to the device (power.is_suspended)
+abbrev pub is_back : Stand → Bool
+is_back stand.Prepared = true
+is_back stand.Failed = true
+is_back stand.Direct = true
+is_back stand.Resumed = true
+is_back _ = false
+
+-- device d is back in suspend, in late and in noirq: nothing is owed to it but its completion (device_complete)
+abbrev pub is_back_in_all : Machine → List Entry → ℕ → Bool
+is_back_in_all m past d =
+    is_back (stand_in m past phase.Suspend d) && is_back (stand_in m past phase.Late d)
+    && is_back (stand_in m past phase.Noirq d)
+
 -- a step of the platform on the way up is owed: the end, the finish and the wake for the step that they undo (platform_resume_end, platform_resume_finish, platform_resume_noirq)
 abbrev pub is_owed_by : List Entry → PlatUndo → Bool
 is_owed_by past undo.Recover = true
@@ -94,28 +115,83 @@ is_owed_by past undo.End = owes_platform down.Begin past
 is_owed_by past undo.Finish = owes_platform down.Prepare past
 is_owed_by past undo.Wake = owes_platform down.PrepareLate past
 
--- an undo stands only for what is owed, so each stands once (device_resume, device_complete, suspend_finish)
+-- an undo stands only for what is owed, so each stands once, and a device is completed only where no other is owed to it (dpm_resume, device_resume, device_complete, suspend_finish)
 abbrev pub Owed : Machine → List Entry → Kind → Type 0
+Owed m past (kind.Schedule p d) = is_up p ≡ true → is_down_in (stand_in m past (mirror p) d) ≡ true
 Owed m past (kind.Begin p d) = is_up p ≡ true → may_come_up (stand_in m past (mirror p) d) ≡ true
-Owed m past (kind.Complete d) = is_prepared (stand_in m past phase.Suspend d) ≡ true
+Owed m past (kind.End p d r) = is_up p ≡ true → is_resuming (stand_in m past (mirror p) d) ≡ true
+Owed m past (kind.Complete d) = is_back_in_all m past d ≡ true
 Owed m past (kind.NotifyPost x) = is_so (told m past) x ≡ true
 Owed m past (kind.SyscoreResume x) = is_so (stopped (length m.syscore) past) x ≡ true
 Owed m past (kind.CpuOn k) = is_so (cpus_off m.cpus past) k ≡ true
 Owed m past (kind.Irqs on) = on ≡ true → irqs_off past ≡ true
 Owed m past (kind.PlatformUndo step) = is_owed_by past step ≡ true
+Owed m past (kind.Wake by_event) = sleeps_now past ≡ true
 Owed m past _ = Unit {0}
+
+-- ---- what is done once
+
+-- a phase on the way down may take the device: it is prepared, or scheduled (__device_suspend)
+abbrev pub may_go_down : Stand → Bool
+may_go_down stand.Prepared = true
+may_go_down stand.Scheduled = true
+may_go_down _ = false
+
+-- inside its callback on the way down (dpm_run_callback)
+abbrev pub is_suspending : Stand → Bool
+is_suspending stand.Suspending = true
+is_suspending _ = false
+
+-- a device is prepared once, and each phase on the way down schedules it, begins or skips it, and ends it once, in that order (dpm_prepare, dpm_suspend, __device_suspend)
+abbrev pub TakenOnce : Machine → List Entry → Kind → Type 0
+TakenOnce m past (kind.Prepare d r) = is_unprepared (stand_in m past phase.Suspend d) ≡ true
+TakenOnce m past (kind.Schedule p d) = is_down p ≡ true → is_ready (stand_in m past p d) ≡ true
+TakenOnce m past (kind.Begin p d) = is_down p ≡ true → may_go_down (stand_in m past p d) ≡ true
+TakenOnce m past (kind.Skip p d cause) = is_down p ≡ true → may_go_down (stand_in m past p d) ≡ true
+TakenOnce m past (kind.End p d r) = is_down p ≡ true → is_suspending (stand_in m past p d) ≡ true
+TakenOnce m past _ = Unit {0}
+
+-- a notifier, the platform, a processor, interrupts and the core are taken down, and sleep is entered, only where no undo of that is owed already (pm_notifier_call_chain_robust, platform_suspend_begin, freeze_secondary_cpus, arch_suspend_disable_irqs, syscore_suspend, suspend_enter)
+abbrev pub NotOwedAlready : Machine → List Entry → Kind → Type 0
+NotOwedAlready m past (kind.NotifyPrepare x r) = is_so (told m past) x ≡ false
+NotOwedAlready m past (kind.PlatformDo step r) = owes_platform step past ≡ false
+NotOwedAlready m past (kind.CpuOff k) = is_so (cpus_off m.cpus past) k ≡ false
+NotOwedAlready m past (kind.CpuBusy k) = is_so (cpus_off m.cpus past) k ≡ false
+NotOwedAlready m past (kind.Irqs on) = on ≡ false → irqs_off past ≡ false
+NotOwedAlready m past (kind.SyscoreSuspend x r) = is_so (stopped (length m.syscore) past) x ≡ false
+NotOwedAlready m past (kind.Enter busy) = sleeps_now past ≡ false
+NotOwedAlready m past _ = Unit {0}
 
 -- ---- what is so where the machine enters sleep
 
+-- d is down in suspend, in late and in noirq (power.is_suspended, power.is_late_suspended, power.is_noirq_suspended)
+abbrev pub is_down_in_all : Machine → List Entry → ℕ → Bool
+is_down_in_all m past d =
+    is_down_in (stand_in m past phase.Suspend d) && is_down_in (stand_in m past phase.Late d)
+    && is_down_in (stand_in m past phase.Noirq d)
+
 -- d is down through noirq, or was direct-complete (power.is_noirq_suspended, direct_complete)
 abbrev pub is_asleep : Machine → List Entry → ℕ → Bool
-is_asleep m past d = is_down_in (stand_in m past phase.Noirq d) || is_direct_complete (stand_in m past phase.Suspend d)
+is_asleep m past d = is_down_in_all m past d || is_direct_complete (stand_in m past phase.Suspend d)
 
--- all is down that sleep wants down (suspend_enter)
+-- task i does nothing more: it is frozen, or has exited (frozen, __refrigerator)
+abbrev pub is_at_rest : Machine → List Entry → ℕ → Bool
+is_at_rest m past i = (freezing m i past).frozen || (seat_at (seats (length m.actors) past) i).exited
+
+-- the tasks of a group, from number i on, but the attempt's maker (freeze_processes, freeze_kernel_threads)
+abbrev pub others_of : Group → Option Actor → ℕ → List Script → List ℕ
+others_of g who i [] = []
+others_of g who i (s ∷ ss) =
+    if is_in g s.kind && not (is_actor (actor.Script i) who) then i ∷ others_of g who (suc i) ss else others_of g who (suc i) ss
+
+-- all is down that sleep wants down, and the platform has taken its three steps (suspend_enter)
 pub record AllDown (m : Machine) (past : List Entry) : Type 0 where
   pub devices : list_all (is_asleep m past) (order m past) ≡ true
-  pub user_tasks : left m group.User past ≡ []
-  pub kernel_tasks : left m group.Kernel past ≡ []
+  pub user_tasks : list_all (is_at_rest m past) (others_of group.User (maker past) 0 m.actors) ≡ true
+  pub kernel_tasks : list_all (is_at_rest m past) (others_of group.Kernel (maker past) 0 m.actors) ≡ true
+  pub begun : owes_platform down.Begin past ≡ true
+  pub prepared : owes_platform down.Prepare past ≡ true
+  pub prepared_late : owes_platform down.PrepareLate past ≡ true
   pub cpus : list_all (is_so (cpus_off m.cpus past)) (other_cpus m) ≡ true
   pub irqs : irqs_off past ≡ true
   pub syscore : list_all (is_so (stopped (length m.syscore) past)) (syscore_parts m) ≡ true
@@ -387,6 +463,8 @@ pub record LawsAt (m : Machine) (past : List Entry) (e : Entry) : Type 0 where
   pub suppliers_first : SuppliersFirst m past e.kind
   pub restored : Restored m past e.kind
   pub owed : Owed m past e.kind
+  pub taken_once : TakenOnce m past e.kind
+  pub not_owed_already : NotOwedAlready m past e.kind
   pub enters_down : EntersDown m past e.kind
   pub undisturbed_enters : UndisturbedEnters past e.kind
   pub answers_failure : AnswersFailure past e.kind

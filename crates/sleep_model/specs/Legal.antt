@@ -171,15 +171,21 @@ abbrev pub IsOwnCall : Machine → List Entry → (ℕ → List Entry) → Actor
 IsOwnCall m past of (actor.Timer s) k = k ≡ Expire s
 IsOwnCall m past of who k = slice_get (calls_of m who past) (made (length m.sources + 1) of who) ≡ Some k
 
+-- no source is owed a step of the actor: it is inside no call (wakeup_source_report_event)
+abbrev pub IsOutside : Machine → (ℕ → List Entry) → Actor → Type 0
+IsOutside m of who = is_calling (length m.sources + 1) of who ≡ false
+
 -- the actor's last entry is of that source (own)
 abbrev pub is_behind : ℕ → Actor → List Entry → Bool
 is_behind s who [] = false
 is_behind s who (e ∷ past) = if is_same e.actor who then is_of s (part_of e.kind) else is_behind s who past
 
--- an entry is the next of its actor: a step of the word stands right behind an entry of its source, and a jump stands where it may
+-- an entry is the next of its actor: one of the journal and a note stand outside of its calls, a step of the word right behind an entry of its source, and a jump where it may
 abbrev pub JointStep : Machine → List Entry → Entry → Part → Type 0
-JointStep m past e OfJournal = IsOwnTurn m (journal past) (λ s. history s past) e.actor
-JointStep m past e (Notes s call) = IsOwnCall m (journal past) (λ t. history t past) e.actor e.kind
+JointStep m past e OfJournal =
+    IsOwnTurn m (journal past) (λ s. history s past) e.actor × IsOutside m (λ s. history s past) e.actor
+JointStep m past e (Notes s call) =
+    IsOwnCall m (journal past) (λ t. history t past) e.actor e.kind × IsOutside m (λ t. history t past) e.actor
 JointStep m past e (Moves s step) = is_behind s e.actor past ≡ true
 JointStep m past e OfTime = JumpStep m (journal past) (λ s. history s past) (numbers past) e.time
 

@@ -31,7 +31,7 @@ use Rattle.sleep_model.specs.Steps.{seat_due, task_due}
 use Rattle.sleep_laws.proofs.Closing.{rests_closed, ends_closed}
 use Rattle.sleep_laws.proofs.Held.{guarded_sleep}
 use Rattle.sleep_laws.proofs.Lawful.{laws_of_legal}
-use Rattle.log_grows.proofs.Timely.{newest, newest_timely}
+use Rattle.growth_laws.proofs.Timely.{newest, newest_timely}
 use Rattle.wakeup_source.specs.SourceStates.{SourceState, bare, latest}
 use Rattle.sleep_run.specs.Waits.{waits_of, all_stats}
 use Rattle.sleep_run.proofs.SourcesKept.{latest_is}

@@ -28,16 +28,16 @@ use Rattle.sleep_core.specs.Histories.{last_stamp}
 use Rattle.sleep_script.specs.Jobs.{JobState, after_turn, after_call, IsJobOf}
 use Rattle.sleep_script.proofs.Following.{own_entry, all_made, turns_few}
 use Rattle.event_word.specs.Steps.{has_places}
-use Rattle.log_grows.specs.Whole.{with_call, steps_of}
-use Rattle.log_grows.proofs.Calls.{CanCall, call_legal, call_owes_none, call_journal, call_word, moved, same_actor}
-use Rattle.log_grows.proofs.Growing.{first_legal, entry_legal, jump_legal}
-use Rattle.log_grows.proofs.Histories.{none_owed, still_owe_none}
-use Rattle.log_grows.proofs.Idling.{enabled_outside}
-use Rattle.log_grows.proofs.Journals.{journal_more, time_journal, word_kept, due_part}
-use Rattle.log_grows.proofs.Room.{call_has_places}
-use Rattle.log_grows.proofs.Sourced.{IsNoteOf, call_sourced}
-use Rattle.log_grows.proofs.Timely.{newest, newest_timely, few_calls}
-use Rattle.source_room.proofs.Keeping.{histories_keep}
+use Rattle.growth_laws.specs.Whole.{with_call, steps_of}
+use Rattle.growth_laws.proofs.Calls.{CanCall, call_legal, call_owes_none, call_journal, call_word, moved, same_actor}
+use Rattle.growth_laws.proofs.Growing.{first_legal, entry_legal, jump_legal}
+use Rattle.growth_laws.proofs.Histories.{none_calls, none_owed, still_owe_none}
+use Rattle.growth_laws.proofs.Idling.{enabled_outside}
+use Rattle.growth_laws.proofs.Journals.{journal_more, time_journal, word_kept, due_part}
+use Rattle.growth_laws.proofs.Room.{call_has_places}
+use Rattle.growth_laws.proofs.Sourced.{IsNoteOf, call_sourced}
+use Rattle.growth_laws.proofs.Timely.{newest, newest_timely, few_calls}
+use Rattle.source_laws.proofs.Keeping.{histories_keep}
 use Rattle.wakeup_source.specs.declared.call_by.CallBy.{CallBy}
 use Rattle.wakeup_source.specs.SourceStates.{SourceState, bare, latest}
 use Rattle.wakeup_source.specs.Told.{word_after, MayCall, source_call}
@@ -116,7 +116,7 @@ module _ (m : Machine) (past : List Entry) (core : CoreState) (word : EventNow) 
         accepted = r.accepted;
         machine_is = ap (λ (c : CoreState). c.machine) e ∙ r.machine_is;
         journal_is = kept ∙ sym more;
-        legal = entry_legal m past r.legal x (not_time who a) ours r.word_is at own;
+        legal = entry_legal m past r.legal x (not_time who a) ours r.word_is at own (none_calls past r.owe_none (length m.sources + 1) who);
         word_is = r.word_is ∙ sym (word_kept x past part);
         low = omega (arith, ap (λ (t : Stamp). t.pos) last, ap (λ (t : Stamp). t.pos) s);
         floor_low = omega (arith, ap (λ (t : Stamp). t.pos) s);
@@ -264,7 +264,7 @@ module _ (m : Machine) (past : List Entry) (core : CoreState) (word : EventNow) 
   can_call : (who : Actor) (s : ℕ) (c : SourceCall) (at : ℕ) → IsActor m who → CallsNext m past who s c → at ≡ time_of past → length (history s past) + 4 ≤ most_entries → CanCall m past at word who s c
   can_call who s c at a next now places =
       let sourced = note_sourced s c (call_sourced m r.accepted who (journal past) (calls_made m past who) (note s c) next) in
-      record { legal = r.legal; word_is = r.word_is; time_is = now; may = sourced.1 at who; own = own_call who (note s c) a next; there = sourced.0; places = places }
+      record { legal = r.legal; word_is = r.word_is; time_is = now; may = sourced.1 at who; own = own_call who (note s c) a next; out = none_calls past r.owe_none (length m.sources + 1) who; there = sourced.0; places = places }
 
   -- after the next call of an actor the run goes on
   pub running_call : (s : ℕ) (c : SourceCall) (by : CallBy) (later : EventNow) (old new : SourceState) (stamp : Stamp) (items : List Entry) → IsActor m by.actor → CallsNext m past by.actor s c → by.now ≡ time_of past → by.floor ≡ floor
@@ -295,7 +295,7 @@ module _ (m : Machine) (past : List Entry) (core : CoreState) (word : EventNow) 
       let may : SourceStep (history s past) by.now by.actor (Notes s call.Expire) = (r.owe_none s, subst (λ (t : ℕ). has_expired (expiry (history s past)) t ≡ true) (sym at) due) in
       let own : IsOwnCall m (journal past) (λ t. history t past) by.actor (note s call.Expire) = subst (λ (w : Actor). IsOwnCall m (journal past) (λ t. history t past) w (note s call.Expire)) (sym who) refl in
       let can : CanCall m past by.now word by.actor s call.Expire =
-      record { legal = r.legal; word_is = r.word_is; time_is = at; may = may; own = own; there = there; places = omega (arith, few, count, ap length here.entries) } in
+      record { legal = r.legal; word_is = r.word_is; time_is = at; may = may; own = own; out = none_calls past r.owe_none (length m.sources + 1) by.actor; there = there; places = omega (arith, few, count, ap length here.entries) } in
       let jobs' : AreJobs m (with_call by.now word by.actor s call.Expire (steps_of s call.Expire past) past) jobs =
       subst (λ (w : Actor). AreJobs m (with_call by.now word w s call.Expire (steps_of s call.Expire past) past) jobs) (sym who)
       (jobs_expire m (steps_of s call.Expire past) past by.now word s s call.Expire jobs (omega (arith, there)) r.jobs_are) in

@@ -18,7 +18,7 @@ use Rattle.sleep_model.specs.Path.{maker}
 use Rattle.sleep_model.specs.Places.{places}
 use Rattle.sleep_model.specs.Sources.{history, most_entries}
 use Rattle.sleep_model.specs.Word.{position}
-use Rattle.log_grows.specs.Whole.{OweNone}
+use Rattle.growth_laws.specs.Whole.{OweNone}
 use Rattle.sleep_state.specs.Places.{entries}
 use Rattle.sleep_core.specs.Cores.{CoreState, IsActor}
 use Rattle.sleep_core.specs.Histories.{last_stamp}

@@ -29,7 +29,11 @@ pub(crate) enum Rest {
 }
 
 /// The statistics of the sources at that moment.
-fn stats_of(alloc: Global, sources: &[WakeSource<MOST_ENTRIES>], at: u64) -> Result<Vec<Stats>, AllocError>
+fn stats_of(
+    alloc: Global,
+    sources: &[WakeSource<MOST_ENTRIES>],
+    at: u64,
+) -> Result<Vec<Stats>, AllocError>
     requires time { All (λ s. latest (bare s.past) ≤ at) sources.now }
     requires small { at ≤ 2 ^ 63 }
     ensures { IfOk result (λ v. v.items ≡ all_stats sources.now at) }

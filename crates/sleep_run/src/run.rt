@@ -123,7 +123,10 @@ fn sources_of(alloc: Global, many: u32) -> Result<Vec<WakeSource<MOST_ENTRIES>>,
 }
 
 /// The sources of a machine, `autosleep` last, none of which was ever called.
-fn all_sources(alloc: Global, machine: &Machine) -> Result<Vec<WakeSource<MOST_ENTRIES>>, AllocError>
+fn all_sources(
+    alloc: Global,
+    machine: &Machine,
+) -> Result<Vec<WakeSource<MOST_ENTRIES>>, AllocError>
     requires { IsAccepted machine.now }
     ensures { IfOk result (λ v. v.items ≡ first_sources (length machine.now.sources + 1)) }
 {

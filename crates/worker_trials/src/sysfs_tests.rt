@@ -1,6 +1,9 @@
-use sleep_sysfs::{decode_state, is_autosleep_text, read_count, saved_number, write_autosleep, write_count, write_state};
 use sleep_base::Errno;
 use sleep_model::{Due, EventNow, Kind, State, Why};
+use sleep_sysfs::{
+    decode_state, is_autosleep_text, read_count, saved_number, write_autosleep, write_count,
+    write_state,
+};
 
 const QUIET: EventNow = EventNow {
     inpr: 0,

@@ -1,22 +1,28 @@
 //! Devices with suppliers, asynchronous ones, and runtime status.
+//!
+//! `tools/worked.py` writes this file from `tools/worked/`.
 
 /// The machines, the status that each gives, and its log.
 pub(crate) const MACHINES: [(&str, u8, &str); 7] = [
-    (ONE_LINK, 0, ONE_LINK_LOG),
-    (LINKED, 0, LINKED_LOG),
-    (ASYNCHRONOUS, 0, ASYNCHRONOUS_LOG),
-    (DIRECT, 0, DIRECT_LOG),
+    (FIRST_LINK, 0, FIRST_LINK_LOG),
+    (TWO_LINKS, 0, TWO_LINKS_LOG),
+    (ASYNCHRONOUS_CHILD, 0, ASYNCHRONOUS_CHILD_LOG),
+    (DIRECT_COMPLETE, 0, DIRECT_COMPLETE_LOG),
     (WAKEUP_IS_NOT_DIRECT, 0, WAKEUP_IS_NOT_DIRECT_LOG),
-    (SUSPENDED_BEFORE, 0, SUSPENDED_BEFORE_LOG),
+    (
+        SUSPENDED_BEFORE_THE_ATTEMPT,
+        0,
+        SUSPENDED_BEFORE_THE_ATTEMPT_LOG,
+    ),
     (RUNTIME_REQUESTS, 0, RUNTIME_REQUESTS_LOG),
 ];
 
-/// A camera on a bus, whose port needs a line: the port suspends before the line.
-const ONE_LINK: &str =
-    r#"{"version": 1, "devices": [{"name": "bus"}, {"name": "usb", "parent": "bus"}, {"name": "cam", "parent": "usb"}, {"name": "gpio"}, {"name": "clk"}], "links": [{"supplier": "gpio", "consumer": "usb"}], "actors": [{"name": "w", "kind": "user", "script": [{"op": "state", "text": "mem"}]}]}"#;
+/// A camera on a bus whose port needs a line.
+pub(crate) const FIRST_LINK: &str =
+    r#"{"version":1,"devices":[{"name":"bus"},{"name":"usb","parent":"bus"},{"name":"cam","parent":"usb"},{"name":"gpio"},{"name":"clk"}],"links":[{"supplier":"gpio","consumer":"usb"}],"actors":[{"name":"w","kind":"user","script":[{"op":"state","text":"mem"}]}]}"#;
 
 /// What the program writes for it.
-const ONE_LINK_LOG: &str = "\
+pub(crate) const FIRST_LINK_LOG: &str = "\
 0 0/0/0 task:w attempt 1 plain
 0 0/0/0 task:w freeze user
 0 0/0/0 task:w froze user 0
@@ -120,12 +126,12 @@ source autosleep 0 0 0 0 0 0 0
 finished
 ";
 
-/// The same, where the line needs a clock: consumers suspend before suppliers.
-const LINKED: &str =
-    r#"{"version": 1, "devices": [{"name": "bus"}, {"name": "usb", "parent": "bus"}, {"name": "cam", "parent": "usb"}, {"name": "gpio"}, {"name": "clk"}], "links": [{"supplier": "gpio", "consumer": "usb"}, {"supplier": "clk", "consumer": "gpio"}], "actors": [{"name": "w", "kind": "user", "script": [{"op": "state", "text": "mem"}]}]}"#;
+/// The same, where the line needs a clock.
+pub(crate) const TWO_LINKS: &str =
+    r#"{"version":1,"devices":[{"name":"bus"},{"name":"usb","parent":"bus"},{"name":"cam","parent":"usb"},{"name":"gpio"},{"name":"clk"}],"links":[{"supplier":"gpio","consumer":"usb"},{"supplier":"clk","consumer":"gpio"}],"actors":[{"name":"w","kind":"user","script":[{"op":"state","text":"mem"}]}]}"#;
 
 /// What the program writes for it.
-const LINKED_LOG: &str = "\
+pub(crate) const TWO_LINKS_LOG: &str = "\
 0 0/0/0 task:w attempt 1 plain
 0 0/0/0 task:w freeze user
 0 0/0/0 task:w froze user 0
@@ -228,17 +234,13 @@ const LINKED_LOG: &str = "\
 source autosleep 0 0 0 0 0 0 0
 finished
 ";
-
-/// The same with a third link, by which the clock needs the camera: no machine.
-pub(crate) const CYCLIC: &str =
-    r#"{"version": 1, "devices": [{"name": "bus"}, {"name": "usb", "parent": "bus"}, {"name": "cam", "parent": "usb"}, {"name": "gpio"}, {"name": "clk"}], "links": [{"supplier": "gpio", "consumer": "usb"}, {"supplier": "clk", "consumer": "gpio"}, {"supplier": "cam", "consumer": "clk"}], "actors": [{"name": "w", "kind": "user", "script": [{"op": "state", "text": "mem"}]}]}"#;
 
 /// An asynchronous child of a synchronous parent.
-const ASYNCHRONOUS: &str =
-    r#"{"version": 1, "devices": [{"name": "p"}, {"name": "c", "parent": "p", "async": true}], "actors": [{"name": "w", "kind": "user", "script": [{"op": "state", "text": "mem"}]}]}"#;
+pub(crate) const ASYNCHRONOUS_CHILD: &str =
+    r#"{"version":1,"devices":[{"name":"p"},{"name":"c","parent":"p","async":true}],"actors":[{"name":"w","kind":"user","script":[{"op":"state","text":"mem"}]}]}"#;
 
 /// What the program writes for it.
-const ASYNCHRONOUS_LOG: &str = "\
+pub(crate) const ASYNCHRONOUS_CHILD_LOG: &str = "\
 0 0/0/0 task:w attempt 1 plain
 0 0/0/0 task:w freeze user
 0 0/0/0 task:w froze user 0
@@ -307,11 +309,11 @@ finished
 ";
 
 /// Three generations that are runtime suspended and stay so.
-const DIRECT: &str =
-    r#"{"version": 1, "devices": [{"name": "hub", "runtime": "suspended"}, {"name": "port", "parent": "hub", "runtime": "suspended"}, {"name": "key", "parent": "port", "runtime": "suspended"}], "answers": [{"what": "device", "name": "hub", "phase": "prepare", "ret": 1}, {"what": "device", "name": "port", "phase": "prepare", "ret": 1}, {"what": "device", "name": "key", "phase": "prepare", "ret": 1}], "actors": [{"name": "w", "kind": "user", "script": [{"op": "state", "text": "mem"}]}]}"#;
+pub(crate) const DIRECT_COMPLETE: &str =
+    r#"{"version":1,"devices":[{"name":"hub","runtime":"suspended"},{"name":"port","parent":"hub","runtime":"suspended"},{"name":"key","parent":"port","runtime":"suspended"}],"answers":[{"what":"device","name":"hub","phase":"prepare","ret":1},{"what":"device","name":"port","phase":"prepare","ret":1},{"what":"device","name":"key","phase":"prepare","ret":1}],"actors":[{"name":"w","kind":"user","script":[{"op":"state","text":"mem"}]}]}"#;
 
 /// What the program writes for it.
-const DIRECT_LOG: &str = "\
+pub(crate) const DIRECT_COMPLETE_LOG: &str = "\
 0 0/0/0 task:w attempt 1 plain
 0 0/0/0 task:w freeze user
 0 0/0/0 task:w froze user 0
@@ -361,11 +363,11 @@ finished
 ";
 
 /// The same, where the lowest one may wake the machine: no callback is left out.
-const WAKEUP_IS_NOT_DIRECT: &str =
-    r#"{"version": 1, "devices": [{"name": "hub", "runtime": "suspended"}, {"name": "port", "parent": "hub", "runtime": "suspended"}, {"name": "key", "parent": "port", "runtime": "suspended", "wakeup": true}], "answers": [{"what": "device", "name": "hub", "phase": "prepare", "ret": 1}, {"what": "device", "name": "port", "phase": "prepare", "ret": 1}, {"what": "device", "name": "key", "phase": "prepare", "ret": 1}], "actors": [{"name": "w", "kind": "user", "script": [{"op": "state", "text": "mem"}]}]}"#;
+pub(crate) const WAKEUP_IS_NOT_DIRECT: &str =
+    r#"{"version":1,"devices":[{"name":"hub","runtime":"suspended"},{"name":"port","parent":"hub","runtime":"suspended"},{"name":"key","parent":"port","runtime":"suspended","wakeup":true}],"answers":[{"what":"device","name":"hub","phase":"prepare","ret":1},{"what":"device","name":"port","phase":"prepare","ret":1},{"what":"device","name":"key","phase":"prepare","ret":1}],"actors":[{"name":"w","kind":"user","script":[{"op":"state","text":"mem"}]}]}"#;
 
 /// What the program writes for it.
-const WAKEUP_IS_NOT_DIRECT_LOG: &str = "\
+pub(crate) const WAKEUP_IS_NOT_DIRECT_LOG: &str = "\
 0 0/0/0 task:w attempt 1 plain
 0 0/0/0 task:w freeze user
 0 0/0/0 task:w froze user 0
@@ -441,12 +443,12 @@ source autosleep 0 0 0 0 0 0 0
 finished
 ";
 
-/// A task suspends a device at run time before the attempt: it stays so.
-const SUSPENDED_BEFORE: &str =
-    r#"{"version": 1, "devices": [{"name": "d"}], "answers": [{"what": "device", "name": "d", "phase": "prepare", "ret": 1}], "actors": [{"name": "w", "kind": "user", "script": [{"op": "runtime", "device": "d", "to": "suspended"}, {"op": "state", "text": "mem"}]}]}"#;
+/// A device that a task suspends at run time before the attempt, and that stays so.
+pub(crate) const SUSPENDED_BEFORE_THE_ATTEMPT: &str =
+    r#"{"version":1,"devices":[{"name":"d"}],"answers":[{"what":"device","name":"d","phase":"prepare","ret":1}],"actors":[{"name":"w","kind":"user","script":[{"op":"runtime","device":"d","to":"suspended"},{"op":"state","text":"mem"}]}]}"#;
 
 /// What the program writes for it.
-const SUSPENDED_BEFORE_LOG: &str = "\
+pub(crate) const SUSPENDED_BEFORE_THE_ATTEMPT_LOG: &str = "\
 0 0/0/0 task:w runtime d suspended 0
 0 0/0/0 task:w attempt 1 plain
 0 0/0/0 task:w freeze user
@@ -486,12 +488,12 @@ source autosleep 0 0 0 0 0 0 0
 finished
 ";
 
-/// Requests at run time, while the device is prepared and after its late callback began: both are refused.
-const RUNTIME_REQUESTS: &str =
-    r#"{"version": 1, "devices": [{"name": "d"}], "actors": [{"name": "w", "kind": "user", "script": [{"op": "post", "mark": "a"}, {"op": "state", "text": "mem"}]}, {"name": "n", "kind": "nofreeze", "script": [{"op": "wait", "mark": "a"}, {"op": "post", "mark": "x", "times": 7}, {"op": "runtime", "device": "d", "to": "suspended"}, {"op": "post", "mark": "x", "times": 4}, {"op": "runtime", "device": "d", "to": "active"}]}]}"#;
+/// Requests at run time while the device is prepared, and after its late suspend began.
+pub(crate) const RUNTIME_REQUESTS: &str =
+    r#"{"version":1,"devices":[{"name":"d"}],"actors":[{"name":"w","kind":"user","script":[{"op":"post","mark":"a"},{"op":"state","text":"mem"}]},{"name":"n","kind":"nofreeze","script":[{"op":"wait","mark":"a"},{"op":"post","mark":"x","times":7},{"op":"runtime","device":"d","to":"suspended"},{"op":"post","mark":"x","times":4},{"op":"runtime","device":"d","to":"active"}]}]}"#;
 
 /// What the program writes for it.
-const RUNTIME_REQUESTS_LOG: &str = "\
+pub(crate) const RUNTIME_REQUESTS_LOG: &str = "\
 0 0/0/0 task:w post a
 0 0/0/0 task:n got a
 0 0/0/0 task:w attempt 1 plain

@@ -1,50 +1,32 @@
 //! Attempts in which a callback, a notifier, a syscore step or the platform fails.
+//!
+//! `tools/worked.py` writes this file from `tools/worked/`.
 
 /// The machines, the status that each gives, and its log.
 pub(crate) const MACHINES: [(&str, u8, &str); 7] = [
+    (CALLBACK_FAILS_IN_NOIRQ, 0, CALLBACK_FAILS_IN_NOIRQ_LOG),
     (PREPARE_FAILS, 0, PREPARE_FAILS_LOG),
-    (CALLBACK_FAILS, 0, CALLBACK_FAILS_LOG),
-    (ASYNCHRONOUS_FAILS, 0, ASYNCHRONOUS_FAILS_LOG),
+    (
+        ASYNCHRONOUS_CALLBACK_FAILS,
+        0,
+        ASYNCHRONOUS_CALLBACK_FAILS_LOG,
+    ),
+    (SYSCORE_STEP_FAILS, 0, SYSCORE_STEP_FAILS_LOG),
+    (PLATFORM_BEGIN_FAILS, 0, PLATFORM_BEGIN_FAILS_LOG),
+    (
+        PLATFORM_PREPARE_LATE_FAILS,
+        0,
+        PLATFORM_PREPARE_LATE_FAILS_LOG,
+    ),
     (NOTIFIER_FAILS, 0, NOTIFIER_FAILS_LOG),
-    (SYSCORE_FAILS, 0, SYSCORE_FAILS_LOG),
-    (BEGIN_FAILS, 0, BEGIN_FAILS_LOG),
-    (PREPARE_LATE_FAILS, 0, PREPARE_LATE_FAILS_LOG),
 ];
 
-/// The middle one of three generations fails to prepare: nothing suspends, and what was prepared completes.
-const PREPARE_FAILS: &str =
-    r#"{"version": 1, "devices": [{"name": "p"}, {"name": "c", "parent": "p"}, {"name": "g", "parent": "c"}], "answers": [{"what": "device", "name": "c", "phase": "prepare", "ret": "ENODEV"}], "actors": [{"name": "w", "kind": "user", "script": [{"op": "state", "text": "mem"}]}]}"#;
+/// The middle one of three generations fails in the noirq phase: what was suspended resumes.
+pub(crate) const CALLBACK_FAILS_IN_NOIRQ: &str =
+    r#"{"version":1,"devices":[{"name":"p"},{"name":"c","parent":"p"},{"name":"g","parent":"c"}],"actors":[{"name":"w","kind":"user","script":[{"op":"state","text":"mem"}]}],"answers":[{"what":"device","name":"c","phase":"noirq","ret":"EIO"}]}"#;
 
 /// What the program writes for it.
-const PREPARE_FAILS_LOG: &str = "\
-0 0/0/0 task:w attempt 1 plain
-0 0/0/0 task:w freeze user
-0 0/0/0 task:w froze user 0
-0 0/0/0 task:w freeze kernel
-0 0/0/0 task:w froze kernel 0
-0 0/0/0 task:w platform begin 0
-0 0/0/0 task:w prepare p 0
-0 0/0/0 task:w prepare c ENODEV
-0 0/0/0 task:w done prepare ENODEV
-0 0/0/0 task:w platform recover
-0 0/0/0 task:w done resume 0
-0 0/0/0 task:w complete p
-0 0/0/0 task:w done complete 0
-0 0/0/0 task:w platform end
-0 0/0/0 task:w clear
-0 0/0/0 task:w thaw all
-0 0/0/0 task:w over 1 ENODEV
-0 0/0/0 task:w exit
-source autosleep 0 0 0 0 0 0 0
-finished
-";
-
-/// The middle one of three generations fails in noirq: what went down comes up.
-const CALLBACK_FAILS: &str =
-    r#"{"version": 1, "devices": [{"name": "p"}, {"name": "c", "parent": "p"}, {"name": "g", "parent": "c"}], "actors": [{"name": "w", "kind": "user", "script": [{"op": "state", "text": "mem"}]}], "answers": [{"what": "device", "name": "c", "phase": "noirq", "ret": "EIO"}]}"#;
-
-/// What the program writes for it.
-const CALLBACK_FAILS_LOG: &str = "\
+pub(crate) const CALLBACK_FAILS_IN_NOIRQ_LOG: &str = "\
 0 0/0/0 task:w attempt 1 plain
 0 0/0/0 task:w freeze user
 0 0/0/0 task:w froze user 0
@@ -106,12 +88,40 @@ source autosleep 0 0 0 0 0 0 0
 finished
 ";
 
-/// An asynchronous child fails to suspend: its parent is not taken.
-const ASYNCHRONOUS_FAILS: &str =
-    r#"{"version": 1, "devices": [{"name": "p"}, {"name": "c", "parent": "p", "async": true}], "actors": [{"name": "w", "kind": "user", "script": [{"op": "state", "text": "mem"}]}], "answers": [{"what": "device", "name": "c", "phase": "suspend", "ret": "EIO"}]}"#;
+/// The middle one of three generations fails to prepare.
+pub(crate) const PREPARE_FAILS: &str =
+    r#"{"version":1,"devices":[{"name":"p"},{"name":"c","parent":"p"},{"name":"g","parent":"c"}],"answers":[{"what":"device","name":"c","phase":"prepare","ret":"ENODEV"}],"actors":[{"name":"w","kind":"user","script":[{"op":"state","text":"mem"}]}]}"#;
 
 /// What the program writes for it.
-const ASYNCHRONOUS_FAILS_LOG: &str = "\
+pub(crate) const PREPARE_FAILS_LOG: &str = "\
+0 0/0/0 task:w attempt 1 plain
+0 0/0/0 task:w freeze user
+0 0/0/0 task:w froze user 0
+0 0/0/0 task:w freeze kernel
+0 0/0/0 task:w froze kernel 0
+0 0/0/0 task:w platform begin 0
+0 0/0/0 task:w prepare p 0
+0 0/0/0 task:w prepare c ENODEV
+0 0/0/0 task:w done prepare ENODEV
+0 0/0/0 task:w platform recover
+0 0/0/0 task:w done resume 0
+0 0/0/0 task:w complete p
+0 0/0/0 task:w done complete 0
+0 0/0/0 task:w platform end
+0 0/0/0 task:w clear
+0 0/0/0 task:w thaw all
+0 0/0/0 task:w over 1 ENODEV
+0 0/0/0 task:w exit
+source autosleep 0 0 0 0 0 0 0
+finished
+";
+
+/// An asynchronous child fails to suspend: its parent is not taken.
+pub(crate) const ASYNCHRONOUS_CALLBACK_FAILS: &str =
+    r#"{"version":1,"devices":[{"name":"p"},{"name":"c","parent":"p","async":true}],"actors":[{"name":"w","kind":"user","script":[{"op":"state","text":"mem"}]}],"answers":[{"what":"device","name":"c","phase":"suspend","ret":"EIO"}]}"#;
+
+/// What the program writes for it.
+pub(crate) const ASYNCHRONOUS_CALLBACK_FAILS_LOG: &str = "\
 0 0/0/0 task:w attempt 1 plain
 0 0/0/0 task:w freeze user
 0 0/0/0 task:w froze user 0
@@ -139,28 +149,12 @@ source autosleep 0 0 0 0 0 0 0
 finished
 ";
 
-/// A notifier fails: the one before it is told, and nothing is frozen.
-const NOTIFIER_FAILS: &str =
-    r#"{"version": 1, "notifiers": [{"name": "n1"}, {"name": "n2", "priority": 10}], "answers": [{"what": "notifier", "name": "n1", "ret": "EIO"}], "actors": [{"name": "w", "kind": "user", "script": [{"op": "state", "text": "mem"}]}]}"#;
+/// The second of three syscore steps fails: the one before it resumes.
+pub(crate) const SYSCORE_STEP_FAILS: &str =
+    r#"{"version":1,"syscore":["t1","t2","t3"],"answers":[{"what":"syscore","name":"t2","ret":"EIO"}],"actors":[{"name":"w","kind":"user","script":[{"op":"state","text":"mem"}]}]}"#;
 
 /// What the program writes for it.
-const NOTIFIER_FAILS_LOG: &str = "\
-0 0/0/0 task:w attempt 1 plain
-0 0/0/0 task:w notify n2 prepare 0
-0 0/0/0 task:w notify n1 prepare EIO
-0 0/0/0 task:w notify n2 post
-0 0/0/0 task:w over 1 EIO
-0 0/0/0 task:w exit
-source autosleep 0 0 0 0 0 0 0
-finished
-";
-
-/// The second of three steps of the core fails: the one before it resumes.
-const SYSCORE_FAILS: &str =
-    r#"{"version": 1, "syscore": ["t1", "t2", "t3"], "answers": [{"what": "syscore", "name": "t2", "ret": "EIO"}], "actors": [{"name": "w", "kind": "user", "script": [{"op": "state", "text": "mem"}]}]}"#;
-
-/// What the program writes for it.
-const SYSCORE_FAILS_LOG: &str = "\
+pub(crate) const SYSCORE_STEP_FAILS_LOG: &str = "\
 0 0/0/0 task:w attempt 1 plain
 0 0/0/0 task:w freeze user
 0 0/0/0 task:w froze user 0
@@ -195,11 +189,11 @@ finished
 ";
 
 /// The platform fails to begin: it is ended, and no device is prepared.
-const BEGIN_FAILS: &str =
-    r#"{"version": 1, "answers": [{"what": "platform", "name": "begin", "ret": "EIO"}], "actors": [{"name": "w", "kind": "user", "script": [{"op": "state", "text": "mem"}]}]}"#;
+pub(crate) const PLATFORM_BEGIN_FAILS: &str =
+    r#"{"version":1,"answers":[{"what":"platform","name":"begin","ret":"EIO"}],"actors":[{"name":"w","kind":"user","script":[{"op":"state","text":"mem"}]}]}"#;
 
 /// What the program writes for it.
-const BEGIN_FAILS_LOG: &str = "\
+pub(crate) const PLATFORM_BEGIN_FAILS_LOG: &str = "\
 0 0/0/0 task:w attempt 1 plain
 0 0/0/0 task:w freeze user
 0 0/0/0 task:w froze user 0
@@ -215,12 +209,12 @@ source autosleep 0 0 0 0 0 0 0
 finished
 ";
 
-/// The platform fails in its last preparation: no interrupt is turned off.
-const PREPARE_LATE_FAILS: &str =
-    r#"{"version": 1, "answers": [{"what": "platform", "name": "prepare_late", "ret": "EIO"}], "actors": [{"name": "w", "kind": "user", "script": [{"op": "state", "text": "mem"}]}]}"#;
+/// The platform fails in its last preparation: no processor and no interrupt is turned off.
+pub(crate) const PLATFORM_PREPARE_LATE_FAILS: &str =
+    r#"{"version":1,"answers":[{"what":"platform","name":"prepare_late","ret":"EIO"}],"actors":[{"name":"w","kind":"user","script":[{"op":"state","text":"mem"}]}]}"#;
 
 /// What the program writes for it.
-const PREPARE_LATE_FAILS_LOG: &str = "\
+pub(crate) const PLATFORM_PREPARE_LATE_FAILS_LOG: &str = "\
 0 0/0/0 task:w attempt 1 plain
 0 0/0/0 task:w freeze user
 0 0/0/0 task:w froze user 0
@@ -242,6 +236,22 @@ const PREPARE_LATE_FAILS_LOG: &str = "\
 0 0/0/0 task:w platform end
 0 0/0/0 task:w clear
 0 0/0/0 task:w thaw all
+0 0/0/0 task:w over 1 EIO
+0 0/0/0 task:w exit
+source autosleep 0 0 0 0 0 0 0
+finished
+";
+
+/// A notifier fails: the one before it is told, and nothing is frozen.
+pub(crate) const NOTIFIER_FAILS: &str =
+    r#"{"version":1,"notifiers":[{"name":"n1"},{"name":"n2","priority":10}],"answers":[{"what":"notifier","name":"n1","ret":"EIO"}],"actors":[{"name":"w","kind":"user","script":[{"op":"state","text":"mem"}]}]}"#;
+
+/// What the program writes for it.
+pub(crate) const NOTIFIER_FAILS_LOG: &str = "\
+0 0/0/0 task:w attempt 1 plain
+0 0/0/0 task:w notify n2 prepare 0
+0 0/0/0 task:w notify n1 prepare EIO
+0 0/0/0 task:w notify n2 post
 0 0/0/0 task:w over 1 EIO
 0 0/0/0 task:w exit
 source autosleep 0 0 0 0 0 0 0

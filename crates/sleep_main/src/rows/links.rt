@@ -1,8 +1,9 @@
 //! Links that are dormant, and links that tasks add or set between attempts.
+//!
+//! `tools/worked.py` writes this file from `tools/worked/`.
 
 /// The machines, the status that each gives, and its log.
-pub(crate) const MACHINES: [(&str, u8, &str); 6] = [
-    (NO_MEMBER, 0, NO_MEMBER_LOG),
+pub(crate) const MACHINES: [(&str, u8, &str); 5] = [
     (LINK_ADDED, 0, LINK_ADDED_LOG),
     (DORMANT_LINK, 0, DORMANT_LINK_LOG),
     (ACTIVE_LINK, 0, ACTIVE_LINK_LOG),
@@ -10,21 +11,12 @@ pub(crate) const MACHINES: [(&str, u8, &str); 6] = [
     (LINKS_WITHOUT_AN_ATTEMPT, 0, LINKS_WITHOUT_AN_ATTEMPT_LOG),
 ];
 
-/// A file of version 2 with nothing else.
-const NO_MEMBER: &str = r#"{"version":2}"#;
+/// A task links two devices and then sleeps: the supplier is prepared first, and suspends last.
+pub(crate) const LINK_ADDED: &str =
+    r#"{"version":2,"devices":[{"name":"a"},{"name":"b"}],"actors":[{"name":"w","kind":"user","script":[{"op":"link","supplier":"b","consumer":"a"},{"op":"link","supplier":"a","consumer":"b"},{"op":"state","text":"mem"}]}]}"#;
 
 /// What the program writes for it.
-const NO_MEMBER_LOG: &str = "\
-source autosleep 0 0 0 0 0 0 0
-finished
-";
-
-/// A link is added, another would close a cycle, and the consumer suspends first.
-const LINK_ADDED: &str =
-    r#"{"version": 2, "devices": [{"name": "a"}, {"name": "b"}], "actors": [{"name": "w", "kind": "user", "script": [{"op": "link", "supplier": "b", "consumer": "a"}, {"op": "link", "supplier": "a", "consumer": "b"}, {"op": "state", "text": "mem"}]}]}"#;
-
-/// What the program writes for it.
-const LINK_ADDED_LOG: &str = "\
+pub(crate) const LINK_ADDED_LOG: &str = "\
 0 0/0/0 task:w link b a 0
 0 0/0/0 task:w link a b EINVAL
 0 0/0/0 task:w attempt 1 plain
@@ -88,12 +80,12 @@ source autosleep 0 0 0 0 0 0 0
 finished
 ";
 
-/// A dormant link: neither end waits for the other, and the supplier comes first in the order all the same.
-const DORMANT_LINK: &str =
-    r#"{"version": 2, "devices": [{"name": "a", "async": true}, {"name": "b"}], "links": [{"supplier": "b", "consumer": "a", "state": "dormant"}], "actors": [{"name": "w", "kind": "user", "script": [{"op": "state", "text": "mem"}]}]}"#;
+/// A link that is dormant: the asynchronous consumer and its supplier suspend beside one another.
+pub(crate) const DORMANT_LINK: &str =
+    r#"{"version":2,"devices":[{"name":"a","async":true},{"name":"b"}],"links":[{"supplier":"b","consumer":"a","state":"dormant"}],"actors":[{"name":"w","kind":"user","script":[{"op":"state","text":"mem"}]}]}"#;
 
 /// What the program writes for it.
-const DORMANT_LINK_LOG: &str = "\
+pub(crate) const DORMANT_LINK_LOG: &str = "\
 0 0/0/0 task:w attempt 1 plain
 0 0/0/0 task:w freeze user
 0 0/0/0 task:w froze user 0
@@ -161,12 +153,12 @@ source autosleep 0 0 0 0 0 0 0
 finished
 ";
 
-/// The same link, active: the supplier waits in each phase down, and its consumer in each phase up.
-const ACTIVE_LINK: &str =
-    r#"{"version": 2, "devices": [{"name": "a", "async": true}, {"name": "b"}], "links": [{"supplier": "b", "consumer": "a"}], "actors": [{"name": "w", "kind": "user", "script": [{"op": "state", "text": "mem"}]}]}"#;
+/// The same link, active: the supplier waits for its consumer.
+pub(crate) const ACTIVE_LINK: &str =
+    r#"{"version":2,"devices":[{"name":"a","async":true},{"name":"b"}],"links":[{"supplier":"b","consumer":"a"}],"actors":[{"name":"w","kind":"user","script":[{"op":"state","text":"mem"}]}]}"#;
 
 /// What the program writes for it.
-const ACTIVE_LINK_LOG: &str = "\
+pub(crate) const ACTIVE_LINK_LOG: &str = "\
 0 0/0/0 task:w attempt 1 plain
 0 0/0/0 task:w freeze user
 0 0/0/0 task:w froze user 0
@@ -234,12 +226,12 @@ source autosleep 0 0 0 0 0 0 0
 finished
 ";
 
-/// While an attempt is open, links do not change.
-const LINKS_IN_AN_ATTEMPT: &str =
-    r#"{"version": 2, "devices": [{"name": "a"}, {"name": "b"}], "actors": [{"name": "w", "kind": "user", "script": [{"op": "post", "mark": "m"}, {"op": "state", "text": "mem"}]}, {"name": "n", "kind": "nofreeze", "script": [{"op": "wait", "mark": "m"}, {"op": "link", "supplier": "b", "consumer": "a"}, {"op": "link_state", "supplier": "b", "consumer": "a", "to": "dormant"}]}]}"#;
+/// Links that a task would change while an attempt is open: both are refused.
+pub(crate) const LINKS_IN_AN_ATTEMPT: &str =
+    r#"{"version":2,"devices":[{"name":"a"},{"name":"b"}],"actors":[{"name":"w","kind":"user","script":[{"op":"post","mark":"m"},{"op":"state","text":"mem"}]},{"name":"n","kind":"nofreeze","script":[{"op":"wait","mark":"m"},{"op":"link","supplier":"b","consumer":"a"},{"op":"link_state","supplier":"b","consumer":"a","to":"dormant"}]}]}"#;
 
 /// What the program writes for it.
-const LINKS_IN_AN_ATTEMPT_LOG: &str = "\
+pub(crate) const LINKS_IN_AN_ATTEMPT_LOG: &str = "\
 0 0/0/0 task:w post m
 0 0/0/0 task:n got m
 0 0/0/0 task:w attempt 1 plain
@@ -306,12 +298,12 @@ source autosleep 0 0 0 0 0 0 0
 finished
 ";
 
-/// The same operations where no attempt is open.
-const LINKS_WITHOUT_AN_ATTEMPT: &str =
-    r#"{"version": 2, "devices": [{"name": "a"}, {"name": "b"}], "actors": [{"name": "w", "kind": "user", "script": [{"op": "post", "mark": "m"}]}, {"name": "n", "kind": "nofreeze", "script": [{"op": "wait", "mark": "m"}, {"op": "link", "supplier": "b", "consumer": "a"}, {"op": "link_state", "supplier": "b", "consumer": "a", "to": "dormant"}]}]}"#;
+/// The same changes without an attempt.
+pub(crate) const LINKS_WITHOUT_AN_ATTEMPT: &str =
+    r#"{"version":2,"devices":[{"name":"a"},{"name":"b"}],"actors":[{"name":"w","kind":"user","script":[{"op":"post","mark":"m"}]},{"name":"n","kind":"nofreeze","script":[{"op":"wait","mark":"m"},{"op":"link","supplier":"b","consumer":"a"},{"op":"link_state","supplier":"b","consumer":"a","to":"dormant"}]}]}"#;
 
 /// What the program writes for it.
-const LINKS_WITHOUT_AN_ATTEMPT_LOG: &str = "\
+pub(crate) const LINKS_WITHOUT_AN_ATTEMPT_LOG: &str = "\
 0 0/0/0 task:w post m
 0 0/0/0 task:n got m
 0 0/0/0 task:w exit

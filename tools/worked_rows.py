@@ -1,0 +1,68 @@
+"""The worked logs as tests of the program: written by tools/worked.py into crates/sleep_main/src/rows."""
+
+import json
+
+# Each file of rows: the module of worked logs that it has, and what it says at its head.
+ROWS = {
+    "attempts": ("Attempts", "Attempts that sleep, and attempts that a wakeup ends."),
+    "failures": ("Failures", "Attempts in which a callback, a notifier, a syscore step or the platform fails."),
+    "devices": ("Devices", "Devices with suppliers, asynchronous ones, and runtime status."),
+    "links": ("Links", "Links that are dormant, and links that tasks add or set between attempts."),
+    "freezing": ("Freezing", "Tasks that are asked to freeze."),
+    "counts": ("Counts", "Reads and saves of the count, writes to the state, and tasks that wait."),
+    "timers": ("Timers", "Events with a length."),
+    "autosleep": ("Autosleep", "Writes to autosleep, and its work."),
+}
+
+# The width of a line, and of a tuple on one line, as rt fmt lays them out.
+WIDTH = 100
+TUPLE = 60
+
+HEAD = """//! {says}
+//!
+//! `tools/worked.py` writes this file from `tools/worked/`.
+
+/// The machines, the status that each gives, and its log.
+pub(crate) const MACHINES: [(&str, u8, &str); {count}] = [
+{rows}];
+"""
+
+ROW = '''
+/// {says}
+{file}
+
+/// What the program writes for it.
+pub(crate) const {name}_LOG: &str = "\\
+{text}";
+'''
+
+
+def status_of(log):
+    """The status that the program ends with: 6 where somebody waits for ever."""
+    return 6 if log.stuck else 0
+
+
+def table_row(log):
+    """A row of the table of a file."""
+    parts = [log.name.upper(), str(status_of(log)), f"{log.name.upper()}_LOG"]
+    if len(", ".join(parts)) > TUPLE:
+        return "    (\n" + "".join(f"        {part},\n" for part in parts) + "    ),\n"
+    return f"    ({', '.join(parts)}),\n"
+
+
+def row(log):
+    """A machine and its log as constants."""
+    name, file = log.name.upper(), json.dumps(log.machine.tree, separators=(",", ":"))
+    line = f'pub(crate) const {name}: &str = r#"{file}"#;'
+    if len(line) > WIDTH:
+        line = line.replace("&str = ", "&str =\n    ", 1)
+    return ROW.format(says=log.says, name=name, file=line, text=log.text)
+
+
+def write_rows(logs, folder):
+    """A file for each subject."""
+    for name, (module, says) in ROWS.items():
+        own = [log for log in logs if log.module == module]
+        table = "".join(map(table_row, own))
+        text = HEAD.format(says=says, count=len(own), rows=table) + "".join(map(row, own))
+        (folder / f"{name}.rt").write_text(text)
