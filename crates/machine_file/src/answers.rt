@@ -22,9 +22,10 @@ use crate::known::{Known, contains, item};
 use crate::look::{has_text, is_number, is_text, list_in, number_at, text_at};
 use crate::operations::names_one_of;
 use crate::place::{Member, Place, items};
-use crate::places::Places;
+use crate::places::first_repeated;
 use crate::words::step_named;
 use borrowed_json::{Value, get};
+use key_index::KeyIndex;
 use sleep_base::{Errno, Mem};
 use std::alloc::Global;
 
@@ -225,11 +226,11 @@ fn all_given<'v>(alloc: Global, answers: &[Value<'v>]) -> Result<Vec<Given<'v>>,
     Ok(all)
 }
 
-fn first_again(answers: &Places<Given>) -> Option<usize>
+fn first_again(answers: &KeyIndex<Given>) -> Option<usize>
     ensures { result ≡ first_not_after (λ before a.
         not (list_any (λ b. same_answer (answer_seen a) (answer_seen b)) before)) [] 0 answers.now }
 {
-    answers.first_repeated()
+    first_repeated(answers)
 }
 
 /// The first answer that stands a second time.
@@ -237,6 +238,6 @@ pub(crate) fn repeated_answer(alloc: Global, tree: &Value<'_>) -> Result<Option<
     ensures { IfOk result (λ p. place_of p ≡ repeated_answer (view tree.now)) }
 {
     let answers = all_given(alloc, items(tree, Member::Answers))?;
-    let answers = Places::new(alloc, answers)?;
+    let answers = KeyIndex::new(alloc, answers)?;
     Ok(item(Member::Answers, first_again(&answers)))
 }

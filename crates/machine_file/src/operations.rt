@@ -20,8 +20,8 @@ use crate::look::{
     must_be_text, must_be_within, text_at, word_at,
 };
 use crate::place::{Member, Place, items};
-use crate::places::Places;
 use borrowed_json::{Value, as_str, get};
+use key_index::KeyIndex;
 
 /// The word of an operation.
 #[derive(Clone, Copy)]
@@ -253,7 +253,7 @@ fn is_of_version(second: bool, word: Word) -> bool
 }
 
 // Whether the devices that it names, if it names any, are of these.
-fn names_devices(operation: &Value<'_>, names: &Places<&str>) -> bool
+fn names_devices(operation: &Value<'_>, names: &KeyIndex<&str>) -> bool
     ensures { result ≡ names_device (texts names.now) (view operation.now) }
 {
     names_one_of(operation, "device", names)
@@ -303,7 +303,7 @@ fn is_allowed(kind: &str, word: Word) -> bool
 }
 
 // Whether the thing that it names there, if it names one, is of these.
-pub(crate) fn names_one_of(operation: &Value<'_>, member: &str, names: &Places<&str>) -> bool
+pub(crate) fn names_one_of(operation: &Value<'_>, member: &str, names: &KeyIndex<&str>) -> bool
     ensures { result ≡ is_none_or (is_among_names (texts names.now)) (word_at member.now (view operation.now)) }
 {
     match word_at(operation, member) {

@@ -15,10 +15,10 @@ ghost use Rattle.machine_file.specs.Knows.{texts, AreFew};
 use crate::answers::is_of_device;
 use crate::known::Known;
 use crate::look::{has_text, list_in, number_at};
-use crate::places::Places;
 use crate::scripts::{ms_of, says, small_at, thing_at};
 use crate::words::{error_in, phase_in, step_in};
 use borrowed_json::{Value, get};
+use key_index::KeyIndex;
 use sleep_base::{Errno, Mem};
 use sleep_model::{Answer, ListOf, Phase, PlatDo, Report, SourceCall, What};
 use std::alloc::Global;
@@ -120,7 +120,7 @@ fn call_of(report: &Value<'_>) -> SourceCall
     }
 }
 
-fn report_of(report: &Value<'_>, sources: &Places<&str>) -> Report
+fn report_of(report: &Value<'_>, sources: &KeyIndex<&str>) -> Report
     requires few { length sources.now ≤ 1000 }
     requires fits { FitsAt (codes "ms") (view report.now) }
     ensures { result ≡ whole_report (texts sources.now) (view report.now) }
@@ -134,7 +134,7 @@ fn report_of(report: &Value<'_>, sources: &Places<&str>) -> Report
 fn reports_of(
     alloc: Global,
     reports: &[Value<'_>],
-    sources: &Places<&str>,
+    sources: &KeyIndex<&str>,
 ) -> Result<Vec<Report>, Mem>
     requires few { length sources.now ≤ 1000 }
     requires fit { All (FitsAt (codes "ms")) (map view reports.now) }

@@ -17,10 +17,10 @@ use crate::cycles::place_among;
 use crate::known::Known;
 use crate::look::{has_text, list_in, number_at, text_at, truth_at};
 use crate::operations::{Word, by_operation, word_of};
-use crate::places::Places;
 use crate::texts::{name_of_text, text_from};
 use crate::words::kind_in;
 use borrowed_json::{Value, get};
+use key_index::KeyIndex;
 use sleep_base::Mem;
 use sleep_model::{ListOf, Op, Script, Step, TaskKind, Text};
 use std::alloc::Global;
@@ -60,7 +60,7 @@ pub(crate) fn says(value: &Value<'_>, name: &str) -> bool
 }
 
 /// The number of the thing that is named there.
-pub(crate) fn thing_at(value: &Value<'_>, name: &str, names: &Places<&str>) -> u32
+pub(crate) fn thing_at(value: &Value<'_>, name: &str, names: &KeyIndex<&str>) -> u32
     requires { length names.now ≤ 200000 }
     ensures { result ≡ place_among (texts names.now) (text_at name.now (view value.now)) }
 {
