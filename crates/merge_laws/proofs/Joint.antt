@@ -45,7 +45,7 @@ times_kept whole e past c h time l =
     let rise : time_of past ≤ e.time = clock_rises e past c.0 in
     h time (omega arith) ∙ ap (λ (b : Bool). cond b (e ∷ before time past) (before time past)) (no_less e.time time (omega arith))
 
--- the entries before a jump are those with an earlier time
+-- before a jump stand the entries of earlier times
 before_jump : (whole : List Entry) (e : Entry) (past : List Entry) → Clocked (e ∷ past) → TimesKept whole (e ∷ past) → time_of past < e.time → before e.time whole ≡ past
 before_jump whole e past c h l =
     let now : time_of (e ∷ past) ≡ e.time = clock_time e past c.0 in

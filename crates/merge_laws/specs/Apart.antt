@@ -78,7 +78,7 @@ history_after who k (e ∷ past) =
 abbrev pub is_inside : ℕ → (ℕ → List Entry) → Actor → List Entry → Bool
 is_inside n of who own = is_calling n (λ s. history_after who (length (history s own)) (of s)) who
 
--- a note is the next of these calls, of which n were made; a timer's is the expiry of its source
+-- a note is the next of these calls, of which n were made; a timer notes its source's expiry
 abbrev pub IsCall : Actor → List Kind → ℕ → Kind → Type 0
 IsCall (actor.Timer s) calls n k = k ≡ Expire s
 IsCall who calls n k = slice_get calls n ≡ Some k

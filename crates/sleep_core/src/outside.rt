@@ -96,7 +96,7 @@ impl<'m> Core<'m> {
         self.plans[script as usize].calls_before(seat.turns)
     }
 
-    /// How many calls on sources the actor has to have made before its next entry of the journal: those of
+    /// How many calls on sources an actor owes in all before it may append to the journal: those of
     /// a script's own steps, and what its callbacks have reported (`pm_wakeup_event`, `pm_stay_awake`,
     /// `pm_relax`).
     pub fn calls_due(&self, who: Actor) -> u64

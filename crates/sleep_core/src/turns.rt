@@ -32,7 +32,7 @@ use thiserror::Error;
 /// What a turn did.
 #[derive(Clone, Copy)]
 pub enum CoreTurn {
-    /// It made one entry. `attempt` is the number of the attempt begun last, 0 before the first.
+    /// It made one entry. `attempt` numbers the latest attempt; before any it is 0.
     Did {
         stamp: Stamp,
         kind: Kind,
@@ -211,7 +211,7 @@ impl<'m> Core<'m> {
     }
 
     /// One turn of an actor: looks at the word until it is at least the floor's, decides, and makes
-    /// at most one entry. `calls` is the number of source calls that the actor has made, `now` the
+    /// at most one entry. `calls` counts the actor's calls on sources so far, `now` is the
     /// time in ms. `NotYet` exactly where the actor waits, `Done` exactly where nothing is due of it.
     /// `Mem` where there is no memory, or no number for one more attempt, run or mark; never for the maker of
     /// the open attempt, nor for a device; nothing has changed then.

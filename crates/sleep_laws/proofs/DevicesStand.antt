@@ -305,7 +305,7 @@ devices_down m past e h = enters_moved m past e.now e.actor e.kind h.1 (moved m 
 
 -- ---- the whole laws
 
--- an undo stands only for what is owed
+-- only what is owed is undone
 pub all_owed : (m : Machine) (past : List Entry) (e : Entry) → JournalPart m (e ∷ past) → Owed m past e.kind
 all_owed m past e h = owed m past e h (owed_device m past e h)
 

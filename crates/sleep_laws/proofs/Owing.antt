@@ -1,4 +1,4 @@
--- An undo stands only for what is owed, and a test that found a wakeup only where one is pending.
+-- Only what is owed is undone, and a test that found a wakeup only where one is pending.
 use Rattle.std.proofs.Common.{◌≡◌, ℕ, true, List, ◌∷◌, Option, Some, is_some, length, refl, sym, ap}
 use Rattle.std.proofs.lemmas.Bool.{true≢false}
 use Rattle.sleep_base.specs.declared.errno.Errno.TheVariants.{EINVAL}
@@ -67,7 +67,7 @@ owed_moved m past now who k h (Makes _ here there _ a e c x) d = owed_made m pas
 owed_moved m past now who k h (Beside _ _ a x) d = owed_aside m past k x
 owed_moved m past now _ k h (Owns y _ x) d = owed_own m past now y k x d
 
--- an undo stands only for what is owed, where that holds of devices
+-- only what is owed is undone, where that holds of devices
 pub owed : (m : Machine) (past : List Entry) (e : Entry) → JournalPart m (e ∷ past) → DeviceOwed m past e.kind → Owed m past e.kind
 owed m past e h d = owed_moved m past e.now e.actor e.kind h.1 (moved m past e h) d
 

@@ -31,7 +31,7 @@ pub fn restored()
     ensures { HoldsAtEntries (λ m past e. Restored m past e.kind) }
 {}
 
-/// An undo stands only for what is owed, so that each is made once: on the way up a device is scheduled
+/// Only what is owed is undone, so that each is made once: on the way up a device is scheduled
 /// only if it is down, begins only if it is down or was scheduled, and ends only inside its callback; it
 /// is completed only if it is prepared and, in each of the three pairs of phases, neither down nor on its
 /// way; a notifier is posted to only if it was told; a processor, a part of the core, interrupts and a

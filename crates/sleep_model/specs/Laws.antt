@@ -115,7 +115,7 @@ is_owed_by past undo.End = owes_platform down.Begin past
 is_owed_by past undo.Finish = owes_platform down.Prepare past
 is_owed_by past undo.Wake = owes_platform down.PrepareLate past
 
--- an undo stands only for what is owed, so each stands once, and a device is completed only where no other is owed to it (dpm_resume, device_resume, device_complete, suspend_finish)
+-- only what is owed is undone, so each stands once, and a device is completed only where no other is owed to it (dpm_resume, device_resume, device_complete, suspend_finish)
 abbrev pub Owed : Machine → List Entry → Kind → Type 0
 Owed m past (kind.Schedule p d) = is_up p ≡ true → is_down_in (stand_in m past (mirror p) d) ≡ true
 Owed m past (kind.Begin p d) = is_up p ≡ true → may_come_up (stand_in m past (mirror p) d) ≡ true

@@ -135,7 +135,7 @@ struct Meeting {
     met: bool,
 }
 
-/// Sets its own flag, and looks for the other's ten million times.
+/// Raises one flag, and looks ten million times whether the other is up.
 fn meets(mine: &AtomicBool, others: &AtomicBool) -> bool {
     mine.store(true, Ordering::SeqCst);
     for _look in 0..10_000_000u32 {
