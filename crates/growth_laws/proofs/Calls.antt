@@ -1,11 +1,9 @@
 -- A whole call on a source leaves a legal list of entries legal, and no step owed.
-use Rattle.std.proofs.Common.{◌≡◌, ◌≤◌, ◌<◌, ◌+◌, ◌++◌, ◌∙◌, ℕ, zero, suc, Bool, true, false, ◌==◌, List, [], ◌∷◌, length, Option, Some, None, refl, sym, ap, subst, cond, arith}
+use Rattle.std.proofs.Common.{◌≡◌, ◌≤◌, ◌<◌, ◌+◌, ◌++◌, ◌∙◌, ℕ, Bool, true, false, ◌==◌, List, [], ◌∷◌, length, Option, Some, None, refl, sym, ap, subst, cond, arith}
 use Rattle.std.proofs.lemmas.Bool.Decides.{nat_tests}
 use Rattle.sleep_model.specs.declared.entry.Actor.{Actor}
 use Rattle.sleep_model.specs.declared.entry.Actor.TheVariants as actor
 use Rattle.sleep_model.specs.declared.entry.Entry.{Entry}
-use Rattle.sleep_model.specs.declared.entry.Kind.{Kind}
-use Rattle.sleep_model.specs.declared.entry.Kind.TheVariants as kind
 use Rattle.sleep_model.specs.declared.machine.Machine.{Machine}
 use Rattle.sleep_model.specs.declared.machine.SourceCall.{SourceCall}
 use Rattle.sleep_model.specs.declared.machine.SourceCall.TheVariants as call
@@ -19,7 +17,7 @@ use Rattle.sleep_model.specs.Parts.{Notes, Moves, part_of, journal}
 use Rattle.sleep_model.specs.Path.{is_same}
 use Rattle.sleep_model.specs.Sources.{history, is_of, most_entries, since, makes, owed, behind_first, caller, SourceStep, IsNext}
 use Rattle.growth_laws.specs.Whole.{moves, entry_by, with_steps, with_call, steps_of, OweNone}
-use Rattle.growth_laws.proofs.Calling.{made_more, made_other}
+use Rattle.growth_laws.proofs.Calling.{made_more}
 use Rattle.growth_laws.proofs.Growing.{note_legal, step_legal}
 use Rattle.growth_laws.proofs.Histories.{history_own, history_other, same_source}
 

@@ -1,5 +1,5 @@
 -- The histories of the machine's sources keep to their places.
-use Rattle.std.proofs.Common.{◌≡◌, ◌≤◌, ◌<◌, ◌+◌, ◌∙◌, ℕ, zero, suc, Bool, true, false, ◌==◌, ◌&&◌, nat_le, List, [], ◌∷◌, length, refl, sym, ap, subst, arith}
+use Rattle.std.proofs.Common.{◌≡◌, ◌≤◌, ◌<◌, ◌+◌, ◌∙◌, ℕ, zero, suc, Bool, true, false, ◌==◌, ◌&&◌, nat_le, List, [], ◌∷◌, length, cond, refl, ap, subst, arith}
 use Rattle.std.specs.List.{list_all, range_with_len}
 use Rattle.std.proofs.lemmas.Bool.Decides.{nat_tests}
 use Rattle.sleep_model.specs.declared.entry.Entry.{Entry}
@@ -52,3 +52,21 @@ fit_own m s e past own here place h = record {
         let within : length (history t (e ∷ past)) ≤ most_entries = omega (arith, joins, place') in
         grind (arith, nat_tests)
     by_same t false is x = ap (λ (own : List Entry). nat_le (length own) most_entries) (history_other t e past (own t ∙ is)) ∙ x
+
+-- what fits fitted before
+pub fit_rest : (m : Machine) (e : Entry) (past : List Entry) → HistoriesFit m (e ∷ past) → HistoriesFit m past
+fit_rest m e past h = record {
+  there = rest (is_there m (part_of e.kind)) h.there;
+  short = all_of (is_short (e ∷ past)) (is_short past) 0 (length m.sources + 1) (λ s x. shorter s (is_of s (part_of e.kind)) x) h.short;
+}
+  where
+    rest : (b : Bool) → (b && list_all (λ x. is_there m (part_of x.kind)) past) ≡ true → list_all (λ x. is_there m (part_of x.kind)) past ≡ true
+    rest true x = x
+    rest false x = absurd (cc)
+
+    shorter : (s : ℕ) (b : Bool) → nat_le (length (cond b (e ∷ history s past) (history s past))) most_entries ≡ true → is_short past s ≡ true
+    shorter s true x =
+        let within : suc (length (history s past)) ≤ most_entries = grind (arith, nat_tests) in
+        let less : length (history s past) ≤ most_entries = omega (arith, within) in
+        grind (arith, nat_tests)
+    shorter s false x = x

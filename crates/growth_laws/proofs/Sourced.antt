@@ -1,5 +1,5 @@
 -- An actor's calls are on sources of the machine, and none is an expiry.
-use Rattle.std.proofs.Common.{◌≡◌, ◌≤◌, ◌<◌, ◌+◌, ◌++◌, ℕ, zero, suc, Bool, true, false, ◌&&◌, ◌||◌, List, [], ◌∷◌, length, map, filter, flat_map, replicate, Option, Some, None, refl, sym, subst, cond, slice_get, arith}
+use Rattle.std.proofs.Common.{◌≡◌, ◌≤◌, ◌<◌, ◌+◌, ◌++◌, ℕ, zero, suc, Bool, true, false, ◌&&◌, ◌||◌, List, [], ◌∷◌, length, map, Option, Some, None, refl, cond, slice_get, arith}
 use Rattle.sleep_model.specs.declared.entry.Actor.{Actor}
 use Rattle.sleep_model.specs.declared.entry.Actor.TheVariants as actor
 use Rattle.sleep_model.specs.declared.entry.Entry.{Entry}
@@ -13,14 +13,13 @@ use Rattle.sleep_model.specs.declared.machine.Report.{Report}
 use Rattle.sleep_model.specs.declared.machine.Script.{Script}
 use Rattle.sleep_model.specs.declared.machine.SourceCall.{SourceCall}
 use Rattle.sleep_model.specs.declared.machine.SourceCall.TheVariants as call
-use Rattle.sleep_model.specs.declared.machine.Step.{Step}
 use Rattle.sleep_model.specs.declared.machine.What.{What}
 use Rattle.sleep_model.specs.declared.machine.What.TheVariants as what
-use Rattle.sleep_model.specs.Accepted.{IsAccepted, IsOp, AreSteps, AreScripts, IsReport, AreReports, AreAnswers}
+use Rattle.sleep_model.specs.Accepted.{IsAccepted, IsOp, IsReport, AreReports, AreAnswers}
 use Rattle.sleep_model.specs.Answers.{answer, answer_for, answer_reports, own_or, is_thing, is_for}
 use Rattle.sleep_model.specs.Calls.{calls_at, pieces_if, pieces_in, calls_of_turn, calls_behind, note, report_calls, calls_of, ends_turn, turns_ended}
 use Rattle.sleep_model.specs.Path.{attempts, is_same}
-use Rattle.sleep_model.specs.Scripts.{Piece, Calls, Turns, times_over, operations, note_of, autosleep_pieces, call_or_turn, pieces_of, pieces}
+use Rattle.sleep_model.specs.Scripts.{Piece, Calls, Turns, operations, autosleep_pieces, pieces_of}
 use Rattle.sleep_model.specs.Tasks.{is_mem, is_off}
 use Rattle.sleep_laws.proofs.Operations.{Each, each_append, each_flat, each_get, each_operation, script_steps}
 

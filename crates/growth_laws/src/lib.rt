@@ -1,2 +1,37 @@
-//! How a legal list of entries grows: one more entry of the journal, one whole call on a source, one jump of time.
+//! How a legal list of entries grows: one more entry of the journal, one whole call on a source, one jump
+//! of time; and that it fits its machine where its run is over.
 #![tactic(auto)]
+
+ghost use Rattle.std.specs.Prelude.{◌≡◌, true};
+ghost use Rattle.growth_laws.specs.Ranged.{is_ranged};
+ghost use Rattle.sleep_model.specs.Fits.{fits_stats, is_word32, is_word64};
+
+use sleep_model::{Kind, Stats};
+
+/// The numbers of a kind of entry are in the ranges of their fields.
+pub fn kinds_are_ranged(kind: Kind)
+    ensures { is_ranged kind ≡ true }
+{
+    let _ = kind;
+}
+
+/// So are those of a source's statistics.
+pub fn stats_are_ranged(stats: Stats)
+    ensures { fits_stats stats ≡ true }
+{
+    let _ = stats;
+}
+
+/// So is a moment.
+pub fn moments_are_ranged(time: u64)
+    ensures { is_word64 time ≡ true }
+{
+    let _ = time;
+}
+
+/// So is the length of an event.
+pub fn lengths_are_ranged(ms: u32)
+    ensures { is_word32 ms ≡ true }
+{
+    let _ = ms;
+}
