@@ -506,8 +506,8 @@ fn compare_all(
     for _ in 0..20 {
         seed = seed.wrapping_mul(1_664_525).wrapping_add(1_013_904_223);
         let link = ((seed >> 16) % 7, (seed >> 20) % 7);
-        let hangs = all_moved(alloc, parents, &compared.added, link.1)?;
-        if compare_one(rt, alloc, compared, link, &hangs)? {
+        let dependents = all_moved(alloc, parents, &compared.added, link.1)?;
+        if compare_one(rt, alloc, compared, link, &dependents)? {
             cycles = cycles.wrapping_add(1);
         }
     }
@@ -520,16 +520,16 @@ fn compare_one(
     alloc: Global,
     compared: &mut Compared,
     link: (u32, u32),
-    hangs: &[u32],
+    dependents: &[u32],
 ) -> Result<bool, Mem> {
     let answer = added(&mut compared.links, link.0, link.1);
     match answer {
         Answer::Done => {
-            assert!(rt; !hangs.contains(&link.0));
-            note_added(alloc, compared, link, hangs)?;
+            assert!(rt; !dependents.contains(&link.0));
+            note_added(alloc, compared, link, dependents)?;
         }
         Answer::Twice => assert!(rt; compared.added.contains(&link)),
-        Answer::Cycle => assert!(rt; hangs.contains(&link.0)),
+        Answer::Cycle => assert!(rt; dependents.contains(&link.0)),
         _ => panic!(rt; "another refusal"),
     }
     expect_order(rt, &compared.links, &compared.order);
@@ -541,10 +541,10 @@ fn note_added(
     alloc: Global,
     compared: &mut Compared,
     link: (u32, u32),
-    hangs: &[u32],
+    dependents: &[u32],
 ) -> Result<(), Mem> {
     compared.added.push(link)?;
-    compared.order = with_last(alloc, &compared.order, hangs)?;
+    compared.order = with_last(alloc, &compared.order, dependents)?;
     Ok(())
 }
 

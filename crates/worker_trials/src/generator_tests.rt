@@ -123,7 +123,7 @@ fn assert_names(rt: &impl Abort, devices: &[Device], sources: &[Name]) -> Result
 }
 
 /// What the devices of a small machine depend on.
-const HANG: [Option<u32>; 20] = [
+const PARENTS: [Option<u32>; 20] = [
     None,
     None,
     Some(1),
@@ -181,7 +181,7 @@ fn twenty_devices_are_generated(rt: HostRuntime) -> Result<(), Fail> {
 
 /// What its devices depend on, and which are async.
 fn assert_twenty(rt: &impl Abort, alloc: Global, machine: &Machine) -> Result<(), Fail> {
-    assert_eq!(rt; parents(alloc, machine)?.as_slice(), HANG.as_slice());
+    assert_eq!(rt; parents(alloc, machine)?.as_slice(), PARENTS.as_slice());
     let asynchronous = [0, 1, 3, 4, 6, 7, 10, 13, 16, 17, 19];
     assert_eq!(rt; asyncs(alloc, machine)?.as_slice(), asynchronous.as_slice());
     Ok(())
