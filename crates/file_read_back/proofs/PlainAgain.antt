@@ -32,7 +32,7 @@ use Rattle.machine_file.specs.Devices.{whole_device}
 use Rattle.machine_file.specs.Operations.{Known, known_of, spelled_op, whole_op, whole_step, whole_script}
 use Rattle.machine_file.specs.Answering.{whole_report, whole_answer, thing_of}
 use Rattle.machine_file.specs.Whole.{whole_machine, whole_notifier, priority_of, first_broken}
-use Rattle.machine_file.specs.Spelling.{count, as_items, as_members, put_if, object_of, list_unless_empty, integer_unless_zero, kind_word, op_rows, step_value, script_value, device_value, link_value, notifier_value, report_rows, report_value, thing_word, thing_phase, answer_value, machine_value, device_rows, link_rows, notifier_rows, script_rows, answer_rows, machine_rows}
+use Rattle.machine_file.specs.Spelling.{count, as_items, as_members, put_if, object_of, list_unless_empty, integer_unless_zero, op_rows, step_value, script_value, device_value, link_value, notifier_value, report_rows, report_value, thing_word, thing_phase, answer_value, machine_value, device_rows, link_rows, notifier_rows, script_rows, answer_rows, machine_rows}
 use Rattle.machine_file.proofs.Sheets.{is_before, are_rising, put_first}
 use Rattle.file_read_back.proofs.Numbers.{number_of, unless_default, if_true}
 use Rattle.file_read_back.proofs.Alike.{EachOf}

@@ -17,7 +17,8 @@ use Rattle.machine_file.specs.Rules.{name_of}
 use Rattle.machine_file.specs.Limits.{repeat_of, times_if, script_steps}
 use Rattle.machine_file.specs.Operations.{Operation, operations, row_of, is_allowed, known_of, whole_step, whole_script, kind_of, marks_of}
 use Rattle.machine_file.specs.Whole.{whole_machine}
-use Rattle.machine_file.specs.Spelling.{list_unless_empty, kind_word, script_rows, script_value, step_value}
+use Rattle.machine_file.specs.Spelling.{list_unless_empty, script_rows, script_value, step_value}
+use Rattle.sleep_model.specs.Text.{kind_word}
 use Rattle.file_read_back.proofs.Rows.{at_name, named, list_found}
 use Rattle.file_read_back.proofs.LinksBack.{spelled}
 use Rattle.file_read_back.proofs.Numbers.{number_of, number_back, in_range_or, number_form}

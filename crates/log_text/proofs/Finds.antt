@@ -8,7 +8,7 @@ use Rattle.std.proofs.lemmas.Bool.{and_parts}
 use Rattle.sleep_model.specs.Text.{name_in}
 use Rattle.log_text.specs.Named.{is_name, is_name_byte, is_name_long, are_distinct, are_names}
 use Rattle.log_text.specs.Cutting.{place_in}
-use Rattle.log_text.proofs.Placing.{position_cons}
+use Rattle.key_index.proofs.Placing.{position_cons}
 
 same_bytes : (n : List ℕ) → bytes_eq n n ≡ true
 same_bytes n = (bytes_decides n n).1 refl

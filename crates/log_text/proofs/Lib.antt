@@ -1,6 +1,5 @@
 pub mod Sources
 pub mod Decimals
-mod Placing
 pub mod SameNames
 pub mod Cuts
 pub mod NumbersBack

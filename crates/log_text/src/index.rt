@@ -3,7 +3,7 @@
 ghost use Rattle.std.specs.Prelude.{◌≡◌, ◌<◌, ◌^◌, length, nat_lt, true, IfOk, IfSome};
 ghost use Rattle.log_text.specs.Cutting.{place_in};
 
-use crate::places::Places;
+use key_index::KeyIndex;
 use sleep_base::Mem;
 use sleep_model::Name;
 use std::alloc::Global;
@@ -11,7 +11,7 @@ use std::alloc::Global;
 /// Names of things, each of which is found at once by its bytes.
 #[derive(Drop)]
 pub struct NameIndex {
-    places: Places<Name>,
+    places: KeyIndex<Name>,
     ghost few: { length places < 2 ^ 32 },
 }
 
@@ -23,7 +23,7 @@ impl NameIndex {
         if names.len() > u32::MAX as usize {
             return Err(Mem);
         }
-        let places = Places::new(alloc, names)?;
+        let places = KeyIndex::new(alloc, names)?;
         Ok(NameIndex { places })
     }
 

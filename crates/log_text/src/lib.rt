@@ -24,7 +24,6 @@ mod meaning;
 mod names;
 mod number;
 mod piece;
-mod places;
 mod read;
 mod reader;
 mod ready;

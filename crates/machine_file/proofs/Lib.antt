@@ -18,6 +18,7 @@ pub mod Fitted
 pub mod FittedFile
 pub mod Marked
 pub mod Worded
+pub mod Namings
 pub mod Counting
 pub mod Machined
 pub mod Sheets

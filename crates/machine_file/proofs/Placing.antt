@@ -1,24 +1,14 @@
 -- Where keys stand in a list, and the first that stands a second time.
 use Rattle.std.proofs.Common.{◌≡◌, ◌<◌, ◌≤◌, ◌+◌, ◌-◌, ◌∙◌, ◌||◌, ◌&&◌, ℕ, zero, suc, Bool, true, false, not, cond, nat_lt, if◌then◌else◌, List, [], ◌∷◌, ◌++◌, length, map, take, drop, reverse, get_or, position, Option, Some, None, is_some, refl, sym, ap, arith, drop-cons}
-use Rattle.std.specs.Cmp.{IsEquivalence}
 use Rattle.std.specs.List.{list_any, position_or_len}
 use Rattle.std.specs.Option.{option_map}
 use Rattle.std.proofs.lemmas.Bool.Decides.{nat_tests}
 use Rattle.std.proofs.lemmas.List.{reverse-append}
 use Rattle.std.proofs.Math.Seq.{take-suc, drop-length}
 use Rattle.std.proofs.Math.ListN.{drop_of_length-le}
+pub use Rattle.key_index.proofs.Placing.{position_cons}
 use Rattle.machine_file.specs.Look.{is_some_and}
 use Rattle.machine_file.specs.Places.{first_not_after}
-
-found_case : (b c : Bool) (n m : ℕ) → nat_lt n m ≡ c →
-    cond (nat_lt (cond (not b) (1 + n) 0) (suc m)) (Some (cond (not b) (1 + n) 0)) None ≡ cond b (Some 0) (option_map suc (cond c (Some n) None))
-found_case true c n m e = let z : nat_lt 0 (suc m) ≡ true = grind (arith, nat_tests) in rw z refl
-found_case false true n m e = let z : nat_lt (1 + n) (suc m) ≡ true = grind (arith, nat_tests) in let s : 1 + n ≡ suc n = omega arith in rw (z, s) refl
-found_case false false n m e = let z : nat_lt (1 + n) (suc m) ≡ false = grind (arith, nat_tests) in rw z refl
-
--- the first place in a list with one more at its front
-pub position_cons : {X : Type 0} (p : X → Bool) (x : X) (xs : List X) → position p (x ∷ xs) ≡ cond (p x) (Some 0) (option_map suc (position p xs))
-position_cons p x xs = found_case (p x) (nat_lt (position_or_len p xs) (length xs)) (position_or_len p xs) (length xs) refl
 
 before_case : (b r : Bool) (i : ℕ) (o : Option ℕ) → r ≡ is_some_and (λ j. nat_lt j i) o → (b || r) ≡ is_some_and (λ j. nat_lt j (suc i)) (cond b (Some 0) (option_map suc o))
 before_case true r i o e = let z : nat_lt 0 (suc i) ≡ true = grind (arith, nat_tests) in sym z
@@ -40,31 +30,6 @@ any_before p zero (x ∷ xs) = never (position p (x ∷ xs))
 any_before p (suc i) (x ∷ xs) =
     before_case (p x) (list_any p (take i xs)) i (position p xs) (any_before p i xs)
     ∙ ap (is_some_and (λ j. nat_lt j (suc i))) (sym (position_cons p x xs))
-
-module _ {K : Type 0} (eq : K → K → Bool) (laws : IsEquivalence eq) where
-  -- the first place of a key from number i on
-  abbrev pub placed : List K → ℕ → K → Option ℕ
-  placed keys i q = option_map (λ j. i + j) (position (eq q) (drop i keys))
-
-  shifted : (b : Bool) (i : ℕ) (o : Option ℕ) → option_map (λ j. i + j) (cond b (Some 0) (option_map suc o)) ≡ cond b (Some i) (option_map (λ j. i + 1 + j) o)
-  shifted true i o = let z : i + 0 ≡ i = omega arith in rw z refl
-  shifted false i None = refl
-  shifted false i (Some j) = let z : i + suc j ≡ i + 1 + j = omega arith in rw z refl
-
-  -- one key more at the front, put over what was found
-  pub placed_more : (keys : List K) (i : ℕ) (k : K) → i < length keys → k ≡ get_or keys i k → (at more : K → Option ℕ) → ((q : K) → at q ≡ placed keys (i + 1) q) →
-      ((q : K) → more q ≡ cond (eq k q) (Some i) (at q)) → (q : K) → more q ≡ placed keys i q
-  placed_more keys i k within is at more h update q =
-      let next : suc i ≡ i + 1 = omega arith in
-      let split : drop i keys ≡ k ∷ drop (i + 1) keys = drop-cons keys i k within ∙ ap (λ x. x ∷ drop (suc i) keys) (sym is) ∙ ap (λ n. k ∷ drop n keys) next in
-      update q ∙ ap (cond (eq k q) (Some i)) (h q)
-      ∙ ap (λ b. cond b (Some i) (placed keys (i + 1) q)) (laws.symm k q)
-      ∙ sym (shifted (eq q k) i (position (eq q) (drop (i + 1) keys)))
-      ∙ sym (ap (option_map (λ j. i + j)) (ap (position (eq q)) split ∙ position_cons (eq q) k (drop (i + 1) keys)))
-
-  -- a key that stands nowhere before
-  abbrev pub is_first : List K → K → Bool
-  is_first before k = not (list_any (eq k) before)
 
 pub any_append : {X : Type 0} (p : X → Bool) (xs : List X) (x : X) → list_any p (xs ++ x ∷ []) ≡ (p x || list_any p xs)
 any_append p [] x = refl
@@ -110,19 +75,6 @@ module _ {K : Type 0} (eq : K → K → Bool) where
 
     pub repeated_later : list_any (eq k) (take i keys) ≡ false → repeated_from keys i ≡ repeated_from keys (i + 1)
     repeated_later h = rw step (rw h (ap (repeated_from keys) next))
-
-module _ {K : Type 0} (eq : K → K → Bool) (laws : IsEquivalence eq) where
-  plain : (o : Option ℕ) → option_map (λ j. 0 + j) o ≡ o
-  plain None = refl
-  plain (Some j) = let z : 0 + j ≡ j = omega arith in rw z refl
-
-  -- from the first key on
-  pub placed_all : (keys : List K) (i : ℕ) → i ≡ 0 → (q : K) → placed eq laws keys i q ≡ position (eq q) keys
-  placed_all keys i e q = rw e (plain (position (eq q) keys))
-
-  -- from behind the last key on
-  pub placed_none : (keys : List K) (q : K) → placed eq laws keys (length keys) q ≡ None
-  placed_none keys q = rw (drop-length keys) refl
 
 -- behind the last key nothing is found
 pub repeated_none : {K : Type 0} (eq : K → K → Bool) (keys : List K) (i : ℕ) → length keys ≤ i → repeated_from eq keys i ≡ None

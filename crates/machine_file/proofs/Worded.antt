@@ -1,5 +1,5 @@
 -- Operations by their words.
-use Rattle.std.proofs.Common.{◌≡◌, ◌∙◌, ℕ, Bool, true, false, cond, List, [], ◌∷◌, map, find, bytes_eq, codes, unwrap_or, option_and_then, option_map, Option, Some, None, refl, sym, ap}
+use Rattle.std.proofs.Common.{◌≡◌, ◌∙◌, ◌||◌, ℕ, Bool, true, false, cond, List, [], ◌∷◌, map, find, bytes_eq, codes, unwrap_or, option_and_then, option_map, Option, Some, None, refl, sym, ap}
 use Rattle.serde_json.specs.Data.{Data}
 use Rattle.serde_json.specs.Find.{get, as_str}
 use Rattle.sleep_model.specs.declared.machine.Op.{Op}
@@ -8,8 +8,8 @@ use Rattle.machine_file.specs.declared.operations.Word.{Word}
 use Rattle.machine_file.specs.declared.operations.Word.TheVariants as word
 use Rattle.machine_file.specs.Look.{is_some_and, is_text}
 use Rattle.machine_file.specs.Members.{has_text, word_at}
-use Rattle.machine_file.specs.Operations.{Known, Operation, operations, row_of, spelled_op, whole_op}
-use Rattle.machine_file.specs.OperationRows.{op_row, row_named, op_spelled}
+use Rattle.machine_file.specs.Operations.{Known, Operation, operations, row_of, changes_links, spelled_op, whole_op}
+use Rattle.machine_file.specs.OperationRows.{op_row, word_changes_links, row_named, op_spelled}
 use Rattle.machine_file.proofs.ScriptsKept.{member_apart}
 
 -- the row of an operation is that of the text at its word
@@ -50,6 +50,32 @@ find_same p q (x ∷ xs) e = ap (λ b. cond b (Some x) (find p xs)) (e x) ∙ ap
 -- an operation of the table has its row's word
 word_there : (w : Word) (o : Data) → Some (op_row w) ≡ row_of o → has_text (codes "op") (op_row w).word o ≡ true
 word_there w o e = passes (λ r. has_text (codes "op") r.word o) (op_row w) operations (sym e)
+
+-- the word alone tells whether links are changed
+pub changes : (w : Word) (o : Data) → Some (op_row w) ≡ row_of o → word_changes_links w ≡ changes_links o
+changes w o e =
+    by w ∙ ap (λ b. b || bytes_eq (op_row w).word (codes "link_state")) (sym (member_apart (get (codes "op") o) (op_row w).word (codes "link") there))
+    ∙ ap (λ b. has_text (codes "op") (codes "link") o || b) (sym (member_apart (get (codes "op") o) (op_row w).word (codes "link_state") there))
+  where
+    there : has_text (codes "op") (op_row w).word o ≡ true
+    there = word_there w o e
+
+    by : (w : Word) → word_changes_links w ≡ (bytes_eq (op_row w).word (codes "link") || bytes_eq (op_row w).word (codes "link_state"))
+    by word.Read = refl
+    by word.Save = refl
+    by word.State = refl
+    by word.Autosleep = refl
+    by word.Sleep = refl
+    by word.SleepD = refl
+    by word.FreezePoint = refl
+    by word.Post = refl
+    by word.Wait = refl
+    by word.Runtime = refl
+    by word.Link = refl
+    by word.LinkState = refl
+    by word.Awake = refl
+    by word.Relax = refl
+    by word.Event = refl
 
 module _ (names : Known) (o : Data) where
   found : (w : Word) → unwrap_or (option_map (λ q. q.1) (find (λ q. bytes_eq (op_row w).word q.0) (spelled_op names o))) Read ≡ op_spelled w names o

@@ -16,6 +16,7 @@ pub mod Broken
 pub mod Tests
 pub mod Knows
 pub mod OperationRows
+pub mod WordLists
 pub mod AnswerTests
 pub mod Seen
 pub mod Counted

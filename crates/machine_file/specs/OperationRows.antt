@@ -1,5 +1,5 @@
 -- The rows of the table of operations, and the tests of operations, by name.
-use Rattle.std.specs.Prelude.{ℕ, List, Bool, not, codes, [], ◌∷◌, bytes_eq, Option}
+use Rattle.std.specs.Prelude.{ℕ, ◌==◌, List, Bool, not, codes, [], ◌∷◌, bytes_eq, Option}
 use Rattle.std.specs.List.{find}
 use Rattle.serde_json.specs.Data.{Data}
 use Rattle.sleep_model.specs.declared.machine.Op.{Op}
@@ -31,6 +31,16 @@ op_row word.LinkState = operation (codes "link_state") (codes "supplier" ∷ cod
 op_row word.Awake = operation (codes "awake") (codes "source" ∷ []) has_source everyone
 op_row word.Relax = operation (codes "relax") (codes "source" ∷ []) has_source everyone
 op_row word.Event = operation (codes "event") (codes "source" ∷ codes "ms" ∷ codes "hard" ∷ []) is_event_form everyone
+
+-- the first version of the file that has operations of that word
+abbrev pub first_version : Word → ℕ
+first_version word.Link = 2
+first_version word.LinkState = 2
+first_version _ = 1
+
+-- an operation of that word changes links
+abbrev pub word_changes_links : Word → Bool
+word_changes_links w = not (first_version w == 1)
 
 -- the row of the word that a text is, if it is of the table
 abbrev pub row_named : List ℕ → Option Operation

@@ -17,14 +17,12 @@ use Rattle.sleep_model.specs.declared.machine.Script.{Script}
 use Rattle.sleep_model.specs.declared.machine.SourceCall.{SourceCall}
 use Rattle.sleep_model.specs.declared.machine.SourceCall.TheVariants as call
 use Rattle.sleep_model.specs.declared.machine.Step.{Step}
-use Rattle.sleep_model.specs.declared.machine.TaskKind.{TaskKind}
-use Rattle.sleep_model.specs.declared.machine.TaskKind.TheVariants.{User, Kthread, NoFreeze, Irq}
 use Rattle.sleep_model.specs.declared.machine.What.{What}
 use Rattle.sleep_model.specs.declared.machine.What.TheVariants as what
 use Rattle.sleep_model.specs.Answers.{error_of_number}
 use Rattle.sleep_model.specs.Runtime.{has_bit, is_async, may_wake}
 use Rattle.phase_table.specs.Phases.{phase_name}
-use Rattle.sleep_model.specs.Text.{down_word, runtime_word, link_word, newline, device, source, syscore, notifier, mark}
+use Rattle.sleep_model.specs.Text.{down_word, kind_word, runtime_word, link_word, newline, device, source, syscore, notifier, mark}
 use Rattle.machine_file.specs.Form.{Named, row}
 use Rattle.machine_file.specs.Whole.{SpellsWhole, IsSpelled}
 
@@ -118,13 +116,6 @@ notifier_rows x = text_row (codes "name") x.name ∷ row (codes "priority") (int
 -- a notifier
 abbrev pub notifier_value : Notifier → Data
 notifier_value x = object_of (notifier_rows x)
-
--- the word of a kind
-abbrev pub kind_word : TaskKind → List ℕ
-kind_word User = codes "user"
-kind_word Kthread = codes "kthread"
-kind_word NoFreeze = codes "nofreeze"
-kind_word Irq = codes "irq"
 
 -- the word of an operation
 abbrev pub op_row : List ℕ → Named (Option Data)

@@ -5,12 +5,10 @@ ghost use Rattle.machine_file.specs.Form.{row};
 ghost use Rattle.machine_file.specs.Spelling.{thing_word, thing_name, thing_phase, error_or, answer_value};
 ghost use Rattle.machine_file.specs.Writing.{with_row};
 ghost use Rattle.sleep_model.specs.Answers.{error_of_number};
-ghost use Rattle.sleep_model.specs.Text.{down_word};
 
-use crate::numbered::{device_name, notifier_name, syscore_name};
 use crate::writer::{JsonWriter, Written};
 use sleep_base::{Errno, Mem};
-use sleep_model::{Answer, Machine, PlatDo, What};
+use sleep_model::{Answer, Machine, What};
 
 fn thing_word(what: What) -> &'static [u8]
     ensures { result.now ≡ thing_word what }
@@ -23,24 +21,14 @@ fn thing_word(what: What) -> &'static [u8]
     }
 }
 
-fn step_word(step: PlatDo) -> &'static [u8]
-    ensures { result.now ≡ down_word step }
-{
-    match step {
-        PlatDo::Begin => b"begin",
-        PlatDo::Prepare => b"prepare",
-        PlatDo::PrepareLate => b"prepare_late",
-    }
-}
-
 fn thing_name(machine: &Machine, what: What) -> &[u8]
     ensures { result.now ≡ thing_name machine.now what }
 {
     match what {
-        What::Device(device, _) => device_name(machine, device),
-        What::Syscore(callback) => syscore_name(machine, callback),
-        What::Notifier(notifier) => notifier_name(machine, notifier),
-        What::Platform(step) => step_word(step),
+        What::Device(device, _) => machine.device_name(device),
+        What::Syscore(callback) => machine.syscore_name(callback),
+        What::Notifier(notifier) => machine.notifier_name(notifier),
+        What::Platform(step) => step.name().as_bytes(),
     }
 }
 

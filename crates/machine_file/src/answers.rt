@@ -3,29 +3,31 @@
 ghost use Rattle.std.specs.Prelude.{◌≡◌, ◌&&◌, [], not, map, position, codes, IfOk, if◌then◌else◌};
 ghost use Rattle.std.specs.List.{list_all, list_any};
 ghost use Rattle.borrowed_json.specs.View.{view};
+ghost use Rattle.sleep_model.specs.Text.{down_word};
 ghost use Rattle.machine_file.specs.Look.{is_number, is_text};
 ghost use Rattle.machine_file.specs.Members.{may_have, list_in, word_at};
 ghost use Rattle.machine_file.specs.Places.{first_not, first_not_after, first_item};
 ghost use Rattle.machine_file.specs.Names.{is_among_names};
 ghost use Rattle.machine_file.specs.Operations.{names_source};
-ghost use Rattle.machine_file.specs.Answering.{is_of_device, has_its_phase, is_of_prepare, is_ret_allowed, may_report, names_of_kind, names_thing, thingless_answer, forbidden_ret, forbidden_reports, sourceless_report, repeated_answer};
+ghost use Rattle.machine_file.specs.Answering.{platform_steps, common_errors, is_of_device, has_its_phase, is_of_prepare, is_ret_allowed, may_report, names_of_kind, names_thing, thingless_answer, forbidden_ret, forbidden_reports, sourceless_report, repeated_answer};
 ghost use Rattle.machine_file.specs.Knows.{texts};
-ghost use Rattle.machine_file.specs.Rules.{name_of};
+ghost use Rattle.machine_file.specs.Rules.{name_of as own_name};
+ghost use Rattle.machine_file.specs.Form.{is_one_of};
+ghost use Rattle.sleep_base.specs.Errno.{name_of};
 ghost use Rattle.machine_file.specs.AnswerTests.{answer_test, kind_names};
 ghost use Rattle.machine_file.specs.Seen.{answer_seen, answer_written, same_answer};
 ghost use Rattle.machine_file.specs.Broken.{place_of};
 
 use crate::known::{Known, contains, item};
-use crate::look::{has_text, is_among, is_number, is_one_of, is_text, list_in, number_at, text_at};
+use crate::look::{has_text, is_number, is_text, list_in, number_at, text_at};
 use crate::operations::names_one_of;
 use crate::place::{Member, Place, items};
-use crate::places::Places;
+use crate::places::first_repeated;
+use crate::words::step_named;
 use borrowed_json::{Value, get};
-use sleep_base::Mem;
+use key_index::KeyIndex;
+use sleep_base::{Errno, Mem};
 use std::alloc::Global;
-
-// The steps of the platform that answer.
-const STEPS: [&str; 3] = ["begin", "prepare", "prepare_late"];
 
 /// A test of an answer.
 #[derive(Clone, Copy)]
@@ -58,9 +60,17 @@ fn is_of_prepare(answer: &Value<'_>) -> bool
     is_of_device(answer) && has_text(answer, "phase", "prepare")
 }
 
+// Whether a name is that of a step of the platform that answers.
+#[tactic(auto, using(crate::proofs::Namings::some_step_text))]
+fn is_step(name: &str) -> bool
+    ensures { result ≡ is_among_names (map down_word platform_steps) name.now }
+{
+    step_named(name).is_some()
+}
+
 // Whether the thing's name is one of its kind's.
 fn is_there(answer: &Value<'_>, known: &Known<'_>) -> bool
-    ensures { result ≡ is_among_names (kind_names known.now (view answer.now)) (name_of (view answer.now)) }
+    ensures { result ≡ is_among_names (kind_names known.now (view answer.now)) (own_name (view answer.now)) }
 {
     let name = text_at(answer, "name");
     if is_of_device(answer) {
@@ -72,15 +82,30 @@ fn is_there(answer: &Value<'_>, known: &Known<'_>) -> bool
     if has_text(answer, "what", "notifier") {
         return contains(&known.notifiers, name);
     }
-    is_among(name, &STEPS)
+    is_step(name)
 }
 
 fn is_ret_allowed(answer: &Value<'_>, ret: &Value<'_>) -> bool
     ensures { result ≡ is_ret_allowed (view answer.now) (view ret.now) }
 {
-    is_number(ret, 0)
-        || is_one_of(ret, &["EIO", "EBUSY", "ENODEV", "EINVAL"])
-        || is_own_ret(answer, ret)
+    is_number(ret, 0) || is_common_error(ret) || is_own_ret(answer, ret)
+}
+
+fn is_error(ret: &Value<'_>, error: Errno) -> bool
+    ensures { result ≡ is_text (name_of error) (view ret.now) }
+{
+    is_text(ret, error.name())
+}
+
+// Whether it is an error that everything may answer.
+#[tactic(auto, using(crate::proofs::Namings::common_said))]
+fn is_common_error(ret: &Value<'_>) -> bool
+    ensures { result ≡ is_one_of common_errors (view ret.now) }
+{
+    is_error(ret, Errno::EIO)
+        || is_error(ret, Errno::EBUSY)
+        || is_error(ret, Errno::ENODEV)
+        || is_error(ret, Errno::EINVAL)
 }
 
 // 1 of a device's prepare, EAGAIN of all else.
@@ -91,7 +116,7 @@ fn is_own_ret(answer: &Value<'_>, ret: &Value<'_>) -> bool
     if is_of_prepare(answer) {
         is_number(ret, 1)
     } else {
-        is_text(ret, "EAGAIN")
+        is_error(ret, Errno::EAGAIN)
     }
 }
 
@@ -201,11 +226,11 @@ fn all_given<'v>(alloc: Global, answers: &[Value<'v>]) -> Result<Vec<Given<'v>>,
     Ok(all)
 }
 
-fn first_again(answers: &Places<Given>) -> Option<usize>
+fn first_again(answers: &KeyIndex<Given>) -> Option<usize>
     ensures { result ≡ first_not_after (λ before a.
         not (list_any (λ b. same_answer (answer_seen a) (answer_seen b)) before)) [] 0 answers.now }
 {
-    answers.first_repeated()
+    first_repeated(answers)
 }
 
 /// The first answer that stands a second time.
@@ -213,6 +238,6 @@ pub(crate) fn repeated_answer(alloc: Global, tree: &Value<'_>) -> Result<Option<
     ensures { IfOk result (λ p. place_of p ≡ repeated_answer (view tree.now)) }
 {
     let answers = all_given(alloc, items(tree, Member::Answers))?;
-    let answers = Places::new(alloc, answers)?;
+    let answers = KeyIndex::new(alloc, answers)?;
     Ok(item(Member::Answers, first_again(&answers)))
 }

@@ -16,15 +16,15 @@ use crate::known::{Known, device_at, place_of_name};
 use crate::look::{has_text, word_at};
 use crate::pairs::EndPlaces;
 use crate::place::{Member, items};
-use crate::places::Places;
 use borrowed_json::Value;
 use device_links::{LinkFault, Links};
+use key_index::KeyIndex;
 use sleep_base::Mem;
 use sleep_model::Link;
 use std::alloc::Global;
 
 /// The place of a name among these, and 0 where it is none of them.
-pub(crate) fn place_among(names: &Places<&str>, name: &str) -> usize
+pub(crate) fn place_among(names: &KeyIndex<&str>, name: &str) -> usize
     ensures place { result ≡ place_among (texts names.now) name.now }
     ensures within { result ≤ length names.now }
 {
@@ -32,7 +32,7 @@ pub(crate) fn place_among(names: &Places<&str>, name: &str) -> usize
 }
 
 /// The place of a device's parent.
-pub(crate) fn parent_of(device: &Value<'_>, names: &Places<&str>) -> Option<u32>
+pub(crate) fn parent_of(device: &Value<'_>, names: &KeyIndex<&str>) -> Option<u32>
     requires { length names.now ≤ 1000 }
     ensures { result ≡ parent_of (texts names.now) (view device.now) }
 {
@@ -46,7 +46,7 @@ pub(crate) fn parent_of(device: &Value<'_>, names: &Places<&str>) -> Option<u32>
 pub(crate) fn parents_of(
     alloc: Global,
     devices: &[Value<'_>],
-    names: &Places<&str>,
+    names: &KeyIndex<&str>,
 ) -> Result<Vec<Option<u32>>, Mem>
     requires { length names.now ≤ 1000 }
     ensures { IfOk result (λ v. v.items ≡ map (parent_of (texts names.now)) (map view devices.now)) }
@@ -58,7 +58,7 @@ pub(crate) fn parents_of(
     Ok(parents)
 }
 
-fn link_of(link: &Value<'_>, places: EndPlaces, names: &Places<&str>) -> Link
+fn link_of(link: &Value<'_>, places: EndPlaces, names: &KeyIndex<&str>) -> Link
     requires { places ≡ end_places (texts names.now) (ends_written (view link.now)) }
     ensures { result ≡ link_of (texts names.now) (view link.now) }
 {
@@ -75,7 +75,7 @@ pub(crate) fn links_of(
     alloc: Global,
     links: &[Value<'_>],
     places: &[EndPlaces],
-    names: &Places<&str>,
+    names: &KeyIndex<&str>,
 ) -> Result<Vec<Link>, Mem>
     requires { places.now ≡ map (end_places (texts names.now)) (map ends_written (map view links.now)) }
     ensures { IfOk result (λ v. v.items ≡ map (link_of (texts names.now)) (map view links.now)) }

@@ -3,18 +3,19 @@
 ghost use Rattle.std.specs.Prelude.{◌≡◌, codes, Option, nat_le, length, position, not};
 ghost use Rattle.std.specs.List.{list_all};
 ghost use Rattle.borrowed_json.specs.View.{view};
-ghost use Rattle.machine_file.specs.Members.{may_have, list_in, link_members};
+ghost use Rattle.machine_file.specs.Members.{may_have, must_have, list_in, link_members};
 ghost use Rattle.machine_file.specs.Look.{has_only};
 ghost use Rattle.machine_file.specs.Places.{first_not};
-ghost use Rattle.machine_file.specs.Form.{is_string, is_device_form, is_link_form, is_notifier_form, is_actor_form, is_ret_form, is_plain_report, is_event_report, is_report_form, are_reports, is_answer_form, unformed_member, unformed_item};
+ghost use Rattle.machine_file.specs.Form.{is_string, is_one_of, kinds, phases, is_device_form, is_link_form, is_notifier_form, is_actor_form, is_ret_form, is_plain_report, is_event_report, is_report_form, are_reports, is_answer_form, unformed_member, unformed_item};
 ghost use Rattle.machine_file.specs.Operations.{has_ends_named};
 ghost use Rattle.machine_file.specs.Broken.{place_of};
 
 use crate::look::{
-    has_only, has_text, is_number, is_one_of, is_string, list_in, may_be_list, may_be_near,
-    may_be_one_of, may_be_text, may_be_truth, may_be_within, must_be_one_of, must_be_text,
+    has_only, has_text, is_number, is_string, list_in, may_be_list, may_be_near, may_be_one_of,
+    may_be_text, may_be_truth, may_be_within, must_be_one_of, must_be_text,
 };
 use crate::place::{Member, Place};
+use crate::words::{error_in, kind_in, phase_in};
 use borrowed_json::{Value, as_array, get};
 
 /// A day, in ms: the longest time.
@@ -25,11 +26,6 @@ pub(crate) const STATUSES: [&str; 2] = ["active", "suspended"];
 
 /// The words of a link's state.
 pub(crate) const LINK_STATES: [&str; 2] = ["active", "dormant"];
-
-// The names of all errors that an answer may be.
-const ERRORS: [&str; 7] = [
-    "EINTR", "EIO", "EAGAIN", "EACCES", "EBUSY", "ENODEV", "EINVAL",
-];
 
 /// The first member that has not its form.
 pub(crate) fn unformed_member(tree: &Value<'_>) -> Option<Place>
@@ -113,20 +109,32 @@ pub(crate) fn is_notifier_form(value: &Value<'_>) -> bool
         && may_be_near(value, "priority", 1000)
 }
 
+// Whether a kind of task is given.
+#[tactic(auto, using(crate::proofs::Namings::some_kind))]
+fn has_kind(value: &Value<'_>) -> bool
+    ensures { result ≡ must_have (codes "kind") (is_one_of kinds) (view value.now) }
+{
+    match get(value, "kind") {
+        Some(kind) => kind_in(kind).is_some(),
+        None => false,
+    }
+}
+
 pub(crate) fn is_actor_form(value: &Value<'_>) -> bool
     ensures { result ≡ is_actor_form (view value.now) }
 {
     has_only(value, &["name", "kind", "repeat", "script"])
         && must_be_text(value, "name")
-        && must_be_one_of(value, "kind", &["user", "kthread", "nofreeze", "irq"])
+        && has_kind(value)
         && may_be_within(value, "repeat", 1, 1000)
         && may_be_list(value, "script")
 }
 
+#[tactic(auto, using(crate::proofs::Namings::some_error))]
 fn is_ret_form(value: &Value<'_>) -> bool
     ensures { result ≡ is_ret_form (view value.now) }
 {
-    is_number(value, 0) || is_number(value, 1) || is_one_of(value, &ERRORS)
+    is_number(value, 0) || is_number(value, 1) || error_in(value).is_some()
 }
 
 fn is_plain_report(value: &Value<'_>) -> bool
@@ -184,6 +192,17 @@ fn may_have_reports(value: &Value<'_>) -> bool
     }
 }
 
+// Whether no phase is given, or one in which devices answer.
+#[tactic(auto, using(crate::proofs::Namings::some_phase))]
+fn may_have_phase(value: &Value<'_>) -> bool
+    ensures { result ≡ may_have (codes "phase") (is_one_of phases) (view value.now) }
+{
+    match get(value, "phase") {
+        Some(phase) => phase_in(phase).is_some(),
+        None => true,
+    }
+}
+
 pub(crate) fn is_answer_form(value: &Value<'_>) -> bool
     ensures { result ≡ is_answer_form (view value.now) }
 {
@@ -195,19 +214,7 @@ pub(crate) fn is_answer_form(value: &Value<'_>) -> bool
         "what",
         &["device", "syscore", "notifier", "platform"],
     ) && must_be_text(value, "name")
-        && may_be_one_of(
-            value,
-            "phase",
-            &[
-                "prepare",
-                "suspend",
-                "late",
-                "noirq",
-                "resume_noirq",
-                "early",
-                "resume",
-            ],
-        )
+        && may_have_phase(value)
         && may_be_within(value, "attempt", 1, 1000)
         && may_have_ret(value)
         && may_have_reports(value)

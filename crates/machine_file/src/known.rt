@@ -15,44 +15,44 @@ ghost use Rattle.machine_file.specs.Broken.{member_name, place_of};
 use crate::marks::marks_in;
 use crate::names::{first_repeated, names_in, texts_in};
 use crate::place::{Member, Place};
-use crate::places::Places;
 use borrowed_json::Value;
+use key_index::KeyIndex;
 use sleep_base::Mem;
 use std::alloc::Global;
 
 /// The names of the things of a file, by kind.
 #[derive(Drop)]
 pub(crate) struct Known<'v> {
-    pub(crate) devices: Places<&'v str>,
-    pub(crate) syscore: Places<&'v str>,
-    pub(crate) notifiers: Places<&'v str>,
-    pub(crate) sources: Places<&'v str>,
+    pub(crate) devices: KeyIndex<&'v str>,
+    pub(crate) syscore: KeyIndex<&'v str>,
+    pub(crate) notifiers: KeyIndex<&'v str>,
+    pub(crate) sources: KeyIndex<&'v str>,
     /// The marks of scripts, in the order of their first use.
-    pub(crate) marks: Places<&'v str>,
+    pub(crate) marks: KeyIndex<&'v str>,
 }
 
 // The names of a list of objects, each with its place.
-fn named_in<'v>(alloc: Global, tree: &Value<'v>, list: Member) -> Result<Places<&'v str>, Mem>
+fn named_in<'v>(alloc: Global, tree: &Value<'v>, list: Member) -> Result<KeyIndex<&'v str>, Mem>
     ensures { IfOk result (λ p. texts p ≡ names_in (member_name list) (view tree.now)) }
 {
     let names = names_in(alloc, tree, list)?;
-    Places::new(alloc, names)
+    KeyIndex::new(alloc, names)
 }
 
 // The names of a list of names, each with its place.
-fn told_in<'v>(alloc: Global, tree: &Value<'v>, list: Member) -> Result<Places<&'v str>, Mem>
+fn told_in<'v>(alloc: Global, tree: &Value<'v>, list: Member) -> Result<KeyIndex<&'v str>, Mem>
     ensures { IfOk result (λ p. texts p ≡ texts_in (member_name list) (view tree.now)) }
 {
     let names = texts_in(alloc, tree, list)?;
-    Places::new(alloc, names)
+    KeyIndex::new(alloc, names)
 }
 
 // The marks of scripts, each with its place.
-fn marked_in<'v>(alloc: Global, tree: &Value<'v>) -> Result<Places<&'v str>, Mem>
+fn marked_in<'v>(alloc: Global, tree: &Value<'v>) -> Result<KeyIndex<&'v str>, Mem>
     ensures { IfOk result (λ p. texts p ≡ whole_marks (view tree.now)) }
 {
     let marks = marks_in(alloc, tree)?;
-    Places::new(alloc, marks)
+    KeyIndex::new(alloc, marks)
 }
 
 /// The names of the things of a file.
@@ -123,7 +123,7 @@ fn first_reserved<'x>(
         (λ before name. not (is_among_names (reserved.now ∷ before) name)) [] 0 (texts names.now)) }
 {
     let all = behind(alloc, reserved, names)?;
-    let all = Places::new(alloc, all)?;
+    let all = KeyIndex::new(alloc, all)?;
     Ok(one_less(first_repeated(&all)))
 }
 
@@ -150,12 +150,12 @@ pub(crate) fn repeated_actor(alloc: Global, tree: &Value<'_>) -> Result<Option<P
     ensures { IfOk result (λ p. place_of p ≡ repeated_actor (view tree.now)) }
 {
     let names = names_in(alloc, tree, Member::Actors)?;
-    let names = Places::new(alloc, names)?;
+    let names = KeyIndex::new(alloc, names)?;
     Ok(item(Member::Actors, first_repeated(&names)))
 }
 
 /// The place of a name among these.
-pub(crate) fn place_of_name(names: &Places<&str>, name: &str) -> Option<usize>
+pub(crate) fn place_of_name(names: &KeyIndex<&str>, name: &str) -> Option<usize>
     ensures place { result ≡ position (bytes_eq name.now) (texts names.now) }
     ensures within { IfSome result (λ i. i < length names.now) }
 {
@@ -163,7 +163,7 @@ pub(crate) fn place_of_name(names: &Places<&str>, name: &str) -> Option<usize>
 }
 
 /// The number of the device of a name.
-pub(crate) fn device_at(names: &Places<&str>, name: &str) -> Option<u32>
+pub(crate) fn device_at(names: &KeyIndex<&str>, name: &str) -> Option<u32>
     requires { length names.now ≤ 1000 }
     ensures { result ≡ position (bytes_eq name.now) (texts names.now) }
 {
@@ -174,7 +174,7 @@ pub(crate) fn device_at(names: &Places<&str>, name: &str) -> Option<u32>
 }
 
 /// Whether a name is one of these.
-pub(crate) fn contains(names: &Places<&str>, name: &str) -> bool
+pub(crate) fn contains(names: &KeyIndex<&str>, name: &str) -> bool
     ensures { result ≡ is_among_names (texts names.now) name.now }
 {
     place_of_name(names, name).is_some()

@@ -13,7 +13,6 @@ mod look;
 mod machine;
 mod marks;
 mod names;
-mod numbered;
 mod operations;
 mod pairs;
 mod place;
@@ -28,6 +27,7 @@ mod texts;
 mod things;
 mod tree;
 mod whole;
+mod words;
 mod writer;
 mod writing;
 

@@ -31,6 +31,18 @@ const NO_STEPS: Steps = Steps {
     autosleep: false,
 };
 
+// The most steps that all scripts make.
+const MOST_STEPS: u64 = 200_000;
+
+// The most turns of devices in all attempts.
+const MOST_TURNS: u64 = 100_000;
+
+// The most links that are there or are added.
+const MOST_LINKS: u64 = 4000;
+
+// The most reports of all answers.
+const MOST_REPORTS: u64 = 10_000;
+
 // More than any limit: what is larger counts as this much.
 const CAP: u64 = 1_000_000;
 
@@ -197,7 +209,7 @@ fn are_links_few(tree: &Value<'_>, steps: Steps) -> bool
     ensures { result ≡ are_links_few (view tree.now) }
 {
     let written = items(tree, Member::Links).len() as u64;
-    capped_sum(written, steps.link) <= 4000
+    capped_sum(written, steps.link) <= MOST_LINKS
 }
 
 fn are_steps_few(tree: &Value<'_>) -> bool
@@ -206,7 +218,7 @@ fn are_steps_few(tree: &Value<'_>) -> bool
     let steps = steps_of_file(tree);
     let devices = items(tree, Member::Devices).len() as u64;
     let turns = capped_product(most_attempts(tree, steps), devices.saturating_add(50));
-    steps.all <= 200_000 && turns <= 100_000 && are_links_few(tree, steps)
+    steps.all <= MOST_STEPS && turns <= MOST_TURNS && are_links_few(tree, steps)
 }
 
 fn reports_of(answers: &[Value<'_>]) -> u64
@@ -222,7 +234,7 @@ fn reports_of(answers: &[Value<'_>]) -> u64
 fn are_reports_few(tree: &Value<'_>) -> bool
     ensures { result ≡ are_reports_few (view tree.now) }
 {
-    reports_of(items(tree, Member::Answers)) <= 10_000
+    reports_of(items(tree, Member::Answers)) <= MOST_REPORTS
 }
 
 /// The place where too much may happen.

@@ -10,8 +10,9 @@ ghost use Rattle.machine_file.specs.Marks.{marks_of_script};
 
 use crate::look::{list_in, word_at};
 use crate::place::{Member, items};
-use crate::places::Places;
+use crate::places::is_before;
 use borrowed_json::Value;
+use key_index::KeyIndex;
 use sleep_base::Mem;
 use std::alloc::Global;
 
@@ -38,12 +39,12 @@ fn marks_of<'v>(alloc: Global, actors: &[Value<'v>]) -> Result<Vec<&'v str>, Mem
 }
 
 // Each name at its first place alone.
-fn first_places<'v>(alloc: Global, names: &Places<&'v str>) -> Result<Vec<&'v str>, Mem>
+fn first_places<'v>(alloc: Global, names: &KeyIndex<&'v str>) -> Result<Vec<&'v str>, Mem>
     ensures { IfOk result (λ v. texts v.items ≡ first_places [] (texts names.now)) }
 {
     let mut first = Vec::new(alloc);
     for (i, name) in names.keys().iter().enumerate() {
-        if !names.is_before(name, i) {
+        if !is_before(names, name, i) {
             first.push(*name)?;
         }
     }
@@ -55,6 +56,6 @@ pub(crate) fn marks_in<'v>(alloc: Global, tree: &Value<'v>) -> Result<Vec<&'v st
     ensures { IfOk result (λ v. texts v.items ≡ whole_marks (view tree.now)) }
 {
     let marks = marks_of(alloc, items(tree, Member::Actors))?;
-    let marks = Places::new(alloc, marks)?;
+    let marks = KeyIndex::new(alloc, marks)?;
     first_places(alloc, &marks)
 }

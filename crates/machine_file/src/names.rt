@@ -12,8 +12,8 @@ ghost use Rattle.machine_file.specs.Broken.{member_name};
 
 use crate::look::{text_at, text_of};
 use crate::place::{Member, items};
-use crate::places::Places;
 use borrowed_json::Value;
+use key_index::KeyIndex;
 use sleep_base::Mem;
 use std::alloc::Global;
 
@@ -62,8 +62,8 @@ fn texts_of<'v>(alloc: Global, list: &[Value<'v>]) -> Result<Vec<&'v str>, Mem>
 }
 
 /// The first name that stands before.
-pub(crate) fn first_repeated(names: &Places<&str>) -> Option<usize>
+pub(crate) fn first_repeated(names: &KeyIndex<&str>) -> Option<usize>
     ensures { result ≡ first_not_after (λ before name. not (is_among_names before name)) [] 0 (map (λ s. s.now) names.now) }
 {
-    names.first_repeated()
+    crate::places::first_repeated(names)
 }

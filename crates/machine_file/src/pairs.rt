@@ -15,9 +15,9 @@ ghost use Rattle.machine_file.specs.Broken.{place_of};
 use crate::known::{Known, device_at, item};
 use crate::look::{text_at, word_at};
 use crate::place::{Member, Place, items};
-use crate::places::Places;
 use borrowed_json::Value;
 use indexmap::IndexMap;
+use key_index::KeyIndex;
 use sleep_base::Mem;
 use std::alloc::Global;
 
@@ -29,7 +29,7 @@ pub(crate) struct Ends<'v> {
 }
 
 // Whether the parent, where one is named, is one of the first so many devices.
-fn has_parent_before(device: &Value<'_>, names: &Places<&str>, count: usize) -> bool
+fn has_parent_before(device: &Value<'_>, names: &KeyIndex<&str>, count: usize) -> bool
     ensures { result ≡ is_none_or (λ p. list_any (bytes_eq p) (take count (texts names.now)))
         (word_at (codes "parent") (view device.now)) }
 {
@@ -39,13 +39,13 @@ fn has_parent_before(device: &Value<'_>, names: &Places<&str>, count: usize) -> 
     }
 }
 
-fn is_before(names: &Places<&str>, name: &str, count: usize) -> bool
+fn is_before(names: &KeyIndex<&str>, name: &str, count: usize) -> bool
     ensures { result ≡ list_any (bytes_eq name.now) (take count (texts names.now)) }
 {
-    names.is_before(&name, count)
+    crate::places::is_before(names, &name, count)
 }
 
-fn first_orphan(devices: &[Value<'_>], names: &Places<&str>) -> Option<usize>
+fn first_orphan(devices: &[Value<'_>], names: &KeyIndex<&str>) -> Option<usize>
     requires { texts names.now ≡ map name_of (map view devices.now) }
     ensures { result ≡ first_not_after (λ before v. has_parent_before (map view before) (view v)) [] 0 devices.now }
 {
@@ -96,7 +96,7 @@ pub(crate) struct EndPlaces {
     pub(crate) consumer: Option<u32>,
 }
 
-fn place_of(ends: &Ends<'_>, names: &Places<&str>) -> EndPlaces
+fn place_of(ends: &Ends<'_>, names: &KeyIndex<&str>) -> EndPlaces
     requires { length names.now ≤ 1000 }
     ensures { result ≡ end_places (texts names.now) (ends_seen ends.now) }
 {
@@ -106,7 +106,11 @@ fn place_of(ends: &Ends<'_>, names: &Places<&str>) -> EndPlaces
     }
 }
 
-fn places_of(alloc: Global, ends: &[Ends<'_>], names: &Places<&str>) -> Result<Vec<EndPlaces>, Mem>
+fn places_of(
+    alloc: Global,
+    ends: &[Ends<'_>],
+    names: &KeyIndex<&str>,
+) -> Result<Vec<EndPlaces>, Mem>
     requires { length names.now ≤ 1000 }
     ensures { IfOk result (λ v. v.items ≡ map (end_places (texts names.now)) (map ends_seen ends.now)) }
 {

@@ -3,8 +3,10 @@
 ghost use Rattle.std.specs.Prelude.{◌≡◌, ◌≤◌, All, map, length, codes, unwrap_or, find, pos, neg_ℤ, IfOk};
 ghost use Rattle.borrowed_json.specs.View.{view};
 ghost use Rattle.machine_file.specs.Members.{has_text, number_at};
-ghost use Rattle.machine_file.specs.Answering.{phase_of, step_of, ret_of, call_of, whole_report};
+ghost use Rattle.machine_file.specs.Answering.{answering_phases, platform_steps, phase_of, step_of, ret_of, call_of, whole_report};
 ghost use Rattle.machine_file.specs.AnswerTests.{thing_seen, answer_made};
+ghost use Rattle.phase_table.specs.Phases.{phase_name};
+ghost use Rattle.sleep_model.specs.Text.{down_word};
 ghost use Rattle.sleep_base.specs.Errno.{name_of, number_of};
 ghost use Rattle.sleep_model.specs.Answers.{errors};
 ghost use Rattle.machine_file.specs.Fitting.{FitsAt, HasPlainRet, FitsAnswer};
@@ -13,53 +15,42 @@ ghost use Rattle.machine_file.specs.Knows.{texts, AreFew};
 use crate::answers::is_of_device;
 use crate::known::Known;
 use crate::look::{has_text, list_in, number_at};
-use crate::places::Places;
 use crate::scripts::{ms_of, says, small_at, thing_at};
-use borrowed_json::Value;
+use crate::words::{error_in, phase_in, step_in};
+use borrowed_json::{Value, get};
+use key_index::KeyIndex;
 use sleep_base::{Errno, Mem};
 use sleep_model::{Answer, ListOf, Phase, PlatDo, Report, SourceCall, What};
 use std::alloc::Global;
 
+fn phase_at(answer: &Value<'_>) -> Option<Phase>
+    ensures { result ≡ find (λ p. has_text (codes "phase") (phase_name p) (view answer.now)) answering_phases }
+{
+    match get(answer, "phase") {
+        Some(phase) => phase_in(phase),
+        None => None,
+    }
+}
+
 fn phase_of(answer: &Value<'_>) -> Phase
     ensures { result ≡ phase_of (view answer.now) }
 {
-    if has_text(answer, "phase", "prepare") {
-        return Phase::Prepare;
+    phase_at(answer).unwrap_or(Phase::Prepare)
+}
+
+fn step_at(answer: &Value<'_>) -> Option<PlatDo>
+    ensures { result ≡ find (λ s. has_text (codes "name") (down_word s) (view answer.now)) platform_steps }
+{
+    match get(answer, "name") {
+        Some(step) => step_in(step),
+        None => None,
     }
-    if has_text(answer, "phase", "suspend") {
-        return Phase::Suspend;
-    }
-    if has_text(answer, "phase", "late") {
-        return Phase::Late;
-    }
-    if has_text(answer, "phase", "noirq") {
-        return Phase::Noirq;
-    }
-    if has_text(answer, "phase", "resume_noirq") {
-        return Phase::ResumeNoirq;
-    }
-    if has_text(answer, "phase", "early") {
-        return Phase::Early;
-    }
-    if has_text(answer, "phase", "resume") {
-        return Phase::Resume;
-    }
-    Phase::Prepare
 }
 
 fn step_of(answer: &Value<'_>) -> PlatDo
     ensures { result ≡ step_of (view answer.now) }
 {
-    if has_text(answer, "name", "begin") {
-        return PlatDo::Begin;
-    }
-    if has_text(answer, "name", "prepare") {
-        return PlatDo::Prepare;
-    }
-    if has_text(answer, "name", "prepare_late") {
-        return PlatDo::PrepareLate;
-    }
-    PlatDo::Begin
+    step_at(answer).unwrap_or(PlatDo::Begin)
 }
 
 fn thing_of(answer: &Value<'_>, known: &Known<'_>) -> What
@@ -81,28 +72,10 @@ fn thing_of(answer: &Value<'_>, known: &Known<'_>) -> What
 fn error_of(answer: &Value<'_>) -> Option<Errno>
     ensures { result ≡ find (λ e. has_text (codes "ret") (name_of e) (view answer.now)) errors }
 {
-    if has_text(answer, "ret", "EINTR") {
-        return Some(Errno::EINTR);
+    match get(answer, "ret") {
+        Some(ret) => error_in(ret),
+        None => None,
     }
-    if has_text(answer, "ret", "EIO") {
-        return Some(Errno::EIO);
-    }
-    if has_text(answer, "ret", "EAGAIN") {
-        return Some(Errno::EAGAIN);
-    }
-    if has_text(answer, "ret", "EACCES") {
-        return Some(Errno::EACCES);
-    }
-    if has_text(answer, "ret", "EBUSY") {
-        return Some(Errno::EBUSY);
-    }
-    if has_text(answer, "ret", "ENODEV") {
-        return Some(Errno::ENODEV);
-    }
-    if has_text(answer, "ret", "EINVAL") {
-        return Some(Errno::EINVAL);
-    }
-    None
 }
 
 fn below_zero(error: Errno) -> i32
@@ -147,7 +120,7 @@ fn call_of(report: &Value<'_>) -> SourceCall
     }
 }
 
-fn report_of(report: &Value<'_>, sources: &Places<&str>) -> Report
+fn report_of(report: &Value<'_>, sources: &KeyIndex<&str>) -> Report
     requires few { length sources.now ≤ 1000 }
     requires fits { FitsAt (codes "ms") (view report.now) }
     ensures { result ≡ whole_report (texts sources.now) (view report.now) }
@@ -161,7 +134,7 @@ fn report_of(report: &Value<'_>, sources: &Places<&str>) -> Report
 fn reports_of(
     alloc: Global,
     reports: &[Value<'_>],
-    sources: &Places<&str>,
+    sources: &KeyIndex<&str>,
 ) -> Result<Vec<Report>, Mem>
     requires few { length sources.now ≤ 1000 }
     requires fit { All (FitsAt (codes "ms")) (map view reports.now) }

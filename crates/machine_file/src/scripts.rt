@@ -1,8 +1,10 @@
 //! The scripts that a file spells.
 
-ghost use Rattle.std.specs.Prelude.{◌≡◌, ◌≤◌, All, map, length, codes, unwrap_or, IfOk};
+ghost use Rattle.std.specs.Prelude.{◌≡◌, ◌≤◌, All, map, length, codes, find, unwrap_or, IfOk};
 ghost use Rattle.borrowed_json.specs.View.{view};
-ghost use Rattle.machine_file.specs.Members.{number_at};
+ghost use Rattle.sleep_model.specs.Text.{kind_word};
+ghost use Rattle.machine_file.specs.Members.{has_text, number_at};
+ghost use Rattle.machine_file.specs.WordLists.{task_kinds};
 ghost use Rattle.machine_file.specs.Look.{text_at};
 ghost use Rattle.machine_file.specs.Operations.{ms_of, says, whole_op, whole_step, kind_of, whole_script};
 ghost use Rattle.machine_file.specs.declared.operations.Word.TheVariants as word;
@@ -14,10 +16,11 @@ ghost use Rattle.machine_file.specs.Knows.{texts, AreFew, known_seen};
 use crate::cycles::place_among;
 use crate::known::Known;
 use crate::look::{has_text, list_in, number_at, text_at, truth_at};
-use crate::operations::{Word, word_of};
-use crate::places::Places;
+use crate::operations::{Word, by_operation, word_of};
 use crate::texts::{name_of_text, text_from};
-use borrowed_json::Value;
+use crate::words::kind_in;
+use borrowed_json::{Value, get};
+use key_index::KeyIndex;
 use sleep_base::Mem;
 use sleep_model::{ListOf, Op, Script, Step, TaskKind, Text};
 use std::alloc::Global;
@@ -57,7 +60,7 @@ pub(crate) fn says(value: &Value<'_>, name: &str) -> bool
 }
 
 /// The number of the thing that is named there.
-pub(crate) fn thing_at(value: &Value<'_>, name: &str, names: &Places<&str>) -> u32
+pub(crate) fn thing_at(value: &Value<'_>, name: &str, names: &KeyIndex<&str>) -> u32
     requires { length names.now ≤ 200000 }
     ensures { result ≡ place_among (texts names.now) (text_at name.now (view value.now)) }
 {
@@ -120,42 +123,7 @@ fn op_as(alloc: Global, word: Word, operation: &Value<'_>, known: &Known<'_>) ->
     requires fits { FitsStep (view operation.now) }
     ensures { IfOk result (λ op. op ≡ op_spelled word (known_seen known.now) (view operation.now)) }
 {
-    let op = match word {
-        Word::Read => Op::Read,
-        Word::Save => Op::Save {
-            count: small_at(operation, "count"),
-        },
-        Word::State => Op::State {
-            text: text_in(alloc, operation)?,
-            if_saved: says(operation, "if_saved"),
-        },
-        Word::Autosleep => Op::Autosleep {
-            text: text_in(alloc, operation)?,
-        },
-        Word::Sleep => Op::Sleep {
-            ms: ms_of(operation),
-        },
-        Word::SleepD => Op::SleepD {
-            ms: ms_of(operation),
-        },
-        Word::FreezePoint => Op::FreezePoint,
-        Word::Post => Op::Post {
-            mark: thing_at(operation, "mark", &known.marks),
-        },
-        Word::Wait => Op::Wait {
-            mark: thing_at(operation, "mark", &known.marks),
-        },
-        Word::Runtime => runtime_of(operation, known),
-        Word::Awake => Op::Awake {
-            source: thing_at(operation, "source", &known.sources),
-        },
-        Word::Relax => Op::Relax {
-            source: thing_at(operation, "source", &known.sources),
-        },
-        Word::Event => event_of(operation, known),
-        Word::Link => link_of(operation, known),
-        Word::LinkState => link_state_of(operation, known),
-    };
+    let op = by_operation!(spelled of word, alloc, operation, known);
     Ok(op)
 }
 
@@ -196,19 +164,20 @@ fn steps_of(alloc: Global, script: &[Value<'_>], known: &Known<'_>) -> Result<Ve
     Ok(steps)
 }
 
+fn kind_at(actor: &Value<'_>) -> Option<TaskKind>
+    ensures { result ≡ find (λ k. has_text (codes "kind") (kind_word k) (view actor.now)) task_kinds }
+{
+    match get(actor, "kind") {
+        Some(kind) => kind_in(kind),
+        None => None,
+    }
+}
+
+#[tactic(auto, using(crate::proofs::Namings::kind_found))]
 fn kind_of(actor: &Value<'_>) -> TaskKind
     ensures { result ≡ kind_of (view actor.now) }
 {
-    if has_text(actor, "kind", "kthread") {
-        return TaskKind::Kthread;
-    }
-    if has_text(actor, "kind", "nofreeze") {
-        return TaskKind::NoFreeze;
-    }
-    if has_text(actor, "kind", "irq") {
-        return TaskKind::Irq;
-    }
-    TaskKind::User
+    kind_at(actor).unwrap_or(TaskKind::User)
 }
 
 fn script_of(alloc: Global, actor: &Value<'_>, known: &Known<'_>) -> Result<Script, Mem>

@@ -4,17 +4,17 @@
 ghost use Rattle.std.specs.Prelude.{◌≡◌, ◌∷◌, [], codes, fold, option_map, Some, None, if◌then◌else◌, OnOk};
 ghost use Rattle.serde_json.specs.Data.{string};
 ghost use Rattle.sleep_model.specs.Runtime.{has_bit};
-ghost use Rattle.sleep_model.specs.Text.{device, link_word, runtime_word};
+ghost use Rattle.sleep_model.specs.Text.{device};
 ghost use Rattle.machine_file.specs.Form.{row};
-ghost use Rattle.machine_file.specs.Spelling.{always, count, text_row, integer_unless_zero, device_value, link_value, notifier_value, kind_word, op_row, times as times_row, op_rows, step_value, script_value, report_rows, report_value};
+ghost use Rattle.machine_file.specs.Spelling.{always, count, text_row, integer_unless_zero, device_value, link_value, notifier_value, op_row, times as times_row, op_rows, step_value, script_value, report_rows, report_value};
 ghost use Rattle.machine_file.specs.Writing.{with_row};
 
-use crate::numbered::{device_name, mark_name, source_name};
+use crate::operations::by_operation;
 use crate::writer::{JsonWriter, Written};
 use sleep_base::Mem;
 use sleep_model::{
     Device, DeviceFlags, Link, Machine, Name, Notifier, Op, Report, Script, SourceCall, Step,
-    TaskKind,
+    link_word, runtime_word,
 };
 
 impl Written for Name {
@@ -44,7 +44,7 @@ fn put_parent(out: &mut JsonWriter, machine: &Machine, parent: Option<u32>) -> R
     ensures { OnOk result (out.new ≡ with_row out.old (row (codes "parent") (option_map (λ p. string (device machine.now p)) parent))) }
 {
     match parent {
-        Some(parent) => out.text("parent", device_name(machine, parent)),
+        Some(parent) => out.text("parent", machine.device_name(parent)),
         None => Ok(()),
     }
 }
@@ -54,7 +54,7 @@ fn put_status(out: &mut JsonWriter, flags: DeviceFlags) -> Result<(), Mem>
     ensures { OnOk result (out.new ≡ with_row out.old (row (codes "runtime") (if has_bit 4 flags then Some (string (codes "suspended")) else None))) }
 {
     if flags.has(DeviceFlags::RUNTIME_SUSPENDED) {
-        return out.text("runtime", b"suspended");
+        return out.text("runtime", runtime_word(true).as_bytes());
     }
     Ok(())
 }
@@ -64,9 +64,9 @@ impl Written for Link {
 
     fn write_to(&self, machine: &Machine, out: &mut JsonWriter) -> Result<(), Mem> {
         out.open_object()?;
-        out.text("consumer", device_name(machine, self.consumer))?;
+        out.text("consumer", machine.device_name(self.consumer))?;
         put_state(out, self.active)?;
-        out.text("supplier", device_name(machine, self.supplier))?;
+        out.text("supplier", machine.device_name(self.supplier))?;
         out.close_object()
     }
 }
@@ -78,7 +78,7 @@ fn put_state(out: &mut JsonWriter, active: bool) -> Result<(), Mem>
     if active {
         return Ok(());
     }
-    out.text("state", b"dormant")
+    out.text("state", link_word(false).as_bytes())
 }
 
 impl Written for Notifier {
@@ -122,49 +122,7 @@ fn put_word(out: &mut JsonWriter, word: &str, times: u32) -> Result<(), Mem>
 fn put_op(out: &mut JsonWriter, machine: &Machine, times: u32, op: &Op) -> Result<(), Mem>
     ensures { OnOk result (out.new ≡ fold with_row out.old (op_rows machine.now times op.now)) }
 {
-    match op {
-        Op::Read => put_word(out, "read", times),
-        Op::Save { count } => {
-            out.number_if("count", *count)?;
-            put_word(out, "save", times)
-        }
-        Op::State { text, if_saved } => {
-            out.true_if("if_saved", *if_saved)?;
-            put_text(out, "state", text.as_slice(), times)
-        }
-        Op::Autosleep { text } => put_text(out, "autosleep", text.as_slice(), times),
-        Op::Sleep { ms } => put_sleep(out, "sleep", *ms, times),
-        Op::SleepD { ms } => put_sleep(out, "sleep_d", *ms, times),
-        Op::FreezePoint => put_word(out, "freeze_point", times),
-        Op::Post { mark } => put_mark(out, "post", mark_name(machine, *mark), times),
-        Op::Wait { mark } => put_mark(out, "wait", mark_name(machine, *mark), times),
-        Op::Runtime {
-            device,
-            to_suspended,
-        } => {
-            out.text("device", device_name(machine, *device))?;
-            put_word(out, "runtime", times)?;
-            out.text("to", status_word(*to_suspended))
-        }
-        Op::Link { supplier, consumer } => {
-            put_link(out, machine, "link", *supplier, *consumer, times)
-        }
-        Op::LinkState {
-            supplier,
-            consumer,
-            active,
-        } => {
-            put_link(out, machine, "link_state", *supplier, *consumer, times)?;
-            out.text("to", link_word(*active))
-        }
-        Op::Awake { source } => put_source(out, "awake", source_name(machine, *source), times),
-        Op::Relax { source } => put_source(out, "relax", source_name(machine, *source), times),
-        Op::Event { source, ms, hard } => {
-            out.true_if("hard", *hard)?;
-            out.number_unless("ms", 0, u64::from(*ms))?;
-            put_source(out, "event", source_name(machine, *source), times)
-        }
-    }
+    by_operation!(written of op, out, machine, times)
 }
 
 // A link's ends, and the word of what is made of it.
@@ -178,22 +136,10 @@ fn put_link(
 ) -> Result<(), Mem>
     ensures { OnOk result (out.new ≡ fold with_row out.old (text_row (codes "consumer") (device machine.now consumer) ∷ op_row word.now ∷ text_row (codes "supplier") (device machine.now supplier) ∷ times_row times ∷ [])) }
 {
-    out.text("consumer", device_name(machine, consumer))?;
+    out.text("consumer", machine.device_name(consumer))?;
     out.text("op", word.as_bytes())?;
-    out.text("supplier", device_name(machine, supplier))?;
+    out.text("supplier", machine.device_name(supplier))?;
     out.number_unless("times", 1, u64::from(times))
-}
-
-fn link_word(active: bool) -> &'static [u8]
-    ensures { result.now ≡ link_word active }
-{
-    if active { b"active" } else { b"dormant" }
-}
-
-fn status_word(suspended: bool) -> &'static [u8]
-    ensures { result.now ≡ runtime_word suspended }
-{
-    if suspended { b"suspended" } else { b"active" }
 }
 
 // A write of a text.
@@ -228,23 +174,12 @@ fn put_source(out: &mut JsonWriter, word: &str, source: &[u8], times: u32) -> Re
     out.number_unless("times", 1, u64::from(times))
 }
 
-fn kind_word(kind: TaskKind) -> &'static [u8]
-    ensures { result.now ≡ kind_word kind }
-{
-    match kind {
-        TaskKind::User => b"user",
-        TaskKind::Kthread => b"kthread",
-        TaskKind::NoFreeze => b"nofreeze",
-        TaskKind::Irq => b"irq",
-    }
-}
-
 impl Written for Script {
     ghost value = { script_value };
 
     fn write_to(&self, machine: &Machine, out: &mut JsonWriter) -> Result<(), Mem> {
         out.open_object()?;
-        out.text("kind", kind_word(self.kind))?;
+        out.text("kind", self.kind.name().as_bytes())?;
         out.text("name", self.name.bytes())?;
         out.number_unless("repeat", 1, u64::from(self.repeat))?;
         out.list("script", machine, self.steps.as_slice())?;
@@ -257,7 +192,7 @@ impl Written for Report {
 
     fn write_to(&self, machine: &Machine, out: &mut JsonWriter) -> Result<(), Mem> {
         out.open_object()?;
-        put_report(out, source_name(machine, self.source), self.call)?;
+        put_report(out, machine.source_name(self.source), self.call)?;
         out.close_object()
     }
 }

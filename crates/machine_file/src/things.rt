@@ -14,10 +14,10 @@ use crate::cycles::parent_of;
 use crate::known::Known;
 use crate::look::{has_text, text_at, truth_at};
 use crate::place::{Member, items};
-use crate::places::Places;
 use crate::texts::name_of_text;
 use bitflags::Flags;
 use borrowed_json::{Value, as_i64, get};
+use key_index::KeyIndex;
 use sleep_base::Mem;
 use sleep_model::{Device, DeviceFlags, Notifier};
 use std::alloc::Global;
@@ -37,7 +37,7 @@ fn flags_of(device: &Value<'_>) -> DeviceFlags
     DeviceFlags::from_bits_retain(flag(asynchronous, 1) + flag(wakeup, 2) + flag(suspended, 4))
 }
 
-fn device_of(device: &Value<'_>, names: &Places<&str>) -> Device
+fn device_of(device: &Value<'_>, names: &KeyIndex<&str>) -> Device
     requires few { length names.now ≤ 1000 }
     requires fits { HasShortName (view device.now) }
     ensures { result ≡ whole_device (texts names.now) (view device.now) }
@@ -52,7 +52,7 @@ fn device_of(device: &Value<'_>, names: &Places<&str>) -> Device
 pub(crate) fn devices_of(
     alloc: Global,
     devices: &[Value<'_>],
-    names: &Places<&str>,
+    names: &KeyIndex<&str>,
 ) -> Result<Vec<Device>, Mem>
     requires few { length names.now ≤ 1000 }
     requires fit { All HasShortName (map view devices.now) }

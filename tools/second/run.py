@@ -1,68 +1,16 @@
-#!/usr/bin/env python3
-"""Runs a machine file with one worker and writes its log: a second writing of the whole run.
+"""A machine file run with one worker: a second writing of the whole run.
 
-usage: tools/second.py < MACHINE > LOG
-
-It shares nothing with the program or its definitions but the rules, and is written the other way round:
-flags and counters that change, and a coroutine for each job, whose `yield` ends a turn and tells whether
-it did something. The file has to be one that is accepted. Ends with status 6 where the run is stuck, and with 7
-and no log where a source has no room for a call.
+It shares nothing with the program or its definitions but the rules, and is written the other way round: flags and
+counters that change, and a coroutine for each job, whose `yield` ends a turn and tells whether the turn did
+something. The file has to be one that is accepted.
 """
 
-import json
-import sys
+from .limits import FREEZE_MS, MOST_ENTRIES, NAP_MS, VISIBLE
+from .things import Phase, Source, SourceFull, Task
 
-VISIBLE = 16_777_216  # The count that a task sees starts again at 0 here.
-MOST_ENTRIES = 60_000  # So many entries a source has room for, and four of them a call needs.
-FREEZE_MS = 20_000  # So long a freeze waits.
-NAP_MS = 500  # So long the autosleep work naps where its attempt saw no event.
 DOWN = {"suspend": "resume", "late": "early", "noirq": "resume_noirq"}
 UP = {up: down for down, up in DOWN.items()}
 TESTED = ("suspend", "late")  # Phases whose callbacks are preceded by a test for wakeup.
-
-
-class SourceFull(Exception):
-    """A source has no room for a call."""
-
-
-class Source:
-    """A wakeup source and its statistics."""
-
-    def __init__(self, name):
-        self.name = name
-        self.entries = 0
-        self.since = None  # When its event in progress began.
-        self.expiry = None
-        self.events = self.actives = self.expiries = self.total = self.longest = self.last = 0
-
-    def line(self, now):
-        active = 0 if self.since is None else now - self.since
-        total, longest = self.total + active, max(self.longest, active)
-        numbers = (self.actives, self.events, self.expiries, active, total, longest, self.last)
-        return f"source {self.name} " + " ".join(map(str, numbers))
-
-
-class Task:
-    """A script: who it is, and what others know of it."""
-
-    def __init__(self, given):
-        self.name, self.kind = given["name"], given["kind"]
-        self.label = ("irq:" if self.kind == "irq" else "task:") + self.name
-        self.repeat, self.steps = given.get("repeat", 1), given.get("script", [])
-        self.asked = self.frozen = self.exited = False
-        self.last_read, self.saved = 0, False
-        self.until = None  # The end of the sleep that it is in.
-        self.waits_for = None  # What a stuck run says of it.
-
-
-class Phase:
-    """A phase of devices that is open."""
-
-    def __init__(self, name):
-        self.name = name
-        self.scheduled, self.over, self.direct = set(), set(), set()
-        self.members = []
-        self.error = self.own_error = "0"
 
 
 class Run:
@@ -828,17 +776,3 @@ class Run:
         ends = [f"stuck {task.label} {task.waits_for}" for task in self.tasks if not task.exited]
         stats = [source.line(self.time) for source in self.sources]
         return "\n".join([*self.lines, *stats, *(ends or ["finished"])]) + "\n", bool(ends)
-
-
-def main():
-    try:
-        text, stuck = Run(json.load(sys.stdin)).run()
-    except SourceFull as full:
-        print(f"source full: {full}", file=sys.stderr)
-        sys.exit(7)
-    sys.stdout.write(text)
-    sys.exit(6 if stuck else 0)
-
-
-if __name__ == "__main__":
-    main()

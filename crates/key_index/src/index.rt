@@ -1,5 +1,3 @@
-//! Where each key of a list stands.
-
 use indexmap::IndexMap;
 use sleep_base::Mem;
 use std::alloc::Global;
@@ -8,12 +6,12 @@ use std::marker::Model;
 
 /// A list of keys, of which each is found at its first place at once. Contracts see the list.
 #[derive(Drop)]
-pub struct Places<K: Hash + Eq + Copy> {
+pub struct KeyIndex<K: Hash + Eq + Copy> {
     keys: Vec<K>,
     places: IndexMap<K, usize>,
 }
 
-impl<K: Hash + Eq + Copy> Model for Places<K> {
+impl<K: Hash + Eq + Copy> Model for KeyIndex<K> {
     ghost use Rattle.std.specs.Prelude.{◌≡◌, List, position};
     ghost use Rattle.indexmap.specs.IndexMap.{get};
 
@@ -24,7 +22,7 @@ impl<K: Hash + Eq + Copy> Model for Places<K> {
     ghost invariant = { λ p. (k : K) → get K.eq p.places k ≡ position (K.eq k) p.keys.items };
 }
 
-impl<K: Hash + Eq + Copy> Places<K> {
+impl<K: Hash + Eq + Copy> KeyIndex<K> {
     ghost use Rattle.std.specs.Prelude.{◌≡◌, length, ◌<◌, IfOk, IfSome, position};
 
     /// These keys, in this order. `Mem` if there is no memory for their places.
@@ -32,7 +30,14 @@ impl<K: Hash + Eq + Copy> Places<K> {
         ensures { IfOk result (λ p. p ≡ keys.items) }
     {
         let places = places_of(alloc, &keys)?;
-        Ok(Places { keys, places })
+        Ok(KeyIndex { keys, places })
+    }
+
+    /// The keys, in order.
+    pub fn keys(&self) -> &[K]
+        ensures { result.now ≡ self.now }
+    {
+        self.keys.as_slice()
     }
 
     /// The first place of a key. None exactly where it is none of them.
@@ -51,7 +56,7 @@ ghost use Rattle.indexmap.specs.IndexMap.{get};
 fn places_of<K: Hash + Eq + Copy>(alloc: Global, keys: &[K]) -> Result<IndexMap<K, usize>, Mem>
     ensures { IfOk result (λ m. (k : K) → get K.eq m k ≡ position (K.eq k) keys.now) }
 {
-    let mut places = IndexMap::new(alloc);
+    let mut places = IndexMap::with_capacity(alloc, keys.len())?;
     for i in (0..keys.len()).rev() {
         places.insert(keys[i], i)?;
     }

@@ -1,13 +1,13 @@
 use Rattle.std.proofs.Common.{◌≡◌, ◌∙◌, List, take, arith, sym, ap}
 use Rattle.std.specs.List.{list_any}
 use Rattle.machine_file.proofs.Placing.{repeated_here, repeated_later, repeated_none, repeated_from}
-use Rattle.machine_file.proofs.places.Places.first_repeated.Goals as goal
+use Rattle.machine_file.proofs.places.first_repeated.Goals as goal
 
 pub returns-then-is_before : goal.returns-then-is_before
 returns-then-is_before g c =
     let eq = g.K.PartialEq.eq in
-    let keys = c.self.inside.keys.items in
-    let seen : keys ≡ c.args.self.now = c.self.view_is in
+    let keys = c.keys-list.result.now in
+    let seen : keys ≡ c.args.keys.now = c.keys-list.ensures in
     repeated_here eq keys c.loop-i.i c.index.result.now (omega arith) c.index.ensures
     (sym (c.if-is_before.ensures ∙ ap (λ (ks : List g.row.K.Denot). list_any (eq c.index.result.now) (take c.loop-i.i ks)) (sym seen)))
     ∙ sym c.loop-i.invariant ∙ ap (λ (ks : List g.row.K.Denot). repeated_from eq ks 0) seen
@@ -15,8 +15,8 @@ returns-then-is_before g c =
 pub loop-i-preserved : goal.loop-i-preserved
 loop-i-preserved g c =
     let eq = g.K.PartialEq.eq in
-    let keys = c.self.inside.keys.items in
-    let seen : keys ≡ c.args.self.now = c.self.view_is in
+    let keys = c.keys-list.result.now in
+    let seen : keys ≡ c.args.keys.now = c.keys-list.ensures in
     c.loop-i.invariant
     ∙ repeated_later eq keys c.loop-i.i c.index.result.now (omega arith) c.index.ensures
     (sym (c.if-is_before.ensures ∙ ap (λ (ks : List g.row.K.Denot). list_any (eq c.index.result.now) (take c.loop-i.i ks)) (sym seen)))
@@ -24,5 +24,5 @@ loop-i-preserved g c =
 pub returns : goal.returns
 returns g c =
     let eq = g.K.PartialEq.eq in
-    let seen : c.self.inside.keys.items ≡ c.args.self.now = c.self.view_is in
-    sym (ap (λ (ks : List g.row.K.Denot). repeated_from eq ks 0) (sym seen) ∙ c.loop-i.invariant ∙ repeated_none eq c.self.inside.keys.items c.loop-i.i (omega (arith, c.len-i-end.ensures)))
+    let seen : c.keys-list.result.now ≡ c.args.keys.now = c.keys-list.ensures in
+    sym (ap (λ (ks : List g.row.K.Denot). repeated_from eq ks 0) (sym seen) ∙ c.loop-i.invariant ∙ repeated_none eq c.keys-list.result.now c.loop-i.i (omega (arith, c.len-i-end.ensures)))

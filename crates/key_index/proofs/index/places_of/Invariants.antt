@@ -1,7 +1,7 @@
 use Rattle.std.proofs.Common.{◌≡◌}
 use Rattle.indexmap.specs.IndexMap.{get}
-use Rattle.log_text.proofs.Placing.{placed}
-use Rattle.log_text.proofs.places.places_of.Given as goal
+use Rattle.key_index.proofs.Placing.{placed}
+use Rattle.key_index.proofs.index.places_of.Given as goal
 
 -- the keys that are left behind are found
 abbrev pub invariant-loop-i : goal.invariant-loop-i

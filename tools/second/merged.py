@@ -1,24 +1,19 @@
-#!/usr/bin/env python3
-"""Runs a machine file as several workers may, and writes the merged log.
+"""A machine file run as several workers may, and the merged log.
 
-usage: tools/interleaved.py SEED < MACHINE > LOG
-
-Any job may be next, and each step on the event word stands by itself: other jobs may come between it and
-the call that makes it. Each actor, each source and the journal know only the ticks that they saw. The log
-is all entries by position, steps on the word after the others, then by tick, then by actor.
+Any job may be next, and each step on the event word stands by itself: other jobs may come between it and the call that
+makes it. Each actor, each source and the journal know only the ticks that they saw. The log is all entries by position,
+steps on the word after the others, then by tick, then by actor.
 """
 
-import json
 import random
-import sys
 
-import second
+from .run import Run
 
 NOTES = ("awake", "relax", "event", "expire")
 STEPS = ("start", "finish", "hard")
 
 
-class Interleaved(second.Run):
+class Interleaved(Run):
     """A machine under way, whose jobs take turns in a random order."""
 
     def __init__(self, tree, seed):
@@ -122,13 +117,3 @@ class Interleaved(second.Run):
             self.jump(min(pending))
         self.lines = [event[-1] for event in sorted(self.events, key=lambda event: event[:-1])]
         return self.end()
-
-
-def main():
-    text, stuck = Interleaved(json.load(sys.stdin), int(sys.argv[1])).run()
-    sys.stdout.write(text)
-    sys.exit(6 if stuck else 0)
-
-
-if __name__ == "__main__":
-    main()

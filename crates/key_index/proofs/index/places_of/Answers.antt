@@ -1,8 +1,8 @@
 use Rattle.std.proofs.Common.{◌≡◌, ◌<◌, ◌+◌, ◌-◌, ◌∙◌, ℕ, length, arith, sym, ap, subst}
 use Rattle.std.specs.Map.{lookup}
 use Rattle.indexmap.specs.IndexMap.{get}
-use Rattle.log_text.proofs.Placing.{placed, placed_more, placed_all, placed_none}
-use Rattle.log_text.proofs.places.places_of.Goals as goal
+use Rattle.key_index.proofs.Placing.{placed, placed_more, placed_all, placed_none}
+use Rattle.key_index.proofs.index.places_of.Goals as goal
 
 pub loop-i-preserved : goal.loop-i-preserved
 loop-i-preserved g c =
@@ -13,7 +13,7 @@ loop-i-preserved g c =
     (get g.K.PartialEq.eq c.loop-i.places) (get g.K.PartialEq.eq c.insert.new.self) before c.in_ok-insert.ensures.updates.0
 
 pub loop-i-init : goal.loop-i-init
-loop-i-init g c = λ (k : g.row.K.Denot). ap (lookup (g.K.PartialEq.eq k)) c.new-places.ensures.empty ∙ sym (placed_none g.K.PartialEq.eq g.met.K.Eq.laws c.args.keys.now k)
+loop-i-init g c = λ (k : g.row.K.Denot). ap (lookup (g.K.PartialEq.eq k)) c.in_ok-places.ensures.empty ∙ sym (placed_none g.K.PartialEq.eq g.met.K.Eq.laws c.args.keys.now k)
 
 pub returns : goal.returns
 returns g c = λ k. c.loop-i.invariant k ∙ placed_all g.K.PartialEq.eq g.met.K.Eq.laws c.args.keys.now c.loop-i.i (omega arith) k
