@@ -4,9 +4,10 @@
 
 ghost use Rattle.std.specs.Prelude.{◌≡◌, true};
 ghost use Rattle.growth_laws.specs.Ranged.{is_ranged};
-ghost use Rattle.sleep_model.specs.Fits.{fits_stats, is_word32, is_word64};
+ghost use Rattle.sleep_model.specs.Calls.{note};
+ghost use Rattle.sleep_model.specs.Fits.{fits_stats, is_word64};
 
-use sleep_model::{Kind, Stats};
+use sleep_model::{Kind, SourceCall, Stats};
 
 /// The numbers of a kind of entry are in the ranges of their fields.
 pub fn kinds_are_ranged(kind: Kind)
@@ -29,9 +30,9 @@ pub fn moments_are_ranged(time: u64)
     let _ = time;
 }
 
-/// So is the length of an event.
-pub fn lengths_are_ranged(ms: u32)
-    ensures { is_word32 ms ≡ true }
+/// So are those of the note of a call.
+pub fn calls_are_ranged(source: u32, call: SourceCall)
+    ensures { is_ranged (note source call) ≡ true }
 {
-    let _ = ms;
+    let _ = (source, call);
 }

@@ -1,12 +1,15 @@
 //! What comes after a round that did nothing: a jump of time, or the end.
 
-ghost use Rattle.std.specs.Prelude.{◌≡◌, ◌≤◌, ◌<◌, ◌^◌, ◌++◌, length, IfOk, OnOk, All};
+ghost use Rattle.std.specs.Prelude.{◌≡◌, ◌≤◌, ◌<◌, ◌^◌, ◌++◌, true, length, IfOk, OnOk, All};
+ghost use Rattle.std.specs.List.{list_all};
+ghost use Rattle.sleep_model.specs.Fits.{fits_stats};
 ghost use Rattle.sleep_run.specs.Waits.{waits_of, all_stats};
 ghost use Rattle.wakeup_source.specs.SourceStates.{bare, latest};
 
 use crate::run::{Run, RunFault, wait_unless};
 use crate::waiters::Waiters;
 use event_word::Events;
+use growth_laws::{moments_are_ranged, stats_are_ranged};
 use sleep_base::Mem;
 use sleep_core::Core;
 use sleep_model::{Actor, Due, EntryList, EventNow, ListOf, Log, LogEnd, Stats, Waiting};
@@ -36,11 +39,14 @@ fn stats_of(
 ) -> Result<Vec<Stats>, AllocError>
     requires time { All (λ s. latest (bare s.past) ≤ at) sources.now }
     requires small { at ≤ 2 ^ 63 }
-    ensures { IfOk result (λ v. v.items ≡ all_stats sources.now at) }
+    ensures all { IfOk result (λ v. v.items ≡ all_stats sources.now at) }
+    ensures ranged { IfOk result (λ v. list_all fits_stats v.items ≡ true) }
 {
     let mut stats = Vec::with_capacity(alloc, sources.len())?;
     for source in sources {
-        stats.push(source.stats(at))?;
+        let one = source.stats(at);
+        stats_are_ranged(one);
+        stats.push(one)?;
     }
     Ok(stats)
 }
@@ -82,7 +88,9 @@ fn wake_sleepers(core: &Core<'_>, waiters: &mut Waiters) {
 }
 
 impl<'m> Run<'m> {
-    ghost use Rattle.std.specs.Prelude.{◌≡◌, ◌<◌, ◌+◌, length, reverse, Ok, IfOk, OnOk, IfErr};
+    ghost use Rattle.std.specs.Prelude.{◌≡◌, ◌<◌, ◌+◌, true, length, reverse, Ok, IfOk, OnOk, IfErr};
+    ghost use Rattle.std.specs.List.{list_all};
+    ghost use Rattle.sleep_model.specs.Fits.{fits_stats};
     ghost use Rattle.std.specs.Bool.{OnTrue};
     ghost use Rattle.sleep_model.specs.declared.entry.Actor.TheVariants.{Script, Dev};
     ghost use Rattle.sleep_model.specs.Legal.{JumpStep, IsStuckAfter, is_enabled, none_enabled, none_expires, stats_of, waiting};
@@ -188,6 +196,7 @@ impl<'m> Run<'m> {
         ensures fault { IfErr result (Fails self.old.machine) }
     {
         wait_unless(rt, to <= LAST_MOMENT && self.floor.tick < u64::MAX);
+        moments_are_ranged(to);
         let now = self.events.look();
         self.floor = self.core.jump(now, to, self.floor)?;
         self.waiters.wake_for_time();
@@ -250,7 +259,8 @@ impl<'m> Run<'m> {
 
     /// The statistics of all sources now.
     fn stats(&self, alloc: Global) -> Result<Vec<Stats>, AllocError>
-        ensures { IfOk result (λ v. v.items ≡ stats_of self.now.machine self.now.past) }
+        ensures all { IfOk result (λ v. v.items ≡ stats_of self.now.machine self.now.past) }
+        ensures ranged { IfOk result (λ v. list_all fits_stats v.items ≡ true) }
     {
         let stats = stats_of(alloc, &self.sources, self.time())?;
         Ok(stats)
@@ -269,6 +279,7 @@ impl<'m> Run<'m> {
         requires { AfterAll self.now (Ok rest) }
         ensures end { IfOk result (λ e. EndsSo self.now e.0) }
         ensures stats { IfOk result (λ e. e.1.items ≡ stats_of self.now.machine self.now.past) }
+        ensures ranged { IfOk result (λ e. list_all fits_stats e.1.items ≡ true) }
     {
         let end = self.end(alloc, rest)?;
         let stats = self.stats(alloc)?;

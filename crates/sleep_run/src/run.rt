@@ -11,6 +11,7 @@ use crate::waiters::Waiters;
 use answer_book::AnswerBook;
 use device_links::Links;
 use event_word::PlainEvents;
+use growth_laws::{calls_are_ranged, kinds_are_ranged, moments_are_ranged};
 use sleep_base::Mem;
 use sleep_core::{Core, CoreFault, CoreTurn};
 use sleep_model::{Actor, Kind, Log, Machine, OtherEntry, Phase, SourceCall, Stamp, Why};
@@ -254,6 +255,8 @@ impl<'m> Run<'m> {
             floor: self.floor,
             now: self.core.time(),
         };
+        moments_are_ranged(by.now);
+        calls_are_ranged(source, call);
         let before = self.core.len();
         let one = &mut self.sources[source as usize];
         let others = &mut self.others;
@@ -281,6 +284,7 @@ impl<'m> Run<'m> {
             floor: self.floor,
             now: self.core.time(),
         };
+        moments_are_ranged(by.now);
         let before = self.core.len();
         let one = &mut self.sources[source as usize];
         let others = &mut self.others;
@@ -349,6 +353,9 @@ impl<'m> Run<'m> {
                 kind,
                 attempt,
             } => {
+                // What the fields are makes known here that their numbers are in range.
+                moments_are_ranged(time);
+                kinds_are_ranged(kind);
                 self.floor = stamp;
                 self.jobs.told_turn(who, stamp, kind, attempt);
                 self.wake_after(kind);
