@@ -5,6 +5,7 @@ pub mod Cuts
 pub mod NumbersBack
 pub mod Finds
 pub mod WordsBack
+pub mod WordsTold
 pub mod KindsBack
 pub mod EntriesBack
 pub mod StatsBack

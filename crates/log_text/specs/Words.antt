@@ -1,5 +1,5 @@
 -- What the closed words of a log mean: of two words told apart, the last one stands for any other.
-use Rattle.std.specs.Prelude.{ℕ, ℤ, pos, negsuc, List, codes, Option, Some, None, if◌then◌else◌}
+use Rattle.std.specs.Prelude.{ℕ, Bool, true, false, ℤ, pos, negsuc, List, codes, Option, Some, None, if◌then◌else◌}
 use Rattle.std.specs.Str.{bytes_eq}
 use Rattle.sleep_base.specs.declared.errno.Errno.{Errno}
 use Rattle.sleep_base.specs.declared.errno.Errno.TheVariants.{EINTR, EIO, EAGAIN, EACCES, EBUSY, ENODEV, EINVAL}
@@ -37,6 +37,11 @@ error_number EACCES = negsuc 12
 error_number EBUSY = negsuc 15
 error_number ENODEV = negsuc 18
 error_number EINVAL = negsuc 21
+
+-- it is below 0
+abbrev pub is_negative : ℤ → Bool
+is_negative (pos n) = false
+is_negative (negsuc n) = true
 
 -- 0, 1, or the number of the error with that name, below 0
 abbrev pub prepare_in : List ℕ → ℤ

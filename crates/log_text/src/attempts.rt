@@ -84,24 +84,18 @@ pub fn froze_kind(book: &NameBook, text: &[u8]) -> Option<Kind>
 }
 
 /// What stands behind `platform`.
+#[tactic(auto, using(crate::proofs::WordsTold::up_told, crate::proofs::WordsTold::up_untold))]
 pub fn platform_kind(text: &[u8]) -> Kind
     ensures kind { result ≡ platform_kind text.now }
     ensures fits { (m : Machine) → fits_kind m result ≡ true }
 {
-    if is(text, "recover") {
-        return Kind::PlatformUndo(PlatUndo::Recover);
+    match PlatUndo::of_bytes(text) {
+        Some(step) => Kind::PlatformUndo(step),
+        None => {
+            let (what, answer) = first_word(text);
+            Kind::PlatformDo(down_in(what), answer_in(answer))
+        }
     }
-    if is(text, "wake") {
-        return Kind::PlatformUndo(PlatUndo::Wake);
-    }
-    if is(text, "finish") {
-        return Kind::PlatformUndo(PlatUndo::Finish);
-    }
-    if is(text, "end") {
-        return Kind::PlatformUndo(PlatUndo::End);
-    }
-    let (what, answer) = first_word(text);
-    Kind::PlatformDo(down_in(what), answer_in(answer))
 }
 
 /// What stands behind `cpu`.

@@ -1,4 +1,5 @@
-ghost use Rattle.std.specs.Prelude.{◌≡◌, ◌+◌, ◌≤◌, ◌++◌, length};
+ghost use Rattle.std.specs.Prelude.{◌≡◌, ◌+◌, ◌≤◌, ◌++◌, length, true};
+ghost use Rattle.log_text.specs.Words.{is_negative};
 ghost use Rattle.sleep_model.specs.declared.entry.Kind.TheVariants as kind;
 ghost use Rattle.sleep_model.specs.Text.{answer_text, body, device, link_word, space, step_body, auto_body, source_body, phase_body, attempt_body, platform_body, froze_text, prepare_text};
 
@@ -6,7 +7,7 @@ use crate::held::HeldBytes;
 use crate::ready::ReadyNames;
 use crate::spelled::{Spelled, put};
 use sleep_base::Errno;
-use sleep_model::{FrozeEnd, Kind, Thaw};
+use sleep_model::{FrozeEnd, Kind, Thaw, link_word, runtime_word};
 
 /// Writes what an entry says.
 #[tactic(auto, using(std::proofs::Common::append_assoc))]
@@ -32,13 +33,6 @@ pub fn put_body(out: &mut HeldBytes, names: &ReadyNames, kind: Kind)
         Kind::AutoDone => put!(out; "autosleep done"),
         _ => put_step(out, names, kind),
     }
-}
-
-/// The state of a link.
-fn link_word(active: bool) -> &'static str
-    ensures { result.now ≡ link_word active }
-{
-    if active { "active" } else { "dormant" }
 }
 
 /// Writes which consumer's link was set, to which state, and the answer.
@@ -89,8 +83,7 @@ fn put_step(out: &mut HeldBytes, names: &ReadyNames, kind: Kind)
             to_suspended,
             r,
         } => {
-            let to = if to_suspended { "suspended" } else { "active" };
-            put!(out; "runtime ", names.device(device), " ", to, " ", r)
+            put!(out; "runtime ", names.device(device), " ", runtime_word(to_suspended), " ", r)
         }
         Kind::LinkAdd {
             supplier,
@@ -175,21 +168,29 @@ fn put_phase(out: &mut HeldBytes, names: &ReadyNames, kind: Kind)
     }
 }
 
+/// The name of the error that a number below 0 means; of one that callbacks do not know, EINVAL.
+#[tactic(auto, using(crate::proofs::WordsTold::prepare_told, crate::proofs::WordsTold::prepare_untold, crate::proofs::Lengths::error_short))]
+fn failed_prepare(r: i32) -> &'static str
+    requires { is_negative r ≡ true }
+    ensures text { result.now ≡ prepare_text r }
+    ensures short { length result.now ≤ 64 }
+{
+    match Errno::of_answer(r) {
+        Some(error) => error.name(),
+        None => "EINVAL",
+    }
+}
+
 /// Writes what a device's prepare answered: 0, 1, or an error's name.
 fn put_prepare_answer(out: &mut HeldBytes, r: i32)
     requires { length out.old + 64 ≤ 32768 }
     ensures text { out.new ≡ out.old ++ prepare_text r }
     ensures few { length out.new ≤ length out.old + 64 }
 {
-    match r {
-        -4 => out.put_text("EINTR"),
-        -5 => out.put_text("EIO"),
-        -11 => out.put_text("EAGAIN"),
-        -13 => out.put_text("EACCES"),
-        -16 => out.put_text("EBUSY"),
-        -19 => out.put_text("ENODEV"),
-        _ if r < 0 => out.put_text("EINVAL"),
-        _ => out.put_number(r as u64),
+    if r < 0 {
+        out.put_text(failed_prepare(r));
+    } else {
+        out.put_number(r as u64);
     }
 }
 

@@ -38,6 +38,5 @@ mod writer;
 pub use fault::LogFault;
 pub use laws::{first_bad_line_is_one, text_tells_log, written_lines_are_good};
 pub use log::write_log;
-pub use names::source_name;
 pub use read::read_log;
 pub use stream::LogText;

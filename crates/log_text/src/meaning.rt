@@ -6,29 +6,12 @@ use crate::cut::is;
 use sleep_base::Errno;
 use sleep_model::{Group, Phase, PlatDo, SkipCause, Thaw};
 
-/// What a closed word means, by a table of all but the last.
-macro_rules! meaning {
-    ($word:expr; $($text:literal => $value:expr,)* _ => $other:expr) => {{
-        $(if is($word, $text) {
-            return $value;
-        })*
-        $other
-    }};
-}
-
-/// The error of that name.
+/// The error of that name, and EINVAL for any other word.
+#[tactic(auto, using(crate::proofs::WordsTold::errno_told))]
 pub fn errno_in(word: &[u8]) -> Errno
     ensures { result ≡ errno_in word.now }
 {
-    meaning! { word;
-        "EBUSY" => Errno::EBUSY,
-        "EINTR" => Errno::EINTR,
-        "EIO" => Errno::EIO,
-        "EAGAIN" => Errno::EAGAIN,
-        "EACCES" => Errno::EACCES,
-        "ENODEV" => Errno::ENODEV,
-        _ => Errno::EINVAL
-    }
+    Errno::of_bytes(word).unwrap_or(Errno::EINVAL)
 }
 
 /// None for `0`, else the error of that name.
@@ -42,18 +25,11 @@ pub fn answer_in(word: &[u8]) -> Option<Errno>
 }
 
 /// The error's number, below 0.
+#[tactic(auto, using(crate::proofs::WordsTold::number_below))]
 fn error_number(error: Errno) -> i32
     ensures { result ≡ error_number error }
 {
-    match error {
-        Errno::EINTR => -4,
-        Errno::EIO => -5,
-        Errno::EAGAIN => -11,
-        Errno::EACCES => -13,
-        Errno::EBUSY => -16,
-        Errno::ENODEV => -19,
-        Errno::EINVAL => -22,
-    }
+    -i32::from(error.number())
 }
 
 /// What a device's prepare answered: 0, 1, or an error's number, below 0.
@@ -69,43 +45,28 @@ pub fn prepare_in(word: &[u8]) -> i32
     error_number(errno_in(word))
 }
 
-/// The phase of that name.
+/// The phase of that name, and the last for any other word.
+#[tactic(auto, using(crate::proofs::WordsTold::phase_told))]
 pub fn phase_in(word: &[u8]) -> Phase
     ensures { result ≡ phase_in word.now }
 {
-    meaning! { word;
-        "suspend" => Phase::Suspend,
-        "late" => Phase::Late,
-        "noirq" => Phase::Noirq,
-        "resume_noirq" => Phase::ResumeNoirq,
-        "early" => Phase::Early,
-        "resume" => Phase::Resume,
-        "prepare" => Phase::Prepare,
-        "syscore" => Phase::Syscore,
-        "syscore_resume" => Phase::SyscoreResume,
-        _ => Phase::Complete
-    }
+    Phase::of_bytes(word).unwrap_or(Phase::Complete)
 }
 
-/// Why a device was skipped.
+/// Why a device was skipped; any other word stands for direct-complete.
+#[tactic(auto, using(crate::proofs::WordsTold::cause_told))]
 pub fn cause_in(word: &[u8]) -> SkipCause
     ensures { result ≡ cause_in word.now }
 {
-    meaning! { word;
-        "error" => SkipCause::Error,
-        "pending" => SkipCause::Pending,
-        _ => SkipCause::Direct
-    }
+    SkipCause::of_bytes(word).unwrap_or(SkipCause::Direct)
 }
 
-/// Whom a freeze asks.
+/// Whom a freeze asks; any other word stands for kernel threads.
+#[tactic(auto, using(crate::proofs::WordsTold::group_told))]
 pub fn group_in(word: &[u8]) -> Group
     ensures { result ≡ group_in word.now }
 {
-    if is(word, "user") {
-        return Group::User;
-    }
-    Group::Kernel
+    Group::of_bytes(word).unwrap_or(Group::Kernel)
 }
 
 /// Which tasks a thaw lets go.
@@ -118,13 +79,10 @@ pub fn thaw_in(word: &[u8]) -> Thaw
     Thaw::All
 }
 
-/// The platform's step on the way down.
+/// The platform's step on the way down; any other word stands for the last.
+#[tactic(auto, using(crate::proofs::WordsTold::down_told))]
 pub fn down_in(word: &[u8]) -> PlatDo
     ensures { result ≡ down_in word.now }
 {
-    meaning! { word;
-        "begin" => PlatDo::Begin,
-        "prepare" => PlatDo::Prepare,
-        _ => PlatDo::PrepareLate
-    }
+    PlatDo::of_bytes(word).unwrap_or(PlatDo::PrepareLate)
 }

@@ -1,30 +1,8 @@
-ghost use Rattle.std.specs.Prelude.{◌≡◌, ◌++◌, ◌∷◌, [], IfOk, codes, map, slice_get};
-ghost use Rattle.sleep_model.specs.Text.{name_in, source};
+ghost use Rattle.std.specs.Prelude.{◌≡◌, ◌++◌, ◌∷◌, [], IfOk, codes, map};
 
 use sleep_base::Mem;
-use sleep_model::{Device, Machine, Name, Notifier, Script};
+use sleep_model::{Device, Name, Notifier, Script};
 use std::alloc::Global;
-
-/// The name with that number, empty past the end.
-fn name_at(names: &[Name], index: u32) -> &[u8]
-    ensures { result.now ≡ name_in (slice_get names.now index) }
-{
-    match names.get(index as usize) {
-        Some(name) => name.bytes(),
-        None => b"",
-    }
-}
-
-/// The name of the source with that number, `autosleep` after those of the machine.
-pub fn source_name(machine: &Machine, index: u32) -> &[u8]
-    ensures { result.now ≡ source machine.now index }
-{
-    if index as usize == machine.sources.len() {
-        b"autosleep"
-    } else {
-        name_at(machine.sources.as_slice(), index)
-    }
-}
 
 /// The devices' names, in order.
 pub fn names_of_devices(alloc: Global, devices: &[Device]) -> Result<Vec<Name>, Mem>

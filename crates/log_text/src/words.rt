@@ -6,7 +6,7 @@ ghost use Rattle.sleep_model.specs.Text.{answer_text, cause_text, script_word, s
 use crate::held::HeldBytes;
 use crate::spelled::Spelled;
 use sleep_base::Errno;
-use sleep_model::{Group, Phase, PlatDo, PlatUndo, SkipCause, State, TaskKind};
+use sleep_model::{Group, Phase, PlatDo, PlatUndo, SkipCause, State, TaskKind, state_word};
 
 impl Spelled for Errno {
     ghost spelling = { name_of };
@@ -53,12 +53,9 @@ impl Spelled for SkipCause {
     ghost most = { λ _. 16 };
 
     #[inline(always)]
+    #[tactic(auto, using(crate::proofs::Lengths::cause_short))]
     fn put_on(self, out: &mut HeldBytes) {
-        match self {
-            SkipCause::Error => out.put_text("error"),
-            SkipCause::Pending => out.put_text("pending"),
-            SkipCause::Direct => out.put_text("direct"),
-        }
+        out.put_text(self.name());
     }
 }
 
@@ -68,11 +65,9 @@ impl Spelled for State {
     ghost most = { λ _. 16 };
 
     #[inline(always)]
+    #[tactic(auto, using(crate::proofs::Lengths::state_short))]
     fn put_on(self, out: &mut HeldBytes) {
-        match self {
-            State::Mem => out.put_text("mem"),
-            State::Off => out.put_text("off"),
-        }
+        out.put_text(state_word(self));
     }
 }
 
@@ -82,11 +77,9 @@ impl Spelled for Group {
     ghost most = { λ _. 16 };
 
     #[inline(always)]
+    #[tactic(auto, using(crate::proofs::Lengths::group_short))]
     fn put_on(self, out: &mut HeldBytes) {
-        match self {
-            Group::User => out.put_text("user"),
-            Group::Kernel => out.put_text("kernel"),
-        }
+        out.put_text(self.name());
     }
 }
 
@@ -96,12 +89,9 @@ impl Spelled for PlatDo {
     ghost most = { λ _. 16 };
 
     #[inline(always)]
+    #[tactic(auto, using(crate::proofs::Lengths::down_short))]
     fn put_on(self, out: &mut HeldBytes) {
-        match self {
-            PlatDo::Begin => out.put_text("begin"),
-            PlatDo::Prepare => out.put_text("prepare"),
-            PlatDo::PrepareLate => out.put_text("prepare_late"),
-        }
+        out.put_text(self.name());
     }
 }
 
@@ -111,13 +101,9 @@ impl Spelled for PlatUndo {
     ghost most = { λ _. 16 };
 
     #[inline(always)]
+    #[tactic(auto, using(crate::proofs::Lengths::up_short))]
     fn put_on(self, out: &mut HeldBytes) {
-        match self {
-            PlatUndo::Recover => out.put_text("recover"),
-            PlatUndo::Wake => out.put_text("wake"),
-            PlatUndo::Finish => out.put_text("finish"),
-            PlatUndo::End => out.put_text("end"),
-        }
+        out.put_text(self.name());
     }
 }
 

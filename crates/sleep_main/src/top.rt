@@ -10,7 +10,7 @@ use crate::generated::{soak_generated, write_generated};
 use crate::said::is_stuck;
 use command_line::{Command, command_of};
 use itoa::Buffer;
-use log_text::{LogText, source_name};
+use log_text::LogText;
 use machine_file::{MachineFault, ReadMachine, read_machine};
 use sleep_base::{ByteSink, ByteSource, Failed, Mem, ReadStop, read_all, write_all};
 use sleep_model::{Log, Machine, Name};
@@ -25,7 +25,7 @@ const MOST_BYTES: u32 = 16_777_216;
 fn full(machine: &Machine, source: u32) -> Ending
     ensures { IsFullNamed machine.now source result }
 {
-    match Name::of_bytes(source_name(machine, source)) {
+    match Name::of_bytes(machine.source_name(source)) {
         Some(name) => Ending::SourceFull(name),
         None => Ending::NoMemory,
     }
