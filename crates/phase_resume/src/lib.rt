@@ -1,4 +1,4 @@
-//! What the walks of the three phases on the way up do next, and a device that they gave out.
+//! What the walks of the three phases on the way up do next, and a device that they scheduled.
 #![tactic(auto)]
 
 mod law;
