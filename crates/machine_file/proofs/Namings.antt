@@ -1,5 +1,5 @@
 -- What a text names, by lists of what has names.
-use Rattle.std.proofs.Common.{◌≡◌, ◌≢◌, ◌∙◌, ◌||◌, ℕ, Bool, true, false, not, cond, List, [], ◌∷◌, map, find, bytes_eq, codes, is_some, unwrap_or, option_and_then, IfSome, IfNone, Option, Some, None, refl, sym, ap}
+use Rattle.std.proofs.Common.{◌≡◌, ◌≢◌, ◌∙◌, ◌||◌, ℕ, Bool, true, false, cond, List, [], ◌∷◌, map, find, bytes_eq, codes, is_some, unwrap_or, IfSome, IfNone, Option, Some, None, refl, sym, ap}
 use Rattle.std.specs.List.{list_any}
 use Rattle.std.specs.Cmp.Lexicographic.{bytes_decides}
 use Rattle.serde_json.specs.Data.{Data}
@@ -7,7 +7,6 @@ use Rattle.serde_json.specs.Find.{get, as_str}
 use Rattle.sleep_base.specs.declared.errno.Errno.{Errno}
 use Rattle.sleep_base.specs.declared.errno.Errno.TheVariants as error
 use Rattle.sleep_base.specs.Errno.{name_of, errors}
-use Rattle.phase_table.specs.declared.phase.Phase.{Phase}
 use Rattle.phase_table.specs.Phases.{phase_name}
 use Rattle.sleep_model.specs.declared.machine.PlatDo.{PlatDo}
 use Rattle.sleep_model.specs.declared.machine.PlatDo.TheVariants as step
@@ -15,7 +14,7 @@ use Rattle.sleep_model.specs.declared.machine.TaskKind.{TaskKind}
 use Rattle.sleep_model.specs.declared.machine.TaskKind.TheVariants as kind
 use Rattle.sleep_model.specs.Text.{down_word, kind_word}
 use Rattle.machine_file.specs.Look.{is_some_and, is_text}
-use Rattle.machine_file.specs.Members.{has_text, must_have}
+use Rattle.machine_file.specs.Members.{has_text}
 use Rattle.machine_file.specs.Form.{is_one_of, kinds, phases}
 use Rattle.machine_file.specs.Answering.{answering_phases, common_errors, platform_steps}
 use Rattle.machine_file.specs.Operations.{kind_of}

@@ -1,4 +1,4 @@
-use Rattle.std.proofs.Common.{◌∙◌, List, ℕ, Bor, find, bytes_eq, sym, ap}
+use Rattle.std.proofs.Common.{◌∙◌, List, ℕ, Bor, sym, ap}
 use Rattle.std.specs.Option.{option_map}
 use Rattle.sleep_base.specs.Errno.{name_of, errors}
 use Rattle.borrowed_json.specs.View.{view}
