@@ -230,7 +230,7 @@ impl<'m> Core<'m> {
         requires floor { (last_stamp self.old.past).pos ≤ E.floor events.old }
         // There is one word that was seen, by which the answer and the journal are what the definitions say.
         ensures turn { (word : EventNow) × IsTold (E.tells events.old) word × GrewTo word (E.looked events.old) (E.looked events.new)
-            × (floor.pos ≤ position word) × AfterTurn self.old self.new who word floor result }
+            × ((E.floor events.old ≤ position word) × (floor.pos ≤ position word)) × AfterTurn self.old self.new who word floor result }
         ensures tells { E.tells events.new ≡ E.tells events.old }
         ensures made { E.made events.new ≡ E.made events.old }
         ensures can { E.can events.new ≡ E.can events.old }
