@@ -7,7 +7,7 @@ Most files are nearly right: one value exchanged, one byte changed, a member wit
 beside it. Status, standard output and standard error have to agree to the byte. Ends with status 1
 and writes the first file that differs to standard error where they don't.
 
-What is accepted is written down a second time in tools/try_rules.py, and what a run is in tools/second.py. Neither
+What is accepted is written down a second time in tools/second/rules.py, and what a run is in tools/second/run.py. Neither
 shares anything with the program, its definitions or its libraries but the rules in docs/FORMATS.md and
 docs/BEHAVIOUR.md.
 """
@@ -17,9 +17,10 @@ import pathlib
 import subprocess
 import sys
 
-import second
-import try_rules
-from try_definitions import Maker
+from second.maker import Maker
+from second.rules import first_broken
+from second.run import Run
+from second.things import SourceFull
 
 ROOT = pathlib.Path(__file__).resolve().parent.parent
 PROGRAM = ROOT / "crates" / "sleep_main" / "out" / "sleep_main"
@@ -48,12 +49,12 @@ def expected(text):
         tree = json.loads(text.decode("utf-8"), parse_int=whole, parse_constant=no_constant)
     except (ValueError, RecursionError):
         return refused(1, "json")
-    broken = try_rules.first_broken(tree)
+    broken = first_broken(tree)
     if broken is not None:
         return refused(*broken)
     try:
-        log, stuck = second.Run(tree).run()
-    except second.SourceFull as full:
+        log, stuck = Run(tree).run()
+    except SourceFull as full:
         return 7, b"", f"source full: {full}\n".encode()
     return (6 if stuck else 0), log.encode(), b""
 

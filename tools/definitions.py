@@ -3,8 +3,8 @@
 
 usage: tools/definitions.py
 
-A module that no section names comes last. Ends with status 1, and says which, where a definition has no
-comment line.
+The page has what a reader has to trust, in reading order, and behind it the definitions that the program's clauses come
+to. Ends with status 1, and says which, where a definition has no comment line.
 """
 
 import pathlib
@@ -21,17 +21,30 @@ the newest first. The code keeps words, flags, cursors and counters instead, and
 agree.
 
 The last column names the function or field of Linux 6.1 that a definition states; "own" means that
-the kernel has none.
+the kernel has none. `tools/definitions.py` writes this page from the comment lines.
 
-Where to begin: `IsLegalLog` says what a log is, `due` says which entry may stand next, `stage_after` which
-stage of an attempt follows an entry, `Laws` and `GuardedSleep` what every legal log keeps, and `text` how
-it is printed.
+## What a reader has to trust
 
-The definitions are whole: all stages of an attempt, asynchronous devices, direct-complete, the freezer,
-autosleep, timers, any number of scripts.
-
-`tools/definitions.py` writes this page.
+Whoever believes these, with the definitions that they cite, knows what the headline says. They stand here in
+reading order, from "the program wrote a legal log" down to the rule that decides an entry. The sections behind have
+every definition that the headline's clause comes to. Definitions of invariants, which no promise names, are in the
+crates' `specs/` and not here.
 """
+
+# What to read, in order: a question, and the definitions that answer it, each with its crate and module.
+READING = [
+    ("What does a status of the program mean?", [("sleep_main", "Endings", ["Ended", "RunEnded", "RanFile", "Completes", "text_of"])]),
+    ("What is a run?", [("sleep_run", "Runs", ["IsRun", "IsFull"])]),
+    ("Which machine do these bytes spell?", [("machine_file", "Whole", ["machine_in", "SpellsWhole", "first_broken", "rule"])]),
+    ("When is a log legal, and at its end?", [("sleep_model", "Legal", ["IsLegalLog", "IsLegal", "JournalPart", "JournalStep", "SourcePart", "JointStep", "Placed", "JumpStep", "IsFinishedLog", "IsStuckLog", "is_enabled"])]),
+    ("Which entry is due of an actor?", [("sleep_model", "Due", ["due", "own_due", "script_due"]), ("sleep_model", "Steps", ["seat_due", "step_due", "read_due", "save_due", "state_due"]), ("sleep_model", "Autosleep", ["auto_due"]), ("sleep_model", "Attempt", ["attempt_due", "stage_due"])]),
+    ("Which stage follows, and where does a failure lead?", [("sleep_model", "Table", ["stage_after", "behind", "after_done"])]),
+    ("What do devices do?", [("sleep_model", "Stands", ["stands", "stand_after"]), ("sleep_model", "Devices", ["down_due", "taken", "up_due", "device_due", "is_direct_now", "phase_error"]), ("sleep_model", "Order", ["order", "below", "above"])]),
+    ("What counts as a wakeup?", [("sleep_model", "Numbers", ["numbers"]), ("sleep_model", "Guard", ["in_force", "pending", "forgotten"]), ("sleep_model", "Sources", ["makes", "SourceStep", "expiry"])]),
+    ("Who freezes?", [("sleep_model", "Freezer", ["freezings", "left"])]),
+    ("What does every legal log keep?", [("sleep_model", "Laws", ["Laws", "LawsAt", "DependentsFirst", "SuppliersFirst", "Restored", "Owed", "TakenOnce", "NotOwedAlready", "EntersDown", "UndisturbedEnters", "AnswersFailure", "FoundPending", "InOrder", "GuardedSleep"])]),
+    ("How is a log written?", [("sleep_model", "Text", ["text", "entry_line", "body"])]),
+]
 
 # A section: its crate, its title, what of the kernel it is about, and its modules.
 SECTIONS = [
@@ -58,50 +71,17 @@ SECTIONS = [
     ("sleep_model", "The laws of sleep", "`drivers/base/power/main.c`, `kernel/power/suspend.c`", ["Laws"]),
     ("sleep_laws", "What the laws are proved of", "own", ["Laws", "Ends"]),
     ("sleep_model", "The one log of separate histories", "own", ["Merge"]),
-    ("sleep_model", "A journal, and a log's entries, as the code keeps them", "own", ["Journals", "JournalFields", "Woven", "ReaderFields"]),
     ("sleep_model", "Which logs can be written, and how many places a source needs", "own", ["Fits", "Places"]),
-    ("source_room", "What a source's history keeps to", "own", ["Room"]),
     ("sleep_model", "The text of a log", "own", ["NameBytes", "Text"]),
     ("sleep_base", "The outside", "`include/uapi/asm-generic/errno-base.h`, for errors; the rest is own", ["Errno", "Faults", "Calls", "Streams", "Whole"]),
-    ("device_rows", "Rows of device numbers", "own", ["Table"]),
-    ("device_tree", "The tree of devices", "`drivers/base/core.c`, `drivers/base/power/runtime.c`", ["Kept", "Refusal", "Requests"]),
-    ("device_links", "Links of devices", "`drivers/base/core.c`", ["Adds", "Kept", "Linked", "Walks"]),
-    ("wakeup_guard", "A saved count and its test", "`drivers/base/power/wakeup.c`", ["Guarded"]),
-    ("event_word", "What looks at the word and steps on it say", "`drivers/base/power/wakeup.c`", ["Looks", "Steps"]),
-    ("wakeup_source", "A wakeup source, its calls and what is counted of it", "`drivers/base/power/wakeup.c`", ["SourceStates", "Called", "Told", "Tallies", "Books", "BookFields"]),
-    ("sleep_pool", "Jobs and their turns in a burst", "own", ["Turns"]),
-    ("async_board", "Where devices stand, as the code keeps it", "`drivers/base/power/main.c`", ["Boards", "AtPlaces", "BoardFields", "Walks", "Picks", "Cursors", "Counts"]),
-    ("phase_prepare", "Prepare and complete, over a board", "`drivers/base/power/main.c`", ["Prepares", "AtPlaces"]),
-    ("phase_suspend", "The three phases down, over a board", "`drivers/base/power/main.c`", ["Downs", "Spanned", "AtPlaces"]),
-    ("phase_resume", "The three phases up, over a board", "`drivers/base/power/main.c`", ["Ups", "AtPlaces"]),
-    ("syscore_ops", "The steps of the core, as the code keeps them", "`drivers/base/syscore.c`", ["Parts"]),
-    ("platform_steps", "Notifiers and processors, as the code keeps them", "`kernel/notifier.c`, `kernel/cpu.c`", ["Ranks", "Steps"]),
-    ("answer_book", "Answers by attempt and thing", "own", ["Keys", "Book"]),
-    ("sleep_state", "What the core keeps of each part, each as one value", "own", ["Places", "Paths", "DeviceStates", "TaskStates", "Sleepers", "SeatFields", "Trees", "MomentFields"]),
-    ("task_freezer", "The freezer as one value", "`kernel/power/process.c`, `kernel/freezer.c`", ["Freezers", "FreezerFields", "Fronts", "Waits"]),
-    ("turn_lock", "Locks with passes", "own", ["Books", "Locks", "Passes", "Passing", "Lending"]),
-    ("sleep_sysfs", "The state that a text names", "`kernel/power/main.c`", ["Decoding"]),
-    ("autosleep_loop", "Autosleep as one value", "`kernel/power/autosleep.c`", ["Autosleeps"]),
-    ("script_plan", "A script's turns, counted once", "own", ["Plans", "PlanFields"]),
-    ("attempt_room", "How many entries an attempt may need", "own", ["Room"]),
-    ("sleep_core", "The core", "own", ["Cores", "Turned", "Histories", "HistoryFields", "CoreFields", "Numbered", "Seen", "Stages", "Steps", "Reports", "ReportFields"]),
-    ("borrowed_json", "What a JSON value over its text says", "own", ["View", "InRange"]),
     ("machine_file", "Accepted bytes: the first broken rule, and the machine that is spelled", "`include/linux/pm.h`, `drivers/base/core.c`; most is own", ["Whole", "Members", "Places", "Form", "Names", "Devices", "Operations", "Answering", "Limits", "Tree", "Look", "Rules", "Spelled"]),
-    ("machine_file", "What the reader answers", "own", ["Refusing", "Reading", "Broken", "Fitting"]),
-    ("machine_file", "How a machine is written", "own", ["Spelling", "Writing"]),
+    ("machine_file", "How a machine is written", "own", ["Spelling"]),
     ("sleep_script", "Generated machines", "own", ["Generated"]),
     ("command_line", "The words of the command line", "own", ["Words"]),
-    ("event_word", "The event word for many holders", "`drivers/base/power/wakeup.c`", ["Histories", "Counting", "Seats", "Lists"]),
-    ("device_links", "The links of a whole list", "`drivers/base/core.c`", ["Passes"]),
-    ("merge_laws", "Lists that are right by themselves, and what they merge to", "own", ["Apart", "Fitting", "Merging", "Owned"]),
-    ("log_text", "The grammar of a log, and its first bad line", "own", ["Grammar", "Named"]),
-    ("log_merge", "The one log, read run by run", "own", ["Rests", "ReaderFields", "Orders", "Journals"]),
-    ("sleep_run", "A whole run", "own", ["Runs", "RunFields", "Tries", "AllEntries", "Waits", "Called", "Firsts", "JobsOf", "JobsFields"]),
+    ("log_text", "The grammar of a log, and its first bad line", "own", ["Grammar"]),
+    ("sleep_run", "A whole run", "own", ["Runs"]),
     ("sleep_main", "How the program ends", "own", ["Words", "Endings", "Counting"]),
 ]
-
-# What no contract of the program speaks of: terms by which the definitions are tried.
-TRIALS = {"worked_logs", "file_laws", "merge_trials"}
 
 DEFINITION = re.compile(r"(?:abbrev pub|unfoldable pub|pub record|pub data) (\w+)")
 TOGETHER = re.compile(r"  pub (\w+) :")
@@ -160,22 +140,24 @@ def modules_of(crate):
     return MODULE.findall(lib.read_text()) if lib.exists() else []
 
 
-def sections():
-    """The sections as they stand: those of the table, without modules that are gone, then a crate's other modules."""
-    listed = {(crate, module) for crate, _, _, modules in SECTIONS for module in modules}
-    for crate, title, kernel, modules in SECTIONS:
-        yield crate, title, kernel, [module for module in modules if module in modules_of(crate)]
-    for lib in sorted((ROOT / "crates").glob("*/specs/Lib.antt")):
-        crate = lib.parent.parent.name
-        if crate not in TRIALS:
-            yield crate, f"Others of `{crate}`", "own", [m for m in modules_of(crate) if (crate, m) not in listed]
+def reading():
+    """The table of what to read, in order: for each question its definitions, where they stand, and what they say."""
+    yield "\n| question | definition | what it says | Linux 6.1 |"
+    yield "|---|---|---|---|"
+    for question, answers in READING:
+        for crate, module, names in answers:
+            said = dict(definitions(ROOT / "crates" / crate / "specs" / f"{module}.antt"))
+            for name in names:
+                if name not in said:
+                    sys.exit(f"{crate}/specs/{module}.antt: no {name}")
+                yield f"| {question} | `{name}` (`{crate}`, `{module}`) | {sentence(said[name])} | {kernel_of(said[name])} |"
+                question = ""
 
 
 def main():
-    lines = [HEAD.rstrip("\n")]
-    for crate, title, kernel, modules in sections():
-        if modules:
-            lines += section(crate, title, kernel, modules)
+    lines = [HEAD.rstrip("\n"), *reading()]
+    for crate, title, kernel, modules in SECTIONS:
+        lines += section(crate, title, kernel, [module for module in modules if module in modules_of(crate)])
     (ROOT / "docs" / "DEFINITIONS.md").write_text("\n".join(lines) + "\n")
 
 

@@ -3,7 +3,7 @@
 
 usage: tools/test_timeline.py
 
-The logs are the worked ones, and those that tools/second.py and tools/interleaved.py write of random machines.
+The logs are the worked ones, and those that tools/run_second.py writes of random machines.
 """
 
 import collections
@@ -16,9 +16,9 @@ import subprocess
 import sys
 import unittest
 
-import interleaved
-import second
-import try_definitions
+from second.maker import Maker
+from second.merged import Interleaved
+from second.run import Run
 from timeline import machine, page, reading, story
 
 TOOLS = pathlib.Path(__file__).resolve().parent
@@ -196,15 +196,15 @@ def machines_with_logs():
     yield "links", LINKED, LINKED_LOG
     for path in LATER:
         tree = json.loads(path.read_text())
-        yield path.stem, tree, second.Run(tree).run()[0]
+        yield path.stem, tree, Run(tree).run()[0]
     for posts, script in RARE:
         tree = with_late_event(posts, script)
-        yield f"event after {posts} posts", tree, second.Run(tree).run()[0]
-    maker = try_definitions.Maker(SEED)
+        yield f"event after {posts} posts", tree, Run(tree).run()[0]
+    maker = Maker(SEED)
     for number in range(MACHINES):
         tree = maker.machine()
-        yield f"machine {number}", tree, second.Run(tree).run()[0]
-        yield f"merged {number}", tree, interleaved.Interleaved(tree, number).run()[0]
+        yield f"machine {number}", tree, Run(tree).run()[0]
+        yield f"merged {number}", tree, Interleaved(tree, number).run()[0]
 
 
 class Pages(unittest.TestCase):
@@ -326,7 +326,7 @@ class Refusals(unittest.TestCase):
     def test_a_script_whose_end_is_cut_off(self):
         waits = [{"name": name, "kind": "user", "script": [{"op": "wait", "mark": "a"}]} for name in "wv"]
         tree = {"version": 1, "actors": waits}
-        text = second.Run(tree).run()[0]
+        text = Run(tree).run()[0]
         draw(text, tree)
         self.assertEqual(self.refused(text[:text.rindex("stuck")], tree), text.count("\n"))
 

@@ -1,13 +1,15 @@
 #!/usr/bin/env python3
-"""Writes the whole worked logs of crates/worked_logs as terms, with the laws that they are legal.
+"""Writes the whole worked logs of crates/log_trials as terms, with the laws that they are legal.
 
 usage: tools/worked.py
 
 tools/worked/ has for each log its machine file NAME.json and its text NAME.log, worked out apart from the
 program. The table LOGS says what each shows. A machine becomes the value that its file spells, a log the
 value that its text spells, an entry a line. What is written: specs/*.antt with the values, a module a
-subject; src/whole.rt, src/rounds.rt and src/texts.rt with the laws; the proof of the law of a long log; and the
-same machines and logs as tests of the program, in crates/sleep_main/src/rows (worked_rows.py).
+subject; src/whole.rt, src/rounds.rt and src/texts.rt with the laws; the proof of the law of a long log; the
+logs of tools/worked/broken and the laws that refuse them, in specs/Refuted.antt and src/refuted.rt
+(worked_refuted.py); and the same machines and logs as tests of the program, in crates/sleep_main/src/rows
+(worked_rows.py).
 """
 
 import json
@@ -15,10 +17,11 @@ import pathlib
 import re
 import sys
 
+import worked_refuted
 import worked_rows
 
 ROOT = pathlib.Path(__file__).resolve().parent.parent
-CRATE = ROOT / "crates" / "worked_logs"
+CRATE = ROOT / "crates" / "log_trials"
 INPUT = ROOT / "tools" / "worked"
 WIDTH = 110
 
@@ -565,10 +568,10 @@ def uses_of(text):
         if is_used(name, text):
             yield f"use {MODEL}.{place}.{{{name}}}"
     yield from (line for word, line in USES if re.search(rf"(?<![\w.]){word}\.", text))
-    yield f"use Rattle.worked_logs.specs.Terms.{{{', '.join(name for name in TERMS if is_used(name, text))}}}"
+    yield f"use Rattle.log_trials.specs.Terms.{{{', '.join(name for name in TERMS if is_used(name, text))}}}"
     for module, name, _ in (half for halves in HALVES.values() for half in halves):
         if is_used(name, text) and f"pub {name} " not in text:
-            yield f"use Rattle.worked_logs.specs.{module}.{{{name}}}"
+            yield f"use Rattle.log_trials.specs.{module}.{{{name}}}"
 
 
 def write_module(module, says, texts, crate=CRATE, more=""):
@@ -605,8 +608,8 @@ PLACES_HEAD = """\
 use Rattle.std.proofs.Common.{{refl, reverse, ℕ, List}}
 use Rattle.sleep_model.specs.declared.entry.Entry.{{Entry}}
 use Rattle.sleep_model.specs.Legal.{{JointPart}}
-use Rattle.worked_logs.specs.{module}.{{{name}_machine, {name}_entries}}
-use Rattle.worked_logs.proofs.Computed.{{before, joint_stretch}}
+use Rattle.log_trials.specs.{module}.{{{name}_machine, {name}_entries}}
+use Rattle.log_trials.proofs.Computed.{{before, joint_stretch}}
 
 -- the log without its newest n entries
 abbrev without : ℕ → List Entry
@@ -615,11 +618,11 @@ without n = before n (reverse {name}_entries)
 
 ANSWERS = """\
 use Rattle.std.proofs.Common.{{refl, reverse}}
-use Rattle.worked_logs.specs.{module}.{{{name}_machine, {name}_entries}}
+use Rattle.log_trials.specs.{module}.{{{name}_machine, {name}_entries}}
 use Rattle.sleep_model.specs.Parts.{{journal}}
-use Rattle.worked_logs.proofs.Computed.{{journal_part, source_part, placed}}
-use Rattle.worked_logs.proofs.{module}Places.{{{name}_fits}}
-use Rattle.worked_logs.proofs.whole.{name}_is_legal.Goals as goal
+use Rattle.log_trials.proofs.Computed.{{journal_part, source_part, placed}}
+use Rattle.log_trials.proofs.{module}Places.{{{name}_fits}}
+use Rattle.log_trials.proofs.whole.{name}_is_legal.Goals as goal
 
 pub returns-clause-legal : goal.returns-clause-legal
 returns-clause-legal c = record {{
@@ -676,7 +679,7 @@ ROUNDS_HEAD = """\
 //! time jumps where a round did nothing, one worker writes just these entries.
 
 ghost use Rattle.std.specs.Prelude.{◌≡◌};
-ghost use Rattle.worked_logs.specs.Rounds.{one_worker};
+ghost use Rattle.log_trials.specs.Rounds.{one_worker};
 """
 
 
@@ -685,7 +688,7 @@ def ghost_uses(logs, *endings):
     for module in dict.fromkeys(log.module for log in logs):
         names = [log.name + ending for log in logs if log.module == module for ending in endings]
         if names:
-            yield f"ghost use Rattle.worked_logs.specs.{module}.{{{', '.join(names)}}};\n"
+            yield f"ghost use Rattle.log_trials.specs.{module}.{{{', '.join(names)}}};\n"
 
 
 def legal_law(log):
@@ -739,9 +742,22 @@ def write_texts(logs):
         own = [log for log in logs if (log.module == "Links") == (module == "LinkTexts")]
         head = f"-- {says}, a line an entry.\nuse Rattle.std.specs.Prelude.{{ℕ, ◌++◌, List, codes}}\n\n"
         (CRATE / "specs" / f"{module}.antt").write_text(head + "\n".join(map(text_term, own)))
-        uses.append(f"ghost use Rattle.worked_logs.specs.{module}.{{{', '.join(f'{log.name}_text' for log in own)}}};\n")
+        uses.append(f"ghost use Rattle.log_trials.specs.{module}.{{{', '.join(f'{log.name}_text' for log in own)}}};\n")
     laws = [TEXTS_HEAD, *ghost_uses(logs, "_machine", ""), *uses, *map(text_law, logs)]
     (CRATE / "src" / "texts.rt").write_text("".join(laws))
+
+
+def write_refuted(logs):
+    """The broken logs that a law refuses, with those laws."""
+    modules = {log.name: log.module for log in logs}
+    broken = []
+    for name, machine, _, _, says in worked_refuted.REFUTED:
+        tree = json.loads((INPUT / f"{machine}.json").read_text())
+        broken.append(Worked("Refuted", name, says, tree, (INPUT / "broken" / f"{name}.log").read_text()))
+    comments = [log.says[0].lower() + log.says[1:].rstrip(".") for log in broken]
+    texts = [list_text(f"{log.name}_entries", says, log.entries()) for log, says in zip(broken, comments)]
+    write_module("Refuted", "Entries of broken logs that a law of sleep refuses.", texts)
+    (CRATE / "src" / "refuted.rt").write_text(worked_refuted.laws(broken, modules))
 
 
 def write_laws(logs):
@@ -764,6 +780,7 @@ def main():
             write_halves(log)
             write_proofs(log)
     write_laws(logs)
+    write_refuted(logs)
     worked_rows.write_rows(logs, ROOT / "crates" / "sleep_main" / "src" / "rows")
 
 

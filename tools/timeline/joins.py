@@ -3,9 +3,10 @@
 import bisect
 import collections
 
+from second.limits import VISIBLE
+
 from . import reading
 
-VISIBLE = 1 << 24  # The count that a task sees starts again at 0 here.
 DOWN = ("suspend", "late", "noirq")
 NOTES = ("awake", "relax", "event", "expire")
 STEPS = ("start", "finish", "hard")

@@ -77,7 +77,7 @@ impl<'a> AnswerBook<'a> {
         }
     }
 
-    /// The number that a thing answers in an attempt: 0, 1, or an error's number below 0; 0 where
+    /// The number that a thing answers in an attempt: 0, 1, or an error as a negative number; 0 where
     /// the machine gives no answer.
     pub fn number(&self, what: What, attempt: u32) -> i32
         ensures { result ≡ answer_number (answer_among self.now what attempt) }

@@ -4,7 +4,5 @@
 mod book;
 mod key;
 mod places;
-#[cfg(test)]
-mod tests;
 
 pub use book::AnswerBook;

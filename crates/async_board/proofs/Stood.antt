@@ -30,7 +30,7 @@ others_stand stands d x s ne = get_or-set_other stands d x s stand.Unprepared ne
 pub stands_anew : (stands : List Stand) (d : ℕ) (s : Stand) → d < length stands → stand_at (set stands d s) d ≡ s
 stands_anew stands d s l = get_or-set_same stands d s stand.Unprepared l
 
--- who is low is a device
+-- who is not up is a device
 pub not_up_within : (stands : List Stand) (x : ℕ) → is_not_up (stand_at stands x) ≡ true → x < length stands
 not_up_within [] x h = absurd (false≢true h)
 not_up_within (s ∷ stands) zero h = omega arith

@@ -39,7 +39,7 @@ above_across ps ls d e l = among_first_places (superiors ps ls e) d ∙ (across 
 pub below_across : (ps : List (Option ℕ)) (ls : List Link) (d e : ℕ) → d < length ps → is_among (first_places (dependents ps ls e)) d ≡ is_among (first_places (superiors ps ls d)) e
 below_across ps ls d e l = among_first_places (dependents ps ls e) d ∙ (sym (across ps ls e d l) ∙ sym (among_first_places (superiors ps ls d) e))
 
--- who hangs below a device of the order stands in the order
+-- who depends on a device of the order stands in the order
 pub order_depends : (dependents_of : ℕ → List ℕ) (xs : List ℕ) → IsOrder dependents_of xs → (d x : ℕ) → is_among xs d ≡ true → is_among (dependents_of d) x ≡ true → is_among xs x ≡ true
 order_depends dependents_of [] h d x m n = absurd (false≢true m)
 order_depends dependents_of (y ∷ ys) h d x m n = by_place (order_depends dependents_of ys h.2 d x) (or_cases (y == d) (is_among ys d) m)

@@ -1,5 +1,5 @@
 -- A board as contracts see it, and what is asked of it.
-use Rattle.std.specs.Prelude.{ℕ, Bool, not, ◌&&◌, List, length, filter, replicate, slice_set, if◌then◌else◌, Option}
+use Rattle.std.specs.Prelude.{ℕ, Bool, not, ◌&&◌, List, length, replicate, slice_set, if◌then◌else◌, Option}
 use Rattle.std.specs.List.{list_all}
 use Rattle.phase_table.specs.declared.phase.Phase.{Phase}
 use Rattle.phase_table.specs.declared.phase.Phase.TheVariants as phase
@@ -10,7 +10,6 @@ use Rattle.sleep_model.specs.declared.place.Stand.TheVariants as stand
 use Rattle.sleep_model.specs.declared.place.AsyncWork.{AsyncWork}
 use Rattle.sleep_model.specs.declared.place.AsyncWork.TheVariants.{Idle}
 use Rattle.sleep_model.specs.Devices.{work_by}
-use Rattle.sleep_model.specs.Links.{first_places}
 use Rattle.sleep_model.specs.Order.{active_of, dependents, superiors, order_by}
 use Rattle.sleep_model.specs.Stands.{stands_after, device_of, stand_at, by_phase, is_unprepared, is_prepared, is_ready, is_not_down, is_going_down, is_down_in, is_direct_complete, is_not_up}
 use Rattle.sleep_model.specs.Walk.{is_so, first_where, last_where}
@@ -116,18 +115,6 @@ waits_below_on board p d =
 abbrev pub waits_above_on : BoardState → Phase → ℕ → Option ℕ
 waits_above_on board p d =
     first_where (λ e. is_not_up (stand_at (stands_on board p) e)) (superiors board.parents (active_of board.links) d)
-
--- how many devices below d are not through (dpm_wait_for_subordinate)
-abbrev pub open_below_on : BoardState → Phase → ℕ → ℕ
-open_below_on board p d =
-    length (filter (λ e. is_not_down (stand_at (stands_on board p) e))
-    (first_places (dependents board.parents (active_of board.links) d)))
-
--- how many devices above d are not yet up (dpm_wait_for_superior)
-abbrev pub open_above_on : BoardState → Phase → ℕ → ℕ
-open_above_on board p d =
-    length (filter (λ e. is_not_up (stand_at (stands_on board p) e))
-    (first_places (superiors board.parents (active_of board.links) d)))
 
 -- all devices below d are direct-complete (direct_complete)
 abbrev pub all_direct_complete_on : BoardState → ℕ → Bool

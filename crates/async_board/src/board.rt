@@ -62,7 +62,7 @@ fn begin_anew(layout: &Layout, supplier: u32, suspend: &mut Walk, late: &mut Wal
 impl Board {
     ghost use Rattle.std.specs.Prelude.{◌≡◌, ◌<◌, IfOk, OnOk, OnErr, None, is_none, length};
     ghost use Rattle.sleep_model.specs.Order.{links_added, links_set};
-    ghost use Rattle.async_board.specs.Boards.{first_board, board_after, put_in_all, put_in, skip_in, stands_on, order_on, next_prepared_on, next_completed_on, next_down_on, waits_down_on, next_to_schedule_on, next_up_on, waits_up_on, waits_below_on, waits_above_on, open_below_on, open_above_on, all_direct_complete_on, work_on};
+    ghost use Rattle.async_board.specs.Boards.{first_board, board_after, put_in_all, put_in, skip_in, stands_on, order_on, next_prepared_on, next_completed_on, next_down_on, waits_down_on, next_to_schedule_on, next_up_on, waits_up_on, waits_below_on, waits_above_on, all_direct_complete_on, work_on};
 
     /// A board over these links, on which no device is prepared; `asynchronous` says for each device
     /// whether it is asynchronous. `Mem` if there is no memory for it.
@@ -359,22 +359,6 @@ impl Board {
         } else {
             first_not_up(&walk.stands, &self.layout.links, device).is_none()
         }
-    }
-
-    /// How many devices right below one are not through with a phase on the way down.
-    pub fn open_below(&self, p: Phase, device: u32) -> usize
-        requires { device < length self.now.parents }
-        ensures { result ≡ open_below_on self.now p device }
-    {
-        count_at(&self.walk(p).open_below, device)
-    }
-
-    /// How many devices right above one went down in a phase and are not yet up.
-    pub fn open_above(&self, p: Phase, device: u32) -> usize
-        requires { device < length self.now.parents }
-        ensures { result ≡ open_above_on self.now p device }
-    {
-        count_at(&self.walk(p).open_above, device)
     }
 
     /// Whether all devices right below one are direct-complete (`power.direct_complete`).

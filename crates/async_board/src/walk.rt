@@ -75,7 +75,7 @@ pub(crate) fn places_of(alloc: Global, order: &[u32]) -> Result<Vec<usize>, Mem>
     Ok(places)
 }
 
-// Counts how many devices hang right below each.
+// Counts how many devices depend directly on each.
 fn count_below(counts: &mut [usize], links: &Links)
     requires size { length counts.old ≡ length links.now.parents }
     ensures { IsLengths (length links.now.parents)
@@ -87,7 +87,7 @@ fn count_below(counts: &mut [usize], links: &Links)
     }
 }
 
-// Counts how many devices hang right below each, anew.
+// Counts how many devices depend directly on each, anew.
 fn recount_below(counts: &mut Vec<usize>, links: &Links)
     requires size { length counts.old.items ≡ length links.now.parents }
     ensures { IsLengths (length links.now.parents)
@@ -96,7 +96,7 @@ fn recount_below(counts: &mut Vec<usize>, links: &Links)
     count_below(counts, links);
 }
 
-// Counts how many devices hang right below one, anew, where the others have their counts.
+// Counts how many devices depend directly on one, anew, where the others have their counts.
 fn recount_at(counts: &mut Vec<usize>, links: &Links, device: u32)
     requires size { length counts.old.items ≡ length links.now.parents }
     requires others { (d : ℕ) → d < length links.now.parents → d ≢ device →
@@ -111,7 +111,7 @@ fn recount_at(counts: &mut Vec<usize>, links: &Links, device: u32)
     }
 }
 
-// How many devices hang right below each.
+// How many devices depend directly on each.
 fn counts_below(alloc: Global, links: &Links) -> Result<Vec<usize>, Mem>
     ensures { IfOk result (λ v. IsLengths (length links.now.parents)
         (λ d. first_places (dependents links.now.parents (active_of links.now.links) d)) v.items) }
@@ -156,7 +156,7 @@ impl Walk {
     }
 
     // Has each device not prepared, and counts what each waits for. Where none was prepared, which one
-    // cursor tells, only what hangs below the supplier has changed.
+    // cursor tells, only what depends on the supplier has changed.
     fn settle(&mut self, layout: &Layout, supplier: u32)
         requires { MayRestart layout.now supplier self.old }
         ensures stands { self.new.stands.items

@@ -174,24 +174,7 @@ impl Autosleep {
     }
 
     /// What an entry of that actor does.
-    #[tactic(auto, using(crate::proofs::Staying::work_stays))]
     pub fn note(&mut self, kind: Kind, who: Actor)
-        requires { runs_after kind self.old.runs < 2 ^ 32 }
-        ensures { self.new ≡ autosleep_after kind who self.old }
-    {
-        match kind {
-            Kind::Prepare { .. }
-            | Kind::Complete(_)
-            | Kind::Schedule(..)
-            | Kind::Begin(..)
-            | Kind::End(..)
-            | Kind::Skip(..) => {}
-            _ => self.go_on(kind, who),
-        }
-    }
-
-    /// What an entry of that actor does, which need not be of a device.
-    fn go_on(&mut self, kind: Kind, who: Actor)
         requires { runs_after kind self.old.runs < 2 ^ 32 }
         ensures { self.new ≡ autosleep_after kind who self.old }
     {
@@ -221,13 +204,6 @@ impl Autosleep {
         ensures { result ≡ self.now.work }
     {
         self.work
-    }
-
-    /// Whether the work is queued.
-    pub fn is_queued(&self) -> bool
-        ensures { result ≡ self.now.queued }
-    {
-        self.queued
     }
 
     /// How often the work has run.

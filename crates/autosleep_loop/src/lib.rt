@@ -4,7 +4,5 @@
 
 mod autosleep;
 mod due;
-#[cfg(test)]
-mod tests;
 
 pub use autosleep::{Autosleep, is_actor};

@@ -240,7 +240,7 @@ fn ladder(alloc: Global, from_end: bool) -> Result<Vec<Link>, Mem> {
     Ok(list)
 }
 
-/// What hangs below doubles with each step of these, and both ways they leave the same.
+/// What depends on a device doubles with each step of these, and both ways they leave the same.
 #[test]
 fn doubling_links_are_made_at_once(rt: HostRuntime) -> Result<(), Fail> {
     let parents = unrelated(rt.alloc(), 301)?;

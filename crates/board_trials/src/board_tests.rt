@@ -37,13 +37,19 @@ fn note_all(board: &mut Board, kinds: &[Kind]) {
     }
 }
 
-/// Asserts how many devices each of three waits for, below and above it.
+/// Asserts whether each of three waits for devices below and above it.
 fn expect_open(rt: &impl Abort, board: &Board, below: [usize; 3], above: [usize; 3]) {
     assert!(rt; board.links().order().len() == 3);
     for device in 0..3u32 {
         let number = device as usize;
-        assert_eq!(rt; board.open_below(Phase::Suspend, device), below[number]);
-        assert_eq!(rt; board.open_above(Phase::Suspend, device), above[number]);
+        assert_eq!(rt;
+            board.is_free_below(Phase::Suspend, device),
+            below[number] == 0
+        );
+        assert_eq!(rt;
+            board.is_free_above(Phase::Suspend, device),
+            above[number] == 0
+        );
     }
 }
 

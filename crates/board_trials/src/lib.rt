@@ -1,5 +1,6 @@
-//! Tests of what is kept of a machine: the links between its devices, where each device stands, and each part after an
-//! entry. They stand apart from the crates that they try, so that those are proved once. No program stands on this crate.
+//! Tests of what is kept of a machine: its devices and the links between them, where each device stands, what the phases,
+//! the platform and the freezer do next, and each part after an entry. They stand apart from the crates that they try, so
+//! that those are proved once. No program stands on this crate.
 #![tactic(auto)]
 
 #[cfg(test)]
@@ -7,6 +8,24 @@ mod at_once_tests;
 #[cfg(test)]
 mod board_tests;
 #[cfg(test)]
+mod down_tests;
+#[cfg(test)]
+mod freezer_tests;
+#[cfg(test)]
+mod guard_tests;
+#[cfg(test)]
 mod link_tests;
 #[cfg(test)]
+mod platform_tests;
+#[cfg(test)]
+mod prepare_tests;
+#[cfg(test)]
+mod row_tests;
+#[cfg(test)]
 mod state_tests;
+#[cfg(test)]
+mod syscore_tests;
+#[cfg(test)]
+mod tree_tests;
+#[cfg(test)]
+mod up_tests;

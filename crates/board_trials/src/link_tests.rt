@@ -104,7 +104,7 @@ fn expect_above(rt: &impl Abort, links: &Links, device: u32, above: &[u32]) {
     assert_eq!(rt; links.above(device), above);
 }
 
-/// Devices bus, usb below it, cam below usb, gpio and clk: two links move what hangs below their
+/// Devices bus, usb below it, cam below usb, gpio and clk: two links move what depends on their
 /// consumers, and the third closes a cycle, whose path goes over links and a parent; after it all
 /// is as before.
 #[test]
@@ -163,7 +163,7 @@ fn expect_told(rt: &impl Abort, links: &mut Links) {
     expect_order(rt, links, &[0, 3, 1, 2]);
 }
 
-/// A hundred diamonds, one on the other: what hangs below doubles with each, and the order stays
+/// A hundred diamonds, one on the other: what depends on one doubles with each, and the order stays
 /// that of registration.
 #[test]
 fn diamonds_keep_the_order(rt: HostRuntime) -> Result<(), Fail> {
@@ -319,7 +319,7 @@ fn expect_seen_once(rt: &impl Abort, links: &mut Links) {
     expect_above(rt, links, 1, &[0]);
 }
 
-// Consumers and suppliers, each with whether the supplier hangs below the consumer.
+// Consumers and suppliers, each with whether the supplier depends on the consumer.
 const DEPENDENTS: [(u32, u32, bool); 5] = [
     (0, 0, true),
     (0, 1, true),
@@ -328,7 +328,7 @@ const DEPENDENTS: [(u32, u32, bool); 5] = [
     (1, 0, false),
 ];
 
-/// A device depends on itself, and on what it hangs below, over dormant links too.
+/// A device depends on itself, and on what is above it, over dormant links too.
 #[test]
 fn dependents_are_found(rt: HostRuntime) -> Result<(), Fail> {
     let mut links = Links::new(rt.alloc(), &[None, Some(0), None])?;
@@ -398,7 +398,7 @@ fn expect_full(rt: &impl Abort, links: &mut Links) {
     assert!(rt; added(links, 100, 0) == Answer::NoDevice);
 }
 
-/// A device, then all that hangs below it, each with its own, so many levels deep.
+/// A device, then all that depends on it, each with its own, so many levels deep.
 fn moved(
     levels: u32,
     parents: &[Option<u32>],
@@ -423,7 +423,7 @@ fn moved(
     Ok(())
 }
 
-/// What hangs below one of seven devices, itself first.
+/// What depends on one of seven devices, itself first.
 fn all_moved(
     alloc: Global,
     parents: &[Option<u32>],
@@ -506,30 +506,30 @@ fn compare_all(
     for _ in 0..20 {
         seed = seed.wrapping_mul(1_664_525).wrapping_add(1_013_904_223);
         let link = ((seed >> 16) % 7, (seed >> 20) % 7);
-        let hangs = all_moved(alloc, parents, &compared.added, link.1)?;
-        if compare_one(rt, alloc, compared, link, &hangs)? {
+        let dependents = all_moved(alloc, parents, &compared.added, link.1)?;
+        if compare_one(rt, alloc, compared, link, &dependents)? {
             cycles = cycles.wrapping_add(1);
         }
     }
     Ok(cycles)
 }
 
-/// Tries a link, below whose consumer these hang; true if it would close a cycle.
+/// Tries a link, on whose consumer these depend; true if it would close a cycle.
 fn compare_one(
     rt: &impl Abort,
     alloc: Global,
     compared: &mut Compared,
     link: (u32, u32),
-    hangs: &[u32],
+    dependents: &[u32],
 ) -> Result<bool, Mem> {
     let answer = added(&mut compared.links, link.0, link.1);
     match answer {
         Answer::Done => {
-            assert!(rt; !hangs.contains(&link.0));
-            note_added(alloc, compared, link, hangs)?;
+            assert!(rt; !dependents.contains(&link.0));
+            note_added(alloc, compared, link, dependents)?;
         }
         Answer::Twice => assert!(rt; compared.added.contains(&link)),
-        Answer::Cycle => assert!(rt; hangs.contains(&link.0)),
+        Answer::Cycle => assert!(rt; dependents.contains(&link.0)),
         _ => panic!(rt; "another refusal"),
     }
     expect_order(rt, &compared.links, &compared.order);
@@ -541,10 +541,10 @@ fn note_added(
     alloc: Global,
     compared: &mut Compared,
     link: (u32, u32),
-    hangs: &[u32],
+    dependents: &[u32],
 ) -> Result<(), Mem> {
     compared.added.push(link)?;
-    compared.order = with_last(alloc, &compared.order, hangs)?;
+    compared.order = with_last(alloc, &compared.order, dependents)?;
     Ok(())
 }
 

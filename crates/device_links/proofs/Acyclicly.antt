@@ -66,7 +66,7 @@ module _ (ps : List (Option ℕ)) (after : EachAfterParent 0 ps) where
       by_place rest (inl n) = rest n
       by_place rest (inr n) = let same : l.consumer ≡ x = one_consumer (l.supplier == d) l.consumer x n in let c : l.consumer < length ps = h.1 in omega arith
 
-  -- what hangs right below is registered
+  -- what depends directly on a device is registered
   pub apart_within : (ls : List Link) → AreApart ps ls → (d x : ℕ) → is_among (dependents ps ls d) x ≡ true → x < length ps
   apart_within ls h d x m = by_place (or_cases (is_among (children_from d 0 ps) x) (is_among (consumers_of d ls) x) (sym (among_app (children_from d 0 ps) (consumers_of d ls) x) ∙ m))
     where
@@ -92,7 +92,7 @@ module _ (ps : List (Option ℕ)) (after : EachAfterParent 0 ps) where
       by_place (inr n) = or_right (is_among (children_from d 0 ps) x) (is_among (consumers_of d (l ∷ ls)) x) (among_app (consumers_of d ls) (cond (l.supplier == d) (l.consumer ∷ []) []) x ∙ or_left (is_among (consumers_of d ls) x) (is_among (cond (l.supplier == d) (l.consumer ∷ []) []) x) n)
 
   module _ (all : List Link) (fix : IsAcyclic (length ps) (dependents ps all)) where
-    -- no link leads back to what it hangs below
+    -- no link leads back to what it depends on
     no_cycle : (l : Link) → is_among (dependents ps all l.supplier) l.consumer ≡ true → (ls : List Link) → ((d x : ℕ) → is_among (dependents ps ls d) x ≡ true → is_among (dependents ps all d) x ≡ true)
         → (path : List ℕ) → IsPath (dependents ps ls) path l.consumer l.supplier → ⊥
     no_cycle l m ls i [] p = p
@@ -101,7 +101,7 @@ module _ (ps : List (Option ℕ)) (after : EachAfterParent 0 ps) where
         let back = among_flat (dependents ps all) (moved (length ps) (dependents ps all)) fix l.supplier (dependents ps all l.supplier) x (subst (λ (y : ℕ). is_among (dependents ps all l.supplier) y ≡ true) (sym p.0) m) leads in
         true≢false (sym back ∙ not_below_itself (dependents ps all) (moved (length ps) (dependents ps all)) fix l.supplier)
 
-    -- where no device hangs below itself each link may be added
+    -- where no device depends on itself each link may be added
     pub acyclic_links : (ls : List Link) → AreApart ps ls → ((d x : ℕ) → is_among (dependents ps ls d) x ≡ true → is_among (dependents ps all d) x ≡ true) → AreLinks ps ls
     acyclic_links [] h i = tt
     acyclic_links (l ∷ ls) h i =

@@ -39,7 +39,7 @@ kept_new ps l after hangs below suppliers above order h b s a o = record {
   ordered = o;
 }
 
--- what hangs right below, as the table tells it
+-- what depends directly on a device, as the table tells it
 pub dependents_is : (ps : List (Option ℕ)) (ls : List Link) (t : Table) → IsTableOf (length ps) (dependents ps ls) t.rows → row_at t ≡ dependents ps ls
 dependents_is ps ls t h = λ i d. h.each d i
 
@@ -108,7 +108,7 @@ places_more ps after l ls below above below' above' h b s a c = record {
     by_consumer d true e = subst (λ (x : ℕ). length (superiors ps (l ∷ ls) x) ≤ places_at above' x) (eqb-true l.consumer d e) c
     by_consumer d false e = let same = ap length (holding_other ps l ls d e) in let had = h.above d in let more = a d in omega (arith, same, had, more)
 
--- what hangs below the supplier, and stands above the consumer, counted by the tables
+-- what depends on the supplier, and stands above the consumer, counted by the tables
 pub dependents_count : (ps : List (Option ℕ)) (l : Link) (ls : List Link) → length (dependents ps (l ∷ ls) l.supplier) ≡ length (dependents ps ls l.supplier) + 1
 dependents_count ps l ls = ap length (dependents_new ps l ls) ∙ length-append (dependents ps ls l.supplier) (l.consumer ∷ [])
 

@@ -38,7 +38,7 @@ first_at xs i one other l h e n = record {
 }
 
 module _ (dependents_of : ℕ → List ℕ) where
-  -- from any place of an order on all that hang below its devices stand there too
+  -- from any place of an order on all that depend on its devices stand there too
   order_drop : (xs : List ℕ) (k : ℕ) → IsOrder dependents_of xs → IsOrder dependents_of (drop k xs)
   order_drop xs zero h = h
   order_drop [] (suc k) h = tt
@@ -66,7 +66,7 @@ module _ (ps : List (Option ℕ)) (after : EachAfterParent 0 ps) (ls : List Link
   fix : Descends (dependents ps ls) (moved (length ps) (dependents ps ls))
   fix = links_descend ps after ls linked (order_ranked ps after ls linked)
 
-  -- what stands before a device does not hang below it
+  -- what stands before a device does not depend on it
   pub stands_apart : (s c : ℕ) → StandsFirst (order_by ps ls) s c → is_dependent ps ls c s ≡ false
   stands_apart s c f = by_place (cases_lt c (length ps))
     where

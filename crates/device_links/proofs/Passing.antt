@@ -48,7 +48,7 @@ all_kept (x ∷ xs) = ap (λ ys. x ∷ ys) (all_kept xs)
 
 -- ---- closed lists
 
--- an order has with each device all that hang right below it
+-- an order has with each device all that depend directly on it
 pub order_closed : (dependents_of : ℕ → List ℕ) (xs : List ℕ) → IsOrder dependents_of xs → IsClosed dependents_of xs
 order_closed dependents_of [] h d m = absurd (false≢true m)
 order_closed dependents_of (x ∷ xs) h d m = by_place (order_closed dependents_of xs h.2 d) (or_cases (x == d) (is_among xs d) m)
@@ -57,7 +57,7 @@ order_closed dependents_of (x ∷ xs) h d m = by_place (order_closed dependents_
     by_place rest (inl e) = subst (λ (y : ℕ). Within (dependents_of y) (x ∷ xs)) (eqb-true x d e) (λ c i. among_rest x xs c (within_of xs (dependents_of x) h.1 c i))
     by_place rest (inr e) = λ c i. among_rest x xs c (rest e c i)
 
--- what hangs right below by some links, and more by later ones, which is among these
+-- what depends directly on a device by some links, and more by later ones, which is among these
 pub record IsSplit (dependents_of dependents_of' : ℕ → List ℕ) (out : List ℕ) (d : ℕ) : Type 0 where
   pub more : List ℕ
   pub is : dependents_of d ≡ dependents_of' d ++ more

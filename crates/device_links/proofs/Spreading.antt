@@ -1,4 +1,4 @@
--- Marks that spread in an order come to just what hangs below.
+-- Marks that spread in an order come to just what depends on one.
 use Rattle.std.proofs.Common.{◌≡◌, ◌<◌, ◌≤◌, ◌∙◌, ℕ, zero, suc, Bool, true, false, ◌==◌, ◌||◌, List, [], ◌∷◌, ◌++◌, ◌⊎◌, inl, inr, length, get_or, set, replicate, Option, refl, sym, ap, subst, cond, arith, length-set}
 use Rattle.std.specs.List.{flat_map}
 use Rattle.std.proofs.lemmas.Bool.{true≢false, false≢true, eqb-true, eqb-false, or_cases, cases_lt}
@@ -208,7 +208,7 @@ module _ (ps : List (Option ℕ)) (after : EachAfterParent 0 ps) (ls : List Link
         (length-set (replicate n false) c true ∙ length-replicate n false) (order_ranked ps after ls linked)
         (inr (c, (order_covers ps after ls c within, (get_or-set_same (replicate n false) c true false (omega (arith, length-replicate n false)), e))))
 
-    -- nothing hangs below what is no device
+    -- nothing depends on what is no device
     nothing : length ps ≤ c → (c == s) ≡ false → is_dependent ps ls c s ≡ false
     nothing past apart = by_levels (length ps)
       where

@@ -188,7 +188,7 @@ module _ (dependents_of : ℕ → List ℕ) where
           by_place d (inl e) = ap (λ b. b || is_among (c ∷ out) d) e
           by_place d (inr e) = among_rest f.device (c ∷ out) d (among_rest c out d e)
 
-      -- a device of the walk's own hangs below itself
+      -- a device of the walk's own depends on itself
       pub meets : is_among (f.device ∷ devices rest ++ out) c ≡ true → is_among out c ≡ false → Descends dependents_of W → ⊥
       meets m n' fix = true≢false (sym (loops dependents_of W fix from c (f ∷ rest) c [] (hangs, w.chain) refl (on_way (or_cases (is_among (f.device ∷ devices rest) c) (is_among out c) (sym (among_app (f.device ∷ devices rest) out c) ∙ m)))) ∙ not_below_itself dependents_of W fix c)
         where

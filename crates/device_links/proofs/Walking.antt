@@ -106,7 +106,7 @@ path_over (f ∷ fs) path = ap (λ xs. f.device ∷ xs) (path_over fs path) ∙ 
     behind (g ∷ gs) xs = behind gs (g.device ∷ xs)
 
 module _ (dependents_of : ℕ → List ℕ) where
-  -- the next device hangs right below the top, and so on down to the first
+  -- the next device depends directly on the top, and so on down to the first
   abbrev pub Linked : ℕ → List Frame → ℕ → Type 0
   Linked from [] x = x ≡ from
   Linked from (f ∷ rest) x = (is_among (dependents_of f.device) x ≡ true) × Linked from rest f.device
@@ -119,7 +119,7 @@ module _ (dependents_of : ℕ → List ℕ) where
   linked_path from [] x xs last h p = (h, p)
   linked_path from (f ∷ rest) x xs last h p = linked_path from rest f.device (x ∷ xs) last h.1 (h.0, p)
 
-  -- all that hang right below a device of the walk are walked, but those that are left, once those above it are
+  -- all that depend directly on a device of the walk are walked, but those that are left, once those above it are
   abbrev pub Waits : List Frame → List ℕ → Type 0
   Waits [] out = Unit {0}
   Waits (f ∷ rest) out = Within (drop f.left (dependents_of f.device)) out × Waits rest (f.device ∷ out)
@@ -171,7 +171,7 @@ module _ (dependents_of : ℕ → List ℕ) where
       walked : (d : ℕ) → d ∷ onto (flat_map W (take (length (dependents_of d)) (dependents_of d))) [] ≡ onto (W d) []
       walked d = ap (λ xs. d ∷ onto (flat_map W xs) []) (take_all (length (dependents_of d)) (dependents_of d) (omega arith)) ∙ sym (visits dependents_of W fix [] d refl)
 
-      -- where a path leads from a device of the walk's own to what hangs below its top, that hangs below itself
+      -- where a path leads from a device of the walk's own to what depends on its top, that depends on itself
       pub loops : (from c : ℕ) (fs : List Frame) (x : ℕ) (xs : List ℕ) → Linked from fs x → LeadsTo dependents_of x xs c → is_among (devices fs) c ≡ true → is_among (flat_map W (dependents_of c)) c ≡ true
       loops from c [] x xs h p i = absurd (false≢true i)
       loops from c (g ∷ gs) x xs h p i = by_place (loops from c gs g.device (x ∷ xs) h.1 (h.0, p)) (or_cases (g.device == c) (is_among (devices gs) c) i)
@@ -245,7 +245,7 @@ module _ (dependents_of : ℕ → List ℕ) where
             by_place (inl e) = subst (λ (y : ℕ). is_among more y ≡ true) (eqb-true c d e) m
             by_place (inr e) = i d (w.waits.0 d (ap (λ j. is_among (drop j (dependents_of f.device)) d) last ∙ e))
 
-        -- a device that was entered was walked, as none hangs below itself
+        -- a device that was entered was walked, as none depends on itself
         pub was_walked : is_among (f.device ∷ devices rest ++ out) c ≡ true → is_among out c ≡ true
         was_walked m = by_place (or_cases (is_among (f.device ∷ devices rest) c) (is_among out c) (sym (among_app (f.device ∷ devices rest) out c) ∙ m))
           where
@@ -318,7 +318,7 @@ module _ (dependents_of : ℕ → List ℕ) where
           same : (d : ℕ) → is_among (W from) d ≡ is_among out d
           same d = sym (or-false (is_among (W from) d)) ∙ (sym (among_onto (W from) [] d) ∙ ap (λ ys. is_among ys d) (sym w.ends))
 
-      -- where the target does not hang below, no path leads there
+      -- where the target does not depend on it, no path leads there
       pub no_path : (from target : ℕ) → is_among (W from) target ≡ false → (path : List ℕ) → IsPath dependents_of path from target → ⊥
       no_path from target n [] p = p
       no_path from target n (x ∷ xs) p = absurd (true≢false (sym (subst (λ (y : ℕ). is_among (W y) target ≡ true) p.0 (leads_below dependents_of W fix x xs target p.1)) ∙ n))

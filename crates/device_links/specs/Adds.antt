@@ -17,7 +17,7 @@ pub record IsOpen (l : Linked) (supplier consumer : ℕ) : Type 0 where
   pub few : length l.links < 4000
   pub new : is_linked l.links supplier consumer ≡ false
 
--- a path from the consumer to the supplier, by steps to what hangs right below
+-- a path down from the consumer that ends at the supplier, each step to a direct dependent
 abbrev pub Closes : Linked → ℕ → ℕ → List ℕ → Type 0
 Closes l supplier consumer path = IsPath (dependents l.parents l.links) path consumer supplier
 

@@ -1,4 +1,4 @@
--- Links that are made at once: their tables, and one walk after another over what hangs below.
+-- Links that are made at once: their tables, and one walk after another over what depends on a device.
 use Rattle.std.specs.Prelude.{◌≡◌, ◌≤◌, ◌<◌, ◌+◌, ◌++◌, ◌||◌, ℕ, Bool, true, false, not, List, [], ◌∷◌, length, filter, reverse, flat_map, slice_index_or, if◌then◌else◌, Option, Some, None}
 use Rattle.sleep_model.specs.declared.machine.Link.{Link}
 use Rattle.sleep_model.specs.Order.{is_among, is_parent, dependents, suppliers_of, last_places, moved, order_by}
@@ -79,18 +79,18 @@ Tabulates parents links (Some t) = AreApart parents links × AreTables parents l
 
 -- ---- walks
 
--- no device hangs below itself: as many levels as devices reach all below each
+-- no device depends on itself: as many levels as devices reach all below each
 abbrev pub IsAcyclic : ℕ → (ℕ → List ℕ) → Type 0
 IsAcyclic n dependents_of = (d : ℕ) → moved n dependents_of d ≡ d ∷ flat_map (moved n dependents_of) (dependents_of d)
 
--- between two walks: each device that was visited stands before all that hang below it, and has both its marks
+-- between two walks: each device that was visited stands before all that depend on it, and has both its marks
 pub record AreVisits (n : ℕ) (dependents_of : ℕ → List ℕ) (v : Visits) : Type 0 where
   pub ordered : IsOrder dependents_of v.out
   pub within : (d : ℕ) → is_among v.out d ≡ true → d < n
   pub entered : AreMarks v.entered.items n v.out
   pub left : AreMarks v.left.items n v.out
 
--- a device was visited, with all that hangs below it but what was visited before, each at its last place
+-- a device was visited, with all that depends on it but what was visited before, each at its last place
 pub record IsVisited (n : ℕ) (dependents_of : ℕ → List ℕ) (from : ℕ) (old new : Visits) : Type 0 where
   pub visits : AreVisits n dependents_of new
   pub here : is_among new.out from ≡ true

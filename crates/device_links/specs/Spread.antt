@@ -1,4 +1,4 @@
--- Marks that spread in the order of devices to all that hangs below a marked one.
+-- Marks that spread in the order of devices to all that depends on a marked one.
 use Rattle.std.specs.Prelude.{ℕ, Bool, true, false, List, [], ◌∷◌, if◌then◌else◌, slice_index_or, slice_set}
 
 -- these marks, and each device of the row
@@ -6,7 +6,7 @@ abbrev pub marked : List ℕ → List Bool → List Bool
 marked [] marks = marks
 marked (x ∷ xs) marks = marked xs (slice_set marks x true)
 
--- the marks after one device: where it is marked, all that hangs right below it is
+-- the marks after one device: where it is marked, all that depends directly on it is
 abbrev pub spread_by : (ℕ → List ℕ) → ℕ → List Bool → List Bool
 spread_by dependents_of d marks = if slice_index_or marks d false then marked (dependents_of d) marks else marks
 

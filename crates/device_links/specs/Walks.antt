@@ -6,7 +6,7 @@ use Rattle.device_links.specs.declared.walk.Frame.{Frame}
 use Rattle.device_links.specs.declared.walk.Found.{Found}
 use Rattle.device_links.specs.declared.walk.Found.TheVariants.{Reached, Passed}
 
--- no device hangs below itself, and all that hang are below n, where `dependents_of` gives what hangs right below a device
+-- no device depends on itself, and all that depend are below n, where `dependents_of` gives what depends directly on a device
 pub record IsWalkable (n : ℕ) (dependents_of : ℕ → List ℕ) : Type 0 where
   pub descends : (d : ℕ) → moved n dependents_of d ≡ d ∷ flat_map (moved n dependents_of) (dependents_of d)
   pub within : (d x : ℕ) → is_among (dependents_of d) x ≡ true → x < n
@@ -16,14 +16,14 @@ pub record AreMarks (marks : List Bool) (n : ℕ) (devices : List ℕ) : Type 0 
   pub count : length marks ≡ n
   pub marked : (d : ℕ) → d < n → slice_index_or marks d false ≡ is_among devices d
 
--- all that hangs below a device, each at its last place, with marks; the target is not among it, and no path leads there
+-- all that depends on a device, each at its last place, with marks; the target is not among it, and no path leads there
 pub record IsWalked (n : ℕ) (dependents_of : ℕ → List ℕ) (from target : ℕ) (below : List ℕ) (marks : List Bool) : Type 0 where
   pub places : below ≡ last_places (moved n dependents_of from)
   pub missing : is_among (moved n dependents_of from) target ≡ false
   pub no_path : (path : List ℕ) → IsPath dependents_of path from target → ⊥
   pub marked : AreMarks marks n (moved n dependents_of from)
 
--- a path to the target, or all that hangs below
+-- a path to the target, or all that depends on it
 abbrev pub Finds : ℕ → (ℕ → List ℕ) → ℕ → ℕ → Found → Type 0
 Finds n dependents_of from target (Reached path) = IsPath dependents_of path.items from target
 Finds n dependents_of from target (Passed devices start marks) =

@@ -10,7 +10,7 @@ use sleep_base::Mem;
 use sleep_model::Link;
 use std::alloc::Global;
 
-/// What hangs right below the devices and stands right above them, as `Links` keeps it.
+/// What depends directly on the devices, and what they depend on, as `Links` keeps it.
 #[derive(Drop)]
 pub(crate) struct Tables {
     pub(crate) dependents: Rows,

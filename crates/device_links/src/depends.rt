@@ -1,4 +1,4 @@
-//! Whether a device hangs below another, without memory (`drivers/base/core.c`,
+//! Whether a device depends on another, without memory (`drivers/base/core.c`,
 //! `device_is_dependent`).
 
 ghost use Rattle.std.specs.Prelude.{◌≡◌, false, true, replicate, slice_index_or, slice_set};
@@ -39,7 +39,7 @@ fn set_row(marks: &mut [bool], row: &[u32])
     }
 }
 
-// Marks what hangs right below a device, where that is marked.
+// Marks what depends directly on a device, where that is marked.
 fn set_below(marks: &mut [bool], table: &Rows, device: u32)
     ensures { marks.new ≡ spread_by (row_at table.now) device marks.old }
 {
@@ -48,7 +48,7 @@ fn set_below(marks: &mut [bool], table: &Rows, device: u32)
     }
 }
 
-// Marks all that hangs below marked devices, in their order.
+// Marks all that depends on marked devices, in their order.
 fn set_all(marks: &mut [bool], table: &Rows, order: &[u32])
     ensures { marks.new ≡ spread (row_at table.now) order.now marks.old }
 {

@@ -7,7 +7,7 @@ use sleep_model::{DeviceFlags, Runtime};
 pub struct DevEnv<'a> {
     pub links: &'a Links,
     pub flags: &'a [DeviceFlags],
-    /// 0, 1, or an error's number below 0.
+    /// 0, 1, or an error as a negative number.
     pub prepared: &'a [i32],
     pub runtime: &'a [Runtime],
 }

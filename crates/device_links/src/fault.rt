@@ -23,7 +23,7 @@ pub enum LinkFault {
     /// This link stands.
     #[error("this link stands")]
     Twice,
-    /// The supplier is the consumer or hangs below it: the devices from the consumer to the
+    /// The supplier is the consumer or depends on it: the devices from the consumer to the
     /// supplier, each but the first right below the one before.
     #[error("the link would close a cycle")]
     Cycle(DevList),

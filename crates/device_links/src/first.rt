@@ -4,7 +4,7 @@ ghost use Rattle.std.specs.Bool.{OnTrue};
 ghost use Rattle.device_links.specs.Moves.{StandsFirst};
 
 /// Whether one device stands in an order before the other, if that does at all. What stands before a device
-/// does not hang below it, so this often spares a walk.
+/// does not depend on it, so this often spares a walk.
 pub(crate) fn stands_first(order: &[u32], one: u32, other: u32) -> bool
     ensures { OnTrue result (StandsFirst order.now one other) }
 {

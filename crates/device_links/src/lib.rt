@@ -1,4 +1,4 @@
-//! Links between devices, the order that they leave, and what hangs below and above a device.
+//! Links between devices, the order that they leave, and what depends on a device and what it depends on.
 #![tactic(auto)]
 
 mod at_once;

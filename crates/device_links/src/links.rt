@@ -25,7 +25,7 @@ const MOST_LINKS: usize = 4000;
 pub struct Links {
     parents: Vec<Option<u32>>,
     links: Vec<Link>,
-    // What hangs right below a device, its children before its consumers: what a walk goes over.
+    // What depends directly on a device, its children before its consumers: what a walk goes over.
     dependents: Rows,
     below: Rows,
     suppliers: Rows,
@@ -118,7 +118,7 @@ impl Links {
         }))
     }
 
-    /// Adds a link that is active, and moves the consumer and all that hangs below it to the end of
+    /// Adds a link that is active, and moves the consumer and all that depends on it to the end of
     /// the order: `add_as` with true.
     pub fn add(&mut self, supplier: u32, consumer: u32) -> Result<(), LinkFault>
         ensures answer { Adds self.old supplier consumer result }
@@ -129,12 +129,12 @@ impl Links {
         self.add_as(supplier, consumer, true)
     }
 
-    /// Adds a link, active or dormant, and moves the consumer and all that hangs below it to the end
+    /// Adds a link, active or dormant, and moves the consumer and all that depends on it to the end
     /// of the order. A dormant link is neither seen below nor above.
     ///
     /// Tested in turn, each refusal exactly where its test fails: that both are registered
     /// (`NoDevice`), that a link more has a place among 4,000 (`TooMany`), that these two have none
-    /// yet (`Twice`), and that the consumer would not come to hang below itself (`Cycle`, with a
+    /// yet (`Twice`), and that the consumer would not come to depend on itself (`Cycle`, with a
     /// path from it to the supplier). Want of memory (`Mem`) may come in place of `Cycle`. A refused
     /// link changes nothing.
     pub fn add_as(&mut self, supplier: u32, consumer: u32, active: bool) -> Result<(), LinkFault>
@@ -206,7 +206,7 @@ impl Links {
         &self.order
     }
 
-    /// The devices that hang right below one: its children, then its consumers by the links that
+    /// The devices that depend directly on one: its children, then its consumers by the links that
     /// are active, each once.
     pub fn below(&self, device: u32) -> &[u32]
         ensures { result.now ≡ near_below self.now.parents self.now.links device }
@@ -214,7 +214,7 @@ impl Links {
         self.below.row(device)
     }
 
-    /// The devices that one hangs right below: its parent, then its suppliers by the links that are
+    /// The devices that one depends on directly: its parent, then its suppliers by the links that are
     /// active, each once.
     pub fn above(&self, device: u32) -> &[u32]
         ensures { result.now ≡ near_above self.now.parents self.now.links device }
@@ -229,7 +229,7 @@ impl Links {
         self.suppliers.row(consumer).contains(&supplier)
     }
 
-    /// Whether a supplier is the consumer or hangs below it, by children and all links. It takes no
+    /// Whether a supplier is the consumer or depends on it, by children and all links. It takes no
     /// memory (`drivers/base/core.c`, `device_is_dependent`).
     pub fn is_dependent(&self, consumer: u32, supplier: u32) -> bool
         requires { length self.now.parents ≤ 1024 }
@@ -295,7 +295,7 @@ impl Links {
         }
     }
 
-    // The order in which a link has moved its consumer, and all that hangs below it, to the end; `None` where the
+    // The order in which a link has moved its consumer, and all that depends on it, to the end; `None` where the
     // order stays as it is.
     fn moved_by(&self, link: Link) -> Result<Option<Vec<u32>>, LinkFault>
         requires { link.consumer < length self.now.parents }

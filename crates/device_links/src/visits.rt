@@ -19,12 +19,12 @@ use std::alloc::Global;
 pub(crate) struct Visits {
     pub(crate) entered: Vec<bool>,
     pub(crate) left: Vec<bool>,
-    /// The devices that were left, each before all that hang below it.
+    /// The devices that were left, each before all that depend on it.
     pub(crate) out: Stack<u32>,
 }
 
-// Walks from a device to all below it that was not visited yet, from the last to the first of those
-// right below a device. False where it meets a device on its own way, and so a cycle.
+// Walks from a device to all below it that was not visited yet. It takes the devices right below one
+// in backward order. False where it meets a device on its own way, and so a cycle.
 fn visit(alloc: Global, table: &Rows, from: u32, visits: &mut Visits) -> Result<bool, Mem>
     requires registered { from < length table.now.rows }
     requires within { (d x : ℕ) → is_among (row_at table.now d) x ≡ true → x < length table.now.rows }
@@ -68,7 +68,7 @@ fn visit(alloc: Global, table: &Rows, from: u32, visits: &mut Visits) -> Result<
     Ok(true)
 }
 
-/// The order that these links leave, by what hangs right below each device. None exactly where one
+/// The order that these links leave, by what depends directly on each device. None exactly where one
 /// of them closes a cycle with the parents and those before it.
 ///
 /// What a later link moves stays behind all that earlier ones move, so the walks begin with the last

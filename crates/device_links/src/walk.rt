@@ -1,4 +1,4 @@
-//! A walk over all that hangs below a device.
+//! A walk over all that depends on a device.
 
 ghost use Rattle.std.specs.Prelude.{◌≡◌, ◌<◌, ◌∷◌, ◌++◌, [], IfOk, length, map};
 ghost use Rattle.device_rows.specs.Table.{row_at};
@@ -48,12 +48,12 @@ fn path_to(alloc: Global, frames: &[Frame], last: u32) -> Result<Vec<u32>, Mem>
     Ok(path)
 }
 
-/// Walks from a device to all that hangs below it by this table, or until it meets the target.
+/// Walks from a device to all that depends on it by this table, or until it meets the target.
 /// It visits those right below a device from the last to the first, and none twice, so that the
 /// devices come to lie in the order of their last places. They take the last places of a copy of the
 /// order, which has a place for each.
 ///
-/// A device is marked where the walk enters it. None hangs below itself, so one that is met with a
+/// A device is marked where the walk enters it. None depends on itself, so one that is met with a
 /// mark is not on the way to where the walk stands: the walk has left it.
 // It stands apart, so that its loop has the registers to itself.
 #[inline(never)]

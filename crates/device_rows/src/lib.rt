@@ -4,8 +4,6 @@
 mod flags;
 mod rows;
 mod stack;
-#[cfg(test)]
-mod tests;
 
 pub use flags::Flags;
 pub use rows::Rows;

@@ -1,10 +1,9 @@
-//! The tree of devices, in the order of their registration.
+//! The tree of devices, in the order of their registration (`drivers/base/core.c`). No program stands on it: the reader
+//! of files registers devices by itself. It serves callers that register devices one at a time.
 #![tactic(auto)]
 
 mod fault;
 mod requests;
-#[cfg(test)]
-mod tests;
 mod tree;
 
 pub use fault::TreeFault;

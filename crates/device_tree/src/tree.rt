@@ -75,7 +75,7 @@ impl Tree {
             device.parent,
         )?;
         self.children.add_row()?;
-        hang(&mut self.children, device.parent, number);
+        add_child(&mut self.children, device.parent, number);
         match self.names.insert(device.name) {
             Ok(_) => (),
             Err(_) => unreachable!(),
@@ -182,7 +182,7 @@ fn make_room(
 }
 
 // Puts the device at the end of its parent's children.
-fn hang(children: &mut Rows, parent: Option<u32>, device: u32)
+fn add_child(children: &mut Rows, parent: Option<u32>, device: u32)
     requires { IfSome parent (λ p. 0 < slice_index children.old.room p) }
     ensures { children.new.rows ≡ hung children.old.rows parent device }
 {

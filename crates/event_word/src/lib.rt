@@ -5,18 +5,10 @@
 mod closing;
 mod events;
 mod opening;
-#[cfg(test)]
-mod overlap_tests;
 mod plain;
 mod plays;
 mod seats;
 mod table;
-#[cfg(test)]
-mod table_tests;
-#[cfg(test)]
-mod tests;
-#[cfg(test)]
-mod thread_tests;
 mod view;
 
 pub use closing::close;

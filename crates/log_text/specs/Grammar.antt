@@ -61,6 +61,6 @@ IsBadEntry m (line ∷ rest) n bad =
     (IsEntryLine m line × IsBadEntry m rest (n + 1) bad)
     ⊎ ((IsEntryLine m line → ⊥) × IsBadSource m (source_names m) (line ∷ rest) n bad)
 
--- the first line, from 1, that is not of the grammar or is missing
+-- the first bad line, counted from 1: the grammar has no such line, or it is missing
 abbrev pub IsFirstBad : Machine → List ℕ → ℕ → Type 0
 IsFirstBad m bytes bad = IsBadEntry m (lines bytes) 1 bad

@@ -8,7 +8,7 @@ use thiserror::Error;
 /// Why bytes were not read as a log.
 #[derive(Clone, Copy, Debug, PartialEq, Eq, Error)]
 pub enum LogFault {
-    /// The first line, from 1, that is not of the grammar or is missing.
+    /// The first bad line, counted from 1: the grammar has no such line, or it is missing.
     #[error("line {0} is not of the log's grammar, or is missing")]
     Line(u32),
     /// Memory ran out, or the numbers of lines.

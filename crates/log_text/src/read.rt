@@ -213,10 +213,10 @@ fn read_whole(alloc: Global, book: &NameBook, bytes: &[u8]) -> Result<Log, LogFa
 }
 
 /// The log whose text these bytes are. It fits the machine: its numbers name things of the machine,
-/// and are in the ranges of their fields.
+/// and fit the types of their fields.
 ///
-/// `Line(n)` where they are the text of no log that fits the machine: line n, from 1, is the first
-/// that is not of the grammar or is missing. The text of a log that fits the machine is read as that
+/// `Line(n)` where they are the text of no log that fits the machine: n counts from 1 to the first line
+/// that the grammar has not, or that is missing. A fitting log's text is read back as that
 /// very log. For both the machine's names have to be spelled as names and told apart, as the rules on
 /// machine files ask. `Mem` comes for want of memory, and where lines or things of a kind are more
 /// than have numbers.

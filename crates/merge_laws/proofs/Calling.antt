@@ -1,18 +1,21 @@
 -- What an actor has done among all entries is what it has done among its own.
-use Rattle.std.proofs.Common.{◌≡◌, ◌∙◌, ◌≤◌, ◌+◌, ◌==◌, ◌++◌, ◌&&◌, ℕ, zero, suc, nat_le, nat_lt, Bool, true, false, List, [], ◌∷◌, length, filter, cond, refl, sym, ap, ap₂, subst, arith}
+use Rattle.std.proofs.Common.{◌≡◌, ◌∙◌, ◌≤◌, ◌+◌, ◌==◌, ◌++◌, ◌&&◌, ◌||◌, ℕ, zero, suc, nat_le, nat_lt, Bool, true, false, List, [], ◌∷◌, length, filter, cond, refl, sym, ap, ap₂, subst, arith}
 use Rattle.std.proofs.lemmas.Bool.Decides.{nat_tests}
 use Rattle.std.specs.List.{list_all}
 use Rattle.sleep_model.specs.declared.entry.Actor.{Actor}
 use Rattle.sleep_model.specs.declared.entry.Actor.TheVariants as actor
 use Rattle.sleep_model.specs.declared.entry.Entry.{Entry}
 use Rattle.sleep_model.specs.declared.machine.Machine.{Machine}
-use Rattle.sleep_model.specs.Calls.{calls_of, is_note_of, made, notes_of, one_more, ends_turn, report_calls, turns_ended}
+use Rattle.sleep_model.specs.declared.machine.SourceCall.{SourceCall}
+use Rattle.sleep_model.specs.declared.machine.SourceCall.TheVariants as call
+use Rattle.sleep_model.specs.declared.word.WordKind.{WordKind}
+use Rattle.sleep_model.specs.Calls.{calls_of, is_calling, is_left, is_note_of, made, notes_of, one_more, ends_turn, report_calls, turns_ended}
 use Rattle.sleep_model.specs.Calls as calls
 use Rattle.sleep_model.specs.Legal.{is_behind, is_there}
 use Rattle.sleep_model.specs.Parts.{Part, OfJournal, Notes, Moves, OfTime, part_of, is_kept, journal}
-use Rattle.sleep_model.specs.Path.{is_same, attempts}
-use Rattle.sleep_model.specs.Sources.{history, is_of}
-use Rattle.merge_laws.specs.Apart.{calls_after, own_of}
+use Rattle.sleep_model.specs.Path.{is_actor, is_same, attempts}
+use Rattle.sleep_model.specs.Sources.{SourceStep, behind_first, caller, caller_after, history, is_of, owed, owed_after, since}
+use Rattle.merge_laws.specs.Apart.{IsSource, calls_after, history_after, is_inside, own_of}
 use Rattle.merge_laws.proofs.Lists.{all_head, all_tail}
 use Rattle.merge_laws.proofs.Sourced.{same_number}
 
@@ -186,3 +189,92 @@ pub calls_own : (m : Machine) (whole past : List Entry) (who : Actor) → CallsK
 calls_own m whole past who h =
     let same : length (journal (own_of who past)) ≡ length (own_of who (journal past)) = ap length (filter_twice (λ (e : Entry). is_kept (part_of e.kind)) (λ e. is_same e.actor who) past) in
     h who (length (journal (own_of who past))) (omega arith) ∙ calls_top m who (length (journal (own_of who past))) (journal past) (omega arith)
+
+-- ---- the call that an actor is inside
+
+-- a source with this history is owed a step of that actor
+abbrev pub calls_in : Actor → List Entry → Bool
+calls_in who own = is_left (owed own) && is_actor who (caller own)
+
+none_left : (b : Bool) (steps : List WordKind) → steps ≡ [] → (is_left steps && b) ≡ false
+none_left b steps e = ap (λ (l : List WordKind). is_left l && b) e
+
+not_its : (b c : Bool) → c ≡ false → (b && c) ≡ false
+not_its true c e = e
+not_its false c e = refl
+
+-- an entry of another neither begins nor ends a call of the actor
+other_calls : (who : Actor) (own : List Entry) (x : Entry) → SourceStep own x.time x.actor (part_of x.kind) → is_same x.actor who ≡ false → calls_in who (x ∷ own) ≡ calls_in who own
+other_calls who own x may other = by (part_of x.kind) may
+  where
+    noted : (t : ℕ) (c : SourceCall) → owed own ≡ [] → (is_left (owed_after (Notes t c) (since own) (owed own)) && is_actor who (caller_after (Notes t c) x.actor (caller own))) ≡ calls_in who own
+    noted t c none = not_its (is_left (owed_after (Notes t c) (since own) (owed own))) (is_same x.actor who) other ∙ sym (none_left (is_actor who (caller own)) (owed own) none)
+
+    by : (p : Part) → SourceStep own x.time x.actor p → (is_left (owed_after p (since own) (owed own)) && is_actor who (caller_after p x.actor (caller own))) ≡ calls_in who own
+    by OfJournal h = refl
+    by (Notes t call.Awake) h = noted t call.Awake h
+    by (Notes t call.Relax) h = noted t call.Relax h
+    by (Notes t (call.Event ms hard)) h = noted t (call.Event ms hard) h
+    by (Notes t call.Expire) h = noted t call.Expire h.0
+    by (Moves t step) h =
+        let its : is_actor who (caller own) ≡ false = ap (is_actor who) h.1 ∙ other in
+        not_its (is_left (behind_first (owed own))) (is_actor who (caller own)) its ∙ sym (not_its (is_left (owed own)) (is_actor who (caller own)) its)
+    by OfTime h = refl
+
+history_top : (who : Actor) (k : ℕ) (own : List Entry) → length (own_of who own) ≤ k → history_after who k own ≡ own
+history_top who k [] l = refl
+history_top who k (e ∷ own) l =
+    let here : nat_le (length (own_of who (e ∷ own))) k ≡ true = grind (arith, nat_tests) in
+    ap (λ (b : Bool). cond b (e ∷ own) (history_after who k own)) here
+
+-- a further entry of a source leaves what its actors called behind those before it
+history_earlier : (who : Actor) (k : ℕ) (e : Entry) (own : List Entry) → SourceStep own e.time e.actor (part_of e.kind) → k ≤ length (own_of who own)
+    → calls_in who (history_after who k (e ∷ own)) ≡ calls_in who (history_after who k own)
+history_earlier who k e own may l = by (is_same e.actor who) refl (nat_le (length (own_of who (e ∷ own))) k) refl
+  where
+    by : (a : Bool) → is_same e.actor who ≡ a → (b : Bool) → nat_le (length (own_of who (e ∷ own))) k ≡ b
+        → calls_in who (cond b (e ∷ own) (history_after who k own)) ≡ calls_in who (history_after who k own)
+    by a is false g = refl
+    by true is true g =
+        let longer : length (own_of who (e ∷ own)) ≡ suc (length (own_of who own)) = ap (λ (b : Bool). length (cond b (e ∷ own_of who own) (own_of who own))) is in
+        let within : length (own_of who (e ∷ own)) ≤ k = grind (arith, nat_tests) in
+        absurd (omega arith)
+    by false is true g =
+        let same : length (own_of who (e ∷ own)) ≡ length (own_of who own) = ap (λ (b : Bool). length (cond b (e ∷ own_of who own) (own_of who own))) is in
+        let within : length (own_of who (e ∷ own)) ≤ k = grind (arith, nat_tests) in
+        other_calls who own e may is ∙ sym (ap (calls_in who) (history_top who k own (omega arith)))
+
+-- of whole histories each actor has called, behind each of their beginnings, what it has of that beginning
+abbrev pub InsideKept : List Entry → List Entry → Type 0
+InsideKept whole past = (who : Actor) (s k : ℕ) → k ≤ length (own_of who (history s past)) → calls_in who (history_after who k (history s whole)) ≡ calls_in who (history_after who k (history s past))
+
+pub inside_kept : (whole : List Entry) (e : Entry) (past : List Entry) → ((s : ℕ) → IsSource (history s (e ∷ past))) → InsideKept whole (e ∷ past) → InsideKept whole past
+inside_kept whole e past legal h who s k l = by (is_of s (part_of e.kind)) refl
+  where
+    by : (b : Bool) → is_of s (part_of e.kind) ≡ b → calls_in who (history_after who k (history s whole)) ≡ calls_in who (history_after who k (history s past))
+    by true is =
+        let more : history s (e ∷ past) ≡ e ∷ history s past = ap (λ (b : Bool). cond b (e ∷ history s past) (history s past)) is in
+        let steps : IsSource (e ∷ history s past) = subst IsSource more (legal s) in
+        h who s k (subst (λ (j : List Entry). k ≤ length (own_of who j)) (sym more) (grown (is_same e.actor who)))
+        ∙ ap (λ (j : List Entry). calls_in who (history_after who k j)) more ∙ history_earlier who k e (history s past) steps.0 l
+      where
+        grown : (b : Bool) → k ≤ length (cond b (e ∷ own_of who (history s past)) (own_of who (history s past)))
+        grown true = omega (arith, l)
+        grown false = l
+    by false is =
+        let same : history s (e ∷ past) ≡ history s past = ap (λ (b : Bool). cond b (e ∷ history s past) (history s past)) is in
+        h who s k (subst (λ (j : List Entry). k ≤ length (own_of who j)) (sym same) l) ∙ ap (λ (j : List Entry). calls_in who (history_after who k j)) same
+
+same_calling : (n : ℕ) (of other : ℕ → List Entry) (who : Actor) → ((s : ℕ) → calls_in who (of s) ≡ calls_in who (other s)) → is_calling n of who ≡ is_calling n other who
+same_calling zero of other who h = refl
+same_calling (suc n) of other who h = ap₂ (λ (a b : Bool). a || b) (h n) (same_calling n of other who h)
+
+-- whether an actor is inside a call at a place, by its own entries before it
+pub inside_own : (n : ℕ) (whole past : List Entry) (who : Actor) → InsideKept whole past → is_inside n (λ s. history s whole) who (own_of who past) ≡ is_calling n (λ s. history s past) who
+inside_own n whole past who h =
+    same_calling n (λ s. history_after who (length (history s (own_of who past))) (history s whole)) (λ s. history s past) who (λ s. at s)
+  where
+    at : (s : ℕ) → calls_in who (history_after who (length (history s (own_of who past))) (history s whole)) ≡ calls_in who (history s past)
+    at s =
+        let same : length (history s (own_of who past)) ≡ length (own_of who (history s past)) = ap length (filter_twice (λ (e : Entry). is_of s (part_of e.kind)) (λ e. is_same e.actor who) past) in
+        h who s (length (history s (own_of who past))) (omega arith) ∙ ap (calls_in who) (history_top who (length (history s (own_of who past))) (history s past) (omega arith))

@@ -1,4 +1,4 @@
--- Where the steps are counted and chained, and each look is at a word that they leave, the merged entries are chained.
+-- Where the steps have positions without a gap and chain, and each look saw a word between two of them, the merged entries chain.
 use Rattle.std.proofs.Common.{◌≡◌, ◌∙◌, ◌≤◌, ◌<◌, ◌+◌, ◌==◌, ◌&&◌, ◌||◌, ℕ, suc, nat_le, Bool, true, false, List, [], ◌∷◌, length, filter, cond, Option, Some, None, refl, sym, ap, subst, arith}
 use Rattle.std.proofs.lemmas.Bool.Decides.{nat_tests}
 use Rattle.std.specs.Prelude.{is_some}

@@ -1,5 +1,5 @@
 -- Lists that fit by what each shows by itself fit together.
-use Rattle.std.proofs.Common.{◌≡◌, ◌∙◌, ◌==◌, ◌&&◌, ◌||◌, nat_lt, Bool, true, false, List, [], ◌∷◌, filter, cond, refl, sym, ap, subst}
+use Rattle.std.proofs.Common.{◌≡◌, ◌∙◌, ◌+◌, ◌==◌, ◌&&◌, ◌||◌, nat_lt, Bool, true, false, List, [], ◌∷◌, length, filter, cond, refl, sym, ap, subst}
 use Rattle.std.specs.List.{list_all, list_any}
 use Rattle.sleep_model.specs.declared.entry.Actor.{Actor}
 use Rattle.sleep_model.specs.declared.entry.JournalEntry.{JournalEntry}
@@ -9,7 +9,7 @@ use Rattle.sleep_model.specs.Merge.{IsFit, actors_of, all_entries, entries_of, i
 use Rattle.sleep_model.specs.Parts.{Part, OfJournal, Notes, Moves, OfTime, part_of, is_kept}
 use Rattle.sleep_model.specs.Path.{is_same}
 use Rattle.log_merge.proofs.Sorts.{Up, up_in_order}
-use Rattle.merge_laws.specs.Apart.{IsActor, calls_after, is_journals, own_entries, past_of, steps_of}
+use Rattle.merge_laws.specs.Apart.{IsActor, calls_after, is_inside, is_journals, own_entries, past_of, source_past, steps_of}
 use Rattle.merge_laws.specs.Fitting.{FitApart, FitsTogether, KeptListsMerge, are_raised, has_time, is_look, jumps, stands_right}
 use Rattle.merge_laws.specs.Merging.{AreLegalApart, AreLists}
 use Rattle.merge_laws.proofs.Chained.{chained_all}
@@ -107,7 +107,7 @@ kept_legal : (m : Machine) (journal : List JournalEntry) (hs : List (List Source
 kept_legal m journal hs own a legal = record {
   of_journal = legal.of_journal;
   of_sources = legal.of_sources;
-  of_actors = λ who. subst (λ (l : List JournalEntry). IsActor who (λ k. calls_after m who k (past_of journal)) (past_of l)) (sym (own_lists m who (own who) journal hs a.count (a.actors who))) (legal.of_actors who);
+  of_actors = λ who. subst (λ (l : List JournalEntry). IsActor who (λ k. calls_after m who k (past_of journal)) (is_inside (length m.sources + 1) (source_past hs) who) (past_of l)) (sym (own_lists m who (own who) journal hs a.count (a.actors who))) (legal.of_actors who);
   of_jumps = legal.of_jumps;
 }
 

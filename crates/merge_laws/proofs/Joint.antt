@@ -9,14 +9,14 @@ use Rattle.sleep_model.specs.declared.entry.Entry.{Entry}
 use Rattle.sleep_model.specs.declared.entry.Kind.{Kind}
 use Rattle.sleep_model.specs.declared.machine.Machine.{Machine}
 use Rattle.sleep_model.specs.Calls.{calls_of, made, notes_of}
-use Rattle.sleep_model.specs.Legal.{IsOwnCall, JointPart, JointStep, JumpStep, is_there}
+use Rattle.sleep_model.specs.Legal.{IsOutside, IsOwnCall, JointPart, JointStep, JumpStep, is_there}
 use Rattle.sleep_model.specs.Numbers.{time_of}
 use Rattle.sleep_model.specs.Parts.{Part, OfJournal, Notes, Moves, OfTime, part_of, is_kept, journal}
 use Rattle.sleep_model.specs.Path.{is_same}
 use Rattle.sleep_model.specs.Sources.{history, is_of}
-use Rattle.merge_laws.specs.Apart.{ActorStep, AreJumps, IsActor, IsCall, JumpHeld, before, calls_after, own_of}
+use Rattle.merge_laws.specs.Apart.{ActorStep, AreJumps, IsActor, IsCall, IsSource, JumpHeld, before, calls_after, is_inside, own_of}
 use Rattle.merge_laws.proofs.Lists.{all_more, all_tail, filter_all}
-use Rattle.merge_laws.proofs.Calling.{CallsKept, behind_own, calls_kept, calls_own, filter_twice, made_own, same_actor}
+use Rattle.merge_laws.proofs.Calling.{CallsKept, InsideKept, behind_own, calls_kept, calls_own, filter_twice, inside_kept, inside_own, made_own, same_actor}
 use Rattle.merge_laws.proofs.Placing.{Clocked, IsClock, Numbered, clock_rises, clock_time}
 
 -- ---- the time of a place
@@ -45,7 +45,7 @@ times_kept whole e past c h time l =
     let rise : time_of past ≤ e.time = clock_rises e past c.0 in
     h time (omega arith) ∙ ap (λ (b : Bool). cond b (e ∷ before time past) (before time past)) (no_less e.time time (omega arith))
 
--- the entries before a jump are those with an earlier time
+-- before a jump stand the entries of earlier times
 before_jump : (whole : List Entry) (e : Entry) (past : List Entry) → Clocked (e ∷ past) → TimesKept whole (e ∷ past) → time_of past < e.time → before e.time whole ≡ past
 before_jump whole e past c h l =
     let now : time_of (e ∷ past) ≡ e.time = clock_time e past c.0 in
@@ -57,8 +57,10 @@ before_jump whole e past c h l =
 
 -- what is known at a place, of all entries and of those before it
 record Walk (m : Machine) (whole past : List Entry) : Type 0 where
-  actors : (who : Actor) → IsActor who (λ k. calls_after m who k (journal whole)) (own_of who past)
+  actors : (who : Actor) → IsActor who (λ k. calls_after m who k (journal whole)) (is_inside (length m.sources + 1) (λ s. history s whole) who) (own_of who past)
   calls : CallsKept m (journal whole) past
+  inside : InsideKept whole past
+  sources : (s : ℕ) → IsSource (history s past)
   jumps : AreJumps m (journal past) (λ s. history s whole)
   times : TimesKept whole past
   clock : Clocked past
@@ -69,6 +71,8 @@ walk_on : (m : Machine) (whole : List Entry) (e : Entry) (past : List Entry) →
 walk_on m whole e past w = record {
   actors = λ who. rest who (is_same e.actor who) (w.actors who);
   calls = calls_kept m (journal whole) e past w.calls;
+  inside = inside_kept whole e past w.sources w.inside;
+  sources = λ s. source_on s (is_of s (part_of e.kind)) (w.sources s);
   jumps = jumps_on (is_kept (part_of e.kind)) w.jumps;
   times = times_kept whole e past w.clock w.times;
   clock = w.clock.1;
@@ -76,10 +80,14 @@ walk_on m whole e past w = record {
   there = all_tail (λ e. is_there m (part_of e.kind)) e past w.there;
 }
   where
-    rest : (who : Actor) (b : Bool) → IsActor who (λ k. calls_after m who k (journal whole)) (cond b (e ∷ own_of who past) (own_of who past))
-        → IsActor who (λ k. calls_after m who k (journal whole)) (own_of who past)
+    rest : (who : Actor) (b : Bool) → IsActor who (λ k. calls_after m who k (journal whole)) (is_inside (length m.sources + 1) (λ s. history s whole) who) (cond b (e ∷ own_of who past) (own_of who past))
+        → IsActor who (λ k. calls_after m who k (journal whole)) (is_inside (length m.sources + 1) (λ s. history s whole) who) (own_of who past)
     rest who true h = h.1
     rest who false h = h
+
+    source_on : (s : ℕ) (b : Bool) → IsSource (cond b (e ∷ history s past) (history s past)) → IsSource (history s past)
+    source_on s true h = h.1
+    source_on s false h = h
 
     jumps_on : (b : Bool) → AreJumps m (cond b (e ∷ journal past) (journal past)) (λ s. history s whole) → AreJumps m (journal past) (λ s. history s whole)
     jumps_on true h = h.1
@@ -99,8 +107,8 @@ joint_step m whole e past w = by (part_of e.kind) refl here
     calls : ℕ → List Kind
     calls = λ k. calls_after m e.actor k (journal whole)
 
-    here : ActorStep e.actor (λ k. calls_after m e.actor k (journal whole)) (own_of e.actor past) e (part_of e.kind)
-    here = (subst (λ (b : Bool). IsActor e.actor (λ k. calls_after m e.actor k (journal whole)) (cond b (e ∷ own_of e.actor past) (own_of e.actor past))) (same_actor e.actor) (w.actors e.actor)).0
+    here : ActorStep e.actor (λ k. calls_after m e.actor k (journal whole)) (is_inside (length m.sources + 1) (λ s. history s whole) e.actor) (own_of e.actor past) e (part_of e.kind)
+    here = (subst (λ (b : Bool). IsActor e.actor (λ k. calls_after m e.actor k (journal whole)) (is_inside (length m.sources + 1) (λ s. history s whole) e.actor) (cond b (e ∷ own_of e.actor past) (own_of e.actor past))) (same_actor e.actor) (w.actors e.actor)).0
 
     due : calls_after m e.actor (length (journal (own_of e.actor past))) (journal whole) ≡ calls_of m e.actor (journal past)
     due = calls_own m (journal whole) past e.actor (calls_kept m (journal whole) e past w.calls)
@@ -111,12 +119,17 @@ joint_step m whole e past w = by (part_of e.kind) refl here
     did : made (length m.sources + 1) (λ s. history s past) e.actor ≡ notes_of e.actor (own_of e.actor past)
     did = made_own m e.actor past there
 
-    by : (p : Part) → part_of e.kind ≡ p → ActorStep e.actor (λ k. calls_after m e.actor k (journal whole)) (own_of e.actor past) e p → JointStep m past e p
-    by OfJournal is h = did ∙ h ∙ ap length due
-    by (Notes s c) is h =
-        own_call m (journal past) (λ t. history t past) e.actor e.kind
-        (subst (λ (n : ℕ). IsCall e.actor (calls_of m e.actor (journal past)) n e.kind) (sym did)
-        (subst (λ (l : List Kind). IsCall e.actor l (notes_of e.actor (own_of e.actor past)) e.kind) due h))
+    outside : is_inside (length m.sources + 1) (λ s. history s whole) e.actor (own_of e.actor past) ≡ false → IsOutside m (λ s. history s past) e.actor
+    outside h = sym (inside_own (length m.sources + 1) whole past e.actor (inside_kept whole e past w.sources w.inside)) ∙ h
+
+    by : (p : Part) → part_of e.kind ≡ p → ActorStep e.actor (λ k. calls_after m e.actor k (journal whole)) (is_inside (length m.sources + 1) (λ s. history s whole) e.actor) (own_of e.actor past) e p → JointStep m past e p
+    by OfJournal is h = (did ∙ h.0 ∙ ap length due, outside h.1)
+    by (Notes s c) is h = (
+      own_call m (journal past) (λ t. history t past) e.actor e.kind
+          (subst (λ (n : ℕ). IsCall e.actor (calls_of m e.actor (journal past)) n e.kind) (sym did)
+          (subst (λ (l : List Kind). IsCall e.actor l (notes_of e.actor (own_of e.actor past)) e.kind) due h.0)),
+      outside h.1,
+    )
     by (Moves s x) is h = behind_own s e.actor past ∙ h
     by OfTime is h =
         let more : journal (e ∷ past) ≡ e ∷ journal past = ap (λ (b : Bool). cond b (e ∷ journal past) (journal past)) (ap is_kept is) in
@@ -135,11 +148,13 @@ joint_on m whole [] w = tt
 joint_on m whole (e ∷ past) w = (joint_step m whole e past w, joint_on m whole past (walk_on m whole e past w))
 
 pub joint : (m : Machine) (whole : List Entry)
-    → ((who : Actor) → IsActor who (λ k. calls_after m who k (journal whole)) (own_of who whole)) → AreJumps m (journal whole) (λ s. history s whole)
+    → ((who : Actor) → IsActor who (λ k. calls_after m who k (journal whole)) (is_inside (length m.sources + 1) (λ s. history s whole) who) (own_of who whole)) → ((s : ℕ) → IsSource (history s whole)) → AreJumps m (journal whole) (λ s. history s whole)
     → Clocked whole → Numbered whole → list_all (λ e. is_there m (part_of e.kind)) whole ≡ true → JointPart m whole
-joint m whole actors jumps clock words there = joint_on m whole whole (record {
+joint m whole actors sources jumps clock words there = joint_on m whole whole (record {
   actors = actors;
   calls = λ who k l. refl;
+  inside = λ who s k l. refl;
+  sources = sources;
   jumps = jumps;
   times = λ time l. refl;
   clock = clock;

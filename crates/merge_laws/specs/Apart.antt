@@ -1,5 +1,5 @@
 -- What a journal and the sources' histories say before they are merged: each list, each actor and each jump by itself (own).
-use Rattle.std.specs.Prelude.{◌≡◌, ℕ, suc, Bool, true, ◌&&◌, nat_le, nat_lt, List, [], ◌∷◌, length, map, filter, reverse, if◌then◌else◌, Some, slice_get, slice_index_or}
+use Rattle.std.specs.Prelude.{◌≡◌, ℕ, suc, Bool, true, false, ◌&&◌, nat_le, nat_lt, List, [], ◌∷◌, length, map, filter, reverse, if◌then◌else◌, Some, slice_get, slice_index_or}
 use Rattle.std.specs.List.{list_all}
 use Rattle.sleep_model.specs.declared.word.EventNow.{EventNow}
 use Rattle.sleep_model.specs.declared.entry.Actor.{Actor}
@@ -10,13 +10,13 @@ use Rattle.sleep_model.specs.declared.entry.Kind.{Kind}
 use Rattle.sleep_model.specs.declared.entry.Kind.TheVariants.{Expire}
 use Rattle.sleep_model.specs.declared.entry.SourceEntry.{SourceEntry}
 use Rattle.sleep_model.specs.declared.machine.Machine.{Machine}
-use Rattle.sleep_model.specs.Calls.{calls_of, notes_of}
+use Rattle.sleep_model.specs.Calls.{calls_of, is_calling, notes_of}
 use Rattle.sleep_model.specs.Legal.{JumpStep, is_behind}
 use Rattle.sleep_model.specs.Merge.{all_entries, entries_of, in_order, is_word_step, of_source}
 use Rattle.sleep_model.specs.Numbers.{numbers}
 use Rattle.sleep_model.specs.Parts.{Part, OfJournal, Notes, Moves, OfTime, part_of, is_kept, journal}
 use Rattle.sleep_model.specs.Path.{is_same}
-use Rattle.sleep_model.specs.Sources.{SourceStep, is_of}
+use Rattle.sleep_model.specs.Sources.{SourceStep, history, is_of}
 
 -- ---- the lists
 
@@ -68,22 +68,35 @@ calls_after m who k [] = calls_of m who []
 calls_after m who k (e ∷ past) =
     if nat_le (length (own_of who (e ∷ past))) k then calls_of m who (e ∷ past) else calls_after m who k past
 
--- a note is the next of these calls, of which n were made; a timer's is the expiry of its source
+-- a source's history behind the first k entries of that actor: those of others may follow them
+abbrev pub history_after : Actor → ℕ → List Entry → List Entry
+history_after who k [] = []
+history_after who k (e ∷ past) =
+    if nat_le (length (own_of who (e ∷ past))) k then e ∷ past else history_after who k past
+
+-- behind these entries of its own an actor is inside a call, by the first n sources, which have these histories in all
+abbrev pub is_inside : ℕ → (ℕ → List Entry) → Actor → List Entry → Bool
+is_inside n of who own = is_calling n (λ s. history_after who (length (history s own)) (of s)) who
+
+-- a note is the next of these calls, of which n were made; a timer notes its source's expiry
 abbrev pub IsCall : Actor → List Kind → ℕ → Kind → Type 0
 IsCall (actor.Timer s) calls n k = k ≡ Expire s
 IsCall who calls n k = slice_get calls n ≡ Some k
 
--- an entry is the next of an actor with these entries so far, by the calls behind each of its entries of the journal
-abbrev pub ActorStep : Actor → (ℕ → List Kind) → List Entry → Entry → Part → Type 0
-ActorStep who calls own e OfJournal = notes_of who own ≡ length (calls (length (journal own)))
-ActorStep who calls own e (Notes s call) = IsCall who (calls (length (journal own))) (notes_of who own) e.kind
-ActorStep who calls own e (Moves s step) = is_behind s who own ≡ true
-ActorStep who calls own e OfTime = Unit {0}
+-- an entry is the next of an actor with these entries so far, by the calls behind each of its entries of the journal, and by whether it is inside a call
+abbrev pub ActorStep : Actor → (ℕ → List Kind) → (List Entry → Bool) → List Entry → Entry → Part → Type 0
+ActorStep who calls inside own e OfJournal =
+    (notes_of who own ≡ length (calls (length (journal own)))) × (inside own ≡ false)
+ActorStep who calls inside own e (Notes s call) =
+    IsCall who (calls (length (journal own))) (notes_of who own) e.kind × (inside own ≡ false)
+ActorStep who calls inside own e (Moves s step) = is_behind s who own ≡ true
+ActorStep who calls inside own e OfTime = Unit {0}
 
 -- each entry of an actor, the newest first, is its next where it stands
-abbrev pub IsActor : Actor → (ℕ → List Kind) → List Entry → Type 0
-IsActor who calls [] = Unit {0}
-IsActor who calls (e ∷ own) = ActorStep who calls own e (part_of e.kind) × IsActor who calls own
+abbrev pub IsActor : Actor → (ℕ → List Kind) → (List Entry → Bool) → List Entry → Type 0
+IsActor who calls inside [] = Unit {0}
+IsActor who calls inside (e ∷ own) =
+    ActorStep who calls inside own e (part_of e.kind) × IsActor who calls inside own
 
 -- ---- each jump by itself
 

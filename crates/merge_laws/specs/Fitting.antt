@@ -76,7 +76,7 @@ has_time entries e =
 
 -- ---- all of it
 
--- each list has its own entries alone and rises, and each actor has kept its own; the steps on the word are counted and chained, each look is at a word that they leave, and each entry has its tick and its time to each jump
+-- each list has its own entries alone and rises, and each actor has kept its own; the steps of the word have positions without a gap and chain, each look saw a word between two of them, and each entry has its tick and its time to each jump
 pub record FitApart
     (m : Machine) (journal : List JournalEntry) (histories : List (List SourceEntry)) (own : Actor → List JournalEntry)
     : Type 0 where

@@ -14,8 +14,8 @@ pub fn kept_lists_merge_to_a_legal_log()
 {}
 
 /// Lists fit together where each shows it by itself: each has its own entries alone and rises, and so
-/// does what each actor keeps; the steps on the word are counted and chained, each look is at a word
-/// that they leave, and each entry has its tick and its time to each jump.
+/// does what each actor keeps; the steps of the word have positions without a gap and chain, each look
+/// saw a word between two of them, and each entry has its tick and its time to each jump.
 pub fn lists_fit_together()
     ensures { FitsTogether }
 {}

@@ -6,8 +6,8 @@ use Rattle.sleep_model.specs.declared.entry.SourceEntry.{SourceEntry}
 use Rattle.sleep_model.specs.Merge.{all_entries, is_chained}
 use Rattle.merge_laws.specs.Apart.{steps_of}
 use Rattle.merge_laws.specs.Fitting.{are_counted, are_raised, has_time, is_look, jumps, no_steps, stands_right}
-use Rattle.worked_logs.specs.Merging.{all_ticked, histories_among, journal_among}
-use Rattle.worked_logs.specs.Timers.{event_expires_machine, event_expires_entries}
+use Rattle.log_trials.specs.Merging.{all_ticked, histories_among, journal_among}
+use Rattle.log_trials.specs.Timers.{event_expires_machine, event_expires_entries}
 
 -- the entries, of which number n is changed
 abbrev pub changed : ℕ → (JournalEntry → JournalEntry) → List JournalEntry → List JournalEntry

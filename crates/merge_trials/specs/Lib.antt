@@ -1,3 +1,4 @@
 pub mod Broken
+pub mod Inside
 pub mod Tests
 pub mod Worked

@@ -9,7 +9,7 @@ use Rattle.sleep_model.specs.Legal.{JournalPart}
 use Rattle.sleep_model.specs.Merge.{actors_of, all_entries, is_chained, of_source, rises}
 use Rattle.sleep_model.specs.Path.{is_same}
 use Rattle.sleep_model.specs.Sources.{most_entries}
-use Rattle.merge_laws.specs.Apart.{AreJumps, IsActor, IsSource, are_of, calls_after, is_journals, own_entries, past_of, source_past, steps_of}
+use Rattle.merge_laws.specs.Apart.{AreJumps, IsActor, IsSource, are_of, calls_after, is_inside, is_journals, own_entries, past_of, source_past, steps_of}
 use Rattle.merge_laws.specs.Fitting.{FitApart, are_counted, are_raised, has_time, is_look, jumps, no_steps, stands_right}
 use Rattle.merge_laws.specs.Merging.{AreLegalApart}
 
@@ -48,7 +48,7 @@ pub record LegalTested (m : Machine) (journal : List JournalEntry) (histories : 
   pub of_journal : JournalPart m (past_of journal)
   pub of_sources : Below (λ s. IsSource (source_past histories s)) (length histories)
   pub of_actors : OfEach
-      (λ who. IsActor who (λ k. calls_after m who k (past_of journal)) (past_of (own_entries who journal histories)))
+      (λ who. IsActor who (λ k. calls_after m who k (past_of journal)) (is_inside (length m.sources + 1) (source_past histories) who) (past_of (own_entries who journal histories)))
       (actors_of m)
   pub of_jumps : AreJumps m (past_of journal) (source_past histories)
 

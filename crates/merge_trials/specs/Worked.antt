@@ -4,7 +4,7 @@ use Rattle.sleep_model.specs.declared.entry.Entry.{Entry}
 use Rattle.sleep_model.specs.declared.entry.JournalEntry.{JournalEntry}
 use Rattle.sleep_model.specs.declared.machine.Machine.{Machine}
 use Rattle.merge_trials.specs.Tests.{FitTested, LegalTested}
-use Rattle.worked_logs.specs.Merging.{all_ticked, histories_among, journal_among}
+use Rattle.log_trials.specs.Merging.{all_ticked, histories_among, journal_among}
 
 -- these entries fit, and are legal, each by itself
 pub record IsApart (m : Machine) (entries : List JournalEntry) : Type 0 where

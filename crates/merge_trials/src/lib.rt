@@ -2,15 +2,17 @@
 //! stands on it.
 #![tactic(auto)]
 
-ghost use Rattle.std.specs.Prelude.{◌≡◌, false};
+ghost use Rattle.std.specs.Prelude.{◌≡◌, ◌∷◌, false};
+ghost use Rattle.sleep_model.specs.Legal.{IsLegal};
 ghost use Rattle.merge_trials.specs.Broken.{broken, chain_fits, count_fits, jumps_fit, looks_fit, sides_fit, ticks_fit, times_fit, with_pos, with_tick, with_time};
+ghost use Rattle.merge_trials.specs.Inside.{exit_in_the_call, note_in_the_call, one_event_begun, one_event_machine, start_of_the_call, two_events_machine};
 ghost use Rattle.merge_trials.specs.Tests.{TestsTell};
 ghost use Rattle.merge_trials.specs.Worked.{IsApart, IsApartAgain};
-ghost use Rattle.worked_logs.specs.Attempts.{event_stops_a_device_machine, event_stops_a_device_entries, hard_event_machine, hard_event_entries, callback_reports_machine, callback_reports_entries};
-ghost use Rattle.worked_logs.specs.Autosleep.{autosleep_machine, autosleep_entries};
-ghost use Rattle.worked_logs.specs.Counts.{read_waits_machine, read_waits_entries, calls_of_a_line_machine};
-ghost use Rattle.worked_logs.specs.Merging.{two_workers};
-ghost use Rattle.worked_logs.specs.Timers.{event_expires_machine, event_expires_entries};
+ghost use Rattle.log_trials.specs.Attempts.{event_stops_a_device_machine, event_stops_a_device_entries, hard_event_machine, hard_event_entries, callback_reports_machine, callback_reports_entries};
+ghost use Rattle.log_trials.specs.Autosleep.{autosleep_machine, autosleep_entries};
+ghost use Rattle.log_trials.specs.Counts.{read_waits_machine, read_waits_entries, calls_of_a_line_machine};
+ghost use Rattle.log_trials.specs.Merging.{two_workers};
+ghost use Rattle.log_trials.specs.Timers.{event_expires_machine, event_expires_entries};
 
 /// What one worker makes: each entry's maker knows the entry before it.
 pub fn logs_are_kept_apart()
@@ -25,6 +27,14 @@ pub fn logs_are_kept_apart()
 /// What two workers make that know nothing of each other: ticks are each actor's and each list's own.
 pub fn log_of_two_workers_is_kept_apart()
     ensures { IsApart calls_of_a_line_machine two_workers }
+{}
+
+/// A line that has noted an event, which owes a start, makes neither its exit nor its next note before that start.
+pub fn nothing_stands_inside_a_call()
+    ensures begun { IsLegal one_event_machine one_event_begun }
+    ensures exit { IsLegal one_event_machine (exit_in_the_call ∷ one_event_begun) → ⊥ }
+    ensures note { IsLegal two_events_machine (note_in_the_call ∷ one_event_begun) → ⊥ }
+    ensures start { IsLegal one_event_machine (start_of_the_call ∷ one_event_begun) }
 {}
 
 /// What passes the tests meets the premises of `kept_lists_merge_to_a_legal_log`.

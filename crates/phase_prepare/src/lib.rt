@@ -3,8 +3,6 @@
 
 mod law;
 mod prepare;
-#[cfg(test)]
-mod tests;
 
 pub use law::prepare_follows;
 pub use prepare::{complete_due, prepare_due};

@@ -7,7 +7,7 @@ use sleep_model::{Due, Kind, Phase};
 
 /// What prepare does next (`dpm_prepare`). It goes forward through the order, over the devices that
 /// are not prepared, and ends by an error, or where none is left. `r` is what the next device's
-/// callback answers: 0, 1, or an error's number below 0.
+/// callback answers: 0, 1, or an error as a negative number.
 pub fn prepare_due(board: &Board, failed: Option<Errno>, r: i32) -> Due
     ensures { result ≡ prepare_due_on board.now r failed }
 {

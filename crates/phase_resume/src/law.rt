@@ -6,7 +6,7 @@ ghost use Rattle.sleep_model.specs.declared.machine.Machine.{Machine};
 ghost use Rattle.sleep_model.specs.declared.word.EventNow.{EventNow};
 ghost use Rattle.phase_resume.specs.AtPlaces.{Follows};
 
-/// At each place of a machine's log the walk on the way up and the devices that it gave out do what
+/// At each place of a machine's log the walk on the way up and the devices that it scheduled do what
 /// the definitions tell.
 pub fn up_follows()
     ensures { (m : Machine) (past : List Entry) (now : EventNow) → Follows m past now }

@@ -1,9 +1,7 @@
-//! What the walks of the three phases on the way up do next, and a device that they gave out.
+//! What the walks of the three phases on the way up do next, and a device that they scheduled.
 #![tactic(auto)]
 
 mod law;
-#[cfg(test)]
-mod tests;
 mod up;
 
 pub use law::up_follows;

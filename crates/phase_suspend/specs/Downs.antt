@@ -16,7 +16,7 @@ use Rattle.async_board.specs.Boards.{BoardState, next_down_on, waits_down_on, wa
 use Rattle.phase_suspend.specs.declared.down.Down.{Down}
 use Rattle.phase_suspend.specs.declared.down.DownEnv.{DownEnv}
 
--- where devices stand, the errors of the phase, which devices are willing, runtime suspended and sources of wakeup, and whether a wakeup is pending
+-- where devices stand, the errors of the phase, which ask for direct-complete, which are runtime suspended, which are sources of wakeup, and whether a wakeup is pending
 pub record DownState : Type 0 where
   pub board : BoardState
   pub failed : Option Errno

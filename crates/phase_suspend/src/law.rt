@@ -6,7 +6,7 @@ ghost use Rattle.sleep_model.specs.declared.machine.Machine.{Machine};
 ghost use Rattle.sleep_model.specs.declared.word.EventNow.{EventNow};
 ghost use Rattle.phase_suspend.specs.AtPlaces.{Follows};
 
-/// At each place of a machine's log the walk, the devices that it gave out and the requests for a
+/// At each place of a machine's log the walk, the devices that it scheduled and the requests for a
 /// runtime status are answered as the definitions tell.
 pub fn down_follows()
     ensures { (m : Machine) (past : List Entry) (now : EventNow) → Follows m past now }

@@ -5,8 +5,6 @@
 mod down;
 mod law;
 mod runtime;
-#[cfg(test)]
-mod tests;
 
 pub use down::{Down, DownEnv};
 pub use law::down_follows;

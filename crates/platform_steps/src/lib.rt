@@ -4,7 +4,5 @@
 
 mod order;
 mod platform;
-#[cfg(test)]
-mod tests;
 
 pub use platform::Platform;

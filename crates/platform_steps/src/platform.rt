@@ -97,7 +97,8 @@ impl Platform {
     }
 
     /// The entry of a step, which answers `r`; where a wakeup is pending a processor is not stopped
-    /// (`freeze_secondary_cpus`).
+    /// (`freeze_secondary_cpus`). It is for a caller that keeps these steps alone: the core decides by itself, and tells them
+    /// of the entry by `note`.
     pub fn turn(&mut self, what: PlatPart, r: Option<Errno>, pending: bool) -> Kind
         ensures kind { result ≡ part_entry what r pending }
         ensures after { self.new ≡ steps_after result self.old }

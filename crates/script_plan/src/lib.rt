@@ -5,8 +5,6 @@
 mod call_plan;
 mod expand;
 mod plan;
-#[cfg(test)]
-mod tests;
 
 pub use call_plan::CallPlan;
 pub use plan::Plan;

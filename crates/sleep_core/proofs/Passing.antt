@@ -1,6 +1,8 @@
 -- An entry that is of a device passes by the parts that know no devices.
 use Rattle.std.proofs.Common.{◌≡◌, ℕ, List, ◌∷◌, length, refl, sym, ap}
+use Rattle.std.proofs.lemmas.List.{set-get_or}
 use Rattle.sleep_model.specs.declared.entry.Actor.{Actor}
+use Rattle.sleep_model.specs.declared.entry.Actor.TheVariants as actor
 use Rattle.sleep_model.specs.declared.entry.Entry.{Entry}
 use Rattle.sleep_model.specs.declared.entry.Kind.{Kind}
 use Rattle.sleep_model.specs.declared.entry.Kind.TheVariants as kind
@@ -13,11 +15,9 @@ use Rattle.sleep_model.specs.Freezer.{freezings}
 use Rattle.sleep_model.specs.Lock.{holder, is_on}
 use Rattle.sleep_model.specs.Marks.{raised}
 use Rattle.sleep_model.specs.Numbers.{time_of}
-use Rattle.sleep_model.specs.Seats.{Stays, seats, seats_after}
+use Rattle.sleep_model.specs.Seats.{Stays, first_seat, seats, seats_after}
 use Rattle.async_board.proofs.Told.{board_next}
 use Rattle.async_board.specs.Boards.{board_after}
-use Rattle.autosleep_loop.proofs.Staying.{work_stays}
-use Rattle.sleep_state.proofs.Staying.{seats_stay}
 use Rattle.sleep_core.specs.Histories.{IsOfDevice, board_of, path_of, tasks_of, freezer_of, autosleep_of, steps_of, parts_of, exits}
 
 -- such an entry moves its device, and each of these parts stands as before
@@ -34,6 +34,16 @@ pub record Passes (m : Machine) (past : List Entry) (e : Entry) : Type 0 where
 -- an entry at that time, of that maker and kind
 abbrev entry_of : ℕ → EventNow → Actor → Kind → Entry
 entry_of time now who k = record { time = time; now = now; actor = who; kind = k }
+
+-- it leaves each script where it stands
+seats_stay : (who : Actor) (ss : List Seat) → seats_after who Stays ss ≡ ss
+seats_stay (actor.Script i) ss = set-get_or ss i first_seat
+seats_stay _ ss = refl
+
+-- and the work, whoever makes it
+work_stays : (who : Actor) (k : Kind) (before : Work) → work_step k before ≡ before → work_after who k before ≡ before
+work_stays actor.Auto k before e = e
+work_stays _ k before e = refl
 
 tasks_stay : (m : Machine) (past : List Entry) (who : Actor) → tasks_of m past ≡ record { seats = seats_after who Stays (seats (length m.actors) past); marks = raised (length m.marks) past }
 tasks_stay m past who = ap (λ (ss : List Seat). record { seats = ss; marks = raised (length m.marks) past }) (sym (seats_stay who (seats (length m.actors) past)))

@@ -23,7 +23,7 @@ use Rattle.sleep_model.specs.Runtime.{is_async, statuses, disabled_by_direct, di
 use Rattle.sleep_model.specs.Seats.{seats}
 use Rattle.sleep_model.specs.Stands.{stands}
 use Rattle.sleep_model.specs.Table.{stage_of}
-use Rattle.attempt_room.specs.Room.{enough}
+use Rattle.attempt_laws.specs.Room.{enough}
 use Rattle.async_board.specs.Boards.{BoardState, board_after, first_board}
 use Rattle.platform_steps.specs.Steps.{Steps}
 use Rattle.autosleep_loop.specs.Autosleeps.{AutosleepState}

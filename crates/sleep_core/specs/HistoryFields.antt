@@ -1,7 +1,7 @@
 -- What the history's fields are: each is what the definitions read from the journal's entries.
 use Rattle.std.specs.Prelude.{◌≡◌, ◌<◌, ◌^◌, length}
 use Rattle.sleep_model.specs.Numbers.{time_of}
-use Rattle.attempt_room.specs.Room.{enough}
+use Rattle.attempt_laws.specs.Room.{enough}
 use Rattle.sleep_state.specs.Places.{entries}
 use Rattle.sleep_core.specs.declared.history.History.TheInside.{Inside}
 use Rattle.sleep_core.specs.Histories.{Kept, last_stamp, guard_of, path_of, devices_of, board_of, tasks_of, freezer_of, autosleep_of, steps_of, parts_of}

@@ -1,9 +1,8 @@
 //! What a task that changes links is answered (`drivers/base/core.c`, `device_link_add`).
 
-ghost use Rattle.std.specs.Prelude.{◌≡◌, ◌≤◌, is_some, length};
+ghost use Rattle.std.specs.Prelude.{◌≡◌, ◌≤◌, length};
 ghost use Rattle.sleep_model.specs.Links.{link_add_due, link_state_due};
 ghost use Rattle.sleep_model.specs.Order.{links_at, parents_of};
-ghost use Rattle.sleep_model.specs.Path.{maker};
 ghost use Rattle.sleep_state.specs.Places.{entries};
 
 use crate::state::Core;
@@ -21,20 +20,13 @@ impl<'m> Core<'m> {
         self.board().links()
     }
 
-    /// Whether an attempt is open.
-    fn is_underway(&self) -> bool
-        ensures { result ≡ is_some (maker (entries self.now.past)) }
-    {
-        self.history.path().maker().is_some()
-    }
-
     /// What is answered where a link is to be added: EBUSY while an attempt is open, EINVAL where it stands
     /// already or would close a cycle.
     pub(crate) fn link_add_due(&self, supplier: u32, consumer: u32) -> Option<Errno>
         ensures { result ≡ link_add_due self.now.machine (entries self.now.past) supplier consumer }
     {
         let links = self.links();
-        if self.is_underway() {
+        if self.is_open() {
             Some(Errno::EBUSY)
         } else if links.is_linked(supplier, consumer) || links.is_dependent(consumer, supplier) {
             Some(Errno::EINVAL)
@@ -48,7 +40,7 @@ impl<'m> Core<'m> {
     pub(crate) fn link_state_due(&self, supplier: u32, consumer: u32) -> Option<Errno>
         ensures { result ≡ link_state_due self.now.machine (entries self.now.past) supplier consumer }
     {
-        if self.is_underway() {
+        if self.is_open() {
             Some(Errno::EBUSY)
         } else if self.links().is_linked(supplier, consumer) {
             None

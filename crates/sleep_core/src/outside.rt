@@ -96,7 +96,7 @@ impl<'m> Core<'m> {
         self.plans[script as usize].calls_before(seat.turns)
     }
 
-    /// How many calls on sources the actor has to have made before its next entry of the journal: those of
+    /// How many calls on sources an actor owes in all before it may append to the journal: those of
     /// a script's own steps, and what its callbacks have reported (`pm_wakeup_event`, `pm_stay_awake`,
     /// `pm_relax`).
     pub fn calls_due(&self, who: Actor) -> u64
@@ -173,14 +173,14 @@ impl<'m> Core<'m> {
         self.history.tasks().next_slept(behind, self.now())
     }
 
-    /// The devices that hang right below one: its children, then its consumers, each once.
+    /// The devices that depend directly on one: its children, then its consumers, each once.
     pub fn below(&self, device: u32) -> &[u32]
         ensures { result.now ≡ first_places (below self.now.machine (entries self.now.past) device) }
     {
         self.history.board().links().below(device)
     }
 
-    /// The devices that one hangs right below: its parent, then its suppliers, each once.
+    /// The devices that one depends on directly: its parent, then its suppliers, each once.
     pub fn above(&self, device: u32) -> &[u32]
         ensures { result.now ≡ first_places (above self.now.machine (entries self.now.past) device) }
     {

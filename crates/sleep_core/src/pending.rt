@@ -10,6 +10,7 @@ ghost use Rattle.sleep_core.specs.Steps.{sleep_end};
 use crate::state::Core;
 use crate::steps::is_line;
 use sleep_state::sooner;
+use task_freezer::gives_up_at;
 
 impl<'m> Core<'m> {
     /// When the alarm of a machine that sleeps is due.
@@ -28,7 +29,7 @@ impl<'m> Core<'m> {
     {
         match self.freeze_since() {
             None => None,
-            Some(since) => Some(since + 20000),
+            Some(since) => Some(gives_up_at(since)),
         }
     }
 

@@ -25,13 +25,14 @@ use crate::state::Core;
 use event_word::{Events, look_from};
 use sleep_base::Mem;
 use sleep_model::{Actor, Due, Entry, EventNow, JournalEntry, Kind, Stamp, What, Why, pos};
+use sleep_state::is_device;
 use std::sync::Wait;
 use thiserror::Error;
 
 /// What a turn did.
 #[derive(Clone, Copy)]
 pub enum CoreTurn {
-    /// It made one entry. `attempt` is the number of the attempt begun last, 0 before the first.
+    /// It made one entry. `attempt` numbers the latest attempt; before any it is 0.
     Did {
         stamp: Stamp,
         kind: Kind,
@@ -50,13 +51,6 @@ pub enum CoreFault {
     /// of the open attempt's maker, nor of a device.
     #[error("out of memory")]
     Mem,
-}
-
-/// Whether it is an asynchronous device.
-fn is_device(who: Actor) -> bool
-    ensures { result ≡ is_device who }
-{
-    matches!(who, Actor::Dev(_))
 }
 
 /// The tick behind these two; a tick that would pass its range waits for ever.
@@ -217,7 +211,7 @@ impl<'m> Core<'m> {
     }
 
     /// One turn of an actor: looks at the word until it is at least the floor's, decides, and makes
-    /// at most one entry. `calls` is the number of source calls that the actor has made, `now` the
+    /// at most one entry. `calls` counts the actor's calls on sources so far, `now` is the
     /// time in ms. `NotYet` exactly where the actor waits, `Done` exactly where nothing is due of it.
     /// `Mem` where there is no memory, or no number for one more attempt, run or mark; never for the maker of
     /// the open attempt, nor for a device; nothing has changed then.
@@ -236,7 +230,7 @@ impl<'m> Core<'m> {
         requires floor { (last_stamp self.old.past).pos ≤ E.floor events.old }
         // There is one word that was seen, by which the answer and the journal are what the definitions say.
         ensures turn { (word : EventNow) × IsTold (E.tells events.old) word × GrewTo word (E.looked events.old) (E.looked events.new)
-            × (floor.pos ≤ position word) × AfterTurn self.old self.new who word floor result }
+            × ((E.floor events.old ≤ position word) × (floor.pos ≤ position word)) × AfterTurn self.old self.new who word floor result }
         ensures tells { E.tells events.new ≡ E.tells events.old }
         ensures made { E.made events.new ≡ E.made events.old }
         ensures can { E.can events.new ≡ E.can events.old }

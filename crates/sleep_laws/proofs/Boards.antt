@@ -95,7 +95,7 @@ set_three P a b c d x u v w lb lc old new = by_test (x == d) refl (nat_lt d (len
         (subst (λ (ys : List Stand). P (record { suspend = stand_at a x; late = stand_at ys x; noirq = stand_at (slice_set c d w) x })) (sym (set_past b d v (omega (arith, lb))))
         (subst (λ (ys : List Stand). P (record { suspend = stand_at a x; late = stand_at b x; noirq = stand_at ys x })) (sym (set_past c d w (omega (arith, lc)))) old))
 
--- what holds of a device holds after an entry, if it holds of the device that the entry moves
+-- an entry keeps what holds of each device, where it keeps that of the device that it moves
 pub moved : (m : Machine) (past : List Entry) (e : Entry) (d : ℕ) → device_of e.kind ≡ Some d → (P : Three → Type 0) (x : ℕ) → P (three m past x) → (x ≡ d → P (three_after e.kind (three m past d))) → P (three m (e ∷ past) x)
 moved m past e d is P x old new =
     let n : ℕ = length m.devices in

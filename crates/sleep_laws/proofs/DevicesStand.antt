@@ -259,10 +259,26 @@ settled_down stand.Direct t h p a = a refl
 settled_down stand.Unprepared t h p a = never p
 settled_down _ t h p a = never h
 
+down_in : (m : Machine) (past : List Entry) → Fines m past (λ q. Settled) true → (x : ℕ) → is_among (order m past) x ≡ true → (q : Phase) → Down q → (is_down_in (stand_in m past q x) || is_direct_complete (stand_in m past phase.Suspend x)) ≡ true
+down_in m past h x o q i =
+    subst (λ (s : Stand). (is_down_in s || is_direct_complete (stand_in m past phase.Suspend x)) ≡ true) (at_is m past q x i)
+    (settled_down (at (three m past x) q) (stand_in m past phase.Suspend x) ((h x).allowed q i) ((h x).alike q i ∙ (h x).prepared o) ((h x).alone q i))
+
+all_or : (a b c d : Bool) → (a || d) ≡ true → (b || d) ≡ true → (c || d) ≡ true → ((a && b && c) || d) ≡ true
+all_or true true true d e f g = refl
+all_or a b c true e f g = by_or (a && b && c)
+  where
+    by_or : (x : Bool) → (x || true) ≡ true
+    by_or true = refl
+    by_or false = refl
+all_or false b c false e f g = never e
+all_or true false c false e f g = never f
+all_or true true false false e f g = never g
+
 all_asleep : (m : Machine) (past : List Entry) → Fines m past (λ q. Settled) true → list_all (is_asleep m past) (order m past) ≡ true
 all_asleep m past h = all_pass (is_asleep m past) (order m past) (λ x o.
-    settled_down (stand_in m past phase.Noirq x) (stand_in m past phase.Suspend x) ((h x).allowed phase.Noirq InNoirq)
-    ((h x).alike phase.Noirq InNoirq ∙ (h x).prepared o) ((h x).alone phase.Noirq InNoirq))
+    all_or (is_down_in (stand_in m past phase.Suspend x)) (is_down_in (stand_in m past phase.Late x)) (is_down_in (stand_in m past phase.Noirq x)) (is_direct_complete (stand_in m past phase.Suspend x))
+    (down_in m past h x o phase.Suspend InSuspend) (down_in m past h x o phase.Late InLate) (down_in m past h x o phase.Noirq InNoirq))
 
 maker_enters : (m : Machine) (past : List Entry) (now : EventNow) (there : Stage) (k : Kind) → Made m past now there k → Standing m past (Some there) → DevicesAsleep m past k
 maker_enters m past now _ _ (Made.Enters s w) h = all_asleep m past h.0
@@ -289,7 +305,7 @@ devices_down m past e h = enters_moved m past e.now e.actor e.kind h.1 (moved m 
 
 -- ---- the whole laws
 
--- an undo stands only for what is owed
+-- only what is owed is undone
 pub all_owed : (m : Machine) (past : List Entry) (e : Entry) → JournalPart m (e ∷ past) → Owed m past e.kind
 all_owed m past e h = owed m past e h (owed_device m past e h)
 

@@ -501,7 +501,7 @@ none_of m past of now who (suc n) h i l = by_test (i == n) refl (λ k. none_of m
 not_made : (m : Machine) (past : List Entry) (of : ℕ → List Entry) (now : EventNow) (who : Actor) → is_enabled m past of now who ≡ false → is_made (due m past who now) ≡ false
 not_made m past of now who e = or_right_false (is_calling (length m.sources + 1) of who || nat_lt (made (length m.sources + 1) of who) (calls_due m who past)) (is_made (due m past who now)) e
 
--- where nobody is enabled and no time is pending no attempt is open
+-- where nobody can make anything and no moment is pending no attempt is open
 pub no_attempt : (m : Machine) (past : List Entry) → IsRanked m past → JournalPart m past → (of : ℕ → List Entry) (now : EventNow) → is_idle m past of now ≡ true → next_time m past of ≡ None → maker past ≡ None
 no_attempt m past ranks journal of now idle timeless = by_maker (maker past) refl (held m past journal).2 (maker_in m past journal)
   where

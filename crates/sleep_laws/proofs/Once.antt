@@ -1,5 +1,5 @@
 -- Each thing is taken down once before it is brought back.
-use Rattle.std.proofs.Common.{◌≡◌, ◌∙◌, ℕ, Bool, true, false, not, List, ◌∷◌, length, Option, Some, refl, sym, ap}
+use Rattle.std.proofs.Common.{◌≡◌, ◌∙◌, ℕ, Bool, true, false, not, List, ◌∷◌, length, Option, Some, is_some, refl, sym, ap}
 use Rattle.std.proofs.lemmas.Bool.{true≢false}
 use Rattle.sleep_model.specs.declared.entry.Actor.{Actor}
 use Rattle.sleep_model.specs.declared.entry.Entry.{Entry}
@@ -98,6 +98,8 @@ made_already m past now _ _ Made.StopsIrqs h = λ e. h.0
 made_already m past now _ _ Made.StartsIrqs h = λ e. absurd (true≢false e)
 made_already m past now _ _ (Made.StopsPart x e) h = not_true (is_so (stopped (length m.syscore) past) x) (last_found (λ y. not (is_so (stopped (length m.syscore) past) y)) (syscore_parts m) x e).passes
 made_already m past now _ _ (Made.PartFails x r e) h = not_true (is_so (stopped (length m.syscore) past) x) (last_found (λ y. not (is_so (stopped (length m.syscore) past) y)) (syscore_parts m) x e).passes
+made_already m past now _ _ (Made.Enters e f) h = ap is_some e
+made_already m past now _ _ (Made.EntersNot e f) h = ap is_some e
 made_already m past now _ _ _ h = tt
 
 own_already : (m : Machine) (past : List Entry) (now : EventNow) (d : ℕ) (k : Kind) → DeviceMade m past now d k → NotOwedAlready m past k

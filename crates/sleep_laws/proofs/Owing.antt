@@ -1,5 +1,5 @@
--- An undo stands only for what is owed, and a test that found a wakeup only where one is pending.
-use Rattle.std.proofs.Common.{◌≡◌, ℕ, true, List, ◌∷◌, Option, Some, length, refl, sym}
+-- Only what is owed is undone, and a test that found a wakeup only where one is pending.
+use Rattle.std.proofs.Common.{◌≡◌, ℕ, true, List, ◌∷◌, Option, Some, is_some, length, refl, sym, ap}
 use Rattle.std.proofs.lemmas.Bool.{true≢false}
 use Rattle.sleep_base.specs.declared.errno.Errno.TheVariants.{EINVAL}
 use Rattle.sleep_model.specs.declared.entry.Actor.{Actor}
@@ -47,6 +47,7 @@ owed_made m past now _ _ Made.PlatformWakes h d = h.3
 owed_made m past now _ _ Made.PlatformFinishes h d = h.2
 owed_made m past now _ _ Made.PlatformRecovers h d = refl
 owed_made m past now _ _ Made.PlatformEnds h d = h.1
+owed_made m past now _ _ (Made.Wakes s by_event e) h d = ap is_some e
 owed_made m past now _ _ _ h d = tt
 
 owed_own : (m : Machine) (past : List Entry) (now : EventNow) (x : ℕ) (k : Kind) → DeviceMade m past now x k → DeviceOwed m past k → Owed m past k
@@ -66,7 +67,7 @@ owed_moved m past now who k h (Makes _ here there _ a e c x) d = owed_made m pas
 owed_moved m past now who k h (Beside _ _ a x) d = owed_aside m past k x
 owed_moved m past now _ k h (Owns y _ x) d = owed_own m past now y k x d
 
--- an undo stands only for what is owed, where that holds of devices
+-- only what is owed is undone, where that holds of devices
 pub owed : (m : Machine) (past : List Entry) (e : Entry) → JournalPart m (e ∷ past) → DeviceOwed m past e.kind → Owed m past e.kind
 owed m past e h d = owed_moved m past e.now e.actor e.kind h.1 (moved m past e h) d
 

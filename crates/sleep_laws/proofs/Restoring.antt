@@ -1,5 +1,5 @@
 -- What an attempt stopped is started again, by stages.
-use Rattle.std.proofs.Common.{◌≡◌, ◌∙◌, ℕ, zero, suc, Bool, true, false, List, [], ◌∷◌, length, length-set, map, replicate, Option, Some, None, refl, sym, ap, arith, slice_set}
+use Rattle.std.proofs.Common.{◌≡◌, ◌∙◌, ℕ, zero, suc, Bool, true, false, List, [], ◌∷◌, length, length-set, map, replicate, Option, Some, None, is_some, refl, sym, ap, arith, slice_set}
 use Rattle.std.proofs.lemmas.Bool.{true≢false}
 use Rattle.sleep_model.specs.declared.entry.Actor.{Actor}
 use Rattle.sleep_model.specs.declared.entry.Actor.TheVariants as actor
@@ -28,6 +28,7 @@ use Rattle.sleep_model.specs.Notifiers.{told, cpus_off, stopped, other_cpus}
 use Rattle.sleep_model.specs.Order.{is_among}
 use Rattle.sleep_model.specs.Table.{stage_of, stage_after}
 use Rattle.sleep_model.specs.Walk.{is_so}
+use Rattle.sleep_laws.proofs.Answering.{Side, side_kept}
 use Rattle.sleep_laws.proofs.Flags.{first_among, run_least, set_other, none_told, none_stopped, none_off}
 use Rattle.sleep_laws.proofs.Holding.{Aside, Moved, Opens, Makes, Beside, Owns, moved, Kept, at_made, entry_of, IsMaker}
 use Rattle.sleep_laws.proofs.Levels.{Exact, exact_kept}
@@ -213,7 +214,7 @@ pub nothing_owed : (m : Machine) (past : List Entry) → JournalPart m past → 
 nothing_owed m past h here e c suspend late noirq =
     let u : IsUndone m (Some stage.Ends) past = at_made m (IsUndone m) (undone_kept m) past h here stage.Ends e c in
     let x : Exact (Some stage.Ends) past = at_made m Exact (exact_kept m) past h here stage.Ends e c in
-    record { notifiers = u.0; tasks = u.3; begun = x.1; prepared = x.2; prepared_late = x.3; suspend = suspend; late = late; noirq = noirq; callbacks = u.4; cpus = u.1; irqs = x.0; syscore = u.2 }
+    record { notifiers = u.0; tasks = u.3; begun = x.1; prepared = x.2; prepared_late = x.3; suspend = suspend; late = late; noirq = noirq; callbacks = u.4; cpus = u.1; irqs = x.0; syscore = u.2; awake = ap is_some (at_made m Side (side_kept m) past h here stage.Ends e c).1 }
 
 -- ---- the law
 

@@ -18,7 +18,7 @@ pub record IsOrdered (m : Machine) : Type 0 where
   pub links : AreLinks (parents_of m.devices) (reverse m.links)
   pub scripts : AreScripts m m.actors
 
--- where nobody is enabled and no time is pending no attempt is open (system_transition_mutex)
+-- where nobody can make anything and no moment is pending no attempt is open (system_transition_mutex)
 abbrev pub RestsClosed : Machine → List Entry → Type 0
 RestsClosed m past =
     is_idle m (journal past) (λ s. history s past) (numbers past) ≡ true → next_time m (journal past) (λ s. history s past) ≡ None

@@ -2,7 +2,7 @@
 
 ghost use Rattle.sleep_laws.specs.Ends.{AllRestClosed, AllEndClosed};
 
-/// Where no actor is enabled and no time is pending no attempt is open, on each machine whose devices
+/// Where nobody can make anything and no moment is pending no attempt is open, on each machine whose devices
 /// are registered after their parents and whose links may be added in turn: each walk over devices
 /// goes on until it is through (`drivers/base/power/main.c`, `dpm_wait_for_subordinate`,
 /// `dpm_wait_for_superior`).

@@ -233,7 +233,7 @@ pub fn say<K: ByteSink>(err: &mut K, ending: &Ending)
 ///
 /// - 0: the text was written; of a run, one in which nothing was left to do. 6: of a run in which nobody went on.
 /// - 2: the words are others; nothing is read or written. Other words may give 8 instead, and nothing else.
-/// - 3: the input has more than 16,777,216 bytes or breaks a rule of the format, the first of which is told with its
+/// - 3: the input is longer than 16,777,216 bytes, or it breaks a rule of the format; `err` has the first rule with its
 ///   place. Such an input may give 4 or 8 instead, and nothing else.
 /// - 4: a read failed. 5: a write failed, after a front of the text.
 /// - 7: the history of a wakeup source has no place left for a call.

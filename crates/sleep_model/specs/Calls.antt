@@ -89,7 +89,7 @@ report_calls m n _ = []
 
 -- ---- the calls of an actor
 
--- the calls that an actor has to have made before its next entry of the journal, in order: those before its first turn, and behind each entry of its own the reports of the callback that it begins, and the calls of its steps up to the next turn; the entries are the journal's (own)
+-- the calls that an actor owes in all before it may append to the journal, in order: those before its first turn, and behind each entry of its own the reports of the callback that it begins, and the calls of its steps up to the next turn; the entries are the journal's (own)
 abbrev pub calls_of : Machine → Actor → List Entry → List Kind
 calls_of m who [] = calls_of_turn m who 0
 calls_of m who (e ∷ past) =
@@ -98,7 +98,7 @@ calls_of m who (e ∷ past) =
     ++ calls_behind m who (ends_turn e.kind) (turns_ended who past + 1)
     else calls_of m who past
 
--- how many calls an actor has to have made before its next entry of the journal (own)
+-- how many calls an actor owes in all before it may append to the journal (own)
 abbrev pub calls_due : Machine → Actor → List Entry → ℕ
 calls_due m who past = length (calls_of m who past)
 

@@ -1,4 +1,4 @@
--- Which logs can be written as text: their numbers name things of the machine, and are in the ranges of their fields (own).
+-- Which logs can be written as text: their numbers name things of the machine, and fit the types of their fields (own).
 use Rattle.std.specs.Prelude.{◌≡◌, ℕ, ◌+◌, Bool, true, false, ◌&&◌, nat_lt, nat_le, List, [], ◌∷◌, length, ℤ, pos, negsuc, suc, Option, Some, None, is_some}
 use Rattle.std.specs.List.{list_all}
 use Rattle.sleep_model.specs.declared.word.EventNow.{EventNow}

@@ -27,7 +27,7 @@ use Rattle.phase_table.specs.declared.phase.Phase.TheVariants as phase
 use Rattle.sleep_model.specs.declared.place.Seat.{Seat}
 use Rattle.sleep_model.specs.declared.place.Stand.{Stand}
 use Rattle.sleep_model.specs.declared.place.Stand.TheVariants as stand
-use Rattle.sleep_model.specs.Attempt.{failed}
+use Rattle.sleep_model.specs.Attempt.{failed, sleeps_now}
 use Rattle.sleep_model.specs.Autosleep.{Work, Resting, Reading, Saving, Attempting, Looking, Napping, Closing, work}
 use Rattle.sleep_model.specs.Devices.{AsyncWork, Idle, Scheduled, Inside, callback, stand_in, async_work}
 use Rattle.sleep_model.specs.Freezer.{unasked, freezing, freezings, is_in}
@@ -76,6 +76,7 @@ pub record NothingOwed (m : Machine) (past : List Entry) : Type 0 where
   pub cpus : cpus_off m.cpus past ≡ replicate m.cpus false
   pub irqs : irqs_off past ≡ false
   pub syscore : stopped (length m.syscore) past ≡ replicate (length m.syscore) false
+  pub awake : sleeps_now past ≡ false
 
 -- where an attempt is over nothing is owed (suspend_devices_and_enter)
 abbrev pub Restored : Machine → List Entry → Kind → Type 0
@@ -114,7 +115,7 @@ is_owed_by past undo.End = owes_platform down.Begin past
 is_owed_by past undo.Finish = owes_platform down.Prepare past
 is_owed_by past undo.Wake = owes_platform down.PrepareLate past
 
--- an undo stands only for what is owed, so each stands once, and a device is completed only where no other is owed to it (dpm_resume, device_resume, device_complete, suspend_finish)
+-- only what is owed is undone, so each stands once, and a device is completed only where no other is owed to it (dpm_resume, device_resume, device_complete, suspend_finish)
 abbrev pub Owed : Machine → List Entry → Kind → Type 0
 Owed m past (kind.Schedule p d) = is_up p ≡ true → is_down_in (stand_in m past (mirror p) d) ≡ true
 Owed m past (kind.Begin p d) = is_up p ≡ true → may_come_up (stand_in m past (mirror p) d) ≡ true
@@ -125,6 +126,7 @@ Owed m past (kind.SyscoreResume x) = is_so (stopped (length m.syscore) past) x �
 Owed m past (kind.CpuOn k) = is_so (cpus_off m.cpus past) k ≡ true
 Owed m past (kind.Irqs on) = on ≡ true → irqs_off past ≡ true
 Owed m past (kind.PlatformUndo step) = is_owed_by past step ≡ true
+Owed m past (kind.Wake by_event) = sleeps_now past ≡ true
 Owed m past _ = Unit {0}
 
 -- ---- what is done once
@@ -149,7 +151,7 @@ TakenOnce m past (kind.Skip p d cause) = is_down p ≡ true → may_go_down (sta
 TakenOnce m past (kind.End p d r) = is_down p ≡ true → is_suspending (stand_in m past p d) ≡ true
 TakenOnce m past _ = Unit {0}
 
--- a notifier, the platform, a processor, interrupts and the core are taken down only where no undo is owed to them already (pm_notifier_call_chain_robust, platform_suspend_begin, freeze_secondary_cpus, arch_suspend_disable_irqs, syscore_suspend)
+-- a notifier, the platform, a processor, interrupts and the core are taken down, and sleep is entered, only where no undo of that is owed already (pm_notifier_call_chain_robust, platform_suspend_begin, freeze_secondary_cpus, arch_suspend_disable_irqs, syscore_suspend, suspend_enter)
 abbrev pub NotOwedAlready : Machine → List Entry → Kind → Type 0
 NotOwedAlready m past (kind.NotifyPrepare x r) = is_so (told m past) x ≡ false
 NotOwedAlready m past (kind.PlatformDo step r) = owes_platform step past ≡ false
@@ -157,13 +159,20 @@ NotOwedAlready m past (kind.CpuOff k) = is_so (cpus_off m.cpus past) k ≡ false
 NotOwedAlready m past (kind.CpuBusy k) = is_so (cpus_off m.cpus past) k ≡ false
 NotOwedAlready m past (kind.Irqs on) = on ≡ false → irqs_off past ≡ false
 NotOwedAlready m past (kind.SyscoreSuspend x r) = is_so (stopped (length m.syscore) past) x ≡ false
+NotOwedAlready m past (kind.Enter busy) = sleeps_now past ≡ false
 NotOwedAlready m past _ = Unit {0}
 
 -- ---- what is so where the machine enters sleep
 
+-- d is down in suspend, in late and in noirq (power.is_suspended, power.is_late_suspended, power.is_noirq_suspended)
+abbrev pub is_down_in_all : Machine → List Entry → ℕ → Bool
+is_down_in_all m past d =
+    is_down_in (stand_in m past phase.Suspend d) && is_down_in (stand_in m past phase.Late d)
+    && is_down_in (stand_in m past phase.Noirq d)
+
 -- d is down through noirq, or was direct-complete (power.is_noirq_suspended, direct_complete)
 abbrev pub is_asleep : Machine → List Entry → ℕ → Bool
-is_asleep m past d = is_down_in (stand_in m past phase.Noirq d) || is_direct_complete (stand_in m past phase.Suspend d)
+is_asleep m past d = is_down_in_all m past d || is_direct_complete (stand_in m past phase.Suspend d)
 
 -- task i does nothing more: it is frozen, or has exited (frozen, __refrigerator)
 abbrev pub is_at_rest : Machine → List Entry → ℕ → Bool
@@ -175,11 +184,14 @@ others_of g who i [] = []
 others_of g who i (s ∷ ss) =
     if is_in g s.kind && not (is_actor (actor.Script i) who) then i ∷ others_of g who (suc i) ss else others_of g who (suc i) ss
 
--- all is down that sleep wants down (suspend_enter)
+-- all is down that sleep wants down, and the platform has taken its three steps (suspend_enter)
 pub record AllDown (m : Machine) (past : List Entry) : Type 0 where
   pub devices : list_all (is_asleep m past) (order m past) ≡ true
   pub user_tasks : list_all (is_at_rest m past) (others_of group.User (maker past) 0 m.actors) ≡ true
   pub kernel_tasks : list_all (is_at_rest m past) (others_of group.Kernel (maker past) 0 m.actors) ≡ true
+  pub begun : owes_platform down.Begin past ≡ true
+  pub prepared : owes_platform down.Prepare past ≡ true
+  pub prepared_late : owes_platform down.PrepareLate past ≡ true
   pub cpus : list_all (is_so (cpus_off m.cpus past)) (other_cpus m) ≡ true
   pub irqs : irqs_off past ≡ true
   pub syscore : list_all (is_so (stopped (length m.syscore) past)) (syscore_parts m) ≡ true

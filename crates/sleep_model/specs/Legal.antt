@@ -99,7 +99,7 @@ is_idle m past of now =
     none_enabled m past of now actor.Script (length m.actors) && not (is_enabled m past of now actor.Auto)
     && none_enabled m past of now actor.Dev (length m.devices) && none_expires (length m.sources + 1) of (time_of past)
 
--- every script has made its exit, no attempt is open, and no actor is enabled
+-- nobody can make anything, every script has exited, and no attempt is open
 abbrev pub is_finished : Machine → List Entry → (ℕ → List Entry) → EventNow → Bool
 is_finished m past of now = all_gone m past && is_none (maker past) && is_idle m past of now
 
@@ -156,7 +156,7 @@ next_time m past of = sooner (journal_time m past) (next_expiry (length m.source
 
 -- ---- the joint part
 
--- time jumps to that moment where no actor is enabled and the run is not over: it is the least pending time
+-- time jumps to the least pending time, where nobody can make anything and something is left to do
 pub record JumpStep (m : Machine) (past : List Entry) (of : ℕ → List Entry) (now : EventNow) (time : ℕ) : Type 0 where
   pub idle : is_idle m past of now ≡ true
   pub goes_on : is_finished m past of now ≡ false
@@ -166,20 +166,26 @@ pub record JumpStep (m : Machine) (past : List Entry) (of : ℕ → List Entry) 
 abbrev pub IsOwnTurn : Machine → List Entry → (ℕ → List Entry) → Actor → Type 0
 IsOwnTurn m past of who = made (length m.sources + 1) of who ≡ calls_due m who past
 
--- an actor's note is the next of its calls; a timer's is the expiry of its source
+-- an actor's note is the next of its calls; a timer notes its source's expiry
 abbrev pub IsOwnCall : Machine → List Entry → (ℕ → List Entry) → Actor → Kind → Type 0
 IsOwnCall m past of (actor.Timer s) k = k ≡ Expire s
 IsOwnCall m past of who k = slice_get (calls_of m who past) (made (length m.sources + 1) of who) ≡ Some k
+
+-- no source is owed a step of the actor: it is inside no call (wakeup_source_report_event)
+abbrev pub IsOutside : Machine → (ℕ → List Entry) → Actor → Type 0
+IsOutside m of who = is_calling (length m.sources + 1) of who ≡ false
 
 -- the actor's last entry is of that source (own)
 abbrev pub is_behind : ℕ → Actor → List Entry → Bool
 is_behind s who [] = false
 is_behind s who (e ∷ past) = if is_same e.actor who then is_of s (part_of e.kind) else is_behind s who past
 
--- an entry is the next of its actor: a step of the word stands right behind an entry of its source, and a jump stands where it may
+-- an entry is the next of its actor: one of the journal and a note stand outside of its calls, a step of the word right behind an entry of its source, and a jump where it may
 abbrev pub JointStep : Machine → List Entry → Entry → Part → Type 0
-JointStep m past e OfJournal = IsOwnTurn m (journal past) (λ s. history s past) e.actor
-JointStep m past e (Notes s call) = IsOwnCall m (journal past) (λ t. history t past) e.actor e.kind
+JointStep m past e OfJournal =
+    IsOwnTurn m (journal past) (λ s. history s past) e.actor × IsOutside m (λ s. history s past) e.actor
+JointStep m past e (Notes s call) =
+    IsOwnCall m (journal past) (λ t. history t past) e.actor e.kind × IsOutside m (λ t. history t past) e.actor
 JointStep m past e (Moves s step) = is_behind s e.actor past ≡ true
 JointStep m past e OfTime = JumpStep m (journal past) (λ s. history s past) (numbers past) e.time
 

@@ -38,7 +38,7 @@ abbrev pub is_linked : List Link → ℕ → ℕ → Bool
 is_linked [] supplier consumer = false
 is_linked (l ∷ ls) supplier consumer = is_link supplier consumer l || is_linked ls supplier consumer
 
--- the supplier is the consumer or hangs below it, by children and all links (device_is_dependent)
+-- the supplier is the consumer, or depends on it by children and all links (device_is_dependent)
 abbrev pub is_dependent : List (Option ℕ) → List Link → ℕ → ℕ → Bool
 is_dependent parents links consumer supplier =
     is_among (moved (length parents) (dependents parents links) consumer) supplier

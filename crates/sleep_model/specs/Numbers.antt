@@ -31,7 +31,7 @@ abbrev pub time_after : Kind → ℕ → ℕ → ℕ
 time_after Jump at before = at
 time_after _ at before = before
 
--- the time of the last jump, else 0, in ms (own: one virtual clock)
+-- the moment of the latest jump, 0 before any, in ms (own: one virtual clock)
 abbrev pub time_of : List Entry → ℕ
 time_of [] = 0
 time_of (e ∷ past) = time_after e.kind e.time (time_of past)

@@ -167,13 +167,13 @@ abbrev pub longest : List Entry → ℕ
 longest [] = 0
 longest (e ∷ own) = longest_after (part_of e.kind) e.time (since own) (longest own)
 
--- the time of the last start or finish, after an entry (ws->last_time)
+-- the moment of the latest start or finish, after an entry (ws->last_time)
 abbrev pub last_after : Part → ℕ → ℕ → ℕ
 last_after (Moves s step.Start) time before = time
 last_after (Moves s step.Finish) time before = time
 last_after _ time before = before
 
--- the time of the last start or finish, else 0, in ms (ws->last_time)
+-- the moment of the latest start or finish, else 0, in ms (ws->last_time)
 abbrev pub last : List Entry → ℕ
 last [] = 0
 last (e ∷ own) = last_after (part_of e.kind) e.time (last own)

@@ -4,8 +4,8 @@ use crate::word::{EventNow, Stamp};
 use phase_table::Phase;
 use sleep_base::Errno;
 
-/// Who makes an entry. Its number is its place in the order scripts, autosleep work, devices,
-/// timers, time.
+/// Who makes an entry. Ties go by kind, in the order of these variants, then by
+/// number.
 #[derive(Clone, Copy, Debug, PartialEq, Eq)]
 pub enum Actor {
     Script(u32),
@@ -127,7 +127,7 @@ pub enum Kind {
     Thaw(Thaw),
     PlatformDo(PlatDo, Option<Errno>),
     PlatformUndo(PlatUndo),
-    /// r is 0, 1, or an error's number below 0.
+    /// r is 0, 1, or an error as a negative number.
     Prepare {
         device: u32,
         r: i32,

@@ -176,11 +176,66 @@ impl Journal {
         self.room -= 1;
     }
 
+    /// Reads the entries with their stamps, the oldest first.
+    pub fn reader(&self) -> JournalReader<'_>
+        ensures { result ≡ reverse self.now.past }
+    {
+        JournalReader {
+            moments: self.moments.as_slice(),
+            made: self.made.as_slice(),
+        }
+    }
+
     /// The moments, and the entries of them, the oldest first.
     pub(crate) fn parts(&self) -> (&[Moment], &[Made])
         ensures items { items_of result.0.now result.1.now ≡ reverse self.now.past }
         ensures kept { AreOf result.0.now result.1.now }
     {
         (self.moments.as_slice(), self.made.as_slice())
+    }
+}
+
+/// Reads the entries of a journal with their stamps, each once. Contracts see what is left.
+#[derive(Drop)]
+pub struct JournalReader<'a> {
+    moments: &'a [Moment],
+    made: &'a [Made],
+}
+
+impl<'a> Model for JournalReader<'a> {
+    ghost use Rattle.std.specs.Prelude.{List};
+    ghost use Rattle.sleep_model.specs.declared.entry.JournalEntry.{JournalEntry};
+    ghost use Rattle.sleep_model.specs.Journals.{items_of, AreOf};
+
+    ghost Value = { List JournalEntry };
+
+    ghost view = { λ r. items_of r.moments.now r.made.now };
+
+    ghost invariant = { λ r. AreOf r.moments.now r.made.now };
+}
+
+impl<'a> JournalReader<'a> {
+    ghost use Rattle.std.specs.Prelude.{◌≡◌, [], ◌∷◌, MatchOption, slice_get};
+
+    /// The next entry, which stays the next. `None` at the end.
+    #[inline(always)]
+    pub fn peek(&self) -> Option<JournalEntry>
+        ensures { result ≡ slice_get self.now 0 }
+    {
+        match self.made.first() {
+            Some(made) => Some(entry_at(self.moments, made)),
+            None => None,
+        }
+    }
+
+    /// The next entry. `None` at the end.
+    #[inline(always)]
+    pub fn next(&mut self) -> Option<JournalEntry>
+        ensures { MatchOption result ((self.old ≡ []) × (self.new ≡ self.old)) (λ e. self.old ≡ e ∷ self.new) }
+    {
+        let (first, rest) = self.made.split_first()?;
+        let entry = entry_at(self.moments, first);
+        self.made = rest;
+        Some(entry)
     }
 }

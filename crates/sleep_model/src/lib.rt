@@ -22,7 +22,7 @@ pub use entry::{
 };
 pub use entry_list::{EntryList, EntryReader, OtherEntry};
 pub use flags::DeviceFlags;
-pub use journal::Journal;
+pub use journal::{Journal, JournalReader};
 pub use list::ListOf;
 pub use log::{Log, LogEnd, Move, Runtime, Stats, Waiting, Want, Why};
 pub use machine::{

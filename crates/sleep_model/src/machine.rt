@@ -156,7 +156,7 @@ pub struct Answer {
     pub what: What,
     /// The attempt that it answers in, from 1; none: each that has no answer of its own.
     pub attempt: Option<u32>,
-    /// 0, 1, or an error's number below 0.
+    /// 0, 1, or an error as a negative number.
     pub ret: i32,
     pub reports: ListOf<Report>,
 }

@@ -72,9 +72,9 @@ fn both<R: Threads + Sync, W: Sync, J: Job<W> + Send>(
     CachePadded::new(*one + *two)
 }
 
-/// Cuts the jobs into `workers` contiguous parts of equal length (the last may be shorter, and there may be fewer), and
-/// has a worker make rounds over each at the moment `now` (ms): 1,000 at most, and up to a `Stop` or a round that did
-/// nothing. It answers how many turns did something. Where no thread can be made, the parts run one after another.
+/// Gives each of `workers` workers a slice of the jobs; all slices but the last have one length, and there may be fewer slices
+/// than workers. A worker goes round its slice at the moment `now` (ms) until a job answers `Stop`, a round does nothing, or
+/// 1,000 rounds are over. The answer counts the turns that did something. Without a thread the caller does a worker's rounds.
 pub fn burst<R: Threads + Sync, W: Sync, J: Job<W> + Send>(
     rt: &R,
     jobs: &mut [J],

@@ -3,8 +3,6 @@
 
 mod lend;
 mod rounds;
-#[cfg(test)]
-mod tests;
 mod turns;
 
 pub use lend::burst;

@@ -21,7 +21,7 @@ use Rattle.sleep_core.specs.Cores.{CoreState, IsActor}
 use Rattle.sleep_state.specs.Sleepers.{is_still, AllStill}
 use Rattle.sleep_core.proofs.Stilled.{still_rests, device_rests}
 use Rattle.sleep_script.proofs.Following.{all_made}
-use Rattle.log_grows.proofs.Idling.{enabled_outside}
+use Rattle.growth_laws.proofs.Idling.{enabled_outside}
 use Rattle.wakeup_source.specs.SourceStates.{SourceState}
 use Rattle.sleep_run.specs.JobsOf.{JobsState, job_at, OweNone}
 use Rattle.sleep_run.specs.Runs.{IsRunning, IsCalm, calls_made}

@@ -18,10 +18,10 @@ use Rattle.sleep_model.specs.Sources.{history, is_of}
 use Rattle.sleep_core.specs.Cores.{IsActor}
 use Rattle.sleep_script.specs.Jobs.{JobState, first_job, after_call, IsJobOf}
 use Rattle.sleep_script.proofs.Following.{first_is_job, other_entry, call_made}
-use Rattle.log_grows.specs.Whole.{with_call}
-use Rattle.log_grows.proofs.Calling.{made_kept, made_other}
-use Rattle.log_grows.proofs.Calls.{call_journal, call_made as one_call}
-use Rattle.log_grows.proofs.Journals.{journal_more}
+use Rattle.growth_laws.specs.Whole.{with_call}
+use Rattle.growth_laws.proofs.Calling.{made_kept, made_other}
+use Rattle.growth_laws.proofs.Calls.{call_journal, call_made as one_call}
+use Rattle.growth_laws.proofs.Journals.{journal_more}
 use Rattle.sleep_run.specs.JobsOf.{JobsState, job_at, HasJob, with_job, first_jobs_of, first_jobs}
 use Rattle.sleep_run.specs.Runs.{calls_made, AreJobs}
 use Rattle.sleep_run.proofs.SourcesKept.{set_same, set_other, any_default, last_of, before_last}

@@ -1,6 +1,6 @@
 -- Where a run rests.
 use Rattle.std.proofs.Common.{◌≡◌, ◌<◌, ◌+◌, ◌++◌, ◌∙◌, ◌⊎◌, inl, inr, ℕ, zero, suc, Bool, true, false, ◌&&◌, ◌||◌, List, [], ◌∷◌, length, map, reverse, drop, Option, Some, None, is_none, slice_get, slice_index_or, Ok, refl, sym, ap, ap₂, subst, cond, append_assoc, ◌≤◌, arith}
-use Rattle.std.specs.List.{range_with_len}
+use Rattle.std.specs.List.{list_all, range_with_len}
 use Rattle.std.proofs.lemmas.List.{length-set, length-replicate, drop_all}
 use Rattle.sleep_model.specs.declared.entry.Actor.{Actor}
 use Rattle.sleep_model.specs.declared.entry.Actor.TheVariants as actor
@@ -19,6 +19,7 @@ use Rattle.sleep_model.specs.declared.machine.Script.{Script}
 use Rattle.sleep_model.specs.declared.place.Seat.{Seat}
 use Rattle.sleep_model.specs.Attempt.{attempt_due}
 use Rattle.sleep_model.specs.Due.{due, own_due, all_gone}
+use Rattle.sleep_model.specs.Fits.{fits_stats}
 use Rattle.sleep_model.specs.Freezer.{freezing}
 use Rattle.sleep_model.specs.Legal.{IsLegal, IsLegalLog, IsFinishedLog, IsStuckLog, IsStuckAfter, stats_of, next_time, waiting, waiting_from, put_waiting}
 use Rattle.sleep_model.specs.Numbers.{time_of}
@@ -31,7 +32,9 @@ use Rattle.sleep_model.specs.Steps.{seat_due, task_due}
 use Rattle.sleep_laws.proofs.Closing.{rests_closed, ends_closed}
 use Rattle.sleep_laws.proofs.Held.{guarded_sleep}
 use Rattle.sleep_laws.proofs.Lawful.{laws_of_legal}
-use Rattle.log_grows.proofs.Timely.{newest, newest_timely}
+use Rattle.growth_laws.specs.Ranged.{is_told}
+use Rattle.growth_laws.proofs.Fitted.{log_fits}
+use Rattle.growth_laws.proofs.Timely.{newest, newest_timely}
 use Rattle.wakeup_source.specs.SourceStates.{SourceState, bare, latest}
 use Rattle.sleep_run.specs.Waits.{waits_of, all_stats}
 use Rattle.sleep_run.proofs.SourcesKept.{latest_is}
@@ -66,26 +69,27 @@ stuck_of m past going closed rests none = record { left = gone_false (all_gone m
 
 -- the log of a run that is over
 pub run_of : (m : Machine) (items : List Entry) (stats : List Stats) (end : LogEnd) → IsAccepted m → IsLegal m (reverse items) → EndsSo (record { machine = m; past = reverse items }) end → stats ≡ stats_of m (reverse items)
-    → IsRun m (record { entries = items; stats = stats; end = end })
-run_of m items stats Finished acc legal over counted =
+    → list_all (is_told m) (reverse items) ≡ true → list_all fits_stats stats ≡ true → IsRun m (record { entries = items; stats = stats; end = end })
+run_of m items stats Finished acc legal over counted told ranged =
     let log : Log = record { entries = items; stats = stats; end = Finished } in
     let whole : IsLegalLog m log = record { legal = legal; stats = counted } in
     let ends : (IsFinishedLog m log) ⊎ (IsStuckLog m log) = inl (record { says = refl; finished = over }) in
-    record { legal = whole; over = ends; laws = laws_of_legal m (reverse items) legal; guarded = guarded_sleep m acc.sources (reverse items) legal; closed = ends_closed m acc log whole ends }
-run_of m items stats (Stuck those) acc legal over counted =
+    record { legal = whole; over = ends; laws = laws_of_legal m (reverse items) legal; guarded = guarded_sleep m acc.sources (reverse items) legal; closed = ends_closed m acc log whole ends; fits = log_fits m acc log whole ends told ranged }
+run_of m items stats (Stuck those) acc legal over counted told ranged =
     let log : Log = record { entries = items; stats = stats; end = Stuck those } in
     let whole : IsLegalLog m log = record { legal = legal; stats = counted } in
     let ends : (IsFinishedLog m log) ⊎ (IsStuckLog m log) = inr (record { says = ap Stuck over.1; stuck = over.0 }) in
-    record { legal = whole; over = ends; laws = laws_of_legal m (reverse items) legal; guarded = guarded_sleep m acc.sources (reverse items) legal; closed = ends_closed m acc log whole ends }
+    record { legal = whole; over = ends; laws = laws_of_legal m (reverse items) legal; guarded = guarded_sleep m acc.sources (reverse items) legal; closed = ends_closed m acc log whole ends; fits = log_fits m acc log whole ends told ranged }
 
 -- the log of a run that is over
 pub run_is : (run : RunState) (items : List Entry) (stats : List Stats) (end : LogEnd) (log : Log) → IsAccepted run.machine → IsLegal run.machine run.past → reverse items ≡ run.past → stats ≡ stats_of run.machine run.past
-    → EndsSo run end → log ≡ record { entries = items; stats = stats; end = end } → IsRun run.machine log
-run_is run items stats end log acc legal all counted over is =
+    → EndsSo run end → log ≡ record { entries = items; stats = stats; end = end } → list_all (is_told run.machine) run.past ≡ true → list_all fits_stats stats ≡ true → IsRun run.machine log
+run_is run items stats end log acc legal all counted over is told ranged =
     subst (λ (l : Log). IsRun run.machine l) (sym is)
     (run_of run.machine items stats end acc (subst (λ (past : List Entry). IsLegal run.machine past) (sym all) legal)
     (subst (λ (past : List Entry). EndsSo (record { machine = run.machine; past = past }) end) (sym all) over)
-    (counted ∙ ap (λ (past : List Entry). stats_of run.machine past) (sym all)))
+    (counted ∙ ap (λ (past : List Entry). stats_of run.machine past) (sym all))
+    (subst (λ (past : List Entry). list_all (is_told run.machine) past ≡ true) (sym all) told) ranged)
 
 -- ---- who waits
 

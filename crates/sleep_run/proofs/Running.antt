@@ -1,5 +1,7 @@
 -- Turns, calls and jumps keep what a run keeps.
-use Rattle.std.proofs.Common.{◌≡◌, ◌≤◌, ◌<◌, ◌+◌, ◌++◌, ◌∙◌, ℕ, Bool, true, not, ◌&&◌, ◌||◌, nat_lt, List, [], ◌∷◌, length, Option, Some, slice_get, slice_set, slice_index_or, zero, suc, ◌^◌, length-drop, refl, sym, ap, ap₂, subst, arith}
+use Rattle.std.proofs.Common.{◌≡◌, ◌≤◌, ◌<◌, ◌+◌, ◌++◌, ◌∙◌, ℕ, Bool, true, not, ◌&&◌, ◌||◌, nat_le, nat_lt, List, [], ◌∷◌, length, Option, Some, slice_get, slice_set, slice_index_or, zero, suc, ◌^◌, length-drop, refl, sym, ap, ap₂, subst, arith}
+use Rattle.std.specs.List.{list_all}
+use Rattle.std.proofs.lemmas.Bool.Decides.{nat_tests}
 use Rattle.sleep_model.specs.declared.entry.Actor.{Actor}
 use Rattle.sleep_model.specs.declared.entry.Actor.TheVariants as actor
 use Rattle.sleep_model.specs.declared.entry.Entry.{Entry}
@@ -12,12 +14,15 @@ use Rattle.sleep_model.specs.declared.machine.SourceCall.{SourceCall}
 use Rattle.sleep_model.specs.declared.machine.SourceCall.TheVariants as call
 use Rattle.sleep_model.specs.declared.place.Due.TheVariants.{Makes}
 use Rattle.sleep_model.specs.declared.word.EventNow.{EventNow}
+use Rattle.sleep_model.specs.declared.word.WordKind.{WordKind}
+use Rattle.sleep_model.specs.declared.word.WordKind.TheVariants as step
 use Rattle.sleep_model.specs.declared.word.Stamp.{Stamp}
 use Rattle.sleep_model.specs.Accepted.{IsAccepted}
 use Rattle.sleep_model.specs.Calls.{calls_of, calls_due, note}
 use Rattle.sleep_model.specs.Due.{due}
+use Rattle.sleep_model.specs.Fits.{fits_actor, is_word64}
 use Rattle.sleep_model.specs.Legal.{JumpStep, IsOwnCall, is_made, is_enabled, none_enabled, next_time, journal_time, next_expiry, sooner}
-use Rattle.sleep_model.specs.Numbers.{numbers, time_of}
+use Rattle.sleep_model.specs.Numbers.{after_step, numbers, time_of}
 use Rattle.sleep_model.specs.Parts.{Notes, OfJournal, part_of, is_kept, journal}
 use Rattle.sleep_model.specs.Path.{attempts}
 use Rattle.sleep_model.specs.Sources.{history, is_of, most_entries, since, makes, expiry, has_expired, SourceStep}
@@ -28,16 +33,17 @@ use Rattle.sleep_core.specs.Histories.{last_stamp}
 use Rattle.sleep_script.specs.Jobs.{JobState, after_turn, after_call, IsJobOf}
 use Rattle.sleep_script.proofs.Following.{own_entry, all_made, turns_few}
 use Rattle.event_word.specs.Steps.{has_places}
-use Rattle.log_grows.specs.Whole.{with_call, steps_of}
-use Rattle.log_grows.proofs.Calls.{CanCall, call_legal, call_owes_none, call_journal, call_word, moved, same_actor}
-use Rattle.log_grows.proofs.Growing.{first_legal, entry_legal, jump_legal}
-use Rattle.log_grows.proofs.Histories.{none_owed, still_owe_none}
-use Rattle.log_grows.proofs.Idling.{enabled_outside}
-use Rattle.log_grows.proofs.Journals.{journal_more, time_journal, word_kept, due_part}
-use Rattle.log_grows.proofs.Room.{call_has_places}
-use Rattle.log_grows.proofs.Sourced.{IsNoteOf, call_sourced}
-use Rattle.log_grows.proofs.Timely.{newest, newest_timely, few_calls}
-use Rattle.source_room.proofs.Keeping.{histories_keep}
+use Rattle.growth_laws.specs.Ranged.{is_ranged, is_told}
+use Rattle.growth_laws.specs.Whole.{entry_by, moves, with_call, with_steps, steps_of}
+use Rattle.growth_laws.proofs.Calls.{CanCall, call_legal, call_owes_none, call_journal, call_word, moved, same_actor}
+use Rattle.growth_laws.proofs.Growing.{first_legal, entry_legal, jump_legal}
+use Rattle.growth_laws.proofs.Histories.{none_calls, none_owed, still_owe_none}
+use Rattle.growth_laws.proofs.Idling.{enabled_outside}
+use Rattle.growth_laws.proofs.Journals.{journal_more, time_journal, word_kept, due_part}
+use Rattle.growth_laws.proofs.Room.{call_has_places}
+use Rattle.growth_laws.proofs.Sourced.{IsNoteOf, call_sourced}
+use Rattle.growth_laws.proofs.Timely.{newest, newest_timely, few_calls}
+use Rattle.source_laws.proofs.Keeping.{histories_keep}
 use Rattle.wakeup_source.specs.declared.call_by.CallBy.{CallBy}
 use Rattle.wakeup_source.specs.SourceStates.{SourceState, bare, latest}
 use Rattle.wakeup_source.specs.Told.{word_after, MayCall, source_call}
@@ -52,6 +58,9 @@ use Rattle.sleep_run.proofs.SourcesKept.{latest_is, sources_first, sources_kept,
 -- a word that is told is kept
 pub told_same : (one other : EventNow) → Some one ≡ Some other → one ≡ other
 told_same one other e = cc
+
+both : (a b : Bool) → a ≡ true → b ≡ true → (a && b) ≡ true
+both a b h g = ap (λ x. x && b) h ∙ g
 
 -- at first nothing is done
 pub running_first : (m : Machine) (core : CoreState) (word : EventNow) (sources : List SourceState) (jobs : JobsState) (others : List OtherEntry) → IsAccepted m → core ≡ record { machine = m; past = [] }
@@ -74,6 +83,7 @@ running_first m core word sources jobs others acc new none are own empty =
       sources_are = subst (AreSources m []) (sym are) (sources_first m);
       jobs_are = subst (AreJobs m []) (sym own) (jobs_first m);
       owe_none = none_owed;
+      told = refl;
     })
 
 module _ (m : Machine) (past : List Entry) (core : CoreState) (word : EventNow) (sources : List SourceState) (jobs : JobsState) (floor : Stamp) (r : IsRunning m past core word sources jobs floor) where
@@ -88,6 +98,35 @@ module _ (m : Machine) (past : List Entry) (core : CoreState) (word : EventNow) 
   pub joint_back : (P : Machine → List Entry → Type 0) → P m (journal past) → P core.machine (entries core.past)
   joint_back P h = subst (λ x. P x (entries core.past)) (sym r.machine_is) (subst (λ xs. P m xs) (sym r.journal_is) h)
 
+  -- ---- what an entry's fields tell
+
+  -- an actor is the machine's
+  actor_told : (who : Actor) → IsActor m who → fits_actor m who ≡ true
+  actor_told (actor.Script i) h = let is : nat_lt i (length m.actors) ≡ true = grind (arith, nat_tests) in is
+  actor_told actor.Auto h = refl
+  actor_told (actor.Dev d) h = let is : nat_lt d (length m.devices) ≡ true = grind (arith, nat_tests) in is
+  actor_told (actor.Timer s) h = absurd h
+  actor_told actor.Time h = refl
+
+  more_told : (x : Entry) (xs : List Entry) → is_told m x ≡ true → list_all (is_told m) xs ≡ true → list_all (is_told m) (x ∷ xs) ≡ true
+  more_told x xs h g = both (is_told m x) (list_all (is_told m) xs) h g
+
+  moves_ranged : (s : ℕ) (x : WordKind) → is_ranged (moves s x) ≡ true
+  moves_ranged s step.Start = refl
+  moves_ranged s step.Finish = refl
+  moves_ranged s step.Hard = refl
+
+  steps_told : (s : ℕ) (time : ℕ) (seen : EventNow) (who : Actor) (steps : List WordKind) (xs : List Entry) → is_word64 time ≡ true → fits_actor m who ≡ true → list_all (is_told m) xs ≡ true → list_all (is_told m) (with_steps time seen who s steps xs) ≡ true
+  steps_told s time seen who [] xs timed acts h = h
+  steps_told s time seen who (x ∷ rest) xs timed acts h =
+      steps_told s time (after_step (Some x) seen) who rest (entry_by time seen who (moves s x) ∷ xs) timed acts
+      (more_told (entry_by time seen who (moves s x)) xs (both _ _ (both _ _ timed acts) (moves_ranged s x)) h)
+
+  call_told_all : (s : ℕ) (c : SourceCall) (time : ℕ) (who : Actor) (steps : List WordKind) → is_word64 time ≡ true → fits_actor m who ≡ true → is_ranged (note s c) ≡ true → list_all (is_told m) (with_call time word who s c steps past) ≡ true
+  call_told_all s c time who steps timed acts ranged =
+      steps_told s time word who steps (entry_by time word who (note s c) ∷ past) timed acts
+      (more_told (entry_by time word who (note s c)) past (both _ _ (both _ _ timed acts) ranged) r.told)
+
   -- ---- an entry of the journal
 
   not_time : (who : Actor) → IsActor m who → ¬ (who ≡ actor.Time)
@@ -100,8 +139,8 @@ module _ (m : Machine) (past : List Entry) (core : CoreState) (word : EventNow) 
   -- after an entry of an actor that has made its calls the run goes on
   pub running_entry : (new : CoreState) (stamp : Stamp) (who : Actor) (time : ℕ) (k : Kind) (attempt : ℕ) → IsActor m who → calls_made m past who ≡ calls_due m who (journal past) → time ≡ time_of past
       → due core.machine (entries core.past) who word ≡ Makes k → new ≡ with_entry core (made_entry core.past who word floor k) → stamp ≡ next_stamp core.past floor word → attempt ≡ attempts (entries new.past)
-      → IsRunning m (record { time = time; now = word; actor = who; kind = k } ∷ past) new word sources (with_job jobs who (after_turn stamp k attempt (job_at jobs who))) stamp
-  running_entry new stamp who time k attempt a own at is e s begun =
+      → is_word64 time ≡ true → is_ranged k ≡ true → IsRunning m (record { time = time; now = word; actor = who; kind = k } ∷ past) new word sources (with_job jobs who (after_turn stamp k attempt (job_at jobs who))) stamp
+  running_entry new stamp who time k attempt a own at is e s begun timed ranged =
       let x : Entry = record { time = time; now = word; actor = who; kind = k } in
       let ours : due m (journal past) who word ≡ Makes k = joint (λ y xs. due y xs who word ≡ Makes k) is in
       let part : part_of k ≡ OfJournal = due_part m (journal past) word who k (not_time who a) ours in
@@ -116,7 +155,7 @@ module _ (m : Machine) (past : List Entry) (core : CoreState) (word : EventNow) 
         accepted = r.accepted;
         machine_is = ap (λ (c : CoreState). c.machine) e ∙ r.machine_is;
         journal_is = kept ∙ sym more;
-        legal = entry_legal m past r.legal x (not_time who a) ours r.word_is at own;
+        legal = entry_legal m past r.legal x (not_time who a) ours r.word_is at own (none_calls past r.owe_none (length m.sources + 1) who);
         word_is = r.word_is ∙ sym (word_kept x past part);
         low = omega (arith, ap (λ (t : Stamp). t.pos) last, ap (λ (t : Stamp). t.pos) s);
         floor_low = omega (arith, ap (λ (t : Stamp). t.pos) s);
@@ -124,6 +163,7 @@ module _ (m : Machine) (past : List Entry) (core : CoreState) (word : EventNow) 
         sources_are = sources_kept m x past sources (λ t. ap (is_of t) part) r.sources_are;
         jobs_are = jobs_entry m x past jobs (after_turn stamp k attempt (job_at jobs who)) part a job r.jobs_are;
         owe_none = still_owe_none x past (λ t. ap (is_of t) part) r.owe_none;
+        told = more_told x past (both _ _ (both _ _ timed (actor_told who a)) ranged) r.told;
       }
 
   -- where nothing is done the run stands
@@ -150,8 +190,8 @@ module _ (m : Machine) (past : List Entry) (core : CoreState) (word : EventNow) 
 
   pub running_jump : (new : CoreState) (seen : EventNow) (stamp : Stamp) (to : ℕ) → JumpStep m (journal past) (λ s. history s past) (numbers past) to → time_of past < to → seen ≡ word
       → new ≡ with_entry core (jump_entry core.past seen to floor) → stamp ≡ next_stamp core.past floor seen
-      → IsRunning m (record { time = to; now = seen; actor = actor.Time; kind = kind.Jump } ∷ past) new word sources jobs stamp
-  running_jump new seen stamp to j later told e s =
+      → is_word64 to ≡ true → IsRunning m (record { time = to; now = seen; actor = actor.Time; kind = kind.Jump } ∷ past) new word sources jobs stamp
+  running_jump new seen stamp to j later told e s timed =
       let x : Entry = record { time = to; now = seen; actor = actor.Time; kind = kind.Jump } in
       let last : last_stamp new.past ≡ stamp = ap (λ (c : CoreState). last_stamp c.past) e ∙ sym s in
       let pos : position seen ≡ position word = ap position told in
@@ -167,6 +207,7 @@ module _ (m : Machine) (past : List Entry) (core : CoreState) (word : EventNow) 
         sources_are = sources_kept m x past sources (λ t. refl) r.sources_are;
         jobs_are = jobs_jump m x past jobs refl (λ t. refl) refl r.jobs_are;
         owe_none = still_owe_none x past (λ t. refl) r.owe_none;
+        told = more_told x past (both _ _ (both _ _ timed refl) refl) r.told;
       }
 
   -- ---- calls on sources
@@ -196,8 +237,8 @@ module _ (m : Machine) (past : List Entry) (core : CoreState) (word : EventNow) 
   -- after a whole call the run goes on, but for the jobs
   called : (s : ℕ) (c : SourceCall) (by : CallBy) (later : EventNow) (old new : SourceState) (stamp : Stamp) (jobs' : JobsState) → s ≤ length m.sources → old ≡ slice_index_or sources s old → by.floor ≡ floor
       → CanCall m past by.now word by.actor s c → IsMade by c word later old new stamp → AreJobs m (with_call by.now word by.actor s c (steps_of s c past) past) jobs'
-      → IsRunning m (with_call by.now word by.actor s c (steps_of s c past) past) core later (slice_set sources s new) jobs' stamp
-  called s c by later old new stamp jobs' there is same can did are =
+      → is_word64 by.now ≡ true → fits_actor m by.actor ≡ true → is_ranged (note s c) ≡ true → IsRunning m (with_call by.now word by.actor s c (steps_of s c past) past) core later (slice_set sources s new) jobs' stamp
+  called s c by later old new stamp jobs' there is same can did are timed acts ranged =
       let l : s < length sources = omega (arith, there, r.sources_are.count) in
       let here : IsSourceOf s past old = subst (IsSourceOf s past) (sym is) (r.sources_are.each s old l) in
       let steps : makes c (since (bare old.past)) ≡ steps_of s c past = ap (λ own. makes c (since own)) here.entries in
@@ -215,6 +256,7 @@ module _ (m : Machine) (past : List Entry) (core : CoreState) (word : EventNow) 
         sources_are = sources_called m past sources s c by word later old new stamp l is did r.sources_are;
         jobs_are = are;
         owe_none = call_owes_none m past by.now word by.actor s c can r.owe_none;
+        told = call_told_all s c by.now by.actor (steps_of s c past) timed acts ranged;
       }
 
   -- a note of an actor is of its call
@@ -264,21 +306,21 @@ module _ (m : Machine) (past : List Entry) (core : CoreState) (word : EventNow) 
   can_call : (who : Actor) (s : ℕ) (c : SourceCall) (at : ℕ) → IsActor m who → CallsNext m past who s c → at ≡ time_of past → length (history s past) + 4 ≤ most_entries → CanCall m past at word who s c
   can_call who s c at a next now places =
       let sourced = note_sourced s c (call_sourced m r.accepted who (journal past) (calls_made m past who) (note s c) next) in
-      record { legal = r.legal; word_is = r.word_is; time_is = now; may = sourced.1 at who; own = own_call who (note s c) a next; there = sourced.0; places = places }
+      record { legal = r.legal; word_is = r.word_is; time_is = now; may = sourced.1 at who; own = own_call who (note s c) a next; out = none_calls past r.owe_none (length m.sources + 1) who; there = sourced.0; places = places }
 
   -- after the next call of an actor the run goes on
   pub running_call : (s : ℕ) (c : SourceCall) (by : CallBy) (later : EventNow) (old new : SourceState) (stamp : Stamp) (items : List Entry) → IsActor m by.actor → CallsNext m past by.actor s c → by.now ≡ time_of past → by.floor ≡ floor
       → old ≡ slice_index_or sources s old → length old.past + 4 ≤ most_entries → length (bare old.past) ≡ length old.past → IsMade by c word later old new stamp
       → items ≡ source_call old.id c by.actor by.now word (bare old.past) ++ past
-      → IsRunning m items core later (slice_set sources s new) (with_job jobs by.actor (after_call stamp (job_at jobs by.actor))) stamp
-  running_call s c by later old new stamp items a next at same is few count did all =
+      → is_word64 by.now ≡ true → is_ranged (note s c) ≡ true → IsRunning m items core later (slice_set sources s new) (with_job jobs by.actor (after_call stamp (job_at jobs by.actor))) stamp
+  running_call s c by later old new stamp items a next at same is few count did all timed ranged =
       let there : s ≤ length m.sources = call_there by.actor s c next in
       let l : s < length sources = omega (arith, there, r.sources_are.count) in
       let here : IsSourceOf s past old = subst (IsSourceOf s past) (sym is) (r.sources_are.each s old l) in
       let can = can_call by.actor s c by.now a next at (omega (arith, few, count, ap length here.entries)) in
       subst (λ (xs : List Entry). IsRunning m xs core later (slice_set sources s new) (with_job jobs by.actor (after_call stamp (job_at jobs by.actor))) stamp) (sym (all ∙ gained s c by old here))
       (called s c by later old new stamp (with_job jobs by.actor (after_call stamp (job_at jobs by.actor))) there is same can did
-      (jobs_call m (steps_of s c past) past by.now word by.actor s c jobs stamp (omega (arith, there)) a (call_left by.actor s c a next).0 r.jobs_are))
+      (jobs_call m (steps_of s c past) past by.now word by.actor s c jobs stamp (omega (arith, there)) a (call_left by.actor s c a next).0 r.jobs_are) timed (actor_told by.actor a) ranged)
     where
       gained : (s : ℕ) (c : SourceCall) (by : CallBy) (old : SourceState) → IsSourceOf s past old → source_call old.id c by.actor by.now word (bare old.past) ++ past ≡ with_call by.now word by.actor s c (steps_of s c past) past
       gained s c by old h =
@@ -288,18 +330,19 @@ module _ (m : Machine) (past : List Entry) (core : CoreState) (word : EventNow) 
   pub running_expire : (s : ℕ) (by : CallBy) (later : EventNow) (old new : SourceState) (stamp : Stamp) (items : List Entry) → s ≤ length m.sources → by.actor ≡ actor.Timer s → has_expired (expiry (history s past)) (time_of past) ≡ true
       → by.now ≡ time_of past → by.floor ≡ floor → old ≡ slice_index_or sources s old → length old.past + 4 ≤ most_entries → length (bare old.past) ≡ length old.past → IsMade by call.Expire word later old new stamp
       → items ≡ source_call old.id call.Expire by.actor by.now word (bare old.past) ++ past
-      → IsRunning m items core later (slice_set sources s new) jobs stamp
-  running_expire s by later old new stamp items there who due at same is few count did all =
+      → is_word64 by.now ≡ true → IsRunning m items core later (slice_set sources s new) jobs stamp
+  running_expire s by later old new stamp items there who due at same is few count did all timed =
+      let timer : nat_le s (length m.sources) ≡ true = grind (arith, nat_tests) in
       let l : s < length sources = omega (arith, there, r.sources_are.count) in
       let here : IsSourceOf s past old = subst (IsSourceOf s past) (sym is) (r.sources_are.each s old l) in
       let may : SourceStep (history s past) by.now by.actor (Notes s call.Expire) = (r.owe_none s, subst (λ (t : ℕ). has_expired (expiry (history s past)) t ≡ true) (sym at) due) in
       let own : IsOwnCall m (journal past) (λ t. history t past) by.actor (note s call.Expire) = subst (λ (w : Actor). IsOwnCall m (journal past) (λ t. history t past) w (note s call.Expire)) (sym who) refl in
       let can : CanCall m past by.now word by.actor s call.Expire =
-      record { legal = r.legal; word_is = r.word_is; time_is = at; may = may; own = own; there = there; places = omega (arith, few, count, ap length here.entries) } in
+      record { legal = r.legal; word_is = r.word_is; time_is = at; may = may; own = own; out = none_calls past r.owe_none (length m.sources + 1) by.actor; there = there; places = omega (arith, few, count, ap length here.entries) } in
       let jobs' : AreJobs m (with_call by.now word by.actor s call.Expire (steps_of s call.Expire past) past) jobs =
       subst (λ (w : Actor). AreJobs m (with_call by.now word w s call.Expire (steps_of s call.Expire past) past) jobs) (sym who)
       (jobs_expire m (steps_of s call.Expire past) past by.now word s s call.Expire jobs (omega (arith, there)) r.jobs_are) in
-      subst (λ (xs : List Entry). IsRunning m xs core later (slice_set sources s new) jobs stamp) (sym (all ∙ gained by old here)) (called s call.Expire by later old new stamp jobs there is same can did jobs')
+      subst (λ (xs : List Entry). IsRunning m xs core later (slice_set sources s new) jobs stamp) (sym (all ∙ gained by old here)) (called s call.Expire by later old new stamp jobs there is same can did jobs' timed (ap (fits_actor m) who ∙ timer) refl)
     where
       gained : (by : CallBy) (old : SourceState) → IsSourceOf s past old → source_call old.id call.Expire by.actor by.now word (bare old.past) ++ past ≡ with_call by.now word by.actor s call.Expire (steps_of s call.Expire past) past
       gained by old h =

@@ -15,10 +15,10 @@ use Rattle.sleep_model.specs.Numbers.{after_step}
 use Rattle.sleep_model.specs.Parts.{part_of}
 use Rattle.sleep_model.specs.Sources.{history, is_of, since, makes}
 use Rattle.sleep_model.specs.Word.{position}
-use Rattle.log_grows.specs.Whole.{moves, entry_by, with_steps, with_call, steps_of}
-use Rattle.log_grows.proofs.Calls.{moved, call_history, call_elsewhere}
-use Rattle.log_grows.proofs.Histories.{history_other}
-use Rattle.log_grows.proofs.Timely.{newest}
+use Rattle.growth_laws.specs.Whole.{moves, entry_by, with_steps, with_call, steps_of}
+use Rattle.growth_laws.proofs.Calls.{moved, call_history, call_elsewhere}
+use Rattle.growth_laws.proofs.Histories.{history_other}
+use Rattle.growth_laws.proofs.Timely.{newest}
 use Rattle.wakeup_source.specs.declared.call_by.CallBy.{CallBy}
 use Rattle.wakeup_source.specs.SourceStates.{SourceState, bare, latest, new_source, step_entry, note_entry}
 use Rattle.wakeup_source.specs.Told.{source_call, after_steps, word_after}

@@ -1,5 +1,6 @@
 -- A run of a machine, as far as it has come.
 use Rattle.std.specs.Prelude.{◌≡◌, ◌≤◌, ◌<◌, ◌+◌, ◌⊎◌, Bool, true, false, ℕ, List, length, reverse, slice_index_or, None, Result, Ok, Err}
+use Rattle.std.specs.List.{list_all}
 use Rattle.sleep_model.specs.declared.entry.Actor.{Actor}
 use Rattle.sleep_model.specs.declared.entry.Entry.{Entry}
 use Rattle.sleep_model.specs.declared.log.Log.{Log}
@@ -10,6 +11,7 @@ use Rattle.sleep_model.specs.declared.word.EventNow.{EventNow}
 use Rattle.sleep_model.specs.declared.word.Stamp.{Stamp}
 use Rattle.sleep_model.specs.Accepted.{IsAccepted}
 use Rattle.sleep_model.specs.Calls.{calls_due, made}
+use Rattle.sleep_model.specs.Fits.{IsWritable}
 use Rattle.sleep_model.specs.Laws.{Laws, GuardedSleep}
 use Rattle.sleep_model.specs.Legal.{IsLegal, IsLegalLog, IsFinishedLog, IsStuckLog, IsStuckAfter, is_finished_after, is_idle, waiting}
 use Rattle.sleep_model.specs.Numbers.{numbers}
@@ -18,7 +20,8 @@ use Rattle.sleep_model.specs.Path.{maker}
 use Rattle.sleep_model.specs.Places.{places}
 use Rattle.sleep_model.specs.Sources.{history, most_entries}
 use Rattle.sleep_model.specs.Word.{position}
-use Rattle.log_grows.specs.Whole.{OweNone}
+use Rattle.growth_laws.specs.Ranged.{is_told}
+use Rattle.growth_laws.specs.Whole.{OweNone}
 use Rattle.sleep_state.specs.Places.{entries}
 use Rattle.sleep_core.specs.Cores.{CoreState, IsActor}
 use Rattle.sleep_core.specs.Histories.{last_stamp}
@@ -74,6 +77,7 @@ pub record IsRunning (m : Machine) (past : List Entry) (core : CoreState) (word 
   pub sources_are : AreSources m past sources
   pub jobs_are : AreJobs m past jobs
   pub owe_none : OweNone past
+  pub told : list_all (is_told m) past ≡ true
 
 -- the calls of a machine may fill a source: its history, which has so many places, may come to where fewer than four are left for a call and its expiry (own)
 abbrev pub IsFull : Machine → ℕ → Type 0
@@ -118,10 +122,11 @@ abbrev pub EndsSo : RunState → LogEnd → Type 0
 EndsSo run end.Finished = is_finished_after run.machine run.past ≡ true
 EndsSo run (end.Stuck those) = IsStuckAfter run.machine run.past × (those ≡ waiting run.machine (journal run.past) (numbers run.past))
 
--- the log of a whole run: it is legal, and over, and so the laws hold of it, and no attempt is open
+-- the log of a whole run: it is legal, and over, and so the laws hold of it, and no attempt is open; it fits the machine, so that its text tells it, and where it is stuck names somebody
 pub record IsRun (m : Machine) (log : Log) : Type 0 where
   pub legal : IsLegalLog m log
   pub over : (IsFinishedLog m log) ⊎ (IsStuckLog m log)
   pub laws : Laws m (journal (reverse log.entries))
   pub guarded : GuardedSleep (reverse log.entries)
   pub closed : maker (journal (reverse log.entries)) ≡ None
+  pub fits : IsWritable m log

@@ -12,12 +12,12 @@ ghost use Rattle.sleep_run.specs.AllEntries.{behind, ArePutBehind};
 use event_word::PlainEvents;
 use sleep_model::{OtherEntry, SourceCall, SourceEntry, Stamp};
 use std::sync::Wait;
-use wakeup_source::{CallBy, SourceFault, WakeSource};
+use wakeup_source::{CallBy, MOST_ENTRIES, SourceFault, WakeSource};
 
 /// A call on a source.
 fn make<R: Wait>(
     rt: &R,
-    source: &mut WakeSource<60000>,
+    source: &mut WakeSource<MOST_ENTRIES>,
     events: &mut PlainEvents,
     by: CallBy,
     call: SourceCall,
@@ -28,7 +28,7 @@ fn make<R: Wait>(
     requires may { MayCall call (bare source.old.past) by.now }
     ensures made { IfOk result (IsMade by call events.old events.new source.old source.new) }
     ensures room { OnOk result (length source.old.past + 4 ≤ most_entries) }
-    ensures full { result ≡ Err SourceFault.Full → most_entries < length source.old.past + 4 }
+    ensures full { (result ≡ Err SourceFault.Full) ↔ (most_entries < length source.old.past + 4) }
     ensures err { OnErr result ((source.new ≡ source.old) × (events.new ≡ events.old)) }
 {
     match call {
@@ -63,11 +63,12 @@ fn put_behind(others: &mut Vec<OtherEntry>, made: &[SourceEntry], before: usize)
     }
 }
 
-/// A whole call on a source, whose entries go behind all others and so many of the journal. After an error
-/// nothing has changed.
+/// A whole call on a source, whose entries go behind all others and so many of the journal. `Full` exactly where its
+/// history has fewer than four places left, so want of memory is told of no such source. After an error nothing has
+/// changed.
 pub(crate) fn make_whole<R: Wait>(
     rt: &R,
-    source: &mut WakeSource<60000>,
+    source: &mut WakeSource<MOST_ENTRIES>,
     events: &mut PlainEvents,
     others: &mut Vec<OtherEntry>,
     before: usize,
@@ -82,11 +83,14 @@ pub(crate) fn make_whole<R: Wait>(
     ensures entries { OnOk result (ArePutBehind before
         (source_call source.old.id call by.actor by.now events.old (bare source.old.past)) others.old.items others.new.items) }
     ensures room { OnOk result (length source.old.past + 4 ≤ most_entries) }
-    ensures full { result ≡ Err SourceFault.Full → most_entries < length source.old.past + 4 }
+    ensures full { (result ≡ Err SourceFault.Full) ↔ (most_entries < length source.old.past + 4) }
     ensures err { OnErr result ((source.new ≡ source.old) × (events.new ≡ events.old) × (others.new.items ≡ others.old.items)) }
 {
-    others.reserve(4)?;
     let made = source.history().len();
+    if made + 4 > MOST_ENTRIES {
+        return Err(SourceFault::Full);
+    }
+    others.reserve(4)?;
     let stamp = make(rt, source, events, by, call)?;
     put_behind(others, made_since(source.history(), made), before);
     Ok(stamp)

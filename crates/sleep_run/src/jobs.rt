@@ -10,16 +10,16 @@ ghost use Rattle.sleep_run.specs.JobsOf.{owes, owing_of, job_at, HasJob, with_jo
 use answer_book::AnswerBook;
 use sleep_base::Mem;
 use sleep_model::{Actor, Kind, Machine, Stamp, Want};
-use sleep_script::{AutoJob, DeviceJob, ScriptJob};
+use sleep_script::Job;
 use std::alloc::Global;
 use std::marker::Model;
 
 /// The jobs of the scripts, the autosleep work and the devices, by number.
 #[derive(Drop)]
 pub(crate) struct Jobs<'m> {
-    scripts: Vec<ScriptJob<'m>>,
-    auto: AutoJob<'m>,
-    devices: Vec<DeviceJob<'m>>,
+    scripts: Vec<Job<'m>>,
+    auto: Job<'m>,
+    devices: Vec<Job<'m>>,
     /// How many of them have a call on a source to make.
     owing: u32,
 }
@@ -41,14 +41,14 @@ fn script_jobs<'m>(
     alloc: Global,
     machine: &'m Machine,
     book: &'m AnswerBook<'m>,
-) -> Result<Vec<ScriptJob<'m>>, Mem>
+) -> Result<Vec<Job<'m>>, Mem>
     requires accepted { IsAccepted machine.now }
     requires book { book.now ≡ machine.now.answers }
     ensures { IfOk result (λ v. v.items ≡ first_jobs_of machine.now Script (length machine.now.actors)) }
 {
     let mut jobs = Vec::with_capacity(alloc, machine.actors.len())?;
     for script in 0..machine.actors.len() as u32 {
-        jobs.push(ScriptJob::new(alloc, machine, book, script)?)?;
+        jobs.push(Job::of_script(alloc, machine, book, script)?)?;
     }
     Ok(jobs)
 }
@@ -58,20 +58,20 @@ fn device_jobs<'m>(
     alloc: Global,
     machine: &'m Machine,
     book: &'m AnswerBook<'m>,
-) -> Result<Vec<DeviceJob<'m>>, Mem>
+) -> Result<Vec<Job<'m>>, Mem>
     requires accepted { IsAccepted machine.now }
     requires book { book.now ≡ machine.now.answers }
     ensures { IfOk result (λ v. v.items ≡ first_jobs_of machine.now Dev (length machine.now.devices)) }
 {
     let mut jobs = Vec::with_capacity(alloc, machine.devices.len())?;
     for device in 0..machine.devices.len() as u32 {
-        jobs.push(DeviceJob::new(machine, book, device))?;
+        jobs.push(Job::of_device(machine, book, device))?;
     }
     Ok(jobs)
 }
 
 /// How many of these scripts have a call on a source to make.
-fn owing_scripts(jobs: &[ScriptJob<'_>]) -> u32
+fn owing_scripts(jobs: &[Job<'_>]) -> u32
     requires { length jobs.now < 2 ^ 30 }
     ensures is { result ≡ owing_of jobs.now }
 {
@@ -105,7 +105,7 @@ impl<'m> Jobs<'m> {
     ghost use Rattle.sleep_run.specs.JobsOf.{OweNone};
 
     /// The jobs of these parts, before anything was done: a script alone may have a call to make then.
-    fn of_parts(scripts: Vec<ScriptJob<'m>>, auto: AutoJob<'m>, devices: Vec<DeviceJob<'m>>) -> Self
+    fn of_parts(scripts: Vec<Job<'m>>, auto: Job<'m>, devices: Vec<Job<'m>>) -> Self
         requires scripts { length scripts.items < 2 ^ 30 }
         requires devices { length devices.items < 2 ^ 30 }
         requires auto { one_if (owes auto) ≡ 0 }
@@ -132,7 +132,7 @@ impl<'m> Jobs<'m> {
         ensures { IfOk result (λ jobs. jobs ≡ first_jobs machine.now) }
     {
         let scripts = script_jobs(alloc, machine, book)?;
-        let auto = AutoJob::new(machine, book);
+        let auto = Job::of_auto(machine, book);
         let devices = device_jobs(alloc, machine, book)?;
         Ok(Jobs::of_parts(scripts, auto, devices))
     }

@@ -1,18 +1,21 @@
 //! What comes after a round that did nothing: a jump of time, or the end.
 
-ghost use Rattle.std.specs.Prelude.{◌≡◌, ◌≤◌, ◌<◌, ◌^◌, ◌++◌, length, IfOk, OnOk, All};
+ghost use Rattle.std.specs.Prelude.{◌≡◌, ◌≤◌, ◌<◌, ◌^◌, ◌++◌, true, length, IfOk, OnOk, All};
+ghost use Rattle.std.specs.List.{list_all};
+ghost use Rattle.sleep_model.specs.Fits.{fits_stats};
 ghost use Rattle.sleep_run.specs.Waits.{waits_of, all_stats};
 ghost use Rattle.wakeup_source.specs.SourceStates.{bare, latest};
 
 use crate::run::{Run, RunFault, wait_unless};
 use crate::waiters::Waiters;
 use event_word::Events;
+use growth_laws::{moments_are_ranged, stats_are_ranged};
 use sleep_base::Mem;
 use sleep_core::Core;
 use sleep_model::{Actor, Due, EntryList, EventNow, ListOf, Log, LogEnd, Stats, Waiting};
 use std::alloc::{AllocError, Global};
 use std::sync::Wait;
-use wakeup_source::WakeSource;
+use wakeup_source::{MOST_ENTRIES, WakeSource};
 
 /// The greatest moment of a run, in ms. A run that comes past it waits for ever.
 const LAST_MOMENT: u64 = 1 << 63;
@@ -29,14 +32,21 @@ pub(crate) enum Rest {
 }
 
 /// The statistics of the sources at that moment.
-fn stats_of(alloc: Global, sources: &[WakeSource<60000>], at: u64) -> Result<Vec<Stats>, AllocError>
+fn stats_of(
+    alloc: Global,
+    sources: &[WakeSource<MOST_ENTRIES>],
+    at: u64,
+) -> Result<Vec<Stats>, AllocError>
     requires time { All (λ s. latest (bare s.past) ≤ at) sources.now }
     requires small { at ≤ 2 ^ 63 }
-    ensures { IfOk result (λ v. v.items ≡ all_stats sources.now at) }
+    ensures all { IfOk result (λ v. v.items ≡ all_stats sources.now at) }
+    ensures ranged { IfOk result (λ v. list_all fits_stats v.items ≡ true) }
 {
     let mut stats = Vec::with_capacity(alloc, sources.len())?;
     for source in sources {
-        stats.push(source.stats(at))?;
+        let one = source.stats(at);
+        stats_are_ranged(one);
+        stats.push(one)?;
     }
     Ok(stats)
 }
@@ -65,20 +75,22 @@ fn log_of(entries: EntryList, stats: Vec<Stats>, end: LogEnd) -> Log
     }
 }
 
-/// The scripts whose sleeps have come to their ends may go on.
-fn stir_slept(core: &Core<'_>, waiters: &mut Waiters) {
+/// Wakes the scripts whose sleeps have come to their ends.
+fn wake_sleepers(core: &Core<'_>, waiters: &mut Waiters) {
     let mut next = core.next_slept(None);
     for _ in 0..u32::MAX {
         let Some(script) = next else {
             break;
         };
-        waiters.stir_slept(script);
+        waiters.wake_sleeper(script);
         next = core.next_slept(Some(script));
     }
 }
 
 impl<'m> Run<'m> {
-    ghost use Rattle.std.specs.Prelude.{◌≡◌, ◌<◌, ◌+◌, length, reverse, Ok, IfOk, OnOk, IfErr};
+    ghost use Rattle.std.specs.Prelude.{◌≡◌, ◌<◌, ◌+◌, true, length, reverse, Ok, IfOk, OnOk, IfErr};
+    ghost use Rattle.std.specs.List.{list_all};
+    ghost use Rattle.sleep_model.specs.Fits.{fits_stats};
     ghost use Rattle.std.specs.Bool.{OnTrue};
     ghost use Rattle.sleep_model.specs.declared.entry.Actor.TheVariants.{Script, Dev};
     ghost use Rattle.sleep_model.specs.Legal.{JumpStep, IsStuckAfter, is_enabled, none_enabled, none_expires, stats_of, waiting};
@@ -184,10 +196,11 @@ impl<'m> Run<'m> {
         ensures fault { IfErr result (Fails self.old.machine) }
     {
         wait_unless(rt, to <= LAST_MOMENT && self.floor.tick < u64::MAX);
+        moments_are_ranged(to);
         let now = self.events.look();
         self.floor = self.core.jump(now, to, self.floor)?;
-        self.waiters.stir_time();
-        stir_slept(&self.core, &mut self.waiters);
+        self.waiters.wake_for_time();
+        wake_sleepers(&self.core, &mut self.waiters);
         Ok(())
     }
 
@@ -197,7 +210,7 @@ impl<'m> Run<'m> {
         ensures after { AfterRest self.old self.new result }
     {
         if !self.is_resting() {
-            self.waiters.stir_all();
+            self.waiters.wake_all();
             return Ok(Rest::GoesOn);
         }
         if self.is_whole() {
@@ -246,7 +259,8 @@ impl<'m> Run<'m> {
 
     /// The statistics of all sources now.
     fn stats(&self, alloc: Global) -> Result<Vec<Stats>, AllocError>
-        ensures { IfOk result (λ v. v.items ≡ stats_of self.now.machine self.now.past) }
+        ensures all { IfOk result (λ v. v.items ≡ stats_of self.now.machine self.now.past) }
+        ensures ranged { IfOk result (λ v. list_all fits_stats v.items ≡ true) }
     {
         let stats = stats_of(alloc, &self.sources, self.time())?;
         Ok(stats)
@@ -265,6 +279,7 @@ impl<'m> Run<'m> {
         requires { AfterAll self.now (Ok rest) }
         ensures end { IfOk result (λ e. EndsSo self.now e.0) }
         ensures stats { IfOk result (λ e. e.1.items ≡ stats_of self.now.machine self.now.past) }
+        ensures ranged { IfOk result (λ e. list_all fits_stats e.1.items ≡ true) }
     {
         let end = self.end(alloc, rest)?;
         let stats = self.stats(alloc)?;

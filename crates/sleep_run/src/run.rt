@@ -11,6 +11,7 @@ use crate::waiters::Waiters;
 use answer_book::AnswerBook;
 use device_links::Links;
 use event_word::PlainEvents;
+use growth_laws::{calls_are_ranged, kinds_are_ranged, moments_are_ranged};
 use sleep_base::Mem;
 use sleep_core::{Core, CoreFault, CoreTurn};
 use sleep_model::{Actor, Kind, Log, Machine, OtherEntry, Phase, SourceCall, Stamp, Why};
@@ -18,7 +19,7 @@ use std::alloc::{AllocError, Global};
 use std::marker::Model;
 use std::sync::Wait;
 use thiserror::Error;
-use wakeup_source::{CallBy, SourceFault, WakeSource};
+use wakeup_source::{CallBy, MOST_ENTRIES, SourceFault, WakeSource};
 
 /// What a whole run gives.
 #[derive(Drop)]
@@ -81,7 +82,7 @@ pub(crate) struct Run<'m> {
     /// The sources' entries, each behind as many of the core's journal as it says.
     pub(crate) others: Vec<OtherEntry>,
     /// The wakeup sources, `autosleep` last.
-    pub(crate) sources: Vec<WakeSource<60000>>,
+    pub(crate) sources: Vec<WakeSource<MOST_ENTRIES>>,
     pub(crate) jobs: Jobs<'m>,
     /// The last stamp that anybody made.
     pub(crate) floor: Stamp,
@@ -112,7 +113,7 @@ pub(crate) fn wait_unless<R: Wait>(rt: &R, holds: bool)
 }
 
 /// So many sources, none of which was ever called.
-fn sources_of(alloc: Global, many: u32) -> Result<Vec<WakeSource<60000>>, AllocError>
+fn sources_of(alloc: Global, many: u32) -> Result<Vec<WakeSource<MOST_ENTRIES>>, AllocError>
     ensures { IfOk result (λ v. v.items ≡ first_sources many) }
 {
     let mut sources = Vec::with_capacity(alloc, many as usize)?;
@@ -123,7 +124,10 @@ fn sources_of(alloc: Global, many: u32) -> Result<Vec<WakeSource<60000>>, AllocE
 }
 
 /// The sources of a machine, `autosleep` last, none of which was ever called.
-fn all_sources(alloc: Global, machine: &Machine) -> Result<Vec<WakeSource<60000>>, AllocError>
+fn all_sources(
+    alloc: Global,
+    machine: &Machine,
+) -> Result<Vec<WakeSource<MOST_ENTRIES>>, AllocError>
     requires { IsAccepted machine.now }
     ensures { IfOk result (λ v. v.items ≡ first_sources (length machine.now.sources + 1)) }
 {
@@ -158,12 +162,12 @@ fn waiting_for<'a>(core: &'a Core<'_>, phase: Phase, device: u32) -> &'a [u32] {
     }
 }
 
-/// Those of these devices are asked that are scheduled in that phase and wait for none.
+/// Wakes those of these devices that are scheduled in that phase and wait for none.
 #[inline(never)]
-fn stir_ready(core: &Core<'_>, waiters: &mut Waiters, phase: Phase, devices: &[u32]) {
+fn wake_ready(core: &Core<'_>, waiters: &mut Waiters, phase: Phase, devices: &[u32]) {
     for device in devices {
         if core.is_ready(phase, *device) {
-            waiters.stir_device(*device);
+            waiters.wake_device(*device);
         }
     }
 }
@@ -188,7 +192,7 @@ impl<'m> Run<'m> {
     fn of_parts(
         machine: &'m Machine,
         core: Core<'m>,
-        sources: Vec<WakeSource<60000>>,
+        sources: Vec<WakeSource<MOST_ENTRIES>>,
         jobs: Jobs<'m>,
         waiters: Waiters,
         others: Vec<OtherEntry>,
@@ -251,6 +255,8 @@ impl<'m> Run<'m> {
             floor: self.floor,
             now: self.core.time(),
         };
+        moments_are_ranged(by.now);
+        calls_are_ranged(source, call);
         let before = self.core.len();
         let one = &mut self.sources[source as usize];
         let others = &mut self.others;
@@ -258,7 +264,7 @@ impl<'m> Run<'m> {
             Ok(stamp) => {
                 self.floor = stamp;
                 self.jobs.told_call(who, stamp);
-                self.waiters.stir_word();
+                self.waiters.wake_for_word();
                 Ok(())
             }
             Err(fault) => Err(fault_of(fault, source)),
@@ -278,6 +284,7 @@ impl<'m> Run<'m> {
             floor: self.floor,
             now: self.core.time(),
         };
+        moments_are_ranged(by.now);
         let before = self.core.len();
         let one = &mut self.sources[source as usize];
         let others = &mut self.others;
@@ -285,42 +292,42 @@ impl<'m> Run<'m> {
         match make_whole(rt, one, &mut self.events, others, before, by, call) {
             Ok(stamp) => {
                 self.floor = stamp;
-                self.waiters.stir_word();
+                self.waiters.wake_for_word();
                 Ok(())
             }
             Err(fault) => Err(fault_of(fault, source)),
         }
     }
 
-    /// A device is through with that phase: it has nothing to do, and those may that waited for it.
+    /// Wakes those that waited for a device, which is through with that phase and has nothing to do itself.
     #[inline(always)]
-    fn heed_end(&mut self, phase: Phase, device: u32)
+    fn wake_after_end(&mut self, phase: Phase, device: u32)
         ensures { self.new ≡ self.old }
     {
-        self.waiters.stir_maker(device);
+        self.waiters.wake_maker(device);
         if !self.waiters.are_in_step() {
             self.waiters.device_waits(device);
             let waiting = waiting_for(&self.core, phase, device);
-            stir_ready(&self.core, &mut self.waiters, phase, waiting);
+            wake_ready(&self.core, &mut self.waiters, phase, waiting);
         }
     }
 
-    /// After an entry: who may have something to do by it.
+    /// Wakes those that may have something to do by an entry.
     #[inline(always)]
-    fn heed(&mut self, kind: Kind)
+    fn wake_after(&mut self, kind: Kind)
         ensures { self.new ≡ self.old }
     {
         match kind {
             Kind::Schedule(phase, device) => {
-                stir_ready(&self.core, &mut self.waiters, phase, &[device]);
+                wake_ready(&self.core, &mut self.waiters, phase, &[device]);
             }
             Kind::End(phase, device, _) | Kind::Skip(phase, device, _) => {
-                self.heed_end(phase, device);
+                self.wake_after_end(phase, device);
             }
-            Kind::Post(_) => self.waiters.stir_marks(),
-            Kind::Over { .. } | Kind::AutoDone | Kind::AutoOff => self.waiters.stir_lock(),
-            Kind::Freeze(_) | Kind::Thaw(_) | Kind::Wake { .. } => self.waiters.stir_scripts(),
-            Kind::Frozen | Kind::Exit => self.waiters.stir_word(),
+            Kind::Post(_) => self.waiters.wake_for_mark(),
+            Kind::Over { .. } | Kind::AutoDone | Kind::AutoOff => self.waiters.wake_for_lock(),
+            Kind::Freeze(_) | Kind::Thaw(_) | Kind::Wake { .. } => self.waiters.wake_scripts(),
+            Kind::Frozen | Kind::Exit => self.waiters.wake_for_word(),
             _ => {}
         }
     }
@@ -346,9 +353,12 @@ impl<'m> Run<'m> {
                 kind,
                 attempt,
             } => {
+                // What the fields are makes known here that their numbers are in range.
+                moments_are_ranged(time);
+                kinds_are_ranged(kind);
                 self.floor = stamp;
                 self.jobs.told_turn(who, stamp, kind, attempt);
-                self.heed(kind);
+                self.wake_after(kind);
                 Ok(Tried::Made)
             }
             CoreTurn::NotYet(why) => Ok(Tried::Waits(why)),

@@ -6,7 +6,7 @@ use sleep_model::{Actor, Device, DeviceFlags, Why};
 use std::alloc::Global;
 
 /// Who may have something to do, and so is asked in a round: scripts, the autosleep work, asynchronous
-/// devices, timers. Whoever waits is asked again once something may have ended the wait: an entry, a step of
+/// devices, timers. Whoever waits is woken, and so asked again, once something may have ended the wait: an entry, a step of
 /// the event word, a jump of time. None of this is part of what is promised: whoever was left out is found
 /// before time jumps.
 #[derive(Drop)]
@@ -166,22 +166,22 @@ impl Waiters {
         self.asynchronous.is_empty()
     }
 
-    /// An asynchronous device may have something to do.
-    pub(crate) fn stir_device(&mut self, device: u32) {
+    /// Wakes an asynchronous device, which may have something to do.
+    pub(crate) fn wake_device(&mut self, device: u32) {
         self.devices.insert(device);
     }
 
-    /// A device is through with a phase, for which the maker of an attempt may wait.
+    /// Wakes the maker of an attempt, where it waits for that device, which is through with a phase.
     #[inline(always)]
-    pub(crate) fn stir_maker(&mut self, device: u32) {
+    pub(crate) fn wake_maker(&mut self, device: u32) {
         if self.awaited == Some(device) {
-            self.stir_any_maker();
+            self.wake_any_maker();
         }
     }
 
-    /// The maker of an attempt may go on.
+    /// Wakes the maker of an attempt that waits for a device.
     #[inline(never)]
-    fn stir_any_maker(&mut self) {
+    fn wake_any_maker(&mut self) {
         if let Some(script) = self.maker {
             self.scripts.insert(script);
         }
@@ -190,57 +190,58 @@ impl Waiters {
         self.maker = None;
     }
 
-    /// The word made a step, or a task has come further.
+    /// Wakes those that wait for the word, which made a step, or for a task, which has come further.
     #[inline(never)]
-    pub(crate) fn stir_word(&mut self) {
+    pub(crate) fn wake_for_word(&mut self) {
         self.scripts.take(&mut self.for_word);
         self.auto = true;
     }
 
-    /// A mark was raised.
+    /// Wakes those that wait for a mark, since one was raised.
     #[inline(never)]
-    pub(crate) fn stir_marks(&mut self) {
+    pub(crate) fn wake_for_mark(&mut self) {
         self.scripts.take(&mut self.for_mark);
     }
 
-    /// The autosleep lock was let go, or the work is queued.
+    /// Wakes those that wait for the autosleep lock, which was let go, and the work, which may be queued.
     #[inline(never)]
-    pub(crate) fn stir_lock(&mut self) {
+    pub(crate) fn wake_for_lock(&mut self) {
         self.scripts.take(&mut self.for_lock);
         self.auto = true;
     }
 
-    /// Scripts that wait, but for those that sleep or are frozen.
-    fn stir_awake(&mut self) {
-        self.stir_word();
-        self.stir_marks();
-        self.stir_lock();
-        self.stir_any_maker();
+    /// Wakes the scripts that wait, but for those that sleep or are frozen.
+    fn wake_but_sleepers(&mut self) {
+        self.wake_for_word();
+        self.wake_for_mark();
+        self.wake_for_lock();
+        self.wake_any_maker();
     }
 
-    /// Whatever may have ended: tasks are asked to freeze or let go, the machine wakes.
+    /// Wakes all scripts: tasks are asked to freeze or let go, or the machine wakes.
     #[inline(never)]
-    pub(crate) fn stir_scripts(&mut self) {
-        self.stir_awake();
+    pub(crate) fn wake_scripts(&mut self) {
+        self.wake_but_sleepers();
         self.scripts.take(&mut self.asleep);
         self.scripts.take(&mut self.frozen);
     }
 
-    /// A script's sleep has come to its end.
-    pub(crate) fn stir_slept(&mut self, script: u32) {
+    /// Wakes a script whose sleep has come to its end.
+    pub(crate) fn wake_sleeper(&mut self, script: u32) {
         self.asleep.remove(script);
         self.scripts.insert(script);
     }
 
-    /// Time has jumped. Devices wait for no moment, nor do frozen scripts; those that sleep are told one by one.
-    pub(crate) fn stir_time(&mut self) {
-        self.stir_awake();
+    /// Wakes whoever may wait for a moment, since time has jumped. Devices wait for none, nor do frozen scripts; those that
+    /// sleep are woken one by one.
+    pub(crate) fn wake_for_time(&mut self) {
+        self.wake_but_sleepers();
         self.timers = true;
     }
 
-    /// Everybody is to be asked.
-    pub(crate) fn stir_all(&mut self) {
-        self.stir_scripts();
+    /// Wakes everybody.
+    pub(crate) fn wake_all(&mut self) {
+        self.wake_scripts();
         self.timers = true;
         self.devices.add(&self.asynchronous);
     }

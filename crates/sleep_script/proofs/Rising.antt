@@ -58,7 +58,7 @@ module _ (ps : List (Option ℕ)) (after : EachAfterParent 0 ps) (links : List L
       by_place (inl n) = child_after d 0 ps after x n
       by_place (inr n) = consumer_after d links rising x n
 
-  -- what hangs below a device is not less
+  -- what depends on a device is not less
   moved_after : (n d x : ℕ) → is_among (moved n (dependents ps links) d) x ≡ true → d ≤ x
   moved_after zero d x m = by_same (or_cases (d == x) false m)
     where
@@ -73,6 +73,6 @@ module _ (ps : List (Option ℕ)) (after : EachAfterParent 0 ps) (links : List L
           flat_after (moved n (dependents ps links)) d (dependents ps links d)
           (λ c y i j. let one : d < c = depends_after d c i in let other : c ≤ y = rest c y j in omega arith) x f
 
-  -- so a lesser device does not hang below a greater one
+  -- so a lesser device does not depend on a greater one
   pub not_below : (n u v : ℕ) → u < v → is_among (moved n (dependents ps links) v) u ≡ false
   not_below n u v l = false_from_ne_true _ (λ m. let h : v ≤ u = moved_after n v u m in absurd (omega arith))

@@ -186,7 +186,7 @@ fn draw_line(alloc: Global, draws: &mut Draws) -> Result<Script, Mem>
     })
 }
 
-/// The machine of a seed with so many devices, 1 to 1,000: each hangs below an earlier one or none,
+/// The machine of a seed with so many devices, 1 to 1,000: each depends on an earlier one or none,
 /// some are async, and a few links go from lesser to greater ones. A task sleeps four times, and an
 /// interrupt line makes four events on three sources. `Mem` if there is no memory for it.
 #[tactic(auto, using(crate::proofs::Generating::accepted, crate::proofs::Generating::few_places))]

@@ -1,9 +1,11 @@
 //! What an actor that takes turns of the core knows of itself.
 
-ghost use Rattle.std.specs.Prelude.{◌≡◌, ◌<◌, ◌^◌, drop, map, slice_get};
+ghost use Rattle.std.specs.Prelude.{◌≡◌, ◌≤◌, ◌<◌, ◌^◌, Some, drop, length, map, slice_get};
 ghost use Rattle.answer_book.specs.Book.{answer_among};
 ghost use Rattle.sleep_model.specs.Answers.{answer_reports};
 ghost use Rattle.sleep_model.specs.Calls.{one_more};
+ghost use Rattle.sleep_model.specs.Places.{all_operations};
+ghost use Rattle.sleep_model.specs.Scripts.{operations};
 ghost use Rattle.script_plan.specs.CallPlans.{noted};
 ghost use Rattle.sleep_script.specs.JobFields.{own_due, planned_at};
 ghost use Rattle.sleep_script.specs.Jobs.{later, made_after, reports_among};
@@ -11,7 +13,9 @@ ghost use Rattle.sleep_script.specs.Jobs.{later, made_after, reports_among};
 use crate::kinds::{ends_turn, is_exit, is_in_walk};
 use answer_book::AnswerBook;
 use script_plan::CallPlan;
-use sleep_model::{Actor, Kind, Machine, Report, Stamp, Want, What};
+use sleep_base::Mem;
+use sleep_model::{Actor, Kind, Machine, Report, Script, Stamp, Want, What};
+use std::alloc::Global;
 use std::marker::Model;
 
 /// The reports of the callback that an entry begins in that attempt (`pm_wakeup_event` in a callback).
@@ -90,9 +94,23 @@ pub(crate) fn later(one: Stamp, other: Stamp) -> Stamp
     }
 }
 
-/// The job of an actor that takes turns of the core.
+/// The machine's script with that number.
+fn script_at<'m>(machine: &'m Machine, script: u32) -> &'m Script
+    requires few { length (all_operations machine.now.actors) ≤ 200000 }
+    requires within { script < length machine.now.actors }
+    ensures at { slice_get machine.now.actors script ≡ Some result.now }
+    ensures few { length (operations result.now) ≤ 200000 }
+{
+    let scripts: &'m [Script] = machine.actors.as_slice();
+    &scripts[script as usize]
+}
+
+/// The job of an actor that takes turns of the core: a script, the autosleep work, or an asynchronous device. It knows
+/// the calls on sources of a script's own steps, those round a good write to autosleep among them, and the reports of
+/// the callbacks that its actor runs (`drivers/base/power/main.c`, `async_suspend`; `kernel/power/autosleep.c`,
+/// `try_to_suspend`).
 #[derive(Drop)]
-pub(crate) struct Job<'m> {
+pub struct Job<'m> {
     machine: &'m Machine,
     who: Actor,
     book: &'m AnswerBook<'m>,
@@ -124,15 +142,16 @@ impl<'m> Model for Job<'m> {
 }
 
 impl<'m> Job<'m> {
-    ghost use Rattle.std.specs.Prelude.{◌≡◌, ◌+◌, ◌<◌, ◌^◌, [], drop, length, map, nat_lt, slice_get};
+    ghost use Rattle.std.specs.Prelude.{◌≡◌, ◌≤◌, ◌+◌, ◌<◌, ◌^◌, [], drop, length, map, nat_lt, slice_get, IfOk};
     ghost use Rattle.std.specs.Option.{option_map};
     ghost use Rattle.script_plan.specs.CallPlans.{noted};
     ghost use Rattle.sleep_model.specs.Calls.{calls_of_turn};
+    ghost use Rattle.sleep_model.specs.Places.{all_operations};
     ghost use Rattle.sleep_script.specs.JobFields.{IsPlanOf};
     ghost use Rattle.sleep_script.specs.Jobs.{IsWanted, first_job, after_turn, after_call, raised};
 
     /// The job of an actor before its first entry, with the plan of its own calls.
-    pub(crate) fn new(
+    fn new(
         machine: &'m Machine,
         who: Actor,
         book: &'m AnswerBook<'m>,
@@ -158,6 +177,41 @@ impl<'m> Job<'m> {
         }
     }
 
+    /// The job of the script with that number, before its first step, where `book` has the machine's answers. A machine
+    /// that a file may spell has at most 200,000 steps and 255 sources. `Mem` where there is no memory.
+    pub fn of_script(
+        alloc: Global,
+        machine: &'m Machine,
+        book: &'m AnswerBook<'m>,
+        script: u32,
+    ) -> Result<Self, Mem>
+        requires book { book.now ≡ machine.now.answers }
+        requires script { script < length machine.now.actors }
+        requires few { length (all_operations machine.now.actors) ≤ 200000 }
+        requires sources { length machine.now.sources ≤ 255 }
+        ensures { IfOk result (λ j. j ≡ first_job machine.now (Actor.Script script)) }
+    {
+        let autosleep = machine.sources.len() as u32;
+        let plan = CallPlan::new(alloc, script_at(machine, script), autosleep)?;
+        Ok(Job::new(machine, Actor::Script(script), book, Some(plan)))
+    }
+
+    /// The job of the machine's autosleep work, before its first run, where `book` has the machine's answers.
+    pub fn of_auto(machine: &'m Machine, book: &'m AnswerBook<'m>) -> Self
+        requires { book.now ≡ machine.now.answers }
+        ensures { result ≡ first_job machine.now Actor.Auto }
+    {
+        Job::new(machine, Actor::Auto, book, None)
+    }
+
+    /// The job of the device with that number, before its first callback, where `book` has the machine's answers.
+    pub fn of_device(machine: &'m Machine, book: &'m AnswerBook<'m>, device: u32) -> Self
+        requires { book.now ≡ machine.now.answers }
+        ensures { result ≡ first_job machine.now (Actor.Dev device) }
+    {
+        Job::new(machine, Actor::Dev(device), book, None)
+    }
+
     /// The calls of its own steps right before its next turn.
     fn own_calls(&self) -> &[Report]
         ensures { map noted result.now ≡ calls_of_turn self.now.machine self.now.who self.now.turns }
@@ -178,8 +232,8 @@ impl<'m> Job<'m> {
         }
     }
 
-    /// What its actor does next.
-    pub(crate) fn next(&self) -> Want
+    /// What its actor does next: the call on a source that is next, else a turn of the core. `Nothing` once it has exited.
+    pub fn next(&self) -> Want
         ensures { IsWanted self.now result }
     {
         match self.next_call() {
@@ -206,9 +260,9 @@ impl<'m> Job<'m> {
         self.exited = is_exit(kind) | self.exited;
     }
 
-    /// Its actor made an entry of the journal.
+    /// Its actor made an entry of the journal, with that stamp, where `attempt` attempts were begun.
     #[inline(always)]
-    pub(crate) fn told_turn(&mut self, stamp: Stamp, kind: Kind, attempt: u32)
+    pub fn told_turn(&mut self, stamp: Stamp, kind: Kind, attempt: u32)
         requires made { self.old.pending ≡ [] }
         requires few { self.old.turns < 2 ^ 63 }
         ensures { self.new ≡ after_turn stamp kind attempt self.old }
@@ -235,8 +289,8 @@ impl<'m> Job<'m> {
         }
     }
 
-    /// Its actor made the call that was next.
-    pub(crate) fn told_source(&mut self, stamp: Stamp)
+    /// Its actor made the call that was next, and knows that stamp.
+    pub fn told_source(&mut self, stamp: Stamp)
         requires left { 0 < length self.old.pending }
         requires few { self.old.calls + 1 < 2 ^ 32 }
         ensures { self.new ≡ after_call stamp self.old }
@@ -246,30 +300,30 @@ impl<'m> Job<'m> {
         self.floor = stamp;
     }
 
-    /// What its actor last knew.
-    pub(crate) fn floor(&self) -> Stamp
+    /// The stamp that its actor last knew.
+    pub fn floor(&self) -> Stamp
         ensures { result ≡ self.now.floor }
     {
         self.floor
     }
 
-    /// Its actor knows at least that.
-    pub(crate) fn raise(&mut self, floor: Stamp)
+    /// Its actor knows at least that stamp.
+    pub fn raise(&mut self, floor: Stamp)
         ensures { self.new ≡ raised floor self.old }
     {
         self.floor = later(floor, self.floor);
     }
 
-    /// Whether its actor has a call to make before its next entry of the journal.
+    /// Whether its actor has a call on a source to make before its next entry of the journal.
     #[inline(always)]
-    pub(crate) fn owes(&self) -> bool
+    pub fn owes(&self) -> bool
         ensures { result ≡ nat_lt 0 (length self.now.pending) }
     {
         self.due > 0
     }
 
     /// How many calls on sources its actor has made.
-    pub(crate) fn calls(&self) -> u32
+    pub fn calls(&self) -> u32
         ensures { result ≡ self.now.calls }
     {
         self.calls

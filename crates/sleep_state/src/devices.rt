@@ -42,7 +42,7 @@ impl Model for Devices {
 }
 
 /// Whether that actor is an asynchronous device.
-fn is_device(who: Actor) -> bool
+pub fn is_device(who: Actor) -> bool
     ensures { result ≡ is_device who }
 {
     matches!(who, Actor::Dev(_))
@@ -78,7 +78,7 @@ fn error_of(r: i32, before: Option<Errno>) -> Option<Errno>
     }
 }
 
-/// Suspend has left a device alone, after a skip.
+/// Whether a device was direct-complete in suspend, after a skip.
 fn direct_disables(phase: Phase, cause: SkipCause, before: bool) -> bool
     ensures { result ≡ direct_disables phase cause before }
 {
@@ -88,7 +88,7 @@ fn direct_disables(phase: Phase, cause: SkipCause, before: bool) -> bool
     }
 }
 
-/// It has left none alone any more, after resume.
+/// None is any more, after resume.
 fn direct_disables_until(phase: Phase, before: bool) -> bool
     ensures { result ≡ direct_disables_until phase before }
 {
@@ -98,7 +98,7 @@ fn direct_disables_until(phase: Phase, before: bool) -> bool
     }
 }
 
-/// Late has taken a device, after a begin or a skip.
+/// Whether late has taken a device, after a begin or a skip.
 fn late_disables(phase: Phase, before: bool) -> bool
     ensures { result ≡ late_disables phase before }
 {
@@ -296,7 +296,7 @@ impl Devices {
         &self.statuses
     }
 
-    /// Whether suspend has left a device alone, and resume is not done since.
+    /// Whether a device was direct-complete in suspend, and resume is not done since.
     pub fn disabled_by_direct(&self) -> bool
         ensures { result ≡ self.now.disabled_by_direct }
     {

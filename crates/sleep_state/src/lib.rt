@@ -7,7 +7,7 @@ mod path;
 mod seats;
 mod tasks;
 
-pub use devices::Devices;
+pub use devices::{Devices, is_device};
 pub use moments::sooner;
 pub use path::{Path, behind, busy_error};
 pub use tasks::Tasks;

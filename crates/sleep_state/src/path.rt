@@ -2,7 +2,7 @@ ghost use Rattle.std.specs.Prelude.{◌≡◌, ◌<◌, ◌^◌};
 ghost use Rattle.sleep_model.specs.Path.{attempts_after, maker_after};
 ghost use Rattle.sleep_model.specs.Attempt.{freeze_since_after, sleep_after, failed_after, freeze_error, busy_error};
 ghost use Rattle.sleep_model.specs.Walk.{or_else};
-ghost use Rattle.sleep_model.specs.Table.{stage_after, behind, behind_down, behind_up, behind_platform_down, failed_platform_down, behind_platform_up, behind_freeze, failed_freeze, by_froze, behind_thaw, after_done, by_error, by_case};
+ghost use Rattle.sleep_model.specs.Table.{stage_after, behind, behind_down, behind_up, behind_platform_down, failed_platform_down, behind_platform_up, behind_freeze, failed_freeze, by_froze, behind_thaw, after_done, failed_phase, by_error, by_case};
 
 use sleep_base::Errno;
 use sleep_model::{Actor, FrozeEnd, Group, Kind, Phase, PlatDo, PlatUndo, Sleep, Stage, Thaw};
@@ -99,27 +99,6 @@ fn behind_thaw(those: Thaw) -> Stage
     }
 }
 
-/// The stage behind a phase that is done.
-fn after_done(phase: Phase, r: Option<Errno>) -> Stage
-    ensures { result ≡ after_done phase r }
-{
-    match (phase, r) {
-        (Phase::Prepare, None) => Stage::Downs(Phase::Suspend),
-        (Phase::Suspend, None) => Stage::PlatformDown(PlatDo::Prepare),
-        (Phase::Late, None) => Stage::Downs(Phase::Noirq),
-        (Phase::Noirq, None) => Stage::PlatformDown(PlatDo::PrepareLate),
-        (Phase::Prepare | Phase::Suspend, Some(_)) => Stage::PlatformUp(PlatUndo::Recover),
-        (Phase::Late, Some(_)) => Stage::Ups(Phase::Early),
-        (Phase::Noirq, Some(_)) => Stage::Ups(Phase::ResumeNoirq),
-        (Phase::Syscore, _) => Stage::Enters,
-        (Phase::SyscoreResume, _) => Stage::StartsIrqs,
-        (Phase::ResumeNoirq, _) => Stage::Ups(Phase::Early),
-        (Phase::Early, _) => Stage::PlatformUp(PlatUndo::Finish),
-        (Phase::Resume, _) => Stage::Completes,
-        (Phase::Complete, _) => Stage::PlatformUp(PlatUndo::End),
-    }
-}
-
 /// The first where there is no error, else the second.
 fn by_error(r: Option<Errno>, good: Stage, failed: Stage) -> Stage
     ensures { result ≡ by_error r good failed }
@@ -156,6 +135,34 @@ fn behind_up(phase: Phase) -> Stage
         Phase::ResumeNoirq => Stage::Ups(Phase::Early),
         Phase::Early => Stage::PlatformUp(PlatUndo::Finish),
         _ => Stage::Completes,
+    }
+}
+
+/// The stage behind a phase that failed: a failed prepare or suspend tells the platform first
+/// (`suspend_devices_and_enter`, `Recover_platform`).
+fn failed_phase(phase: Phase) -> Stage
+    ensures { result ≡ failed_phase phase }
+{
+    match phase {
+        Phase::Late => Stage::Ups(Phase::Early),
+        Phase::Noirq => Stage::Ups(Phase::ResumeNoirq),
+        _ => Stage::PlatformUp(PlatUndo::Recover),
+    }
+}
+
+/// The stage behind a phase that is done.
+fn after_done(phase: Phase, r: Option<Errno>) -> Stage
+    ensures { result ≡ after_done phase r }
+{
+    match phase {
+        Phase::Prepare => by_error(r, Stage::Downs(Phase::Suspend), failed_phase(phase)),
+        Phase::Suspend | Phase::Late | Phase::Noirq => {
+            by_error(r, behind_down(phase), failed_phase(phase))
+        }
+        Phase::Syscore => Stage::Enters,
+        Phase::SyscoreResume => Stage::StartsIrqs,
+        Phase::ResumeNoirq | Phase::Early | Phase::Resume => behind_up(phase),
+        Phase::Complete => Stage::PlatformUp(PlatUndo::End),
     }
 }
 
@@ -329,22 +336,6 @@ impl Path {
 
     /// What an entry of that actor does, made at that position of the word and that time in ms.
     pub fn note(&mut self, kind: Kind, who: Actor, pos: u64, time: u64)
-        requires { attempts_after kind self.old.attempts < 2 ^ 32 }
-        ensures { self.new ≡ path_after kind who pos time self.old }
-    {
-        match kind {
-            Kind::Prepare { .. }
-            | Kind::Complete(_)
-            | Kind::Schedule(..)
-            | Kind::Begin(..)
-            | Kind::End(..)
-            | Kind::Skip(..) => {}
-            _ => self.go_on(kind, who, pos, time),
-        }
-    }
-
-    /// What an entry of that actor does, which need not be of a device.
-    fn go_on(&mut self, kind: Kind, who: Actor, pos: u64, time: u64)
         requires { attempts_after kind self.old.attempts < 2 ^ 32 }
         ensures { self.new ≡ path_after kind who pos time self.old }
     {

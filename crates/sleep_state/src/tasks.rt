@@ -150,42 +150,7 @@ impl Tasks {
     }
 
     /// What an entry of that actor does to the tasks.
-    #[tactic(auto, using(crate::proofs::Staying::seats_stay))]
     pub fn note(&mut self, who: Actor, kind: Kind)
-        requires seat { SeatIsSmall who self.old.seats }
-        requires marks { MarksAreSmall kind self.old.marks }
-        ensures { self.new ≡ tasks_after who kind self.old }
-    {
-        match kind {
-            Kind::Prepare { .. }
-            | Kind::Complete(_)
-            | Kind::Schedule(..)
-            | Kind::Begin(..)
-            | Kind::End(..)
-            | Kind::Skip(..)
-            | Kind::Done(..)
-            | Kind::NotifyPrepare(..)
-            | Kind::NotifyPost(_)
-            | Kind::Freeze(_)
-            | Kind::Froze(..)
-            | Kind::Thaw(_)
-            | Kind::PlatformDo(..)
-            | Kind::PlatformUndo(_)
-            | Kind::CpuOff(_)
-            | Kind::CpuOn(_)
-            | Kind::Irqs { .. }
-            | Kind::SyscoreCheck(_)
-            | Kind::SyscoreSuspend(..)
-            | Kind::SyscoreResume(_)
-            | Kind::Enter { .. }
-            | Kind::Wake { .. }
-            | Kind::Clear => {}
-            _ => self.go_on(who, kind),
-        }
-    }
-
-    /// What an entry of that actor does to the tasks, which need not be one of an attempt's steps.
-    fn go_on(&mut self, who: Actor, kind: Kind)
         requires seat { SeatIsSmall who self.old.seats }
         requires marks { MarksAreSmall kind self.old.marks }
         ensures { self.new ≡ tasks_after who kind self.old }

@@ -4,8 +4,6 @@
 
 mod count;
 mod state;
-#[cfg(test)]
-mod tests;
 mod texts;
 
 pub use count::{read_count, saved_number, visible, write_count};

@@ -40,7 +40,8 @@ pub fn is_autosleep_text(text: &[u8]) -> bool
     is_mem(text) || is_off(text)
 }
 
-/// The state that a text written to autosleep names. EINVAL for any other text (`autosleep_store`).
+/// The state that a text written to autosleep names. EINVAL for any other text (`autosleep_store`). It is for a caller that
+/// takes such a text without a core, which asks `write_autosleep`.
 pub fn decode_state(text: &[u8]) -> Result<State, Errno>
     ensures { result ≡ decoded text.now }
 {

@@ -3,7 +3,5 @@
 #![tactic(auto)]
 
 mod syscore;
-#[cfg(test)]
-mod tests;
 
 pub use syscore::Syscore;

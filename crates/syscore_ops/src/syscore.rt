@@ -64,7 +64,8 @@ impl Syscore {
         first_set(&self.suspended, self.n)
     }
 
-    /// The entry of the part that is suspended next, which answers `r` (`syscore_suspend`).
+    /// The entry of the part that is suspended next, which answers `r` (`syscore_suspend`). It is for a caller that keeps
+    /// these parts alone: the core decides by `next`, and tells them of the entry by `note`.
     pub fn suspend_turn(&mut self, r: Option<Errno>) -> Kind
         requires { IsSome (next_suspended self.old) }
         ensures kind { suspend_entry r self.old ≡ Some result }
@@ -81,7 +82,7 @@ impl Syscore {
     }
 
     /// The entry of the part that is resumed next. None exactly where none is suspended
-    /// (`syscore_resume`).
+    /// (`syscore_resume`). It is for the same callers as `suspend_turn`.
     pub fn resume_turn(&mut self) -> Option<Kind>
         ensures kind { result ≡ resume_entry self.old }
         ensures after { self.new ≡ parts_after_any result self.old }

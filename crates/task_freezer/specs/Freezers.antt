@@ -8,6 +8,7 @@ use Rattle.sleep_model.specs.declared.entry.Kind.TheVariants as kind
 use Rattle.sleep_model.specs.declared.machine.Script.{Script}
 use Rattle.sleep_model.specs.declared.machine.TaskKind.{TaskKind}
 use Rattle.sleep_model.specs.declared.place.Freezing.{Freezing}
+use Rattle.sleep_model.specs.Attempt.{gives_up_at}
 use Rattle.sleep_model.specs.Freezer.{unasked, is_in, freezings_after}
 use Rattle.task_freezer.specs.declared.freezer.Round.{Round}
 use Rattle.task_freezer.specs.declared.freezer.Round.TheVariants as round
@@ -93,4 +94,4 @@ first_from (Some x) tasks = Some x
 abbrev pub round_of : ℕ → ℕ → List ℕ → Round
 round_of since time [] = round.AllFrozen
 round_of since time (x ∷ rest) =
-    if nat_le (since + 20000) time then round.Late (length (x ∷ rest)) x else round.Again (length (x ∷ rest)) (since + 20000)
+    if nat_le (gives_up_at since) time then round.Late (length (x ∷ rest)) x else round.Again (length (x ∷ rest)) (gives_up_at since)

@@ -1,9 +1,23 @@
+ghost use Rattle.std.specs.Prelude.{◌≡◌, ◌≤◌, ◌^◌};
+ghost use Rattle.sleep_model.specs.Attempt.{gives_up_at};
+
 use crate::asking::{move_freezings, move_gone, unasked};
 use crate::left::{Left, LeftCounts, counts_after, left_among, waits_among};
 use sleep_base::Mem;
 use sleep_model::{Actor, Freezing, Group, Kind, Script};
 use std::alloc::Global;
 use std::marker::Model;
+
+/// How long a freeze waits for its tasks, in ms (`freeze_timeout_msecs`).
+const FREEZE_TIMEOUT_MSECS: u64 = 20_000;
+
+/// When a freeze gives up that goes on since that moment, in ms (`try_to_freeze_tasks`).
+pub fn gives_up_at(since: u64) -> u64
+    requires { since ≤ 2 ^ 63 }
+    ensures { result ≡ gives_up_at since }
+{
+    since + FREEZE_TIMEOUT_MSECS
+}
 
 /// How a freeze stands at a moment (`try_to_freeze_tasks`).
 #[derive(Clone, Copy)]
@@ -100,7 +114,7 @@ impl<'m> Freezer<'m> {
 
     /// How many tasks a freeze of the group still waits for (`try_to_freeze_tasks`, `todo`). It is
     /// counted already.
-    pub fn left_count(&self, group: Group) -> u32
+    fn left_count(&self, group: Group) -> u32
         ensures { result ≡ length (left_of group self.now) }
     {
         self.left.of(group)
@@ -124,7 +138,7 @@ impl<'m> Freezer<'m> {
         if left == 0 {
             return Round::AllFrozen;
         }
-        let until = since + 20000;
+        let until = gives_up_at(since);
         if time < until {
             return Round::Again { left, until };
         }

@@ -5,8 +5,6 @@
 mod asking;
 mod freezer;
 mod left;
-#[cfg(test)]
-mod tests;
 
-pub use freezer::{Freezer, Round};
+pub use freezer::{Freezer, Round, gives_up_at};
 pub use left::Left;

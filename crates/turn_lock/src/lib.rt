@@ -1,5 +1,5 @@
-//! One table of locks for several objects, whose passes know what they made. Threads share the `desk` of a `LockTable`;
-//! its own seat, which is needed to close it, stays with its owner.
+//! Locks in one table, one an object. A pass remembers each entry that it added to an object. Threads share the `desk` of a
+//! `LockTable`; the table's own seat stays with its owner, who needs it to close the table.
 #![tactic(auto)]
 
 mod booked;

@@ -1,7 +1,7 @@
 //! What a seat at the table knows.
 use std::collections::LinkedList;
 
-/// An entry that a pass made: the object, the place in the object's list, and the entry.
+/// An entry that a pass made, with its object and where it stands in that object's list.
 #[derive(Drop)]
 pub struct Made<I> {
     pub object: u64,

@@ -74,7 +74,8 @@ impl<const BITS: u32> Guard<BITS> {
         self.has_changed(now) || now.hard > self.forgotten
     }
 
-    /// Forgets the hard events so far (`pm_wakeup_clear`).
+    /// Forgets the hard events so far (`pm_wakeup_clear`). It is for a caller that keeps a guard without a journal: the
+    /// core tells a guard of entries by `note`.
     pub fn clear_hard(&mut self, now: EventNow)
         ensures { self.new ≡ record self.old { forgotten = now.hard } }
     {

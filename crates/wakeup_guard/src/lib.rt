@@ -4,7 +4,5 @@
 
 mod guard;
 pub mod laws;
-#[cfg(test)]
-mod tests;
 
 pub use guard::Guard;

@@ -11,11 +11,12 @@ use Rattle.sleep_model.specs.declared.word.Stamp.{Stamp}
 use Rattle.sleep_model.specs.declared.word.WordKind.{WordKind}
 use Rattle.sleep_model.specs.declared.word.WordKind.TheVariants as step
 use Rattle.sleep_model.specs.Sources.{makes, since, starting, owed, behind_first, caller, most_entries, IsNext}
+use Rattle.sleep_model.specs.Merge.{of_source, step_number}
 use Rattle.sleep_model.specs.Word.{position}
 use Rattle.wakeup_source.specs.declared.call_by.CallBy.{CallBy}
 use Rattle.wakeup_source.specs.Called.{Scene, Notes, Steps, Calls, after_note}
 use Rattle.wakeup_source.specs.Called as called
-use Rattle.wakeup_source.specs.SourceStates.{bare, latest, note_entry, step_entry, AreBelow, AreInOrder, IsOwnHistory, IsSettled}
+use Rattle.wakeup_source.specs.SourceStates.{bare, latest, note_entry, note_tick, step_entry, AreBelow, AreInOrder, IsOwnHistory, IsSettled}
 use Rattle.wakeup_source.specs.Told.{MayCall}
 
 -- between a call's note and its last step: these steps are owed to that caller
@@ -52,12 +53,22 @@ step_legal step.Start s who time before own h n c = (same s, (n, c), h)
 step_legal step.Finish s who time before own h n c = (same s, (n, c), h)
 step_legal step.Hard s who time before own h n c = (same s, (n, c), h)
 
+-- behind a step the position is one more
+step_moves : (made : WordKind) (s : ℕ) (who : Actor) (time : ℕ) (before : EventNow) (stamp : Stamp) → step_number (of_source (record { stamp = stamp; entry = step_entry s made who time before })) ≡ 1
+step_moves step.Start s who time before stamp = refl
+step_moves step.Finish s who time before stamp = refl
+step_moves step.Hard s who time before stamp = refl
+
 inside_step : (by : CallBy) (made : WordKind) (rest : List WordKind) (before : EventNow) (s : Scene) → IsInside by (made ∷ rest) s → s.floor ≤ position before → IsInside by rest (called.after_step by made before s)
 inside_step by made rest before s h l = record {
   owes = step_owed made s.source.id by.actor by.now before (bare s.source.past) ∙ ap behind_first h.owes;
   calls = step_caller made s.source.id by.actor by.now before (bare s.source.past) ∙ h.calls;
   legal = step_legal made s.source.id by.actor by.now before (bare s.source.past) h.legal (subst (IsNext made) (sym h.owes) refl) h.calls;
-  in_order = (omega arith, omega arith, above s.source.floor _ s.source.past h.in_order (omega (arith, l, h.floor)) (omega arith) (omega (arith, h.time)));
+  in_order = (
+    omega (arith, step_moves made s.source.id by.actor by.now before (record { pos = position before; tick = s.source.floor.tick + 1 })),
+    omega arith,
+    above s.source.floor _ s.source.past h.in_order (omega (arith, l, h.floor)) (omega arith) (omega (arith, h.time)),
+  );
   time = refl;
   floor = omega arith;
 }
@@ -86,13 +97,24 @@ note_legal call.Relax s who time seen own h o m = (same s, o, h)
 note_legal (call.Event ms hard) s who time seen own h o m = (same s, o, h)
 note_legal call.Expire s who time seen own h o m = (same s, (o, m), h)
 
+-- behind a note it is the same
+note_stays : (made : SourceCall) (s : ℕ) (who : Actor) (time : ℕ) (seen : EventNow) (stamp : Stamp) → step_number (of_source (record { stamp = stamp; entry = note_entry s made who time seen })) ≡ 0
+note_stays call.Awake s who time seen stamp = refl
+note_stays call.Relax s who time seen stamp = refl
+note_stays (call.Event ms hard) s who time seen stamp = refl
+note_stays call.Expire s who time seen stamp = refl
+
 inside_note : (by : CallBy) (made : SourceCall) (seen : EventNow) (looked : Option (List EventNow)) (s : Scene) → IsSettled s.source → latest (bare s.source.past) ≤ by.now → MayCall made (bare s.source.past) by.now → s.source.floor.pos ≤ position seen
     → IsInside by (makes made (since (bare s.source.past))) (after_note by made seen looked s)
 inside_note by made seen looked s h t m p = record {
   owes = note_owed made s.source.id by.actor by.now seen (bare s.source.past);
   calls = note_caller made s.source.id by.actor by.now seen (bare s.source.past);
   legal = note_legal made s.source.id by.actor by.now seen (bare s.source.past) h.legal h.owes_none m;
-  in_order = (omega arith, omega arith, above s.source.floor _ s.source.past h.in_order p (omega arith) t);
+  in_order = (
+    omega (arith, note_stays made s.source.id by.actor by.now seen (record { pos = position seen; tick = note_tick by s.source })),
+    omega arith,
+    above s.source.floor _ s.source.past h.in_order p (omega arith) t,
+  );
   time = refl;
   floor = omega arith;
 }

@@ -4,6 +4,7 @@ use Rattle.sleep_model.specs.declared.entry.SourceEntry.{SourceEntry}
 use Rattle.sleep_model.specs.declared.machine.SourceCall.{SourceCall}
 use Rattle.sleep_model.specs.declared.word.EventNow.{EventNow}
 use Rattle.sleep_model.specs.declared.word.WordKind.{WordKind}
+use Rattle.sleep_model.specs.Sources.{most_entries}
 use Rattle.wakeup_source.specs.declared.call_by.CallBy.{CallBy}
 use Rattle.wakeup_source.specs.SourceStates.{SourceState, bare, latest, with_note, with_step}
 
@@ -28,7 +29,7 @@ stepped by step before kept = record { source = with_step by step before kept.so
 -- n more entries of that caller have their places, their ticks and their time (own)
 pub record IsReady (n : ℕ) (by : CallBy) (kept : Kept) : Type 0 where
   pub room : n ≤ kept.room
-  pub few : length kept.source.past + n ≤ 60000
+  pub few : length kept.source.past + n ≤ most_entries
   pub ticks : max by.floor.tick kept.source.floor.tick + n < 2 ^ 64
   pub time : latest (bare kept.source.past) ≤ by.now
   pub small : by.now ≤ 2 ^ 63

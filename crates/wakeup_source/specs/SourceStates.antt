@@ -11,6 +11,7 @@ use Rattle.sleep_model.specs.declared.word.Stamp.{Stamp}
 use Rattle.sleep_model.specs.declared.word.WordKind.{WordKind}
 use Rattle.sleep_model.specs.declared.word.WordKind.TheVariants as step
 use Rattle.sleep_model.specs.Calls.{note}
+use Rattle.sleep_model.specs.Merge.{of_source, position_behind}
 use Rattle.sleep_model.specs.Parts.{part_of}
 use Rattle.sleep_model.specs.Sources.{is_of, owed, most_entries, SourceStep}
 use Rattle.sleep_model.specs.Word.{position}
@@ -84,17 +85,17 @@ later_stamp one other = record { pos = max one.pos other.pos; tick = max one.tic
 
 -- ---- what holds of a source between calls
 
--- each entry's tick is above those before it, and no position and no time falls
+-- each entry's tick is above those before it, no position and no time falls, and a position rises behind a step
 abbrev pub AreBelow : SourceEntry → List SourceEntry → Type 0
 AreBelow newer [] = Unit {0}
 AreBelow newer (e ∷ past) =
-    (e.stamp.pos ≤ newer.stamp.pos) × (e.stamp.tick < newer.stamp.tick) × (e.entry.time ≤ newer.entry.time)
+    (position_behind (of_source e) ≤ newer.stamp.pos) × (e.stamp.tick < newer.stamp.tick) × (e.entry.time ≤ newer.entry.time)
     × AreBelow e past
 
--- the entries are in order, up to what the source last knew
+-- the entries are in order, up to what the source last knew: behind a step that is one position more
 abbrev pub AreInOrder : Stamp → List SourceEntry → Type 0
 AreInOrder floor [] = Unit {0}
-AreInOrder floor (e ∷ past) = (e.stamp.pos ≤ floor.pos) × (e.stamp.tick ≤ floor.tick) × AreBelow e past
+AreInOrder floor (e ∷ past) = (position_behind (of_source e) ≤ floor.pos) × (e.stamp.tick ≤ floor.tick) × AreBelow e past
 
 -- each entry, the newest first, is of that source and legal where it stands
 abbrev pub IsOwnHistory : ℕ → List Entry → Type 0

@@ -15,4 +15,4 @@ mod tally;
 pub use call_by::CallBy;
 pub use fault::SourceFault;
 pub use line::stats_line;
-pub use source::WakeSource;
+pub use source::{MOST_ENTRIES, WakeSource};

@@ -7,6 +7,9 @@ use std::alloc::Global;
 use std::marker::Model;
 use std::sync::Wait;
 
+/// How many entries the history of a machine's source has at most.
+pub const MOST_ENTRIES: usize = 60_000;
+
 /// A wakeup source with a history of at most `CAP` entries (`include/linux/pm_wakeup.h`,
 /// `struct wakeup_source`). Contracts see its number, its entries, the newest first, and what it last knew.
 #[derive(Drop)]
@@ -27,14 +30,14 @@ impl<const CAP: usize> Model for WakeSource<CAP> {
 impl<const CAP: usize> WakeSource<CAP> {
     ghost use Rattle.std.specs.Prelude.{◌≡◌, ◌≤◌, ◌<◌, ◌+◌, ◌^◌, ◌↔◌, true, false, Some, None, Ok, Err, length, reverse, OnOk, OnErr, IfOk, IfSome};
     ghost use Rattle.sleep_model.specs.declared.machine.SourceCall.TheVariants.{Awake, Relax, Event, Expire};
-    ghost use Rattle.sleep_model.specs.Sources.{makes, since, expiry, has_expired, stats_at};
+    ghost use Rattle.sleep_model.specs.Sources.{makes, since, expiry, has_expired, most_entries, stats_at};
     ghost use Rattle.wakeup_source.specs.Called.{scene, Calls, CanGoOnAll};
     ghost use Rattle.wakeup_source.specs.SourceStates.{new_source, bare, latest, later_stamp, IsSettled};
     ghost use Rattle.wakeup_source.specs.Told.{IsToldCall, AreOwnSteps, OnDone};
 
-    /// The source with that number, never called. `CAP` is at most 60,000.
+    /// The source with that number, never called. `CAP` is at most `MOST_ENTRIES`.
     pub fn new(alloc: Global, id: u32) -> Self
-        requires { CAP ≤ 60000 }
+        requires { CAP ≤ most_entries }
         ensures { result ≡ new_source id }
     {
         WakeSource {

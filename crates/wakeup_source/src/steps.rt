@@ -24,7 +24,7 @@ impl Book {
     ghost use Rattle.std.specs.Prelude.{◌≡◌, ◌≤◌, ◌+◌, ◌-◌, ◌<◌, ◌^◌, ◌↔◌, ◌∷◌, [], true, None, Err, length, OnOk, OnErr, if◌then◌else◌};
     ghost use Rattle.event_word.specs.Steps.{CanMake};
     ghost use Rattle.sleep_model.specs.declared.word.WordKind.TheVariants.{Start, Finish, Hard};
-    ghost use Rattle.sleep_model.specs.Sources.{since, starting};
+    ghost use Rattle.sleep_model.specs.Sources.{since, starting, most_entries};
     ghost use Rattle.wakeup_source.specs.Books.{IsReady};
     ghost use Rattle.wakeup_source.specs.Called.{scene, Notes, Steps, CanGoOnAll};
     ghost use Rattle.wakeup_source.specs.SourceStates.{bare, latest};
@@ -38,7 +38,7 @@ impl Book {
         by: CallBy,
         places: usize,
     ) -> Result<(), SourceFault>
-        requires few { places ≤ 60000 }
+        requires few { places ≤ most_entries }
         requires time { latest (bare self.old.source.past) ≤ by.now }
         requires small { by.now ≤ 2 ^ 63 }
         ensures source { self.new.source ≡ self.old.source }

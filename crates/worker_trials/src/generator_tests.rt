@@ -24,7 +24,7 @@ fn asyncs(alloc: Global, machine: &Machine) -> Result<Vec<usize>, Fail> {
     Ok(asyncs)
 }
 
-/// How many devices hang below no other.
+/// How many devices depend on no other.
 fn roots(machine: &Machine) -> u64 {
     let mut roots = 0u64;
     for device in machine.devices.as_slice() {
@@ -70,7 +70,7 @@ fn one_device_is_generated(rt: HostRuntime) -> Result<(), Fail> {
     )
 }
 
-/// One device that hangs below none, and no link.
+/// One device that depends on none, and no link.
 fn assert_one_device(rt: &impl Abort, machine: &Machine) {
     assert!(rt; matches!(machine.devices.as_slice(), [Device { parent: None, .. }]));
     assert_eq!(rt; machine.links.len(), 0);
@@ -122,8 +122,8 @@ fn assert_names(rt: &impl Abort, devices: &[Device], sources: &[Name]) -> Result
     Ok(())
 }
 
-/// What the devices of a small machine hang below.
-const HANG: [Option<u32>; 20] = [
+/// What the devices of a small machine depend on.
+const PARENTS: [Option<u32>; 20] = [
     None,
     None,
     Some(1),
@@ -179,9 +179,9 @@ fn twenty_devices_are_generated(rt: HostRuntime) -> Result<(), Fail> {
     )
 }
 
-/// What its devices hang below, and which are async.
+/// What its devices depend on, and which are async.
 fn assert_twenty(rt: &impl Abort, alloc: Global, machine: &Machine) -> Result<(), Fail> {
-    assert_eq!(rt; parents(alloc, machine)?.as_slice(), HANG.as_slice());
+    assert_eq!(rt; parents(alloc, machine)?.as_slice(), PARENTS.as_slice());
     let asynchronous = [0, 1, 3, 4, 6, 7, 10, 13, 16, 17, 19];
     assert_eq!(rt; asyncs(alloc, machine)?.as_slice(), asynchronous.as_slice());
     Ok(())

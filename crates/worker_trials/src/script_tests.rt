@@ -7,7 +7,7 @@ use sleep_model::{
     Answer, Kind, ListOf, Machine, Name, Op, Phase, Report, Script, SourceCall, Stamp, State, Step,
     TaskKind, Text, Want, What,
 };
-use sleep_script::{AutoJob, DeviceJob, ScriptJob, TimerJob};
+use sleep_script::{Job, TimerJob};
 use std::alloc::Global;
 use std::test::Fail;
 
@@ -96,7 +96,7 @@ fn is_made(alloc: Global, machine: &Machine, trial: Trial) -> Result<bool, Fail>
     requires sources { length machine.now.sources ≡ 1 }
 {
     let book = AnswerBook::new(alloc, machine.answers.as_slice())?;
-    let mut job = ScriptJob::new(alloc, machine, &book, 0)?;
+    let mut job = Job::of_script(alloc, machine, &book, 0)?;
     match trial {
         Trial::Setting => sets_autosleep(&mut job),
         Trial::Event => makes_an_event(&mut job),
@@ -114,7 +114,7 @@ fn stamp(tick: u64) -> Stamp {
 }
 
 /// The next call of a script, which is made.
-fn call(job: &mut ScriptJob<'_>) -> Result<(u32, SourceCall), Fail>
+fn call(job: &mut Job<'_>) -> Result<(u32, SourceCall), Fail>
     requires { job.old.calls < 100 }
     ensures turns { job.new.turns ≡ job.old.turns }
     ensures calls { job.new.calls ≤ job.old.calls + 1 }
@@ -129,7 +129,7 @@ fn call(job: &mut ScriptJob<'_>) -> Result<(u32, SourceCall), Fail>
 }
 
 /// The next turn of a script, which makes that entry.
-fn turn(job: &mut ScriptJob<'_>, kind: Kind) -> Result<(), Fail>
+fn turn(job: &mut Job<'_>, kind: Kind) -> Result<(), Fail>
     requires { job.old.turns < 100 }
     ensures turns { job.new.turns ≤ job.old.turns + 1 }
     ensures calls { job.new.calls ≡ job.old.calls }
@@ -144,7 +144,7 @@ fn turn(job: &mut ScriptJob<'_>, kind: Kind) -> Result<(), Fail>
 }
 
 /// Whether a script keeps the system awake, by source 1, while it sets autosleep.
-fn sets_autosleep(job: &mut ScriptJob<'_>) -> Result<bool, Fail>
+fn sets_autosleep(job: &mut Job<'_>) -> Result<bool, Fail>
     requires turns { job.old.turns ≡ 0 }
     requires calls { job.old.calls ≡ 0 }
 {
@@ -170,7 +170,7 @@ fn calls_stand_round_a_setting_of_autosleep(rt: HostRuntime) -> Result<(), Fail>
 }
 
 /// Whether a script makes one call, an event of 50 ms, and exits.
-fn makes_an_event(job: &mut ScriptJob<'_>) -> Result<bool, Fail>
+fn makes_an_event(job: &mut Job<'_>) -> Result<bool, Fail>
     requires turns { job.old.turns ≡ 0 }
     requires calls { job.old.calls ≡ 0 }
 {
@@ -191,7 +191,7 @@ fn an_event_is_a_call(rt: HostRuntime) -> Result<(), Fail> {
 }
 
 /// Whether a script whose callback suspends device 0 reports an event before the callback ends.
-fn reports_an_event(job: &mut ScriptJob<'_>) -> Result<bool, Fail>
+fn reports_an_event(job: &mut Job<'_>) -> Result<bool, Fail>
     requires turns { job.old.turns ≡ 0 }
     requires calls { job.old.calls ≡ 0 }
 {
@@ -217,7 +217,7 @@ fn a_callback_reports(rt: HostRuntime) -> Result<(), Fail> {
 fn work_reports(machine: &Machine, book: &AnswerBook) -> bool
     requires { book.now ≡ machine.now.answers }
 {
-    let mut work = AutoJob::new(machine, book);
+    let mut work = Job::of_auto(machine, book);
     work.told_turn(stamp(3), Kind::Begin(Phase::Suspend, 0), 1);
     work.owes() && matches!(work.next(), Want::Source(0, _))
 }
@@ -226,7 +226,7 @@ fn work_reports(machine: &Machine, book: &AnswerBook) -> bool
 fn device_reports(machine: &Machine, book: &AnswerBook) -> bool
     requires { book.now ≡ machine.now.answers }
 {
-    let mut device = DeviceJob::new(machine, book, 0);
+    let mut device = Job::of_device(machine, book, 0);
     device.told_turn(stamp(3), Kind::Begin(Phase::Suspend, 0), 1);
     device.owes() && matches!(device.next(), Want::Source(0, _))
 }

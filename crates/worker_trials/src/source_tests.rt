@@ -8,7 +8,7 @@ use sleep_model::{Actor, EventNow, Name, Stamp, Stats};
 use std::alloc::Global;
 use std::sync::Wait;
 use std::test::Fail;
-use wakeup_source::{CallBy, SourceFault, WakeSource, stats_line};
+use wakeup_source::{CallBy, MOST_ENTRIES, SourceFault, WakeSource, stats_line};
 
 /// A word that another holder moves too: it makes a hard step before each look. It tells nothing, and waits for ever
 /// where a part of the word would run over.
@@ -122,7 +122,7 @@ fn stats(counts: [u32; 3], times: [u64; 4]) -> Stats {
 }
 
 /// A source whose history has room for all of a test.
-type Source = WakeSource<60000>;
+type Source = WakeSource<MOST_ENTRIES>;
 
 /// A word that another holder moves too, before its first step.
 fn shared_word<R: Wait>(rt: &R) -> Shared<'_, R> {

@@ -18,5 +18,5 @@ invariant_of-self-2 c =
     let count : c.len-number.result ≡ length ds = omega arith in
     let devices = c.in-Ok-push.ensures.items ∙ ap (λ xs. xs ++ d ∷ []) c.make_room.ensures.devices in
     let names = c.in-Ok.ensures.keys ∙ ap (λ (xs : List (List ℕ)). cond (list_any (eq-value.it d.name) xs) xs (xs ++ d.name ∷ [])) c.make_room.ensures.names ∙ ap (λ b. cond b ks (ks ++ d.name ∷ [])) new_name in
-    let rows = c.hang.ensures ∙ ap (λ xs. hung xs d.parent c.len-number.result) (c.in_ok-add_row.ensures.ok ∙ ap (λ xs. xs ++ [] ∷ []) c.make_room.ensures.children) ∙ ap (hung (old.children.rows ++ [] ∷ []) d.parent) count in
+    let rows = c.add_child.ensures ∙ ap (λ xs. hung xs d.parent c.len-number.result) (c.in_ok-add_row.ensures.ok ∙ ap (λ xs. xs ++ [] ∷ []) c.make_room.ensures.children) ∙ ap (hung (old.children.rows ++ [] ∷ []) d.parent) count in
     kept_as (sym devices) (sym names) (sym rows) (kept_more ds ks old.children.rows d c.self.invariant free)

@@ -9,4 +9,4 @@ pub returns-else-is_down : goal.returns-else-is_down
 returns-else-is_down c =
     let core = c.args.self.now in
     c.device_due.ensures ∙ (ap (λ b. scheduled_up_on b c.args.p c.args.device) c.board.ensures
-    ∙ (follows core.machine (entries core.past) c.args.now).given c.args.p c.args.device (up_if_not c.args.p c.requires (sym c.is_down.ensures ∙ c.if-is_down.false)))
+    ∙ (follows core.machine (entries core.past) c.args.now).scheduled c.args.p c.args.device (up_if_not c.args.p c.requires (sym c.is_down.ensures ∙ c.if-is_down.false)))

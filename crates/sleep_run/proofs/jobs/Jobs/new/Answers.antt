@@ -18,7 +18,7 @@ of_parts-requires-clause-devices c =
     omega (arith, ap (λ (xs : List JobState). length xs) c.in_ok-devices.ensures, first_len m Dev (length m.devices), c.requires.accepted.devices)
 
 pub of_parts-requires-clause-auto : goal.of_parts-requires-clause-auto
-of_parts-requires-clause-auto c = ap (λ (job : JobState). one_if (owes job)) c.new-auto.ensures
+of_parts-requires-clause-auto c = ap (λ (job : JobState). one_if (owes job)) c.of_auto-auto.ensures
 
 pub of_parts-requires-clause-none : goal.of_parts-requires-clause-none
 of_parts-requires-clause-none c =

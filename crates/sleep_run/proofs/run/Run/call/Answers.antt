@@ -80,7 +80,7 @@ invariant_of-self g c =
     let by : CallBy = record { actor = c.args.who; floor = r.floor; now = c.time.result } in (
       subst (λ (jobs : JobsState). IsRunning r.machine.now (all_of r.core.past c.make_whole.new.others.items) r.core c.make_whole.new.events (slice_set r.sources.items c.args.source c.make_whole.new.source) jobs c.in-Ok.stamp) (sym c.told_call.ensures)
           (running_call r.machine.now (all_of r.core.past r.others.items) r.core r.events r.sources.items r.jobs r.floor c.self.invariant.0 c.args.source c.args.call by c.make_whole.new.events c.index_mut-one.result.now c.make_whole.new.source c.in-Ok.stamp
-          (all_of r.core.past c.make_whole.new.others.items) (actor r c.args.self.now c.self.view_is c.args.who c.requires.actor) n at refl c.index_mut-one.ensures.value c.in-Ok.ensures.room (bare_count c.index_mut-one.result.now.past) c.in-Ok.ensures.made (c.in-Ok.ensures.entries.all r.core.past (sym c.len-before.ensures.len))),
+          (all_of r.core.past c.make_whole.new.others.items) (actor r c.args.self.now c.self.view_is c.args.who c.requires.actor) n at refl c.index_mut-one.ensures.value c.in-Ok.ensures.room (bare_count c.index_mut-one.result.now.past) c.in-Ok.ensures.made (c.in-Ok.ensures.entries.all r.core.past (sym c.len-before.ensures.len)) c.moments_are_ranged.ensures c.calls_are_ranged.ensures),
       subst (λ k. AreWithin k r.others.items → AreWithin k c.make_whole.new.others.items) c.len-before.ensures.len c.in-Ok.ensures.entries.within c.self.invariant.1,
     )
 

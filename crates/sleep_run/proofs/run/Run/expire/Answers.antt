@@ -49,7 +49,7 @@ invariant_of-self g c =
     let by : CallBy = record { actor = actor.Timer c.args.source; floor = r.floor; now = c.time.result } in (
       running_expire r.machine.now (all_of r.core.past r.others.items) r.core r.events r.sources.items r.jobs r.floor c.self.invariant.0 c.args.source by c.make_whole.new.events c.index_mut-one.result.now c.make_whole.new.source c.in-Ok.stamp
           (all_of r.core.past c.make_whole.new.others.items) (there r c.args.self.now c.self.view_is c.args.source c.requires.there) refl (due r c.args.self.now c.self.view_is c.args.source c.requires.due) at refl c.index_mut-one.ensures.value c.in-Ok.ensures.room
-          (bare_count c.index_mut-one.result.now.past) c.in-Ok.ensures.made (c.in-Ok.ensures.entries.all r.core.past (sym c.len-before.ensures.len)),
+          (bare_count c.index_mut-one.result.now.past) c.in-Ok.ensures.made (c.in-Ok.ensures.entries.all r.core.past (sym c.len-before.ensures.len)) c.moments_are_ranged.ensures,
       subst (λ k. AreWithin k r.others.items → AreWithin k c.make_whole.new.others.items) c.len-before.ensures.len c.in-Ok.ensures.entries.within c.self.invariant.1,
     )
 

@@ -3,7 +3,7 @@ use Rattle.sleep_model.specs.declared.entry.Actor.TheVariants as actor
 use Rattle.sleep_model.specs.Legal.{none_enabled, none_expires, is_enabled}
 use Rattle.sleep_model.specs.Parts.{journal}
 use Rattle.sleep_model.specs.Sources.{history}
-use Rattle.log_grows.proofs.Journals.{time_journal}
+use Rattle.growth_laws.proofs.Journals.{time_journal}
 use Rattle.sleep_run.proofs.run.Run.is_resting.Goals as goal
 
 pub returns : goal.returns

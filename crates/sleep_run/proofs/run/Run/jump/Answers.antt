@@ -38,7 +38,7 @@ invariant_of-self-2 g c =
       subst (λ (w : EventNow). IsRunning m (all_of c.jump.new.self.past r.others.items) c.jump.new.self w r.sources.items r.jobs c.in_ok-self-inside.field-0) (sym word)
           (subst (λ (xs : List Entry). IsRunning m xs c.jump.new.self r.events r.sources.items r.jobs c.in_ok-self-inside.field-0) (sym all)
           (running_jump m past r.core r.events r.sources.items r.jobs r.floor c.self.invariant.0 c.jump.new.self c.look-now.result c.in_ok-self-inside.field-0 c.args.to may later
-          c.look-now.ensures.told made c.in_ok-self-inside.ensures.ok.0)),
+          c.look-now.ensures.told made c.in_ok-self-inside.ensures.ok.0 c.moments_are_ranged.ensures)),
       subst (λ (s : CoreState). AreWithin (length s.past) r.others.items) (sym made) (within_more (length r.core.past) r.others.items c.self.invariant.1),
     )
 

@@ -14,11 +14,11 @@ stats_of-requires-clause-time c =
     λ s none l. sources_timely r.machine.now (all_of r.core.past r.others.items) c.deref.result.now c.self.invariant.0.legal (subst (λ (xs : List SourceState). AreSources r.machine.now (all_of r.core.past r.others.items) xs) (sym c.deref.ensures.value) c.self.invariant.0.sources_are) c.time.result s none
     (c.time.ensures.is ∙ ap (λ (x : RunState). time_of x.past) (sym c.self.view_is)) l
 
-pub returns : goal.returns
-returns c =
+pub returns-clause-all : goal.returns-clause-all
+returns-clause-all c =
     let r = c.self.inside in
     let m = r.machine.now in
     let past = all_of r.core.past r.others.items in
     let time = c.time.ensures.is ∙ ap (λ (s : RunState). time_of s.past) (sym c.self.view_is) in
-    c.in_ok-stats.ensures ∙ (ap (λ (xs : List SourceState). all_stats xs c.time.result) c.deref.ensures.value
+    c.in_ok-stats.ensures.all ∙ (ap (λ (xs : List SourceState). all_stats xs c.time.result) c.deref.ensures.value
     ∙ (ap (λ t. all_stats r.sources.items t) time ∙ (stats_are m past r.sources.items c.self.invariant.0.sources_are ∙ ap (λ (s : RunState). stats_of s.machine s.past) c.self.view_is)))

@@ -93,7 +93,7 @@ invariant_of-self-in-Did g c =
           (c.time-time.ensures.time ∙ time_joint m past r.core r.events r.sources.items r.jobs r.floor c.self.invariant.0)
           (subst (λ (w : EventNow). due r.core.machine (entries r.core.past) who w ≡ Makes k) t.1 did.0)
           made
-          (did.2 ∙ ap (next_stamp r.core.past r.floor) t.1) did.3))),
+          (did.2 ∙ ap (next_stamp r.core.past r.floor) t.1) did.3 c.moments_are_ranged.ensures c.kinds_are_ranged.ensures))),
       subst (λ (s : CoreState). AreWithin (length s.past) r.others.items) (sym made) (within_more (length r.core.past) r.others.items c.self.invariant.1),
     )
 
@@ -106,5 +106,5 @@ returns-in-Did-clause-after g c =
       arith,
       more_entries r.core.past c.turn.new.self.past r.others.items (made_entry r.core.past c.args.who t.0 r.floor c.in-Did.kind) c.self.invariant.1 (ap (λ (s : CoreState). s.past) did.1),
       ap (λ (s : RunState). length s.past) c.self.view_is,
-      ap (λ (s : RunState). length s.past) c.heed.ensures,
+      ap (λ (s : RunState). length s.past) c.wake_after.ensures,
     )

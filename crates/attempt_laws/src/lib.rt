@@ -1,0 +1,42 @@
+//! How many places of its journal an attempt may still need. They are reserved where it begins, so
+//! that no entry of its maker, nor of the devices that it puts to sleep, ever wants memory. Each
+//! function here is a law of `needed` over all legal journals, and does nothing.
+#![tactic(auto)]
+
+ghost use Rattle.attempt_laws.specs.Room.{NoneNeededOutside, AttemptNeedsFew, OwnEntrySpends, DeviceEntrySpends, OthersNeedNothing};
+
+/// Where no attempt is open no place is needed.
+#[tactic(auto, using(crate::proofs::Needing::none_needed_outside))]
+pub fn none_needed_outside()
+    ensures { NoneNeededOutside }
+{}
+
+/// The entry that begins an attempt, and all that the attempt may need after it, fit in 40 places, 20
+/// more a device, and 2 more a notifier, a part of the core and a processor (`kernel/power/suspend.c`,
+/// `enter_state`).
+#[tactic(auto, using(crate::proofs::Needing::attempt_needs_few))]
+pub fn attempt_needs_few()
+    ensures { AttemptNeedsFew }
+{}
+
+/// Each entry of the open attempt's maker makes what is needed fall by one at least, where the machine
+/// is one that a file may spell: so what is needed is room enough for all of them
+/// (`kernel/power/suspend.c`, `suspend_devices_and_enter`).
+#[tactic(auto, using(crate::proofs::Needing::own_entry_spends))]
+pub fn own_entry_spends()
+    ensures { OwnEntrySpends }
+{}
+
+/// Each entry that an asynchronous device makes of its own makes what is needed fall by one at least
+/// (`drivers/base/power/main.c`, `async_suspend`, `async_resume`).
+#[tactic(auto, using(crate::proofs::Needing::device_entry_spends))]
+pub fn device_entry_spends()
+    ensures { DeviceEntrySpends }
+{}
+
+/// An entry of any other task, of the autosleep work or of time, which begins no attempt, leaves what
+/// is needed as it was.
+#[tactic(auto, using(crate::proofs::Needing::others_need_nothing))]
+pub fn others_need_nothing()
+    ensures { OthersNeedNothing }
+{}

@@ -1,7 +1,0 @@
-use Rattle.std.proofs.Common.{◌≡◌, map}
-use Rattle.event_word.specs.Lists.{tokens}
-use Rattle.event_word.specs.declared.thread_tests.Done.{Done}
-use Rattle.event_word.proofs.thread_tests.gathered.Given as goal
-
-abbrev pub invariant-loop-one : goal.invariant-loop-one
-invariant-loop-one l = tokens l.seats.items ≡ map (λ (d : Done). d.seat.token) l.yielded

@@ -1,0 +1,54 @@
+ghost use Rattle.std.specs.Prelude.{◌≡◌, []};
+ghost use Rattle.event_word.specs.Seats.{AreNew, made_of};
+ghost use Rattle.event_word.specs.Lists.{tokens};
+
+use crate::word_table_tests::{step, word};
+use event_word::{EventSeat, EventTable, Events, LookSeat};
+use sleep_model::EventNow;
+use std::alloc::AllocError;
+use std::sync::{Barrier, Wait};
+use std::test::Fail;
+use std::thread;
+use std::thread::Threads;
+
+/// Begins the source's event, and waits until the other one's is in progress. Answers the word then.
+fn meet<R: Wait>(rt: &R, table: &EventTable, seat: EventSeat, both: &Barrier) -> EventNow
+    requires table { seat.token.table_id ≡ table.now.desk.shared.table_id }
+    requires new { made_of seat.token ≡ [] }
+{
+    let mut seat = seat.on(table);
+    let (_before, active) = step(&mut seat, false, false);
+    both.wait(rt);
+    let seen = seat.look();
+    both.wait(rt);
+    let _last = step(&mut seat, active, false);
+    seen
+}
+
+/// Two workers, each with a source.
+fn meeting<R: Threads + Wait + Sync>(
+    rt: &R,
+    table: &EventTable,
+    look: &LookSeat,
+    seats: Vec<EventSeat>,
+) -> Result<Vec<EventNow>, AllocError>
+    requires look { look.now.token.table_id ≡ table.now.desk.shared.table_id }
+    requires seats { AreNew look.now.token (tokens seats.items) }
+{
+    let _ = look;
+    let both = Barrier::new(2);
+    let one = |seat: EventSeat| -> EventNow
+        requires { (seat.token.table_id ≡ table.now.desk.shared.table_id) × (made_of seat.token ≡ []) }
+    { meet(rt, table, seat, &both) };
+    let seen = thread::map_vec(rt, seats, &one)?;
+    Ok(seen)
+}
+
+/// Two workers overlap: each sees the events of both in progress.
+#[test]
+fn two_workers_overlap(rt: HostRuntime) -> Result<(), Fail> {
+    let (table, seats, look) = EventTable::new(rt.alloc(), 2)?;
+    let seen = meeting(&rt, &table, &look, seats)?;
+    assert_eq!(rt; seen.as_slice(), [word(2, 0, 0), word(2, 0, 0)].as_slice());
+    Ok(())
+}
