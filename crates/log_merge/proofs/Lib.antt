@@ -1,5 +1,6 @@
 mod Fields
 pub mod Orders
+pub mod Placing
 pub mod Reading
 mod Rising
 pub mod Sorts

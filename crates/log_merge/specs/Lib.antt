@@ -1,4 +1,5 @@
 pub mod Journals
 pub mod Orders
+pub mod Placed
 pub mod ReaderFields
 pub mod Rests

@@ -5,9 +5,11 @@
 mod journal;
 mod merged;
 mod order;
+mod placed;
 mod reader;
 mod sources;
 
 pub use journal::rises;
 pub use merged::merge;
+pub use placed::merge_journal;
 pub use reader::LogReader;

@@ -141,14 +141,14 @@ behind_own s who (e ∷ past) = by (is_same e.actor who) refl (behind_own s who 
 
 -- ---- the calls that are due
 
-calls_top : (m : Machine) (who : Actor) (k : ℕ) (past : List Entry) → length (own_of who past) ≤ k → calls_after m who k past ≡ calls_of m who past
+pub calls_top : (m : Machine) (who : Actor) (k : ℕ) (past : List Entry) → length (own_of who past) ≤ k → calls_after m who k past ≡ calls_of m who past
 calls_top m who k [] l = refl
 calls_top m who k (e ∷ past) l =
     let here : nat_le (length (own_of who (e ∷ past))) k ≡ true = grind (arith, nat_tests) in
     ap (λ (b : Bool). cond b (calls_of m who (e ∷ past)) (calls_after m who k past)) here
 
 -- a further entry of the journal leaves the calls behind those before it
-calls_earlier : (m : Machine) (who : Actor) (k : ℕ) (e : Entry) (past : List Entry) → k ≤ length (own_of who past) → calls_after m who k (e ∷ past) ≡ calls_after m who k past
+pub calls_earlier : (m : Machine) (who : Actor) (k : ℕ) (e : Entry) (past : List Entry) → k ≤ length (own_of who past) → calls_after m who k (e ∷ past) ≡ calls_after m who k past
 calls_earlier m who k e past l = by (is_same e.actor who) refl (nat_le (length (own_of who (e ∷ past))) k) refl
   where
     by : (a : Bool) → is_same e.actor who ≡ a → (b : Bool) → nat_le (length (own_of who (e ∷ past))) k ≡ b

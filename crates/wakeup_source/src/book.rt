@@ -2,7 +2,9 @@ use crate::call_by::CallBy;
 use crate::kinds::{note_of, step_of};
 use crate::places::Entries;
 use crate::tally::Tally;
-use sleep_model::{Entry, EventNow, SourceCall, SourceEntry, Stamp, Stats, WordKind, pos};
+use sleep_model::{
+    Entry, EventNow, SourceCall, SourceEntry, SourceList, Stamp, Stats, WordKind, pos,
+};
 use std::alloc::{AllocError, Global};
 use std::marker::Model;
 
@@ -69,6 +71,14 @@ impl Book {
         ensures { reverse result.now ≡ self.now.source.past }
     {
         self.entries.as_slice()
+    }
+
+    /// The entries, the oldest first.
+    pub(crate) fn into_list(self) -> SourceList
+        ensures { reverse result ≡ self.source.past }
+    {
+        let Book { entries, .. } = self;
+        entries.into_list()
     }
 
     /// What the source last knew.

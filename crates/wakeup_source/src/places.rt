@@ -1,4 +1,4 @@
-use sleep_model::SourceEntry;
+use sleep_model::{ListOf, SourceEntry, SourceList};
 use std::alloc::{AllocError, Global};
 use std::marker::Model;
 
@@ -70,5 +70,12 @@ impl Entries {
         ensures { reverse result.now ≡ self.now.past }
     {
         self.entries.as_slice()
+    }
+    /// The entries, the oldest first.
+    pub(crate) fn into_list(self) -> SourceList
+        ensures { reverse result ≡ self.past }
+    {
+        let Entries { entries, .. } = self;
+        ListOf::of_vec(entries)
     }
 }

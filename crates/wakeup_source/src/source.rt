@@ -2,7 +2,7 @@ use crate::book::Book;
 use crate::call_by::CallBy;
 use crate::fault::SourceFault;
 use event_word::Bump;
-use sleep_model::{SourceCall, SourceEntry, Stamp, Stats};
+use sleep_model::{SourceCall, SourceEntry, SourceList, Stamp, Stats};
 use std::alloc::Global;
 use std::marker::Model;
 use std::sync::Wait;
@@ -206,6 +206,16 @@ impl<const CAP: usize> WakeSource<CAP> {
         ensures places { length self.now.past ≤ CAP }
     {
         self.book.as_slice()
+    }
+
+    /// The entries, the oldest first, without the source.
+    pub fn into_history(self) -> SourceList
+        ensures entries { reverse result ≡ self.entry.past }
+        ensures settled { IsSettled self.entry }
+        ensures places { length self.entry.past ≤ CAP }
+    {
+        let WakeSource { book } = self;
+        book.into_list()
     }
 
     /// Raises what the source last knew, number by number: its next entry's tick is above.

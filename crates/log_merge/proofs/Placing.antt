@@ -1,0 +1,131 @@
+-- The entries of sources placed in a journal give the definition's log.
+use Rattle.std.proofs.Common.{◌≡◌, ℕ, ◌<◌, ◌≤◌, ◌+◌, suc, Bool, true, false, not, nat_le, List, [], ◌∷◌, ◌++◌, length, get_or, drop, zero, true≢false, refl, sym, ap, ◌∙◌, arith, append-nil, append_assoc, if◌then◌else◌, Option, Some, None, MatchOption}
+use Rattle.std.proofs.lemmas.Bool.Decides.{nat_tests}
+use Rattle.sleep_model.specs.declared.entry.Entry.{Entry}
+use Rattle.sleep_model.specs.declared.entry.JournalEntry.{JournalEntry}
+use Rattle.sleep_model.specs.declared.entry.SourceEntry.{SourceEntry}
+use Rattle.sleep_model.specs.declared.entry_list.OtherEntry.{OtherEntry}
+use Rattle.sleep_model.specs.Merge.{in_order, merge, of_source, rises, stands_before}
+use Rattle.sleep_model.specs.Woven.{woven}
+use Rattle.log_merge.specs.Placed.{pass, placed}
+use Rattle.log_merge.specs.Rests.{bare, is_in_order, leads, seen, sources_entries}
+use denote.Ref.{Bor}
+use Rattle.log_merge.proofs.Reading.{both_right, in_order_from, journal_first, log_of_all, order_same, other_first, rising_in_order, sorted_in_order}
+
+if_true : {A : Type 0} (b : Bool) (x y : A) → b ≡ true → (if b then x else y) ≡ x
+if_true true x y h = refl
+if_true false x y h = absurd (true≢false (sym h))
+
+if_false : {A : Type 0} (b : Bool) (x y : A) → b ≡ false → (if b then x else y) ≡ y
+if_false true x y h = absurd (true≢false h)
+if_false false x y h = refl
+
+-- an entry of a source that does not stand before the next of the journal
+pub pass_on : (other e : JournalEntry) (n : ℕ) (rest : List JournalEntry) → stands_before other e ≡ false → pass other n (e ∷ rest) ≡ pass other (suc n) rest
+pass_on other e n rest h = if_false (stands_before other e) _ _ h
+
+-- one that does
+pub pass_here : (other e : JournalEntry) (n : ℕ) (rest : List JournalEntry) → stands_before other e ≡ true → pass other n (e ∷ rest) ≡ (n, e ∷ rest)
+pass_here other e n rest h = if_true (stands_before other e) _ _ h
+
+-- an entry of a source that stands before all that is left passes none of it
+pub passed_all : (other : JournalEntry) (n : ℕ) (journal : List JournalEntry) → leads other journal ≡ true → pass other n journal ≡ (n, journal)
+passed_all other n [] h = refl
+passed_all other n (e ∷ rest) h = pass_here other e n rest h
+
+-- one that does not passes the next of it
+pub passed_one : (other : JournalEntry) (n : ℕ) (old new : List JournalEntry) (result : Option JournalEntry) → leads other old ≡ false → MatchOption result ((old ≡ []) × (new ≡ old)) (λ e. old ≡ e ∷ new)
+    → (pass other n old ≡ pass other (suc n) new) × (length old ≡ suc (length new))
+passed_one other n old new None h m = absurd (true≢false (ap (leads other) (sym m.0) ∙ h))
+passed_one other n old new (Some e) h m =
+    let no : stands_before other e ≡ false = ap (leads other) (sym m) ∙ h in
+    (ap (pass other n) m ∙ pass_on other e n new no, ap (λ (l : List JournalEntry). length l) m)
+
+-- no fewer are passed then
+pass_up : (other : JournalEntry) (n : ℕ) (journal : List JournalEntry) → n ≤ (pass other n journal).0
+pass_up other n [] = omega arith
+pass_up other n (e ∷ rest) = by (stands_before other e) refl (pass_up other (suc n) rest)
+  where
+    by : (b : Bool) → stands_before other e ≡ b → suc n ≤ (pass other (suc n) rest).0 → n ≤ (pass other n (e ∷ rest)).0
+    by true h more = rw (pass_here other e n rest h) (omega arith)
+    by false h more = rw (pass_on other e n rest h) (omega (arith, more))
+
+-- ---- among the journal
+
+at_most : (a b : ℕ) → a ≤ b → nat_le a b ≡ true
+at_most a b h = grind (arith, nat_tests)
+
+above : (a b : ℕ) → b < a → nat_le a b ≡ false
+above a b h = grind (arith, nat_tests)
+
+woven_other : (n : ℕ) (e : JournalEntry) (rest : List JournalEntry) (x : OtherEntry) (xs : List OtherEntry) → x.before ≤ n → woven n (e ∷ rest) (x ∷ xs) ≡ x.entry ∷ woven n (e ∷ rest) xs
+woven_other n e rest x xs h = if_true (nat_le x.before n) _ _ (at_most x.before n h)
+
+woven_own : (n : ℕ) (e : JournalEntry) (rest : List JournalEntry) (x : OtherEntry) (xs : List OtherEntry) → n < x.before → woven n (e ∷ rest) (x ∷ xs) ≡ e.entry ∷ woven (suc n) rest (x ∷ xs)
+woven_own n e rest x xs h = if_false (nat_le x.before n) _ _ (above x.before n h)
+
+-- a list of the journal alone
+woven_alone : (n : ℕ) (journal : List JournalEntry) → woven n journal [] ≡ bare journal
+woven_alone n [] = refl
+woven_alone n (e ∷ rest) = ap (λ (l : List Entry). e.entry ∷ l) (woven_alone (suc n) rest)
+
+abbrev Weaves : List JournalEntry → Type 0
+Weaves others = (n : ℕ) (journal : List JournalEntry) → is_in_order journal ≡ true → woven n journal (placed n journal others) ≡ bare (in_order (journal ++ others))
+
+weaves_none : Weaves []
+weaves_none n journal u =
+    woven_alone n journal ∙ ap bare (sym (order_same journal (in_order_from journal u)) ∙ ap in_order (sym (append-nil journal)))
+
+weaves_more : (other : JournalEntry) (others : List JournalEntry) → is_in_order (other ∷ others) ≡ true → Weaves others → Weaves (other ∷ others)
+weaves_more other others v more n [] u =
+    ap (λ (l : List Entry). other.entry ∷ l) (more n [] refl) ∙ sym (other_first other [] others refl refl v)
+weaves_more other others v more n (e ∷ rest) u =
+    by (stands_before other e) refl (weaves_more other others v more (suc n) rest (both_right _ (is_in_order rest) u))
+  where
+    by : (b : Bool) → stands_before other e ≡ b → woven (suc n) rest (placed (suc n) rest (other ∷ others)) ≡ bare (in_order (rest ++ other ∷ others))
+        → woven n (e ∷ rest) (placed n (e ∷ rest) (other ∷ others)) ≡ bare (in_order (e ∷ (rest ++ other ∷ others)))
+    by true h last =
+        let here : pass other n (e ∷ rest) ≡ (n, e ∷ rest) = pass_here other e n rest h in
+        ap (λ (p : ℕ × List JournalEntry). woven n (e ∷ rest) (record { before = p.0; entry = other.entry } ∷ placed p.0 p.1 others)) here
+        ∙ (woven_other n e rest (record { before = n; entry = other.entry }) (placed n (e ∷ rest) others) (omega arith)
+        ∙ (ap (λ (l : List Entry). other.entry ∷ l) (more n (e ∷ rest) u)
+        ∙ sym (other_first other (e ∷ rest) others h u v)))
+    by false h last =
+        let on : pass other n (e ∷ rest) ≡ pass other (suc n) rest = pass_on other e n rest h in
+        ap (λ (p : ℕ × List JournalEntry). woven n (e ∷ rest) (record { before = p.0; entry = other.entry } ∷ placed p.0 p.1 others)) on
+        ∙ (woven_own n e rest (record { before = (pass other (suc n) rest).0; entry = other.entry }) (placed (pass other (suc n) rest).0 (pass other (suc n) rest).1 others) (omega (arith, pass_up other (suc n) rest))
+        ∙ (ap (λ (l : List Entry). e.entry ∷ l) last
+        ∙ sym (journal_first e rest (other ∷ others) (ap not h) u v)))
+
+weaves : (others : List JournalEntry) → is_in_order others ≡ true → Weaves others
+weaves [] v = weaves_none
+weaves (other ∷ others) v = weaves_more other others v (weaves others (both_right _ (is_in_order others) v))
+
+-- the entries of the sources, in order and placed in the journal, give the definition's log
+pub placed_merge : (journal : List JournalEntry) (histories : List (List SourceEntry)) → rises journal ≡ true
+    → woven 0 journal (placed 0 journal (in_order (sources_entries histories))) ≡ merge journal histories
+placed_merge journal histories h =
+    weaves (in_order (sources_entries histories)) (sorted_in_order (sources_entries histories)) 0 journal (rising_in_order journal h)
+    ∙ log_of_all journal histories
+
+-- the next of the entries of sources is placed
+placed_on : (n : ℕ) (journal : List JournalEntry) (others : List (Bor SourceEntry)) (k : ℕ) (other d : Bor SourceEntry) → k < length others → other ≡ get_or others k d
+    → placed n journal (drop k (seen others))
+    ≡ record { before = (pass (of_source other.now) n journal).0; entry = other.now.entry } ∷ placed (pass (of_source other.now) n journal).0 (pass (of_source other.now) n journal).1 (drop (suc k) (seen others))
+placed_on n journal [] k other d l h = absurd (omega (arith, l))
+placed_on n journal (x ∷ xs) zero other d l h = rw h refl
+placed_on n journal (x ∷ xs) (suc k) other d l h = placed_on n journal xs k other d (omega (arith, l)) h
+
+-- with it the entries that are placed stay those of all
+pub placed_next : (all new : List OtherEntry) (n : ℕ) (journal : List JournalEntry) (others : List (Bor SourceEntry)) (k : ℕ) (other d : Bor SourceEntry) (m : ℕ) (rest : List JournalEntry) (end : List OtherEntry)
+    → k < length others → other ≡ get_or others k d → (m, rest) ≡ pass (of_source other.now) n journal → new ≡ all ++ record { before = m; entry = other.now.entry } ∷ [] → all ++ placed n journal (drop k (seen others)) ≡ end
+    → new ++ placed m rest (drop (k + 1) (seen others)) ≡ end
+placed_next all new n journal others k other d m rest end l at is more so =
+    let here : placed n journal (drop k (seen others)) ≡ record { before = m; entry = other.now.entry } ∷ placed m rest (drop (suc k) (seen others)) =
+    placed_on n journal others k other d l at
+    ∙ ap (λ (q : ℕ × List JournalEntry). record { before = q.0; entry = other.now.entry } ∷ placed q.0 q.1 (drop (suc k) (seen others))) (sym is) in
+    let one : k + 1 ≡ suc k = omega arith in
+    rw one
+    (ap (λ (l : List OtherEntry). l ++ placed m rest (drop (suc k) (seen others))) more
+    ∙ (append_assoc all (record { before = m; entry = other.now.entry } ∷ []) (placed m rest (drop (suc k) (seen others)))
+    ∙ (ap (λ (l : List OtherEntry). all ++ l) (sym here) ∙ so)))
