@@ -1,0 +1,221 @@
+"""Reads the devices of a machine: from its /sys, a copy of it (a folder or a tar), or a list of device folders.
+
+What cannot be read is refused by its path, a list by the number of its line.
+"""
+
+import errno
+import os
+import posixpath
+import re
+import tarfile
+
+LISTED = re.compile(r"/sys/devices/(?P<path>\S.*?)(?: async=(?P<async>\w*))?(?: wakeup=(?P<wakeup>\w*))?(?: runtime=(?P<runtime>\w*))?")
+# The files of /sys that are read; all others of a tar are passed over.
+READ = ("power/async", "power/wakeup", "power/runtime_status", "pm_async", "online", "name", "status", "sync_state_only")
+# Folders whose devices have no parent, though one holds the folder: the kernel hangs a bus's devices below its root.
+ROOTS = ("system", "virtual")
+
+
+class Refused(Exception):
+    """What was given is no /sys: the path or the line, and why."""
+
+
+class Device:
+    """A device of a machine: its path below devices/, its parent's path, and what /sys says of its power."""
+
+    def __init__(self, path, parent):
+        self.path, self.parent = path, parent
+        self.name = posixpath.basename(path).replace("!", "/")
+        self.is_async = self.may_wake = self.is_suspended = False
+        self.driver = self.subsystem = ""
+
+
+class Machine:
+    """What a tree tells: devices by path, links (supplier, consumer, is_dormant), sources, processors, and notes."""
+
+    def __init__(self):
+        self.devices, self.links, self.sources, self.cpus, self.notes = {}, [], [], None, []
+
+
+class Folder:
+    """The /sys of this machine, or a copy of it in a folder."""
+
+    def __init__(self, root):
+        self.root = root
+        if not os.path.isdir(os.path.join(root, "devices")):
+            raise Refused(f"{root}: no folder 'devices', so this is no /sys")
+
+    def folders(self):
+        """Each folder below devices/, parents first, with the names in it."""
+        stack = ["devices"]
+        while stack:
+            path = stack.pop()
+            inside = self.scan(path)
+            yield path, {name for name, _ in inside}
+            stack += sorted((f"{path}/{name}" for name, is_folder in inside if is_folder), key=natural, reverse=True)
+
+    def scan(self, path):
+        try:
+            with os.scandir(os.path.join(self.root, path)) as found:
+                return [(entry.name, entry.is_dir(follow_symlinks=False)) for entry in found]
+        except OSError as fault:
+            raise Refused(f"{os.path.join(self.root, path)}: {fault.strerror}") from None
+
+    def text(self, path):
+        """The words of a file; None where it is not there."""
+        try:
+            with open(os.path.join(self.root, path), "rb") as file:
+                return file.read(4096).decode("utf-8", "replace").strip("\0 \n")
+        except OSError as fault:
+            if fault.errno in (errno.ENOENT, errno.ENOTDIR):
+                return None
+            raise Refused(f"{os.path.join(self.root, path)}: {fault.strerror}") from None
+
+    def target(self, path):
+        """What a symbolic link names; None where there is none."""
+        try:
+            return os.readlink(os.path.join(self.root, path))
+        except OSError as fault:
+            if fault.errno in (errno.ENOENT, errno.ENOTDIR, errno.EINVAL):
+                return None
+            raise Refused(f"{os.path.join(self.root, path)}: {fault.strerror}") from None
+
+
+class Tar:
+    """A copy of /sys in a tar, which is read where it lies."""
+
+    def __init__(self, file):
+        self.file, self.inside, self.texts, self.targets = file, {}, {}, {}
+        try:
+            with tarfile.open(file) as tar:
+                for member in tar:
+                    self.take(tar, member)
+        except (tarfile.TarError, EOFError) as fault:
+            raise Refused(f"{file}: {fault}") from None
+        if "devices" not in self.inside:
+            raise Refused(f"{file}: no folder 'devices', so this is no /sys")
+
+    def take(self, tar, member):
+        path = re.sub(r"^(\./|/)*([^/]+/)?(?=devices(/|$)|power/)", "", member.name, count=1).rstrip("/")
+        if not path.startswith(("devices", "power/")):
+            return
+        if member.isdir():
+            self.inside.setdefault(path, set())
+        folder, name = posixpath.split(path)
+        if folder:
+            self.inside.setdefault(folder, set()).add(name)
+        if member.issym():
+            self.targets[path] = member.linkname
+        elif member.isfile() and path.endswith(READ):
+            self.texts[path] = tar.extractfile(member).read(4096).decode("utf-8", "replace").strip("\0 \n")
+
+    def folders(self):
+        inside = [path for path in self.inside if path.split("/")[0] == "devices"]
+        yield from ((path, self.inside[path]) for path in sorted(inside, key=natural))
+
+    def text(self, path):
+        return self.texts.get(path)
+
+    def target(self, path):
+        return self.targets.get(path)
+
+
+def natural(path):
+    """The order of paths: folders first, numbers by their worth."""
+    return [[(int(part), "") if part.isdigit() else (-1, part) for part in re.split(r"(\d+)", name)] for name in path.split("/")]
+
+
+def parent_of(path, devices):
+    """The nearest device whose folder holds that of another one, but for roots of buses, which are no parents."""
+    parts = path.split("/")
+    for end in range(len(parts) - 1, 0, -1):
+        above = "/".join(parts[:end])
+        if above in devices:
+            return None if end == 2 and parts[0] in ROOTS else above
+    return None
+
+
+def count_of(text):
+    """How many processors a list as 0-3,6 has; None where it is no such list."""
+    if not text or not re.fullmatch(r"\d+(-\d+)?(,\d+(-\d+)?)*", text):
+        return None
+    ends = [[int(end) for end in part.split("-")] for part in text.split(",")]
+    return sum(part[-1] - part[0] + 1 for part in ends)
+
+
+def read_device(tree, path, machine):
+    """Takes the device of a folder that has a power/."""
+    device = Device(path, parent_of(path, machine.devices))
+    device.is_async = tree.text(f"devices/{path}/power/async") == "enabled"
+    device.may_wake = tree.text(f"devices/{path}/power/wakeup") == "enabled"
+    device.is_suspended = tree.text(f"devices/{path}/power/runtime_status") == "suspended"
+    device.driver = posixpath.basename(tree.target(f"devices/{path}/driver") or "")
+    device.subsystem = posixpath.basename(tree.target(f"devices/{path}/subsystem") or "")
+    machine.devices[path] = device
+
+
+def read_link(tree, path, machine):
+    """Takes the device link of a folder below virtual/devlink."""
+    ends = []
+    for end in ("supplier", "consumer"):
+        target = tree.target(f"{path}/{end}")
+        if target is None:
+            raise Refused(f"{path}/{end}: no symbolic link, which a device link has")
+        ends.append(posixpath.normpath(posixpath.join(path, target)).removeprefix("devices/"))
+    if tree.text(f"{path}/sync_state_only") == "1":
+        machine.notes.append(f"the link {posixpath.basename(path)} orders nothing (sync_state_only): left out")
+        return
+    machine.links.append((*ends, tree.text(f"{path}/status") == "dormant"))
+
+
+def read_tree(tree):
+    """The machine that a tree tells."""
+    machine, links = Machine(), []
+    for folder, inside in tree.folders():
+        path = folder.removeprefix("devices").strip("/")
+        if re.fullmatch(r"virtual/devlink/[^/]+", path) and "supplier" in inside:
+            links.append(folder)
+        elif re.fullmatch(r"(.*/)?wakeup/wakeup\d+", path) and "name" in inside:
+            machine.sources.append(tree.text(f"{folder}/name"))
+        elif "power" in inside and path:
+            read_device(tree, path, machine)
+    for folder in links:
+        read_link(tree, folder, machine)
+    machine.cpus = count_of(tree.text("devices/system/cpu/online"))
+    if tree.text("power/pm_async") == "0":
+        machine.notes.append("pm_async is 0: no device is asynchronous")
+        for device in machine.devices.values():
+            device.is_async = False
+    return machine
+
+
+def read_list(file, data):
+    """The machine of a list: a line a device folder, with async= and wakeup=, and runtime= if known."""
+    machine, found = Machine(), {}
+    for line, text in enumerate(data.decode("utf-8", "replace").splitlines(), 1):
+        listed = LISTED.fullmatch(text.strip())
+        if listed is None:
+            raise Refused(f"{file}: line {line}: no folder of a device: {text[:80]!r}")
+        found[listed["path"].rstrip("/")] = listed
+    for path in sorted(found, key=natural):
+        device = Device(path, parent_of(path, machine.devices))
+        device.is_async, device.may_wake = found[path]["async"] == "enabled", found[path]["wakeup"] == "enabled"
+        device.is_suspended = found[path]["runtime"] == "suspended"
+        machine.devices[path] = device
+    return machine
+
+
+def read_machine(file):
+    """The machine of a folder, a tar, or a list."""
+    if os.path.isdir(file):
+        machine = read_tree(Folder(file))
+    elif not os.path.exists(file):
+        raise Refused(f"{file}: no such file or folder")
+    elif os.path.getsize(file) and tarfile.is_tarfile(file):
+        machine = read_tree(Tar(file))
+    else:
+        with open(file, "rb") as opened:
+            machine = read_list(file, opened.read())
+    if not machine.devices:
+        raise Refused(f"{file}: no device with a folder 'power'")
+    return machine
