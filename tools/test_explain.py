@@ -70,7 +70,7 @@ class Explanations(unittest.TestCase):
         log, _ = Run(machine).run()
         self.assertRegex(explained(log.encode(), json.dumps(machine).encode()),
                          "The longest wait: p in dpm_suspend waited 3 entries for device c")
-        self.assertIn("nobody, as far as a log without its machine file tells", explained(log.encode(), None))
+        self.assertNotIn("p in dpm_suspend", explained(log.encode(), None))
 
     def test_long_logs(self):
         devices = [{"name": f"d{number}", "async": number % 2 == 0} for number in range(300)]

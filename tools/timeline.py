@@ -2,9 +2,12 @@
 """Draws a log of sleep_main as a page that a browser shows.
 
 usage: tools/timeline.py [--machine FILE] [LOG] > timeline.html
+       tools/timeline.py --perfetto [--machine FILE] [LOG] > timeline.json
 
 Without LOG it reads standard input. With the machine file it shows parents and links as well, and who waited
-for whom. What is no log is refused by the number of its line on standard error, with status 1.
+for whom. With --perfetto it writes Trace Event JSON, which https://ui.perfetto.dev and chrome://tracing open: a track a
+device, task and source, and each entry a microsecond. What is no log is refused by the number of its line on standard
+error, with status 1.
 """
 
 import argparse
@@ -13,28 +16,30 @@ import sys
 
 from timeline.machine import NoMachine, devices_seen, read_machine
 from timeline.page import page
+from timeline.perfetto import perfetto
 from timeline.reading import Refused, read_log
 from timeline.story import Story
 
 
-def whole_page(data, machine):
-    """The page of the bytes of a log, and of those of its machine file, if given."""
+def whole_page(data, machine, draw=page):
+    """The page of the bytes of a log, and of those of its machine file, if given; or what else draws it."""
     log = read_log(data)
     if log is None:
-        return page(None)
+        return draw(None)
     devices = devices_seen(log) if machine is None else read_machine(machine, log)
-    return page(Story(log, devices))
+    return draw(Story(log, devices))
 
 
 def main():
     parser = argparse.ArgumentParser(description="Draws a log of sleep_main as a page on standard output.")
     parser.add_argument("--machine", metavar="FILE", type=pathlib.Path, help="the machine file of the log")
+    parser.add_argument("--perfetto", action="store_true", help="writes Trace Event JSON for Perfetto instead of a page")
     parser.add_argument("log", metavar="LOG", nargs="?", type=pathlib.Path, help="the log; else standard input")
     given = parser.parse_args()
     try:
         data = given.log.read_bytes() if given.log else sys.stdin.buffer.read()
         machine = given.machine.read_bytes() if given.machine else None
-        sys.stdout.write(whole_page(data, machine))
+        sys.stdout.write(whole_page(data, machine, perfetto if given.perfetto else page))
     except Refused as refused:
         sys.exit(f"{given.log or 'standard input'}: {refused}")
     except NoMachine as refused:
