@@ -3,7 +3,7 @@
 
 usage: tools/allocations.py [--kit] [FILE ..]
 
-Each FILE is a machine file; with none, those of examples/ and the program's stored input are taken. For
+Each FILE is a machine file; with none, the small ones of examples/ and the program's stored input are taken. For
 N from 1 the Nth allocation fails, until a run makes fewer. Each run has to end with status 8, nothing on
 standard output and `want of memory` on standard error, or just as it ends where none fails. Prints a line
 a file: how many allocations failed, and how the runs ended. Ends with status 1 where one is neither.
@@ -26,6 +26,7 @@ CRATE = ROOT / "crates" / "sleep_main"
 PROGRAM = CRATE / "out" / "sleep_main"
 WORDS = ["run", "--workers", "1"]
 NO_MEMORY = (8, b"", b"want of memory\n")
+LARGE = 4096  # An example of so many bytes makes more allocations than one wants to fail each in turn.
 PATIENCE = 3  # After so many numbers at which nothing failed the sweep ends: a failure may pass unseen.
 
 # malloc and realloc that give nothing at the call with that number, and tell so once by a byte.
@@ -147,7 +148,8 @@ def main():
     words = sys.argv[1:]
     kind = Kit if "--kit" in words else Shim
     given = [pathlib.Path(word) for word in words if word != "--kit"]
-    paths = given or [CRATE / "stdin", *sorted((ROOT / "examples").glob("*.json"))]
+    small = [path for path in sorted((ROOT / "examples").glob("*/*.json")) if path.stat().st_size < LARGE]
+    paths = given or [CRATE / "stdin", *small]
     with tempfile.TemporaryDirectory() as folder:
         runner = kind(pathlib.Path(folder), {path.name: path for path in paths})
         sys.exit(not sweep(runner))

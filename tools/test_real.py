@@ -92,6 +92,15 @@ class RealTraces(Scratch):
         self.assertEqual(done.returncode, 0, done.stdout)
         self.assertIn("8 devices stand in one order on both sides", done.stdout)
 
+    def test_a_report_of_trace_cmd(self):
+        """Without flags, with more space, a head, other events, and a loss before the attempt."""
+        text = (SAMPLES / "noirq-fails.trace").read_text()
+        for event in ("suspend_resume", "device_pm_callback_start", "device_pm_callback_end"):
+            text = text.replace(" .....        ", "   ").replace(f": {event}: ", f": {event}:    ")
+        head = "cpus=2\nCPU 3 is empty\nCPU:1 [LOST 4 EVENTS]\n          <idle>-0     [001]   141.1: cpu_idle:             state=1 cpu_id=1\n"
+        plain, _, _ = self.make("--trace", SAMPLES / "noirq-fails.trace", "--writer")
+        self.assertEqual(self.make("--trace", self.write("report", head + text), "--writer")[0], plain)
+
     def test_a_trace_alone(self):
         machine, _, _ = self.make("--trace", SAMPLES / "noirq-fails.trace")
         self.assertEqual([device["name"] for device in machine["devices"]], PREPARED)
@@ -257,7 +266,8 @@ class Refusals(Scratch):
         self.refuse("cut.trace: line 1: a callback in no phase", *trace("".join(lines[7:])))
         self.refuse("cut.trace: line 20: the trace is cut off in this line", *trace("".join(lines[:20])[:-1]))
         self.refuse("cut.trace: line 3: no line of a trace: 'hello'", *trace("".join(lines[:2]) + "hello\n"))
-        self.refuse("cut.trace: line 3: the trace has lost events", *trace("".join(lines[:2]) + "CPU:1 [LOST 12 EVENTS]\n"))
+        for words in ("CPU:1 [LOST 12 EVENTS]", "CPU:1 [12 EVENTS DROPPED]"):
+            self.refuse("cut.trace: line 3: the trace has lost events", *trace("".join(lines[:2]) + words + "\n"))
         self.refuse("cut.trace: line 1: the trace has no attempt to sleep", *trace(""))
 
     def test_no_trees(self):

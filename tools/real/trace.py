@@ -11,7 +11,7 @@ LINE = re.compile(
 )
 # Lines that are no events: comments, what trace-cmd writes above and between, and empty ones.
 ASIDE = re.compile(r"\s*(#.*|cpus=\d+|version\s*=.*|CPU \d+ is empty|trace-cmd:.*|CPU:\d+ \[SUBBUFFER START\]|#+ CPU \d+ .*)?")
-LOST = re.compile(r"CPU:\d+ \[LOST (\d+) EVENTS?\]|.*\[EVENTS DROPPED\].*")
+LOST = re.compile(r"\s*CPU:\d+ \[(LOST \d+ EVENTS?|(\d+ )?EVENTS DROPPED)\]")
 START = re.compile(r"(?P<driver>.*?) ?(?P<device>\S+), parent: (?P<parent>.+), (?P<info>[a-z ]*)\[(?P<verb>\w+)\]")
 END = re.compile(r"(?P<driver>.*?) ?(?P<device>\S+), err=(?P<error>-?\d+)")
 STEP = re.compile(r"(?P<action>\w+)\[(?P<number>\d+)\] (?P<edge>begin|end)")
@@ -86,11 +86,11 @@ class Trace:
         elif found["event"] in ("wakeup_source_activate", "wakeup_source_deactivate"):
             self.take_source(line, found)
 
-    @staticmethod
-    def take_other(line, text):
-        if LOST.match(text):
-            raise Refused(line, f"the trace has lost events: {text[:80]!r}")
-        if not ASIDE.fullmatch(text):
+    def take_other(self, line, text):
+        is_loss = LOST.match(text)
+        if is_loss and self.attempt is not None:
+            raise Refused(line, f"the trace has lost events of an attempt: {text[:80]!r}")
+        if not is_loss and not ASIDE.fullmatch(text):
             raise Refused(line, f"no line of a trace: {text[:80]!r}")
 
     def begin(self, line):

@@ -1,0 +1,62 @@
+#!/usr/bin/env python3
+"""Tries docs/EXAMPLES.md: each example stands there, with three lines of its log in their order.
+
+usage: tools/test_examples.py
+
+The logs are those of tools/run_second.py. The files of a real machine are made anew of its trace.
+"""
+
+import json
+import pathlib
+import re
+import subprocess
+import sys
+import tempfile
+import unittest
+
+from second.rules import first_broken
+from second.run import Run
+
+ROOT = pathlib.Path(__file__).resolve().parent.parent
+EXAMPLES, SAMPLES = ROOT / "examples", ROOT / "tools" / "real" / "samples"
+PAGE = (ROOT / "docs" / "EXAMPLES.md").read_text()
+TOLD = re.findall(r"^`(\w+/[\w-]+\.json)`:[^`]*(?:`[^`\n]+`[^`]*)*?```\n(.*?)```", PAGE, re.M | re.S)
+REFUSED = {"order/parent-too-late.json": (9, "devices[0]"), "order/link-closes-a-cycle.json": (12, "links[1]")}
+LINKS = "--links", SAMPLES / "s3.links"
+MADE = {
+    "order/real-machine.json": ("--trace", SAMPLES / "s3.trace", *LINKS),
+    "failures/real-failure.json": ("--trace", SAMPLES / "noirq-fails.trace", *LINKS, "--branch", "d0", "--branch", "d3", "--branch", "d5"),
+}
+
+
+class Examples(unittest.TestCase):
+    def test_all_are_told(self):
+        files = {str(path.relative_to(EXAMPLES)) for path in EXAMPLES.rglob("*.json")}
+        self.assertEqual(files, {file for file, _ in TOLD} | set(REFUSED))
+
+    def test_lines(self):
+        for file, told in TOLD:
+            with self.subTest(file):
+                log = iter(Run(json.loads((EXAMPLES / file).read_text())).run()[0].split("\n"))
+                lines = told.strip().split("\n")
+                self.assertEqual(len(lines), 3)
+                self.assertEqual([line for line in lines if line not in log], [])
+
+    def test_refused(self):
+        for path in EXAMPLES.rglob("*.json"):
+            file = str(path.relative_to(EXAMPLES))
+            self.assertEqual(first_broken(json.loads(path.read_text())), REFUSED.get(file), file)
+            if file in REFUSED:
+                self.assertIn("`machine: rule {}: {}`".format(*REFUSED[file]), PAGE)
+
+    def test_real_machines(self):
+        for file, words in MADE.items():
+            with tempfile.TemporaryDirectory() as folder:
+                made = pathlib.Path(folder, "m.json")
+                command = [sys.executable, ROOT / "tools" / "real_machine.py", *words, "--writer", "--to", made, SAMPLES / "s3.devices"]
+                subprocess.run(command, check=True, capture_output=True)
+                self.assertEqual(made.read_text(), (EXAMPLES / file).read_text(), file)
+
+
+if __name__ == "__main__":
+    unittest.main()
