@@ -22,7 +22,7 @@ use Rattle.sleep_model.specs.declared.machine.TaskKind.TheVariants as kind
 use Rattle.sleep_model.specs.declared.machine.What.{What}
 use Rattle.sleep_model.specs.declared.machine.What.TheVariants as what
 use Rattle.sleep_model.specs.Runtime.{has_bit, is_async, may_wake}
-use Rattle.sleep_model.specs.Text.{device, source, runtime_word, link_word}
+use Rattle.sleep_model.specs.Text.{device, source, kind_word, runtime_word, link_word}
 use Rattle.machine_file.specs.Look.{is_some_and, is_none_or, text_of}
 use Rattle.machine_file.specs.Members.{list_in, has_text, number_at}
 use Rattle.machine_file.specs.Form.{Named, is_within, is_ret_form, is_notifier_form, is_near}

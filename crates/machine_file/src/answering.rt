@@ -6,18 +6,19 @@ ghost use Rattle.machine_file.specs.Spelling.{thing_word, thing_name, thing_phas
 ghost use Rattle.machine_file.specs.Writing.{with_row};
 ghost use Rattle.sleep_model.specs.Answers.{error_of_number};
 
+use crate::words::{DEVICE, NOTIFIER, PLATFORM, SYSCORE};
 use crate::writer::{JsonWriter, Written};
 use sleep_base::{Errno, Mem};
 use sleep_model::{Answer, Machine, What};
 
-fn thing_word(what: What) -> &'static [u8]
+fn thing_word(what: What) -> &'static str
     ensures { result.now ≡ thing_word what }
 {
     match what {
-        What::Device(..) => b"device",
-        What::Syscore(_) => b"syscore",
-        What::Notifier(_) => b"notifier",
-        What::Platform(_) => b"platform",
+        What::Device(..) => DEVICE,
+        What::Syscore(_) => SYSCORE,
+        What::Notifier(_) => NOTIFIER,
+        What::Platform(_) => PLATFORM,
     }
 }
 
@@ -69,7 +70,7 @@ impl Written for Answer {
         put_phase(out, self.what)?;
         out.list("reports", machine, self.reports.as_slice())?;
         put_answered(out, self)?;
-        out.text("what", thing_word(self.what))?;
+        out.text("what", thing_word(self.what).as_bytes())?;
         out.close_object()
     }
 }

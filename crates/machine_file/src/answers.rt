@@ -23,7 +23,7 @@ use crate::look::{has_text, is_number, is_text, list_in, number_at, text_at};
 use crate::operations::names_one_of;
 use crate::place::{Member, Place, items};
 use crate::places::first_repeated;
-use crate::words::step_named;
+use crate::words::{DEVICE, NOTIFIER, SYSCORE, step_named};
 use borrowed_json::{Value, get};
 use key_index::KeyIndex;
 use sleep_base::{Errno, Mem};
@@ -41,7 +41,7 @@ pub(crate) enum AnswerTest {
 pub(crate) fn is_of_device(answer: &Value<'_>) -> bool
     ensures { result ≡ is_of_device (view answer.now) }
 {
-    has_text(answer, "what", "device")
+    has_text(answer, "what", DEVICE)
 }
 
 fn has_its_phase(answer: &Value<'_>) -> bool
@@ -76,10 +76,10 @@ fn is_there(answer: &Value<'_>, known: &Known<'_>) -> bool
     if is_of_device(answer) {
         return contains(&known.devices, name);
     }
-    if has_text(answer, "what", "syscore") {
+    if has_text(answer, "what", SYSCORE) {
         return contains(&known.syscore, name);
     }
-    if has_text(answer, "what", "notifier") {
+    if has_text(answer, "what", NOTIFIER) {
         return contains(&known.notifiers, name);
     }
     is_step(name)

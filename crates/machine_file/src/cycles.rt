@@ -20,7 +20,7 @@ use borrowed_json::Value;
 use device_links::{LinkFault, Links};
 use key_index::KeyIndex;
 use sleep_base::Mem;
-use sleep_model::Link;
+use sleep_model::{Link, link_word};
 use std::alloc::Global;
 
 /// The place of a name among these, and 0 where it is none of them.
@@ -66,7 +66,7 @@ fn link_of(link: &Value<'_>, places: EndPlaces, names: &KeyIndex<&str>) -> Link
     Link {
         supplier: places.supplier.unwrap_or(0),
         consumer: places.consumer.unwrap_or(0),
-        active: !has_text(link, "state", "dormant"),
+        active: !has_text(link, "state", link_word(false)),
     }
 }
 

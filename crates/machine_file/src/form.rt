@@ -15,7 +15,9 @@ use crate::look::{
     may_be_text, may_be_truth, may_be_within, must_be_one_of, must_be_text,
 };
 use crate::place::{Member, Place};
-use crate::words::{error_in, kind_in, phase_in};
+use crate::words::{
+    AWAKE, DEVICE, EVENT, NOTIFIER, PLATFORM, RELAX, SYSCORE, error_in, kind_in, phase_in,
+};
 use borrowed_json::{Value, as_array, get};
 
 /// A day, in ms: the longest time.
@@ -140,14 +142,14 @@ fn is_ret_form(value: &Value<'_>) -> bool
 fn is_plain_report(value: &Value<'_>) -> bool
     ensures { result ≡ is_plain_report (view value.now) }
 {
-    has_only(value, &["call", "source"]) && must_be_one_of(value, "call", &["awake", "relax"])
+    has_only(value, &["call", "source"]) && must_be_one_of(value, "call", &[AWAKE, RELAX])
 }
 
 fn is_event_report(value: &Value<'_>) -> bool
     ensures { result ≡ is_event_report (view value.now) }
 {
     has_only(value, &["call", "source", "ms", "hard"])
-        && has_text(value, "call", "event")
+        && has_text(value, "call", EVENT)
         && may_be_within(value, "ms", 0, DAY)
         && may_be_truth(value, "hard")
 }
@@ -209,11 +211,8 @@ pub(crate) fn is_answer_form(value: &Value<'_>) -> bool
     has_only(
         value,
         &["what", "name", "phase", "attempt", "ret", "reports"],
-    ) && must_be_one_of(
-        value,
-        "what",
-        &["device", "syscore", "notifier", "platform"],
-    ) && must_be_text(value, "name")
+    ) && must_be_one_of(value, "what", &[DEVICE, SYSCORE, NOTIFIER, PLATFORM])
+        && must_be_text(value, "name")
         && may_have_phase(value)
         && may_be_within(value, "attempt", 1, 1000)
         && may_have_ret(value)

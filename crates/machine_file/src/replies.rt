@@ -16,7 +16,7 @@ use crate::answers::is_of_device;
 use crate::known::Known;
 use crate::look::{has_text, list_in, number_at};
 use crate::scripts::{ms_of, says, small_at, thing_at};
-use crate::words::{error_in, phase_in, step_in};
+use crate::words::{AWAKE, NOTIFIER, RELAX, SYSCORE, error_in, phase_in, step_in};
 use borrowed_json::{Value, get};
 use key_index::KeyIndex;
 use sleep_base::{Errno, Mem};
@@ -60,10 +60,10 @@ fn thing_of(answer: &Value<'_>, known: &Known<'_>) -> What
     if is_of_device(answer) {
         return What::Device(thing_at(answer, "name", &known.devices), phase_of(answer));
     }
-    if has_text(answer, "what", "syscore") {
+    if has_text(answer, "what", SYSCORE) {
         return What::Syscore(thing_at(answer, "name", &known.syscore));
     }
-    if has_text(answer, "what", "notifier") {
+    if has_text(answer, "what", NOTIFIER) {
         return What::Notifier(thing_at(answer, "name", &known.notifiers));
     }
     What::Platform(step_of(answer))
@@ -108,10 +108,10 @@ fn call_of(report: &Value<'_>) -> SourceCall
     requires { FitsAt (codes "ms") (view report.now) }
     ensures { result ≡ call_of (view report.now) }
 {
-    if has_text(report, "call", "awake") {
+    if has_text(report, "call", AWAKE) {
         return SourceCall::Awake;
     }
-    if has_text(report, "call", "relax") {
+    if has_text(report, "call", RELAX) {
         return SourceCall::Relax;
     }
     SourceCall::Event {

@@ -22,7 +22,7 @@ use crate::words::kind_in;
 use borrowed_json::{Value, get};
 use key_index::KeyIndex;
 use sleep_base::Mem;
-use sleep_model::{ListOf, Op, Script, Step, TaskKind, Text};
+use sleep_model::{ListOf, Op, Script, Step, TaskKind, Text, link_word, runtime_word};
 use std::alloc::Global;
 
 /// The number at a member, where there is one.
@@ -79,7 +79,7 @@ fn runtime_of(operation: &Value<'_>, known: &Known<'_>) -> Op
 {
     Op::Runtime {
         device: thing_at(operation, "device", &known.devices),
-        to_suspended: has_text(operation, "to", "suspended"),
+        to_suspended: has_text(operation, "to", runtime_word(true)),
     }
 }
 
@@ -100,7 +100,7 @@ fn link_state_of(operation: &Value<'_>, known: &Known<'_>) -> Op
     Op::LinkState {
         supplier: thing_at(operation, "supplier", &known.devices),
         consumer: thing_at(operation, "consumer", &known.devices),
-        active: !has_text(operation, "to", "dormant"),
+        active: !has_text(operation, "to", link_word(false)),
     }
 }
 

@@ -10,6 +10,7 @@ ghost use Rattle.machine_file.specs.Spelling.{always, count, text_row, integer_u
 ghost use Rattle.machine_file.specs.Writing.{with_row};
 
 use crate::operations::by_operation;
+use crate::words::{AWAKE, EVENT, RELAX};
 use crate::writer::{JsonWriter, Written};
 use sleep_base::Mem;
 use sleep_model::{
@@ -202,10 +203,10 @@ fn put_report(out: &mut JsonWriter, source: &[u8], call: SourceCall) -> Result<(
     ensures { OnOk result (out.new ≡ fold with_row out.old (report_rows source.now call)) }
 {
     match call {
-        SourceCall::Awake => out.text("call", b"awake")?,
-        SourceCall::Relax => out.text("call", b"relax")?,
+        SourceCall::Awake => out.text("call", AWAKE.as_bytes())?,
+        SourceCall::Relax => out.text("call", RELAX.as_bytes())?,
         SourceCall::Event { ms, hard } => {
-            out.text("call", b"event")?;
+            out.text("call", EVENT.as_bytes())?;
             out.true_if("hard", hard)?;
             out.number_unless("ms", 0, u64::from(ms))?;
         }

@@ -19,7 +19,7 @@ use bitflags::Flags;
 use borrowed_json::{Value, as_i64, get};
 use key_index::KeyIndex;
 use sleep_base::Mem;
-use sleep_model::{Device, DeviceFlags, Notifier};
+use sleep_model::{Device, DeviceFlags, Notifier, runtime_word};
 use std::alloc::Global;
 
 fn flag(set: bool, value: u8) -> u8
@@ -33,7 +33,7 @@ fn flags_of(device: &Value<'_>) -> DeviceFlags
 {
     let asynchronous = truth_at(device, "async").unwrap_or(false);
     let wakeup = truth_at(device, "wakeup").unwrap_or(false);
-    let suspended = has_text(device, "runtime", "suspended");
+    let suspended = has_text(device, "runtime", runtime_word(true));
     DeviceFlags::from_bits_retain(flag(asynchronous, 1) + flag(wakeup, 2) + flag(suspended, 4))
 }
 

@@ -13,6 +13,22 @@ use borrowed_json::{Value, as_str};
 use sleep_base::Errno;
 use sleep_model::{Phase, PlatDo, TaskKind};
 
+/// The words of what answers.
+pub(crate) const DEVICE: &str = "device";
+
+pub(crate) const SYSCORE: &str = "syscore";
+
+pub(crate) const NOTIFIER: &str = "notifier";
+
+pub(crate) const PLATFORM: &str = "platform";
+
+/// The words of calls on a source.
+pub(crate) const AWAKE: &str = "awake";
+
+pub(crate) const RELAX: &str = "relax";
+
+pub(crate) const EVENT: &str = "event";
+
 /// The error that a text names.
 pub(crate) fn error_in(value: &Value<'_>) -> Option<Errno>
     ensures { result ≡ find (λ e. is_text (name_of e) (view value.now)) errors }

@@ -1,5 +1,5 @@
 -- Turns, calls and jumps keep what a run keeps.
-use Rattle.std.proofs.Common.{◌≡◌, ◌≤◌, ◌<◌, ◌+◌, ◌++◌, ◌∙◌, ℕ, Bool, true, not, ◌&&◌, ◌||◌, nat_le, nat_lt, List, [], ◌∷◌, length, Option, Some, slice_get, slice_set, slice_index_or, zero, suc, ◌^◌, length-drop, refl, sym, ap, ap₂, subst, arith}
+use Rattle.std.proofs.Common.{◌≡◌, ◌≤◌, ◌<◌, ◌+◌, ◌++◌, ◌∙◌, ℕ, Bool, true, false, not, ◌&&◌, ◌||◌, nat_le, nat_lt, List, [], ◌∷◌, length, Option, Some, slice_get, slice_set, slice_index_or, zero, suc, ◌^◌, length-drop, refl, sym, ap, ap₂, subst, arith}
 use Rattle.std.specs.List.{list_all}
 use Rattle.std.proofs.lemmas.Bool.Decides.{nat_tests}
 use Rattle.sleep_model.specs.declared.entry.Actor.{Actor}
@@ -49,7 +49,11 @@ use Rattle.wakeup_source.specs.SourceStates.{SourceState, bare, latest}
 use Rattle.wakeup_source.specs.Told.{word_after, MayCall, source_call}
 use Rattle.sleep_run.specs.AllEntries.{all_of}
 use Rattle.sleep_run.specs.Called.{IsMade}
-use Rattle.sleep_run.specs.Firsts.{first_sources, CallsNext}
+use Rattle.wakeup_source.specs.declared.fault.SourceFault.{SourceFault}
+use Rattle.wakeup_source.specs.declared.fault.SourceFault.TheVariants as source
+use Rattle.sleep_run.specs.declared.run.RunFault.{RunFault}
+use Rattle.sleep_run.specs.declared.run.RunFault.TheVariants as fault
+use Rattle.sleep_run.specs.Firsts.{first_sources, run_fault, CallsNext}
 use Rattle.sleep_run.specs.JobsOf.{JobsState, job_at, with_job, first_jobs}
 use Rattle.sleep_run.specs.Runs.{calls_made, IsSourceOf, AreSources, AreJobs, IsRunning, IsFull}
 use Rattle.sleep_run.proofs.JobsKept.{jobs_first, jobs_entry, jobs_jump, jobs_call, jobs_expire}
@@ -362,6 +366,18 @@ module _ (m : Machine) (past : List Entry) (core : CoreState) (word : EventNow) 
   pub next_joint : (next : Option ℕ) → next ≡ next_expiry (length m.sources + 1) (λ s. history s past) → sooner (journal_time core.machine (entries core.past)) next ≡ next_time m (journal past) (λ s. history s past)
   next_joint next e =
       ap (λ (x : Machine). sooner (journal_time x (entries core.past)) next) r.machine_is ∙ (ap (λ (xs : List Entry). sooner (journal_time m xs) next) r.journal_is ∙ ap (sooner (journal_time m (journal past))) e)
+
+-- want of memory is told of no source whose history has no place for a call
+pub wanted : (s : ℕ) (past : List Entry) (old : SourceState) (f : SourceFault) (given : RunFault) → IsSourceOf s past old → length (bare old.past) ≡ length old.past → (most_entries < length old.past + 4 → f ≡ source.Full) → given ≡ run_fault f s → given ≡ fault.Mem
+    → length (history s past) + 4 ≤ most_entries
+wanted s past old source.Full given here count full is want = absurd (let no : fault.SourceFull s ≡ fault.Mem = sym is ∙ want in cc)
+wanted s past old source.Mem given here count full is want = by (nat_lt most_entries (length old.past + 4)) refl
+  where
+    by : (b : Bool) → nat_lt most_entries (length old.past + 4) ≡ b → length (history s past) + 4 ≤ most_entries
+    by true e = absurd (let less : most_entries < length old.past + 4 = grind (arith, nat_tests) in let no : source.Mem ≡ source.Full = full less in cc)
+    by false e =
+        let room : length old.past + 4 ≤ most_entries = grind (arith, nat_tests) in
+        omega (arith, room, count, ap length here.entries)
 
 -- one actor more that is not enabled
 pub none_more : (m : Machine) (past : List Entry) (now : EventNow) (kind : ℕ → Actor) (n k : ℕ) (none on : Bool) → k ≡ suc n → none ≡ none_enabled m (journal past) (λ s. history s past) now kind n

@@ -1,6 +1,6 @@
 //! Calls on sources, each as a whole.
 
-ghost use Rattle.std.specs.Prelude.{◌≡◌, ◌≤◌, ◌<◌, ◌+◌, ◌^◌, ◌++◌, ◌∷◌, [], true, length, reverse, map, drop, vec_len, vec_capacity, OnOk, OnErr, IfOk, Err};
+ghost use Rattle.std.specs.Prelude.{◌≡◌, ◌≤◌, ◌<◌, ◌+◌, ◌^◌, ◌↔◌, ◌++◌, ◌∷◌, [], true, length, reverse, map, drop, vec_len, vec_capacity, OnOk, OnErr, IfOk, Err};
 ghost use Rattle.wakeup_source.specs.declared.fault.SourceFault.TheVariants as SourceFault;
 ghost use Rattle.sleep_model.specs.Sources.{makes, since, most_entries};
 ghost use Rattle.event_word.specs.Steps.{has_places};

@@ -173,7 +173,7 @@ fn wake_ready(core: &Core<'_>, waiters: &mut Waiters, phase: Phase, devices: &[u
 }
 
 impl<'m> Run<'m> {
-    ghost use Rattle.std.specs.Prelude.{◌≡◌, ◌≤◌, ◌<◌, ◌+◌, [], true, length, reverse, IfOk, OnOk, IfErr};
+    ghost use Rattle.std.specs.Prelude.{◌≡◌, ◌≤◌, ◌<◌, ◌+◌, [], true, length, reverse, Err, IfOk, OnOk, IfErr};
     ghost use Rattle.sleep_model.specs.declared.entry.Actor.TheVariants.{Timer};
     ghost use Rattle.sleep_model.specs.declared.machine.SourceCall.TheVariants.{Expire};
     ghost use Rattle.sleep_model.specs.Accepted.{IsAccepted};
@@ -181,7 +181,8 @@ impl<'m> Run<'m> {
     ghost use Rattle.sleep_model.specs.Numbers.{time_of};
     ghost use Rattle.sleep_model.specs.Order.{parents_of};
     ghost use Rattle.sleep_model.specs.Parts.{journal};
-    ghost use Rattle.sleep_model.specs.Sources.{history, expiry, has_expired};
+    ghost use Rattle.sleep_model.specs.Sources.{history, expiry, has_expired, most_entries};
+    ghost use Rattle.sleep_run.specs.declared.run.RunFault.TheVariants as fault;
     ghost use Rattle.sleep_core.specs.Cores.{IsActor};
     ghost use Rattle.sleep_run.specs.Runs.{calls_made, Fails};
     ghost use Rattle.sleep_run.specs.Tries.{AfterAsking};
@@ -236,7 +237,8 @@ impl<'m> Run<'m> {
         Ok(Run::of_parts(machine, core, sources, jobs, waiters, others))
     }
 
-    /// An actor makes the call on a source that is next, as a whole: its note, and all steps that it makes.
+    /// An actor makes the call on a source that is next, as a whole: its note, and all steps that it makes. `Mem` only
+    /// where the source has places left for it.
     pub(crate) fn call<R: Wait>(
         &mut self,
         rt: &R,
@@ -249,6 +251,7 @@ impl<'m> Run<'m> {
         ensures machine { self.new.machine ≡ self.old.machine }
         ensures made { OnOk result (length self.old.past < length self.new.past) }
         ensures fault { IfErr result (Fails self.old.machine) }
+        ensures want { result ≡ Err fault.Mem → length (history source self.old.past) + 4 ≤ most_entries }
     {
         let by = CallBy {
             actor: who,
@@ -271,13 +274,14 @@ impl<'m> Run<'m> {
         }
     }
 
-    /// The timer of a source ends the event in progress, whose moment has come.
+    /// The timer of a source ends the event in progress, whose moment has come. Refuses as `call`.
     pub(crate) fn expire<R: Wait>(&mut self, rt: &R, source: u32) -> Result<(), RunFault>
         requires there { source ≤ length self.old.machine.sources }
         requires due { has_expired (expiry (history source self.old.past)) (time_of self.old.past) ≡ true }
         ensures machine { self.new.machine ≡ self.old.machine }
         ensures made { OnOk result (length self.old.past < length self.new.past) }
         ensures fault { IfErr result (Fails self.old.machine) }
+        ensures want { result ≡ Err fault.Mem → length (history source self.old.past) + 4 ≤ most_entries }
     {
         let by = CallBy {
             actor: Actor::Timer(source),

@@ -1,8 +1,8 @@
-use Rattle.std.proofs.Common.{◌≡◌, ◌≤◌, ◌∙◌, ℕ, true, length, refl, sym, ap, subst, Err}
+use Rattle.std.proofs.Common.{◌≡◌, ◌≤◌, ◌+◌, ◌∙◌, ℕ, true, length, refl, sym, ap, subst, Err}
 use Rattle.sleep_model.specs.declared.entry.Actor.TheVariants as actor
 use Rattle.sleep_model.specs.declared.machine.SourceCall.TheVariants as call
 use Rattle.sleep_model.specs.Numbers.{time_of}
-use Rattle.sleep_model.specs.Sources.{history, expiry, has_expired}
+use Rattle.sleep_model.specs.Sources.{history, expiry, has_expired, most_entries}
 use Rattle.wakeup_source.specs.declared.call_by.CallBy.{CallBy}
 use Rattle.wakeup_source.specs.declared.fault.SourceFault.{SourceFault}
 use Rattle.wakeup_source.specs.declared.fault.SourceFault.TheVariants as source
@@ -13,7 +13,7 @@ use Rattle.sleep_run.specs.declared.run.RunFault.{RunFault}
 use Rattle.sleep_run.specs.Firsts.{run_fault}
 use Rattle.sleep_run.specs.RunFields.{state}
 use Rattle.sleep_run.specs.Runs.{RunState, Fails, IsFull}
-use Rattle.sleep_run.proofs.Running.{time_joint, can_make, running_expire, is_full}
+use Rattle.sleep_run.proofs.Running.{time_joint, can_make, running_expire, is_full, wanted}
 use Rattle.sleep_run.proofs.SourcesKept.{bare_count}
 use Rattle.sleep_run.proofs.run.Run.expire.Goals as goal
 
@@ -66,4 +66,14 @@ returns-in-Err-clause-fault g c =
     let at : c.time.result ≡ time_of (all_of r.core.past r.others.items) = c.time.ensures.time ∙ time_joint r.machine.now (all_of r.core.past r.others.items) r.core r.events r.sources.items r.jobs r.floor c.self.invariant.0 in
     let here = (can_make r.machine.now (all_of r.core.past r.others.items) r.core r.events r.sources.items r.jobs r.floor c.self.invariant.0 c.args.source call.Expire c.index_mut-one.result.now c.time.result t c.index_mut-one.ensures.value at).here in
     failed r c.args.self.now c.self.view_is c.args.source c.in-Err.fault c.fault_of.result c.fault_of.ensures
-    (λ e. is_full r.machine.now (all_of r.core.past r.others.items) r.core r.events r.sources.items r.jobs r.floor c.self.invariant.0 c.args.source c.index_mut-one.result.now t here (bare_count c.index_mut-one.result.now.past) (c.in-Err.ensures.full (ap Err e)))
+    (λ e. is_full r.machine.now (all_of r.core.past r.others.items) r.core r.events r.sources.items r.jobs r.floor c.self.invariant.0 c.args.source c.index_mut-one.result.now t here (bare_count c.index_mut-one.result.now.past) (c.in-Err.ensures.full.0 (ap Err e)))
+
+pub returns-in-Err-clause-want : goal.returns-in-Err-clause-want
+returns-in-Err-clause-want g c want =
+    let r = c.self.inside in
+    let t = there r c.args.self.now c.self.view_is c.args.source c.requires.there in
+    let at : c.time.result ≡ time_of (all_of r.core.past r.others.items) = c.time.ensures.time ∙ time_joint r.machine.now (all_of r.core.past r.others.items) r.core r.events r.sources.items r.jobs r.floor c.self.invariant.0 in
+    let here = (can_make r.machine.now (all_of r.core.past r.others.items) r.core r.events r.sources.items r.jobs r.floor c.self.invariant.0 c.args.source call.Expire c.index_mut-one.result.now c.time.result t c.index_mut-one.ensures.value at).here in
+    subst (λ (x : RunState). length (history c.args.source x.past) + 4 ≤ most_entries) c.self.view_is
+    (wanted c.args.source (all_of r.core.past r.others.items) c.index_mut-one.result.now c.in-Err.fault c.fault_of.result here (bare_count c.index_mut-one.result.now.past)
+    (λ l. (let full = c.in-Err.ensures.full.1 l in cc)) c.fault_of.ensures (cc))
