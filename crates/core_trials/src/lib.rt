@@ -2,9 +2,9 @@
 #![tactic(auto)]
 
 mod moving;
-mod threads;
 #[cfg(test)]
 mod tests;
+mod threads;
 
 pub use moving::MovingWord;
 pub use threads::sent_core;

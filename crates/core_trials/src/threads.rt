@@ -4,7 +4,7 @@ use sleep_core::Core;
 
 /// What may be sent to a thread, and nothing else, goes through.
 fn sent<T: Send + Drop>(value: T) -> T
-    ensures { result ≡ value.entry }
+    ensures { result ≡ value }
 {
     value
 }

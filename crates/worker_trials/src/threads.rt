@@ -5,14 +5,14 @@ use wakeup_source::{MOST_ENTRIES, WakeSource};
 
 /// What may be sent to a thread, and nothing else, goes through.
 fn sent<T: Send + Drop>(value: T) -> T
-    ensures { result ≡ value.entry }
+    ensures { result ≡ value }
 {
     value
 }
 
 /// A source may be sent to a thread.
 pub fn sent_source(source: WakeSource<MOST_ENTRIES>) -> WakeSource<MOST_ENTRIES>
-    ensures { result ≡ source.entry }
+    ensures { result ≡ source }
 {
     sent(source)
 }
@@ -26,7 +26,7 @@ pub fn sent_job(job: Job<'_>) -> Job<'_>
 
 /// And that of a source's timer.
 pub fn sent_timer(job: TimerJob) -> TimerJob
-    ensures { result ≡ job.entry }
+    ensures { result ≡ job }
 {
     sent(job)
 }
