@@ -4,5 +4,7 @@
 mod moving;
 #[cfg(test)]
 mod tests;
+mod threads;
 
 pub use moving::MovingWord;
+pub use threads::sent_core;

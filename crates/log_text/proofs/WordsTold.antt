@@ -19,7 +19,7 @@ use Rattle.sleep_model.specs.declared.machine.PlatDo.TheVariants as down
 use Rattle.sleep_model.specs.declared.machine.PlatUndo.{PlatUndo}
 use Rattle.sleep_model.specs.declared.machine.PlatUndo.TheVariants as up
 use Rattle.sleep_model.specs.Text.{cause_text, group_word, down_word, up_word, error_text, prepare_text}
-use Rattle.log_text.specs.Words.{errno_in, answer_in, error_number, phase_in, cause_in, group_in, down_in, is_negative}
+use Rattle.log_text.specs.Words.{errno_in, error_number, phase_in, cause_in, group_in, down_in, is_negative}
 use Rattle.log_text.specs.Reading.{platform_kind}
 use Rattle.log_text.proofs.WordsBack.{errno_back, phase_back, cause_back, group_back, down_back}
 

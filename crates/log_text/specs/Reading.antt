@@ -17,8 +17,8 @@ use Rattle.sleep_model.specs.declared.log.Why.TheVariants as why
 use Rattle.sleep_model.specs.declared.machine.Machine.{Machine}
 use Rattle.sleep_model.specs.declared.machine.PlatUndo.TheVariants as up
 use Rattle.sleep_model.specs.Text.{source_names}
-use Rattle.log_text.specs.declared.verb.Verb.{Verb}
-use Rattle.log_text.specs.declared.verb.Verb.TheVariants as verb
+use Rattle.log_text.specs.declared.reading.verb.Verb.{Verb}
+use Rattle.log_text.specs.declared.reading.verb.Verb.TheVariants as verb
 use Rattle.log_text.specs.Named.{device_names, notifier_names, script_names}
 use Rattle.log_text.specs.Cutting.{before, behind, word, rest, word32, word64, place_in}
 use Rattle.log_text.specs.Words.{errno_in, answer_in, prepare_in, phase_in, cause_in, group_in, thaw_in, down_in}

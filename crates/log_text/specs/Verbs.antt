@@ -1,8 +1,8 @@
 -- The first words of what entries say.
 use Rattle.std.specs.Prelude.{ℕ, List, codes, Option, Some, None, if◌then◌else◌}
 use Rattle.std.specs.Str.{bytes_eq}
-use Rattle.log_text.specs.declared.verb.Verb.{Verb}
-use Rattle.log_text.specs.declared.verb.Verb.TheVariants as verb
+use Rattle.log_text.specs.declared.reading.verb.Verb.{Verb}
+use Rattle.log_text.specs.declared.reading.verb.Verb.TheVariants as verb
 
 -- first words of attempts' starts and ends, of notifiers, the freezer, the platform and processors
 abbrev pub attempt_verb : List ℕ → Option Verb

@@ -4,8 +4,8 @@ use Rattle.std.specs.List.{list_any}
 use Rattle.std.specs.Option.{option_eq}
 use Rattle.serde_json.specs.Data.{Data}
 use Rattle.sleep_model.specs.Answers.{is_for}
-use Rattle.machine_file.specs.declared.answers.Given.{Given}
-use Rattle.machine_file.specs.contracts.answers.GivenPartialEq.TheImpl.{eq-value}
+use Rattle.machine_file.specs.declared.rules.answers.Given.{Given}
+use Rattle.machine_file.specs.contracts.rules.answers.GivenPartialEq.TheImpl.{eq-value}
 use Rattle.machine_file.specs.Answering.{is_same_answer}
 use Rattle.machine_file.specs.Seen.{answer_seen, answer_written, same_answer}
 use Rattle.machine_file.specs.Places.{first_not_after}

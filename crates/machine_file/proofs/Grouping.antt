@@ -8,7 +8,7 @@ use Rattle.machine_file.specs.Members.{list_in, file_members}
 use Rattle.machine_file.specs.Devices.{cyclic_link, closes_no_cycle, orphan, loose_link, repeated_link}
 use Rattle.machine_file.specs.Joined.{AreJoined}
 use Rattle.machine_file.specs.Kept.{broken_form, broken_devices, broken_cycle, broken_rest, first_in_order}
-use Rattle.machine_file.specs.declared.known.Known.{Known}
+use Rattle.machine_file.specs.declared.names.known.Known.{Known}
 use Rattle.machine_file.specs.Knows.{Knows, AreFew, texts}
 use Rattle.machine_file.specs.Form.{Named, row, first_row, unformed_member, unformed_item}
 use Rattle.machine_file.specs.Limits.{too_many, most_items}

@@ -7,8 +7,8 @@ use Rattle.std.proofs.Math.Seq.{take-suc}
 use Rattle.std.proofs.lemmas.List.{get_or-map, length-map, map-append}
 use Rattle.serde_json.specs.Data.{Data}
 use Rattle.borrowed_json.specs.View.{Value, view}
-use Rattle.machine_file.specs.declared.pairs.Ends.{Ends}
-use Rattle.machine_file.specs.declared.pairs.EndPlaces.{EndPlaces}
+use Rattle.machine_file.specs.declared.rules.pairs.Ends.{Ends}
+use Rattle.machine_file.specs.declared.rules.pairs.EndPlaces.{EndPlaces}
 use Rattle.machine_file.specs.Look.{is_none_or, text_at}
 use Rattle.machine_file.specs.Members.{word_at}
 use Rattle.machine_file.specs.Names.{is_among_names}

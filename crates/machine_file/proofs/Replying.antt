@@ -4,7 +4,7 @@ use Rattle.serde_json.specs.Data.{Data}
 use Rattle.sleep_model.specs.declared.machine.Answer.{Answer}
 use Rattle.sleep_model.specs.declared.machine.What.TheVariants as what
 use Rattle.sleep_model.specs.Text.{down_word}
-use Rattle.machine_file.specs.declared.known.Known.{Known}
+use Rattle.machine_file.specs.declared.names.known.Known.{Known}
 use Rattle.machine_file.specs.Knows.{Knows, texts}
 use Rattle.machine_file.specs.Members.{has_text, list_in, number_at}
 use Rattle.machine_file.specs.Names.{devices_named, texts_in, names_in}

@@ -4,8 +4,8 @@ use Rattle.serde_json.specs.Data.{Data}
 use Rattle.serde_json.specs.Find.{get, as_str}
 use Rattle.sleep_model.specs.declared.machine.Op.{Op}
 use Rattle.sleep_model.specs.declared.machine.Op.TheVariants.{Read}
-use Rattle.machine_file.specs.declared.operations.Word.{Word}
-use Rattle.machine_file.specs.declared.operations.Word.TheVariants as word
+use Rattle.machine_file.specs.declared.rules.operations.Word.{Word}
+use Rattle.machine_file.specs.declared.rules.operations.Word.TheVariants as word
 use Rattle.machine_file.specs.Look.{is_some_and, is_text}
 use Rattle.machine_file.specs.Members.{has_text, word_at}
 use Rattle.machine_file.specs.Operations.{Known, Operation, operations, row_of, changes_links, spelled_op, whole_op}

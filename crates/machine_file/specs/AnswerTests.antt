@@ -6,9 +6,9 @@ use Rattle.sleep_model.specs.declared.machine.Answer.{Answer}
 use Rattle.sleep_model.specs.declared.machine.What.{What}
 use Rattle.sleep_model.specs.declared.machine.What.TheVariants as what
 use Rattle.sleep_model.specs.Text.{down_word}
-use Rattle.machine_file.specs.declared.answers.AnswerTest.{AnswerTest}
-use Rattle.machine_file.specs.declared.answers.AnswerTest.TheVariants as test
-use Rattle.machine_file.specs.declared.known.Known.{Known}
+use Rattle.machine_file.specs.declared.rules.answers.AnswerTest.{AnswerTest}
+use Rattle.machine_file.specs.declared.rules.answers.AnswerTest.TheVariants as test
+use Rattle.machine_file.specs.declared.names.known.Known.{Known}
 use Rattle.machine_file.specs.Knows.{texts}
 use Rattle.machine_file.specs.Members.{may_have, has_text, list_in, number_at}
 use Rattle.machine_file.specs.Names.{is_among_names}

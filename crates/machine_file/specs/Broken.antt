@@ -1,9 +1,9 @@
 -- A place that breaks a rule, as it is written.
 use Rattle.std.specs.Prelude.{ℕ, List, codes, Option, option_map}
-use Rattle.machine_file.specs.declared.place.Member.{Member}
-use Rattle.machine_file.specs.declared.place.Member.TheVariants as member
-use Rattle.machine_file.specs.declared.place.Place.{Place}
-use Rattle.machine_file.specs.declared.place.Place.TheVariants as place
+use Rattle.machine_file.specs.declared.value.place.Member.{Member}
+use Rattle.machine_file.specs.declared.value.place.Member.TheVariants as member
+use Rattle.machine_file.specs.declared.value.place.Place.{Place}
+use Rattle.machine_file.specs.declared.value.place.Place.TheVariants as place
 use Rattle.machine_file.specs.Places.{item_place, operation_place}
 use Rattle.machine_file.specs.declared.rules.Broken.{Broken as Found}
 use Rattle.machine_file.specs.Whole.{Broken}

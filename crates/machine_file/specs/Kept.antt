@@ -3,10 +3,10 @@ use Rattle.std.specs.Prelude.{◌≡◌, Option, Some, None, reverse}
 use Rattle.std.specs.Option.{option_or, option_map}
 use Rattle.serde_json.specs.Data.{Data}
 use Rattle.sleep_model.specs.Order.{parents_of}
-use Rattle.machine_file.specs.declared.known.Known.{Known}
-use Rattle.machine_file.specs.declared.cycles.Linking.{Linking}
-use Rattle.machine_file.specs.declared.machine.Checked.{Checked}
-use Rattle.machine_file.specs.declared.machine.Checked.TheVariants as checked
+use Rattle.machine_file.specs.declared.names.known.Known.{Known}
+use Rattle.machine_file.specs.declared.rules.cycles.Linking.{Linking}
+use Rattle.machine_file.specs.declared.reading.machine.Checked.{Checked}
+use Rattle.machine_file.specs.declared.reading.machine.Checked.TheVariants as checked
 use Rattle.machine_file.specs.Devices.{whole_devices, whole_links, cyclic_link}
 use Rattle.machine_file.specs.Whole.{Broken, first_of, broken_at}
 use Rattle.machine_file.specs.Groups.{form_rules, device_rules, thing_rules, operation_rules, answer_rules}

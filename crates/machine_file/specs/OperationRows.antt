@@ -4,11 +4,11 @@ use Rattle.std.specs.List.{find}
 use Rattle.serde_json.specs.Data.{Data}
 use Rattle.sleep_model.specs.declared.machine.Op.{Op}
 use Rattle.sleep_model.specs.declared.machine.Op.TheVariants.{Read, Save, State, Autosleep, Sleep, SleepD, FreezePoint, Post, Wait, Runtime, Link, LinkState, Awake, Relax, Event}
-use Rattle.machine_file.specs.declared.operations.Word.{Word}
-use Rattle.machine_file.specs.declared.operations.Word.TheVariants as word
-use Rattle.machine_file.specs.declared.operations.OperationTest.{OperationTest}
-use Rattle.machine_file.specs.declared.operations.OperationTest.TheVariants as test
-use Rattle.machine_file.specs.declared.known.Known.{Known}
+use Rattle.machine_file.specs.declared.rules.operations.Word.{Word}
+use Rattle.machine_file.specs.declared.rules.operations.Word.TheVariants as word
+use Rattle.machine_file.specs.declared.rules.operations.OperationTest.{OperationTest}
+use Rattle.machine_file.specs.declared.rules.operations.OperationTest.TheVariants as test
+use Rattle.machine_file.specs.declared.names.known.Known.{Known}
 use Rattle.machine_file.specs.Knows.{texts}
 use Rattle.machine_file.specs.Look.{text_at}
 use Rattle.machine_file.specs.Members.{has_text, number_at}

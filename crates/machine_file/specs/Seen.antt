@@ -2,9 +2,9 @@
 use Rattle.std.specs.Prelude.{◌≡◌, ℕ, List, map, Bool, not, ◌&&◌, bytes_eq, codes, is_some, position, Option}
 use Rattle.serde_json.specs.Data.{Data}
 use Rattle.sleep_model.specs.Answers.{is_for}
-use Rattle.machine_file.specs.declared.pairs.Ends.{Ends}
-use Rattle.machine_file.specs.declared.pairs.EndPlaces.{EndPlaces}
-use Rattle.machine_file.specs.declared.answers.Given.{Given}
+use Rattle.machine_file.specs.declared.rules.pairs.Ends.{Ends}
+use Rattle.machine_file.specs.declared.rules.pairs.EndPlaces.{EndPlaces}
+use Rattle.machine_file.specs.declared.rules.answers.Given.{Given}
 use Rattle.machine_file.specs.Look.{text_at}
 use Rattle.machine_file.specs.Members.{number_at, list_in}
 use Rattle.machine_file.specs.Names.{devices_named}

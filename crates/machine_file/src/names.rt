@@ -1,4 +1,7 @@
 //! The names of things, and where one stands a second time.
+pub(crate) mod known;
+pub(crate) mod marks;
+pub(crate) mod places;
 
 ghost use Rattle.std.specs.Prelude.{◌≡◌, ◌∷◌, [], not, map, bytes_eq, codes, IfOk};
 ghost use Rattle.std.specs.List.{list_any};
@@ -10,8 +13,8 @@ ghost use Rattle.machine_file.specs.Places.{first_not_after};
 ghost use Rattle.machine_file.specs.Names.{names_in, texts_in, is_among_names};
 ghost use Rattle.machine_file.specs.Broken.{member_name};
 
-use crate::look::{text_at, text_of};
-use crate::place::{Member, items};
+use crate::value::look::{text_at, text_of};
+use crate::value::place::{Member, items};
 use borrowed_json::Value;
 use key_index::KeyIndex;
 use sleep_base::Mem;
@@ -65,5 +68,5 @@ fn texts_of<'v>(alloc: Global, list: &[Value<'v>]) -> Result<Vec<&'v str>, Mem>
 pub(crate) fn first_repeated(names: &KeyIndex<&str>) -> Option<usize>
     ensures { result ≡ first_not_after (λ before name. not (is_among_names before name)) [] 0 (map (λ s. s.now) names.now) }
 {
-    crate::places::first_repeated(names)
+    crate::names::places::first_repeated(names)
 }

@@ -1,3 +1,10 @@
+pub(crate) mod machine;
+pub(crate) mod replies;
+pub(crate) mod scripts;
+pub(crate) mod texts;
+pub(crate) mod things;
+pub(crate) mod whole;
+
 ghost use Rattle.std.specs.Prelude.{◌≡◌, ◌++◌, codes, Some, IfOk, IfErr, string_bytes};
 ghost use Rattle.borrowed_json.specs.View.{view};
 ghost use Rattle.sleep_model.specs.Accepted.{IsAccepted};
@@ -8,11 +15,11 @@ ghost use Rattle.machine_file.specs.Places.{item_place};
 ghost use Rattle.machine_file.specs.Broken.{broken_view, place_text};
 
 use crate::fault::MachineFault;
-use crate::machine::{Checked, check};
-use crate::place::Place;
+use crate::reading::machine::{Checked, check};
+use crate::reading::whole::read_of;
 use crate::rules::Broken;
-use crate::tree::tree_of;
-use crate::whole::read_of;
+use crate::value::place::Place;
+use crate::value::tree::tree_of;
 use borrowed_json::{Scratch, Value};
 use device_links::Links;
 use sleep_model::Machine;

@@ -1,4 +1,11 @@
 //! The rules of a machine file, in the order in which a broken one is named.
+pub(crate) mod answers;
+pub(crate) mod cycles;
+pub(crate) mod form;
+pub(crate) mod items;
+pub(crate) mod limits;
+pub(crate) mod operations;
+pub(crate) mod pairs;
 
 ghost use Rattle.std.specs.Prelude.{◌≡◌, option_map, codes, IfOk};
 ghost use Rattle.borrowed_json.specs.View.{view};
@@ -15,15 +22,17 @@ ghost use Rattle.machine_file.specs.Knows.{Knows};
 ghost use Rattle.machine_file.specs.Seen.{AreEnds, ArePlaced};
 ghost use Rattle.machine_file.specs.Broken.{place_of, broken_view};
 
-use crate::answers::{AnswerTest, first_answer, repeated_answer};
-use crate::form::unformed_member;
-use crate::items::{is_second, misspelled_item, unformed_item};
-use crate::known::{Known, repeated_actor, repeated_callback, repeated_device, repeated_source};
-use crate::limits::{too_many, too_much};
-use crate::look::{has_number, has_only};
-use crate::operations::{OperationTest, first_operation};
-use crate::pairs::{EndPlaces, Ends, loose_link, orphan, repeated_link};
-use crate::place::{Member, Place};
+use crate::names::known::{
+    Known, repeated_actor, repeated_callback, repeated_device, repeated_source,
+};
+use crate::rules::answers::{AnswerTest, first_answer, repeated_answer};
+use crate::rules::form::unformed_member;
+use crate::rules::items::{is_second, misspelled_item, unformed_item};
+use crate::rules::limits::{too_many, too_much};
+use crate::rules::operations::{OperationTest, first_operation};
+use crate::rules::pairs::{EndPlaces, Ends, loose_link, orphan, repeated_link};
+use crate::value::look::{has_number, has_only};
+use crate::value::place::{Member, Place};
 use borrowed_json::Value;
 use sleep_base::Mem;
 use std::alloc::Global;

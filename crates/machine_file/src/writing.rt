@@ -1,8 +1,13 @@
+pub(crate) mod answering;
+pub(crate) mod quoted;
+pub(crate) mod spelling;
+pub(crate) mod writer;
+
 ghost use Rattle.std.specs.Prelude.{◌≡◌, IfOk, OnOk};
 ghost use Rattle.machine_file.specs.Spelling.{machine_value, spelling};
 ghost use Rattle.machine_file.specs.Writing.{with_item};
 
-use crate::writer::JsonWriter;
+use crate::writing::writer::JsonWriter;
 use sleep_base::Mem;
 use sleep_model::Machine;
 use std::alloc::Global;

@@ -1,19 +1,21 @@
 -- What an ending without a log means.
-use Rattle.std.proofs.Common.{◌≡◌, ℕ, List, Some, refl}
+use Rattle.std.proofs.Common.{◌≡◌, ℕ, List, Some, refl, sym, subst}
 use Rattle.sleep_model.specs.declared.machine.Machine.{Machine}
 use Rattle.machine_file.specs.Whole.{machine_in}
-use Rattle.sleep_run.specs.Runs.{IsFull}
+use Rattle.sleep_run.specs.declared.run.RunFault.{RunFault}
+use Rattle.sleep_run.specs.declared.run.RunFault.TheVariants as fault
+use Rattle.sleep_run.specs.Runs.{Fails, IsFull}
 use Rattle.sleep_main.specs.declared.ending.Ending.{Ending}
 use Rattle.sleep_main.specs.declared.ending.Ending.TheVariants.{Done, Stuck, NoForm, TooLong, Broken, ReadFault, WriteFault, SourceFull, NoMemory}
 use Rattle.sleep_model.specs.Text.{text}
 use Rattle.sleep_main.specs.declared.top.Ran.{Ran}
-use Rattle.sleep_main.specs.Endings.{Streams, ReadWhole, KeepsOut, IsFullNamed, EndsWithout, IsLogOf, IsRunOf, RunEnded, WritesLog, is_stuck}
+use Rattle.sleep_main.specs.Endings.{Streams, ReadWhole, KeepsOut, IsEndingOf, IsFullNamed, EndsWithout, IsLogOf, IsRunOf, RunEnded, WritesLog, is_stuck}
 use Rattle.sleep_main.proofs.Generating.{ends_as}
 
 -- a source that is full is named
 pub fills : (bytes : List ℕ) (m : Machine) (s : ℕ) (ending : Ending) → machine_in bytes ≡ Some m → IsFull m s → IsFullNamed m s ending → EndsWithout bytes ending
 fills bytes m s (SourceFull name) spells full named = record { machine = m; number = s; spells = spells; full = full; named = named }
-fills bytes m s NoMemory spells full named = tt
+fills bytes m s NoMemory spells full named = absurd named
 fills bytes m s Done spells full named = named
 fills bytes m s Stuck spells full named = named
 fills bytes m s NoForm spells full named = named
@@ -21,6 +23,11 @@ fills bytes m s TooLong spells full named = named
 fills bytes m s (Broken rule place) spells full named = absurd named
 fills bytes m s ReadFault spells full named = named
 fills bytes m s WriteFault spells full named = named
+
+-- a run that gives no log ends the program so
+pub ended_fault : (bytes : List ℕ) (m : Machine) (f : RunFault) (ending : Ending) → machine_in bytes ≡ Some m → Fails m f → IsEndingOf m f ending → EndsWithout bytes ending
+ended_fault bytes m (fault.SourceFull s) ending spells fails is = fills bytes m s ending spells fails is
+ended_fault bytes m fault.Mem ending spells fails is = subst (EndsWithout bytes) (sym is) tt
 
 -- a whole input that gives no text ends the program so
 pub ended_without : (old new : Streams) (bytes : List ℕ) (ending : Ending) → ReadWhole old new bytes → KeepsOut old new → EndsWithout bytes ending → RunEnded old new ending

@@ -18,6 +18,8 @@ use Rattle.sleep_main.specs.Counting.{count_line, counts_of}
 use Rattle.sleep_main.specs.declared.ending.Ending.{Ending}
 use Rattle.sleep_main.specs.declared.ending.Ending.TheVariants.{Done, Stuck, NoForm, TooLong, Broken, ReadFault, WriteFault, SourceFull, NoMemory}
 use Rattle.sleep_main.specs.declared.top.Ran.{Ran}
+use Rattle.sleep_run.specs.declared.run.RunFault.{RunFault}
+use Rattle.sleep_run.specs.declared.run.RunFault.TheVariants as fault
 use Rattle.sleep_run.specs.Runs.{IsRun, IsFull}
 
 -- the program's status
@@ -131,11 +133,15 @@ pub record FillsSource (bytes name : List ℕ) : Type 0 where
   pub full : IsFull machine number
   pub named : name ≡ source machine number
 
--- the ending names that source of the machine, or memory ran out
+-- the ending names that source of the machine
 abbrev pub IsFullNamed : Machine → ℕ → Ending → Type 0
 IsFullNamed m s (SourceFull name) = name ≡ source m s
-IsFullNamed m s NoMemory = Unit {0}
 IsFullNamed m s _ = ⊥
+
+-- how the program ends where a run gives no log: a full source is named, and only want of memory is told as such
+abbrev pub IsEndingOf : Machine → RunFault → Ending → Type 0
+IsEndingOf m (fault.SourceFull s) ending = IsFullNamed m s ending
+IsEndingOf m fault.Mem ending = ending ≡ NoMemory
 
 -- how the program ends where the bytes give no text: they break a rule, or spell a machine that fills a source, or memory ran out
 abbrev pub EndsWithout : List ℕ → Ending → Type 0

@@ -1,9 +1,10 @@
-ghost use Rattle.std.specs.Prelude.{◌≡◌, ◌≤◌, ◌++◌, IfOk, IfSome, map, string_bytes};
+ghost use Rattle.std.specs.Prelude.{◌≡◌, ◌≤◌, ◌++◌, IfOk, IfSome, codes, length, map, string_bytes};
 ghost use Rattle.sleep_base.specs.Whole.{WriteAll};
 ghost use Rattle.command_line.specs.Words.{IsInRange};
 ghost use Rattle.sleep_main.specs.declared.ending.Ending.{Ending};
-ghost use Rattle.sleep_main.specs.Endings.{GivesRun, IsFullNamed, RunEnded, WritesLog, Ended, Completes, Says, status_of, stream, streams, text_of};
+ghost use Rattle.sleep_main.specs.Endings.{GivesRun, IsEndingOf, IsFullNamed, RunEnded, WritesLog, Ended, Completes, Says, status_of, stream, streams, text_of};
 ghost use Rattle.sleep_main.specs.Words.{asked, is_done};
+ghost use Rattle.sleep_run.specs.Runs.{Fails};
 
 use crate::ending::Ending;
 use crate::generated::{soak_generated, write_generated};
@@ -21,13 +22,35 @@ use std::sync::Wait;
 /// The most bytes that a machine file has.
 const MOST_BYTES: u32 = 16_777_216;
 
+/// The name of the source of autosleep.
+fn autosleep() -> Name
+    ensures { result ≡ codes "autosleep" }
+{
+    match Name::of_bytes(b"autosleep") {
+        Some(name) => name,
+        None => unreachable!(),
+    }
+}
+
 /// That a source has no place for a call, by its name.
 fn full(machine: &Machine, source: u32) -> Ending
+    requires { source ≤ length machine.now.sources }
     ensures { IsFullNamed machine.now source result }
 {
-    match Name::of_bytes(machine.source_name(source)) {
-        Some(name) => Ending::SourceFull(name),
-        None => Ending::NoMemory,
+    match machine.sources.as_slice().get(source as usize) {
+        Some(name) => Ending::SourceFull(*name),
+        None => Ending::SourceFull(autosleep()),
+    }
+}
+
+/// How the program ends where a run gives no log: a full source is named, and never told as want of memory.
+fn without_log(machine: &Machine, fault: RunFault) -> Ending
+    requires { Fails machine.now fault }
+    ensures { IsEndingOf machine.now fault result }
+{
+    match fault {
+        RunFault::SourceFull(source) => full(machine, source),
+        RunFault::Mem => Ending::NoMemory,
     }
 }
 
@@ -40,6 +63,7 @@ pub struct Ran {
 
 /// The machine that the bytes spell with the log of its run, or how the program ends without one: `Broken` where
 /// they break a rule and so spell none, `SourceFull` where a source's history has no place for a call, `NoMemory` where there is no memory.
+#[tactic(auto, using(crate::proofs::Filling::ended_fault))]
 fn run_of_bytes<R: Wait>(rt: &R, alloc: Global, bytes: &[u8]) -> Result<Ran, Ending>
     ensures { GivesRun bytes.now result }
 {
@@ -53,8 +77,7 @@ fn run_of_bytes<R: Wait>(rt: &R, alloc: Global, bytes: &[u8]) -> Result<Ran, End
             machine,
             log: run.log,
         }),
-        Err(RunFault::SourceFull(source)) => Err(full(&machine, source)),
-        Err(RunFault::Mem) => Err(Ending::NoMemory),
+        Err(fault) => Err(without_log(&machine, fault)),
     }
 }
 

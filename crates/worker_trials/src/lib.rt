@@ -29,6 +29,7 @@ mod script_tests;
 mod source_tests;
 #[cfg(test)]
 mod sysfs_tests;
+mod threads;
 #[cfg(test)]
 mod word_overlap_tests;
 #[cfg(test)]
@@ -37,3 +38,5 @@ mod word_table_tests;
 mod word_tests;
 #[cfg(test)]
 mod word_thread_tests;
+
+pub use threads::{sent_job, sent_source, sent_timer};

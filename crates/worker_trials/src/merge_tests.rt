@@ -1,7 +1,8 @@
-use log_merge::{LogReader, merge, rises};
+use log_merge::{LogReader, merge, merge_journal, rises};
 use sleep_base::Errno;
 use sleep_model::{
-    Actor, Entry, EntryList, EventNow, JournalEntry, Kind, ListOf, SourceEntry, SourceList, Stamp,
+    Actor, Entry, EntryList, EventNow, Journal, JournalEntry, Kind, ListOf, SourceEntry,
+    SourceList, Stamp,
 };
 use std::alloc::Global;
 use std::process::Abort;
@@ -99,6 +100,29 @@ fn an_event_stands_between_a_read_and_a_save(rt: HostRuntime) -> Result<(), Fail
     let read = of_task(0, 0, 1, Kind::Read(0));
     let save = of_task(4, 2, 5, Kind::SaveErr(0, Errno::EINVAL));
     let log = merged(rt.alloc(), &[read, save], &histories)?;
+    assert!(rt; has_times(&log, &[0, 1, 2, 3, 4]));
+    Ok(())
+}
+
+/// So it stands where the journal is kept as it is, and behind its last entry too.
+#[test]
+fn a_journal_is_merged_as_it_is_kept(rt: HostRuntime) -> Result<(), Fail> {
+    let other = Actor::Script(1);
+    let note = made(1, 0, 2, other, Kind::Awake(0));
+    let start = made(2, 0, 3, other, Kind::Start(0));
+    let relax = made(4, 3, 6, other, Kind::Relax(0));
+    let history: SourceList = ListOf::of_vec(Vec::from_array(rt.alloc(), [note, start, relax])?);
+    let histories = Vec::from_array(rt.alloc(), [history])?;
+    let read = of_task(0, 0, 1, Kind::Read(0));
+    let save = of_task(3, 2, 5, Kind::SaveErr(0, Errno::EINVAL));
+    if !rises(&[read, save]) {
+        return Err("a journal that does not rise".into());
+    }
+    let mut journal = Journal::new(rt.alloc());
+    journal.reserve(2)?;
+    journal.put(read);
+    journal.put(save);
+    let log = merge_journal(rt.alloc(), journal, &histories)?;
     assert!(rt; has_times(&log, &[0, 1, 2, 3, 4]));
     Ok(())
 }

@@ -1,0 +1,18 @@
+//! From the lines of a log to the log.
+
+pub(crate) mod attempts;
+pub(crate) mod book;
+pub(crate) mod cut;
+pub(crate) mod devices;
+pub(crate) mod ends;
+pub(crate) mod entries;
+pub(crate) mod index;
+pub(crate) mod kinds;
+pub(crate) mod lines;
+pub(crate) mod meaning;
+pub(crate) mod names;
+pub(crate) mod number;
+pub(crate) mod read;
+pub(crate) mod reader;
+pub(crate) mod steps;
+pub(crate) mod verb;

@@ -1,0 +1,74 @@
+ghost use Rattle.std.specs.Prelude.{◌≡◌, true, IfSome};
+ghost use Rattle.sleep_model.specs.Fits.{fits_word, fits_actor, fits_entry, is_word64};
+ghost use Rattle.log_text.specs.Reading.{now_in, actor_in, said_in, entry_in};
+
+use crate::reading::book::NameBook;
+use crate::reading::cut::{cut, first_word, is};
+use crate::reading::kinds::kind_in;
+use crate::reading::number::{word32, word64};
+use sleep_model::{Actor, Entry, EventNow};
+
+/// The word that the text spells: events in progress, registered, hard.
+fn now_in(text: &[u8]) -> Option<EventNow>
+    ensures now { result ≡ now_in text.now }
+    ensures fits { IfSome result (λ n. fits_word n ≡ true) }
+{
+    let (inpr, rest) = cut(text, b'/');
+    let (count, hard) = cut(rest, b'/');
+    let inpr = word32(inpr)?;
+    let count = word32(count)?;
+    let hard = word32(hard)?;
+    Some(EventNow { inpr, count, hard })
+}
+
+/// Who makes an entry.
+fn actor_in(book: &NameBook, text: &[u8]) -> Option<Actor>
+    ensures actor { result ≡ actor_in book.now text.now }
+    ensures fits { IfSome result (λ a. fits_actor book.now a ≡ true) }
+{
+    if is(text, "auto") {
+        return Some(Actor::Auto);
+    }
+    if is(text, "time") {
+        return Some(Actor::Time);
+    }
+    let (kind, name) = cut(text, b':');
+    if is(kind, "dev") {
+        return Some(Actor::Dev(book.device(name)?));
+    }
+    if is(kind, "timer") {
+        return Some(Actor::Timer(book.source(name)?));
+    }
+    Some(Actor::Script(book.script(name)?))
+}
+
+/// The entry of that moment and that word, by the text behind them.
+fn said_in(book: &NameBook, time: u64, now: EventNow, text: &[u8]) -> Option<Entry>
+    requires time { is_word64 time ≡ true }
+    requires now { fits_word now ≡ true }
+    ensures entry { result ≡ said_in book.now time now text.now }
+    ensures fits { IfSome result (λ e. fits_entry book.now e ≡ true) }
+{
+    let (actor, rest) = first_word(text);
+    let actor = actor_in(book, actor)?;
+    let kind = kind_in(book, rest)?;
+    Some(Entry {
+        time,
+        now,
+        actor,
+        kind,
+    })
+}
+
+/// The entry that a line without its newline has to spell, if it spells one. Its numbers fit the
+/// machine.
+pub fn entry_in(book: &NameBook, text: &[u8]) -> Option<Entry>
+    ensures entry { result ≡ entry_in book.now text.now }
+    ensures fits { IfSome result (λ e. fits_entry book.now e ≡ true) }
+{
+    let (time, rest) = first_word(text);
+    let (now, rest) = first_word(rest);
+    let time = word64(time)?;
+    let now = now_in(now)?;
+    said_in(book, time, now, rest)
+}

@@ -1,0 +1,88 @@
+ghost use Rattle.std.specs.Prelude.{◌≡◌, true};
+ghost use Rattle.sleep_model.specs.Fits.{is_answer};
+ghost use Rattle.log_text.specs.Words.{errno_in, answer_in, error_number, prepare_in, phase_in, cause_in, group_in, thaw_in, down_in};
+
+use crate::reading::cut::is;
+use sleep_base::Errno;
+use sleep_model::{Group, Phase, PlatDo, SkipCause, Thaw};
+
+/// The error of that name, and EINVAL for any other word.
+#[tactic(auto, using(crate::proofs::WordsTold::errno_told))]
+pub fn errno_in(word: &[u8]) -> Errno
+    ensures { result ≡ errno_in word.now }
+{
+    Errno::of_bytes(word).unwrap_or(Errno::EINVAL)
+}
+
+/// None for `0`, else the error of that name.
+pub fn answer_in(word: &[u8]) -> Option<Errno>
+    ensures { result ≡ answer_in word.now }
+{
+    if is(word, "0") {
+        return None;
+    }
+    Some(errno_in(word))
+}
+
+/// The error's number, below 0.
+#[tactic(auto, using(crate::proofs::WordsTold::number_below))]
+fn error_number(error: Errno) -> i32
+    ensures { result ≡ error_number error }
+{
+    -i32::from(error.number())
+}
+
+/// What a device's prepare answered: 0, 1, or an error's number, below 0.
+pub fn prepare_in(word: &[u8]) -> i32
+    ensures { result ≡ prepare_in word.now }
+{
+    if is(word, "0") {
+        return 0;
+    }
+    if is(word, "1") {
+        return 1;
+    }
+    error_number(errno_in(word))
+}
+
+/// The phase of that name, and the last for any other word.
+#[tactic(auto, using(crate::proofs::WordsTold::phase_told))]
+pub fn phase_in(word: &[u8]) -> Phase
+    ensures { result ≡ phase_in word.now }
+{
+    Phase::of_bytes(word).unwrap_or(Phase::Complete)
+}
+
+/// Why a device was skipped; any other word stands for direct-complete.
+#[tactic(auto, using(crate::proofs::WordsTold::cause_told))]
+pub fn cause_in(word: &[u8]) -> SkipCause
+    ensures { result ≡ cause_in word.now }
+{
+    SkipCause::of_bytes(word).unwrap_or(SkipCause::Direct)
+}
+
+/// Whom a freeze asks; any other word stands for kernel threads.
+#[tactic(auto, using(crate::proofs::WordsTold::group_told))]
+pub fn group_in(word: &[u8]) -> Group
+    ensures { result ≡ group_in word.now }
+{
+    Group::of_bytes(word).unwrap_or(Group::Kernel)
+}
+
+/// Which tasks a thaw lets go.
+pub fn thaw_in(word: &[u8]) -> Thaw
+    ensures { result ≡ thaw_in word.now }
+{
+    if is(word, "kernel") {
+        return Thaw::Kernel;
+    }
+    Thaw::All
+}
+
+/// The platform's step on the way down; any other word stands for the last.
+#[tactic(auto, using(crate::proofs::WordsTold::down_told))]
+pub fn down_in(word: &[u8]) -> PlatDo
+    ensures { result ≡ down_in word.now }
+{
+    PlatDo::of_bytes(word).unwrap_or(PlatDo::PrepareLate)
+}

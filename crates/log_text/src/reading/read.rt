@@ -1,0 +1,238 @@
+//! A log from its text.
+
+ghost use Rattle.std.specs.Prelude.{◌≡◌, ◌≢◌, ◌++◌, ◌∷◌, ◌+◌, ◌&&◌, [], ℕ, true, length, flat_map, IfOk, IfErr, IsOkUnless};
+ghost use Rattle.std.specs.List.{list_all};
+ghost use Rattle.sleep_model.specs.declared.log.Log.{Log};
+ghost use Rattle.sleep_model.specs.Text.{entry_line, source_line, source_lines, source_names, waiting_line, end_text, text};
+ghost use Rattle.sleep_model.specs.Fits.{fits_entry, fits_stats, fits_script, fits_cause, fits_end, is_filled, IsWritable};
+ghost use Rattle.log_text.specs.Grammar.{lines, IsBadEntry, IsBadSource, IsBadEnd, IsBadStuck, IsFirstBad};
+ghost use Rattle.log_text.specs.Faults.{AtLine, IsNoSource};
+ghost use Rattle.log_text.specs.Named.{AreNamed};
+
+use crate::fault::LogFault;
+use crate::reading::book::NameBook;
+use crate::reading::cut::is;
+use crate::reading::lines::{first_line, next_number};
+use crate::reading::reader::LineReader;
+use sleep_base::Mem;
+use sleep_model::{EntryList, ListOf, Log, LogEnd, Machine, Stats, Waiting};
+use std::alloc::Global;
+
+/// The entries at the beginning of a log's text, what stands behind their lines, and the number of
+/// the line there.
+fn read_entries<'a>(
+    alloc: Global,
+    book: &NameBook,
+    reader: &mut LineReader,
+    bytes: &'a [u8],
+) -> Result<(EntryList, &'a [u8], u32), Mem>
+    ensures text { IfOk result (λ r. bytes.now ≡ flat_map (entry_line book.now) r.0 ++ r.1.now) }
+    ensures fits { IfOk result (λ r. list_all (fits_entry book.now) r.0 ≡ true) }
+    ensures bad { IfOk result (λ r. AreNamed book.now → (bad : ℕ) →
+        IsBadSource book.now (source_names book.now) (lines r.1.now) r.2 bad → IsFirstBad book.now bytes.now bad) }
+{
+    let mut entries = EntryList::new(alloc);
+    let mut left = bytes;
+    let mut number = 1;
+    while !left.is_empty() {
+        let (line, behind) = first_line(left);
+        let Some(entry) = reader.entry(book, line)? else {
+            return Ok((entries, left, number));
+        };
+        entries.push(entry)?;
+        number = next_number(number)?;
+        left = behind;
+    }
+    Ok((entries, left, number))
+}
+
+/// The statistics of the source of that name at the beginning of a text, and what stands behind
+/// their line.
+fn read_source<'a>(
+    reader: &mut LineReader,
+    name: &[u8],
+    bytes: &'a [u8],
+    number: u32,
+) -> Result<(Stats, &'a [u8]), LogFault>
+    ensures text { IfOk result (λ r. bytes.now ≡ source_line name.now r.0 ++ r.1.now) }
+    ensures fits { IfOk result (λ r. fits_stats r.0 ≡ true) }
+    ensures lines { IfOk result (λ r. lines bytes.now ≡ source_line name.now r.0 ∷ lines r.1.now) }
+    ensures line { IfErr result (λ e. AtLine e (λ n. n ≡ number)) }
+    ensures fault { IfErr result (λ e. AtLine e (λ _. IsNoSource name.now (lines bytes.now))) }
+{
+    if bytes.is_empty() {
+        return Err(LogFault::Line(number));
+    }
+    let (line, behind) = first_line(bytes);
+    match reader.source(name, line)? {
+        Some(stats) => Ok((stats, behind)),
+        None => Err(LogFault::Line(number)),
+    }
+}
+
+/// The statistics of each source, `autosleep` last, at the beginning of a text, what stands behind
+/// their lines, and the number of the line there.
+fn read_sources<'a>(
+    alloc: Global,
+    machine: &Machine,
+    reader: &mut LineReader,
+    bytes: &'a [u8],
+    first: u32,
+) -> Result<(Vec<Stats>, &'a [u8], u32), LogFault>
+    ensures text { IfOk result (λ r. bytes.now ≡ source_lines (source_names machine.now) r.0.items ++ r.1.now) }
+    ensures count { IfOk result (λ r. length r.0.items ≡ length machine.now.sources + 1) }
+    ensures fits { IfOk result (λ r. list_all fits_stats r.0.items ≡ true) }
+    ensures bad { IfOk result (λ r. (bad : ℕ) → IsBadEnd machine.now (lines r.1.now) r.2 bad →
+        IsBadSource machine.now (source_names machine.now) (lines bytes.now) first bad) }
+    ensures fault { IfErr result (λ e. AtLine e (IsBadSource machine.now (source_names machine.now) (lines bytes.now) first)) }
+{
+    let names = machine.sources.as_slice();
+    let mut all = Vec::new(alloc);
+    let mut left = bytes;
+    let mut number = first;
+    for i in 0..names.len() {
+        match read_source(reader, names[i].bytes(), left, number) {
+            Ok((stats, behind)) => {
+                all.push(stats)?;
+                number = next_number(number)?;
+                left = behind;
+            }
+            Err(fault) => return Err(fault),
+        }
+    }
+    match read_source(reader, b"autosleep", left, number) {
+        Ok((stats, behind)) => {
+            all.push(stats)?;
+            Ok((all, behind, next_number(number)?))
+        }
+        Err(fault) => Err(fault),
+    }
+}
+
+/// The scripts that never exit, to the end of a text that is not empty.
+fn read_stuck(
+    alloc: Global,
+    book: &NameBook,
+    reader: &mut LineReader,
+    bytes: &[u8],
+    first: u32,
+) -> Result<Vec<Waiting>, LogFault>
+    requires { bytes.now ≢ [] }
+    ensures text { IfOk result (λ v. bytes.now ≡ flat_map (waiting_line book.now) v.items) }
+    ensures filled { IfOk result (λ v. is_filled v.items ≡ true) }
+    ensures fits { IfOk result (λ v. list_all (λ w. fits_script book.now w.actor && fits_cause book.now w.why) v.items ≡ true) }
+    ensures fault { IfErr result (λ e. AtLine e (λ n. AreNamed book.now → IsBadStuck book.now (lines bytes.now) first n)) }
+{
+    let mut all = Vec::new(alloc);
+    let mut left = bytes;
+    let mut number = first;
+    while !left.is_empty() {
+        let (line, behind) = first_line(left);
+        let Some(waiting) = reader.stuck(book, line)? else {
+            return Err(LogFault::Line(number));
+        };
+        all.push(waiting)?;
+        number = next_number(number)?;
+        left = behind;
+    }
+    Ok(all)
+}
+
+/// How the run ended, to the end of the text.
+fn read_end(
+    alloc: Global,
+    book: &NameBook,
+    reader: &mut LineReader,
+    bytes: &[u8],
+    number: u32,
+) -> Result<LogEnd, LogFault>
+    ensures text { IfOk result (λ e. bytes.now ≡ end_text book.now e) }
+    ensures fits { IfOk result (λ e. fits_end book.now e ≡ true) }
+    ensures fault { IfErr result (λ e. AtLine e (λ n. AreNamed book.now → IsBadEnd book.now (lines bytes.now) number n)) }
+{
+    if bytes.is_empty() {
+        return Err(LogFault::Line(number));
+    }
+    let (line, behind) = first_line(bytes);
+    if is(line, "finished\n") {
+        if behind.is_empty() {
+            return Ok(LogEnd::Finished);
+        }
+        return Err(LogFault::Line(next_number(number)?));
+    }
+    match read_stuck(alloc, book, reader, bytes, number) {
+        Ok(waiting) => Ok(LogEnd::Stuck(ListOf::of_vec(waiting))),
+        Err(fault) => Err(fault),
+    }
+}
+
+/// The log of these entries, by the text behind their lines.
+fn read_behind(
+    alloc: Global,
+    book: &NameBook,
+    reader: &mut LineReader,
+    entries: EntryList,
+    bytes: &[u8],
+    first: u32,
+) -> Result<Log, LogFault>
+    ensures entries { IfOk result (λ log. log.entries ≡ entries) }
+    ensures text { IfOk result (λ log. bytes.now ≡ source_lines (source_names book.now) log.stats ++ end_text book.now log.end) }
+    ensures count { IfOk result (λ log. length log.stats ≡ length book.now.sources + 1) }
+    ensures counts { IfOk result (λ log. list_all fits_stats log.stats ≡ true) }
+    ensures end { IfOk result (λ log. fits_end book.now log.end ≡ true) }
+    ensures fault { IfErr result (λ e. AtLine e (λ n. AreNamed book.now → IsBadSource book.now (source_names book.now) (lines bytes.now) first n)) }
+{
+    match read_sources(alloc, book.machine(), reader, bytes, first) {
+        Ok((stats, left, number)) => match read_end(alloc, book, reader, left, number) {
+            Ok(end) => Ok(Log {
+                entries,
+                stats: ListOf::of_vec(stats),
+                end,
+            }),
+            Err(fault) => Err(fault),
+        },
+        Err(fault) => Err(fault),
+    }
+}
+
+/// The log of a text, by the machine's book.
+fn read_whole(alloc: Global, book: &NameBook, bytes: &[u8]) -> Result<Log, LogFault>
+    ensures text { IfOk result (λ log. text book.now log ≡ bytes.now) }
+    ensures fits { IfOk result (λ log. IsWritable book.now log) }
+    ensures line { IfErr result (λ e. AtLine e (λ n. AreNamed book.now → IsFirstBad book.now bytes.now n)) }
+{
+    match LineReader::new(alloc) {
+        Ok(mut reader) => match read_entries(alloc, book, &mut reader, bytes) {
+            Ok((entries, left, number)) => {
+                read_behind(alloc, book, &mut reader, entries, left, number)
+            }
+            Err(_) => Err(LogFault::Mem),
+        },
+        Err(_) => Err(LogFault::Mem),
+    }
+}
+
+/// The log whose text these bytes are. It fits the machine: its numbers name things of the machine,
+/// and fit the types of their fields.
+///
+/// `Line(n)` where they are the text of no log that fits the machine: n counts from 1 to the first line
+/// that the grammar has not, or that is missing. A fitting log's text is read back as that
+/// very log. For both the machine's names have to be spelled as names and told apart, as the rules on
+/// machine files ask. `Mem` comes for want of memory, and where lines or things of a kind are more
+/// than have numbers.
+pub fn read_log(alloc: Global, machine: &Machine, bytes: &[u8]) -> Result<Log, LogFault>
+    ensures text { IfOk result (λ log. text machine.now log ≡ bytes.now) }
+    ensures fits { IfOk result (λ log. IsWritable machine.now log) }
+    ensures line { IfErr result (λ e. AtLine e (λ n. AreNamed machine.now → IsFirstBad machine.now bytes.now n)) }
+    // The text of a log that fits is read as that log, ..
+    ensures back { (log : Log) → AreNamed machine.now → IsWritable machine.now log → text machine.now log ≡ bytes.now →
+        IfOk result (λ read. read ≡ log) }
+    // .. and no line of it is a fault.
+    ensures taken { (log : Log) → AreNamed machine.now → IsWritable machine.now log → text machine.now log ≡ bytes.now →
+        IsOkUnless result LogFault.Mem }
+{
+    match NameBook::new(alloc, machine) {
+        Ok(book) => read_whole(alloc, &book, bytes),
+        Err(_) => Err(LogFault::Mem),
+    }
+}

@@ -1,0 +1,132 @@
+ghost use Rattle.std.specs.Prelude.{◌≡◌, true, IfSome, option_map};
+ghost use Rattle.sleep_model.specs.Fits.{fits_kind};
+ghost use Rattle.sleep_model.specs.declared.machine.Machine.{Machine};
+ghost use Rattle.log_text.specs.Cutting.{word, rest, word32};
+ghost use Rattle.log_text.specs.Reading.{read_kind, save_kind, state_kind, autosleep_kind, runtime_kind, link_kind, link_state_kind, event_kind};
+
+use crate::reading::book::NameBook;
+use crate::reading::cut::{first_word, is};
+use crate::reading::meaning::{answer_in, errno_in};
+use crate::reading::number::word32;
+use sleep_model::{Kind, State};
+
+/// What stands behind `read`.
+pub fn read_kind(text: &[u8]) -> Kind
+    ensures kind { result ≡ read_kind text.now (word32 text.now) }
+    ensures fits { (m : Machine) → fits_kind m result ≡ true }
+{
+    match word32(text) {
+        Some(count) => Kind::Read(count),
+        None if is(text, "wait") => Kind::ReadWait,
+        None => Kind::ReadIntr,
+    }
+}
+
+/// What stands behind `save`.
+pub fn save_kind(text: &[u8]) -> Option<Kind>
+    ensures kind { result ≡ option_map (save_kind (rest text.now)) (word32 (word text.now)) }
+    ensures fits { (m : Machine) → IfSome result (λ k. fits_kind m k ≡ true) }
+{
+    let (count, rest) = first_word(text);
+    let count = word32(count)?;
+    if is(rest, "wait") {
+        return Some(Kind::SaveWait(count));
+    }
+    if is(rest, "ok") {
+        return Some(Kind::Saved(count));
+    }
+    Some(Kind::SaveErr(count, errno_in(rest)))
+}
+
+/// What stands behind `state`.
+pub fn state_kind(text: &[u8]) -> Kind
+    ensures kind { result ≡ state_kind text.now }
+    ensures fits { (m : Machine) → fits_kind m result ≡ true }
+{
+    if is(text, "wait") {
+        return Kind::StateWait;
+    }
+    if is(text, "unsaved") {
+        return Kind::StateUnsaved;
+    }
+    Kind::StateErr(errno_in(text))
+}
+
+/// What stands behind `autosleep`.
+pub fn autosleep_kind(text: &[u8]) -> Kind
+    ensures kind { result ≡ autosleep_kind text.now }
+    ensures fits { (m : Machine) → fits_kind m result ≡ true }
+{
+    if is(text, "EINVAL") {
+        return Kind::AutoBad;
+    }
+    if is(text, "done") {
+        return Kind::AutoDone;
+    }
+    if is(text, "set mem") {
+        return Kind::AutoSet(State::Mem);
+    }
+    Kind::AutoSet(State::Off)
+}
+
+/// What stands behind `runtime`.
+pub fn runtime_kind(book: &NameBook, text: &[u8]) -> Option<Kind>
+    ensures kind { result ≡ runtime_kind book.now text.now }
+    ensures fits { IfSome result (λ k. fits_kind book.now k ≡ true) }
+{
+    let (device, rest) = first_word(text);
+    let (to, answer) = first_word(rest);
+    let device = book.device(device)?;
+    Some(Kind::RuntimeAsk {
+        device,
+        to_suspended: is(to, "suspended"),
+        r: answer_in(answer),
+    })
+}
+
+/// What stands behind `link`.
+pub fn link_kind(book: &NameBook, text: &[u8]) -> Option<Kind>
+    ensures kind { result ≡ link_kind book.now text.now }
+    ensures fits { IfSome result (λ k. fits_kind book.now k ≡ true) }
+{
+    let (supplier, rest) = first_word(text);
+    let (consumer, answer) = first_word(rest);
+    let supplier = book.device(supplier)?;
+    let consumer = book.device(consumer)?;
+    Some(Kind::LinkAdd {
+        supplier,
+        consumer,
+        r: answer_in(answer),
+    })
+}
+
+/// What stands behind `link_state`.
+pub fn link_state_kind(book: &NameBook, text: &[u8]) -> Option<Kind>
+    ensures kind { result ≡ link_state_kind book.now text.now }
+    ensures fits { IfSome result (λ k. fits_kind book.now k ≡ true) }
+{
+    let (supplier, rest) = first_word(text);
+    let (consumer, rest) = first_word(rest);
+    let (to, answer) = first_word(rest);
+    let supplier = book.device(supplier)?;
+    let consumer = book.device(consumer)?;
+    Some(Kind::LinkState {
+        supplier,
+        consumer,
+        active: is(to, "active"),
+        r: answer_in(answer),
+    })
+}
+
+/// What stands behind `event`.
+pub fn event_kind(book: &NameBook, text: &[u8]) -> Option<Kind>
+    ensures kind { result ≡ event_kind book.now text.now }
+    ensures fits { IfSome result (λ k. fits_kind book.now k ≡ true) }
+{
+    let (source, rest) = first_word(text);
+    let (ms, hard) = first_word(rest);
+    let source = book.source(source)?;
+    let ms = word32(ms)?;
+    let hard = is(hard, "hard");
+    Some(Kind::Event { source, ms, hard })
+}

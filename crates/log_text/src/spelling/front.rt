@@ -1,0 +1,85 @@
+ghost use Rattle.std.specs.Prelude.{◌≡◌, ◌≤◌, length};
+ghost use Rattle.log_text.specs.Front.{front_text};
+
+use crate::spelling::digits::Digits;
+use crate::spelling::short::ShortText;
+use sleep_model::EventNow;
+
+/// The front of an entry's line, its moment and the word, kept since lines in a row often share it.
+#[derive(Drop)]
+pub struct LineFront {
+    time: u64,
+    word: EventNow,
+    text: ShortText,
+    ghost spelled: { text ≡ front_text time word },
+}
+
+impl LineFront {
+    /// The front of lines at that moment, in ms, with that word.
+    pub fn of(time: u64, word: EventNow) -> Self
+        ensures time { result.time ≡ time }
+        ensures word { result.word ≡ word }
+    {
+        LineFront {
+            time,
+            word,
+            text: ShortText::of(spell(time, word).as_bytes()),
+        }
+    }
+
+    /// The front of lines at the beginning, where nothing was registered.
+    pub fn start() -> Self {
+        let word = EventNow {
+            inpr: 0,
+            count: 0,
+            hard: 0,
+        };
+        LineFront::of(0, word)
+    }
+
+    /// Goes on to that moment, in ms, and that word.
+    #[inline(always)]
+    pub fn move_to(&mut self, time: u64, word: EventNow)
+        ensures time { self.new.time ≡ time }
+        ensures word { self.new.word ≡ word }
+    {
+        if self.time != time || self.word != word {
+            self.respell(time, word);
+        }
+    }
+
+    /// Spells this front.
+    #[inline(never)]
+    fn respell(&mut self, time: u64, word: EventNow)
+        ensures time { self.new.time ≡ time }
+        ensures word { self.new.word ≡ word }
+    {
+        *self = LineFront::of(time, word);
+    }
+
+    /// Its text.
+    #[inline(always)]
+    pub fn text(&self) -> &ShortText
+        ensures { result.now ≡ front_text self.now.time self.now.word }
+    {
+        &self.text
+    }
+}
+
+/// Spells the moment and the word, each with the space behind it.
+#[tactic(auto, using(std::proofs::Common::append_assoc))]
+fn spell(time: u64, word: EventNow) -> Digits
+    ensures text { result ≡ front_text time word }
+    ensures few { length result ≤ 56 }
+{
+    let mut text = Digits::new();
+    text.put(b' ');
+    text.put_short(word.hard);
+    text.put(b'/');
+    text.put_short(word.count);
+    text.put(b'/');
+    text.put_short(word.inpr);
+    text.put(b' ');
+    text.put_number(time);
+    text
+}

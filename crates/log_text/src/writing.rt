@@ -1,0 +1,9 @@
+//! From a log to its text.
+
+pub(crate) mod body;
+pub(crate) mod device_words;
+pub(crate) mod line;
+pub(crate) mod log;
+pub(crate) mod ready;
+pub(crate) mod stream;
+pub(crate) mod writer;

@@ -1,0 +1,254 @@
+//! A machine with names that are ready to be copied.
+
+ghost use Rattle.std.specs.Prelude.{◌≡◌, ◌≤◌, ◌++◌, [], ℕ, IfOk, length, slice_get, codes};
+ghost use Rattle.std.specs.Option.{ForSome};
+ghost use Rattle.sleep_model.specs.declared.entry.Actor.TheVariants as actor;
+ghost use Rattle.sleep_model.specs.Text.{device_name, name_in, script_text, source_names, space};
+ghost use Rattle.log_text.specs.Front.{maker_text};
+ghost use Rattle.log_text.specs.Named.{device_names, notifier_names, script_names};
+
+use crate::reading::names::{
+    names_of_devices, names_of_notifiers, names_of_scripts, names_of_sources,
+};
+use crate::spelling::short::ShortText;
+use crate::spelling::words::script_word;
+use sleep_base::Mem;
+use sleep_model::{Actor, Device, Machine, Name, Script};
+use std::alloc::Global;
+use std::marker::Model;
+
+/// The most bytes of a name.
+pub const LONGEST: usize = 32;
+
+/// A machine, and the texts that lines have of its things. Contracts see the machine.
+#[derive(Drop)]
+pub struct ReadyNames<'a> {
+    machine: &'a Machine,
+    /// The name of what is not there.
+    none: ShortText,
+    makers: Vec<ShortText>,
+    scripts: Vec<ShortText>,
+    devices: Vec<ShortText>,
+    syscore: Vec<ShortText>,
+    notifiers: Vec<ShortText>,
+    sources: Vec<ShortText>,
+    marks: Vec<ShortText>,
+    tasks: Vec<ShortText>,
+}
+
+impl<'a> Model for ReadyNames<'a> {
+    ghost use Rattle.sleep_model.specs.declared.machine.Machine.{Machine};
+
+    ghost Value = { Machine };
+
+    ghost use Rattle.log_text.specs.Ready.{IsReady};
+
+    ghost view = { λ r. r.machine.now };
+
+    ghost invariant = { λ r. IsReady r.machine.now r.none r.makers.items r.scripts.items r.devices.items r.syscore.items r.notifiers.items r.sources.items r.marks.items r.tasks.items };
+}
+
+impl<'a> ReadyNames<'a> {
+    ghost use Rattle.std.specs.Prelude.{◌≡◌, IfOk, IfSome};
+    ghost use Rattle.sleep_model.specs.Text.{device, mark, notifier, source, syscore, task};
+    ghost use Rattle.log_text.specs.Front.{maker_text};
+
+    /// The machine with its names. `Mem` if there is no memory for them.
+    pub fn new(alloc: Global, machine: &'a Machine) -> Result<Self, Mem>
+        ensures { IfOk result (λ r. r ≡ machine.now) }
+    {
+        let (makers, scripts) = makers_of(alloc, machine)?;
+        let (devices, syscore, notifiers) = texts_of_things(alloc, machine)?;
+        let (sources, marks, tasks) = texts_of_tasks(alloc, machine)?;
+        Ok(ReadyNames {
+            machine,
+            none: ShortText::of(b""),
+            makers,
+            scripts,
+            devices,
+            syscore,
+            notifiers,
+            sources,
+            marks,
+            tasks,
+        })
+    }
+
+    /// The machine.
+    pub fn machine(&self) -> &'a Machine
+        ensures { result.now ≡ self.now }
+    {
+        self.machine
+    }
+
+    /// The name of the device with that number, empty past the end.
+    #[inline(always)]
+    #[tactic(auto, using(crate::proofs::Lists::device_at))]
+    pub fn device(&self, index: u32) -> &ShortText
+        ensures { result.now ≡ device self.now index }
+    {
+        name_at(self.devices.as_slice(), &self.none, index)
+    }
+
+    /// The name of the syscore step with that number, empty past the end.
+    pub fn syscore(&self, index: u32) -> &ShortText
+        ensures { result.now ≡ syscore self.now index }
+    {
+        name_at(self.syscore.as_slice(), &self.none, index)
+    }
+
+    /// The name of the notifier with that number, empty past the end.
+    #[tactic(auto, using(crate::proofs::Lists::notifier_at))]
+    pub fn notifier(&self, index: u32) -> &ShortText
+        ensures { result.now ≡ notifier self.now index }
+    {
+        name_at(self.notifiers.as_slice(), &self.none, index)
+    }
+
+    /// The name of the source with that number, `autosleep` after those of the machine, empty past it.
+    pub fn source(&self, index: u32) -> &ShortText
+        ensures { result.now ≡ source self.now index }
+    {
+        name_at(self.sources.as_slice(), &self.none, index)
+    }
+
+    /// The name of the mark with that number, empty past the end.
+    pub fn mark(&self, index: u32) -> &ShortText
+        ensures { result.now ≡ mark self.now index }
+    {
+        name_at(self.marks.as_slice(), &self.none, index)
+    }
+
+    /// The name of the task with that number, empty past the end.
+    #[tactic(auto, using(crate::proofs::Lists::task_at))]
+    pub fn task(&self, index: u32) -> &ShortText
+        ensures { result.now ≡ task self.now index }
+    {
+        name_at(self.tasks.as_slice(), &self.none, index)
+    }
+
+    /// Who makes an entry, with the space behind it, where it is ready.
+    #[inline(always)]
+    pub fn maker(&self, who: Actor) -> Option<&ShortText>
+        ensures { IfSome result (λ t. t.now ≡ maker_text self.now who) }
+    {
+        match who {
+            Actor::Script(index) => self.scripts.as_slice().get(index as usize),
+            Actor::Dev(index) => self.makers.as_slice().get(index as usize),
+            _ => None,
+        }
+    }
+}
+
+/// Names of three kinds of things.
+type ThreeTexts = (Vec<ShortText>, Vec<ShortText>, Vec<ShortText>);
+
+/// The text with that number, the given one past the end.
+#[inline(always)]
+fn name_at<'a>(names: &'a [ShortText], none: &'a ShortText, index: u32) -> &'a ShortText
+    requires { none.now ≡ [] }
+    ensures { result.now ≡ name_in (slice_get names.now index) }
+{
+    match names.get(index as usize) {
+        Some(name) => name,
+        None => none,
+    }
+}
+
+/// These names. `Mem` also where one has more bytes than a name may have, which no name has.
+fn name_texts(alloc: Global, names: &[Name]) -> Result<Vec<ShortText>, Mem>
+    ensures { IfOk result (λ v. v.items ≡ names.now) }
+{
+    let mut texts = Vec::with_capacity(alloc, names.len())?;
+    for name in names {
+        let name = name.bytes();
+        if name.len() > LONGEST {
+            return Err(Mem);
+        }
+        texts.push(ShortText::of(name))?;
+    }
+    Ok(texts)
+}
+
+/// The names of the devices, of the syscore steps and of the notifiers.
+fn texts_of_things(alloc: Global, machine: &Machine) -> Result<ThreeTexts, Mem>
+    ensures devices { IfOk result (λ t. t.0.items ≡ device_names machine.now) }
+    ensures syscore { IfOk result (λ t. t.1.items ≡ machine.now.syscore) }
+    ensures notifiers { IfOk result (λ t. t.2.items ≡ notifier_names machine.now) }
+{
+    let devices = names_of_devices(alloc, machine.devices.as_slice())?;
+    let devices = name_texts(alloc, devices.as_slice())?;
+    let syscore = name_texts(alloc, machine.syscore.as_slice())?;
+    let notifiers = names_of_notifiers(alloc, machine.notifiers.as_slice())?;
+    let notifiers = name_texts(alloc, notifiers.as_slice())?;
+    Ok((devices, syscore, notifiers))
+}
+
+/// The names of the sources, of the marks and of the tasks.
+fn texts_of_tasks(alloc: Global, machine: &Machine) -> Result<ThreeTexts, Mem>
+    ensures sources { IfOk result (λ t. t.0.items ≡ source_names machine.now) }
+    ensures marks { IfOk result (λ t. t.1.items ≡ machine.now.marks) }
+    ensures tasks { IfOk result (λ t. t.2.items ≡ script_names machine.now) }
+{
+    let sources = names_of_sources(alloc, machine.sources.as_slice())?;
+    let sources = name_texts(alloc, sources.as_slice())?;
+    let marks = name_texts(alloc, machine.marks.as_slice())?;
+    let tasks = names_of_scripts(alloc, machine.actors.as_slice())?;
+    let tasks = name_texts(alloc, tasks.as_slice())?;
+    Ok((sources, marks, tasks))
+}
+
+/// Who makes an entry, of that kind and that name, with the space behind it.
+fn maker(kind: &[u8], name: &[u8]) -> ShortText
+    requires kind { length kind.now ≤ 5 }
+    requires name { length name.now ≤ 32 }
+    ensures { result ≡ (kind.now ++ name.now) ++ space }
+{
+    let mut text = ShortText::of(kind);
+    text.push(name);
+    text.push(b" ");
+    text
+}
+
+/// Devices and scripts as who makes an entry.
+fn makers_of(alloc: Global, machine: &Machine) -> Result<(Vec<ShortText>, Vec<ShortText>), Mem>
+    ensures makers { IfOk result (λ t. (i : ℕ) → ForSome (slice_get t.0.items i) (λ t. t ≡ maker_text machine.now (actor.Dev i))) }
+    ensures scripts { IfOk result (λ t. (i : ℕ) → ForSome (slice_get t.1.items i) (λ t. t ≡ maker_text machine.now (actor.Script i))) }
+{
+    let makers = device_makers(alloc, machine.devices.as_slice())?;
+    let scripts = script_makers(alloc, machine.actors.as_slice())?;
+    Ok((makers, scripts))
+}
+
+/// Devices as who makes an entry. `Mem` also where a name has more bytes than a name may have.
+fn device_makers(alloc: Global, devices: &[Device]) -> Result<Vec<ShortText>, Mem>
+    ensures { IfOk result (λ v. (i : ℕ) → ForSome (slice_get v.items i)
+        (λ t. t ≡ (codes "dev:" ++ device_name (slice_get devices.now i)) ++ space)) }
+{
+    let mut texts = Vec::with_capacity(alloc, devices.len())?;
+    for device in devices {
+        let name = device.name.bytes();
+        if name.len() > LONGEST {
+            return Err(Mem);
+        }
+        texts.push(maker(b"dev:", name))?;
+    }
+    Ok(texts)
+}
+
+/// Scripts as who makes an entry. `Mem` also where a name has more bytes than a name may have.
+fn script_makers(alloc: Global, scripts: &[Script]) -> Result<Vec<ShortText>, Mem>
+    ensures { IfOk result (λ v. (i : ℕ) → ForSome (slice_get v.items i)
+        (λ t. t ≡ script_text (slice_get scripts.now i) ++ space)) }
+{
+    let mut texts = Vec::with_capacity(alloc, scripts.len())?;
+    for script in scripts {
+        let name = script.name.bytes();
+        if name.len() > LONGEST {
+            return Err(Mem);
+        }
+        let word = script_word(script.kind).as_bytes();
+        texts.push(maker(word, name))?;
+    }
+    Ok(texts)
+}

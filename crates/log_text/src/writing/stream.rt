@@ -1,0 +1,139 @@
+//! A log's text that is written as it is put together, so that no memory holds it whole.
+
+ghost use Rattle.std.specs.Prelude.{◌≡◌, ◌+◌, ◌≤◌, ◌++◌, [], IfOk, OnErr, OnOk, flat_map, length};
+ghost use Rattle.sleep_base.specs.Whole.{WriteAll};
+ghost use Rattle.sleep_model.specs.Text.{entry_line, end_text, source_lines, source_names};
+ghost use Rattle.log_text.specs.Passing.{Passes};
+
+use crate::spelling::front::LineFront;
+use crate::spelling::held::HeldBytes;
+use crate::writing::line::spell_entry;
+use crate::writing::log::{put_end, put_sources};
+use crate::writing::ready::ReadyNames;
+use crate::writing::writer::{LINE, LineWriter};
+use sleep_base::{ByteSink, Failed, Mem, write_all};
+use sleep_model::{EntryList, Log, Machine};
+use std::alloc::Global;
+use std::marker::Model;
+
+/// The text of a log, with all that its writing needs of memory. Contracts see the text.
+#[derive(Drop)]
+pub struct LogText<'a> {
+    names: ReadyNames<'a>,
+    entries: &'a EntryList,
+    /// The lines behind those of the entries.
+    behind: Vec<u8>,
+}
+
+impl<'a> Model for LogText<'a> {
+    ghost use Rattle.std.specs.Prelude.{ℕ, List, ◌++◌, flat_map};
+    ghost use Rattle.sleep_model.specs.Text.{entry_line};
+
+    ghost Value = { List ℕ };
+
+    ghost view = { λ t. flat_map (entry_line t.names) t.entries.now ++ t.behind.items };
+}
+
+impl<'a> LogText<'a> {
+    ghost use Rattle.std.specs.Prelude.{◌≡◌, ◌≤◌, IfOk};
+    ghost use Rattle.sleep_base.specs.Whole.{WriteAll};
+    ghost use Rattle.sleep_model.specs.Text.{text};
+
+    /// The text of the log that this machine made. `Mem` if there is no memory for its names, or for the lines behind
+    /// those of the entries.
+    pub fn new(alloc: Global, machine: &'a Machine, log: &'a Log) -> Result<Self, Mem>
+        ensures { IfOk result (λ t. t ≡ text machine.now log.now) }
+    {
+        let names = ReadyNames::new(alloc, machine)?;
+        let behind = lines_behind(alloc, &names, log)?;
+        Ok(LogText {
+            names,
+            entries: &log.entries,
+            behind,
+        })
+    }
+
+    /// Writes the text, without memory. `Failed` at the first write that fails: a front of the text was written.
+    pub fn write_to<K: ByteSink>(&self, sink: &mut K) -> Result<(), Failed>
+        ensures bytes { WriteAll (K.written sink.old) (K.written sink.new) (K.faults sink.old) (K.faults sink.new) self.now result }
+        ensures faults { K.faults sink.old ≤ K.faults sink.new }
+    {
+        write_lines(sink, &self.names, self.entries, self.behind.as_slice())
+    }
+}
+
+/// The lines behind those of the entries: the sources', and the end.
+fn lines_behind(alloc: Global, names: &ReadyNames, log: &Log) -> Result<Vec<u8>, Mem>
+    ensures { IfOk result (λ v. v.items ≡ source_lines (source_names names.now) log.now.stats ++ end_text names.now log.now.end) }
+{
+    let mut out = LineWriter::with_room(alloc, 0)?;
+    put_sources(&mut out, names.machine(), log.stats.as_slice())?;
+    put_end(&mut out, names, &log.end)?;
+    out.into_vec()
+}
+
+/// Writes what is held.
+#[cold]
+#[inline(never)]
+#[tactic(auto, using(crate::proofs::Passed::passes_all))]
+fn pass_on<K: ByteSink>(sink: &mut K, held: &mut HeldBytes) -> Result<(), Failed>
+    ensures passes { OnOk result (Passes (K.written sink.old) (K.written sink.new) (K.faults sink.old) (K.faults sink.new) held.old held.new) }
+    ensures none_held { OnOk result (held.new ≡ []) }
+    ensures fails { OnErr result (WriteAll (K.written sink.old) (K.written sink.new) (K.faults sink.old) (K.faults sink.new) held.old result) }
+    ensures faults { K.faults sink.old ≤ K.faults sink.new }
+{
+    write_all(sink, held.as_bytes())?;
+    held.clear();
+    Ok(())
+}
+
+/// Writes what is held, where there is no room for one more line.
+#[tactic(auto, using(crate::proofs::Passed::passes_none))]
+#[inline(always)]
+fn make_room<K: ByteSink>(sink: &mut K, held: &mut HeldBytes) -> Result<(), Failed>
+    ensures passes { OnOk result (Passes (K.written sink.old) (K.written sink.new) (K.faults sink.old) (K.faults sink.new) held.old held.new) }
+    ensures room { OnOk result (length held.new + 2048 ≤ 32768) }
+    ensures fails { OnErr result (WriteAll (K.written sink.old) (K.written sink.new) (K.faults sink.old) (K.faults sink.new) held.old result) }
+    ensures faults { K.faults sink.old ≤ K.faults sink.new }
+{
+    if held.left() >= LINE {
+        return Ok(());
+    }
+    pass_on(sink, held)
+}
+
+/// Writes what is held and the bytes behind it, in one piece where there is room for them.
+#[tactic(auto, using(crate::proofs::Passed::one_failed, crate::proofs::Passed::both_written))]
+fn write_last<K: ByteSink>(sink: &mut K, held: &mut HeldBytes, behind: &[u8]) -> Result<(), Failed>
+    ensures bytes { WriteAll (K.written sink.old) (K.written sink.new) (K.faults sink.old) (K.faults sink.new) (held.old ++ behind.now) result }
+    ensures faults { K.faults sink.old ≤ K.faults sink.new }
+{
+    if behind.len() <= held.left() {
+        held.put(behind);
+        return write_all(sink, held.as_bytes());
+    }
+    write_all(sink, held.as_bytes())?;
+    write_all(sink, behind)
+}
+
+/// Writes a line for each entry, and then those behind them.
+#[tactic(auto, using(crate::proofs::Passed::told_first, crate::proofs::Passed::told_on, crate::proofs::Passed::told_failed, crate::proofs::Passed::told_behind))]
+fn write_lines<K: ByteSink>(
+    sink: &mut K,
+    names: &ReadyNames,
+    entries: &EntryList,
+    behind: &[u8],
+) -> Result<(), Failed>
+    ensures bytes { WriteAll (K.written sink.old) (K.written sink.new) (K.faults sink.old) (K.faults sink.new) (flat_map (entry_line names.now) entries.now ++ behind.now) result }
+    ensures faults { K.faults sink.old ≤ K.faults sink.new }
+{
+    let mut held = HeldBytes::new();
+    let mut front = LineFront::start();
+    let mut reader = entries.reader();
+    while let Some(entry) = reader.next() {
+        make_room(sink, &mut held)?;
+        front.move_to(entry.time, entry.now);
+        spell_entry(&mut held, names, &front, entry);
+    }
+    write_last(sink, &mut held, behind)
+}

@@ -1,0 +1,145 @@
+ghost use Rattle.std.specs.Prelude.{◌≡◌, ◌+◌, ◌≤◌, ◌++◌, [], OnOk, codes, length};
+ghost use Rattle.sleep_model.specs.Text.{entry_line, newline, source_line, waiting_line};
+
+use crate::spelling::front::LineFront;
+use crate::spelling::held::HeldBytes;
+use crate::spelling::spelled::{Spelled, put};
+use crate::writing::line::{spell_entry, spell_source, spell_waiting};
+use crate::writing::ready::{LONGEST, ReadyNames};
+use sleep_base::Mem;
+use sleep_model::{Entry, Stats, Waiting};
+use std::alloc::Global;
+use std::marker::Model;
+
+/// The room that any line has where it is put together.
+pub const LINE: usize = 2048;
+
+/// Lines that are written one behind the other, and that contracts see as the list of their bytes. The last ones are held
+/// in place, where a line takes no memory.
+#[derive(Drop)]
+pub struct LineWriter {
+    bytes: Vec<u8>,
+    held: HeldBytes,
+}
+
+impl Model for LineWriter {
+    ghost use Rattle.std.specs.Prelude.{ℕ, List, ◌++◌};
+
+    ghost Value = { List ℕ };
+
+    ghost view = { λ w. w.bytes.items ++ w.held };
+}
+
+/// Puts the bytes that are held behind the others.
+#[cold]
+#[inline(never)]
+fn pass_on(bytes: &mut Vec<u8>, held: &mut HeldBytes) -> Result<(), Mem>
+    ensures joined { OnOk result (bytes.new.items ≡ bytes.old.items ++ held.old) }
+    ensures none_held { OnOk result (held.new ≡ []) }
+{
+    bytes.extend_from_slice(held.as_bytes())?;
+    held.clear();
+    Ok(())
+}
+
+/// Makes room for one more line.
+#[inline(always)]
+fn make_room(bytes: &mut Vec<u8>, held: &mut HeldBytes) -> Result<(), Mem>
+    ensures joined { OnOk result (bytes.new.items ++ held.new ≡ bytes.old.items ++ held.old) }
+    ensures room { OnOk result (length held.new + 2048 ≤ 32768) }
+{
+    if held.left() < LINE {
+        pass_on(bytes, held)?;
+    }
+    Ok(())
+}
+
+impl LineWriter {
+    ghost use Rattle.std.specs.Prelude.{◌≡◌, ◌++◌, ◌∷◌, [], OnOk, IfOk};
+    ghost use Rattle.std.specs.Str.{bytes_eq};
+
+    /// A writer that has written nothing, with room for so many bytes.
+    pub fn with_room(alloc: Global, room: usize) -> Result<Self, Mem>
+        ensures { IfOk result (λ w. w ≡ []) }
+    {
+        let bytes = Vec::with_capacity(alloc, room)?;
+        Ok(LineWriter {
+            bytes,
+            held: HeldBytes::new(),
+        })
+    }
+
+    /// Forgets what was written.
+    pub fn clear(&mut self)
+        ensures { self.new ≡ [] }
+    {
+        self.bytes.clear();
+        self.held.clear();
+    }
+
+    /// Whether just these bytes were written.
+    pub fn is(&mut self, bytes: &[u8]) -> Result<bool, Mem>
+        ensures { IfOk result (λ b. b ≡ bytes_eq self.old bytes.now) }
+    {
+        pass_on(&mut self.bytes, &mut self.held)?;
+        Ok(self.bytes.as_slice() == bytes)
+    }
+
+    /// All that was written.
+    pub fn into_vec(self) -> Result<Vec<u8>, Mem>
+        ensures { IfOk result (λ v. v.items ≡ self) }
+    {
+        let LineWriter { bytes, held } = self;
+        let mut all = bytes;
+        all.extend_from_slice(held.as_bytes())?;
+        Ok(all)
+    }
+}
+
+/// Writes the line of an entry, whose front is given.
+#[inline(always)]
+pub fn put_entry(
+    out: &mut LineWriter,
+    names: &ReadyNames,
+    front: &LineFront,
+    entry: Entry,
+) -> Result<(), Mem>
+    requires time { front.now.time ≡ entry.time }
+    requires word { front.now.word ≡ entry.now }
+    ensures { OnOk result (out.new ≡ out.old ++ entry_line names.now entry) }
+{
+    make_room(&mut out.bytes, &mut out.held)?;
+    spell_entry(&mut out.held, names, front, entry);
+    Ok(())
+}
+
+/// Writes the line of a wakeup source. `Mem` also where the name has more bytes than a name may have.
+pub fn put_source(out: &mut LineWriter, name: &[u8], stats: &Stats) -> Result<(), Mem>
+    ensures { OnOk result (out.new ≡ out.old ++ source_line name.now stats.now) }
+{
+    if name.len() > LONGEST {
+        return Err(Mem);
+    }
+    make_room(&mut out.bytes, &mut out.held)?;
+    spell_source(&mut out.held, name, stats);
+    Ok(())
+}
+
+/// Writes the line of a script that never exits.
+pub fn put_waiting(out: &mut LineWriter, names: &ReadyNames, waiting: &Waiting) -> Result<(), Mem>
+    ensures { OnOk result (out.new ≡ out.old ++ waiting_line names.now waiting.now) }
+{
+    make_room(&mut out.bytes, &mut out.held)?;
+    spell_waiting(&mut out.held, names, waiting);
+    Ok(())
+}
+
+/// Writes that nothing was left to do.
+pub fn put_finished(out: &mut LineWriter) -> Result<(), Mem>
+    ensures { OnOk result (out.new ≡ out.old ++ (codes "finished" ++ newline)) }
+{
+    make_room(&mut out.bytes, &mut out.held)?;
+    let held = &mut out.held;
+    put!(held; "finished\n");
+    Ok(())
+}

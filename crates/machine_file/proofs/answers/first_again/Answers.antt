@@ -1,9 +1,0 @@
-use Rattle.std.proofs.Common.{◌∙◌, [], not}
-use Rattle.std.specs.List.{list_any}
-use Rattle.machine_file.specs.Places.{first_not_after}
-use Rattle.machine_file.proofs.Answered.{given_eq}
-use Rattle.machine_file.proofs.answers.first_again.Goals as goal
-
-pub returns : goal.returns
-returns c =
-    c.first_repeated.ensures ∙ (λ i. first_not_after (λ before x. not (list_any (λ y. given_eq x y i) before)) [] 0 c.args.answers.now)

@@ -1,7 +1,0 @@
-use Rattle.std.proofs.Common.{◌∙◌, ap, bytes_eq, is_some}
-use Rattle.machine_file.specs.Knows.{texts}
-use Rattle.machine_file.proofs.Placing.{some_position}
-use Rattle.machine_file.proofs.known.contains.Goals as goal
-
-pub returns : goal.returns
-returns c = c.is_some.ensures ∙ ap is_some c.place_of_name.ensures.place ∙ some_position (bytes_eq c.args.name.now) (texts c.args.names.now)

@@ -1,6 +1,0 @@
-use Rattle.std.proofs.Common.{◌∙◌}
-use Rattle.machine_file.proofs.Looks.{list_any_texts}
-use Rattle.machine_file.proofs.look.is_among.Goals as goal
-
-pub returns : goal.returns
-returns c = c.is_any.ensures ∙ list_any_texts c.args.text.now c.args.words.now

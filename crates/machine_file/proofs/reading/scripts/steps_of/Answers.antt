@@ -1,0 +1,7 @@
+use Rattle.std.proofs.Common.{arith}
+use Rattle.machine_file.specs.Fitting.{FitsStep}
+use Rattle.machine_file.proofs.Each.{value_each}
+use Rattle.machine_file.proofs.reading.scripts.steps_of.Goals as goal
+
+pub step_of-requires-clause-fits : goal.step_of-requires-clause-fits
+step_of-requires-clause-fits c = value_each FitsStep c.args.script.now c.loop-operation.operation-index c.operation-item.result (omega arith) c.operation-item.is c.requires.fit

@@ -1,0 +1,10 @@
+use Rattle.std.proofs.Common.{◌∙◌, sym, ap, not}
+use Rattle.machine_file.specs.Places.{first_not}
+use Rattle.machine_file.specs.Tests.{item_test}
+use Rattle.machine_file.proofs.Looks.{position_view}
+use Rattle.machine_file.proofs.rules.items.first_failing.Goals as goal
+
+pub returns : goal.returns
+returns c =
+    c.first_not.ensures ∙ sym (position_view (λ d. not (item_test c.args.test d)) c.items.result.now)
+    ∙ ap (first_not (item_test c.args.test)) c.items.ensures

@@ -1,0 +1,181 @@
+//! The names of the things of a file, and the rules that tell them apart.
+
+ghost use Rattle.std.specs.Prelude.{◌≡◌, ◌≤◌, ◌-◌, ◌∷◌, [], not, map, take, bytes_eq, codes, length, ◌<◌, IfOk, IfSome, position, option_map};
+ghost use Rattle.std.specs.List.{list_any};
+ghost use Rattle.borrowed_json.specs.View.{view};
+ghost use Rattle.machine_file.specs.Look.{is_none_or, text_at};
+ghost use Rattle.machine_file.specs.Rules.{name_of};
+ghost use Rattle.machine_file.specs.Members.{list_in, word_at};
+ghost use Rattle.machine_file.specs.Places.{item_place, first_not, first_not_after};
+ghost use Rattle.machine_file.specs.Names.{names_in, texts_in, is_among_names, repeated_device, repeated_callback, repeated_source, repeated_actor};
+ghost use Rattle.machine_file.specs.Operations.{whole_marks};
+ghost use Rattle.machine_file.specs.Knows.{Knows, texts};
+ghost use Rattle.machine_file.specs.Broken.{member_name, place_of};
+
+use crate::names::marks::marks_in;
+use crate::names::{first_repeated, names_in, texts_in};
+use crate::value::place::{Member, Place};
+use borrowed_json::Value;
+use key_index::KeyIndex;
+use sleep_base::Mem;
+use std::alloc::Global;
+
+/// The names of the things of a file, by kind.
+#[derive(Drop)]
+pub(crate) struct Known<'v> {
+    pub(crate) devices: KeyIndex<&'v str>,
+    pub(crate) syscore: KeyIndex<&'v str>,
+    pub(crate) notifiers: KeyIndex<&'v str>,
+    pub(crate) sources: KeyIndex<&'v str>,
+    /// The marks of scripts, in the order of their first use.
+    pub(crate) marks: KeyIndex<&'v str>,
+}
+
+// The names of a list of objects, each with its place.
+fn named_in<'v>(alloc: Global, tree: &Value<'v>, list: Member) -> Result<KeyIndex<&'v str>, Mem>
+    ensures { IfOk result (λ p. texts p ≡ names_in (member_name list) (view tree.now)) }
+{
+    let names = names_in(alloc, tree, list)?;
+    KeyIndex::new(alloc, names)
+}
+
+// The names of a list of names, each with its place.
+fn told_in<'v>(alloc: Global, tree: &Value<'v>, list: Member) -> Result<KeyIndex<&'v str>, Mem>
+    ensures { IfOk result (λ p. texts p ≡ texts_in (member_name list) (view tree.now)) }
+{
+    let names = texts_in(alloc, tree, list)?;
+    KeyIndex::new(alloc, names)
+}
+
+// The marks of scripts, each with its place.
+fn marked_in<'v>(alloc: Global, tree: &Value<'v>) -> Result<KeyIndex<&'v str>, Mem>
+    ensures { IfOk result (λ p. texts p ≡ whole_marks (view tree.now)) }
+{
+    let marks = marks_in(alloc, tree)?;
+    KeyIndex::new(alloc, marks)
+}
+
+/// The names of the things of a file.
+pub(crate) fn known_in<'v>(alloc: Global, tree: &Value<'v>) -> Result<Known<'v>, Mem>
+    ensures { IfOk result (λ k. Knows k (view tree.now)) }
+{
+    let devices = named_in(alloc, tree, Member::Devices)?;
+    let syscore = told_in(alloc, tree, Member::Syscore)?;
+    let notifiers = named_in(alloc, tree, Member::Notifiers)?;
+    let sources = told_in(alloc, tree, Member::Sources)?;
+    let marks = marked_in(alloc, tree)?;
+    Ok(Known {
+        devices,
+        syscore,
+        notifiers,
+        sources,
+        marks,
+    })
+}
+
+/// The place of an item of that number, where there is one.
+pub(crate) fn item(list: Member, number: Option<usize>) -> Option<Place>
+    ensures { place_of result ≡ option_map (item_place (member_name list)) number }
+{
+    match number {
+        Some(number) => Some(Place::Item(list, number)),
+        None => None,
+    }
+}
+
+/// The first device that has another's name.
+pub(crate) fn repeated_device(tree: &Value<'_>, known: &Known) -> Option<Place>
+    requires { Knows known.now (view tree.now) }
+    ensures { place_of result ≡ repeated_device (view tree.now) }
+{
+    let _ = tree;
+    item(Member::Devices, first_repeated(&known.devices))
+}
+
+/// The first syscore callback or notifier that has another's name.
+pub(crate) fn repeated_callback(tree: &Value<'_>, known: &Known) -> Option<Place>
+    requires { Knows known.now (view tree.now) }
+    ensures { place_of result ≡ repeated_callback (view tree.now) }
+{
+    let _ = tree;
+    match first_repeated(&known.syscore) {
+        Some(number) => Some(Place::Item(Member::Syscore, number)),
+        None => item(Member::Notifiers, first_repeated(&known.notifiers)),
+    }
+}
+
+/// The first source that has another's name, or that of autosleep's own.
+pub(crate) fn repeated_source(alloc: Global, tree: &Value<'_>) -> Result<Option<Place>, Mem>
+    ensures { IfOk result (λ p. place_of p ≡ repeated_source (view tree.now)) }
+{
+    let sources = texts_in(alloc, tree, Member::Sources)?;
+    let number = first_reserved(alloc, "autosleep", &sources)?;
+    Ok(item(Member::Sources, number))
+}
+
+/// The first name that stands before, or that is reserved.
+fn first_reserved<'x>(
+    alloc: Global,
+    reserved: &'x str,
+    names: &[&'x str],
+) -> Result<Option<usize>, Mem>
+    ensures { IfOk result (λ n. n ≡ first_not_after
+        (λ before name. not (is_among_names (reserved.now ∷ before) name)) [] 0 (texts names.now)) }
+{
+    let all = behind(alloc, reserved, names)?;
+    let all = KeyIndex::new(alloc, all)?;
+    Ok(one_less(first_repeated(&all)))
+}
+
+fn behind<'x>(alloc: Global, reserved: &'x str, names: &[&'x str]) -> Result<Vec<&'x str>, Mem>
+    ensures { IfOk result (λ v. texts v.items ≡ reserved.now ∷ texts names.now) }
+{
+    let mut all = Vec::with_capacity(alloc, 1)?;
+    all.push(reserved)?;
+    all.extend_from_slice(names)?;
+    Ok(all)
+}
+
+fn one_less(number: Option<usize>) -> Option<usize>
+    ensures { result ≡ option_map (λ k. k - 1) number }
+{
+    match number {
+        Some(number) => Some(number.saturating_sub(1)),
+        None => None,
+    }
+}
+
+/// The first actor that has another's name.
+pub(crate) fn repeated_actor(alloc: Global, tree: &Value<'_>) -> Result<Option<Place>, Mem>
+    ensures { IfOk result (λ p. place_of p ≡ repeated_actor (view tree.now)) }
+{
+    let names = names_in(alloc, tree, Member::Actors)?;
+    let names = KeyIndex::new(alloc, names)?;
+    Ok(item(Member::Actors, first_repeated(&names)))
+}
+
+/// The place of a name among these.
+pub(crate) fn place_of_name(names: &KeyIndex<&str>, name: &str) -> Option<usize>
+    ensures place { result ≡ position (bytes_eq name.now) (texts names.now) }
+    ensures within { IfSome result (λ i. i < length names.now) }
+{
+    names.place(&name)
+}
+
+/// The number of the device of a name.
+pub(crate) fn device_at(names: &KeyIndex<&str>, name: &str) -> Option<u32>
+    requires { length names.now ≤ 1000 }
+    ensures { result ≡ position (bytes_eq name.now) (texts names.now) }
+{
+    match place_of_name(names, name) {
+        Some(place) => Some(place as u32),
+        None => None,
+    }
+}
+
+/// Whether a name is one of these.
+pub(crate) fn contains(names: &KeyIndex<&str>, name: &str) -> bool
+    ensures { result ≡ is_among_names (texts names.now) name.now }
+{
+    place_of_name(names, name).is_some()
+}

@@ -1,0 +1,179 @@
+//! The answers that a file spells.
+
+ghost use Rattle.std.specs.Prelude.{◌≡◌, ◌≤◌, All, map, length, codes, unwrap_or, find, pos, neg_ℤ, IfOk};
+ghost use Rattle.borrowed_json.specs.View.{view};
+ghost use Rattle.machine_file.specs.Members.{has_text, number_at};
+ghost use Rattle.machine_file.specs.Answering.{answering_phases, platform_steps, phase_of, step_of, ret_of, call_of, whole_report};
+ghost use Rattle.machine_file.specs.AnswerTests.{thing_seen, answer_made};
+ghost use Rattle.phase_table.specs.Phases.{phase_name};
+ghost use Rattle.sleep_model.specs.Text.{down_word};
+ghost use Rattle.sleep_base.specs.Errno.{name_of, number_of};
+ghost use Rattle.sleep_model.specs.Answers.{errors};
+ghost use Rattle.machine_file.specs.Fitting.{FitsAt, HasPlainRet, FitsAnswer};
+ghost use Rattle.machine_file.specs.Knows.{texts, AreFew};
+
+use crate::names::known::Known;
+use crate::reading::scripts::{ms_of, says, small_at, thing_at};
+use crate::rules::answers::is_of_device;
+use crate::value::look::{has_text, list_in, number_at};
+use crate::value::words::{AWAKE, NOTIFIER, RELAX, SYSCORE, error_in, phase_in, step_in};
+use borrowed_json::{Value, get};
+use key_index::KeyIndex;
+use sleep_base::{Errno, Mem};
+use sleep_model::{Answer, ListOf, Phase, PlatDo, Report, SourceCall, What};
+use std::alloc::Global;
+
+fn phase_at(answer: &Value<'_>) -> Option<Phase>
+    ensures { result ≡ find (λ p. has_text (codes "phase") (phase_name p) (view answer.now)) answering_phases }
+{
+    match get(answer, "phase") {
+        Some(phase) => phase_in(phase),
+        None => None,
+    }
+}
+
+fn phase_of(answer: &Value<'_>) -> Phase
+    ensures { result ≡ phase_of (view answer.now) }
+{
+    phase_at(answer).unwrap_or(Phase::Prepare)
+}
+
+fn step_at(answer: &Value<'_>) -> Option<PlatDo>
+    ensures { result ≡ find (λ s. has_text (codes "name") (down_word s) (view answer.now)) platform_steps }
+{
+    match get(answer, "name") {
+        Some(step) => step_in(step),
+        None => None,
+    }
+}
+
+fn step_of(answer: &Value<'_>) -> PlatDo
+    ensures { result ≡ step_of (view answer.now) }
+{
+    step_at(answer).unwrap_or(PlatDo::Begin)
+}
+
+fn thing_of(answer: &Value<'_>, known: &Known<'_>) -> What
+    requires { AreFew known.now }
+    ensures { result ≡ thing_seen known.now (view answer.now) }
+{
+    if is_of_device(answer) {
+        return What::Device(thing_at(answer, "name", &known.devices), phase_of(answer));
+    }
+    if has_text(answer, "what", SYSCORE) {
+        return What::Syscore(thing_at(answer, "name", &known.syscore));
+    }
+    if has_text(answer, "what", NOTIFIER) {
+        return What::Notifier(thing_at(answer, "name", &known.notifiers));
+    }
+    What::Platform(step_of(answer))
+}
+
+fn error_of(answer: &Value<'_>) -> Option<Errno>
+    ensures { result ≡ find (λ e. has_text (codes "ret") (name_of e) (view answer.now)) errors }
+{
+    match get(answer, "ret") {
+        Some(ret) => error_in(ret),
+        None => None,
+    }
+}
+
+fn below_zero(error: Errno) -> i32
+    ensures { result ≡ neg_ℤ (pos (number_of error)) }
+{
+    -i32::from(error.number())
+}
+
+fn plain_ret(answer: &Value<'_>) -> i32
+    requires { HasPlainRet (view answer.now) }
+    ensures { result ≡ pos (unwrap_or (number_at (codes "ret") (view answer.now)) 0) }
+{
+    match number_at(answer, "ret") {
+        Some(number) => number as i32,
+        None => 0,
+    }
+}
+
+fn ret_of(answer: &Value<'_>) -> i32
+    requires { HasPlainRet (view answer.now) }
+    ensures { result ≡ ret_of (view answer.now) }
+{
+    match error_of(answer) {
+        Some(error) => below_zero(error),
+        None => plain_ret(answer),
+    }
+}
+
+fn call_of(report: &Value<'_>) -> SourceCall
+    requires { FitsAt (codes "ms") (view report.now) }
+    ensures { result ≡ call_of (view report.now) }
+{
+    if has_text(report, "call", AWAKE) {
+        return SourceCall::Awake;
+    }
+    if has_text(report, "call", RELAX) {
+        return SourceCall::Relax;
+    }
+    SourceCall::Event {
+        ms: ms_of(report),
+        hard: says(report, "hard"),
+    }
+}
+
+fn report_of(report: &Value<'_>, sources: &KeyIndex<&str>) -> Report
+    requires few { length sources.now ≤ 1000 }
+    requires fits { FitsAt (codes "ms") (view report.now) }
+    ensures { result ≡ whole_report (texts sources.now) (view report.now) }
+{
+    Report {
+        source: thing_at(report, "source", sources),
+        call: call_of(report),
+    }
+}
+
+fn reports_of(
+    alloc: Global,
+    reports: &[Value<'_>],
+    sources: &KeyIndex<&str>,
+) -> Result<Vec<Report>, Mem>
+    requires few { length sources.now ≤ 1000 }
+    requires fit { All (FitsAt (codes "ms")) (map view reports.now) }
+    ensures { IfOk result (λ v. v.items ≡ map (whole_report (texts sources.now)) (map view reports.now)) }
+{
+    let mut all = Vec::with_capacity(alloc, reports.len())?;
+    for report in reports {
+        all.push(report_of(report, sources))?;
+    }
+    Ok(all)
+}
+
+fn answer_of(alloc: Global, answer: &Value<'_>, known: &Known<'_>) -> Result<Answer, Mem>
+    requires few { AreFew known.now }
+    requires fits { FitsAnswer (view answer.now) }
+    ensures { IfOk result (λ a. a ≡ answer_made known.now (view answer.now)) }
+{
+    let reports = reports_of(alloc, list_in(answer, "reports"), &known.sources)?;
+    Ok(Answer {
+        what: thing_of(answer, known),
+        attempt: small_at(answer, "attempt"),
+        ret: ret_of(answer),
+        reports: ListOf::of_vec(reports),
+    })
+}
+
+/// The answers that these values spell.
+pub(crate) fn answers_of(
+    alloc: Global,
+    answers: &[Value<'_>],
+    known: &Known<'_>,
+) -> Result<Vec<Answer>, Mem>
+    requires few { AreFew known.now }
+    requires fit { All FitsAnswer (map view answers.now) }
+    ensures { IfOk result (λ v. v.items ≡ map (answer_made known.now) (map view answers.now)) }
+{
+    let mut all = Vec::with_capacity(alloc, answers.len())?;
+    for answer in answers {
+        all.push(answer_of(alloc, answer, known)?)?;
+    }
+    Ok(all)
+}

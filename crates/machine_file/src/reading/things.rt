@@ -1,0 +1,109 @@
+//! The devices and the notifiers that a file spells.
+
+ghost use Rattle.std.specs.Prelude.{◌≡◌, ◌≤◌, All, Some, map, length, codes, IfOk, option_and_then, true};
+ghost use Rattle.borrowed_json.specs.View.{view};
+ghost use Rattle.serde_json.specs.Find.{as_number, as_integer};
+ghost use Rattle.machine_file.specs.Members.{may_have};
+ghost use Rattle.machine_file.specs.Form.{is_near};
+ghost use Rattle.machine_file.specs.Devices.{bit, flags_of, whole_device, whole_devices};
+ghost use Rattle.machine_file.specs.Whole.{priority_of, whole_notifier};
+ghost use Rattle.machine_file.specs.Fitting.{HasShortName, FitsNotifier};
+ghost use Rattle.machine_file.specs.Knows.{texts};
+
+use crate::names::known::Known;
+use crate::reading::texts::name_of_text;
+use crate::rules::cycles::parent_of;
+use crate::value::look::{has_text, text_at, truth_at};
+use crate::value::place::{Member, items};
+use bitflags::Flags;
+use borrowed_json::{Value, as_i64, get};
+use key_index::KeyIndex;
+use sleep_base::Mem;
+use sleep_model::{Device, DeviceFlags, Notifier, runtime_word};
+use std::alloc::Global;
+
+fn flag(set: bool, value: u8) -> u8
+    ensures { result ≡ bit set value }
+{
+    if set { value } else { 0 }
+}
+
+fn flags_of(device: &Value<'_>) -> DeviceFlags
+    ensures { result ≡ flags_of (view device.now) }
+{
+    let asynchronous = truth_at(device, "async").unwrap_or(false);
+    let wakeup = truth_at(device, "wakeup").unwrap_or(false);
+    let suspended = has_text(device, "runtime", runtime_word(true));
+    DeviceFlags::from_bits_retain(flag(asynchronous, 1) + flag(wakeup, 2) + flag(suspended, 4))
+}
+
+fn device_of(device: &Value<'_>, names: &KeyIndex<&str>) -> Device
+    requires few { length names.now ≤ 1000 }
+    requires fits { HasShortName (view device.now) }
+    ensures { result ≡ whole_device (texts names.now) (view device.now) }
+{
+    Device {
+        name: name_of_text(text_at(device, "name")),
+        parent: parent_of(device, names),
+        flags: flags_of(device),
+    }
+}
+
+pub(crate) fn devices_of(
+    alloc: Global,
+    devices: &[Value<'_>],
+    names: &KeyIndex<&str>,
+) -> Result<Vec<Device>, Mem>
+    requires few { length names.now ≤ 1000 }
+    requires fit { All HasShortName (map view devices.now) }
+    ensures { IfOk result (λ v. v.items ≡ map (whole_device (texts names.now)) (map view devices.now)) }
+{
+    let mut all = Vec::with_capacity(alloc, devices.len())?;
+    for device in devices {
+        all.push(device_of(device, names))?;
+    }
+    Ok(all)
+}
+
+// A number from -1000 to 1000.
+fn near_of(value: &Value<'_>) -> i32
+    requires { is_near 1000 (view value.now) ≡ true }
+    ensures { option_and_then as_integer (as_number (view value.now)) ≡ Some result }
+{
+    match as_i64(value) {
+        Some(number) => number as i32,
+        None => unreachable!(),
+    }
+}
+
+fn priority_of(notifier: &Value<'_>) -> i32
+    requires { may_have (codes "priority") (is_near 1000) (view notifier.now) ≡ true }
+    ensures { result ≡ priority_of (view notifier.now) }
+{
+    match get(notifier, "priority") {
+        Some(value) => near_of(value),
+        None => 0,
+    }
+}
+
+fn notifier_of(notifier: &Value<'_>) -> Notifier
+    requires { FitsNotifier (view notifier.now) }
+    ensures { result ≡ whole_notifier (view notifier.now) }
+{
+    Notifier {
+        name: name_of_text(text_at(notifier, "name")),
+        priority: priority_of(notifier),
+    }
+}
+
+/// The notifiers that these values spell.
+pub(crate) fn notifiers_of(alloc: Global, notifiers: &[Value<'_>]) -> Result<Vec<Notifier>, Mem>
+    requires { All FitsNotifier (map view notifiers.now) }
+    ensures { IfOk result (λ v. v.items ≡ map whole_notifier (map view notifiers.now)) }
+{
+    let mut all = Vec::with_capacity(alloc, notifiers.len())?;
+    for notifier in notifiers {
+        all.push(notifier_of(notifier))?;
+    }
+    Ok(all)
+}

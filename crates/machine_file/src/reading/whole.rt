@@ -1,0 +1,153 @@
+//! The machine that a file spells, where it keeps the rules.
+
+ghost use Rattle.std.specs.Prelude.{◌≡◌, map, codes, IfOk};
+ghost use Rattle.borrowed_json.specs.View.{view};
+ghost use Rattle.machine_file.specs.Members.{list_in};
+ghost use Rattle.machine_file.specs.Names.{texts_in, sources_named};
+ghost use Rattle.machine_file.specs.Devices.{whole_devices, whole_links};
+ghost use Rattle.machine_file.specs.Operations.{whole_marks, whole_scripts};
+ghost use Rattle.machine_file.specs.Answering.{whole_answers};
+ghost use Rattle.machine_file.specs.Whole.{whole_notifier, whole_machine};
+ghost use Rattle.machine_file.specs.Knows.{Knows, AreFew};
+ghost use Rattle.machine_file.specs.Fitting.{FitsFile};
+ghost use Rattle.machine_file.specs.Kept.{IsSound};
+ghost use Rattle.machine_file.specs.Reading.{Reads};
+
+use crate::ReadMachine;
+use crate::names::known::Known;
+use crate::reading::replies::answers_of;
+use crate::reading::scripts::{scripts_of, small_or};
+use crate::reading::texts::names_of_texts;
+use crate::reading::things::{devices_of, notifiers_of};
+use crate::rules::cycles::{Added, Linking};
+use crate::value::look::number_at;
+use crate::value::place::{Member, items};
+use borrowed_json::Value;
+use sleep_base::Mem;
+use sleep_model::{Answer, Device, Link, ListOf, Machine, Name, Notifier, Script};
+use std::alloc::Global;
+
+fn devices_in(alloc: Global, tree: &Value<'_>, known: &Known<'_>) -> Result<Vec<Device>, Mem>
+    requires knows { Knows known.now (view tree.now) }
+    requires few { AreFew known.now }
+    requires fits { FitsFile (view tree.now) }
+    ensures { IfOk result (λ v. v.items ≡ whole_devices (view tree.now)) }
+{
+    let devices = devices_of(alloc, items(tree, Member::Devices), &known.devices)?;
+    Ok(devices)
+}
+
+fn syscore_in(alloc: Global, tree: &Value<'_>, known: &Known<'_>) -> Result<Vec<Name>, Mem>
+    requires knows { Knows known.now (view tree.now) }
+    requires fits { FitsFile (view tree.now) }
+    ensures { IfOk result (λ v. v.items ≡ texts_in (codes "syscore") (view tree.now)) }
+{
+    let _ = tree;
+    let names = names_of_texts(alloc, known.syscore.keys())?;
+    Ok(names)
+}
+
+fn notifiers_in(alloc: Global, tree: &Value<'_>) -> Result<Vec<Notifier>, Mem>
+    requires { FitsFile (view tree.now) }
+    ensures { IfOk result (λ v. v.items ≡ map whole_notifier (list_in (codes "notifiers") (view tree.now))) }
+{
+    let notifiers = notifiers_of(alloc, items(tree, Member::Notifiers))?;
+    Ok(notifiers)
+}
+
+fn sources_in(alloc: Global, tree: &Value<'_>, known: &Known<'_>) -> Result<Vec<Name>, Mem>
+    requires knows { Knows known.now (view tree.now) }
+    requires fits { FitsFile (view tree.now) }
+    ensures { IfOk result (λ v. v.items ≡ sources_named (view tree.now)) }
+{
+    let _ = tree;
+    let names = names_of_texts(alloc, known.sources.keys())?;
+    Ok(names)
+}
+
+fn marks_of(alloc: Global, tree: &Value<'_>, known: &Known<'_>) -> Result<Vec<Name>, Mem>
+    requires knows { Knows known.now (view tree.now) }
+    requires fits { FitsFile (view tree.now) }
+    ensures { IfOk result (λ v. v.items ≡ whole_marks (view tree.now)) }
+{
+    let _ = tree;
+    let names = names_of_texts(alloc, known.marks.keys())?;
+    Ok(names)
+}
+
+fn scripts_in(alloc: Global, tree: &Value<'_>, known: &Known<'_>) -> Result<Vec<Script>, Mem>
+    requires knows { Knows known.now (view tree.now) }
+    requires few { AreFew known.now }
+    requires fits { FitsFile (view tree.now) }
+    ensures { IfOk result (λ v. v.items ≡ whole_scripts (view tree.now)) }
+{
+    let scripts = scripts_of(alloc, items(tree, Member::Actors), known)?;
+    Ok(scripts)
+}
+
+fn answers_in(alloc: Global, tree: &Value<'_>, known: &Known<'_>) -> Result<Vec<Answer>, Mem>
+    requires knows { Knows known.now (view tree.now) }
+    requires few { AreFew known.now }
+    requires fits { FitsFile (view tree.now) }
+    ensures { IfOk result (λ v. v.items ≡ whole_answers (view tree.now)) }
+{
+    let answers = answers_of(alloc, items(tree, Member::Answers), known)?;
+    Ok(answers)
+}
+
+/// A file's machine, with its links.
+fn machine_of(
+    alloc: Global,
+    tree: &Value<'_>,
+    known: &Known<'_>,
+    links: Vec<Link>,
+) -> Result<Machine, Mem>
+    requires knows { Knows known.now (view tree.now) }
+    requires few { AreFew known.now }
+    requires links { links.items ≡ whole_links (view tree.now) }
+    requires fits { FitsFile (view tree.now) }
+    ensures { IfOk result (λ m. m ≡ whole_machine (view tree.now)) }
+{
+    let devices = devices_in(alloc, tree, known)?;
+    let syscore = syscore_in(alloc, tree, known)?;
+    let notifiers = notifiers_in(alloc, tree)?;
+    let sources = sources_in(alloc, tree, known)?;
+    let marks = marks_of(alloc, tree, known)?;
+    let actors = scripts_in(alloc, tree, known)?;
+    let answers = answers_in(alloc, tree, known)?;
+    Ok(Machine {
+        alarm_ms: number_at(tree, "alarm_ms").unwrap_or(1000),
+        cpus: small_or(tree, "cpus", 1),
+        auto_cycles: small_or(tree, "auto_cycles", 16),
+        devices: ListOf::of_vec(devices),
+        links: ListOf::of_vec(links),
+        syscore: ListOf::of_vec(syscore),
+        notifiers: ListOf::of_vec(notifiers),
+        sources: ListOf::of_vec(sources),
+        marks: ListOf::of_vec(marks),
+        actors: ListOf::of_vec(actors),
+        answers: ListOf::of_vec(answers),
+    })
+}
+
+/// A file's machine, and its links added in turn.
+pub(crate) fn read_of(
+    alloc: Global,
+    tree: &Value<'_>,
+    known: &Known<'_>,
+    linking: Linking,
+) -> Result<ReadMachine, Mem>
+    requires { IsSound (view tree.now) known.now linking }
+    ensures { IfOk result (λ r. Reads (view tree.now) r) }
+{
+    let Linking { links, added } = linking;
+    let Added {
+        links: tied,
+        cycle: _,
+    } = added;
+    let machine = machine_of(alloc, tree, known, links)?;
+    Ok(ReadMachine {
+        machine,
+        links: tied,
+    })
+}

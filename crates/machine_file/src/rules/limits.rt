@@ -1,0 +1,251 @@
+//! How many things a file may have, and how much may happen.
+
+ghost use Rattle.std.specs.Prelude.{◌≡◌, ◌+◌, ◌*◌, ◌||◌, length, min, map, codes, true, sum_by, unwrap_or, nat_le, if◌then◌else◌};
+ghost use Rattle.std.specs.List.{list_any};
+ghost use Rattle.borrowed_json.specs.View.{view};
+ghost use Rattle.machine_file.specs.Members.{list_in, number_at, has_text};
+ghost use Rattle.machine_file.specs.Limits.{too_many, too_much, times_of, repeat_of, has_autosleep, autosleep_attempts, most_attempts, are_links_few, are_steps_few, are_reports_few};
+ghost use Rattle.machine_file.specs.Counted.{with_operation, steps_of_script, repeated_steps, steps_of_actor, joined_steps, steps_of_actors};
+ghost use Rattle.machine_file.specs.Broken.{member_name, place_of};
+
+use crate::value::look::{is_same, list_in, number_at, text_at};
+use crate::value::place::{Member, Place, items};
+use borrowed_json::Value;
+
+/// How many steps there are, each number of at most the cap.
+#[derive(Clone, Copy)]
+pub(crate) struct Steps {
+    all: u64,
+    /// The writes to the state.
+    state: u64,
+    /// Those that add a link.
+    link: u64,
+    /// Whether there is a write to autosleep.
+    autosleep: bool,
+}
+
+const NO_STEPS: Steps = Steps {
+    all: 0,
+    state: 0,
+    link: 0,
+    autosleep: false,
+};
+
+// The most steps that all scripts make.
+const MOST_STEPS: u64 = 200_000;
+
+// The most turns of devices in all attempts.
+const MOST_TURNS: u64 = 100_000;
+
+// The most links that are there or are added.
+const MOST_LINKS: u64 = 4000;
+
+// The most reports of all answers.
+const MOST_REPORTS: u64 = 10_000;
+
+// More than any limit: what is larger counts as this much.
+const CAP: u64 = 1_000_000;
+
+#[tactic(auto, using(crate::proofs::Looks::length_view))]
+fn has_most(tree: &Value<'_>, list: Member, most: usize) -> bool
+    ensures { result ≡ nat_le (length (list_in (member_name list) (view tree.now))) most }
+{
+    items(tree, list).len() <= most
+}
+
+/// The first list that is too long.
+pub(crate) fn too_many(tree: &Value<'_>) -> Option<Place>
+    ensures { place_of result ≡ too_many (view tree.now) }
+{
+    if !has_most(tree, Member::Devices, 1000) {
+        return Some(Place::Member(Member::Devices));
+    }
+    if !has_most(tree, Member::Links, 4000) {
+        return Some(Place::Member(Member::Links));
+    }
+    if !has_most(tree, Member::Syscore, 32) {
+        return Some(Place::Member(Member::Syscore));
+    }
+    if !has_most(tree, Member::Notifiers, 32) {
+        return Some(Place::Member(Member::Notifiers));
+    }
+    if !has_most(tree, Member::Sources, 255) {
+        return Some(Place::Member(Member::Sources));
+    }
+    if !has_most(tree, Member::Actors, 256) {
+        return Some(Place::Member(Member::Actors));
+    }
+    if !has_most(tree, Member::Answers, 10_000) {
+        return Some(Place::Member(Member::Answers));
+    }
+    None
+}
+
+// A sum, of at most the cap.
+fn capped_sum(one: u64, other: u64) -> u64
+    ensures { result ≡ min (one + other) 1000000 }
+{
+    one.saturating_add(other).min(CAP)
+}
+
+// A product, of at most the cap.
+fn capped_product(one: u64, other: u64) -> u64
+    ensures { result ≡ min (one * other) 1000000 }
+{
+    one.saturating_mul(other).min(CAP)
+}
+
+fn times_of(operation: &Value<'_>) -> u64
+    ensures { result ≡ times_of (view operation.now) }
+{
+    number_at(operation, "times").unwrap_or(1)
+}
+
+fn repeat_of(actor: &Value<'_>) -> u64
+    ensures { result ≡ repeat_of (view actor.now) }
+{
+    number_at(actor, "repeat").unwrap_or(1)
+}
+
+// What counts where it is asked for, and 0 else.
+fn times_if(counted: bool, times: u64) -> u64
+    ensures { result ≡ (if counted then times else 0) }
+{
+    if counted { times } else { 0 }
+}
+
+// The steps and an operation of that word more, which is made so often.
+fn with_operation(steps: Steps, word: &str, times: u64) -> Steps
+    ensures { result ≡ with_operation steps word.now times }
+{
+    let state = times_if(is_same(word, "state"), times);
+    let link = times_if(is_same(word, "link"), times);
+    Steps {
+        all: capped_sum(steps.all, times),
+        state: capped_sum(steps.state, state),
+        link: capped_sum(steps.link, link),
+        autosleep: steps.autosleep || is_same(word, "autosleep"),
+    }
+}
+
+// The steps of a script that is made once.
+fn script_steps(script: &[Value<'_>]) -> Steps
+    ensures { result ≡ steps_of_script (map view script.now) }
+{
+    let mut steps = NO_STEPS;
+    for operation in script {
+        steps = with_operation(steps, text_at(operation, "op"), times_of(operation));
+    }
+    steps
+}
+
+// The steps that are made so often.
+fn repeated(repeat: u64, steps: Steps) -> Steps
+    ensures { result ≡ repeated_steps repeat steps }
+{
+    Steps {
+        all: capped_product(repeat, steps.all),
+        state: capped_product(repeat, steps.state),
+        link: capped_product(repeat, steps.link),
+        autosleep: steps.autosleep,
+    }
+}
+
+fn actor_steps(actor: &Value<'_>) -> Steps
+    ensures { result ≡ steps_of_actor (view actor.now) }
+{
+    repeated(repeat_of(actor), script_steps(list_in(actor, "script")))
+}
+
+fn joined(one: Steps, other: Steps) -> Steps
+    ensures { result ≡ joined_steps one other }
+{
+    Steps {
+        all: capped_sum(one.all, other.all),
+        state: capped_sum(one.state, other.state),
+        link: capped_sum(one.link, other.link),
+        autosleep: one.autosleep || other.autosleep,
+    }
+}
+
+// The steps of all scripts.
+fn all_steps(actors: &[Value<'_>]) -> Steps
+    ensures { result ≡ steps_of_actors (map view actors.now) }
+{
+    let mut sum = NO_STEPS;
+    for actor in actors {
+        sum = joined(sum, actor_steps(actor));
+    }
+    sum
+}
+
+fn steps_of_file(tree: &Value<'_>) -> Steps
+    ensures { result ≡ steps_of_actors (list_in (codes "actors") (view tree.now)) }
+{
+    all_steps(items(tree, Member::Actors))
+}
+
+fn autosleep_attempts(tree: &Value<'_>, automatic: bool) -> u64
+    requires { automatic ≡ list_any has_autosleep (list_in (codes "actors") (view tree.now)) }
+    ensures { result ≡ autosleep_attempts (view tree.now) }
+{
+    if automatic {
+        number_at(tree, "auto_cycles").unwrap_or(16)
+    } else {
+        0
+    }
+}
+
+// How many attempts may be begun, of at most the cap.
+fn most_attempts(tree: &Value<'_>, steps: Steps) -> u64
+    requires { steps ≡ steps_of_actors (list_in (codes "actors") (view tree.now)) }
+    ensures { result ≡ min (most_attempts (view tree.now)) 1000000 }
+{
+    capped_sum(steps.state, autosleep_attempts(tree, steps.autosleep))
+}
+
+fn are_links_few(tree: &Value<'_>, steps: Steps) -> bool
+    requires { steps ≡ steps_of_actors (list_in (codes "actors") (view tree.now)) }
+    ensures { result ≡ are_links_few (view tree.now) }
+{
+    let written = items(tree, Member::Links).len() as u64;
+    capped_sum(written, steps.link) <= MOST_LINKS
+}
+
+fn are_steps_few(tree: &Value<'_>) -> bool
+    ensures { result ≡ are_steps_few (view tree.now) }
+{
+    let steps = steps_of_file(tree);
+    let devices = items(tree, Member::Devices).len() as u64;
+    let turns = capped_product(most_attempts(tree, steps), devices.saturating_add(50));
+    steps.all <= MOST_STEPS && turns <= MOST_TURNS && are_links_few(tree, steps)
+}
+
+fn reports_of(answers: &[Value<'_>]) -> u64
+    ensures { result ≡ min (sum_by (λ a. length (list_in (codes "reports") a)) (map view answers.now)) 1000000 }
+{
+    let mut sum = 0;
+    for answer in answers {
+        sum = capped_sum(sum, list_in(answer, "reports").len() as u64);
+    }
+    sum
+}
+
+fn are_reports_few(tree: &Value<'_>) -> bool
+    ensures { result ≡ are_reports_few (view tree.now) }
+{
+    reports_of(items(tree, Member::Answers)) <= MOST_REPORTS
+}
+
+/// The place where too much may happen.
+pub(crate) fn too_much(tree: &Value<'_>) -> Option<Place>
+    ensures { place_of result ≡ too_much (view tree.now) }
+{
+    if !are_steps_few(tree) {
+        return Some(Place::Member(Member::Actors));
+    }
+    if !are_reports_few(tree) {
+        return Some(Place::Member(Member::Answers));
+    }
+    None
+}

@@ -1,0 +1,197 @@
+//! The parents of devices and the ends of links.
+
+ghost use Rattle.std.specs.Prelude.{◌≡◌, ◌≤◌, ◌&&◌, [], not, map, take, bytes_eq, codes, is_some, length, IfOk, position};
+ghost use Rattle.std.specs.List.{list_any};
+ghost use Rattle.borrowed_json.specs.View.{view};
+ghost use Rattle.machine_file.specs.Look.{is_none_or, text_at};
+ghost use Rattle.machine_file.specs.Members.{list_in, word_at};
+ghost use Rattle.machine_file.specs.Places.{first_not, first_not_after};
+ghost use Rattle.machine_file.specs.Devices.{has_parent_before, orphan, loose_link, repeated_link};
+ghost use Rattle.machine_file.specs.Rules.{name_of};
+ghost use Rattle.machine_file.specs.Knows.{Knows, AreFew, texts};
+ghost use Rattle.machine_file.specs.Seen.{ends_seen, ends_written, differ, same_ends, end_places, are_devices, AreEnds, ArePlaced};
+ghost use Rattle.machine_file.specs.Broken.{place_of};
+
+use crate::names::known::{Known, device_at, item};
+use crate::value::look::{text_at, word_at};
+use crate::value::place::{Member, Place, items};
+use borrowed_json::Value;
+use indexmap::IndexMap;
+use key_index::KeyIndex;
+use sleep_base::Mem;
+use std::alloc::Global;
+
+/// The ends of a link, by name.
+#[derive(Clone, Copy, PartialEq, Eq, Hash)]
+pub(crate) struct Ends<'v> {
+    pub(crate) supplier: &'v str,
+    pub(crate) consumer: &'v str,
+}
+
+// Whether the parent, where one is named, is one of the first so many devices.
+fn has_parent_before(device: &Value<'_>, names: &KeyIndex<&str>, count: usize) -> bool
+    ensures { result ≡ is_none_or (λ p. list_any (bytes_eq p) (take count (texts names.now)))
+        (word_at (codes "parent") (view device.now)) }
+{
+    match word_at(device, "parent") {
+        Some(parent) => is_before(names, parent, count),
+        None => true,
+    }
+}
+
+fn is_before(names: &KeyIndex<&str>, name: &str, count: usize) -> bool
+    ensures { result ≡ list_any (bytes_eq name.now) (take count (texts names.now)) }
+{
+    crate::names::places::is_before(names, &name, count)
+}
+
+fn first_orphan(devices: &[Value<'_>], names: &KeyIndex<&str>) -> Option<usize>
+    requires { texts names.now ≡ map name_of (map view devices.now) }
+    ensures { result ≡ first_not_after (λ before v. has_parent_before (map view before) (view v)) [] 0 devices.now }
+{
+    for i in 0..devices.len() {
+        if !has_parent_before(&devices[i], names, i) {
+            return Some(i);
+        }
+    }
+    None
+}
+
+/// The first device whose parent is no earlier one.
+pub(crate) fn orphan(tree: &Value<'_>, known: &Known<'_>) -> Option<Place>
+    requires { Knows known.now (view tree.now) }
+    ensures { place_of result ≡ orphan (view tree.now) }
+{
+    item(
+        Member::Devices,
+        first_orphan(items(tree, Member::Devices), &known.devices),
+    )
+}
+
+fn ends_of<'v>(alloc: Global, links: &[Value<'v>]) -> Result<Vec<Ends<'v>>, Mem>
+    ensures { IfOk result (λ v. map ends_seen v.items ≡ map ends_written (map view links.now)) }
+{
+    let mut ends = Vec::with_capacity(alloc, links.len())?;
+    for link in links {
+        ends.push(Ends {
+            supplier: text_at(link, "supplier"),
+            consumer: text_at(link, "consumer"),
+        })?;
+    }
+    Ok(ends)
+}
+
+/// The ends of the links of a file.
+pub(crate) fn ends_in<'v>(alloc: Global, tree: &Value<'v>) -> Result<Vec<Ends<'v>>, Mem>
+    ensures { IfOk result (λ v. AreEnds v.items (view tree.now)) }
+{
+    let ends = ends_of(alloc, items(tree, Member::Links))?;
+    Ok(ends)
+}
+
+/// The numbers of the devices that are a link's ends, where they are devices.
+#[derive(Clone, Copy)]
+pub(crate) struct EndPlaces {
+    pub(crate) supplier: Option<u32>,
+    pub(crate) consumer: Option<u32>,
+}
+
+fn place_of(ends: &Ends<'_>, names: &KeyIndex<&str>) -> EndPlaces
+    requires { length names.now ≤ 1000 }
+    ensures { result ≡ end_places (texts names.now) (ends_seen ends.now) }
+{
+    EndPlaces {
+        supplier: device_at(names, ends.supplier),
+        consumer: device_at(names, ends.consumer),
+    }
+}
+
+fn places_of(
+    alloc: Global,
+    ends: &[Ends<'_>],
+    names: &KeyIndex<&str>,
+) -> Result<Vec<EndPlaces>, Mem>
+    requires { length names.now ≤ 1000 }
+    ensures { IfOk result (λ v. v.items ≡ map (end_places (texts names.now)) (map ends_seen ends.now)) }
+{
+    let mut places = Vec::with_capacity(alloc, ends.len())?;
+    for link in ends {
+        places.push(place_of(link, names))?;
+    }
+    Ok(places)
+}
+
+/// The numbers of the devices that are the ends of a file's links.
+pub(crate) fn places_in(
+    alloc: Global,
+    tree: &Value<'_>,
+    known: &Known<'_>,
+    ends: &[Ends<'_>],
+) -> Result<Vec<EndPlaces>, Mem>
+    requires knows { Knows known.now (view tree.now) }
+    requires few { AreFew known.now }
+    requires ends { AreEnds ends.now (view tree.now) }
+    ensures { IfOk result (λ v. ArePlaced v.items (view tree.now)) }
+{
+    let _ = tree;
+    let places = places_of(alloc, ends, &known.devices)?;
+    Ok(places)
+}
+
+fn are_devices(places: &EndPlaces) -> bool
+    ensures { result ≡ are_devices places.now }
+{
+    places.supplier.is_some() && places.consumer.is_some()
+}
+
+fn first_loose(places: &[EndPlaces]) -> Option<usize>
+    ensures { result ≡ position (λ p. not (are_devices p)) places.now }
+{
+    places.iter().position(|link| !are_devices(link))
+}
+
+/// The first link of which an end is no device.
+pub(crate) fn loose_link(tree: &Value<'_>, places: &[EndPlaces]) -> Option<Place>
+    requires { ArePlaced places.now (view tree.now) }
+    ensures { place_of result ≡ loose_link (view tree.now) }
+{
+    let _ = tree;
+    item(Member::Links, first_loose(places))
+}
+
+// Whether the ends are one, or have been seen before.
+fn is_again(key: &Ends, before: Option<usize>) -> bool
+    ensures { result ≡ not (differ (ends_seen key.now) && not (is_some before)) }
+{
+    key.supplier == key.consumer || before.is_some()
+}
+
+// The first ends that are one, or that stand before.
+fn first_again(alloc: Global, ends: &[Ends]) -> Result<Option<usize>, Mem>
+    ensures { IfOk result (λ n. n ≡ first_not_after (λ before e. differ (ends_seen e)
+        && not (list_any (λ f. same_ends (ends_seen e) (ends_seen f)) before)) [] 0 ends.now) }
+{
+    let mut seen = IndexMap::with_capacity(alloc, ends.len())?;
+    for i in 0..ends.len() {
+        let key = ends[i];
+        let before = seen.insert(key, i)?;
+        if is_again(&key, before) {
+            return Ok(Some(i));
+        }
+    }
+    Ok(None)
+}
+
+/// The first link that has one end, or that stands before.
+pub(crate) fn repeated_link(
+    alloc: Global,
+    tree: &Value<'_>,
+    ends: &[Ends],
+) -> Result<Option<Place>, Mem>
+    requires { AreEnds ends.now (view tree.now) }
+    ensures { IfOk result (λ p. place_of p ≡ repeated_link (view tree.now)) }
+{
+    let _ = tree;
+    let number = first_again(alloc, ends)?;
+    Ok(item(Member::Links, number))
+}

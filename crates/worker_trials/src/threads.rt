@@ -1,0 +1,32 @@
+ghost use Rattle.std.specs.Prelude.{◌≡◌};
+
+use sleep_script::{Job, TimerJob};
+use wakeup_source::{MOST_ENTRIES, WakeSource};
+
+/// What may be sent to a thread, and nothing else, goes through.
+fn sent<T: Send + Drop>(value: T) -> T
+    ensures { result ≡ value }
+{
+    value
+}
+
+/// A source may be sent to a thread.
+pub fn sent_source(source: WakeSource<MOST_ENTRIES>) -> WakeSource<MOST_ENTRIES>
+    ensures { result ≡ source }
+{
+    sent(source)
+}
+
+/// So may the job of an actor.
+pub fn sent_job(job: Job<'_>) -> Job<'_>
+    ensures { result ≡ job.entry }
+{
+    sent(job)
+}
+
+/// And that of a source's timer.
+pub fn sent_timer(job: TimerJob) -> TimerJob
+    ensures { result ≡ job }
+{
+    sent(job)
+}
