@@ -36,8 +36,8 @@ def explained(data, machine):
 def main():
     parser = argparse.ArgumentParser(
         usage=argparse.SUPPRESS, description=__doc__, formatter_class=argparse.RawDescriptionHelpFormatter)
-    parser.add_argument("--machine", type=pathlib.Path)
-    parser.add_argument("log", nargs="?", type=pathlib.Path)
+    parser.add_argument("--machine", type=pathlib.Path, help=argparse.SUPPRESS)
+    parser.add_argument("log", nargs="?", type=pathlib.Path, help=argparse.SUPPRESS)
     given = parser.parse_args()
     try:
         data = given.log.read_bytes() if given.log else sys.stdin.buffer.read()

@@ -38,9 +38,9 @@ def texts_of(data, is_debug):
 def main():
     parser = argparse.ArgumentParser(
         usage=argparse.SUPPRESS, description=__doc__, formatter_class=argparse.RawDescriptionHelpFormatter)
-    parser.add_argument("--only", choices=HEADINGS)
-    parser.add_argument("--debug", action="store_true")
-    parser.add_argument("log", nargs="?", type=pathlib.Path)
+    parser.add_argument("--only", choices=HEADINGS, help=argparse.SUPPRESS)
+    parser.add_argument("--debug", action="store_true", help=argparse.SUPPRESS)
+    parser.add_argument("log", nargs="?", type=pathlib.Path, help=argparse.SUPPRESS)
     given = parser.parse_args()
     try:
         texts = texts_of(given.log.read_bytes() if given.log else sys.stdin.buffer.read(), given.debug)

@@ -8,7 +8,8 @@ SYS is /sys itself, a copy of it (a folder or a tar), or a list of device folder
 links, wakeup sources and processors. TRACE is an ftrace of the events power:suspend_resume,
 power:device_pm_callback_start, power:device_pm_callback_end, power:wakeup_source_activate and
 power:wakeup_source_deactivate, from tracefs or from 'trace-cmd report'. It gives the order of devices, those that SYS
-has not, what callbacks answered, and which events came in a callback. One of both has to be there.
+has not, what callbacks answered, which devices were direct-complete, and which events came in a callback. One of both
+has to be there.
 
   --to FILE        writes the machine file there, and beside it, with the ending .names, the table of the names in it
                    and the real ones; a name is 32 bytes of a to z, 0 to 9, '_', '.' and '-'
@@ -63,12 +64,12 @@ def build(given):
 
 def main():
     parser = argparse.ArgumentParser(usage=argparse.SUPPRESS, description=__doc__, formatter_class=argparse.RawDescriptionHelpFormatter)
-    parser.add_argument("--trace", type=pathlib.Path)
-    parser.add_argument("--links", type=pathlib.Path)
-    parser.add_argument("--branch", action="append")
-    parser.add_argument("--writer", action="store_true")
-    parser.add_argument("--to", type=pathlib.Path)
-    parser.add_argument("sys", nargs="?", type=pathlib.Path)
+    parser.add_argument("--trace", type=pathlib.Path, help=argparse.SUPPRESS)
+    parser.add_argument("--links", type=pathlib.Path, help=argparse.SUPPRESS)
+    parser.add_argument("--branch", action="append", help=argparse.SUPPRESS)
+    parser.add_argument("--writer", action="store_true", help=argparse.SUPPRESS)
+    parser.add_argument("--to", type=pathlib.Path, help=argparse.SUPPRESS)
+    parser.add_argument("sys", nargs="?", type=pathlib.Path, help=argparse.SUPPRESS)
     given = parser.parse_args()
     if given.to is None or given.sys is given.trace is None:
         parser.error("wants --to FILE, and SYS or --trace TRACE or both")

@@ -48,9 +48,9 @@ def compare(given):
 
 def main():
     parser = argparse.ArgumentParser(usage=argparse.SUPPRESS, description=__doc__, formatter_class=argparse.RawDescriptionHelpFormatter)
-    parser.add_argument("--names", type=pathlib.Path)
+    parser.add_argument("--names", type=pathlib.Path, help=argparse.SUPPRESS)
     for file in ("machine", "log", "trace"):
-        parser.add_argument(file, type=pathlib.Path)
+        parser.add_argument(file, type=pathlib.Path, help=argparse.SUPPRESS)
     found = compare(parser.parse_args())
     for text in found.disagreements:
         print(text)

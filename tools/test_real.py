@@ -171,11 +171,28 @@ class MadeTraces(Scratch):
         machine, _, _ = self.make("--trace", trace, "--writer")
         self.assertEqual(machine["answers"][0]["reports"], [{"call": "event", "source": "cam.1", "ms": 150}])
 
+    def test_direct_complete(self):
+        """The camera's callback runs in the first cycle and not in the second, which goes on to late."""
+        late = "       w-10    [000] .....   1.500000: suspend_resume: dpm_suspend_late[2] {}\n"
+        trace = self.write("t", self.cycle(self.CALLBACK.format("", 0)) + self.cycle("", late.format("begin") + late.format("end")))
+        machine, _, _ = self.make("--trace", trace, "--writer")
+        self.assertEqual(machine["devices"][1], {"name": "cam.1", "parent": "hub", "runtime": "suspended"})
+        self.assertEqual(machine["answers"], [{"what": "device", "name": "cam.1", "phase": "prepare", "attempt": 2, "ret": 1}])
+        self.assertIn("skip suspend cam.1 direct", Run(machine).run()[0])
+        done = run("real_order.py", self.at / "m.json", self.log(machine), trace)
+        self.assertNotIn("cam.1", done.stdout)
+
     def test_a_machine_that_slept_all_the_same(self):
         slept = "       w-10    [000] .....   1.500000: suspend_resume: machine_suspend[3] begin\n"
         machine, _, told = self.make("--trace", self.write("t", self.cycle(self.CALLBACK.format(self.START, 0) + self.LATER, slept)), "--writer")
         self.assertEqual(machine["actors"][0]["script"], [{"op": "state", "text": "mem"}])
         self.assertIn("attempt 1 slept though Cam:1 had reported", told)
+
+    def test_a_cycle_that_tells_no_cause(self):
+        _, _, told = self.make("--trace", self.write("t", self.cycle(self.CALLBACK.format("", 0))))
+        self.assertIn("attempt 1 turned around in suspend, and the trace does not tell why", told)
+        _, _, told = self.make("--trace", self.write("t", self.cycle(self.CALLBACK.format("", -5))))
+        self.assertEqual(told, "")
 
     def test_errors(self):
         machine, _, told = self.make("--trace", self.write("t", self.cycle(self.CALLBACK.format("", -110))))

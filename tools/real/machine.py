@@ -9,6 +9,7 @@ from .tree import Refused
 MOST = {"devices": 1000, "links": 4000, "sources": 255, "answers": 10_000, "reports": 16, "cpus": 64}
 MOST_SEEN = 100_000  # Attempts times the devices and 50.
 ERRORS = {-5: "EIO", -11: "EAGAIN", -16: "EBUSY", -19: "ENODEV", -22: "EINVAL"}
+DOWN = ("prepare", "suspend", "late", "noirq")
 SILENT = ("prepare", "complete")  # In these phases a callback of a machine file reports nothing.
 LISTS = ("devices", "links", "sources", "actors", "answers")
 
@@ -101,14 +102,19 @@ class Builder:
             raise Refused(f"{why} {words}" + ("; give its path below /sys/devices" if found else ""))
         return found[0]
 
+    def hung(self):
+        """The children of each device."""
+        hung = {thing: [] for thing in self.things}
+        for thing in self.things:
+            if thing.parent:
+                hung[thing.parent].append(thing)
+        return hung
+
     def sort_links(self):
         """Puts links in an order that leaves the kernel's list as the trace has it, and drops what closes a cycle."""
         places = {thing: place for place, thing in enumerate(self.things)}
         links = sorted(self.links, key=lambda link: (places[link[1]], places[link[0]])) if self.trace else self.links
-        hung, kept = {thing: [] for thing in self.things}, {}
-        for thing in self.things:
-            if thing.parent:
-                hung[thing.parent].append(thing)
+        hung, kept = self.hung(), {}
         for supplier, consumer, is_dormant in links:
             if (supplier, consumer) in kept:
                 continue
@@ -148,9 +154,11 @@ class Builder:
         for thing in self.things:
             thing.name = names.give(thing.real)
         self.sources = self.name_sources()
-        answers = self.answers()
+        self.direct = self.left_alone()
+        answers = [*self.answers(), *self.direct_answers()]
         file = {"version": 2 if any(is_dormant for *_, is_dormant in self.links) else 1, "cpus": self.cpus()}
-        file["devices"] = [as_device(thing) for thing in self.things]
+        alone = set().union(*self.direct)
+        file["devices"] = [as_device(thing, thing.is_suspended or thing in alone) for thing in self.things]
         file["links"] = [as_link(*link) for link in self.links[:MOST["links"]]]
         file["sources"] = list(self.sources.values())
         file["actors"] = [self.writer()] if has_writer else []
@@ -159,6 +167,7 @@ class Builder:
             if len(found) > MOST[member]:
                 self.notes.append(f"{len(found)} {member}, of which the first {MOST[member]} are kept")
         file = {member: value for member, value in file.items() if value != []}
+        self.tell_unexplained()
         rows = [Row(t.name, t.real, t.parent and t.parent.real, t.driver, t.path) for t in self.things]
         return file, rows, self.sources
 
@@ -194,6 +203,30 @@ class Builder:
                     found.append(answer)
         return found
 
+    def left_alone(self):
+        """For each attempt the devices that it left alone: direct-complete ones leave nothing between prepare and complete.
+
+        That a device has no callback is no sign. It is one where it has some in another attempt, or is runtime suspended.
+        """
+        hung = self.hung()
+        for supplier, consumer, _ in self.links:
+            hung[supplier].append(consumer)
+        attempts = self.trace.attempts if self.trace else []
+        ran = [{self.traced[c.device] for c in attempt.callbacks if c.phase not in SILENT} for attempt in attempts]
+        ever, found = set().union(*ran), []
+        for attempt, busy in zip(attempts, ran):
+            prepared = {self.traced[callback.device] for callback in attempt.of_phase("prepare")} & set(self.things)
+            idle = {thing for thing in prepared - busy if not thing.may_wake} if "late" in attempt.phases else set()
+            groups = [below(thing, hung) for thing in idle if thing in ever or thing.is_suspended]
+            found.append(set().union(*(group for group in groups if group <= idle)))
+        return found
+
+    def direct_answers(self):
+        for number, things in enumerate(self.direct, 1):
+            for thing in self.things:
+                if thing in things:
+                    yield {"what": "device", "name": thing.name, "phase": "prepare", "attempt": number, "ret": 1}
+
     def error(self, callback):
         """The name of what a callback answered; None for 0, and for what a machine file cannot say."""
         if callback.error == 0:
@@ -219,6 +252,15 @@ class Builder:
                 where = f"in {call.callback.phase} of {call.callback.device[1]}" if call.callback else "in no callback"
                 self.notes.append(f"line {call.line}: {call.source} reported {where}: left out")
         return {callback: reports for callback, reports in found.items() if reports}
+
+    def tell_unexplained(self):
+        """Notes the attempts that did not sleep without an error or an event that the file has."""
+        for number, attempt in enumerate(self.trace.attempts if self.trace else [], 1):
+            failed = any(callback.error for callback in attempt.callbacks if callback.phase in DOWN)
+            woken = any(call.is_start and self.is_placed(call) for call in attempt.calls)
+            if attempt.slept is None and not failed and not woken:
+                where = f"turned around in {last_down(attempt)}" if attempt.phases else "ended before its first phase of devices"
+                self.notes.append(f"attempt {number} {where}, and the trace does not tell why: in the file it sleeps")
 
     def is_placed(self, call):
         """Whether a call came in a callback that may report it."""
@@ -257,6 +299,10 @@ class Builder:
             call.is_start and call.line < attempt.slept and self.is_placed(call) for call in attempt.calls)
 
 
+def last_down(attempt):
+    return [phase for phase in attempt.phases if phase in DOWN][-1]
+
+
 def below(thing, hung):
     """A thing and all that hangs below it."""
     found, todo = {thing}, [thing]
@@ -267,13 +313,13 @@ def below(thing, hung):
     return found
 
 
-def as_device(thing):
+def as_device(thing, is_suspended):
     device = {"name": thing.name}
     if thing.parent:
         device["parent"] = thing.parent.name
     flags = (("async", thing.is_async), ("wakeup", thing.may_wake))
     device |= {flag: True for flag, is_set in flags if is_set}
-    return device | ({"runtime": "suspended"} if thing.is_suspended else {})
+    return device | ({"runtime": "suspended"} if is_suspended else {})
 
 
 def as_link(supplier, consumer, is_dormant):

@@ -4,6 +4,7 @@ import collections
 
 from .names import Finder, Row
 
+NEXT = {"suspend": "late", "late": "noirq"}  # What follows a way down that does not fail; after noirq the machine sleeps.
 FORWARD = ("prepare", "resume_noirq", "early", "resume")  # In these phases parents and suppliers come first.
 ALWAYS = ("prepare", "complete")  # In these phases the kernel traces devices that have no callback, too.
 
@@ -85,6 +86,7 @@ class Comparison:
     def __init__(self, tree, log, trace, rows):
         finder = Finder(rows_of(tree.get("devices", [])) if rows is None else rows)
         self.pairs = pairs_of(tree)
+        self.all = {device["name"] for device in tree.get("devices", [])}
         self.asynchronous = {device["name"] for device in tree.get("devices", []) if device.get("async")}
         self.kernel, self.ours = side_of_trace(trace, finder), side_of_log(log)
         self.disagreements, self.notes, self.tried = [], [], 0
@@ -94,12 +96,13 @@ class Comparison:
             self.disagreements.append(f"the trace has {counts[0]} attempts, the log {counts[1]}")
         for number in range(min(counts)):
             self.compare(number)
-        for name, line in self.kernel.strangers.items():
-            self.notes.append(f"{name} (trace line {line}) is not in the machine file")
+        if strangers := self.kernel.strangers:
+            name, line = next(iter(strangers.items()))
+            self.notes.append(f"{len(strangers)} devices of the trace are not in the machine file, the first {name} (line {line})")
 
     def compare(self, number):
         where, kernel, ours = f"attempt {number + 1}", self.kernel.attempts[number], self.ours.attempts[number]
-        self.raced = set()  # Devices that one side did not come to, as an asynchronous one had failed.
+        self.raced = set()  # Devices that one side did not come to, as the other did by chance.
         self.gone = gone(kernel) if self.kernel.cpus[number] else set()
         slept = self.kernel.slept[number], self.ours.slept[number]
         if (slept[0] is None) != (slept[1] is None):
@@ -107,16 +110,17 @@ class Comparison:
             self.disagreements.append(f"{where}: the machine sleeps in the {side} alone (line {line})")
         for phase in dict.fromkeys([*kernel, *ours]):
             if phase in kernel and phase in ours:
-                self.compare_phase(f"{where}, {phase}", phase, kernel, ours)
+                self.compare_phase(number, f"{where}, {phase}", phase)
             else:
                 self.disagreements.append(f"{where}: {phase} is in the {'trace' if phase in kernel else 'log'} alone")
 
-    def compare_phase(self, where, phase, kernel, ours):
-        self.compare_pairs(where, phase, kernel[phase], ours[phase])
-        self.compare_lacks(where, phase, kernel, ours)
-        self.compare_errors(where, kernel[phase], ours[phase])
+    def compare_phase(self, number, where, phase):
+        kernel, ours = self.kernel.attempts[number][phase], self.ours.attempts[number][phase]
+        self.compare_pairs(where, phase, kernel, ours)
+        self.compare_lacks(number, where, phase)
+        self.compare_errors(where, kernel, ours)
         if phase == "prepare":
-            self.compare_lists(where, kernel[phase], ours[phase])
+            self.compare_lists(where, kernel, ours)
 
     def compare_pairs(self, where, phase, kernel, ours):
         """Tries each pair on both sides: the first has to end before the second begins."""
@@ -129,28 +133,35 @@ class Comparison:
                 words = f"{where}: {pair.dependent} is a {pair.what} of {pair.superior}, so {both[0]} has to end before {both[1]} begins"
                 self.disagreements.append(f"{words}; trace: {said(both, kernel)}; log: {said(both, ours)}")
 
-    def compare_lacks(self, where, phase, kernel, ours):
+    def compare_lacks(self, number, where, phase):
         """Callbacks that one side lacks. That the kernel has none at all for a device and a phase is no disagreement."""
-        is_race = phase not in (*ALWAYS, *FORWARD) and all(self.has_failed_beside(side[phase]) for side in (kernel, ours))
-        for device in [device for device in kernel[phase] if device not in ours[phase]]:
-            line = kernel[phase][device].begin
-            self.lack(is_race, device, f"{where}: {device} has a callback in the trace alone (line {line})")
-        for device in [device for device in ours[phase] if device not in kernel[phase]]:
-            line = ours[phase][device].begin
+        kernel, ours = self.kernel.attempts[number][phase], self.ours.attempts[number][phase]
+        race = self.racing(number, phase)
+        for device in [device for device in kernel if device not in ours]:
+            self.lack(race, device, f"{where}: {device} has a callback in the trace alone (line {kernel[device].begin})")
+        for device in [device for device in ours if device not in kernel]:
+            line = ours[device].begin
             if phase == "complete" and device in self.gone:
                 self.notes.append(f"{where}: the kernel has none for {device} (log line {line}), which went with a processor")
             elif (phase, device) in self.ever:
-                self.lack(is_race, device, f"{where}: {device} has a callback in the log alone (line {line})")
+                self.lack(race, device, f"{where}: {device} has a callback in the log alone (line {line})")
 
-    def has_failed_beside(self, found):
-        """Whether an asynchronous device failed in a phase: how far the others come then is a race."""
-        return any(found[device].is_error for device in found if device in self.asynchronous)
+    def racing(self, number, phase):
+        """Devices of which no order tells whether a failed phase came to them: asynchronous ones, or all if one of them failed."""
+        sides = [(side.attempts[number], side.slept[number]) for side in (self.kernel, self.ours)]
+        if phase in (*ALWAYS, *FORWARD) or not all(has_failed(*side, phase) for side in sides):
+            return set()
+        failed = {device for attempt, _ in sides for device, stretch in attempt[phase].items() if stretch.is_error}
+        if failed - self.asynchronous:
+            return self.asynchronous
+        begun = {device for attempt, _ in sides for device in attempt[phase]} & self.asynchronous
+        return self.all if begun else set()
 
-    def lack(self, is_race, device, text):
-        if is_race:
+    def lack(self, race, device, text):
+        if device in race:
             self.raced.add(device)
         if device in self.raced:
-            self.notes.append(f"{text}; an asynchronous device failed, and how far others come then is a race")
+            self.notes.append(f"{text}; the phase failed beside asynchronous devices, and how far others come then is a race")
         else:
             self.disagreements.append(text)
 
@@ -170,6 +181,11 @@ class Comparison:
             self.notes.append(f"{where}: {len(theirs)} devices stand in one order on both sides")
         if len(own) < len(ours):
             self.notes.append(f"{where}: {len(ours) - len(own)} devices of the log have no line in the trace")
+
+
+def has_failed(attempt, slept, phase):
+    """Whether an attempt turned around in a phase on its way down."""
+    return NEXT[phase] not in attempt if phase in NEXT else slept is None
 
 
 def gone(kernel):
