@@ -252,6 +252,25 @@ class Trees(Scratch):
                 tar.add(self.at / "sys", name.removeprefix("copy/"))
             self.expect(self.at / "s.tar")
 
+    def test_links_and_sources_of_classes(self):
+        """Folders in class/ that are no links to devices, and a supplier that only its consumer tells."""
+        self.write("sys/class/wakeup/wakeup7/name", "lid\n")
+        (self.at / "sys/class/wakeup/wakeup3").symlink_to("../../devices/pci0/nic/wakeup/wakeup3")
+        self.write("sys/class/devlink/x--y/status", "active\n")
+        for end, path in (("supplier", "system/cpu/cpu0"), ("consumer", "pci0/phy10")):
+            (self.at / "sys/class/devlink/x--y" / end).symlink_to(f"../../../devices/{path}")
+        (self.at / "sys/devices/pci0/phy10/supplier:net:eth0").symlink_to("../../virtual/devlink/net:eth0--pci:phy10")
+        (self.at / "sys/devices/pci0/phy10/supplier:net:eth7").symlink_to("../../virtual/devlink/net:eth7--pci:phy10")
+        (self.at / "sys/devices/pci0/nic/supplier:pci:phy9").symlink_to("../../virtual/devlink/a--b")
+        with tarfile.open(self.at / "s.tar", "w") as tar:
+            tar.add(self.at / "sys", "sys")
+        for where in (self.at / "sys", self.at / "s.tar"):
+            machine, _, told = self.make(where)
+            self.assertEqual(machine["sources"], ["nic", "lid"])
+            ends = [(link["supplier"], link["consumer"]) for link in machine["links"]]
+            self.assertEqual(ends, [("phy9", "nic"), ("cpu0", "phy10"), ("eth0", "phy10")])
+            self.assertIn("pci0/phy10/supplier:net:eth7: 0 devices have that name", told)
+
     def test_pm_async(self):
         self.write("sys/power/pm_async", "0\n")
         machine, _, told = self.make(self.at / "sys")

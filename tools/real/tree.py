@@ -61,6 +61,10 @@ class Folder:
         except OSError as fault:
             raise Refused(f"{os.path.join(self.root, path)}: {fault.strerror}") from None
 
+    def names(self, path):
+        """The names in a folder; none where it is not there."""
+        return sorted(name for name, _ in self.scan(path)) if os.path.isdir(os.path.join(self.root, path)) else []
+
     def text(self, path):
         """The words of a file; None where it is not there."""
         try:
@@ -96,8 +100,8 @@ class Tar:
             raise Refused(f"{file}: no folder 'devices', so this is no /sys")
 
     def take(self, tar, member):
-        path = re.sub(r"^(\./|/)*([^/]+/)?(?=devices(/|$)|power/)", "", member.name, count=1).rstrip("/")
-        if not path.startswith(("devices", "power/")):
+        path = re.sub(r"^(\./|/)*([^/]+/)?(?=devices(/|$)|power/|class/)", "", member.name, count=1).rstrip("/")
+        if not path.startswith(("devices", "power/", "class/devlink", "class/wakeup")):
             return
         if member.isdir():
             self.inside.setdefault(path, set())
@@ -112,6 +116,9 @@ class Tar:
     def folders(self):
         inside = [path for path in self.inside if path.split("/")[0] == "devices"]
         yield from ((path, self.inside[path]) for path in sorted(inside, key=natural))
+
+    def names(self, path):
+        return sorted(self.inside.get(path, ()))
 
     def text(self, path):
         return self.texts.get(path)
@@ -155,32 +162,60 @@ def read_device(tree, path, machine):
 
 
 def read_link(tree, path, machine):
-    """Takes the device link of a folder below virtual/devlink."""
+    """Takes the device link of a folder of class devlink, and gives its supplier and consumer."""
     ends = []
     for end in ("supplier", "consumer"):
         target = tree.target(f"{path}/{end}")
         if target is None:
             raise Refused(f"{path}/{end}: no symbolic link, which a device link has")
-        ends.append(posixpath.normpath(posixpath.join(path, target)).removeprefix("devices/"))
+        ends.append(posixpath.normpath(posixpath.join(path, target)).partition("devices/")[2])
     if tree.text(f"{path}/sync_state_only") == "1":
         machine.notes.append(f"the link {posixpath.basename(path)} orders nothing (sync_state_only): left out")
-        return
-    machine.links.append((*ends, tree.text(f"{path}/status") == "dormant"))
+    else:
+        machine.links.append((*ends, tree.text(f"{path}/status") == "dormant"))
+    return tuple(ends)
+
+
+def read_links(tree, folders, suppliers, machine):
+    """Takes the links of folders, and those that a file 'supplier:BUS:NAME' of a consumer alone tells."""
+    own = [f"class/devlink/{name}" for name in tree.names("class/devlink")]
+    known = {posixpath.basename(folder) for folder in folders}
+    folders += [folder for folder in own if posixpath.basename(folder) not in known and tree.target(folder) is None]
+    seen = {(posixpath.basename(supplier), consumer) for supplier, consumer in (read_link(tree, folder, machine) for folder in folders)}
+    for consumer, words in suppliers:
+        bus, _, name = words.partition(":")
+        if (name, consumer) in seen:
+            continue
+        found = [device for device in machine.devices.values() if posixpath.basename(device.path) == name]
+        found = [device for device in found if device.subsystem == bus] or found
+        if len(found) == 1:
+            machine.links.append((found[0].path, consumer, False))
+        else:
+            machine.notes.append(f"{consumer}/supplier:{words}: {len(found)} devices have that name: left out")
+
+
+def read_sources(tree, folders):
+    """The names of wakeup sources, of folders among devices, and of others in class wakeup."""
+    known = {posixpath.basename(folder) for folder in folders}
+    others = [f"class/wakeup/{name}" for name in tree.names("class/wakeup") if name not in known]
+    names = (tree.text(f"{folder}/name") for folder in [*folders, *others])
+    return [name for name in names if name]
 
 
 def read_tree(tree):
     """The machine that a tree tells."""
-    machine, links = Machine(), []
+    machine, links, sources, suppliers = Machine(), [], [], []
     for folder, inside in tree.folders():
         path = folder.removeprefix("devices").strip("/")
         if re.fullmatch(r"virtual/devlink/[^/]+", path) and "supplier" in inside:
             links.append(folder)
         elif re.fullmatch(r"(.*/)?wakeup/wakeup\d+", path) and "name" in inside:
-            machine.sources.append(tree.text(f"{folder}/name"))
+            sources.append(folder)
         elif "power" in inside and path:
             read_device(tree, path, machine)
-    for folder in links:
-        read_link(tree, folder, machine)
+            suppliers += [(path, name.removeprefix("supplier:")) for name in sorted(inside) if name.startswith("supplier:")]
+    read_links(tree, links, suppliers, machine)
+    machine.sources = read_sources(tree, sources)
     machine.cpus = count_of(tree.text("devices/system/cpu/online"))
     if tree.text("power/pm_async") == "0":
         machine.notes.append("pm_async is 0: no device is asynchronous")
