@@ -113,6 +113,15 @@ class RealTraces(Scratch):
         machine, _, _ = self.make("--trace", SAMPLES / "s3.trace", "--branch", "platform/i8042", SAMPLES / "s3.devices")
         self.assertEqual(len(machine["devices"]), 8)
 
+    def test_one_of_two_devices_of_a_name(self):
+        """Of the two PNP0103:00 a branch has the one below 'platform', which comes later in prepare."""
+        words = "--trace", SAMPLES / "s3.trace", "--branch", "platform", "--writer", SAMPLES / "s3.devices"
+        log = self.log(self.make(*words)[0])
+        done = run("real_order.py", self.at / "m.json", log, SAMPLES / "s3.trace")
+        self.assertEqual(done.returncode, 0, done.stdout)
+        self.assertIn("16 devices stand in one order on both sides", done.stdout)
+        self.assertIn("217 devices of the trace are not in the machine file, the first cpu (line 22)", done.stdout)
+
     def test_a_wrong_order(self):
         """Two callbacks of the kernel change places, one is taken out, and an answer is other."""
         words = "--trace", SAMPLES / "s3.trace", "--links", SAMPLES / "s3.links", "--writer", SAMPLES / "s3.devices"
@@ -170,6 +179,26 @@ class MadeTraces(Scratch):
         trace = self.write("t", self.cycle(self.CALLBACK.format(self.START, 0) + self.LATER))
         machine, _, _ = self.make("--trace", trace, "--writer")
         self.assertEqual(machine["answers"][0]["reports"], [{"call": "event", "source": "cam.1", "ms": 150}])
+
+    def test_a_machine_without_a_table(self):
+        """Its names are the real ones, or these as a machine file spells them."""
+        trace = self.write("t", self.cycle(self.CALLBACK.format("", -5)))
+        machine, _, _ = self.make("--trace", trace, "--writer")
+        (self.at / "m.names").unlink()
+        done = run("real_order.py", self.at / "m.json", self.log(machine), trace)
+        self.assertEqual((done.returncode, done.stdout.count("not in the machine file")), (0, 0), done.stdout)
+
+    def test_links_that_change(self):
+        """The hub is made to need the pen between two cycles that go through both in one order."""
+        step = "       w-10    [000] .....   1.300000: device_pm_callback_{}: usb {}\n"
+        call = lambda device: step.format("start", f"{device}, parent: none, bus [suspend]") + step.format("end", f"{device}, err=0")
+        trace = self.write("t", self.cycle(call("pen") + call("hub")) * 2)
+        machine = {"version": 2, "devices": [{"name": "hub"}, {"name": "pen"}]}
+        state, link = {"op": "state", "text": "mem"}, {"op": "link", "supplier": "pen", "consumer": "hub"}
+        machine["actors"] = [{"name": "w", "kind": "user", "script": [state, link, state]}]
+        done = run("real_order.py", self.write("m.json", json.dumps(machine)), self.log(machine), trace)
+        self.assertEqual(done.stdout.count("hub is a consumer of pen"), 1)
+        self.assertIn("attempt 2, suspend: hub is a consumer of pen, so hub has to end before pen begins; trace: hub lines", done.stdout)
 
     def test_direct_complete(self):
         """The camera's callback runs in the first cycle and not in the second, which goes on to late."""

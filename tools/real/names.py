@@ -69,20 +69,39 @@ def splits(driver, name):
 
 
 class Finder:
-    """Finds the row of a device of a trace: by its name and its parent's, and by its driver where these are not enough."""
+    """Finds the rows of the devices of a trace: by name and parent, by the driver where these are not enough.
 
-    def __init__(self, rows):
-        self.rows, self.by_name = list(rows), {}
-        for row in self.rows:
+    A device whose parent is another one gets a row of its name that is left over. A name that no row has is tried as a
+    machine file spells it, since a file without a table may have been written so.
+    """
+
+    def __init__(self, rows, devices):
+        self.by_name, self.found = {}, {}
+        for row in rows:
             self.by_name.setdefault(row.real, []).append(row)
+        for device in devices:
+            self.take(device, [row for row in self.named(device) if is_parent(row, device[2])])
+        taken = set(self.found.values())
+        for device in devices:
+            if device not in self.found:
+                self.take(device, [row for row in self.named(device) if row not in taken])
+
+    def named(self, device):
+        for _, name in splits(*device[:2]):
+            if name in self.by_name:
+                return self.by_name[name]
+        return self.by_name.get(spelled(device[1]), [])
+
+    def take(self, device, rows):
+        fitting = [row for row in rows if device[0] in row.driver.split(" or ")] or rows
+        if fitting:
+            self.found[device] = fitting[0]
 
     def row_of(self, device):
         """The row of a device (driver, name, parent); None where there is none."""
-        driver, name, parent = device
-        driver, name = next((both for both in splits(driver, name) if both[1] in self.by_name), (driver, name))
-        found = self.by_name.get(name, [])
-        if len(found) > 1:
-            found = [row for row in found if row.parent == parent] or found
-        if len(found) > 1:
-            found = [row for row in found if driver in row.driver.split(" or ")] or found
-        return found[0] if found else None
+        return self.found.get(device)
+
+
+def is_parent(row, parent):
+    """Whether a row has that parent, as the trace or as a machine file spells it."""
+    return row.parent == parent or parent is not None and row.parent == spelled(parent)

@@ -2,6 +2,8 @@
 
 import collections
 
+from timeline.joins import LINKS
+
 from .names import Finder, Row
 
 NEXT = {"suspend": "late", "late": "noirq"}  # What follows a way down that does not fail; after noirq the machine sleeps.
@@ -62,7 +64,7 @@ def side_of_trace(trace, finder):
         for callback in attempt.callbacks:
             row = finder.row_of(callback.device)
             if row is None:
-                side.strangers.setdefault(callback.device[1], callback.line)
+                side.strangers.setdefault(callback.device, callback.line)
             else:
                 side.phase(callback.phase)[row.name] = Stretch(callback.line, callback.end, callback.error != 0)
     return side
@@ -73,19 +75,25 @@ def rows_of(devices):
     return [Row(device["name"], device["name"], device.get("parent"), "", None) for device in devices]
 
 
-def pairs_of(tree):
-    """Each pair of a superior and a dependent: by a parent, or by a link that is not dormant."""
-    pairs = [Pair(device["parent"], device["name"], "child") for device in tree.get("devices", []) if "parent" in device]
-    links = [link for link in tree.get("links", []) if link.get("state") != "dormant"]
-    return pairs + [Pair(link["supplier"], link["consumer"], "consumer") for link in links]
+def pairs_of(tree, log):
+    """For each attempt of the log the pairs of a superior and a dependent: by parents, and by links that are active then."""
+    parents = [Pair(device["parent"], device["name"], "child") for device in tree.get("devices", []) if "parent" in device]
+    links = {(link["supplier"], link["consumer"]): link.get("state") != "dormant" for link in tree.get("links", [])}
+    found = []
+    for entry in log.entries:
+        if entry.kind in LINKS and entry["answer"] == "0":
+            links[entry["supplier"], entry["consumer"]] = entry.kind != "link_dormant"
+        elif entry.kind in ("attempt", "attempt_guarded"):
+            found.append(parents + [Pair(*ends, "consumer") for ends, is_active in links.items() if is_active])
+    return found
 
 
 class Comparison:
     """A trace beside a log: where they disagree, what else one wants to know, and how many pairs were tried."""
 
     def __init__(self, tree, log, trace, rows):
-        finder = Finder(rows_of(tree.get("devices", [])) if rows is None else rows)
-        self.pairs = pairs_of(tree)
+        finder = Finder(rows_of(tree.get("devices", [])) if rows is None else rows, trace.devices)
+        self.pairs = pairs_of(tree, log)
         self.all = {device["name"] for device in tree.get("devices", [])}
         self.asynchronous = {device["name"] for device in tree.get("devices", []) if device.get("async")}
         self.kernel, self.ours = side_of_trace(trace, finder), side_of_log(log)
@@ -97,7 +105,7 @@ class Comparison:
         for number in range(min(counts)):
             self.compare(number)
         if strangers := self.kernel.strangers:
-            name, line = next(iter(strangers.items()))
+            (_, name, _), line = next(iter(strangers.items()))
             self.notes.append(f"{len(strangers)} devices of the trace are not in the machine file, the first {name} (line {line})")
 
     def compare(self, number):
@@ -116,15 +124,16 @@ class Comparison:
 
     def compare_phase(self, number, where, phase):
         kernel, ours = self.kernel.attempts[number][phase], self.ours.attempts[number][phase]
-        self.compare_pairs(where, phase, kernel, ours)
+        self.compare_pairs(number, where, phase)
         self.compare_lacks(number, where, phase)
         self.compare_errors(where, kernel, ours)
         if phase == "prepare":
             self.compare_lists(where, kernel, ours)
 
-    def compare_pairs(self, where, phase, kernel, ours):
+    def compare_pairs(self, number, where, phase):
         """Tries each pair on both sides: the first has to end before the second begins."""
-        for pair in self.pairs:
+        kernel, ours = self.kernel.attempts[number][phase], self.ours.attempts[number][phase]
+        for pair in self.pairs[number]:
             both = pair[:2] if phase in FORWARD else pair[1::-1]
             if not all(device in kernel for device in both):
                 continue
