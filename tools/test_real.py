@@ -13,7 +13,7 @@ import tarfile
 import tempfile
 import unittest
 
-from real import tree
+from real import trace, tree
 from second.rules import first_broken
 from second.run import Run
 
@@ -167,48 +167,60 @@ class MadeTraces(Scratch):
     LATER = "  <idle>-0     [001] d.s..   1.460000: wakeup_source_deactivate: Cam:1 state=0x10000\n"
 
     def test_reports(self):
-        trace = self.write("t", self.cycle(self.CALLBACK.format(self.START + self.STOP, 0)))
-        machine, _, _ = self.make("--trace", trace, "--writer")
+        file = self.write("t", self.cycle(self.CALLBACK.format(self.START + self.STOP, 0)))
+        machine, _, _ = self.make("--trace", file, "--writer")
         reports = [{"call": "awake", "source": "cam.1"}, {"call": "relax", "source": "cam.1"}]
         self.assertEqual(machine["answers"][0]["reports"], reports)
         self.assertIn("over 1 EBUSY", Run(machine).run()[0])
-        done = run("real_order.py", self.at / "m.json", self.log(machine), trace)
+        done = run("real_order.py", self.at / "m.json", self.log(machine), file)
         self.assertEqual((done.returncode, done.stdout.count("disagree")), (0, 0), done.stdout)
 
     def test_an_event_of_some_length(self):
-        trace = self.write("t", self.cycle(self.CALLBACK.format(self.START, 0) + self.LATER))
-        machine, _, _ = self.make("--trace", trace, "--writer")
+        file = self.write("t", self.cycle(self.CALLBACK.format(self.START, 0) + self.LATER))
+        machine, _, _ = self.make("--trace", file, "--writer")
         self.assertEqual(machine["answers"][0]["reports"], [{"call": "event", "source": "cam.1", "ms": 150}])
 
     def test_a_machine_without_a_table(self):
         """Its names are the real ones, or these as a machine file spells them."""
-        trace = self.write("t", self.cycle(self.CALLBACK.format("", -5)))
-        machine, _, _ = self.make("--trace", trace, "--writer")
+        file = self.write("t", self.cycle(self.CALLBACK.format("", -5)))
+        machine, _, _ = self.make("--trace", file, "--writer")
         (self.at / "m.names").unlink()
-        done = run("real_order.py", self.at / "m.json", self.log(machine), trace)
+        done = run("real_order.py", self.at / "m.json", self.log(machine), file)
         self.assertEqual((done.returncode, done.stdout.count("not in the machine file")), (0, 0), done.stdout)
 
     def test_links_that_change(self):
         """The hub is made to need the pen between two cycles that go through both in one order."""
         step = "       w-10    [000] .....   1.300000: device_pm_callback_{}: usb {}\n"
         call = lambda device: step.format("start", f"{device}, parent: none, bus [suspend]") + step.format("end", f"{device}, err=0")
-        trace = self.write("t", self.cycle(call("pen") + call("hub")) * 2)
+        file = self.write("t", self.cycle(call("pen") + call("hub")) * 2)
         machine = {"version": 2, "devices": [{"name": "hub"}, {"name": "pen"}]}
         state, link = {"op": "state", "text": "mem"}, {"op": "link", "supplier": "pen", "consumer": "hub"}
         machine["actors"] = [{"name": "w", "kind": "user", "script": [state, link, state]}]
-        done = run("real_order.py", self.write("m.json", json.dumps(machine)), self.log(machine), trace)
+        done = run("real_order.py", self.write("m.json", json.dumps(machine)), self.log(machine), file)
         self.assertEqual(done.stdout.count("hub is a consumer of pen"), 1)
         self.assertIn("attempt 2, suspend: hub is a consumer of pen, so hub has to end before pen begins; trace: hub lines", done.stdout)
+
+    def test_a_driver_that_changes(self):
+        """The camera has another driver in the second cycle; two devices of one name and parent in one cycle are two."""
+        cycle = self.cycle(self.CALLBACK.format("", 0))
+        file = self.write("t", cycle + cycle.replace(" usb Cam", " uvc Cam"))
+        machine, _, _ = self.make("--trace", file, "--writer")
+        self.assertEqual([device["name"] for device in machine["devices"]], ["hub", "cam.1"])
+        first, _, _ = cycle.rpartition("       w-10    [000] .....   1.200000: suspend_resume: dpm_prepare[2] end")
+        pair = [line for line in first.splitlines(keepends=True) if "Cam:1" in line]
+        both = first + "".join(pair).replace(" usb Cam", " hid Cam") + cycle[len(first):]
+        machine, _, _ = self.make("--trace", self.write("t", both), "--writer")
+        self.assertEqual([device["name"] for device in machine["devices"]], ["hub", "cam.1", "cam.1-2"])
 
     def test_direct_complete(self):
         """The camera's callback runs in the first cycle and not in the second, which goes on to late."""
         late = "       w-10    [000] .....   1.500000: suspend_resume: dpm_suspend_late[2] {}\n"
-        trace = self.write("t", self.cycle(self.CALLBACK.format("", 0)) + self.cycle("", late.format("begin") + late.format("end")))
-        machine, _, _ = self.make("--trace", trace, "--writer")
+        file = self.write("t", self.cycle(self.CALLBACK.format("", 0)) + self.cycle("", late.format("begin") + late.format("end")))
+        machine, _, _ = self.make("--trace", file, "--writer")
         self.assertEqual(machine["devices"][1], {"name": "cam.1", "parent": "hub", "runtime": "suspended"})
         self.assertEqual(machine["answers"], [{"what": "device", "name": "cam.1", "phase": "prepare", "attempt": 2, "ret": 1}])
         self.assertIn("skip suspend cam.1 direct", Run(machine).run()[0])
-        done = run("real_order.py", self.at / "m.json", self.log(machine), trace)
+        done = run("real_order.py", self.at / "m.json", self.log(machine), file)
         self.assertNotIn("cam.1", done.stdout)
 
     def test_a_machine_that_slept_all_the_same(self):
@@ -323,17 +335,25 @@ class Trees(Scratch):
 class Refusals(Scratch):
     def test_cut_traces(self):
         lines = (SAMPLES / "noirq-fails.trace").read_text().splitlines(keepends=True)
-        trace = lambda text: ("--trace", self.write("cut.trace", text))
-        self.refuse("cut.trace: line 31: the callback of line 30 has no end", *trace("".join(lines[:30])))
-        self.refuse("cut.trace: line 50: dpm_suspend_late of line 43 has no end", *trace("".join(lines[:49])))
-        self.refuse("cut.trace: line 71: the trace is cut off in an attempt", *trace("".join(lines[:70])))
-        self.refuse("cut.trace: line 1: an end of a callback without its start", *trace("".join(lines[8:])))
-        self.refuse("cut.trace: line 1: a callback in no phase", *trace("".join(lines[7:])))
-        self.refuse("cut.trace: line 20: the trace is cut off in this line", *trace("".join(lines[:20])[:-1]))
-        self.refuse("cut.trace: line 3: no line of a trace: 'hello'", *trace("".join(lines[:2]) + "hello\n"))
+        cut = lambda text: ("--trace", self.write("cut.trace", text))
+        self.refuse("cut.trace: line 31: the callback of line 30 has no end", *cut("".join(lines[:30])))
+        self.refuse("cut.trace: line 50: dpm_suspend_late of line 43 has no end", *cut("".join(lines[:49])))
+        self.refuse("cut.trace: line 71: the trace is cut off in an attempt", *cut("".join(lines[:70])))
+        self.refuse("cut.trace: line 7: the trace is cut off in an attempt", *cut("".join(lines[:6])))
+        self.refuse("cut.trace: line 1: an end of a callback without its start", *cut("".join(lines[8:])))
+        self.refuse("cut.trace: line 1: a callback in no phase", *cut("".join(lines[7:])))
+        self.refuse("cut.trace: line 20: the trace is cut off in this line", *cut("".join(lines[:20])[:-1]))
+        self.refuse("cut.trace: line 3: no line of a trace: 'hello'", *cut("".join(lines[:2]) + "hello\n"))
         for words in ("CPU:1 [LOST 12 EVENTS]", "CPU:1 [12 EVENTS DROPPED]"):
-            self.refuse("cut.trace: line 3: the trace has lost events", *trace("".join(lines[:2]) + words + "\n"))
-        self.refuse("cut.trace: line 1: the trace has no attempt to sleep", *trace(""))
+            self.refuse("cut.trace: line 3: the trace has lost events", *cut("".join(lines[:2]) + words + "\n"))
+        self.refuse("cut.trace: line 1: the trace has no attempt to sleep", *cut(""))
+
+    def test_each_cut(self):
+        """Cut behind any line from the freeze to the end of complete a trace is refused, by the line that is lacking."""
+        lines = (SAMPLES / "noirq-fails.trace").read_bytes().splitlines(keepends=True)
+        for count in range(4, 132):
+            with self.assertRaisesRegex(trace.Refused, f"^line {count + 1}: "):
+                trace.read_trace(b"".join(lines[:count]))
 
     def test_no_trees(self):
         self.refuse("no such file or folder", self.at / "nothing")

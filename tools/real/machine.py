@@ -3,7 +3,7 @@
 import collections
 import json
 
-from .names import Names, Row, splits
+from .names import Finder, Names, Row
 from .tree import Refused
 
 MOST = {"devices": 1000, "links": 4000, "sources": 255, "answers": 10_000, "reports": 16, "cpus": 64}
@@ -34,8 +34,9 @@ class Builder:
         self.links = []
         for device in tree.devices.values() if tree else []:
             self.take_device(device)
-        for device in trace.order() if trace else {}:
-            self.take_traced(device)
+        self.prepared = [{c.device for c in attempt.of_phase("prepare")} for attempt in (trace.attempts if trace else [])]
+        if trace:
+            self.take_trace()
         self.things = self.in_order()
 
     def add(self, thing):
@@ -49,22 +50,34 @@ class Builder:
         thing.driver = " or ".join(word for word in (device.driver, device.subsystem) if word)
         self.by_path[device.path] = thing
 
-    def take_traced(self, device):
-        """Joins a device of the trace with that of the tree, or adds it."""
-        driver, real, parent = device
-        driver, real = next((both for both in splits(driver, real) if both[1] in self.by_real), (driver, real))
-        left = [thing for thing in self.by_real.get(real, []) if thing not in self.traced.values()]
-        same = [thing for thing in left if (thing.parent.real if thing.parent else None) == parent] or left
-        thing = next((thing for thing in same if driver in thing.driver.split(" or ")), same[0] if same else None)
-        thing = thing or self.add(Thing(real))
-        thing.driver = thing.driver or driver
+    def take_trace(self):
+        """Joins the devices of the trace with those of the tree, and adds those that it alone has."""
+        rows = {}
+        for thing in self.by_path.values():
+            rows[Row(None, thing.real, thing.parent and thing.parent.real, thing.driver, thing.path)] = thing
+        order = self.trace.order()
+        finder = Finder(rows, order)
+        for device in order:
+            row = finder.row_of(device)
+            thing = rows[row] if row else self.twin(device) or self.add(Thing(device[1]))
+            thing.driver = thing.driver or device[0]
+            self.traced[device] = thing
+            self.take_parent(thing, device[2])
+
+    def twin(self, device):
+        """The same device as the trace has it in other attempts, with another driver."""
+        attempts = lambda one: {number for number, found in enumerate(self.prepared) if one in found}
+        same = (other for other in self.traced if other[1:] == device[1:] and not attempts(other) & attempts(device))
+        return self.traced.get(next(same, None))
+
+    def take_parent(self, thing, parent):
+        """Gives a device the parent that the trace tells."""
         if parent is None:
             thing.parent = None
         elif thing.parent is None or thing.parent.real != parent:
             thing.parent = next((above for above in reversed(self.by_real.get(parent, [])) if above is not thing), None)
             if thing.parent is None:
-                self.notes.append(f"the trace has no parent {parent} of {real}: left without")
-        self.traced[device] = thing
+                self.notes.append(f"the trace has no parent {parent} of {thing.real}: left without")
 
     def in_order(self):
         """The devices as the kernel's list has them, as far as the trace tells; then the others; parents first."""

@@ -58,6 +58,7 @@ class Attempt:
         self.callbacks, self.calls = [], []
         self.slept = None  # The line in which the machine entered sleep.
         self.cpus = set()
+        self.is_frozen = False  # Tasks were asked to freeze, so a thaw has to come.
 
     def of_phase(self, phase):
         return [callback for callback in self.callbacks if callback.phase == phase]
@@ -124,6 +125,8 @@ class Trace:
             self.attempt.slept = self.attempt.slept or line
         elif action in ("CPU_OFF", "CPU_ON"):
             self.attempt.cpus.add(int(found["number"]))
+        elif action == "freeze_processes":
+            self.attempt.is_frozen = True
         elif action == "thaw_processes" and not is_begin:
             self.close(line)
 
@@ -186,9 +189,9 @@ def read_trace(data):
         trace.take(line, text.decode("utf-8", "replace").rstrip("\r"))
     if rest:
         raise Refused(len(lines) + 1, "the trace is cut off in this line, which has no newline")
-    if trace.attempt is not None:
+    if (last := trace.attempt) is not None:
         trace.close(len(lines) + 1)
-        if trace.attempts[-1].phases[-1:] not in ([], ["complete"]):
+        if (last.phases or last.is_frozen) and last.phases[-1:] != ["complete"]:
             raise Refused(len(lines) + 1, "the trace is cut off in an attempt")
     if not trace.attempts:
         raise Refused(len(lines) + 1, "the trace has no attempt to sleep")
