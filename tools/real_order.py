@@ -56,8 +56,10 @@ def main():
         print(text)
     for text in found.notes:
         print(f"note: {text}")
+    for text in found.counts():
+        print(text)
     count = len(found.disagreements)
-    print(f"{found.tried} pairs tried in {len(found.kernel.attempts)} attempts: {f'{count} disagreements' if count else 'all agree'}")
+    print(f"{found.tried.total()} pairs tried: {f'{count} disagreements' if count else 'all agree'}")
     sys.exit(1 if count else 0)
 
 

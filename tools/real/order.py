@@ -97,7 +97,7 @@ class Comparison:
         self.all = {device["name"] for device in tree.get("devices", [])}
         self.asynchronous = {device["name"] for device in tree.get("devices", []) if device.get("async")}
         self.kernel, self.ours = side_of_trace(trace, finder), side_of_log(log)
-        self.disagreements, self.notes, self.tried = [], [], 0
+        self.disagreements, self.notes, self.tried = [], [], collections.Counter()
         self.ever = {(phase, device) for attempt in self.kernel.attempts for phase in attempt for device in attempt[phase]}
         counts = len(self.kernel.attempts), len(self.ours.attempts)
         if counts[0] != counts[1]:
@@ -122,6 +122,12 @@ class Comparison:
             else:
                 self.disagreements.append(f"{where}: {phase} is in the {'trace' if phase in kernel else 'log'} alone")
 
+    def counts(self):
+        """A line an attempt: how many pairs each phase had."""
+        for number in range(min(len(self.kernel.attempts), len(self.ours.attempts))):
+            phases = [f"{phase} {self.tried[number, phase]}" for phase in self.kernel.attempts[number]]
+            yield f"attempt {number + 1}: pairs tried in {', '.join(phases) or 'no phase'}"
+
     def compare_phase(self, number, where, phase):
         kernel, ours = self.kernel.attempts[number][phase], self.ours.attempts[number][phase]
         self.compare_pairs(number, where, phase)
@@ -137,7 +143,7 @@ class Comparison:
             both = pair[:2] if phase in FORWARD else pair[1::-1]
             if not all(device in kernel for device in both):
                 continue
-            self.tried += 1
+            self.tried[number, phase] += 1
             if not is_kept(both, kernel) or not is_kept(both, ours):
                 words = f"{where}: {pair.dependent} is a {pair.what} of {pair.superior}, so {both[0]} has to end before {both[1]} begins"
                 self.disagreements.append(f"{words}; trace: {said(both, kernel)}; log: {said(both, ours)}")
