@@ -162,7 +162,7 @@ class Builder:
     def build(self, has_writer):
         """The machine file as a tree of JSON, and the rows and sources of its table of names."""
         if len(self.things) > MOST["devices"]:
-            raise Refused(f"{len(self.things)} devices, of which a machine file has at most 1000: ask for a branch")
+            raise Refused(f"{len(self.things)} devices, of which a machine file has at most 1000: ask for a branch with --branch")
         names = Names()
         for thing in self.things:
             thing.name = names.give(thing.real)
