@@ -1,0 +1,59 @@
+-- What the closed table of the event word says of the journal and the histories whose makers looked and stepped there (own).
+use Rattle.std.specs.Prelude.{◌≡◌, ℕ, ◌<◌, Bool, true, ◌||◌, ◌==◌, List, [], ◌∷◌, length, Option, Some, None, slice_index_or}
+use Rattle.std.specs.List.{list_all, list_any}
+use Rattle.sleep_model.specs.declared.word.EventNow.{EventNow}
+use Rattle.sleep_model.specs.declared.word.WordKind.{WordKind}
+use Rattle.sleep_model.specs.declared.entry.Entry.{Entry}
+use Rattle.sleep_model.specs.declared.entry.JournalEntry.{JournalEntry}
+use Rattle.sleep_model.specs.declared.entry.SourceEntry.{SourceEntry}
+use Rattle.sleep_model.specs.Merge.{all_entries, is_chained, is_word, is_word_step}
+use Rattle.sleep_model.specs.Numbers.{word_step}
+use Rattle.sleep_model.specs.Word.{position}
+use Rattle.event_word.specs.Histories.{AreClosed}
+use Rattle.event_word.specs.Steps.{MadeStep}
+use Rattle.merge_laws.specs.Apart.{is_journals, last_word, source_past}
+use Rattle.merge_laws.specs.Apart as apart
+use Rattle.merge_laws.specs.Fitting.{are_counted, is_look, no_steps}
+
+-- the steps so far, after an entry that found that word (wakeup_source_activate, wakeup_source_deactivate)
+abbrev pub made_onto : Option WordKind → EventNow → List MadeStep → List MadeStep
+made_onto None now made = made
+made_onto (Some step) now made = record { step = step; before = now } ∷ made
+
+-- the steps on the word among these entries, the newest first, each with the word before it
+abbrev pub made_in : List Entry → List MadeStep
+made_in [] = []
+made_in (e ∷ own) = made_onto (word_step e.kind) e.now (made_in own)
+
+-- an entry that is no step carries a word that one of the seats looked at
+abbrev pub is_looked : List (List EventNow) → JournalEntry → Bool
+is_looked looked e = is_word_step e || list_any (λ words. list_any (is_word e.entry.now) words) looked
+
+-- an entry's stamp has the position of the word that it carries
+abbrev pub is_placed : JournalEntry → Bool
+is_placed e = e.stamp.pos == position e.entry.now
+
+-- the seats of a closed table made the steps of the histories, source by source, and looked at each word that another entry carries
+pub record IsLaid
+    (made : List (List MadeStep)) (looked : List (List EventNow)) (answer : EventNow)
+    (journal : List JournalEntry) (histories : List (List SourceEntry)) : Type 0 where
+  pub closed : AreClosed made looked answer
+  pub count : length made ≡ length histories
+  pub each_made : (s : ℕ) → s < length histories → slice_index_or made s [] ≡ made_in (source_past histories s)
+  pub kept : list_all is_journals journal ≡ true
+  pub looks : list_all (is_looked looked) (all_entries journal histories) ≡ true
+  pub positions : list_all is_placed (all_entries journal histories) ≡ true
+
+-- the steps have positions without a gap and chain, each look saw a word between two of them, and that is the last word
+pub record IsInLine (answer : EventNow) (journal : List JournalEntry) (histories : List (List SourceEntry)) : Type 0 where
+  pub counted : are_counted 0 (apart.steps_of journal histories) ≡ true
+  pub chained : is_chained no_steps (apart.steps_of journal histories) ≡ true
+  pub looks : list_all (is_look (apart.steps_of journal histories)) (all_entries journal histories) ≡ true
+  pub last : last_word journal histories ≡ answer
+
+-- the word's closed table lays the steps of all histories
+abbrev pub TableLays : Type 0
+TableLays =
+    (made : List (List MadeStep)) (looked : List (List EventNow)) (answer : EventNow)
+    (journal : List JournalEntry) (histories : List (List SourceEntry))
+    → IsLaid made looked answer journal histories → IsInLine answer journal histories

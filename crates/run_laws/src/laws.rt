@@ -1,0 +1,10 @@
+//! What the lists of a run by workers say of its one log, from what each keeper knows by itself.
+
+ghost use Rattle.run_laws.specs.Laid.{TableLays};
+
+/// Where the table of the word is closed, each source's seat made the steps of its history, and each look
+/// was one of a seat, all steps have positions without a gap and chain, each look saw a word between two of
+/// them, and the closing tells the last word.
+pub fn closed_table_lays_the_word()
+    ensures { TableLays }
+{}

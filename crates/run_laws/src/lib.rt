@@ -1,0 +1,7 @@
+//! The laws of a run by workers: what each of them knows by itself is what the law of the one log asks
+//! (own: Linux keeps no such log). No program stands on it yet.
+#![tactic(auto)]
+
+mod laws;
+
+pub use laws::closed_table_lays_the_word;
