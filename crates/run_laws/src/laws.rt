@@ -1,5 +1,6 @@
 //! What the lists of a run by workers say of its one log, from what each keeper knows by itself.
 
+ghost use Rattle.run_laws.specs.Acts.{ActsAreSteps};
 ghost use Rattle.run_laws.specs.Laid.{TableLays};
 
 /// Where the table of the word is closed, each source's seat made the steps of its history, and each look
@@ -7,4 +8,10 @@ ghost use Rattle.run_laws.specs.Laid.{TableLays};
 /// them, and the closing tells the last word.
 pub fn closed_table_lays_the_word()
     ensures { TableLays }
+{}
+
+/// One more entry, by the journal, the sources' histories and its actor's own entries its actor's next,
+/// leaves each entry of each actor its step: what others add changes nothing of it.
+pub fn acts_are_steps()
+    ensures { ActsAreSteps }
 {}
