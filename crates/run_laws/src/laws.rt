@@ -1,6 +1,7 @@
 //! What the lists of a run by workers say of its one log, from what each keeper knows by itself.
 
 ghost use Rattle.run_laws.specs.Acts.{ActsAreSteps};
+ghost use Rattle.run_laws.specs.Held.{HeldGrows, NothingIsHeld};
 ghost use Rattle.run_laws.specs.Laid.{TableLays};
 
 /// Where the table of the word is closed, each source's seat made the steps of its history, and each look
@@ -14,4 +15,15 @@ pub fn closed_table_lays_the_word()
 /// leaves each entry of each actor its step: what others add changes nothing of it.
 pub fn acts_are_steps()
     ensures { ActsAreSteps }
+{}
+
+/// Of nothing made all is known.
+pub fn nothing_is_held()
+    ensures { NothingIsHeld }
+{}
+
+/// What is known of all that was made is known again after each entry that may be made: jumps stay held,
+/// each entry keeps its side of each, and each list goes on falling.
+pub fn what_is_held_grows()
+    ensures { HeldGrows }
 {}
