@@ -417,7 +417,7 @@ made_is (e ∷ l) = by (word_step e.entry.kind) refl (made_is l)
     by None is rest = rest
     by (Some x) is rest = ap₂ (λ (o : Option WordKind) (m : List MadeStep). made_onto o e.entry.now m) is rest
 
-map_back : (l : List JournalEntry) → map (λ (e : JournalEntry). e.entry) (reverse l) ≡ past_of l
+pub map_back : (l : List JournalEntry) → map (λ (e : JournalEntry). e.entry) (reverse l) ≡ past_of l
 map_back [] = refl
 map_back (x ∷ l) =
     ap (λ (k : List JournalEntry). map (λ (e : JournalEntry). e.entry) k) (reverse-append (x ∷ []) l)

@@ -1,7 +1,7 @@
 //! What the lists of a run by workers say of its one log, from what each keeper knows by itself.
 
 ghost use Rattle.run_laws.specs.Acts.{ActsAreSteps};
-ghost use Rattle.run_laws.specs.Held.{HeldGrows, NothingIsHeld};
+ghost use Rattle.run_laws.specs.Held.{HeldGrows, HeldTells, NothingIsHeld};
 ghost use Rattle.run_laws.specs.Laid.{TableLays};
 
 /// Where the table of the word is closed, each source's seat made the steps of its history, and each look
@@ -26,4 +26,10 @@ pub fn nothing_is_held()
 /// each entry keeps its side of each, and each list goes on falling.
 pub fn what_is_held_grows()
     ensures { HeldGrows }
+{}
+
+/// With the closed table of the word, what is known at the end is all that
+/// `kept_lists_merge_to_a_legal_log` asks of the journal and the histories.
+pub fn what_is_held_merges()
+    ensures { HeldTells }
 {}
