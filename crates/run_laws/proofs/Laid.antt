@@ -11,7 +11,7 @@ use Rattle.sleep_model.specs.declared.entry.JournalEntry.{JournalEntry}
 use Rattle.sleep_model.specs.declared.entry.Kind.{Kind}
 use Rattle.sleep_model.specs.declared.entry.Kind.TheVariants as kind
 use Rattle.sleep_model.specs.declared.entry.SourceEntry.{SourceEntry}
-use Rattle.sleep_model.specs.Merge.{all_entries, before_or, in_order, is_chained, is_word, is_word_step, of_source, put_in_order, stands_before}
+use Rattle.sleep_model.specs.Merge.{all_entries, before_or, in_order, is_chained, is_word, is_word_step, of_source, position_behind, put_in_order, stands_before, step_number}
 use Rattle.sleep_model.specs.Numbers.{after_step, numbers, word_step}
 use Rattle.sleep_model.specs.Parts.{is_kept, part_of}
 use Rattle.sleep_model.specs.Word.{position}
@@ -25,7 +25,7 @@ use Rattle.merge_laws.specs.Apart.{is_journals, past_of}
 use Rattle.merge_laws.specs.Fitting.{are_counted, is_look, no_steps, word_from}
 use Rattle.merge_laws.proofs.Lists.{all_append, all_head, all_more, all_order, all_reverse, all_tail, filter_none, filter_reverse}
 use Rattle.merge_laws.proofs.Placing.{number_is, word_is}
-use Rattle.run_laws.specs.Laid.{IsInLine, IsLaid, TableLays, is_looked, is_placed, made_in, made_onto}
+use Rattle.run_laws.specs.Laid.{IsInLine, IsLaid, IsSeenLast, LooksLast, TableLays, is_looked, is_placed, made_in, made_onto}
 
 -- ---- an entry that stands behind all others goes to the end
 
@@ -454,6 +454,26 @@ seen_any past now (words ∷ looked) h g = by (list_any (is_word now) words) ref
     by true is g rest = seen_one past now words h.0 is
     by false is g rest = rest g
 
+-- steps from a position on reach that far
+reaches : (k : ℕ) (l : List JournalEntry) (most : ℕ) → k ≤ most → are_counted k l ≡ true → list_all is_word_step l ≡ true
+    → list_all (λ e. nat_le (position_behind e) most) l ≡ true → k + length l ≤ most
+reaches k [] most h c s b = omega (arith, h)
+reaches k (e ∷ l) most h c s b =
+    let at : e.stamp.pos ≡ k = number_is e.stamp.pos k (both_left (e.stamp.pos == k) (are_counted (suc k) l) c) in
+    let one : step_number e ≡ 1 = ap (λ (b : Bool). cond b 1 0) (all_head is_word_step e l s) in
+    let within : nat_le (e.stamp.pos + step_number e) most ≡ true = all_head (λ e. nat_le (position_behind e) most) e l b in
+    let rest : suc k + length l ≤ most =
+    reaches (suc k) l most (next e.stamp.pos (step_number e) k most at one within) (both_right (e.stamp.pos == k) (are_counted (suc k) l) c)
+    (all_tail is_word_step e l s) (all_tail (λ e. nat_le (position_behind e) most) e l b) in
+    omega (arith, rest)
+  where
+    next : (pos step k most : ℕ) → pos ≡ k → step ≡ 1 → nat_le (pos + step) most ≡ true → suc k ≤ most
+    next pos step k most at one within = grind (arith, nat_tests)
+
+pub each_source : (q : JournalEntry → Bool) (hs : List (List SourceEntry)) → ((s : ℕ) → list_all q (map of_source (get_or hs s [])) ≡ true) → list_all q (sources_entries hs) ≡ true
+each_source q [] h = refl
+each_source q (x ∷ hs) h = all_append q (map of_source x) (sources_entries hs) (h 0) (each_source q hs (λ s. h (suc s)))
+
 -- ---- the whole
 
 module _ (made : List (List MadeStep)) (looked : List (List EventNow)) (answer : EventNow) (journal : List JournalEntry) (hs : List (List SourceEntry))
@@ -509,6 +529,36 @@ module _ (made : List (List MadeStep)) (looked : List (List EventNow)) (answer :
     looks = all_by_two (is_looked looked) is_placed (is_look (in_order (filter is_word_step (all_entries journal hs)))) (all_entries journal hs) look laid.looks laid.positions;
     last = is_line.last ∙ sym laid.closed.last.0;
   }
+
+  -- ---- the last word
+
+  last_seen : (now : EventNow) → IsSeenLast looked hs now → now ≡ answer
+  last_seen now h =
+      let there = is_line.words now (seen_any past now looked laid.closed.seen.0 h.seen) in
+      let upper : position now ≤ length steps = there.0 in
+      let lower : 0 + length steps ≤ position now = reaches 0 steps (position now) (omega arith) is_line.counted all_steps behind in
+      let at : position now ≡ length steps = omega (arith, upper, lower) in
+      sym there.1 ∙ ap (λ (n : ℕ). word_from no_steps n steps) at ∙ is_line.end ∙ sym laid.closed.last.0
+    where
+      steps : List JournalEntry
+      steps = in_order (filter is_word_step (all_entries journal hs))
+
+      all_steps : list_all is_word_step (in_order (filter is_word_step (all_entries journal hs))) ≡ true
+      all_steps = all_order is_word_step (filter is_word_step (all_entries journal hs)) (all_passed is_word_step (all_entries journal hs))
+
+      behind : list_all (λ e. nat_le (position_behind e) (position now)) (in_order (filter is_word_step (all_entries journal hs))) ≡ true
+      behind =
+          all_order (λ e. nat_le (position_behind e) (position now)) (filter is_word_step (all_entries journal hs))
+          (subst (λ (l : List JournalEntry). list_all (λ e. nat_le (position_behind e) (position now)) l ≡ true) (sym of_sources)
+          (all_filter (λ e. nat_le (position_behind e) (position now)) is_word_step (sources_entries hs) (each_source (λ e. nat_le (position_behind e) (position now)) hs h.behind)))
+        where
+          of_sources : filter is_word_step (all_entries journal hs) ≡ filter is_word_step (sources_entries hs)
+          of_sources =
+              filter-append is_word_step journal (sources_entries hs)
+              ∙ ap (λ (l : List JournalEntry). l ++ filter is_word_step (sources_entries hs)) (filter_none is_word_step is_journals journal laid.kept (λ e i. kept_still e.entry.kind i))
+
+pub looks_last : LooksLast
+looks_last made looked answer now journal hs laid h = last_seen made looked answer journal hs laid now h
 
 pub table_lays : TableLays
 table_lays made looked answer journal hs laid = in_line made looked answer journal hs laid

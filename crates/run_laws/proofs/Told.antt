@@ -18,15 +18,20 @@ use Rattle.sleep_model.specs.Sources.{is_of}
 use Rattle.event_word.specs.Steps.{MadeStep}
 use Rattle.log_merge.specs.Rests.{sources_entries}
 use Rattle.log_merge.proofs.Reading.{both, both_left, both_right}
-use Rattle.merge_laws.specs.Apart.{AreJumps, IsActor, IsSource, are_of, calls_after, is_inside, is_journals, past_of, source_past}
+use Rattle.merge_laws.specs.Apart.{AreJumps, IsActor, IsSource, are_of, calls_after, is_inside, is_journals, last_word, past_of, source_past}
 use Rattle.merge_laws.specs.Fitting.{FitApart, are_raised, has_time, is_earlier, is_later, jumps, stands_right}
-use Rattle.merge_laws.specs.Merging.{AreLegalApart}
+use Rattle.sleep_model.specs.declared.log.Log.{Log}
+use Rattle.sleep_model.specs.Legal.{is_finished, is_idle, next_time, waiting}
+use Rattle.sleep_model.specs.Due.{all_gone}
+use Rattle.sleep_model.specs.declared.log.LogEnd.TheVariants.{Stuck}
+use Rattle.merge_laws.specs.Merging.{AreLegalApart, IsMergeOf}
+use Rattle.merge_laws.proofs.Fits.{kept_merge}
 use Rattle.merge_laws.specs.Owned.{IsOwnList}
 use Rattle.merge_laws.proofs.Lists.{all_append, all_head, all_more, all_reverse, all_tail, filter_reverse}
 use Rattle.run_laws.specs.Acts.{Made, bare}
-use Rattle.run_laws.specs.Held.{AllOf, EachJump, Held, HeldTells, IsWritten, falls, follows, is_above, is_aside}
+use Rattle.run_laws.specs.Held.{AllOf, EachJump, Held, HeldEnds, HeldTells, IsWritten, falls, follows, is_above, is_aside}
 use Rattle.run_laws.specs.Laid.{IsInLine, IsLaid}
-use Rattle.run_laws.proofs.Laid.{all_weaker, map_back, table_lays}
+use Rattle.run_laws.proofs.Laid.{all_weaker, each_source, looks_last, map_back, table_lays}
 
 -- ---- what falls rises from its other end
 
@@ -54,10 +59,6 @@ falling_rises (e ∷ x ∷ l) h =
     (both_left (follows e (x ∷ l)) (falls (x ∷ l)) h)
 
 -- ---- lists of histories, by what each has
-
-sources_all : (q : JournalEntry → Bool) (hs : List (List SourceEntry)) → ((s : ℕ) → list_all q (map of_source (get_or hs s [])) ≡ true) → list_all q (sources_entries hs) ≡ true
-sources_all q [] h = refl
-sources_all q (x ∷ hs) h = all_append q (map of_source x) (sources_entries hs) (h 0) (sources_all q hs (λ s. h (suc s)))
 
 histories_all : (q : List SourceEntry → Bool) (hs : List (List SourceEntry)) → ((s : ℕ) → q (get_or hs s []) ≡ true) → list_all q hs ≡ true
 histories_all q [] h = refl
@@ -133,7 +134,7 @@ module _ (m : Machine) (made : Made) (journal : List JournalEntry) (hs : List (L
   told q h =
       all_append q journal (sources_entries hs)
       (subst (λ (l : List JournalEntry). list_all q l ≡ true) (sym w.journal_is) (all_reverse q made.journal h.0))
-      (sources_all q hs (λ s. subst (λ (l : List JournalEntry). list_all q l ≡ true) (sym (w.histories_are s)) (all_reverse q (made.of s) (h.1 s))))
+      (each_source q hs (λ s. subst (λ (l : List JournalEntry). list_all q l ≡ true) (sym (w.histories_are s)) (all_reverse q (made.of s) (h.1 s))))
 
   own_list : (who : Actor) → IsOwnList m who (reverse (made.own who)) journal hs
   own_list who = record {
@@ -246,3 +247,24 @@ held_tells m made steps looked answer journal hs held w laid = (
   fit m made journal hs held w answer (table_lays steps looked answer journal hs laid),
   legal m made journal hs held w,
 )
+
+pub held_ends : HeldEnds
+held_ends m made steps looked answer now journal hs log held w laid last is =
+    let told = held_tells m made steps looked answer journal hs held w laid in
+    let merged = kept_merge m journal hs (λ who. reverse (made.own who)) log told.0 told.1 is in
+    let word : now ≡ last_word journal hs = looks_last steps looked answer now journal hs laid last ∙ sym (table_lays steps looked answer journal hs laid).last in
+    let past = journal_back m made journal hs held w in
+    let sources : source_past hs ≡ (λ (s : ℕ). bare (made.of s)) = λ i s. source_back m made journal hs held w s i in
+    (
+      merged.0,
+      λ over. merged.1 (record {
+        says = over.says;
+        finished = (λ i. is_finished m (past i) (sources i) (sym word i)) ∙ over.finished;
+      }),
+      λ over. merged.2 (record {
+        says = over.says ∙ (λ i. Stuck (waiting m (sym past i) (word i)));
+        left = (λ i. all_gone m (past i)) ∙ over.left;
+        idle = (λ i. is_idle m (past i) (sources i) (sym word i)) ∙ over.idle;
+        timeless = (λ i. next_time m (past i) (sources i)) ∙ over.timeless;
+      }),
+    )

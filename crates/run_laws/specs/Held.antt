@@ -1,12 +1,15 @@
 -- What is known of all that was made so far, and what it tells at the end (own).
-use Rattle.std.specs.Prelude.{◌≡◌, ◌+◌, ℕ, Bool, true, false, ◌&&◌, ◌||◌, nat_le, nat_lt, List, [], ◌∷◌, length, map, filter, reverse, slice_index_or}
+use Rattle.std.specs.Prelude.{◌≡◌, ◌+◌, ℕ, Bool, true, false, ◌&&◌, ◌||◌, nat_le, nat_lt, List, [], ◌∷◌, length, map, filter, reverse, slice_index_or, None}
 use Rattle.std.specs.List.{list_all}
 use Rattle.sleep_model.specs.declared.word.EventNow.{EventNow}
 use Rattle.sleep_model.specs.declared.entry.Actor.{Actor}
 use Rattle.sleep_model.specs.declared.entry.JournalEntry.{JournalEntry}
 use Rattle.sleep_model.specs.declared.entry.SourceEntry.{SourceEntry}
+use Rattle.sleep_model.specs.declared.log.Log.{Log}
+use Rattle.sleep_model.specs.declared.log.LogEnd.TheVariants.{Finished, Stuck}
 use Rattle.sleep_model.specs.declared.machine.Machine.{Machine}
-use Rattle.sleep_model.specs.Legal.{JournalPart, JumpStep, is_there}
+use Rattle.sleep_model.specs.Due.{all_gone}
+use Rattle.sleep_model.specs.Legal.{IsFinishedLog, IsLegalLog, IsStuckLog, JournalPart, JumpStep, is_finished, is_idle, is_there, next_time, waiting}
 use Rattle.sleep_model.specs.Merge.{of_source, position_behind}
 use Rattle.sleep_model.specs.Numbers.{time_of}
 use Rattle.sleep_model.specs.Parts.{part_of}
@@ -14,9 +17,9 @@ use Rattle.sleep_model.specs.Sources.{is_of, most_entries}
 use Rattle.event_word.specs.Steps.{MadeStep}
 use Rattle.merge_laws.specs.Apart.{AreJumps, is_journals}
 use Rattle.merge_laws.specs.Fitting.{FitApart, are_raised, has_time, is_earlier, is_later, jumps}
-use Rattle.merge_laws.specs.Merging.{AreLegalApart}
+use Rattle.merge_laws.specs.Merging.{AreLegalApart, IsMergeOf}
 use Rattle.run_laws.specs.Acts.{AreSteps, IsNext, Made, MayHave, bare, with_entry}
-use Rattle.run_laws.specs.Laid.{IsLaid}
+use Rattle.run_laws.specs.Laid.{IsLaid, IsSeenLast}
 
 -- ---- tests of what was made
 
@@ -115,3 +118,26 @@ HeldTells =
     → Held m made → IsWritten m made journal histories → IsLaid steps looked answer journal histories
     → FitApart m journal histories (λ who. reverse (made.own who))
     × AreLegalApart m journal histories (λ who. reverse (made.own who))
+
+-- ---- the end
+
+-- the run is over, by all that was made and the word
+pub record IsOver (m : Machine) (made : Made) (now : EventNow) (log : Log) : Type 0 where
+  pub says : log.end ≡ Finished
+  pub finished : is_finished m (bare made.journal) (λ s. bare (made.of s)) now ≡ true
+
+-- nobody goes on, by all that was made and the word
+pub record IsHalted (m : Machine) (made : Made) (now : EventNow) (log : Log) : Type 0 where
+  pub says : log.end ≡ Stuck (waiting m (bare made.journal) now)
+  pub left : all_gone m (bare made.journal) ≡ false
+  pub idle : is_idle m (bare made.journal) (λ s. bare (made.of s)) now ≡ true
+  pub timeless : next_time m (bare made.journal) (λ s. bare (made.of s)) ≡ None
+
+-- what is known at the end makes the merge a legal log, and a finished or stuck one by the last word that was seen
+abbrev pub HeldEnds : Type 0
+HeldEnds =
+    (m : Machine) (made : Made) (steps : List (List MadeStep)) (looked : List (List EventNow)) (answer now : EventNow)
+    (journal : List JournalEntry) (histories : List (List SourceEntry)) (log : Log)
+    → Held m made → IsWritten m made journal histories → IsLaid steps looked answer journal histories
+    → IsSeenLast looked histories now → IsMergeOf m journal histories log
+    → IsLegalLog m log × (IsOver m made now log → IsFinishedLog m log) × (IsHalted m made now log → IsStuckLog m log)

@@ -1,12 +1,12 @@
 -- What the closed table of the event word says of the journal and the histories whose makers looked and stepped there (own).
-use Rattle.std.specs.Prelude.{◌≡◌, ℕ, ◌<◌, Bool, true, ◌||◌, ◌==◌, List, [], ◌∷◌, length, Option, Some, None, slice_index_or}
+use Rattle.std.specs.Prelude.{◌≡◌, ℕ, ◌<◌, Bool, true, ◌||◌, ◌==◌, nat_le, List, [], ◌∷◌, length, map, Option, Some, None, slice_index_or}
 use Rattle.std.specs.List.{list_all, list_any}
 use Rattle.sleep_model.specs.declared.word.EventNow.{EventNow}
 use Rattle.sleep_model.specs.declared.word.WordKind.{WordKind}
 use Rattle.sleep_model.specs.declared.entry.Entry.{Entry}
 use Rattle.sleep_model.specs.declared.entry.JournalEntry.{JournalEntry}
 use Rattle.sleep_model.specs.declared.entry.SourceEntry.{SourceEntry}
-use Rattle.sleep_model.specs.Merge.{all_entries, is_chained, is_word, is_word_step}
+use Rattle.sleep_model.specs.Merge.{all_entries, is_chained, is_word, is_word_step, of_source, position_behind}
 use Rattle.sleep_model.specs.Numbers.{word_step}
 use Rattle.sleep_model.specs.Word.{position}
 use Rattle.event_word.specs.Histories.{AreClosed}
@@ -25,9 +25,13 @@ abbrev pub made_in : List Entry → List MadeStep
 made_in [] = []
 made_in (e ∷ own) = made_onto (word_step e.kind) e.now (made_in own)
 
+-- one of the seats looked at the word
+abbrev pub was_seen : List (List EventNow) → EventNow → Bool
+was_seen looked now = list_any (λ words. list_any (is_word now) words) looked
+
 -- an entry that is no step carries a word that one of the seats looked at
 abbrev pub is_looked : List (List EventNow) → JournalEntry → Bool
-is_looked looked e = is_word_step e || list_any (λ words. list_any (is_word e.entry.now) words) looked
+is_looked looked e = is_word_step e || was_seen looked e.entry.now
 
 -- an entry's stamp has the position of the word that it carries
 abbrev pub is_placed : JournalEntry → Bool
@@ -57,3 +61,16 @@ TableLays =
     (made : List (List MadeStep)) (looked : List (List EventNow)) (answer : EventNow)
     (journal : List JournalEntry) (histories : List (List SourceEntry))
     → IsLaid made looked answer journal histories → IsInLine answer journal histories
+
+-- a seat looked at the word, and no step of a history leaves a later position
+pub record IsSeenLast (looked : List (List EventNow)) (histories : List (List SourceEntry)) (now : EventNow) : Type 0 where
+  pub seen : was_seen looked now ≡ true
+  pub behind : (s : ℕ)
+      → list_all (λ e. nat_le (position_behind e) (position now)) (map of_source (slice_index_or histories s [])) ≡ true
+
+-- a look that is at or above every source's floor saw the last word
+abbrev pub LooksLast : Type 0
+LooksLast =
+    (made : List (List MadeStep)) (looked : List (List EventNow)) (answer now : EventNow)
+    (journal : List JournalEntry) (histories : List (List SourceEntry))
+    → IsLaid made looked answer journal histories → IsSeenLast looked histories now → now ≡ answer

@@ -1,8 +1,8 @@
 //! What the lists of a run by workers say of its one log, from what each keeper knows by itself.
 
 ghost use Rattle.run_laws.specs.Acts.{ActsAreSteps};
-ghost use Rattle.run_laws.specs.Held.{HeldGrows, HeldTells, NothingIsHeld};
-ghost use Rattle.run_laws.specs.Laid.{TableLays};
+ghost use Rattle.run_laws.specs.Held.{HeldEnds, HeldGrows, HeldTells, NothingIsHeld};
+ghost use Rattle.run_laws.specs.Laid.{LooksLast, TableLays};
 
 /// Where the table of the word is closed, each source's seat made the steps of its history, and each look
 /// was one of a seat, all steps have positions without a gap and chain, each look saw a word between two of
@@ -32,4 +32,15 @@ pub fn what_is_held_grows()
 /// `kept_lists_merge_to_a_legal_log` asks of the journal and the histories.
 pub fn what_is_held_merges()
     ensures { HeldTells }
+{}
+
+/// A look at a word that is at or above every source's floor saw the last word.
+pub fn last_look_saw_the_last_word()
+    ensures { LooksLast }
+{}
+
+/// What is known at the end makes the merge a legal log; where the run is over, or nobody goes on, by all
+/// that was made and the last word that was seen, a finished or a stuck one.
+pub fn what_is_held_ends()
+    ensures { HeldEnds }
 {}

@@ -4,4 +4,4 @@
 
 mod laws;
 
-pub use laws::{acts_are_steps, closed_table_lays_the_word, nothing_is_held, what_is_held_grows, what_is_held_merges};
+pub use laws::{acts_are_steps, closed_table_lays_the_word, last_look_saw_the_last_word, nothing_is_held, what_is_held_grows, what_is_held_ends, what_is_held_merges};
