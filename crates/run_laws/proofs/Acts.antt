@@ -1,6 +1,5 @@
 -- One more entry leaves each actor's entries its steps.
-use Rattle.std.proofs.Common.{◌≡◌, ◌∙◌, ◌≤◌, ◌<◌, ◌+◌, ◌==◌, ℕ, zero, suc, Bool, true, false, List, [], ◌∷◌, length, map, filter, cond, refl, sym, ap, ap₂, subst, arith}
-use Rattle.std.proofs.lemmas.Bool.Decides.{nat_tests}
+use Rattle.std.proofs.Common.{◌≡◌, ◌∙◌, ◌≤◌, ◌+◌, ℕ, Bool, true, false, List, [], ◌∷◌, length, filter, cond, refl, sym, ap, subst, arith}
 use Rattle.sleep_model.specs.declared.entry.Actor.{Actor}
 use Rattle.sleep_model.specs.declared.entry.Actor.TheVariants as actor
 use Rattle.sleep_model.specs.declared.entry.Entry.{Entry}
@@ -8,7 +7,6 @@ use Rattle.sleep_model.specs.declared.entry.JournalEntry.{JournalEntry}
 use Rattle.sleep_model.specs.declared.entry.Kind.{Kind}
 use Rattle.sleep_model.specs.declared.machine.Machine.{Machine}
 use Rattle.sleep_model.specs.Calls.{calls_of, is_calling, notes_of}
-use Rattle.sleep_model.specs.Merge.{entries_of}
 use Rattle.sleep_model.specs.Parts.{Part, OfJournal, Notes, Moves, OfTime, part_of, is_kept, journal}
 use Rattle.sleep_model.specs.Path.{is_same}
 use Rattle.sleep_model.specs.Sources.{SourceStep, history, is_of}
@@ -16,7 +14,7 @@ use Rattle.merge_laws.specs.Apart.{ActorStep, IsActor, IsCall, IsSource, calls_a
 use Rattle.merge_laws.proofs.Calling.{calls_earlier, calls_in, calls_top, history_earlier, history_top, same_calling}
 use Rattle.merge_laws.proofs.Lists.{filter_map_through}
 use Rattle.merge_laws.proofs.Placing.{number_is}
-use Rattle.run_laws.specs.Acts.{ActsAreSteps, AreSteps, IsFree, IsKnown, IsNext, Made, MayHave, bare, put_if, with_entry}
+use Rattle.run_laws.specs.Acts.{ActsAreSteps, AreSteps, IsKnown, IsNext, Made, MayHave, bare, put_if, with_entry}
 
 pub actor_is : (a b : Actor) → is_same a b ≡ true → a ≡ b
 actor_is (actor.Script i) (actor.Script j) h = ap actor.Script (number_is i j h)
@@ -60,9 +58,9 @@ steps_kept who calls calls' inside inside' [] c i h = tt
 steps_kept who calls calls' inside inside' (x ∷ own) c i h = (
   step_kept who calls calls' inside inside' own x (part_of x.kind) (c (length (journal own)) (longer_journal x own)) (i own (within_more x own)) h.0,
   steps_kept who calls calls' inside inside' own
-  (λ k l. let more : length (journal own) ≤ length (journal (x ∷ own)) = longer_journal x own in c k (omega (arith, l, more)))
-  (λ l w. i l (λ s. let more : length (history s own) ≤ length (history s (x ∷ own)) = within_more x own s in let few : length (history s l) ≤ length (history s own) = w s in omega (arith, few, more)))
-  h.1,
+      (λ k l. let more : length (journal own) ≤ length (journal (x ∷ own)) = longer_journal x own in c k (omega (arith, l, more)))
+      (λ l w. i l (λ s. let more : length (history s own) ≤ length (history s (x ∷ own)) = within_more x own s in let few : length (history s l) ≤ length (history s own) = w s in omega (arith, few, more)))
+      h.1,
 )
 
 -- ---- an actor's entries in two lists

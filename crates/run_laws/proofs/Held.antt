@@ -1,5 +1,5 @@
 -- What is known of all that was made grows by one entry.
-use Rattle.std.proofs.Common.{◌≡◌, ◌∙◌, ◌≤◌, ◌<◌, ◌+◌, ◌==◌, ◌&&◌, ◌||◌, ◌++◌, ℕ, zero, suc, nat_lt, nat_le, Bool, true, false, List, [], ◌∷◌, length, map, filter, reverse, cond, refl, sym, ap, ap₂, subst, append-nil, arith}
+use Rattle.std.proofs.Common.{◌≡◌, ◌∙◌, ◌≤◌, ◌<◌, ◌+◌, ◌==◌, ◌&&◌, ◌||◌, ◌++◌, ℕ, nat_lt, nat_le, Bool, true, false, List, [], ◌∷◌, filter, reverse, cond, refl, sym, ap, subst, append-nil, arith}
 use Rattle.std.proofs.lemmas.Bool.Decides.{nat_tests}
 use Rattle.std.proofs.lemmas.List.{reverse-append}
 use Rattle.std.proofs.lemmas.List.Elements.{filter-append}
@@ -20,8 +20,8 @@ use Rattle.log_merge.proofs.Reading.{both, both_left, both_right}
 use Rattle.merge_laws.specs.Apart.{AreJumps, JumpHeld, before, is_journals}
 use Rattle.merge_laws.specs.Fitting.{are_raised, has_time, is_earlier, is_later, jumps}
 use Rattle.merge_laws.proofs.Lists.{all_head, all_map, all_more, all_reverse, all_tail, filter_all, filter_reverse}
-use Rattle.merge_laws.proofs.Placing.{number_is, other_keeps}
-use Rattle.run_laws.specs.Acts.{AreSteps, Made, bare, put_if, with_entry}
+use Rattle.merge_laws.proofs.Placing.{other_keeps}
+use Rattle.run_laws.specs.Acts.{Made, bare, put_if, with_entry}
 use Rattle.run_laws.specs.Held.{AllOf, EachJump, Held, HeldGrows, IsGrowth, IsInTime, NothingIsHeld, falls, follows, is_above, is_aside}
 use Rattle.run_laws.proofs.Acts.{actor_is, acts_are_steps}
 use Rattle.run_laws.proofs.Laid.{all_by_two, all_weaker}
@@ -128,11 +128,10 @@ next_time m past e step = by (part_of e.kind) refl step
 jumps_by_now : (m : Machine) (l : List JournalEntry) → JournalPart m (bare l) → EachJump (λ jump. nat_le jump.entry.time (time_of (bare l)) ≡ true) l
 jumps_by_now m [] h = tt
 jumps_by_now m (e ∷ l) h =
-    let n = next_time m (bare l) e.entry h.0 in
-    (
+    let n = next_time m (bare l) e.entry h.0 in (
       λ is. subst (λ (t : ℕ). nat_le e.entry.time t ≡ true) (sym (n.jumped is).0) (at_most_same e.entry.time),
       each_by (λ jump. nat_le jump.entry.time (time_of (bare l)) ≡ true) (λ jump. nat_le jump.entry.time (time_of (bare (e ∷ l))) ≡ true) l
-      (λ jump g. at_most jump.entry.time (time_of (bare l)) (time_of (bare (e ∷ l))) g n.risen) (jumps_by_now m l h.1),
+          (λ jump g. at_most jump.entry.time (time_of (bare l)) (time_of (bare (e ∷ l))) g n.risen) (jumps_by_now m l h.1),
     )
 
 -- the time is that of a jump, or none has been

@@ -1,4 +1,5 @@
 pub mod Acts
 pub mod Held
+pub mod Jobs
 pub mod Laid
 pub mod Told

@@ -1,13 +1,11 @@
 -- With the closed table, what is known meets what the law of the one log asks.
-use Rattle.std.proofs.Common.{◌≡◌, ◌∙◌, ◌≤◌, ◌<◌, ◌+◌, ◌==◌, ◌&&◌, ◌||◌, ◌++◌, ℕ, zero, suc, nat_lt, nat_le, not, Bool, true, false, List, [], ◌∷◌, length, map, filter, reverse, get_or, cond, refl, sym, ap, ap₂, subst, arith}
-use Rattle.std.proofs.lemmas.Bool.Decides.{nat_tests}
+use Rattle.std.proofs.Common.{◌≡◌, ◌∙◌, ◌+◌, ◌==◌, ◌&&◌, ◌||◌, ◌++◌, ℕ, suc, nat_lt, nat_le, not, Bool, true, false, List, [], ◌∷◌, length, map, filter, reverse, get_or, refl, sym, ap, subst, arith}
 use Rattle.std.proofs.lemmas.List.{reverse-append, reverse-reverse}
 use Rattle.std.specs.List.{list_all, list_any}
 use Rattle.sleep_model.specs.declared.word.EventNow.{EventNow}
 use Rattle.sleep_model.specs.declared.entry.Actor.{Actor}
 use Rattle.sleep_model.specs.declared.entry.Entry.{Entry}
 use Rattle.sleep_model.specs.declared.entry.JournalEntry.{JournalEntry}
-use Rattle.sleep_model.specs.declared.entry.Kind.{Kind}
 use Rattle.sleep_model.specs.declared.entry.SourceEntry.{SourceEntry}
 use Rattle.sleep_model.specs.declared.machine.Machine.{Machine}
 use Rattle.sleep_model.specs.Legal.{JournalPart, is_there}
@@ -15,22 +13,20 @@ use Rattle.sleep_model.specs.Merge.{all_entries, entries_of, is_jump, of_source,
 use Rattle.sleep_model.specs.Parts.{Part, OfJournal, Notes, Moves, OfTime, part_of}
 use Rattle.sleep_model.specs.Path.{is_same}
 use Rattle.sleep_model.specs.Sources.{is_of}
-use Rattle.event_word.specs.Steps.{MadeStep}
 use Rattle.log_merge.specs.Rests.{sources_entries}
 use Rattle.log_merge.proofs.Reading.{both, both_left, both_right}
 use Rattle.merge_laws.specs.Apart.{AreJumps, IsActor, IsSource, are_of, calls_after, is_inside, is_journals, last_word, past_of, source_past}
 use Rattle.merge_laws.specs.Fitting.{FitApart, are_raised, has_time, is_earlier, is_later, jumps, stands_right}
-use Rattle.sleep_model.specs.declared.log.Log.{Log}
 use Rattle.sleep_model.specs.Legal.{is_finished, is_idle, next_time, waiting}
 use Rattle.sleep_model.specs.Due.{all_gone}
 use Rattle.sleep_model.specs.declared.log.LogEnd.TheVariants.{Stuck}
-use Rattle.merge_laws.specs.Merging.{AreLegalApart, IsMergeOf}
+use Rattle.merge_laws.specs.Merging.{AreLegalApart}
 use Rattle.merge_laws.proofs.Fits.{kept_merge}
 use Rattle.merge_laws.specs.Owned.{IsOwnList}
 use Rattle.merge_laws.proofs.Lists.{all_append, all_head, all_more, all_reverse, all_tail, filter_reverse}
 use Rattle.run_laws.specs.Acts.{Made, bare}
 use Rattle.run_laws.specs.Held.{AllOf, EachJump, Held, HeldEnds, HeldTells, IsWritten, falls, follows, is_above, is_aside}
-use Rattle.run_laws.specs.Laid.{IsInLine, IsLaid}
+use Rattle.run_laws.specs.Laid.{IsInLine}
 use Rattle.run_laws.proofs.Laid.{all_weaker, each_source, looks_last, map_back, table_lays}
 
 -- ---- what falls rises from its other end
@@ -254,8 +250,7 @@ held_ends m made steps looked answer now journal hs log held w laid last is =
     let merged = kept_merge m journal hs (λ who. reverse (made.own who)) log told.0 told.1 is in
     let word : now ≡ last_word journal hs = looks_last steps looked answer now journal hs laid last ∙ sym (table_lays steps looked answer journal hs laid).last in
     let past = journal_back m made journal hs held w in
-    let sources : source_past hs ≡ (λ (s : ℕ). bare (made.of s)) = λ i s. source_back m made journal hs held w s i in
-    (
+    let sources : source_past hs ≡ (λ (s : ℕ). bare (made.of s)) = λ i s. source_back m made journal hs held w s i in (
       merged.0,
       λ over. merged.1 (record {
         says = over.says;

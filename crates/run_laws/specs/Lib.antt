@@ -1,3 +1,4 @@
 pub mod Acts
 pub mod Held
+pub mod Jobs
 pub mod Laid

@@ -2,6 +2,7 @@
 
 ghost use Rattle.run_laws.specs.Acts.{ActsAreSteps};
 ghost use Rattle.run_laws.specs.Held.{HeldEnds, HeldGrows, HeldTells, NothingIsHeld};
+ghost use Rattle.run_laws.specs.Jobs.{JobsFollow, JobsTell, SettledIsFree};
 ghost use Rattle.run_laws.specs.Laid.{LooksLast, TableLays};
 
 /// Where the table of the word is closed, each source's seat made the steps of its history, and each look
@@ -43,4 +44,20 @@ pub fn last_look_saw_the_last_word()
 /// that was made and the last word that was seen, a finished or a stuck one.
 pub fn what_is_held_ends()
     ensures { HeldEnds }
+{}
+
+/// The job of an actor follows each entry: another's leaves it, a turn of its own and a call bring it on,
+/// and the steps of a call leave it.
+pub fn jobs_follow_all_that_was_made()
+    ensures { JobsFollow }
+{}
+
+/// What a job wants, whose actor is inside no call, is the next that its actor makes.
+pub fn jobs_tell_what_is_next()
+    ensures { JobsTell }
+{}
+
+/// Where no source is owed a step, nobody is inside a call.
+pub fn settled_sources_free_all()
+    ensures { SettledIsFree }
 {}
