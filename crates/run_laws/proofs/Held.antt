@@ -20,9 +20,9 @@ use Rattle.log_merge.proofs.Reading.{both, both_left, both_right}
 use Rattle.merge_laws.specs.Apart.{AreJumps, JumpHeld, before, is_journals}
 use Rattle.merge_laws.specs.Fitting.{are_raised, has_time, is_earlier, is_later, jumps}
 use Rattle.merge_laws.proofs.Lists.{all_head, all_map, all_more, all_reverse, all_tail, filter_all, filter_reverse}
-use Rattle.merge_laws.proofs.Placing.{other_keeps}
+use Rattle.merge_laws.proofs.Placing.{number_is, other_keeps}
 use Rattle.run_laws.specs.Acts.{Made, bare, put_if, with_entry}
-use Rattle.run_laws.specs.Held.{AllOf, EachJump, Held, HeldGrows, IsGrowth, IsInTime, NothingIsHeld, falls, follows, is_above, is_aside}
+use Rattle.run_laws.specs.Held.{AllOf, EachJump, Held, HeldGrows, IsGrowth, IsInTime, NothingIsHeld, falls, follows, is_above, is_aside, IsInPlace}
 use Rattle.run_laws.proofs.Acts.{actor_is, acts_are_steps}
 use Rattle.run_laws.proofs.Laid.{all_by_two, all_weaker}
 
@@ -32,7 +32,7 @@ all_put : (q : JournalEntry → Bool) (b : Bool) (e : JournalEntry) (l : List Jo
 all_put q true e l f h = all_more q e l (f refl) h
 all_put q false e l f h = h
 
-all_grown : (q : JournalEntry → Bool) (e : JournalEntry) (made : Made) → q e ≡ true → AllOf q made → AllOf q (with_entry e made)
+pub all_grown : (q : JournalEntry → Bool) (e : JournalEntry) (made : Made) → q e ≡ true → AllOf q made → AllOf q (with_entry e made)
 all_grown q e made is h = (
   all_put q (is_journals e) e made.journal (λ b. is) h.0,
   λ s. all_put q (is_of s (part_of e.entry.kind)) e (made.of s) (λ b. is) (h.1 s),
@@ -282,6 +282,25 @@ module _ (m : Machine) (made : Made) (e : JournalEntry) (held : Held m made) (g 
       one : (x : JournalEntry) → is_above e x ≡ true → nat_le x.entry.time (time_of (bare made.journal)) ≡ true → is_earlier x e ≡ true
       one x a t = earlier_by x e a (less x.entry.time (time_of (bare made.journal)) e.entry.time t later)
 
+  -- it is behind the newest of its list
+  in_journal : is_journals e ≡ true → follows e made.journal ≡ true
+  in_journal kept = by part g.in_place kept
+    where
+      by : (p : Part) → IsInPlace made e p → is_kept p ≡ true → follows e made.journal ≡ true
+      by OfJournal h k = h
+      by (Notes s c) h k = absurd (let bad : false ≡ true = k in cc)
+      by (Moves s x) h k = absurd (let bad : false ≡ true = k in cc)
+      by OfTime h k = h
+
+  in_source : (s : ℕ) → is_of s part ≡ true → follows e (made.of s) ≡ true
+  in_source s is = by part g.in_place is
+    where
+      by : (p : Part) → IsInPlace made e p → is_of s p ≡ true → follows e (made.of s) ≡ true
+      by OfJournal h k = absurd (let bad : false ≡ true = k in cc)
+      by (Notes t c) h k = subst (λ (u : ℕ). follows e (made.of u) ≡ true) (number_is t s k) h
+      by (Moves t x) h k = subst (λ (u : ℕ). follows e (made.of u) ≡ true) (number_is t s k) h
+      by OfTime h k = absurd (let bad : false ≡ true = k in cc)
+
   -- ---- each fact again
 
   of_journal : JournalPart m (bare after.journal)
@@ -419,8 +438,8 @@ module _ (m : Machine) (made : Made) (e : JournalEntry) (held : Held m made) (g 
     kept = all_put is_journals (is_journals e) e made.journal (λ is. is) held.kept;
     sourced = λ s. all_put (λ x. is_of s (part_of x.entry.kind)) (is_of s part) e (made.of s) (λ is. is) (held.sourced s);
     there = λ who. all_put (λ x. is_there m (part_of x.entry.kind)) (is_same e.entry.actor who) e (made.own who) (λ is. g.there) (held.there who);
-    journal_falls = falls_put (is_journals e) e made.journal g.in_journal held.journal_falls;
-    sources_fall = λ s. falls_put (is_of s part) e (made.of s) (g.in_source s) (held.sources_fall s);
+    journal_falls = falls_put (is_journals e) e made.journal in_journal held.journal_falls;
+    sources_fall = λ s. falls_put (is_of s part) e (made.of s) (in_source s) (held.sources_fall s);
     own_fall = own_fall;
     ticks = all_grown (λ x. nat_lt 0 x.stamp.tick) e made g.tick held.ticks;
     by_now = by_now;

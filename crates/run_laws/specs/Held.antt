@@ -12,7 +12,7 @@ use Rattle.sleep_model.specs.Due.{all_gone}
 use Rattle.sleep_model.specs.Legal.{IsFinishedLog, IsLegalLog, IsStuckLog, JournalPart, JumpStep, is_finished, is_idle, is_there, next_time, waiting}
 use Rattle.sleep_model.specs.Merge.{of_source, position_behind}
 use Rattle.sleep_model.specs.Numbers.{time_of}
-use Rattle.sleep_model.specs.Parts.{part_of}
+use Rattle.sleep_model.specs.Parts.{Part, Notes, Moves, part_of}
 use Rattle.sleep_model.specs.Sources.{is_of, most_entries}
 use Rattle.event_word.specs.Steps.{MadeStep}
 use Rattle.merge_laws.specs.Apart.{AreJumps, is_journals}
@@ -75,6 +75,12 @@ IsInTime made e true = AllOf (is_above e) made
 IsInTime made e false =
     EachJump (λ jump. is_above e jump ≡ true) made.journal × (e.entry.time ≡ time_of (bare made.journal))
 
+-- an entry is behind the newest of its journal, or of its source
+abbrev pub IsInPlace : Made → JournalEntry → Part → Type 0
+IsInPlace made e (Notes s call) = follows e (made.of s) ≡ true
+IsInPlace made e (Moves s step) = follows e (made.of s) ≡ true
+IsInPlace made e _ = follows e made.journal ≡ true
+
 -- an entry may be made: it is its actor's next, legal in its journal or its source, and behind the entries there, its actor's, and the jumps
 pub record IsGrowth (m : Machine) (made : Made) (e : JournalEntry) : Type 0 where
   pub next : IsNext m made e.entry.actor e.entry (part_of e.entry.kind)
@@ -83,8 +89,7 @@ pub record IsGrowth (m : Machine) (made : Made) (e : JournalEntry) : Type 0 wher
   pub of_journal : is_journals e ≡ true → JournalPart m (bare (e ∷ made.journal))
   pub of_jump : jumps e ≡ true → JumpStep m (bare made.journal) (λ s. bare (made.of s)) e.entry.now e.entry.time
   pub tick : nat_lt 0 e.stamp.tick ≡ true
-  pub in_journal : is_journals e ≡ true → follows e made.journal ≡ true
-  pub in_source : (s : ℕ) → is_of s (part_of e.entry.kind) ≡ true → follows e (made.of s) ≡ true
+  pub in_place : IsInPlace made e (part_of e.entry.kind)
   pub own : follows e (made.own e.entry.actor) ≡ true
   pub in_time : IsInTime made e (jumps e)
 
