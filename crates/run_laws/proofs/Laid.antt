@@ -25,7 +25,8 @@ use Rattle.merge_laws.specs.Apart.{is_journals, past_of}
 use Rattle.merge_laws.specs.Fitting.{are_counted, is_look, no_steps, word_from}
 use Rattle.merge_laws.proofs.Lists.{all_append, all_head, all_more, all_order, all_reverse, all_tail, filter_none, filter_reverse}
 use Rattle.merge_laws.proofs.Placing.{number_is, word_is}
-use Rattle.run_laws.specs.Laid.{IsInLine, IsLaid, IsSeenLast, LooksLast, TableLays, is_looked, is_placed, made_in, made_onto}
+use Rattle.run_laws.specs.Laid.{IsInLine, IsLaid, IsSeenLast, LooksLast, TableLays, is_looked, is_placed}
+use Rattle.wakeup_source.specs.Told as told
 
 -- ---- an entry that stands behind all others goes to the end
 
@@ -206,6 +207,27 @@ one_more_step s past xs ys steps x line step now at place top = record {
         (omega (arith, within, longer), word_before no_steps (position word) steps x within ∙ w.1)
 
 -- ---- the steps of each source, the newest first
+
+-- the steps so far, after an entry that found that word
+abbrev made_onto : Option WordKind → EventNow → List MadeStep → List MadeStep
+made_onto None now made = made
+made_onto (Some step) now made = record { step = step; before = now } ∷ made
+
+-- the steps on the word among these entries, the newest first, by the steps that they make
+abbrev made_in : List Entry → List MadeStep
+made_in [] = []
+made_in (e ∷ own) = made_onto (word_step e.kind) e.now (made_in own)
+
+-- a part's step on the word is that of its kind
+step_same : (k : Kind) (now : EventNow) (made : List MadeStep) → told.step_by (part_of k) now made ≡ made_onto (word_step k) now made
+step_same (kind.Start s) now made = refl
+step_same (kind.Finish s) now made = refl
+step_same (kind.Hard s) now made = refl
+step_same k now made = refl
+
+made_same : (own : List Entry) → told.steps_of own ≡ made_in own
+made_same [] = refl
+made_same (e ∷ own) = step_same e.kind e.now (told.steps_of own) ∙ ap (made_onto (word_step e.kind) e.now) (made_same own)
 
 -- what these steps are
 abbrev made_steps : List JournalEntry → List MadeStep
@@ -492,7 +514,7 @@ module _ (made : List (List MadeStep)) (looked : List (List EventNow)) (answer :
 
   is_of : AreOf past (length hs) of
   is_of = record {
-    made = λ k l. back_made (get_or hs k []) ∙ sym (laid.each_made k l) ∙ laid.closed.each_made k (let same : length made ≡ length hs = laid.count in omega (arith, l, same));
+    made = λ k l. back_made (get_or hs k []) ∙ sym (made_same (past_of (map of_source (get_or hs k [])))) ∙ sym (laid.each_made k l) ∙ laid.closed.each_made k (let same : length made ≡ length hs = laid.count in omega (arith, l, same));
     step = λ k l. all_passed is_word_step (reverse (map of_source (get_or hs k [])));
     place = λ k l. all_filter is_placed is_word_step (reverse (map of_source (get_or hs k [])))
         (all_reverse is_placed (map of_source (get_or hs k [])) (placed_at hs k (all_right is_placed journal (sources_entries hs) laid.positions)));

@@ -11,19 +11,10 @@ use Rattle.sleep_model.specs.Numbers.{word_step}
 use Rattle.sleep_model.specs.Word.{position}
 use Rattle.event_word.specs.Histories.{AreClosed}
 use Rattle.event_word.specs.Steps.{MadeStep}
+use Rattle.wakeup_source.specs.Told.{steps_of}
 use Rattle.merge_laws.specs.Apart.{is_journals, last_word, source_past}
 use Rattle.merge_laws.specs.Apart as apart
 use Rattle.merge_laws.specs.Fitting.{are_counted, is_look, no_steps}
-
--- the steps so far, after an entry that found that word (wakeup_source_activate, wakeup_source_deactivate)
-abbrev pub made_onto : Option WordKind → EventNow → List MadeStep → List MadeStep
-made_onto None now made = made
-made_onto (Some step) now made = record { step = step; before = now } ∷ made
-
--- the steps on the word among these entries, the newest first, each with the word before it
-abbrev pub made_in : List Entry → List MadeStep
-made_in [] = []
-made_in (e ∷ own) = made_onto (word_step e.kind) e.now (made_in own)
 
 -- one of the seats looked at the word
 abbrev pub was_seen : List (List EventNow) → EventNow → Bool
@@ -43,7 +34,7 @@ pub record IsLaid
     (journal : List JournalEntry) (histories : List (List SourceEntry)) : Type 0 where
   pub closed : AreClosed made looked answer
   pub count : length made ≡ length histories
-  pub each_made : (s : ℕ) → s < length histories → slice_index_or made s [] ≡ made_in (source_past histories s)
+  pub each_made : (s : ℕ) → s < length histories → slice_index_or made s [] ≡ steps_of (source_past histories s)
   pub kept : list_all is_journals journal ≡ true
   pub looks : list_all (is_looked looked) (all_entries journal histories) ≡ true
   pub positions : list_all is_placed (all_entries journal histories) ≡ true

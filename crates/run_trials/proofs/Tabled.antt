@@ -3,7 +3,8 @@ use Rattle.std.proofs.Common.{◌≡◌, ◌<◌, ℕ, zero, suc, List, [], ◌�
 use Rattle.sleep_model.specs.declared.word.WordKind.TheVariants as step
 use Rattle.event_word.specs.Histories.{AreClosed, SourceStep, steps_of}
 use Rattle.merge_laws.specs.Apart.{source_past}
-use Rattle.run_laws.specs.Laid.{IsLaid, made_in}
+use Rattle.run_laws.specs.Laid.{IsLaid}
+use Rattle.wakeup_source.specs.Told as told
 use Rattle.run_trials.specs.Broken.{asleep, begun, looks, made_start}
 use Rattle.log_trials.specs.Terms.{word}
 
@@ -15,7 +16,7 @@ each_made zero less = refl
 each_made (suc zero) less = refl
 each_made (suc (suc n)) less = absurd (omega (arith, less))
 
-each_history : (source : ℕ) → source < 2 → slice_index_or made_start source [] ≡ made_in (source_past begun source)
+each_history : (source : ℕ) → source < 2 → slice_index_or made_start source [] ≡ told.steps_of (source_past begun source)
 each_history zero less = refl
 each_history (suc zero) less = refl
 each_history (suc (suc n)) less = absurd (omega (arith, less))
