@@ -1,13 +1,10 @@
 -- What the closed table of the event word says of the journal and the histories whose makers looked and stepped there (own).
-use Rattle.std.specs.Prelude.{◌≡◌, ℕ, ◌<◌, Bool, true, ◌||◌, ◌==◌, nat_le, List, [], ◌∷◌, length, map, Option, Some, None, slice_index_or}
+use Rattle.std.specs.Prelude.{◌≡◌, ℕ, ◌<◌, Bool, true, ◌||◌, ◌==◌, nat_le, List, [], length, map, slice_index_or}
 use Rattle.std.specs.List.{list_all, list_any}
 use Rattle.sleep_model.specs.declared.word.EventNow.{EventNow}
-use Rattle.sleep_model.specs.declared.word.WordKind.{WordKind}
-use Rattle.sleep_model.specs.declared.entry.Entry.{Entry}
 use Rattle.sleep_model.specs.declared.entry.JournalEntry.{JournalEntry}
 use Rattle.sleep_model.specs.declared.entry.SourceEntry.{SourceEntry}
 use Rattle.sleep_model.specs.Merge.{all_entries, is_chained, is_word, is_word_step, of_source, position_behind}
-use Rattle.sleep_model.specs.Numbers.{word_step}
 use Rattle.sleep_model.specs.Word.{position}
 use Rattle.event_word.specs.Histories.{AreClosed}
 use Rattle.event_word.specs.Steps.{MadeStep}

@@ -1,6 +1,7 @@
 //! What the lists of a run by workers say of its one log, from what each keeper knows by itself.
 
 ghost use Rattle.run_laws.specs.Acts.{ActsAreSteps};
+ghost use Rattle.run_laws.specs.Called.{CallGrows};
 ghost use Rattle.run_laws.specs.Held.{HeldEnds, HeldGrows, HeldTells, NothingIsHeld};
 ghost use Rattle.run_laws.specs.Jobs.{JobsFollow, JobsTell, SettledIsFree};
 ghost use Rattle.run_laws.specs.Laid.{LooksLast, TableLays};
@@ -60,4 +61,10 @@ pub fn jobs_tell_what_is_next()
 /// Where no source is owed a step, nobody is inside a call.
 pub fn settled_sources_free_all()
     ensures { SettledIsFree }
+{}
+
+/// A whole call on a source, which is its caller's next and knows its own newest entry and each jump, leaves
+/// all known again: its note, and each step behind it.
+pub fn calls_keep_all_known()
+    ensures { CallGrows }
 {}
