@@ -204,7 +204,7 @@ not_its true c e = e
 not_its false c e = refl
 
 -- an entry of another neither begins nor ends a call of the actor
-other_calls : (who : Actor) (own : List Entry) (x : Entry) → SourceStep own x.time x.actor (part_of x.kind) → is_same x.actor who ≡ false → calls_in who (x ∷ own) ≡ calls_in who own
+pub other_calls : (who : Actor) (own : List Entry) (x : Entry) → SourceStep own x.time x.actor (part_of x.kind) → is_same x.actor who ≡ false → calls_in who (x ∷ own) ≡ calls_in who own
 other_calls who own x may other = by (part_of x.kind) may
   where
     noted : (t : ℕ) (c : SourceCall) → owed own ≡ [] → (is_left (owed_after (Notes t c) (since own) (owed own)) && is_actor who (caller_after (Notes t c) x.actor (caller own))) ≡ calls_in who own
@@ -221,14 +221,14 @@ other_calls who own x may other = by (part_of x.kind) may
         not_its (is_left (behind_first (owed own))) (is_actor who (caller own)) its ∙ sym (not_its (is_left (owed own)) (is_actor who (caller own)) its)
     by OfTime h = refl
 
-history_top : (who : Actor) (k : ℕ) (own : List Entry) → length (own_of who own) ≤ k → history_after who k own ≡ own
+pub history_top : (who : Actor) (k : ℕ) (own : List Entry) → length (own_of who own) ≤ k → history_after who k own ≡ own
 history_top who k [] l = refl
 history_top who k (e ∷ own) l =
     let here : nat_le (length (own_of who (e ∷ own))) k ≡ true = grind (arith, nat_tests) in
     ap (λ (b : Bool). cond b (e ∷ own) (history_after who k own)) here
 
 -- a further entry of a source leaves what its actors called behind those before it
-history_earlier : (who : Actor) (k : ℕ) (e : Entry) (own : List Entry) → SourceStep own e.time e.actor (part_of e.kind) → k ≤ length (own_of who own)
+pub history_earlier : (who : Actor) (k : ℕ) (e : Entry) (own : List Entry) → SourceStep own e.time e.actor (part_of e.kind) → k ≤ length (own_of who own)
     → calls_in who (history_after who k (e ∷ own)) ≡ calls_in who (history_after who k own)
 history_earlier who k e own may l = by (is_same e.actor who) refl (nat_le (length (own_of who (e ∷ own))) k) refl
   where
@@ -265,7 +265,7 @@ inside_kept whole e past legal h who s k l = by (is_of s (part_of e.kind)) refl
         let same : history s (e ∷ past) ≡ history s past = ap (λ (b : Bool). cond b (e ∷ history s past) (history s past)) is in
         h who s k (subst (λ (j : List Entry). k ≤ length (own_of who j)) (sym same) l) ∙ ap (λ (j : List Entry). calls_in who (history_after who k j)) same
 
-same_calling : (n : ℕ) (of other : ℕ → List Entry) (who : Actor) → ((s : ℕ) → calls_in who (of s) ≡ calls_in who (other s)) → is_calling n of who ≡ is_calling n other who
+pub same_calling : (n : ℕ) (of other : ℕ → List Entry) (who : Actor) → ((s : ℕ) → calls_in who (of s) ≡ calls_in who (other s)) → is_calling n of who ≡ is_calling n other who
 same_calling zero of other who h = refl
 same_calling (suc n) of other who h = ap₂ (λ (a b : Bool). a || b) (h n) (same_calling n of other who h)
 

@@ -1,0 +1,6 @@
+pub mod Acts
+pub mod Called
+pub mod Held
+pub mod Jobs
+pub mod Laid
+pub mod Told

@@ -1,0 +1,5 @@
+pub mod Acts
+pub mod Called
+pub mod Held
+pub mod Jobs
+pub mod Laid

@@ -1,0 +1,70 @@
+//! What the lists of a run by workers say of its one log, from what each keeper knows by itself.
+
+ghost use Rattle.run_laws.specs.Acts.{ActsAreSteps};
+ghost use Rattle.run_laws.specs.Called.{CallGrows};
+ghost use Rattle.run_laws.specs.Held.{HeldEnds, HeldGrows, HeldTells, NothingIsHeld};
+ghost use Rattle.run_laws.specs.Jobs.{JobsFollow, JobsTell, SettledIsFree};
+ghost use Rattle.run_laws.specs.Laid.{LooksLast, TableLays};
+
+/// Where the table of the word is closed, each source's seat made the steps of its history, and each look
+/// was one of a seat, all steps have positions without a gap and chain, each look saw a word between two of
+/// them, and the closing tells the last word.
+pub fn closed_table_lays_the_word()
+    ensures { TableLays }
+{}
+
+/// One more entry, by the journal, the sources' histories and its actor's own entries its actor's next,
+/// leaves each entry of each actor its step: what others add changes nothing of it.
+pub fn acts_are_steps()
+    ensures { ActsAreSteps }
+{}
+
+/// Of nothing made all is known.
+pub fn nothing_is_held()
+    ensures { NothingIsHeld }
+{}
+
+/// What is known of all that was made is known again after each entry that may be made: jumps stay held,
+/// each entry keeps its side of each, and each list goes on falling.
+pub fn what_is_held_grows()
+    ensures { HeldGrows }
+{}
+
+/// With the closed table of the word, what is known at the end is all that
+/// `kept_lists_merge_to_a_legal_log` asks of the journal and the histories.
+pub fn what_is_held_merges()
+    ensures { HeldTells }
+{}
+
+/// A look at a word that is at or above every source's floor saw the last word.
+pub fn last_look_saw_the_last_word()
+    ensures { LooksLast }
+{}
+
+/// What is known at the end makes the merge a legal log; where the run is over, or nobody goes on, by all
+/// that was made and the last word that was seen, a finished or a stuck one.
+pub fn what_is_held_ends()
+    ensures { HeldEnds }
+{}
+
+/// The job of an actor follows each entry: another's leaves it, a turn of its own and a call bring it on,
+/// and the steps of a call leave it.
+pub fn jobs_follow_all_that_was_made()
+    ensures { JobsFollow }
+{}
+
+/// What a job wants, whose actor is inside no call, is the next that its actor makes.
+pub fn jobs_tell_what_is_next()
+    ensures { JobsTell }
+{}
+
+/// Where no source is owed a step, nobody is inside a call.
+pub fn settled_sources_free_all()
+    ensures { SettledIsFree }
+{}
+
+/// A whole call on a source, which is its caller's next and knows its own newest entry and each jump, leaves
+/// all known again: its note, and each step behind it.
+pub fn calls_keep_all_known()
+    ensures { CallGrows }
+{}

@@ -1,0 +1,12 @@
+//! The laws of a run by workers: what each of them knows by itself is what the law of the one log asks
+//! (own: Linux keeps no such log). No program stands on it yet.
+#![tactic(auto)]
+
+mod laws;
+
+pub use laws::{
+    acts_are_steps, calls_keep_all_known, closed_table_lays_the_word,
+    jobs_follow_all_that_was_made, jobs_tell_what_is_next, last_look_saw_the_last_word,
+    nothing_is_held, settled_sources_free_all, what_is_held_ends, what_is_held_grows,
+    what_is_held_merges,
+};

@@ -1,0 +1,50 @@
+//! Worked logs by which the laws of a run are tried: their entries may be made one after another, and
+//! broken ones may not. No program stands on it.
+#![tactic(auto)]
+
+ghost use Rattle.run_laws.specs.Laid.{IsLaid, IsSeenLast};
+ghost use Rattle.run_trials.specs.Broken.{asleep, begun, first_of, jump_one_source_short, jump_too_far, looks, made_nothing, made_start, older_looks, sleep_at_an_older_word, sleep_in_the_call, slept_too_early, start_of_another, start_too_early};
+ghost use Rattle.run_trials.specs.Tests.{IsTestedRun, Tested, TestsTellHeld};
+ghost use Rattle.log_trials.specs.Attempts.{callback_reports_entries, callback_reports_machine, hard_event_entries, hard_event_machine};
+ghost use Rattle.log_trials.specs.Terms.{word};
+ghost use Rattle.log_trials.specs.Timers.{event_expires_entries, event_expires_machine};
+
+/// What one worker makes may be made, entry by entry: events with a length and three jumps, a hard event
+/// in an attempt, reports of a callback.
+pub fn worked_logs_may_be_made()
+    ensures expiry { IsTestedRun event_expires_machine event_expires_entries }
+    ensures hard { IsTestedRun hard_event_machine hard_event_entries }
+    ensures report { IsTestedRun callback_reports_machine callback_reports_entries }
+{}
+
+/// Of what passes the tests all is known that `what_is_held_merges` asks.
+pub fn tests_tell_what_is_held()
+    ensures { TestsTellHeld }
+{}
+
+/// These may not be made: a turn inside a call; a step of another's call; an entry with its actor's last
+/// tick, and one at the position before its actor's step; a jump whose maker's floor is one source short,
+/// and one too far; an entry at the time before a jump.
+pub fn broken_entries_may_not_be_made()
+    ensures in_the_call { Tested event_expires_machine (first_of 13) sleep_in_the_call → ⊥ }
+    ensures of_another { Tested event_expires_machine (first_of 13) start_of_another → ⊥ }
+    ensures same_tick { Tested event_expires_machine (first_of 13) start_too_early → ⊥ }
+    ensures older_word { Tested event_expires_machine (first_of 12) sleep_at_an_older_word → ⊥ }
+    ensures short { Tested event_expires_machine (first_of 3) jump_one_source_short → ⊥ }
+    ensures far { Tested event_expires_machine (first_of 11) jump_too_far → ⊥ }
+    ensures old_time { Tested event_expires_machine (first_of 10) slept_too_early → ⊥ }
+{}
+
+/// The table of one start lays it; one that lacks the start lays nothing, nor does one whose machine never
+/// saw the word behind it.
+pub fn a_table_lays_its_steps()
+    ensures laid { IsLaid made_start looks (word 1 0 0) asleep begun }
+    ensures lacks { IsLaid made_nothing looks (word 1 0 0) asleep begun → ⊥ }
+    ensures unseen { IsLaid made_start older_looks (word 1 0 0) asleep begun → ⊥ }
+{}
+
+/// The look behind the start saw the last word, and the look before it did not.
+pub fn the_last_look_is_behind_all()
+    ensures last { IsSeenLast looks begun (word 1 0 0) }
+    ensures older { IsSeenLast looks begun (word 0 0 0) → ⊥ }
+{}
