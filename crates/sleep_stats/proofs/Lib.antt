@@ -1,4 +1,4 @@
 pub mod Certifying
 pub mod Chaining
 pub mod Leveling
-pub mod Linking
+pub mod Standing

@@ -6,7 +6,7 @@ ghost use Rattle.sleep_model.specs.Accepted.{IsAccepted};
 ghost use Rattle.sleep_model.specs.Order.{parents_of};
 ghost use Rattle.device_links.specs.Passes.{CanStand};
 ghost use Rattle.sleep_stats.specs.Chains.{are_levels, is_certified, is_chain, is_level, level_at, may_follow};
-ghost use Rattle.sleep_stats.specs.Linked.{last_linked, last_links};
+ghost use Rattle.sleep_stats.specs.Linked.{added_links, last_linked};
 
 use crate::chain::Chain;
 use crate::levels::level_at;
@@ -80,7 +80,7 @@ fn are_levels(links: &Links, levels: &[u32], most: usize) -> bool
 /// longer.
 pub fn certified(alloc: Global, machine: &Machine, log: &Log, chain: &Chain) -> Result<bool, Mem>
     requires accepted { IsAccepted machine.now }
-    requires stand { CanStand (parents_of machine.now.devices) (last_links machine.now log.now) }
+    requires stand { CanStand (parents_of machine.now.devices) (added_links machine.now log.now) }
     ensures { IfOk result (λ sure. sure ≡ is_certified (last_linked machine.now log.now) chain.now) }
 {
     let links = last_linked(alloc, machine, log)?;

@@ -5,7 +5,7 @@ ghost use Rattle.sleep_model.specs.Accepted.{IsAccepted};
 ghost use Rattle.sleep_model.specs.Order.{parents_of};
 ghost use Rattle.device_links.specs.Passes.{CanStand};
 ghost use Rattle.sleep_stats.specs.Chains.{AreLevels, IsLed, IsLongest, is_chain, level_at};
-ghost use Rattle.sleep_stats.specs.Linked.{last_linked, last_links};
+ghost use Rattle.sleep_stats.specs.Linked.{added_links, last_linked};
 
 use crate::levels::{first_at, greatest, level_at, levels_of};
 use crate::linked::last_linked;
@@ -61,7 +61,7 @@ fn longest_by(alloc: Global, links: &Links, levels: &[u32]) -> Result<Vec<u32>, 
 /// The longest chain of devices at a log's end.
 pub fn longest(alloc: Global, machine: &Machine, log: &Log) -> Result<Chain, Mem>
     requires accepted { IsAccepted machine.now }
-    requires stand { CanStand (parents_of machine.now.devices) (last_links machine.now log.now) }
+    requires stand { CanStand (parents_of machine.now.devices) (added_links machine.now log.now) }
     ensures { IfOk result (λ c. IsLongest (last_linked machine.now log.now) c) }
 {
     let links = last_linked(alloc, machine, log)?;
