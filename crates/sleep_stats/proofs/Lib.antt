@@ -1,0 +1,4 @@
+pub mod Certifying
+pub mod Chaining
+pub mod Leveling
+pub mod Standing

@@ -1,0 +1,4 @@
+pub mod Chains
+pub mod Counting
+pub mod Linked
+pub mod States

@@ -1,0 +1,18 @@
+-- The states of links by their ends, as they are kept.
+use Rattle.std.specs.Prelude.{◌≡◌, ℕ, Bool, List, Option, None}
+use Rattle.sleep_model.specs.declared.entry.Entry.{Entry}
+use Rattle.sleep_model.specs.declared.entry.Kind.{Kind}
+use Rattle.sleep_stats.specs.declared.linked.Ends.{Ends}
+use Rattle.sleep_stats.specs.Linked.{state_after, state_by}
+
+-- the ends of a link
+abbrev pub ends : ℕ → ℕ → Ends
+ends supplier consumer = record { supplier = supplier; consumer = consumer }
+
+-- an entry's part was taken in the states
+abbrev pub AreSet : (Ends → Option Bool) → (Ends → Option Bool) → Kind → Type 0
+AreSet old new what = (s c : ℕ) → new (ends s c) ≡ state_after what s c (old (ends s c))
+
+-- each state is the last that these entries set
+abbrev pub AreLast : List Entry → (Ends → Option Bool) → Type 0
+AreLast entries at = (s c : ℕ) → at (ends s c) ≡ state_by None entries s c

@@ -1,0 +1,89 @@
+//! Whether a chain and levels show that no chain is longer.
+
+ghost use Rattle.std.specs.Prelude.{◌≡◌, nat_lt, IfOk, length};
+ghost use Rattle.std.specs.List.{list_all};
+ghost use Rattle.sleep_model.specs.Accepted.{IsAccepted};
+ghost use Rattle.sleep_model.specs.Order.{parents_of};
+ghost use Rattle.device_links.specs.Passes.{CanStand};
+ghost use Rattle.sleep_stats.specs.Chains.{are_levels, is_certified, is_chain, is_level, level_at, may_follow};
+ghost use Rattle.sleep_stats.specs.Linked.{added_links, last_linked};
+
+use crate::chain::Chain;
+use crate::levels::level_at;
+use crate::linked::last_linked;
+use device_links::Links;
+use sleep_base::Mem;
+use sleep_model::{Log, Machine};
+use std::alloc::Global;
+
+/// Whether a device may follow in a chain.
+fn may_follow(links: &Links, count: usize, before: Option<u32>, device: u32) -> bool
+    requires { count ≡ length links.now.parents }
+    ensures { result ≡ may_follow links.now before device }
+{
+    match before {
+        Some(before) => links.below(before).contains(&device),
+        None => (device as usize) < count,
+    }
+}
+
+/// Whether the devices are a chain.
+fn is_chain(links: &Links, devices: &[u32]) -> bool
+    ensures { result ≡ is_chain links.now devices.now }
+{
+    let count = links.order().len();
+    let mut before = None;
+    for device in devices {
+        if !may_follow(links, count, before, *device) {
+            return false;
+        }
+        before = Some(*device);
+    }
+    true
+}
+
+/// Whether each of these devices has a lower level.
+fn are_lower(levels: &[u32], devices: &[u32], level: u32) -> bool
+    ensures { result ≡ list_all (λ e. nat_lt (level_at levels.now e) level) devices.now }
+{
+    devices
+        .iter()
+        .all(|device| level_at(levels, *device) < level)
+}
+
+/// Whether a device's level is 1 to so many, and greater than that of each device right above it.
+fn is_level(links: &Links, levels: &[u32], most: usize, device: u32) -> bool
+    ensures { result ≡ is_level links.now levels.now most device }
+{
+    let level = level_at(levels, device);
+    1 <= level && level as usize <= most && are_lower(levels, links.above(device), level)
+}
+
+/// Whether each of these devices has such a level.
+fn have_levels(links: &Links, levels: &[u32], most: usize, devices: &[u32]) -> bool
+    ensures { result ≡ list_all (is_level links.now levels.now most) devices.now }
+{
+    devices
+        .iter()
+        .all(|device| is_level(links, levels, most, *device))
+}
+
+/// Whether these are the levels of all devices, up to so many.
+fn are_levels(links: &Links, levels: &[u32], most: usize) -> bool
+    ensures { result ≡ are_levels links.now levels.now most }
+{
+    let order = links.order();
+    levels.len() == order.len() && have_levels(links, levels, most, order)
+}
+
+/// Whether the chain is one at the log's end, and the levels are those of all devices, up to its length, so that no chain is
+/// longer.
+pub fn certified(alloc: Global, machine: &Machine, log: &Log, chain: &Chain) -> Result<bool, Mem>
+    requires accepted { IsAccepted machine.now }
+    requires stand { CanStand (parents_of machine.now.devices) (added_links machine.now log.now) }
+    ensures { IfOk result (λ sure. sure ≡ is_certified (last_linked machine.now log.now) chain.now) }
+{
+    let links = last_linked(alloc, machine, log)?;
+    let devices = chain.devices.as_slice();
+    Ok(is_chain(&links, devices) && are_levels(&links, chain.levels.as_slice(), devices.len()))
+}

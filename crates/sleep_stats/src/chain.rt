@@ -1,0 +1,74 @@
+//! The longest chain of devices, each right below the one before.
+
+ghost use Rattle.std.specs.Prelude.{◌≡◌, ◌<◌, true, IfOk, length};
+ghost use Rattle.sleep_model.specs.Accepted.{IsAccepted};
+ghost use Rattle.sleep_model.specs.Order.{parents_of};
+ghost use Rattle.device_links.specs.Passes.{CanStand};
+ghost use Rattle.sleep_stats.specs.Chains.{AreLevels, IsLed, IsLongest, is_chain, level_at};
+ghost use Rattle.sleep_stats.specs.Linked.{added_links, last_linked};
+
+use crate::levels::{first_at, greatest, level_at, levels_of};
+use crate::linked::last_linked;
+use device_links::{DevList, Links};
+use device_rows::Stack;
+use sleep_base::Mem;
+use sleep_model::{Log, Machine};
+use std::alloc::Global;
+
+/// A chain of devices, each right below the one before, and the level of each device of the machine, in the order of
+/// registration.
+#[derive(Debug, Drop)]
+pub struct Chain {
+    pub devices: DevList,
+    pub levels: DevList,
+}
+
+/// The chain that leads to a device, before which each time stands the first registered of those right above, of a level one
+/// less.
+fn chain_to(alloc: Global, links: &Links, levels: &[u32], end: u32) -> Result<Vec<u32>, Mem>
+    requires levels { AreLevels links.now levels.now }
+    requires device { end < length links.now.parents }
+    ensures chain { IfOk result (λ v. is_chain links.now v.items ≡ true) }
+    ensures led { IfOk result (λ v. IsLed links.now levels.now end v.items) }
+    ensures long { IfOk result (λ v. length v.items ≡ level_at levels.now end) }
+{
+    let mut chain = Stack::new(alloc);
+    let mut first = end;
+    chain.push(end)?;
+    for level in (1..level_at(levels, end)).rev() {
+        match first_at(levels, level, links.above(first)) {
+            Some(device) => first = device,
+            None => unreachable!(),
+        }
+        chain.push(first)?;
+    }
+    Ok(chain.into_vec())
+}
+
+/// The longest chain, by the levels of all devices: it leads to the first registered of those with the greatest level.
+fn longest_by(alloc: Global, links: &Links, levels: &[u32]) -> Result<Vec<u32>, Mem>
+    requires { AreLevels links.now levels.now }
+    ensures { IfOk result (λ v. IsLongest links.now (record { devices = v.items; levels = levels.now })) }
+{
+    let order = links.order();
+    let top = greatest(levels, order);
+    match first_at(levels, top, order) {
+        Some(end) => chain_to(alloc, links, levels, end),
+        None => Ok(Vec::new(alloc)),
+    }
+}
+
+/// The longest chain of devices at a log's end.
+pub fn longest(alloc: Global, machine: &Machine, log: &Log) -> Result<Chain, Mem>
+    requires accepted { IsAccepted machine.now }
+    requires stand { CanStand (parents_of machine.now.devices) (added_links machine.now log.now) }
+    ensures { IfOk result (λ c. IsLongest (last_linked machine.now log.now) c) }
+{
+    let links = last_linked(alloc, machine, log)?;
+    let levels = levels_of(alloc, &links)?;
+    let devices = longest_by(alloc, &links, &levels)?;
+    Ok(Chain {
+        devices: DevList::of_vec(devices),
+        levels: DevList::of_vec(levels),
+    })
+}
