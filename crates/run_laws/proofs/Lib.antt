@@ -4,3 +4,4 @@ pub mod Held
 pub mod Jobs
 pub mod Laid
 pub mod Told
+pub mod Turned

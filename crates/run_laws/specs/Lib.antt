@@ -3,3 +3,4 @@ pub mod Called
 pub mod Held
 pub mod Jobs
 pub mod Laid
+pub mod Turned

@@ -5,6 +5,7 @@ ghost use Rattle.run_laws.specs.Called.{CallGrows};
 ghost use Rattle.run_laws.specs.Held.{HeldEnds, HeldGrows, HeldTells, NothingIsHeld};
 ghost use Rattle.run_laws.specs.Jobs.{JobsFollow, JobsTell, SettledIsFree};
 ghost use Rattle.run_laws.specs.Laid.{LooksLast, TableLays};
+ghost use Rattle.run_laws.specs.Turned.{LeapGrows, TurnGrows};
 
 /// Where the table of the word is closed, each source's seat made the steps of its history, and each look
 /// was one of a seat, all steps have positions without a gap and chain, each look saw a word between two of
@@ -67,4 +68,15 @@ pub fn settled_sources_free_all()
 /// all known again: its note, and each step behind it.
 pub fn calls_keep_all_known()
     ensures { CallGrows }
+{}
+
+/// A turn of the machine by an actor that has made all its calls, behind what it and the journal last knew,
+/// leaves all known again.
+pub fn turns_keep_all_known()
+    ensures { TurnGrows }
+{}
+
+/// A jump of time behind all that was made, where nobody can make anything, leaves all known again.
+pub fn jumps_keep_all_known()
+    ensures { LeapGrows }
 {}
