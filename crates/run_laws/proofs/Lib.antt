@@ -3,5 +3,6 @@ pub mod Called
 pub mod Held
 pub mod Jobs
 pub mod Laid
+pub mod Seated
 pub mod Told
 pub mod Turned

@@ -3,4 +3,5 @@ pub mod Called
 pub mod Held
 pub mod Jobs
 pub mod Laid
+pub mod Seated
 pub mod Turned
