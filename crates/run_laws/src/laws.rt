@@ -5,6 +5,7 @@ ghost use Rattle.run_laws.specs.Called.{CallGrows};
 ghost use Rattle.run_laws.specs.Held.{HeldEnds, HeldGrows, HeldTells, NothingIsHeld};
 ghost use Rattle.run_laws.specs.Jobs.{JobsFollow, JobsTell, SettledIsFree};
 ghost use Rattle.run_laws.specs.Laid.{LooksLast, TableLays};
+ghost use Rattle.run_laws.specs.Passes.{LogSaysWho};
 ghost use Rattle.run_laws.specs.Seated.{SeatKeeps, SeatsLay, WatchKeeps};
 ghost use Rattle.run_laws.specs.Turned.{LeapGrows, TurnGrows};
 
@@ -97,4 +98,10 @@ pub fn turns_keep_the_watch()
 /// At the closed table, what each source and the machine keep beside their seats lays all steps.
 pub fn seats_lay_the_table()
     ensures { SeatsLay }
+{}
+
+/// Where the table of locks is closed, and each pass made entries of one actor alone, a journal has gained of
+/// each actor what its pass made, each entry with the journal before it.
+pub fn log_says_who<V, R>()
+    ensures { LogSaysWho V R }
 {}
