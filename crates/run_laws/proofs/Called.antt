@@ -54,11 +54,11 @@ same_number s = grind (arith, nat_tests)
 
 -- ---- stamps
 
-above : (t t' p p' : ℕ) → nat_le t t' && nat_le p p' ≡ true → (u q : ℕ) → t' < u → p' ≤ q → nat_lt t u && nat_le p q ≡ true
+pub above : (t t' p p' : ℕ) → nat_le t t' && nat_le p p' ≡ true → (u q : ℕ) → t' < u → p' ≤ q → nat_lt t u && nat_le p q ≡ true
 above t t' p p' h u q a b = grind (arith, nat_tests)
 
 -- an entry whose stamp is behind what was known follows
-follows_known : (floor : Stamp) (l : List JournalEntry) (e : JournalEntry) → knows floor l ≡ true → floor.tick < e.stamp.tick → floor.pos ≤ e.stamp.pos → follows e l ≡ true
+pub follows_known : (floor : Stamp) (l : List JournalEntry) (e : JournalEntry) → knows floor l ≡ true → floor.tick < e.stamp.tick → floor.pos ≤ e.stamp.pos → follows e l ≡ true
 follows_known floor [] e h t p = refl
 follows_known floor (x ∷ l) e h t p = above x.stamp.tick floor.tick (position_behind x) floor.pos h e.stamp.tick e.stamp.pos t p
 
@@ -123,7 +123,7 @@ record Going (m : Machine) (first made : Made) (by : CallBy) (source : SourceSta
   calls : caller (bare (made.of source.id)) ≡ Some by.actor
   behind : is_behind source.id by.actor (bare (made.own by.actor)) ≡ true
 
-above_jumps : (floor : Stamp) (e : JournalEntry) (l : List JournalEntry) → floor.tick < e.stamp.tick → floor.pos ≤ e.stamp.pos
+pub above_jumps : (floor : Stamp) (e : JournalEntry) (l : List JournalEntry) → floor.tick < e.stamp.tick → floor.pos ≤ e.stamp.pos
     → EachJump (λ jump. knows floor (jump ∷ []) ≡ true) l → EachJump (λ jump. is_above e jump ≡ true) l
 above_jumps floor e l t p h =
     each_by (λ jump. knows floor (jump ∷ []) ≡ true) (λ jump. is_above e jump ≡ true) l
@@ -148,7 +148,7 @@ step_number_step s x e is = ap (λ (n : ℕ). e.stamp.pos + n) (one x is)
     one step.Finish is = rw is refl
     one step.Hard is = rw is refl
 
-knows_itself : (e : JournalEntry) (l : List JournalEntry) (floor : Stamp) → e.stamp.tick ≡ floor.tick → position_behind e ≡ floor.pos → knows floor (e ∷ l) ≡ true
+pub knows_itself : (e : JournalEntry) (l : List JournalEntry) (floor : Stamp) → e.stamp.tick ≡ floor.tick → position_behind e ≡ floor.pos → knows floor (e ∷ l) ≡ true
 knows_itself e l floor t p = both (nat_le e.stamp.tick floor.tick) (nat_le (position_behind e) floor.pos) (same e.stamp.tick floor.tick t) (same (position_behind e) floor.pos p)
   where
     same : (a b : ℕ) → a ≡ b → nat_le a b ≡ true

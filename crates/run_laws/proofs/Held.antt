@@ -38,7 +38,7 @@ all_grown q e made is h = (
   λ s. all_put q (is_of s (part_of e.entry.kind)) e (made.of s) (λ b. is) (h.1 s),
 )
 
-all_so : (p q : JournalEntry → Bool) (made : Made) → ((e : JournalEntry) → p e ≡ true → q e ≡ true) → AllOf p made → AllOf q made
+pub all_so : (p q : JournalEntry → Bool) (made : Made) → ((e : JournalEntry) → p e ≡ true → q e ≡ true) → AllOf p made → AllOf q made
 all_so p q made f h = (all_weaker p q made.journal f h.0, λ s. all_weaker p q (made.of s) f (h.1 s))
 
 pub each_by : (P Q : JournalEntry → Type 0) (l : List JournalEntry) → ((e : JournalEntry) → P e → Q e) → EachJump P l → EachJump Q l

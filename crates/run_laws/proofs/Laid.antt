@@ -167,7 +167,7 @@ least a n h = grind (arith, nat_tests)
 same_number : (a b : ℕ) → a ≡ b → (a == b) ≡ true
 same_number a b h = grind (arith, nat_tests)
 
-same_word : (a b : EventNow) → a ≡ b → is_word a b ≡ true
+pub same_word : (a b : EventNow) → a ≡ b → is_word a b ≡ true
 same_word a b h =
     both ((a.inpr == b.inpr) && (a.count == b.count)) (a.hard == b.hard)
     (both (a.inpr == b.inpr) (a.count == b.count) (same_number a.inpr b.inpr (ap (λ (w : EventNow). w.inpr) h)) (same_number a.count b.count (ap (λ (w : EventNow). w.count) h)))
@@ -409,7 +409,7 @@ line (s ∷ past) n of below placed top a = by (line past n (without s.source ne
 abbrev steps_back : List SourceEntry → List JournalEntry
 steps_back history = filter is_word_step (reverse (map of_source history))
 
-kept_still : (k : Kind) → is_kept (part_of k) ≡ true → is_some (word_step k) ≡ false
+pub kept_still : (k : Kind) → is_kept (part_of k) ≡ true → is_some (word_step k) ≡ false
 kept_still (kind.Start s) h = absurd (cc)
 kept_still (kind.Finish s) h = absurd (cc)
 kept_still (kind.Hard s) h = absurd (cc)

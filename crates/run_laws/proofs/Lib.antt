@@ -3,4 +3,7 @@ pub mod Called
 pub mod Held
 pub mod Jobs
 pub mod Laid
+pub mod Passes
+pub mod Seated
 pub mod Told
+pub mod Turned

@@ -5,6 +5,9 @@ ghost use Rattle.run_laws.specs.Called.{CallGrows};
 ghost use Rattle.run_laws.specs.Held.{HeldEnds, HeldGrows, HeldTells, NothingIsHeld};
 ghost use Rattle.run_laws.specs.Jobs.{JobsFollow, JobsTell, SettledIsFree};
 ghost use Rattle.run_laws.specs.Laid.{LooksLast, TableLays};
+ghost use Rattle.run_laws.specs.Passes.{LogSaysWho};
+ghost use Rattle.run_laws.specs.Seated.{SeatKeeps, SeatsLay, WatchKeeps};
+ghost use Rattle.run_laws.specs.Turned.{LeapGrows, TurnGrows};
 
 /// Where the table of the word is closed, each source's seat made the steps of its history, and each look
 /// was one of a seat, all steps have positions without a gap and chain, each look saw a word between two of
@@ -67,4 +70,38 @@ pub fn settled_sources_free_all()
 /// all known again: its note, and each step behind it.
 pub fn calls_keep_all_known()
     ensures { CallGrows }
+{}
+
+/// A turn of the machine by an actor that has made all its calls, behind what it and the journal last knew,
+/// leaves all known again.
+pub fn turns_keep_all_known()
+    ensures { TurnGrows }
+{}
+
+/// A jump of time behind all that was made, where nobody can make anything, leaves all known again.
+pub fn jumps_keep_all_known()
+    ensures { LeapGrows }
+{}
+
+/// A call on a source leaves its seat's steps those of the source, and each note's word one that its seat
+/// looked at.
+pub fn calls_keep_their_seat()
+    ensures { SeatKeeps }
+{}
+
+/// An entry of the journal by the word that the machine looked at last leaves each word there one that it
+/// looked at.
+pub fn turns_keep_the_watch()
+    ensures { WatchKeeps }
+{}
+
+/// At the closed table, what each source and the machine keep beside their seats lays all steps.
+pub fn seats_lay_the_table()
+    ensures { SeatsLay }
+{}
+
+/// Where the table of locks is closed, and each pass made entries of one actor alone, a journal has gained of
+/// each actor what its pass made, each entry with the journal before it.
+pub fn log_says_who<V, R>()
+    ensures { LogSaysWho V R }
 {}

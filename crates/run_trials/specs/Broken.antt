@@ -6,8 +6,10 @@ use Rattle.sleep_model.specs.declared.entry.JournalEntry.{JournalEntry}
 use Rattle.sleep_model.specs.declared.entry.Kind.TheVariants as kind
 use Rattle.sleep_model.specs.declared.entry.SourceEntry.{SourceEntry}
 use Rattle.sleep_model.specs.declared.word.EventNow.{EventNow}
+use Rattle.sleep_model.specs.declared.word.Stamp.{Stamp}
 use Rattle.sleep_model.specs.declared.word.WordKind.TheVariants as step
 use Rattle.event_word.specs.Steps.{MadeStep}
+use Rattle.wakeup_source.specs.declared.call_by.CallBy.{CallBy}
 use Rattle.log_trials.specs.Merging.{all_ticked, in_history}
 use Rattle.log_trials.specs.Terms.{entry, word}
 use Rattle.log_trials.specs.Timers.{event_expires_entries}
@@ -78,3 +80,32 @@ looks = (word 0 0 0 ∷ []) ∷ [] ∷ (word 1 0 0 ∷ []) ∷ []
 -- the same, but that the machine saw the word before the start
 abbrev pub older_looks : List (List EventNow)
 older_looks = (word 0 0 0 ∷ []) ∷ [] ∷ (word 0 0 0 ∷ []) ∷ []
+
+-- what the maker of that jump knew: all but the source's finish
+abbrev pub short_floor : Stamp
+short_floor = record { pos = 1; tick = 11 }
+
+-- what the line knew behind its note
+abbrev pub note_floor : Stamp
+note_floor = record { pos = 0; tick = 1 }
+
+-- ---- a call and a seat
+
+-- the line's call, before anything was made
+abbrev pub by_line : CallBy
+by_line = record { actor = actor.Script 0; floor = record { pos = 0; tick = 0 }; now = 0 }
+
+-- the event begun, the newest first
+abbrev pub begun_back : List SourceEntry
+begun_back =
+    in_history (stamped 0 2 (entry 0 (word 0 0 0) (actor.Script 0) (kind.Start 0)))
+    ∷ in_history (stamped 0 1 (entry 0 (word 0 0 0) (actor.Script 0) (kind.Event 0 100 false)))
+    ∷ []
+
+-- its start, as the seat made it
+abbrev pub start_made : List MadeStep
+start_made = record { step = step.Start; before = word 0 0 0 } ∷ []
+
+-- the start, and a finish that the history lacks
+abbrev pub finish_too : List MadeStep
+finish_too = record { step = step.Finish; before = word 1 0 0 } ∷ start_made

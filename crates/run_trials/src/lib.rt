@@ -2,9 +2,17 @@
 //! broken ones may not. No program stands on it.
 #![tactic(auto)]
 
+ghost use Rattle.std.specs.Prelude.{◌∷◌, false, []};
+ghost use Rattle.sleep_model.specs.declared.machine.SourceCall.TheVariants.{Event, Relax};
+ghost use Rattle.sleep_model.specs.declared.entry.Actor.TheVariants.{Script, Time};
+ghost use Rattle.wakeup_source.specs.SourceStates.{new_source};
+ghost use Rattle.run_laws.specs.Called.{IsReady};
+ghost use Rattle.run_laws.specs.Held.{nothing};
 ghost use Rattle.run_laws.specs.Laid.{IsLaid, IsSeenLast};
-ghost use Rattle.run_trials.specs.Broken.{asleep, begun, first_of, jump_one_source_short, jump_too_far, looks, made_nothing, made_start, older_looks, sleep_at_an_older_word, sleep_in_the_call, slept_too_early, start_of_another, start_too_early};
-ghost use Rattle.run_trials.specs.Tests.{IsTestedRun, Tested, TestsTellHeld};
+ghost use Rattle.run_laws.specs.Seated.{IsSeated};
+ghost use Rattle.run_laws.specs.Turned.{MayLeap, MayTurn};
+ghost use Rattle.run_trials.specs.Broken.{asleep, begun, begun_back, by_line, finish_too, first_of, jump_one_source_short, jump_too_far, looks, made_nothing, made_start, note_floor, older_looks, short_floor, sleep_at_an_older_word, sleep_in_the_call, slept_too_early, start_made, start_of_another, start_too_early};
+ghost use Rattle.run_trials.specs.Tests.{IsTestedRun, Tested, TestsTellHeld, made_of};
 ghost use Rattle.log_trials.specs.Attempts.{callback_reports_entries, callback_reports_machine, hard_event_entries, hard_event_machine};
 ghost use Rattle.log_trials.specs.Terms.{word};
 ghost use Rattle.log_trials.specs.Timers.{event_expires_entries, event_expires_machine};
@@ -47,4 +55,22 @@ pub fn a_table_lays_its_steps()
 pub fn the_last_look_is_behind_all()
     ensures last { IsSeenLast looks begun (word 1 0 0) }
     ensures older { IsSeenLast looks begun (word 0 0 0) → ⊥ }
+{}
+
+/// A line's first call is ready, and one that it does not make next is not. Inside a call the line makes no
+/// turn, and time does not jump whose maker's floor is one source short.
+pub fn calls_and_turns_are_ready_or_not()
+    ensures first { IsReady event_expires_machine nothing by_line (Event 100 false) (new_source 0) }
+    ensures other_call { IsReady event_expires_machine nothing by_line Relax (new_source 0) → ⊥ }
+    ensures in_the_call { MayTurn event_expires_machine (made_of (first_of 13)) (Script 0) note_floor sleep_in_the_call → ⊥ }
+    ensures short { MayLeap event_expires_machine (made_of (first_of 3)) short_floor jump_one_source_short → ⊥ }
+{}
+
+/// A seat that made the start of its source's history, and looked at the word of its note, is that source's.
+/// One that made a step that the history lacks is not, nor one that looked at no word, nor one that lacks a step.
+pub fn a_seat_is_of_its_source()
+    ensures seated { IsSeated start_made (word 0 0 0 ∷ []) begun_back }
+    ensures more { IsSeated finish_too (word 0 0 0 ∷ []) begun_back → ⊥ }
+    ensures less { IsSeated [] (word 0 0 0 ∷ []) begun_back → ⊥ }
+    ensures unseen { IsSeated start_made [] begun_back → ⊥ }
 {}

@@ -1,0 +1,5 @@
+use Rattle.run_laws.proofs.laws.turns_keep_the_watch.Goals as goal
+use Rattle.run_laws.proofs.Seated.{watch_keeps}
+
+pub returns : goal.returns
+returns c = watch_keeps
