@@ -1,6 +1,6 @@
 //! Machine files that break a rule, and what is said of each.
 
-use crate::rows::devices;
+use crate::rows::apart;
 
 /// Files, each with the text on standard error: the first rule that it breaks, and its first place.
 pub(crate) const FILES: [(&str, &str); 29] = [
@@ -64,7 +64,7 @@ pub(crate) const FILES: [(&str, &str); 29] = [
         r#"{"version":1,"devices":[{"name":"a"}],"links":[{"supplier":"a","consumer":"a"}]}"#,
         "machine: rule 11: links[0]\n",
     ),
-    (devices::CYCLIC, "machine: rule 12: links[2]\n"),
+    (apart::CYCLIC, "machine: rule 12: links[2]\n"),
     // An operation that is none, one of tasks alone, and one on a source that is not there.
     (
         r#"{"version":1,"actors":[{"name":"w","kind":"user","script":[{"op":"fly"}]}]}"#,
