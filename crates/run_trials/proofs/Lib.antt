@@ -1,2 +1,3 @@
+pub mod Passed
 pub mod Tabled
 pub mod Telling

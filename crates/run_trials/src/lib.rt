@@ -9,9 +9,11 @@ ghost use Rattle.wakeup_source.specs.SourceStates.{new_source};
 ghost use Rattle.run_laws.specs.Called.{IsReady};
 ghost use Rattle.run_laws.specs.Held.{nothing};
 ghost use Rattle.run_laws.specs.Laid.{IsLaid, IsSeenLast};
+ghost use Rattle.run_laws.specs.Passes.{HaveMakers};
 ghost use Rattle.run_laws.specs.Seated.{IsSeated};
 ghost use Rattle.run_laws.specs.Turned.{MayLeap, MayTurn};
 ghost use Rattle.run_trials.specs.Broken.{asleep, begun, begun_back, by_line, finish_too, first_of, jump_one_source_short, jump_too_far, looks, made_nothing, made_start, note_floor, older_looks, short_floor, sleep_at_an_older_word, sleep_in_the_call, slept_too_early, start_made, start_of_another, start_too_early};
+ghost use Rattle.run_trials.specs.Passing.{lines, one_line, two_passes};
 ghost use Rattle.run_trials.specs.Tests.{IsTestedRun, Tested, TestsTellHeld, made_of};
 ghost use Rattle.log_trials.specs.Attempts.{callback_reports_entries, callback_reports_machine, hard_event_entries, hard_event_machine};
 ghost use Rattle.log_trials.specs.Terms.{word};
@@ -73,4 +75,10 @@ pub fn a_seat_is_of_its_source()
     ensures more { IsSeated finish_too (word 0 0 0 ∷ []) begun_back → ⊥ }
     ensures less { IsSeated [] (word 0 0 0 ∷ []) begun_back → ⊥ }
     ensures unseen { IsSeated start_made [] begun_back → ⊥ }
+{}
+
+/// Two passes of two lines have makers, whom `log_says_who` asks for; as those of one line they have none.
+pub fn passes_have_makers()
+    ensures made { HaveMakers lines 0 two_passes }
+    ensures same { HaveMakers one_line 0 two_passes → ⊥ }
 {}
