@@ -1,0 +1,30 @@
+use Rattle.std.proofs.Common.{◌<◌, ◌∙◌, List, length, get_or, sym, subst, arith}
+use Rattle.std.proofs.lemmas.List.{length-set}
+use Rattle.wake_locks.specs.Locks.{LockState}
+use Rattle.wake_locks.proofs.Placed.{any_of}
+use Rattle.wake_locks.proofs.Written.{Called, at_ended, at_kept}
+use Rattle.wake_locks.proofs.locks.WakeLocks.call_at.Goals as goal
+
+pub invariant_of-self : goal.invariant_of-self
+invariant_of-self g c =
+    let items = c.self.inside.locks.items in
+    let lock = c.index_mut-lock.result.now in
+    let l : c.args.at < length items = subst (λ (xs : List LockState). c.args.at < length xs) (sym c.self.view_is) c.requires.in_range in
+    let called : Called g.row.CAP c.args.call c.args.now (get_or items c.args.at lock) c.call-made.new.self c.call-made.result =
+    subst (λ (x : LockState). Called g.row.CAP c.args.call c.args.now x c.call-made.new.self c.call-made.result) c.index_mut-lock.ensures.value
+    (record { done = c.call-made.ensures.done; full = c.call-made.ensures.full; err = c.call-made.ensures.err }) in
+    record {
+      in_order = at_kept g.row.CAP c.args.call c.args.now c.args.at items c.call-made.new.self lock c.call-made.result c.self.invariant.in_order l called;
+      few = omega (arith, length-set items c.args.at c.call-made.new.self, c.self.invariant.few);
+      places_few = c.self.invariant.places_few;
+    }
+
+pub returns : goal.returns
+returns g c d =
+    let items = c.self.inside.locks.items in
+    let lock = c.index_mut-lock.result.now in
+    let l : c.args.at < length items = subst (λ (xs : List LockState). c.args.at < length xs) (sym c.self.view_is) c.requires.in_range in
+    let called : Called g.row.CAP c.args.call c.args.now (get_or items c.args.at d) c.call-made.new.self c.call-made.result =
+    subst (λ (x : LockState). Called g.row.CAP c.args.call c.args.now x c.call-made.new.self c.call-made.result) (c.index_mut-lock.ensures.value ∙ any_of items c.args.at lock d l)
+    (record { done = c.call-made.ensures.done; full = c.call-made.ensures.full; err = c.call-made.ensures.err }) in
+    rw (← c.self.view_is, c.answered.ensures) (at_ended g.row.CAP c.args.call c.args.now c.args.at items c.call-made.new.self d c.call-made.result c.self.invariant.in_order l called)

@@ -1,0 +1,6 @@
+pub mod Expiries
+pub mod LockFields
+pub mod Locks
+pub mod Standings
+pub mod Texts
+pub mod Writes

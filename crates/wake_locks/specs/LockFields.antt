@@ -1,0 +1,106 @@
+-- What the fields of a lock, and of the known locks, are.
+use Rattle.std.specs.Prelude.{◌≡◌, ◌≤◌, ◌<◌, ◌++◌, ℕ, true, false, nat_le, List, length, slice_index_or, is_some, if◌then◌else◌, Option, Some, None}
+use Rattle.std.specs.declared.cmp.Ordering.TheVariants.{Less, Equal, Greater}
+use Rattle.sleep_model.specs.declared.entry.Entry.{Entry}
+use Rattle.sleep_model.specs.declared.machine.SourceCall.{SourceCall}
+use Rattle.sleep_model.specs.declared.machine.SourceCall.TheVariants as call
+use Rattle.sleep_model.specs.declared.word.EventNow.{EventNow}
+use Rattle.sleep_model.specs.Numbers.{numbers}
+use Rattle.sleep_model.specs.Places.{one_if}
+use Rattle.sleep_model.specs.Sources.{makes, since, expiry, most_entries}
+use Rattle.wakeup_source.specs.declared.call_by.CallBy.{CallBy}
+use Rattle.wakeup_source.specs.SourceStates.{SourceState, bare, latest}
+use Rattle.wakeup_source.specs.Told.{source_call, word_after}
+use Rattle.wake_locks.specs.declared.standing.Standing.{Standing}
+use Rattle.wake_locks.specs.declared.standing.Standing.TheVariants.{Inactive, Endless, Until}
+use Rattle.wake_locks.specs.Expiries.{Due}
+use Rattle.wake_locks.specs.Locks.{LockState, AreInOrder, by_name}
+use Rattle.wake_locks.specs.Standings.{is_due}
+
+-- how a source with an event in progress stands, by when that ends
+abbrev pub standing_by : Option ℕ → Standing
+standing_by None = Endless
+standing_by (Some end) = Until end
+
+-- how a source stands, by when its event began and when it ends
+abbrev pub standing_from : Option ℕ → Option ℕ → Standing
+standing_from None end = Inactive
+standing_from (Some began) end = standing_by end
+
+-- how a source with these entries stands
+abbrev pub standing_of : List Entry → Standing
+standing_of own = standing_from (since own) (expiry own)
+
+-- a moment that is set is not before that one
+abbrev pub IsBehind : ℕ → Option ℕ → Type 0
+IsBehind now None = Unit {0}
+IsBehind now (Some end) = now ≤ end
+
+-- what holds of a source's entries: the word of its own steps is small, and an event that ends by itself is in progress
+pub record IsKept (own : List Entry) : Type 0 where
+  pub in_progress : (numbers own).inpr ≡ one_if (is_some (since own))
+  pub finished : (numbers own).count ≤ length own
+  pub rests : since own ≡ None → expiry own ≡ None
+  pub ends : IsBehind (latest own) (expiry own)
+
+-- and of the fields of a lock
+pub record IsLock (standing : Standing) (source : SourceState) (word : EventNow) : Type 0 where
+  pub stands : standing ≡ standing_of (bare source.past)
+  pub number : source.id ≡ 0
+  pub word_is : word ≡ numbers (bare source.past)
+  pub kept : IsKept (bare source.past)
+  pub short : length source.past ≤ most_entries
+
+-- the source has gained the entries of a call, and the word has made its steps
+pub record IsMade (by : CallBy) (made : SourceCall) (word later : EventNow) (old new : SourceState) : Type 0 where
+  pub number : new.id ≡ old.id
+  pub entries : bare new.past ≡ source_call old.id made by.actor by.now word (bare old.past) ++ bare old.past
+  pub word_is : later ≡ word_after (makes made (since (bare old.past))) word
+  pub short : length new.past ≤ most_entries
+
+-- a call that a lock may have: an event has a length and is no hard one, an expiry comes where it is due
+abbrev pub IsMeant : SourceCall → ℕ → Standing → Type 0
+IsMeant (call.Event ms hard) now before = (1 ≤ ms) × (hard ≡ false)
+IsMeant call.Expire now before = is_due now before ≡ true
+IsMeant _ now before = Unit {0}
+
+-- what holds of all locks
+pub record AreLocks (places : ℕ) (locks : List LockState) : Type 0 where
+  pub in_order : AreInOrder locks
+  pub few : length locks ≤ 100
+  pub places_few : places ≤ most_entries
+
+-- ---- places among the locks
+
+-- the names of the locks before that place come before this one
+abbrev pub AreAllBefore : List ℕ → List LockState → ℕ → Type 0
+AreAllBefore name locks at = (j : ℕ) (d : LockState) → j < at → by_name (slice_index_or locks j d).name name ≡ Less
+
+-- the lock of that name is there
+pub record IsAt (name : List ℕ) (locks : List LockState) (at : ℕ) : Type 0 where
+  pub in_range : at < length locks
+  pub before : AreAllBefore name locks at
+  pub here : (d : LockState) → by_name (slice_index_or locks at d).name name ≡ Equal
+
+-- there is none, and it would go there
+pub record IsGapFor (name : List ℕ) (locks : List LockState) (at : ℕ) : Type 0 where
+  pub in_range : at ≤ length locks
+  pub before : AreAllBefore name locks at
+  pub behind : (d : LockState) → at < length locks → by_name (slice_index_or locks at d).name name ≡ Greater
+
+-- what is found as due: its place and its moment, which is not before its last entry
+abbrev pub MatchDue : List LockState → Option Due → Option (ℕ × ℕ) → Type 0
+MatchDue locks None None = Unit {0}
+MatchDue locks None (Some p) = ⊥
+MatchDue locks (Some due) None = ⊥
+MatchDue locks (Some due) (Some p) = (p.0 < length locks) × ((d : LockState) → slice_index_or locks p.0 d ≡ due.lock) × (p.1 ≡ due.at) × (due.lock.standing ≡ Until due.at) × (latest due.lock.own ≤ due.at)
+
+-- the earlier of two
+abbrev pub earlier_of : ℕ → ℕ → Option (ℕ × ℕ) → Option (ℕ × ℕ)
+earlier_of at end None = Some (at, end)
+earlier_of at end (Some later) = if nat_le end later.1 then Some (at, end) else Some later
+
+-- the lock there, where it ends by that moment and not after the one that was found
+abbrev pub earlier : ℕ → ℕ → Option ℕ → Option (ℕ × ℕ) → Option (ℕ × ℕ)
+earlier to at None next = next
+earlier to at (Some end) next = if nat_le end to then earlier_of at end next else next

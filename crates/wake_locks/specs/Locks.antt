@@ -1,0 +1,106 @@
+-- Known locks, in the order of their names.
+use Rattle.std.specs.Prelude.{◌≡◌, ◌≤◌, ◌++◌, ℕ, Bool, true, false, List, [], ◌∷◌, map, filter, not, Option, Some, None}
+use Rattle.std.specs.declared.cmp.Ordering.{Ordering}
+use Rattle.std.specs.declared.cmp.Ordering.TheVariants.{Less, Equal, Greater}
+use Rattle.std.specs.Cmp.Lexicographic.{slice_cmp}
+use Rattle.std.specs.Ordering.{nat_cmp}
+use Rattle.sleep_model.specs.declared.entry.Actor.{Actor}
+use Rattle.sleep_model.specs.declared.entry.Actor.TheVariants as who
+use Rattle.sleep_model.specs.declared.entry.Entry.{Entry}
+use Rattle.sleep_model.specs.declared.machine.SourceCall.{SourceCall}
+use Rattle.sleep_model.specs.declared.machine.SourceCall.TheVariants as call
+use Rattle.sleep_model.specs.Numbers.{numbers}
+use Rattle.wakeup_source.specs.SourceStates.{latest}
+use Rattle.wakeup_source.specs.Told.{source_call}
+use Rattle.wake_locks.specs.declared.standing.Standing.{Standing}
+use Rattle.wake_locks.specs.declared.standing.Standing.TheVariants.{Inactive}
+use Rattle.wake_locks.specs.Standings.{standing_after, is_active, is_due}
+
+-- a lock: its name, how it stands, and the entries of its source, the newest first (struct wakelock)
+pub record LockState : Type 0 where
+  pub name : List ℕ
+  pub standing : Standing
+  pub own : List Entry
+
+-- a lock that was never called
+abbrev pub new_lock : List ℕ → LockState
+new_lock name = record { name = name; standing = Inactive; own = [] }
+
+-- who makes a call: the source's timer an expiry, a task any other
+abbrev pub maker : SourceCall → Actor
+maker call.Awake = who.Script 0
+maker call.Relax = who.Script 0
+maker (call.Event ms hard) = who.Script 0
+maker call.Expire = who.Timer 0
+
+-- the entries of a source after one more call on it, each with the steps on the word that this source made
+abbrev pub own_after : SourceCall → ℕ → List Entry → List Entry
+own_after made now own = source_call 0 made (maker made) now (numbers own) own ++ own
+
+-- a lock after one more call on its source
+abbrev pub after_call : SourceCall → ℕ → LockState → LockState
+after_call made now lock = record {
+  name = lock.name;
+  standing = standing_after made now lock.standing;
+  own = own_after made now lock.own;
+}
+
+-- how two names compare, byte by byte
+abbrev pub by_name : List ℕ → List ℕ → Ordering
+by_name = slice_cmp nat_cmp
+
+-- this lock where the names are the same, none where its name comes later, else what is found behind it
+abbrev pub found : Ordering → LockState → Option LockState → Option LockState
+found Less lock behind = behind
+found Equal lock behind = Some lock
+found Greater lock behind = None
+
+-- the known lock of that name (wakelock_lookup_add)
+abbrev pub find : List ℕ → List LockState → Option LockState
+find name [] = None
+find name (lock ∷ locks) = found (by_name lock.name name) lock (find name locks)
+
+-- before a lock that comes later, in place of one of the same name, else behind
+abbrev pub placed : Ordering → LockState → LockState → List LockState → List LockState → List LockState
+placed Less new lock locks behind = lock ∷ behind
+placed Equal new lock locks behind = new ∷ locks
+placed Greater new lock locks behind = new ∷ lock ∷ locks
+
+-- the locks with this one at its place (wakelock_lookup_add)
+abbrev pub put : LockState → List LockState → List LockState
+put new [] = new ∷ []
+put new (lock ∷ locks) = placed (by_name lock.name new.name) new lock locks (put new locks)
+
+-- it is active, or it is not, as is asked
+abbrev pub stands_so : Bool → LockState → Bool
+stands_so true lock = is_active lock.standing
+stands_so false lock = not (is_active lock.standing)
+
+-- the names of those that are active, or of those that are not, in order (pm_show_wakelocks)
+abbrev pub names_of : Bool → List LockState → List (List ℕ)
+names_of active locks = map (λ (lock : LockState). lock.name) (filter (stands_so active) locks)
+
+-- each lock's name comes before those of the locks behind it
+abbrev pub AreBehind : List ℕ → List LockState → Type 0
+AreBehind name [] = Unit {0}
+AreBehind name (lock ∷ locks) = (by_name name lock.name ≡ Less) × AreBehind name locks
+
+-- the names come in order, each once
+abbrev pub AreInOrder : List LockState → Type 0
+AreInOrder [] = Unit {0}
+AreInOrder (lock ∷ locks) = AreBehind lock.name locks × AreInOrder locks
+
+-- no entry of a lock is later than that moment
+abbrev pub AreBefore : ℕ → List LockState → Type 0
+AreBefore now [] = Unit {0}
+AreBefore now (lock ∷ locks) = (latest lock.own ≤ now) × AreBefore now locks
+
+-- none is due by that moment
+abbrev pub NoneDue : ℕ → List LockState → Type 0
+NoneDue now [] = Unit {0}
+NoneDue now (lock ∷ locks) = (is_due now lock.standing ≡ false) × NoneDue now locks
+
+-- no entry is later than that moment, and no expiry at or before it stands
+pub record IsTimely (now : ℕ) (locks : List LockState) : Type 0 where
+  pub before : AreBefore now locks
+  pub none_due : NoneDue now locks

@@ -1,0 +1,12 @@
+//! Named wakelocks: user space locks and unlocks names, each a wakeup source (`kernel/power/wakelock.c`).
+#![tactic(auto)]
+
+mod answer;
+mod lock;
+mod locks;
+mod standing;
+mod text;
+
+pub use answer::{LockAnswer, LockFault};
+pub use locks::{MOST_LOCKS, NameList, WakeLocks};
+pub use standing::Standing;

@@ -1,0 +1,169 @@
+use crate::answer::LockFault;
+use crate::standing::Standing;
+use event_word::PlainEvents;
+use sleep_model::{Actor, Name, SourceCall, Stamp, Stats};
+use std::alloc::Global;
+use std::cmp::Ordering;
+use std::marker::Model;
+use std::sync::Wait;
+use wakeup_source::{CallBy, SourceFault, WakeSource};
+
+/// A lock: a name, and the wakeup source of that name (`struct wakelock`). Nobody looks at the event word here, so
+/// each source moves one of its own.
+#[derive(Drop)]
+pub(crate) struct Lock<const CAP: usize> {
+    name: Name,
+    standing: Standing,
+    source: WakeSource<CAP>,
+    events: PlainEvents,
+}
+
+impl<const CAP: usize> Model for Lock<CAP> {
+    ghost use Rattle.wake_locks.specs.Locks.{LockState};
+
+    ghost Value = { LockState };
+
+    ghost use Rattle.wake_locks.specs.LockFields.{IsLock};
+    ghost use Rattle.wakeup_source.specs.SourceStates.{bare};
+
+    ghost view = { λ l. record { name = l.name; standing = l.standing; own = bare l.source.past } };
+
+    ghost invariant = { λ l. IsLock l.standing l.source l.events };
+}
+
+ghost use Rattle.std.specs.Prelude.{◌≡◌, ◌≤◌, ◌<◌, ◌+◌, ◌^◌, ◌↔◌, ℕ, List, true, Err, length, OnOk, OnErr, IfOk, IfSome, Some, None};
+ghost use Rattle.event_word.specs.Steps.{has_places};
+ghost use Rattle.sleep_model.specs.Sources.{makes, since, most_entries, stats_at};
+ghost use Rattle.wakeup_source.specs.declared.fault.SourceFault.TheVariants as SourceFault;
+ghost use Rattle.wakeup_source.specs.SourceStates.{bare, latest};
+ghost use Rattle.wakeup_source.specs.Told.{MayCall};
+ghost use Rattle.wake_locks.specs.declared.answer.LockFault.TheVariants.{Full};
+ghost use Rattle.wake_locks.specs.Locks.{new_lock, after_call, by_name, maker, stands_so};
+ghost use Rattle.wake_locks.specs.LockFields.{IsMade, IsMeant};
+ghost use Rattle.wake_locks.specs.Standings.{end_of};
+ghost use Rattle.wake_locks.specs.Writes.{IsFull};
+
+/// Who makes a call.
+fn maker(call: SourceCall) -> Actor
+    ensures { result ≡ maker call }
+{
+    match call {
+        SourceCall::Expire => Actor::Timer(0),
+        _ => Actor::Script(0),
+    }
+}
+
+/// A call on a source.
+fn make<R: Wait, const CAP: usize>(
+    rt: &R,
+    source: &mut WakeSource<CAP>,
+    events: &mut PlainEvents,
+    by: CallBy,
+    call: SourceCall,
+) -> Result<(), SourceFault>
+    requires time { latest (bare source.old.past) ≤ by.now }
+    requires small { by.now ≤ 2 ^ 63 }
+    requires can { has_places events.old (makes call (since (bare source.old.past))) ≡ true }
+    requires may { MayCall call (bare source.old.past) by.now }
+    ensures made { OnOk result (IsMade by call events.old events.new source.old source.new) }
+    ensures full { (result ≡ Err SourceFault.Full) ↔ (CAP < length source.old.past + 4) }
+    ensures err { OnErr result ((source.new ≡ source.old) × (events.new ≡ events.old)) }
+{
+    match call {
+        SourceCall::Awake => source.stay_awake(rt, events, by)?,
+        SourceCall::Relax => source.relax(rt, events, by)?,
+        SourceCall::Event { ms, hard } => source.event(rt, events, by, ms, hard)?,
+        SourceCall::Expire => match source.expire(rt, events, by)? {
+            Some(stamp) => stamp,
+            None => unreachable!(),
+        },
+    };
+    Ok(())
+}
+
+impl<const CAP: usize> Lock<CAP> {
+    /// A lock that was never called.
+    pub(crate) fn new(alloc: Global, name: Name) -> Self
+        requires { CAP ≤ most_entries }
+        ensures { result ≡ new_lock name }
+    {
+        Lock {
+            name,
+            standing: Standing::Inactive,
+            source: WakeSource::new(alloc, 0),
+            events: PlainEvents::new(),
+        }
+    }
+
+    /// Its name.
+    pub(crate) fn name(&self) -> Name
+        ensures { result ≡ self.now.name }
+    {
+        self.name
+    }
+
+    /// How its name compares with that one.
+    pub(crate) fn cmp_name(&self, name: &Name) -> Ordering
+        ensures { result ≡ by_name self.now.name name.now }
+    {
+        self.name.bytes().cmp(name.bytes())
+    }
+
+    /// Whether an event is in progress, or whether none is, as is asked.
+    pub(crate) fn stands_so(&self, active: bool) -> bool
+        ensures { result ≡ stands_so active self.now }
+    {
+        if active {
+            self.standing.is_active()
+        } else {
+            !self.standing.is_active()
+        }
+    }
+
+    /// When it ends by itself, which is not before its last entry.
+    pub(crate) fn end(&self) -> Option<u64>
+        ensures end { result ≡ end_of self.now.standing }
+        ensures behind { IfSome result (λ end. latest self.now.own ≤ end) }
+    {
+        self.standing.end()
+    }
+
+    /// A call on its source. After a fault nothing has changed.
+    pub(crate) fn call<R: Wait>(
+        &mut self,
+        rt: &R,
+        call: SourceCall,
+        now: u64,
+    ) -> Result<(), LockFault>
+        requires time { latest self.old.own ≤ now }
+        requires small { now ≤ 2 ^ 63 }
+        requires meant { IsMeant call now self.old.standing }
+        ensures done { OnOk result (self.new ≡ after_call call now self.old) }
+        ensures full { (name : List ℕ) → (result ≡ Err (Full name)) ↔ ((name ≡ self.old.name) × IsFull CAP self.old) }
+        ensures err { OnErr result (self.new ≡ self.old) }
+    {
+        let floor = Stamp { pos: 0, tick: 0 };
+        let by = CallBy {
+            actor: maker(call),
+            floor,
+            now,
+        };
+        match make(rt, &mut self.source, &mut self.events, by, call) {
+            Ok(()) => {
+                self.standing = self.standing.after(call, now);
+                Ok(())
+            }
+            Err(SourceFault::Full) => Err(LockFault::Full(self.name)),
+            Err(SourceFault::Mem) => Err(LockFault::Mem),
+        }
+    }
+
+    /// The statistics of its source at that moment.
+    pub(crate) fn stats(&self, now: u64) -> Stats
+        requires time { latest self.now.own ≤ now }
+        requires small { now ≤ 2 ^ 63 }
+        ensures { result ≡ stats_at self.now.own now }
+    {
+        self.source.stats(now)
+    }
+}

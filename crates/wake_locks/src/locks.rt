@@ -1,0 +1,257 @@
+use crate::answer::{LockAnswer, LockFault, answered};
+use crate::lock::Lock;
+use crate::text::{lock_text, unlock_text};
+use sleep_base::Mem;
+use sleep_model::{ListOf, Name, SourceCall, Stats};
+use std::alloc::Global;
+use std::cmp::Ordering;
+use std::marker::Model;
+use std::sync::Wait;
+
+/// How many names are known at most (`CONFIG_PM_WAKELOCKS_LIMIT`).
+pub const MOST_LOCKS: usize = 100;
+
+/// Names, in order.
+pub type NameList = ListOf<Name>;
+
+/// The locks that user space has named, each a wakeup source with a history of at most `CAP` entries
+/// (`kernel/power/wakelock.c`, `wakelocks_tree`). Contracts see them in the order of their names.
+#[derive(Drop)]
+pub struct WakeLocks<const CAP: usize> {
+    alloc: Global,
+    locks: Vec<Lock<CAP>>,
+}
+
+impl<const CAP: usize> Model for WakeLocks<CAP> {
+    ghost use Rattle.std.specs.Prelude.{List};
+    ghost use Rattle.wake_locks.specs.Locks.{LockState};
+
+    ghost Value = { List LockState };
+
+    ghost use Rattle.wake_locks.specs.LockFields.{AreLocks};
+
+    ghost view = { λ w. w.locks.items };
+
+    ghost invariant = { λ w. AreLocks CAP w.locks.items };
+}
+
+ghost use Rattle.std.specs.Prelude.{◌≡◌, ◌≢◌, ◌≤◌, ◌<◌, ◌+◌, ◌^◌, List, [], Ok, Err, None, length, slice_index_or, OnOk, OnErr, IfOk, IfErr, option_map};
+ghost use Rattle.sleep_model.specs.Sources.{most_entries, stats_at};
+ghost use Rattle.wake_locks.specs.declared.answer.LockAnswer.TheVariants as LockAnswer;
+ghost use Rattle.wake_locks.specs.declared.answer.LockFault.TheVariants as LockFault;
+ghost use Rattle.wakeup_source.specs.SourceStates.{latest};
+ghost use Rattle.wake_locks.specs.declared.standing.Standing.TheVariants as Standing;
+ghost use Rattle.wake_locks.specs.Expiries.{IsAdvance, next_due};
+ghost use Rattle.wake_locks.specs.LockFields.{IsAt, IsGapFor, IsMeant, MatchDue, earlier};
+ghost use Rattle.wake_locks.specs.Locks.{LockState, new_lock, after_call, put, find, names_of, AreBefore, AreInOrder, IsTimely};
+ghost use Rattle.wake_locks.specs.Writes.{asked_lock, asked_unlock, on_lock, WriteEnded};
+
+impl<const CAP: usize> WakeLocks<CAP> {
+    /// No lock is known.
+    pub fn new(alloc: Global) -> Self
+        requires { CAP ≤ most_entries }
+        ensures { result ≡ [] }
+    {
+        WakeLocks {
+            alloc,
+            locks: Vec::new(alloc),
+        }
+    }
+
+    /// Where the lock of that name is, or where it would go.
+    fn place(&self, name: &Name) -> Result<usize, usize>
+        ensures found { IfOk result (IsAt name.now self.now) }
+        ensures absent { IfErr result (IsGapFor name.now self.now) }
+    {
+        let mut low = 0;
+        let mut high = self.locks.len();
+        while low < high {
+            let middle = low + (high - low) / 2;
+            match self.locks[middle].cmp_name(name) {
+                Ordering::Less => low = middle + 1,
+                Ordering::Equal => return Ok(middle),
+                Ordering::Greater => high = middle,
+            }
+        }
+        Err(low)
+    }
+
+    /// A write to `wake_lock` (`pm_wake_lock`). After a fault all is as before.
+    pub fn wake_lock<R: Wait>(
+        &mut self,
+        rt: &R,
+        text: &[u8],
+        now: u64,
+    ) -> Result<LockAnswer, LockFault>
+        requires timely { IsTimely now self.old }
+        requires small { now ≤ 2 ^ 63 }
+        ensures ended { WriteEnded CAP (asked_lock text.now self.old) now self.old self.new result }
+        ensures timely { IsTimely now self.new }
+    {
+        let Some((name, call)) = lock_text(text) else {
+            return Ok(LockAnswer::BadText);
+        };
+        match self.place(&name) {
+            Ok(at) => self.call_at(rt, at, call, now),
+            Err(at) => self.call_new(rt, at, name, call, now),
+        }
+    }
+
+    /// A write to `wake_unlock` (`pm_wake_unlock`). After a fault all is as before.
+    pub fn wake_unlock<R: Wait>(
+        &mut self,
+        rt: &R,
+        text: &[u8],
+        now: u64,
+    ) -> Result<LockAnswer, LockFault>
+        requires timely { IsTimely now self.old }
+        requires small { now ≤ 2 ^ 63 }
+        ensures ended { WriteEnded CAP (asked_unlock text.now self.old) now self.old self.new result }
+        ensures timely { IsTimely now self.new }
+    {
+        let Some(name) = unlock_text(text) else {
+            return Ok(LockAnswer::BadText);
+        };
+        match self.place(&name) {
+            Ok(at) => self.call_at(rt, at, SourceCall::Relax, now),
+            Err(_) => Ok(LockAnswer::BadText),
+        }
+    }
+
+    /// A call on the lock there. After a fault all is as before.
+    fn call_at<R: Wait>(
+        &mut self,
+        rt: &R,
+        at: usize,
+        call: SourceCall,
+        now: u64,
+    ) -> Result<LockAnswer, LockFault>
+        requires in_range { at < length self.old }
+        requires time { (d : LockState) → latest (slice_index_or self.old at d).own ≤ now }
+        requires small { now ≤ 2 ^ 63 }
+        requires meant { (d : LockState) → IsMeant call now (slice_index_or self.old at d).standing }
+        ensures { (d : LockState) → WriteEnded CAP
+            (Ok (record { lock = slice_index_or self.old at d; made = call })) now self.old self.new result }
+    {
+        let lock = &mut self.locks[at];
+        let made = lock.call(rt, call, now);
+        answered(made)
+    }
+
+    /// A call on a new lock, which goes there, unless as many are known as may be. After a fault all is as before.
+    fn call_new<R: Wait>(
+        &mut self,
+        rt: &R,
+        at: usize,
+        name: Name,
+        call: SourceCall,
+        now: u64,
+    ) -> Result<LockAnswer, LockFault>
+        requires gap { IsGapFor name self.old at }
+        requires small { now ≤ 2 ^ 63 }
+        requires meant { IsMeant call now Standing.Inactive }
+        ensures { WriteEnded CAP (on_lock name call (length self.old) None) now self.old self.new result }
+    {
+        if self.locks.len() >= MOST_LOCKS {
+            return Ok(LockAnswer::NoSpace);
+        }
+        let mut lock = Lock::new(self.alloc, name);
+        match lock.call(rt, call, now) {
+            Ok(()) => self.insert(at, lock),
+            Err(fault) => Err(fault),
+        }
+    }
+
+    /// Puts a new lock there. Where there is no memory, all is as before.
+    fn insert(&mut self, at: usize, lock: Lock<CAP>) -> Result<LockAnswer, LockFault>
+        requires gap { IsGapFor lock.name self.old at }
+        requires few { length self.old < 100 }
+        ensures ok { OnOk result (self.new ≡ put lock.entry self.old) }
+        ensures err { OnErr result (self.new ≡ self.old) }
+        ensures answer { result ≢ Err LockFault.Mem → result ≡ Ok LockAnswer.Done }
+    {
+        self.locks.reserve(1)?;
+        if self.locks.insert(at, lock).is_err() {
+            unreachable!()
+        }
+        Ok(LockAnswer::Done)
+    }
+
+    /// Makes each expiry up to that moment at its own, those of one moment by name (`pm_wakeup_timer_fn`). After a
+    /// fault those that were made stand.
+    pub fn advance<R: Wait>(&mut self, rt: &R, to: u64) -> Result<(), LockFault>
+        requires time { AreBefore to self.old }
+        requires small { to ≤ 2 ^ 63 }
+        ensures ended { IsAdvance CAP to self.old self.new result }
+        ensures time { AreBefore to self.new }
+        ensures timely { OnOk result (IsTimely to self.new) }
+    {
+        let many = self.locks.len();
+        for _ in 0..many {
+            let Some((at, end)) = self.next_due(to) else {
+                return Ok(());
+            };
+            self.call_at(rt, at, SourceCall::Expire, end)?;
+        }
+        Ok(())
+    }
+
+    /// The lock that ends first by that moment, the first by name of those that end together: its place, and its end.
+    fn next_due(&self, to: u64) -> Option<(usize, u64)>
+        ensures found { MatchDue self.now (next_due to self.now) result }
+        ensures ordered { AreInOrder self.now }
+    {
+        let mut next = None;
+        let mut at = self.locks.len();
+        while at > 0 {
+            at -= 1;
+            let lock = &self.locks[at];
+            next = earlier(to, at, lock.end(), next);
+        }
+        next
+    }
+
+    /// The names of the locks that are active, or of those that are not, in order (`pm_show_wakelocks`).
+    pub fn names(&self, active: bool) -> Result<NameList, Mem>
+        ensures { IfOk result (λ names. names ≡ names_of active self.now) }
+    {
+        let mut names = Vec::new(self.alloc);
+        for lock in &self.locks {
+            if lock.stands_so(active) {
+                names.push(lock.name())?;
+            }
+        }
+        Ok(ListOf::of_vec(names))
+    }
+
+    /// The statistics of that lock's source at that moment, where it is known (`print_wakeup_source_stats`).
+    pub fn stats(&self, name: &Name, now: u64) -> Option<Stats>
+        requires time { AreBefore now self.now }
+        requires small { now ≤ 2 ^ 63 }
+        ensures { result ≡ option_map (λ (lock : LockState). stats_at lock.own now) (find name.now self.now) }
+    {
+        match self.place(name) {
+            Ok(at) => {
+                let lock = &self.locks[at];
+                Some(lock.stats(now))
+            }
+            Err(_) => None,
+        }
+    }
+}
+
+/// The earlier of an end and one that was found behind it.
+fn earlier(to: u64, at: usize, end: Option<u64>, next: Option<(usize, u64)>) -> Option<(usize, u64)>
+    ensures { result ≡ earlier to at end next }
+{
+    let Some(end) = end else {
+        return next;
+    };
+    if end > to {
+        return next;
+    }
+    match next {
+        Some((_, later)) if later < end => next,
+        _ => Some((at, end)),
+    }
+}
