@@ -157,3 +157,8 @@ pub before_at : (now : ℕ) (locks : List LockState) → AreBefore now locks →
 before_at now [] h at d l = absurd (omega arith)
 before_at now (x ∷ xs) h zero d l = h.0
 before_at now (x ∷ xs) h (suc i) d l = before_at now xs h.1 i d (omega (arith, l))
+
+-- what is not later than a moment is not later than a later one
+pub before_later : (now to : ℕ) (locks : List LockState) → now ≤ to → AreBefore now locks → AreBefore to locks
+before_later now to [] l h = tt
+before_later now to (lock ∷ locks) l h = (omega (arith, h.0, l), before_later now to locks l h.1)

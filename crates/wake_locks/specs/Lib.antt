@@ -1,3 +1,4 @@
+pub mod Counted
 pub mod Expiries
 pub mod LockFields
 pub mod Locks

@@ -5,8 +5,11 @@ mod answer;
 mod lock;
 mod locks;
 mod standing;
+#[cfg(test)]
+mod tests;
 mod text;
 
 pub use answer::{LockAnswer, LockFault};
+pub use lock::LockStats;
 pub use locks::{MOST_LOCKS, NameList, WakeLocks};
 pub use standing::Standing;

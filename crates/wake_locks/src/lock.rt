@@ -8,6 +8,15 @@ use std::marker::Model;
 use std::sync::Wait;
 use wakeup_source::{CallBy, SourceFault, WakeSource};
 
+/// What is counted of a lock: its name, and the statistics of its source.
+#[derive(Clone, Copy, Debug, PartialEq, Eq)]
+pub struct LockStats {
+    /// The lock's name.
+    pub name: Name,
+    /// The statistics of its source.
+    pub stats: Stats,
+}
+
 /// A lock: a name, and the wakeup source of that name (`struct wakelock`). Nobody looks at the event word here, so
 /// each source moves one of its own.
 #[derive(Drop)]
@@ -41,6 +50,7 @@ ghost use Rattle.wake_locks.specs.declared.answer.LockFault.TheVariants.{Full};
 ghost use Rattle.wake_locks.specs.Locks.{new_lock, after_call, by_name, maker, stands_so};
 ghost use Rattle.wake_locks.specs.LockFields.{IsMade, IsMeant};
 ghost use Rattle.wake_locks.specs.Standings.{end_of};
+ghost use Rattle.wake_locks.specs.Counted.{counted};
 ghost use Rattle.wake_locks.specs.Writes.{IsFull};
 
 /// Who makes a call.
@@ -165,5 +175,17 @@ impl<const CAP: usize> Lock<CAP> {
         ensures { result ≡ stats_at self.now.own now }
     {
         self.source.stats(now)
+    }
+
+    /// What is counted of it at that moment.
+    pub(crate) fn counted(&self, now: u64) -> LockStats
+        requires time { latest self.now.own ≤ now }
+        requires small { now ≤ 2 ^ 63 }
+        ensures { result ≡ counted now self.now }
+    {
+        LockStats {
+            name: self.name,
+            stats: self.stats(now),
+        }
     }
 }

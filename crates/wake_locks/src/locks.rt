@@ -1,5 +1,5 @@
 use crate::answer::{LockAnswer, LockFault, answered};
-use crate::lock::Lock;
+use crate::lock::{Lock, LockStats};
 use crate::text::{lock_text, unlock_text};
 use sleep_base::Mem;
 use sleep_model::{ListOf, Name, SourceCall, Stats};
@@ -35,7 +35,8 @@ impl<const CAP: usize> Model for WakeLocks<CAP> {
     ghost invariant = { λ w. AreLocks CAP w.locks.items };
 }
 
-ghost use Rattle.std.specs.Prelude.{◌≡◌, ◌≢◌, ◌≤◌, ◌<◌, ◌+◌, ◌^◌, List, [], Ok, Err, None, length, slice_index_or, OnOk, OnErr, IfOk, IfErr, option_map};
+ghost use Rattle.std.specs.Prelude.{◌≡◌, ◌≢◌, ◌≤◌, ◌<◌, ◌+◌, ◌^◌, List, [], Ok, Err, None, length, slice_index_or, OnOk, OnErr, IfOk, IfErr, option_map, map};
+ghost use Rattle.wake_locks.specs.Counted.{counted};
 ghost use Rattle.sleep_model.specs.Sources.{most_entries, stats_at};
 ghost use Rattle.wake_locks.specs.declared.answer.LockAnswer.TheVariants as LockAnswer;
 ghost use Rattle.wake_locks.specs.declared.answer.LockFault.TheVariants as LockFault;
@@ -222,6 +223,19 @@ impl<const CAP: usize> WakeLocks<CAP> {
             }
         }
         Ok(ListOf::of_vec(names))
+    }
+
+    /// What is counted of each known lock at that moment, in the order of their names.
+    pub fn all_stats(&self, now: u64) -> Result<Vec<LockStats>, Mem>
+        requires time { AreBefore now self.now }
+        requires small { now ≤ 2 ^ 63 }
+        ensures { IfOk result (λ all. all.items ≡ map (counted now) self.now) }
+    {
+        let mut all = Vec::new(self.alloc);
+        for lock in &self.locks {
+            all.push(lock.counted(now))?;
+        }
+        Ok(all)
     }
 
     /// The statistics of that lock's source at that moment, where it is known (`print_wakeup_source_stats`).

@@ -1,0 +1,13 @@
+use Rattle.std.proofs.Common.{◌≤◌, ◌∙◌, sym, subst, arith}
+use Rattle.wakeup_source.specs.SourceStates.{latest}
+use Rattle.wake_locks.specs.Locks.{LockState, AreBefore}
+use Rattle.wake_locks.proofs.Placed.{before_at}
+use Rattle.wake_locks.proofs.locks.WakeLocks.all_stats.Goals as goal
+
+pub counted-requires : goal.counted-requires
+counted-requires g c =
+    let lock = c.lock-item.result in
+    let items = c.deref-lock-items.result.now in
+    let before = subst (AreBefore c.args.now) (sym (c.deref-lock-items.ensures.value ∙ c.self.view_is)) c.requires.time in
+    let time : latest lock.own ≤ c.args.now = subst (λ (x : LockState). latest x.own ≤ c.args.now) (sym c.lock-item.is) (before_at c.args.now items before c.loop-lock.lock-index lock c.loop-lock-test.true) in
+    (omega arith, (time, c.requires.small))
