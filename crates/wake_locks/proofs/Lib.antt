@@ -1,6 +1,6 @@
 mod Calls
-mod Digits
+pub mod Digits
 mod Expired
-mod Placed
+pub mod Placed
 pub mod Timely
 mod Written

@@ -1,0 +1,5 @@
+pub mod Answers
+pub mod Lines
+pub mod Steps
+pub mod Told
+pub mod Verbs

@@ -1,0 +1,13 @@
+//! Lines that lock and unlock names: what each asks for, and the text of all answers.
+#![tactic(auto)]
+
+mod answer;
+mod board;
+mod cut;
+mod fault;
+mod text;
+mod verb;
+
+pub use answer::{MOST_BYTES, answer_lines};
+pub use fault::LinesFault;
+pub use verb::Verb;
