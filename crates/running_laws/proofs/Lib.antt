@@ -3,3 +3,5 @@ pub mod Known
 pub mod Kept
 pub mod Turns
 pub mod Calls
+pub mod Firsts
+pub mod Ends

@@ -1,8 +1,9 @@
 -- A run of a machine, as far as it has come: its journal and its sources' histories, which are kept apart (own: Linux keeps no such log).
-use Rattle.std.specs.Prelude.{◌≡◌, ◌<◌, ◌+◌, ℕ, zero, suc, true, false, List, [], ◌∷◌, length, map, slice_index_or}
+use Rattle.std.specs.Prelude.{◌≡◌, ◌<◌, ◌+◌, ℕ, zero, suc, true, false, List, [], ◌∷◌, length, map, reverse, slice_index_or}
 use Rattle.sleep_model.specs.declared.entry.Actor.{Actor}
 use Rattle.sleep_model.specs.declared.entry.Entry.{Entry}
 use Rattle.sleep_model.specs.declared.entry.JournalEntry.{JournalEntry}
+use Rattle.sleep_model.specs.declared.entry.SourceEntry.{SourceEntry}
 use Rattle.sleep_model.specs.declared.machine.Machine.{Machine}
 use Rattle.sleep_model.specs.declared.word.Stamp.{Stamp}
 use Rattle.sleep_model.specs.Accepted.{IsAccepted}
@@ -29,6 +30,10 @@ of_sources (x ∷ sources) (suc s) = of_sources sources s
 -- the same without their stamps
 abbrev pub histories : List SourceState → ℕ → List Entry
 histories sources s = bare (of_sources sources s)
+
+-- the history of each, the oldest entry first
+abbrev pub kept_histories : List SourceState → List (List SourceEntry)
+kept_histories sources = map (λ s. reverse s.past) sources
 
 -- a source has its number, and is between calls
 pub record IsSourceOf (s : ℕ) (source : SourceState) : Type 0 where
