@@ -5,3 +5,4 @@ pub mod Turns
 pub mod Calls
 pub mod Firsts
 pub mod Ends
+pub mod Asked

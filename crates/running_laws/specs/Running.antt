@@ -1,13 +1,14 @@
 -- A run of a machine, as far as it has come: its journal and its sources' histories, which are kept apart (own: Linux keeps no such log).
-use Rattle.std.specs.Prelude.{◌≡◌, ◌<◌, ◌+◌, ℕ, zero, suc, true, false, List, [], ◌∷◌, length, map, reverse, slice_index_or}
+use Rattle.std.specs.Prelude.{◌≡◌, ◌<◌, ◌+◌, ℕ, zero, suc, true, false, List, [], ◌∷◌, length, map, reverse, Some, slice_get, slice_index_or}
 use Rattle.sleep_model.specs.declared.entry.Actor.{Actor}
 use Rattle.sleep_model.specs.declared.entry.Entry.{Entry}
 use Rattle.sleep_model.specs.declared.entry.JournalEntry.{JournalEntry}
 use Rattle.sleep_model.specs.declared.entry.SourceEntry.{SourceEntry}
 use Rattle.sleep_model.specs.declared.machine.Machine.{Machine}
+use Rattle.sleep_model.specs.declared.machine.SourceCall.{SourceCall}
 use Rattle.sleep_model.specs.declared.word.Stamp.{Stamp}
 use Rattle.sleep_model.specs.Accepted.{IsAccepted}
-use Rattle.sleep_model.specs.Calls.{made}
+use Rattle.sleep_model.specs.Calls.{calls_of, made, note}
 use Rattle.sleep_model.specs.Merge.{of_source}
 use Rattle.sleep_model.specs.Path.{is_same}
 use Rattle.sleep_state.specs.Places.{entries}
@@ -50,6 +51,11 @@ pub record AreSources (m : Machine) (sources : List SourceState) : Type 0 where
 -- how many calls on sources an actor has made
 abbrev pub calls_made : Machine → List SourceState → Actor → ℕ
 calls_made m sources who = made (length m.sources + 1) (histories sources) who
+
+-- the call comes next of that actor's
+abbrev pub CallsNext : Machine → List JournalEntry → List SourceState → Actor → ℕ → SourceCall → Type 0
+CallsNext m journal sources who s call =
+    slice_get (calls_of m who (entries journal)) (calls_made m sources who) ≡ Some (note s call)
 
 -- each actor's job stands where the entries so far have brought it
 abbrev pub AreJobs : Machine → List JournalEntry → List SourceState → (Actor → JobState) → Type 0
