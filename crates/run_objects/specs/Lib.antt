@@ -1,0 +1,4 @@
+pub mod Objects
+pub mod ObjectFields
+pub mod Closed
+pub mod May

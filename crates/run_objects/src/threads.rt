@@ -1,0 +1,26 @@
+//! The objects may be sent to threads.
+ghost use Rattle.std.specs.Prelude.{◌≡◌};
+
+use crate::machine::SeatedCore;
+use crate::source::SeatedSource;
+
+/// What may be sent to a thread, and nothing else, goes through.
+fn sent<T: Send + Drop>(value: T) -> T
+    ensures { result ≡ value }
+{
+    value
+}
+
+/// A machine with its seat may be sent to a thread.
+pub fn sent_core(machine: SeatedCore<'_>) -> SeatedCore<'_>
+    ensures { result ≡ machine.entry }
+{
+    sent(machine)
+}
+
+/// A source with its seat may be sent to a thread.
+pub fn sent_source(source: SeatedSource) -> SeatedSource
+    ensures { result ≡ source }
+{
+    sent(source)
+}
