@@ -1,5 +1,5 @@
 -- Whom a run asks: what an actor's next call is on, that no entry is later than now, and when nobody goes on.
-use Rattle.std.proofs.Common.{◌≡◌, ◌≤◌, ◌<◌, ◌+◌, ◌^◌, ◌∙◌, ℕ, zero, suc, Bool, true, false, not, ◌&&◌, ◌||◌, nat_le, nat_lt, is_none, is_some, List, [], ◌∷◌, length, length-drop, map, Option, Some, None, slice_get, slice_index_or, refl, sym, ap, ap₂, subst, arith}
+use Rattle.std.proofs.Common.{◌≡◌, ◌≤◌, ◌<◌, ◌+◌, ◌^◌, ◌∙◌, ℕ, zero, suc, true, nat_le, List, [], ◌∷◌, length, length-drop, map, Some, None, slice_get, slice_index_or, sym, ap, subst, arith}
 use Rattle.std.specs.List.{list_all}
 use Rattle.std.proofs.lemmas.Bool.Decides.{nat_tests}
 use Rattle.sleep_model.specs.declared.entry.Actor.{Actor}
@@ -8,13 +8,11 @@ use Rattle.sleep_model.specs.declared.entry.Entry.{Entry}
 use Rattle.sleep_model.specs.declared.entry.JournalEntry.{JournalEntry}
 use Rattle.sleep_model.specs.declared.entry.SourceEntry.{SourceEntry}
 use Rattle.sleep_model.specs.declared.entry.Kind.{Kind}
-use Rattle.sleep_model.specs.declared.entry.Kind.TheVariants as kind
 use Rattle.sleep_model.specs.declared.machine.Machine.{Machine}
 use Rattle.sleep_model.specs.declared.machine.SourceCall.{SourceCall}
 use Rattle.sleep_model.specs.declared.machine.SourceCall.TheVariants as call
 use Rattle.sleep_model.specs.declared.word.EventNow.{EventNow}
 use Rattle.sleep_model.specs.declared.word.Stamp.{Stamp}
-use Rattle.sleep_model.specs.Accepted.{IsAccepted}
 use Rattle.sleep_model.specs.Calls.{calls_of, note}
 use Rattle.sleep_model.specs.Legal.{JournalPart, is_idle, next_time}
 use Rattle.sleep_model.specs.Merge.{of_source}
@@ -25,7 +23,7 @@ use Rattle.sleep_core.specs.Cores.{IsActor}
 use Rattle.sleep_laws.proofs.Ending.{no_attempt}
 use Rattle.sleep_laws.proofs.Linking.{links_stand}
 use Rattle.sleep_laws.proofs.Ranks.{ranked}
-use Rattle.sleep_script.specs.Jobs.{IsJobOf, JobState}
+use Rattle.sleep_script.specs.Jobs.{JobState}
 use Rattle.growth_laws.proofs.Sourced.{IsNoteOf, call_sourced}
 use Rattle.wakeup_source.specs.SourceStates.{SourceState, latest}
 use Rattle.wakeup_source.specs.SourceStates as states
@@ -33,7 +31,7 @@ use Rattle.wakeup_source.specs.Told.{MayCall}
 use Rattle.merge_laws.specs.Apart.{IsCall}
 use Rattle.run_laws.specs.Acts.{bare}
 use Rattle.merge_laws.proofs.Lists.{all_head}
-use Rattle.running_laws.specs.Running.{CallsNext, IsRunning, calls_made, histories, of_sources}
+use Rattle.running_laws.specs.Running.{CallsNext, IsRunning, calls_made, histories}
 use Rattle.running_laws.proofs.Kept.{few_calls}
 use Rattle.running_laws.proofs.Lists.{entries_bare, source_at}
 

@@ -1,15 +1,12 @@
 -- Calls on sources keep what a run keeps.
-use Rattle.std.proofs.Common.{◌≡◌, ◌≤◌, ◌<◌, ◌+◌, ◌∙◌, ℕ, zero, suc, Bool, true, false, ◌&&◌, ◌==◌, nat_le, nat_lt, List, [], ◌∷◌, length, map, Some, slice_get, slice_set, slice_index_or, refl, sym, ap, ap₂, subst, arith}
+use Rattle.std.proofs.Common.{◌≡◌, ◌≤◌, ◌<◌, ◌+◌, ◌∙◌, ℕ, zero, suc, Bool, true, false, ◌==◌, nat_le, List, [], ◌∷◌, length, map, slice_set, slice_index_or, refl, sym, ap, ap₂, subst, arith}
 use Rattle.std.specs.List.{list_all}
 use Rattle.std.proofs.lemmas.Bool.Decides.{nat_tests}
 use Rattle.sleep_model.specs.declared.entry.Actor.{Actor}
-use Rattle.sleep_model.specs.declared.entry.Actor.TheVariants as actor
 use Rattle.sleep_model.specs.declared.entry.Entry.{Entry}
 use Rattle.sleep_model.specs.declared.entry.JournalEntry.{JournalEntry}
-use Rattle.sleep_model.specs.declared.entry.SourceEntry.{SourceEntry}
 use Rattle.sleep_model.specs.declared.machine.Machine.{Machine}
 use Rattle.sleep_model.specs.declared.machine.SourceCall.{SourceCall}
-use Rattle.sleep_model.specs.declared.machine.SourceCall.TheVariants as call
 use Rattle.sleep_model.specs.declared.word.EventNow.{EventNow}
 use Rattle.sleep_model.specs.declared.word.Stamp.{Stamp}
 use Rattle.sleep_model.specs.declared.word.WordKind.{WordKind}
@@ -18,7 +15,7 @@ use Rattle.sleep_model.specs.Calls.{calls_of, is_note_of, made, note, notes_of, 
 use Rattle.sleep_model.specs.Fits.{fits_actor, is_word64}
 use Rattle.sleep_model.specs.Merge.{of_source}
 use Rattle.sleep_model.specs.Numbers.{time_of}
-use Rattle.sleep_model.specs.Parts.{Part, Notes, part_of}
+use Rattle.sleep_model.specs.Parts.{Part, part_of}
 use Rattle.sleep_model.specs.Path.{is_same}
 use Rattle.sleep_model.specs.Sources.{makes, since}
 use Rattle.sleep_model.specs.Word.{position}
@@ -40,9 +37,9 @@ use Rattle.run_laws.specs.Held.{EachJump, Held}
 use Rattle.run_laws.proofs.Acts.{actor_is}
 use Rattle.run_laws.proofs.Called.{call_grows, in_order_known, part_note}
 use Rattle.running_laws.specs.Running.{AreJobs, IsRunning, IsSourceOf, IsWith, KnowsAll, calls_made, histories, made_so, of_sources}
-use Rattle.running_laws.proofs.Kept.{actor_told, calls_are_notes, few_calls, free, jumps_known}
+use Rattle.running_laws.proofs.Kept.{calls_are_notes, free, jumps_known}
 use Rattle.running_laws.proofs.Known.{knows_more}
-use Rattle.running_laws.proofs.Lists.{entries_bare, history_at, source_at, source_other, source_set, sources_set}
+use Rattle.running_laws.proofs.Lists.{entries_bare, source_at, source_other, source_set, sources_set}
 
 -- ---- what a call adds
 
@@ -93,7 +90,7 @@ one_call by c old new h =
     let seen : EventNow = h.1.0 in
     let is : h.0 ≡ after_note by c seen h.0.looked old = h.1.6 in
     let steps = steps_are by (makes c (since (states.bare old.source.past))) (after_note by c seen h.0.looked old) new refl
-        (subst (λ (s : Scene). Steps by (makes c (since (states.bare old.source.past))) s new) is h.2) in
+    (subst (λ (s : Scene). Steps by (makes c (since (states.bare old.source.past))) s new) is h.2) in
     let low : by.floor.pos ≤ position seen = h.1.4 in
     record {
       tick = omega (arith, steps.tick);
@@ -290,7 +287,7 @@ module _ (m : Machine) (journal : List JournalEntry) (sources : List SourceState
         each : (other : Actor) → IsActor m other → (c : Bool) → is_same by.actor other ≡ c → IsJobOf m other (entries journal) (calls_made m sources' other) (jobs' other)
         each other b true e =
             let more : calls_made m sources' by.actor ≡ calls_made m sources by.actor + 1 =
-                made_now by.actor ∙ ap (λ (b : Bool). one_more b (calls_made m sources by.actor)) (ap (λ (w : Actor). is_same by.actor w) (actor_is by.actor other e) ∙ e) in
+            made_now by.actor ∙ ap (λ (b : Bool). one_more b (calls_made m sources by.actor)) (ap (λ (w : Actor). is_same by.actor w) (actor_is by.actor other e) ∙ e) in
             subst (λ (x : Actor). IsJobOf m x (entries journal) (calls_made m sources' x) (jobs' x)) (actor_is by.actor other e)
             (subst (λ (n : ℕ). IsJobOf m by.actor (entries journal) n (jobs' by.actor)) (sym more)
             (subst (λ (j : JobState). IsJobOf m by.actor (entries journal) (calls_made m sources by.actor + 1) j) (sym w.same)

@@ -1,5 +1,5 @@
 -- With the closed table of the event word, what a run keeps is the one log.
-use Rattle.std.proofs.Common.{◌≡◌, ◌≤◌, ◌<◌, ◌+◌, ◌∙◌, ◌⊎◌, inl, inr, ℕ, zero, suc, Bool, true, false, ◌&&◌, nat_le, List, [], ◌∷◌, ◌++◌, length, map, reverse, None, slice_index_or, get_or, refl, sym, ap, ap₂, subst, arith}
+use Rattle.std.proofs.Common.{◌≡◌, ◌≤◌, ◌<◌, ◌+◌, ◌∙◌, ℕ, zero, suc, Bool, true, false, ◌&&◌, nat_le, List, [], ◌∷◌, ◌++◌, length, map, reverse, None, slice_index_or, refl, sym, ap, ap₂, subst, arith}
 use Rattle.std.specs.List.{list_all, range_with_len}
 use Rattle.std.proofs.lemmas.Bool.Decides.{nat_tests}
 use Rattle.std.proofs.lemmas.List.{length-map, length-reverse, reverse-append}
@@ -9,7 +9,6 @@ use Rattle.sleep_model.specs.declared.entry.JournalEntry.{JournalEntry}
 use Rattle.sleep_model.specs.declared.entry.SourceEntry.{SourceEntry}
 use Rattle.sleep_model.specs.declared.log.Log.{Log}
 use Rattle.sleep_model.specs.declared.log.LogEnd.TheVariants.{Finished, Stuck}
-use Rattle.sleep_model.specs.declared.log.Stats.{Stats}
 use Rattle.sleep_model.specs.declared.machine.Machine.{Machine}
 use Rattle.sleep_model.specs.declared.word.EventNow.{EventNow}
 use Rattle.sleep_model.specs.declared.word.Stamp.{Stamp}
@@ -28,18 +27,17 @@ use Rattle.wakeup_source.specs.SourceStates as states
 use Rattle.growth_laws.specs.Ranged.{is_told}
 use Rattle.source_laws.proofs.Keeping.{histories_keep}
 use Rattle.merge_laws.specs.Apart.{past_of, source_past}
-use Rattle.merge_laws.specs.Fitting.{FitApart}
-use Rattle.merge_laws.specs.Merging.{AreLegalApart, IsMergeOf, stats_apart}
-use Rattle.merge_laws.proofs.Lists.{all_head, all_map, all_more, all_order, all_reverse, all_tail}
+use Rattle.merge_laws.specs.Merging.{IsMergeOf, stats_apart}
+use Rattle.merge_laws.proofs.Lists.{all_map, all_more, all_order, all_reverse}
 use Rattle.merge_laws.proofs.Picks.{history_of_merge}
 use Rattle.run_laws.specs.Acts.{Made, bare}
 use Rattle.run_laws.specs.Called.{knows}
-use Rattle.run_laws.specs.Held.{IsHalted, IsOver, IsWritten}
+use Rattle.run_laws.specs.Held.{IsWritten}
 use Rattle.run_laws.specs.Laid.{IsLaid, IsSeenLast, was_seen}
 use Rattle.run_laws.proofs.Called.{bare_same}
 use Rattle.run_laws.proofs.Laid.{all_weaker}
 use Rattle.run_laws.proofs.Told.{falling_rises, held_ends, held_tells, past_back, source_back, told}
-use Rattle.running_laws.specs.Running.{AreSources, IsRunning, histories, kept_histories, made_so, of_sources}
+use Rattle.running_laws.specs.Running.{IsRunning, histories, kept_histories, made_so, of_sources}
 use Rattle.running_laws.proofs.Kept.{all_known}
 use Rattle.running_laws.proofs.Lists.{entries_bare, source_at}
 
@@ -123,7 +121,7 @@ module _ (m : Machine) (journal : List JournalEntry) (sources : List SourceState
         → IsLegalLog m log
         × ((log.end ≡ Finished) → is_finished m (entries journal) (histories sources) word ≡ true → IsFinishedLog m log)
         × ((log.end ≡ Stuck (waiting m (entries journal) word)) → all_gone m (entries journal) ≡ false → is_idle m (entries journal) (histories sources) word ≡ true
-            → next_time m (entries journal) (histories sources) ≡ None → IsStuckLog m log)
+        → next_time m (entries journal) (histories sources) ≡ None → IsStuckLog m log)
     running_ends log is =
         let ends = held_ends m all steps looks answer word (reverse journal) (kept_histories sources) log r.held written laid (seen_last looks word seen low) is in
         let same : entries journal ≡ bare journal = entries_bare journal in (
@@ -144,8 +142,8 @@ module _ (m : Machine) (journal : List JournalEntry) (sources : List SourceState
         let legal : IsLegalLog m log = (running_ends log (record { entries = refl; stats = refl })).0 in
         let fit = (held_tells m all steps looks answer (reverse journal) (kept_histories sources) r.held written laid).0 in
         let own : history s (past_of (stamped (reverse journal) (kept_histories sources))) ≡ bare (of_sources sources s) =
-            history_of_merge (reverse journal) (kept_histories sources) fit.kept fit.sourced fit.histories_rise s
-            ∙ source_back m all (reverse journal) (kept_histories sources) r.held written s in
+        history_of_merge (reverse journal) (kept_histories sources) fit.kept fit.sourced fit.histories_rise s
+        ∙ source_back m all (reverse journal) (kept_histories sources) r.held written s in
         omega (arith, histories_keep m (reverse log.entries) legal.legal s, ap length own, length-map (of_sources sources s) (λ (e : JournalEntry). e.entry))
 
   -- ---- the statistics
@@ -164,8 +162,8 @@ module _ (m : Machine) (journal : List JournalEntry) (sources : List SourceState
   pub stats_are : map (λ s. stats_at (states.bare s.past) (time_of (entries journal))) sources ≡ stats_apart m (reverse journal) (kept_histories sources)
   stats_are =
       stats_from sources (kept_histories sources) 0 (length m.sources + 1) (time_of (entries journal)) r.sources_are.count
-          (λ s none l. (let there : s ≡ 0 + s = omega arith in
-              sym (source_back m all (reverse journal) (kept_histories sources) r.held written s ∙ (ap bare (source_at sources s none l) ∙ sym (bare_same (slice_index_or sources s none).past)))
-              ∙ ap (source_past (kept_histories sources)) there))
+      (λ s none l. (let there : s ≡ 0 + s = omega arith in
+      sym (source_back m all (reverse journal) (kept_histories sources) r.held written s ∙ (ap bare (source_at sources s none l) ∙ sym (bare_same (slice_index_or sources s none).past)))
+      ∙ ap (source_past (kept_histories sources)) there))
       ∙ ap (λ (at : ℕ). map (λ s. stats_at (source_past (kept_histories sources) s) at) (range_with_len 0 (length m.sources + 1)))
       (ap time_of (entries_bare journal ∙ sym (past_back journal)))

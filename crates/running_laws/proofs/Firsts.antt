@@ -4,7 +4,6 @@ use Rattle.std.proofs.lemmas.Bool.Decides.{nat_tests}
 use Rattle.std.specs.List.{list_all}
 use Rattle.sleep_model.specs.declared.entry.Actor.{Actor}
 use Rattle.sleep_model.specs.declared.entry.Entry.{Entry}
-use Rattle.sleep_model.specs.declared.entry.JournalEntry.{JournalEntry}
 use Rattle.sleep_model.specs.declared.machine.Machine.{Machine}
 use Rattle.sleep_model.specs.Accepted.{IsAccepted}
 use Rattle.sleep_model.specs.Calls.{made, notes_of}
@@ -14,11 +13,11 @@ use Rattle.sleep_script.proofs.Following.{first_is_job}
 use Rattle.sleep_core.specs.Cores.{IsActor}
 use Rattle.wakeup_source.specs.SourceStates.{IsSettled, SourceState, new_source}
 use Rattle.growth_laws.specs.Ranged.{is_told}
-use Rattle.run_laws.specs.Acts.{Made, bare}
+use Rattle.run_laws.specs.Acts.{bare}
 use Rattle.run_laws.specs.Called.{knows}
 use Rattle.run_laws.specs.Held.{Held, nothing}
 use Rattle.run_laws.proofs.Held.{nothing_is_held}
-use Rattle.running_laws.specs.Running.{AreSources, IsRunning, IsSourceOf, calls_made, histories, made_so, of_sources}
+use Rattle.running_laws.specs.Running.{IsRunning, IsSourceOf, histories, made_so, of_sources}
 use Rattle.running_laws.proofs.Lists.{source_at, source_beyond}
 
 module _ (m : Machine) (sources : List SourceState) (count : length sources ≡ length m.sources + 1)

@@ -1,8 +1,6 @@
 -- What is so of a run between turns.
-use Rattle.std.proofs.Common.{◌≡◌, ◌≤◌, ◌<◌, ◌+◌, ◌^◌, ◌∙◌, ℕ, zero, suc, Bool, true, false, ◌&&◌, ◌||◌, nat_lt, nat_le, List, [], ◌∷◌, length, Option, Some, slice_get, slice_index_or, refl, sym, ap, ap₂, subst, arith}
-use Rattle.std.specs.List.{list_all}
+use Rattle.std.proofs.Common.{◌≡◌, ◌≤◌, ◌<◌, ◌+◌, ◌∙◌, ℕ, suc, Bool, true, false, ◌||◌, nat_lt, List, [], ◌∷◌, length, slice_index_or, refl, sym, ap, subst, arith}
 use Rattle.std.proofs.lemmas.Bool.Decides.{nat_tests}
-use Rattle.std.proofs.lemmas.List.{length-map}
 use Rattle.sleep_model.specs.declared.entry.Actor.{Actor}
 use Rattle.sleep_model.specs.declared.entry.Actor.TheVariants as actor
 use Rattle.sleep_model.specs.declared.entry.Entry.{Entry}
@@ -11,12 +9,10 @@ use Rattle.sleep_model.specs.declared.entry.SourceEntry.{SourceEntry}
 use Rattle.sleep_model.specs.declared.machine.Machine.{Machine}
 use Rattle.sleep_model.specs.declared.word.EventNow.{EventNow}
 use Rattle.sleep_model.specs.declared.word.Stamp.{Stamp}
-use Rattle.sleep_model.specs.declared.word.WordKind.{WordKind}
-use Rattle.sleep_model.specs.Calls.{calls_due, is_calling, notes_of}
+use Rattle.sleep_model.specs.Calls.{calls_due, notes_of}
 use Rattle.sleep_model.specs.Due.{due}
 use Rattle.sleep_model.specs.Fits.{fits_actor}
 use Rattle.sleep_model.specs.Legal.{is_enabled, is_made}
-use Rattle.sleep_model.specs.Merge.{of_source}
 use Rattle.sleep_model.specs.Sources.{owed}
 use Rattle.sleep_state.specs.Places.{entries}
 use Rattle.sleep_core.specs.Cores.{IsActor}
@@ -28,9 +24,9 @@ use Rattle.run_laws.specs.Acts.{IsFree, Made, bare}
 use Rattle.run_laws.specs.Called.{knows}
 use Rattle.run_laws.specs.Held.{AllOf, EachJump}
 use Rattle.run_laws.proofs.Jobs.{settled_is_free}
-use Rattle.running_laws.specs.Running.{AreSources, IsRunning, calls_made, histories, made_so, of_sources}
+use Rattle.running_laws.specs.Running.{IsRunning, calls_made, histories, made_so, of_sources}
 use Rattle.running_laws.proofs.Known.{few_made, knows_each, knows_jumps, made_is_notes}
-use Rattle.running_laws.proofs.Lists.{entries_bare, history_at, source_beyond}
+use Rattle.running_laws.proofs.Lists.{history_at, source_beyond}
 
 -- an actor is the machine's
 pub actor_told : (m : Machine) (who : Actor) → IsActor m who → fits_actor m who ≡ true

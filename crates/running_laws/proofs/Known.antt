@@ -1,5 +1,5 @@
 -- What a stamp knows, and how many calls an actor has made.
-use Rattle.std.proofs.Common.{◌≡◌, ◌≤◌, ◌<◌, ◌+◌, ◌∙◌, ℕ, zero, suc, Bool, true, false, ◌&&◌, ◌||◌, nat_lt, nat_le, List, [], ◌∷◌, length, filter, map, refl, sym, ap, ap₂, cond, ◌*◌, arith}
+use Rattle.std.proofs.Common.{◌≡◌, ◌≤◌, ◌<◌, ◌+◌, ◌∙◌, ℕ, zero, suc, Bool, true, false, ◌&&◌, nat_lt, nat_le, List, [], ◌∷◌, length, filter, refl, sym, ap, ap₂, cond, ◌*◌, arith}
 use Rattle.std.specs.List.{list_all}
 use Rattle.std.proofs.lemmas.Bool.Decides.{nat_tests}
 use Rattle.sleep_model.specs.declared.entry.Actor.{Actor}
@@ -17,9 +17,9 @@ use Rattle.log_merge.proofs.Reading.{both}
 use Rattle.merge_laws.specs.Apart.{own_of}
 use Rattle.merge_laws.proofs.Calling.{made_own}
 use Rattle.merge_laws.proofs.Lists.{all_map, filter_map_through}
-use Rattle.run_laws.specs.Acts.{AreSteps, Made, bare}
+use Rattle.run_laws.specs.Acts.{Made, bare}
 use Rattle.run_laws.specs.Called.{knows}
-use Rattle.run_laws.specs.Held.{EachJump, Held, falls, follows, is_above}
+use Rattle.run_laws.specs.Held.{EachJump, Held, falls, follows}
 
 -- ---- what a stamp knows
 
@@ -109,7 +109,7 @@ pub made_is_notes : (m : Machine) (all : Made) (who : Actor) → Held m all → 
 made_is_notes m all who held =
     made_by (length m.sources + 1) (λ s. bare (all.of s)) (λ s. history s (bare (all.own who))) who
     (λ s. notes_own who (bare (all.of s))
-        ∙ ap (notes_of who) (own_bare who (all.of s) ∙ (ap bare (sym ((held.steps.of_actors who).in_sources s)) ∙ sym (history_bare s (all.own who)))))
+    ∙ ap (notes_of who) (own_bare who (all.of s) ∙ (ap bare (sym ((held.steps.of_actors who).in_sources s)) ∙ sym (history_bare s (all.own who)))))
     ∙ (made_own m who (bare (all.own who)) (all_map (λ (e : JournalEntry). e.entry) (λ (e : Entry). is_there m (part_of e.kind)) (all.own who) (held.there who))
     ∙ own_of_own who (all.own who))
 

@@ -1,20 +1,18 @@
 -- Turns and jumps keep what a run keeps.
-use Rattle.std.proofs.Common.{◌≡◌, ◌≤◌, ◌<◌, ◌+◌, ◌∙◌, ℕ, zero, suc, Bool, true, false, ◌&&◌, List, [], ◌∷◌, length, max, refl, sym, ap, ap₂, subst, cond, arith}
+use Rattle.std.proofs.Common.{◌≡◌, ◌≤◌, ◌∙◌, ℕ, Bool, true, false, List, [], ◌∷◌, refl, sym, ap, subst, arith}
 use Rattle.std.specs.List.{list_all}
 use Rattle.sleep_model.specs.declared.entry.Actor.{Actor}
 use Rattle.sleep_model.specs.declared.entry.Actor.TheVariants as actor
 use Rattle.sleep_model.specs.declared.entry.Entry.{Entry}
 use Rattle.sleep_model.specs.declared.entry.JournalEntry.{JournalEntry}
 use Rattle.sleep_model.specs.declared.entry.Kind.{Kind}
-use Rattle.sleep_model.specs.declared.entry.Kind.TheVariants as kind
 use Rattle.sleep_model.specs.declared.machine.Machine.{Machine}
 use Rattle.sleep_model.specs.declared.word.EventNow.{EventNow}
 use Rattle.sleep_model.specs.declared.word.Stamp.{Stamp}
-use Rattle.sleep_model.specs.Calls.{calls_due, notes_of}
-use Rattle.sleep_model.specs.Fits.{fits_actor, is_word64}
+use Rattle.sleep_model.specs.Calls.{calls_due}
+use Rattle.sleep_model.specs.Fits.{is_word64}
 use Rattle.sleep_model.specs.Legal.{JournalPart, JumpStep}
 use Rattle.sleep_model.specs.Numbers.{time_of}
-use Rattle.sleep_model.specs.Parts.{OfTime, part_of}
 use Rattle.sleep_model.specs.Path.{attempts, is_same}
 use Rattle.sleep_model.specs.Word.{position}
 use Rattle.sleep_state.specs.Places.{entries}
@@ -26,10 +24,10 @@ use Rattle.wakeup_source.specs.SourceStates.{SourceState}
 use Rattle.growth_laws.specs.Ranged.{is_ranged, is_told}
 use Rattle.log_merge.proofs.Reading.{both}
 use Rattle.merge_laws.proofs.Calling.{same_actor}
-use Rattle.run_laws.specs.Acts.{Made, bare, with_entry}
+use Rattle.run_laws.specs.Acts.{Made, with_entry}
 use Rattle.run_laws.specs.Called.{knows}
 use Rattle.run_laws.specs.Held.{Held}
-use Rattle.run_laws.specs.Turned.{IsBehind, IsTurned, MayLeap, MayTurn, newest_stamp}
+use Rattle.run_laws.specs.Turned.{IsTurned, MayLeap, MayTurn, newest_stamp}
 use Rattle.run_laws.proofs.Acts.{actor_is}
 use Rattle.run_laws.proofs.Called.{knows_itself}
 use Rattle.run_laws.proofs.Turned.{leap_grows, leaves, turn_grows}
