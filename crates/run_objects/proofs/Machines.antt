@@ -1,6 +1,5 @@
 -- A look, a turn and a jump leave each word of the journal one that the seat looked at.
-use Rattle.std.proofs.Common.{◌≡◌, ◌≤◌, ◌<◌, ◌==◌, ◌∙◌, ℕ, Bool, true, false, List, [], ◌∷◌, Option, Some, None, Result, Ok, Err, IfOk, OnErr, refl, sym, ap, subst, arith}
-use Rattle.std.specs.List.{list_all}
+use Rattle.std.proofs.Common.{◌≡◌, ◌≤◌, List, ◌∷◌, Some, Result, Ok, Err, refl, sym, subst, arith}
 use Rattle.sleep_model.specs.declared.entry.Actor.{Actor}
 use Rattle.sleep_model.specs.declared.entry.Actor.TheVariants as actor
 use Rattle.sleep_model.specs.declared.entry.JournalEntry.{JournalEntry}
@@ -9,11 +8,11 @@ use Rattle.sleep_model.specs.declared.word.EventNow.{EventNow}
 use Rattle.sleep_model.specs.declared.word.Stamp.{Stamp}
 use Rattle.sleep_model.specs.Word.{position}
 use Rattle.event_word.specs.Looks.{GrewTo}
-use Rattle.event_word.specs.Seats.{IsLook, IsUnused, Token, floor_of, looked_of}
+use Rattle.event_word.specs.Seats.{IsLook, IsUnused, floor_of, looked_of}
 use Rattle.sleep_core.specs.declared.turns.CoreFault.{CoreFault}
 use Rattle.sleep_core.specs.declared.turns.CoreTurn.{CoreTurn}
 use Rattle.sleep_core.specs.declared.turns.CoreTurn.TheVariants.{Did, NotYet, Done}
-use Rattle.sleep_core.specs.Cores.{CoreState, made_entry, with_entry}
+use Rattle.sleep_core.specs.Cores.{CoreState, made_entry}
 use Rattle.sleep_core.specs.Histories.{last_stamp}
 use Rattle.sleep_core.specs.Turned.{AfterTurn}
 use Rattle.run_laws.specs.Laid.{is_placed}

@@ -15,10 +15,10 @@ use Rattle.event_word.specs.Seats.{IsSource, Token, looked_of, made_of, number_o
 use Rattle.event_word.specs.Steps.{MadeStep, active_after, can_make, fits, is_active}
 use Rattle.wakeup_source.specs.declared.call_by.CallBy.{CallBy}
 use Rattle.wakeup_source.specs.declared.fault.SourceFault.{SourceFault}
-use Rattle.wakeup_source.specs.Called.{Calls, Scene, Steps, after_note, after_step}
+use Rattle.wakeup_source.specs.Called.{Calls, Scene, Steps, after_step}
 use Rattle.wakeup_source.specs.SourceStates.{IsSettled, SourceState, bare}
 use Rattle.wakeup_source.specs.Told.{AreOwnSteps, step_by, steps_of}
-use Rattle.run_laws.specs.Seated.{IsSeated, SeatKept}
+use Rattle.run_laws.specs.Seated.{IsSeated}
 use Rattle.run_laws.proofs.Seated.{seat_keeps}
 use Rattle.run_objects.specs.Objects.{IsSeatedSource, SeatedSourceState, scene_of}
 

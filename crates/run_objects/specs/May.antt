@@ -3,7 +3,6 @@ use Rattle.std.specs.Prelude.{◌≡◌, ◌≤◌, ℕ, true, [], ◌∷◌, Ok
 use Rattle.sleep_model.specs.declared.entry.Actor.{Actor}
 use Rattle.sleep_model.specs.declared.entry.Actor.TheVariants as actor
 use Rattle.sleep_model.specs.declared.entry.Kind.{Kind}
-use Rattle.sleep_model.specs.declared.machine.Machine.{Machine}
 use Rattle.sleep_model.specs.declared.word.EventNow.{EventNow}
 use Rattle.sleep_model.specs.declared.word.Stamp.{Stamp}
 use Rattle.sleep_model.specs.Calls.{calls_due, notes_of}
@@ -42,7 +41,7 @@ pub record IsReadyToLeap (made : Made) (core : CoreState) (seen : EventNow) (to 
   pub held : Held core.machine made
   pub journal : made.journal ≡ core.past
   pub step : JumpStep core.machine (entries core.past) (λ s. bare (made.of s)) seen to
-  pub all : AllOf (λ other. knows floor (other ∷ []) ) made
+  pub all : AllOf (λ other. knows floor (other ∷ [])) made
   pub own : knows floor (made.own actor.Time) ≡ true
   pub low : floor.pos ≤ position seen
 

@@ -117,9 +117,7 @@ impl<'m> SeatedCore<'m> {
         ensures sources { sources_of self.new.seat ≡ sources_of self.old.seat }
     {
         let mut events = taken(&mut self.seat).on(table);
-        let answer = self
-            .core
-            .turn(rt, &mut events, who, calls, floor, now);
+        let answer = self.core.turn(rt, &mut events, who, calls, floor, now);
         self.seat = Some(events.off());
         answer
     }

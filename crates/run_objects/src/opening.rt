@@ -14,6 +14,7 @@ use std::alloc::Global;
 fn seated(alloc: Global, seats: Vec<EventSeat>) -> Result<Vec<SeatedSource>, Mem>
     requires few { vec_len seats ≤ 256 }
     requires new { AreFirst (tokens seats.items) }
+    ensures count { IfOk result (λ sources. vec_len sources ≡ vec_len seats) }
     ensures seats { IfOk result (λ sources. seats_of sources.items ≡ tokens seats.items) }
     ensures uncalled { IfOk result (λ sources. AreUncalled sources.items) }
 {

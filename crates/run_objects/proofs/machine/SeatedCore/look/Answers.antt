@@ -1,4 +1,4 @@
-use Rattle.std.proofs.Common.{◌≡◌, ◌∙◌, ◌≤◌, Some, refl, sym, ap, subst, arith}
+use Rattle.std.proofs.Common.{◌≡◌, ◌∙◌, ◌≤◌, refl, sym, ap, subst, arith}
 use Rattle.event_word.specs.Seats.{Token, floor_of}
 use Rattle.run_objects.specs.Objects.{IsSeatedCore, SeatedCoreState}
 use Rattle.run_objects.specs.ObjectFields.{look_seat}

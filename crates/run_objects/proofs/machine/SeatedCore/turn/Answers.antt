@@ -1,4 +1,4 @@
-use Rattle.std.proofs.Common.{◌≡◌, ◌∙◌, Some, refl, sym, ap, subst}
+use Rattle.std.proofs.Common.{◌≡◌, ◌∙◌, refl, sym, ap, subst}
 use Rattle.event_word.specs.Seats.{Token}
 use Rattle.run_objects.specs.Objects.{IsSeatedCore, SeatedCoreState}
 use Rattle.run_objects.specs.ObjectFields.{look_seat}

@@ -1,4 +1,4 @@
-use Rattle.std.proofs.Common.{◌≡◌, ◌∙◌, ℕ, Option, Some, OnErr, refl, sym, ap, subst}
+use Rattle.std.proofs.Common.{◌≡◌, ◌∙◌, refl, sym, ap, subst}
 use Rattle.event_word.specs.declared.seats.TableSeat.{TableSeat}
 use Rattle.event_word.specs.Seats.{Token, made_of, number_of}
 use Rattle.run_objects.specs.Objects.{IsSeatedSource, SeatedSourceState}
