@@ -1,5 +1,5 @@
 -- What the fields of a seated source and of a seated core are.
-use Rattle.std.specs.Prelude.{◌≡◌, true, Option, Some, None, is_some}
+use Rattle.std.specs.Prelude.{◌≡◌, true, [], Option, Some, None, is_some}
 use Rattle.event_word.specs.declared.table.EventSeat.{EventSeat}
 use Rattle.event_word.specs.declared.table.LookSeat.{LookSeat}
 use Rattle.event_word.specs.Counting.{source_view}
@@ -10,7 +10,20 @@ use Rattle.run_objects.specs.Objects.{SeatedSourceState, SeatedCoreState, IsSeat
 
 -- a seat of no source
 abbrev pub no_seat : Token
-no_seat = record { table_id = record { words = 0; slots = 0; name = 0 }; id = 0; me = (source_view 0, []) }
+no_seat = record {
+  marker = record {};
+  table_id = record {
+    words = 0;
+    slots = 0;
+    views_name = 0;
+    atom = 0;
+    block = 0;
+    offset = 0;
+    slot_names = [];
+  };
+  id = 0;
+  me = (source_view 0, []);
+}
 
 -- the seat of a source that is in its place
 abbrev pub event_seat : Option EventSeat → Token

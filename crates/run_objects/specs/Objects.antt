@@ -1,9 +1,8 @@
 -- What a machine and a wakeup source keep beside their seats at the table of the event word, as contracts see them.
-use Rattle.std.specs.Prelude.{◌≡◌, ◌≤◌, ℕ, List, map, Some, None}
+use Rattle.std.specs.Prelude.{◌≡◌, ◌≤◌, ℕ, List, [], ◌∷◌, map, Some, None}
 use mathlib.Core.Option.{some}
 use lib.ListN.{get_elem?}
-use Rattle.sleep_model.specs.declared.entry.SourceEntry.{SourceEntry}
-use Rattle.event_word.specs.Seats.{Token, IsLook, IsSource, IsUnused, made_of, looked_of, floor_of, number_of}
+use Rattle.event_word.specs.Seats.{Token, IsLook, IsSource, IsUntouched, IsUnused, made_of, looked_of, floor_of, number_of}
 use Rattle.wakeup_source.specs.Called.{Scene, scene}
 use Rattle.wakeup_source.specs.SourceStates.{IsSettled, SourceState, new_source}
 use Rattle.sleep_core.specs.Cores.{CoreState}
@@ -45,3 +44,12 @@ seats_of sources = map (λ s. s.seat) sources
 -- each source was never called, and has the number of its place (wakeup_source_create)
 abbrev pub AreUncalled : List SeatedSourceState → Type 0
 AreUncalled sources = (k : ℕ) (s : SeatedSourceState) → get_elem? sources k ≡ some s → s.source ≡ new_source k
+
+-- the seat at each place has that number, and did nothing yet (wakeup_source_create)
+abbrev pub AreFirst : List Token → Type 0
+AreFirst seats = (k : ℕ) (t : Token) → get_elem? seats k ≡ some t → (number_of t ≡ Some k) × IsUntouched t
+
+-- each source keeps its seat (wakeup_source_activate)
+abbrev pub AreKept : List SeatedSourceState → Type 0
+AreKept [] = Unit {0}
+AreKept (s ∷ rest) = IsSeatedSource s × AreKept rest

@@ -6,7 +6,7 @@ ghost use Rattle.event_word.specs.Lists.{tokens};
 ghost use Rattle.event_word.specs.Seats.{AreAll, looked_of};
 ghost use Rattle.merge_laws.specs.Apart.{is_journals};
 ghost use Rattle.run_objects.specs.Closed.{IsLaidTable, histories_of};
-ghost use Rattle.run_objects.specs.Objects.{seats_of};
+ghost use Rattle.run_objects.specs.Objects.{AreKept, seats_of};
 
 use crate::machine::SeatedCore;
 use crate::source::SeatedSource;
@@ -22,6 +22,7 @@ fn parted(
 ) -> Result<(Vec<EventSeat>, Vec<SourceList>), Mem>
     ensures seats { IfOk result (λ parts. tokens parts.0.items ≡ seats_of sources.items) }
     ensures histories { IfOk result (λ parts. parts.1.items ≡ histories_of sources.items) }
+    ensures kept { IfOk result (λ parts. AreKept sources.items) }
 {
     let mut seats = Vec::with_capacity(alloc, sources.len())?;
     let mut histories = Vec::with_capacity(alloc, sources.len())?;

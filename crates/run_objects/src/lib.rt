@@ -5,15 +5,11 @@
 #![tactic(auto)]
 
 mod closing;
-mod laws;
 mod machine;
 mod opening;
 mod source;
-mod threads;
 
 pub use closing::close_table;
-pub use laws::{jumps_of_a_core_may_leap, turns_of_a_core_may_be_made};
 pub use machine::SeatedCore;
 pub use opening::seated_sources;
 pub use source::SeatedSource;
-pub use threads::{sent_core, sent_source};

@@ -1,6 +1,6 @@
 //! The machine's core with the seat by which it looks at the event word.
 
-ghost use Rattle.std.specs.Prelude.{◌≡◌, ◌≤◌, ◌<◌, ◌+◌, ◌^◌, [], true, Some, IfOk, IsSome, OnErr};
+ghost use Rattle.std.specs.Prelude.{◌≡◌, ◌≤◌, ◌<◌, ◌+◌, ◌-◌, ◌^◌, [], true, Some, IfOk, IsSome, OnErr};
 ghost use Rattle.std.specs.List.{list_any};
 ghost use Rattle.sleep_model.specs.declared.word.EventNow.{EventNow};
 ghost use Rattle.sleep_model.specs.Calls.{calls_due};
@@ -117,9 +117,7 @@ impl<'m> SeatedCore<'m> {
         ensures sources { sources_of self.new.seat ≡ sources_of self.old.seat }
     {
         let mut events = taken(&mut self.seat).on(table);
-        let answer = self
-            .core
-            .turn(rt, &mut events, who, calls, floor, now);
+        let answer = self.core.turn(rt, &mut events, who, calls, floor, now);
         self.seat = Some(events.off());
         answer
     }

@@ -3,7 +3,7 @@
 ghost use Rattle.std.specs.Prelude.{◌≡◌, ◌≤◌, ◌+◌, IfOk, vec_len};
 ghost use Rattle.event_word.specs.Lists.{tokens};
 ghost use Rattle.event_word.specs.Seats.{AreNew, IsUntouched, sources_of};
-ghost use Rattle.run_objects.specs.Objects.{AreUncalled, seats_of};
+ghost use Rattle.run_objects.specs.Objects.{AreFirst, AreUncalled, seats_of};
 
 use crate::source::SeatedSource;
 use event_word::{EventSeat, EventTable, LookSeat};
@@ -12,9 +12,9 @@ use std::alloc::Global;
 
 /// A source for each of these seats, in the order of their numbers.
 fn seated(alloc: Global, seats: Vec<EventSeat>) -> Result<Vec<SeatedSource>, Mem>
-    ghost look: { Token }
-    requires new { AreNew look (tokens seats.items) }
     requires few { vec_len seats ≤ 256 }
+    requires new { AreFirst (tokens seats.items) }
+    ensures count { IfOk result (λ sources. vec_len sources ≡ vec_len seats) }
     ensures seats { IfOk result (λ sources. seats_of sources.items ≡ tokens seats.items) }
     ensures uncalled { IfOk result (λ sources. AreUncalled sources.items) }
 {

@@ -1,6 +1,6 @@
 //! A wakeup source with its seat at the table of the event word.
 
-ghost use Rattle.std.specs.Prelude.{◌≡◌, ◌≤◌, ◌<◌, ◌+◌, ◌^◌, ◌↔◌, true, Some, Err, IfOk, OnOk, OnErr, IsSome, length};
+ghost use Rattle.std.specs.Prelude.{◌≡◌, ◌≤◌, ◌<◌, ◌+◌, ◌^◌, ◌↔◌, true, Some, Err, IfOk, OnOk, OnErr, IsSome, length, reverse};
 ghost use Rattle.std.specs.Bool.{OnFalse, OnTrue};
 ghost use Rattle.wakeup_source.specs.declared.fault.SourceFault.TheVariants as SourceFault;
 ghost use Rattle.sleep_model.specs.Sources.{makes, since, most_entries};
@@ -151,9 +151,9 @@ impl SeatedSource {
 
     /// The seat, and the entries of the source, the oldest first.
     pub(crate) fn into_parts(self) -> (EventSeat, SourceList)
-        ensures seat { result.0.token ≡ self.entry.seat }
-        ensures entries { result.1 ≡ reverse self.entry.source.past }
-        ensures kept { IsSeatedSource self.entry }
+        ensures seat { result.0.token ≡ self.seat }
+        ensures entries { result.1 ≡ reverse self.source.past }
+        ensures kept { IsSeatedSource self }
     {
         let SeatedSource { source, mut seat } = self;
         (taken(&mut seat), source.into_history())

@@ -1,8 +1,8 @@
-//! The objects may be sent to threads.
+//! What threads may be given.
+
 ghost use Rattle.std.specs.Prelude.{◌≡◌};
 
-use crate::machine::SeatedCore;
-use crate::source::SeatedSource;
+use run_objects::{SeatedCore, SeatedSource};
 
 /// What may be sent to a thread, and nothing else, goes through.
 fn sent<T: Send + Drop>(value: T) -> T
@@ -11,7 +11,7 @@ fn sent<T: Send + Drop>(value: T) -> T
     value
 }
 
-/// A machine with its seat may be sent to a thread.
+/// The machine with its seat may be sent to a thread.
 pub fn sent_core(machine: SeatedCore<'_>) -> SeatedCore<'_>
     ensures { result ≡ machine.entry }
 {
