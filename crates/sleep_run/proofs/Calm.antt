@@ -22,7 +22,7 @@ use Rattle.running_laws.specs.Running.{IsRunning, calls_made, histories}
 use Rattle.running_laws.proofs.Asked.{legal_journal}
 use Rattle.running_laws.proofs.Kept.{enabled_is}
 use Rattle.sleep_run.specs.JobsOf.{AreAllJobs, JobsState, job_at, OweNone}
-use Rattle.sleep_run.specs.Runs.{IsCalm, RunState}
+use Rattle.sleep_run.specs.Runs.{IsCalm, IsGoingOn, RunState}
 use Rattle.sleep_run.proofs.JobsKept.{has_job}
 use Rattle.sleep_run.proofs.Resting.{seats_len}
 
@@ -30,27 +30,27 @@ none_there : (o : Option Actor) → is_some o ≡ false → o ≡ None
 none_there None e = refl
 none_there (Some w) e = absurd (true≢false e)
 
-module _ (run : RunState) (jobs : JobsState) (r : IsRunning run.machine run.journal run.sources (job_at jobs) run.floor) where
+-- where no job has a call to make, and no attempt is open, all is calm
+pub calm_is : (run : RunState) (jobs : JobsState) → IsRunning run.machine run.journal run.sources (job_at jobs) run.floor → AreAllJobs run.machine jobs → OweNone jobs → is_some (maker (entries run.journal)) ≡ false → IsCalm run
+calm_is run jobs r all none shut = record {
+  closed = none_there (maker (entries run.journal)) shut;
+  made = λ who a. (all_made run.machine who (entries run.journal) (calls_made run.machine run.sources who) (job_at jobs who) (r.jobs_are who a)).0 (none who (has_job run.machine jobs who all a));
+}
+
+module _ (run : RunState) (on : IsGoingOn run) where
   abbrev m : Machine
   m = run.machine
-
-  -- where no job has a call to make, and no attempt is open, all is calm
-  pub calm_is : AreAllJobs m jobs → OweNone jobs → is_some (maker (entries run.journal)) ≡ false → IsCalm run
-  calm_is all none shut = record {
-    closed = none_there (maker (entries run.journal)) shut;
-    made = λ who a. (all_made m who (entries run.journal) (calls_made m run.sources who) (job_at jobs who) (r.jobs_are who a)).0 (none who (has_job m jobs who all a));
-  }
 
   -- one of whom nothing is due is not enabled
   rests : IsCalm run → (now : EventNow) (who : Actor) → IsActor m who → is_made (due m (entries run.journal) who now) ≡ false → is_enabled m (entries run.journal) (histories run.sources) now who ≡ false
   rests calm now who a none =
-      sym (enabled_is m run.journal run.sources (job_at jobs) run.floor r now who (calls_made m run.sources who) refl)
+      sym (enabled_is m run.journal run.sources on.jobs run.floor on.running now who (calls_made m run.sources who) refl)
       ∙ ap₂ (λ (x y : Bool). x || y) (let all = calm.made who a in let no : nat_lt (calls_made m run.sources who) (calls_due m who (entries run.journal)) ≡ false = grind (arith, nat_tests) in no) none
 
   -- a script that is still is not
   pub script_rests : IsCalm run → (now : EventNow) (i : ℕ) → i < length m.actors → is_still (seat_at (seats (length m.actors) (entries run.journal)) i) (time_of (entries run.journal)) ≡ true
       → is_enabled m (entries run.journal) (histories run.sources) now (actor.Script i) ≡ false
-  script_rests calm now i l still = rests calm now (actor.Script i) l (still_rests m (entries run.journal) now i (legal_journal m run.journal run.sources (job_at jobs) run.floor r) calm.closed still)
+  script_rests calm now i l still = rests calm now (actor.Script i) l (still_rests m (entries run.journal) now i (legal_journal m run.journal run.sources on.jobs run.floor on.running) calm.closed still)
 
   scripts_rest : IsCalm run → (now : EventNow) → AllStill (seats (length m.actors) (entries run.journal)) (time_of (entries run.journal)) → (n : ℕ) → n ≤ length m.actors
       → none_enabled m (entries run.journal) (histories run.sources) now actor.Script n ≡ true
@@ -67,7 +67,7 @@ module _ (run : RunState) (jobs : JobsState) (r : IsRunning run.machine run.jour
   devices_rest calm now zero l = refl
   devices_rest calm now (suc n) l =
       ap₂ (λ (x y : Bool). not x && y)
-      (rests calm now (actor.Dev n) (omega (arith, l)) (device_rests m (entries run.journal) now n (legal_journal m run.journal run.sources (job_at jobs) run.floor r) calm.closed))
+      (rests calm now (actor.Dev n) (omega (arith, l)) (device_rests m (entries run.journal) now n (legal_journal m run.journal run.sources on.jobs run.floor on.running) calm.closed))
       (devices_rest calm now n (omega (arith, l)))
 
   -- no device is

@@ -1,5 +1,8 @@
 mod Calm
-pub mod JobsKept
 mod Owing
+pub mod Calling
+pub mod Fields
+pub mod JobsKept
 pub mod Resting
 pub mod SeatsKept
+pub mod Turning

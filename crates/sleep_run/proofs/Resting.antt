@@ -1,5 +1,5 @@
 -- Where a run rests, and how it ends.
-use Rattle.std.proofs.Common.{◌≡◌, ◌≤◌, ◌<◌, ◌+◌, ◌++◌, ◌∙◌, ◌⊎◌, inl, inr, ℕ, zero, suc, Bool, true, false, not, ◌&&◌, ◌||◌, List, [], ◌∷◌, length, map, reverse, drop, sum, Option, Some, None, is_none, slice_get, slice_index_or, Ok, refl, sym, ap, ap₂, subst, cond, append_assoc, arith}
+use Rattle.std.proofs.Common.{◌≡◌, ◌≤◌, ◌<◌, ◌+◌, ◌++◌, ◌∙◌, ◌⊎◌, inl, inr, ℕ, zero, suc, Bool, true, false, not, ◌&&◌, ◌||◌, List, [], ◌∷◌, length, map, reverse, drop, Option, Some, None, is_none, slice_get, slice_index_or, Ok, refl, sym, ap, ap₂, subst, cond, append_assoc, arith}
 use Rattle.std.specs.List.{list_all}
 use Rattle.std.proofs.lemmas.List.{length-set, length-replicate, drop_all}
 use Rattle.sleep_model.specs.declared.entry.Actor.{Actor}
@@ -28,6 +28,7 @@ use Rattle.sleep_model.specs.Legal.{IsLegalLog, IsFinishedLog, IsStuckLog, is_en
 use Rattle.sleep_model.specs.Merge.{merge}
 use Rattle.sleep_model.specs.Numbers.{time_of}
 use Rattle.sleep_model.specs.Path.{maker, is_actor}
+use Rattle.sleep_model.specs.Places.{places}
 use Rattle.sleep_model.specs.Scripts.{entry_steps}
 use Rattle.sleep_model.specs.Seats.{SeatPart, seats, seats_after, seat_at, seat_part, first_seat}
 use Rattle.sleep_model.specs.Steps.{seat_due, task_due}
@@ -39,18 +40,18 @@ use Rattle.sleep_script.specs.Jobs.{JobState}
 use Rattle.growth_laws.specs.Ranged.{is_told}
 use Rattle.growth_laws.proofs.Fitted.{log_fits}
 use Rattle.wakeup_source.specs.SourceStates.{SourceState}
-use Rattle.run_objects.specs.Closed.{IsLaidTable}
-use Rattle.event_word.specs.Seats.{looked_of}
-use Rattle.running_laws.specs.Running.{IsRunning, histories, kept_histories}
-use Rattle.running_laws.proofs.Ends.{running_ends, stats_are, told_all}
+use Rattle.sleep_run.specs.declared.run.RunFault.{RunFault}
+use Rattle.sleep_run.specs.declared.run.RunFault.TheVariants as fault
+use Rattle.running_laws.specs.Running.{IsRunning, histories, kept_histories, of_sources}
+use Rattle.running_laws.proofs.Ends.{running_ends, running_keeps, stats_are, told_all}
 use Rattle.sleep_run.specs.Waits.{all_stats, waits_of}
-use Rattle.sleep_run.specs.Runs.{AfterTry, EndsSo, IsHalted, IsRun, IsSame, IsSeen, RunState, entries_made, is_over, is_resting}
+use Rattle.sleep_run.specs.Runs.{AfterTry, EndsSo, Fails, IsClosed, IsHalted, IsRefused, IsRun, IsSame, IsSeen, RunState, entries_in, entries_made, is_over, is_resting}
 
 -- ---- tries
 
 -- where nothing was made there are as many entries
 pub made_same : (old new : RunState) → IsSame old new → entries_made new ≡ entries_made old
-made_same old new h = ap₂ (λ (j : List JournalEntry) (s : List SourceState). length j + sum (map (λ x. length x.past) s)) h.journal h.sources
+made_same old new h = ap₂ (λ (j : List JournalEntry) (s : List SourceState). length j + entries_in s) h.journal h.sources
 
 pub same_then : (first second third : RunState) → IsSame first second → IsSame second third → IsSame first third
 same_then first second third h g = record {
@@ -99,35 +100,34 @@ run_of m log acc legal over told ranged = record {
 }
 
 -- with the closed table a run that is over ends in the log of its merge
-pub run_is : (run : RunState) (jobs : Actor → JobState) → IsRunning run.machine run.journal run.sources jobs run.floor → (hs : List (List SourceEntry)) → hs ≡ kept_histories run.sources
-    → IsLaidTable (looked_of run.seat) (reverse run.journal) hs → (items : List Entry) (stats : List Stats) (end : LogEnd) (log : Log) → items ≡ merge (reverse run.journal) hs → stats ≡ all_stats run.sources (time_of (entries run.journal))
-    → EndsSo run end → log ≡ record { entries = items; stats = stats; end = end } → list_all fits_stats stats ≡ true → IsRun run.machine log
-run_is run jobs r hs kept table items stats end log merged counted over is ranged =
-    subst (λ (l : Log). IsRun run.machine l) (sym is) (by end over)
+pub run_is : (run : RunState) → IsClosed run → (items : List Entry) (stats : List Stats) (end : LogEnd) (log : Log) → items ≡ merge (reverse run.journal) (kept_histories run.sources)
+    → stats ≡ all_stats run.sources (time_of (entries run.journal)) → EndsSo run end → log ≡ record { entries = items; stats = stats; end = end } → list_all fits_stats stats ≡ true → IsRun run.machine log
+run_is run k items stats end log merged counted over is ranged = subst (λ (l : Log). IsRun run.machine l) (sym is) (by end over)
   where
     m : Machine
     m = run.machine
 
-    laid : IsLaidTable (looked_of run.seat) (reverse run.journal) (kept_histories run.sources)
-    laid = subst (λ (h : List (List SourceEntry)). IsLaidTable (looked_of run.seat) (reverse run.journal) h) kept table
-
-    entries_are : items ≡ merge (reverse run.journal) (kept_histories run.sources)
-    entries_are = merged ∙ ap (merge (reverse run.journal)) kept
-
     told : list_all (is_told m) (reverse items) ≡ true
-    told = subst (λ (xs : List Entry). list_all (is_told m) (reverse xs) ≡ true) (sym entries_are) (told_all m run.journal run.sources jobs run.floor r)
+    told = subst (λ (xs : List Entry). list_all (is_told m) (reverse xs) ≡ true) (sym merged) (told_all m run.journal run.sources k.on.jobs run.floor k.on.running)
 
     by : (end : LogEnd) → EndsSo run end → IsRun m (record { entries = items; stats = stats; end = end })
     by Finished over =
         let log : Log = record { entries = items; stats = stats; end = Finished } in
-        let ends = running_ends m run.journal run.sources jobs run.floor r laid.steps laid.looks laid.answer over.0 laid.laid (laid.seen over.0 over.1.seen) over.1.high log
-            (record { entries = entries_are; stats = counted ∙ stats_are m run.journal run.sources jobs run.floor r }) in
-        run_of m log r.accepted ends.0 (inl (ends.1 refl over.2)) told ranged
+        let ends = running_ends m run.journal run.sources k.on.jobs run.floor k.on.running k.laid.steps k.laid.looks k.laid.answer over.0 k.laid.laid (k.laid.seen over.0 over.1.seen) over.1.high log
+            (record { entries = merged; stats = counted ∙ stats_are m run.journal run.sources k.on.jobs run.floor k.on.running }) in
+        run_of m log k.on.running.accepted ends.0 (inl (ends.1 refl over.2)) told ranged
     by (Stuck those) over =
         let log : Log = record { entries = items; stats = stats; end = Stuck those } in
-        let ends = running_ends m run.journal run.sources jobs run.floor r laid.steps laid.looks laid.answer over.0 laid.laid (laid.seen over.0 over.1.seen) over.1.high log
-            (record { entries = entries_are; stats = counted ∙ stats_are m run.journal run.sources jobs run.floor r }) in
-        run_of m log r.accepted ends.0 (inr (ends.2 (ap Stuck over.3) over.2.left over.2.idle over.2.timeless)) told ranged
+        let ends = running_ends m run.journal run.sources k.on.jobs run.floor k.on.running k.laid.steps k.laid.looks k.laid.answer over.0 k.laid.laid (k.laid.seen over.0 over.1.seen) over.1.high log
+            (record { entries = merged; stats = counted ∙ stats_are m run.journal run.sources k.on.jobs run.floor k.on.running }) in
+        run_of m log k.on.running.accepted ends.0 (inr (ends.2 (ap Stuck over.3) over.2.left over.2.idle over.2.timeless)) told ranged
+
+-- why a run of which a call was refused gives nothing, by a look at what is the same run
+pub fault_is : (old run : RunState) (word : EventNow) (given : RunFault) → IsSame old run → IsSeen run word → IsClosed run → IsRefused old given → Fails old.machine given
+fault_is old run word (fault.SourceFull s) same seen k refused =
+    let keeps = running_keeps run.machine run.journal run.sources k.on.jobs run.floor k.on.running k.laid.steps k.laid.looks k.laid.answer word k.laid.laid (k.laid.seen word seen.seen) seen.high s in
+    (refused.0, omega (arith, refused.1, keeps, ap (λ (xs : List SourceState). length (of_sources xs s)) same.sources, ap (λ (m : Machine). places m s) same.machine))
+fault_is old run word fault.Mem same seen k refused = tt
 
 -- ---- who waits
 

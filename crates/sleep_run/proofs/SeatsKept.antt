@@ -1,12 +1,16 @@
 -- The sources of a run, with their seats.
-use Rattle.std.proofs.Common.{◌≡◌, ◌≤◌, ◌<◌, ◌+◌, ◌∙◌, ◌⊎◌, inl, inr, ℕ, zero, suc, Bool, true, false, ◌==◌, List, [], ◌∷◌, length, map, sum, slice_set, slice_index_or, refl, sym, ap, subst, arith}
+use Rattle.std.proofs.Common.{◌≡◌, ◌≤◌, ◌<◌, ◌+◌, ◌∙◌, ◌⊎◌, inl, inr, ℕ, zero, suc, Bool, true, false, ◌==◌, List, [], ◌∷◌, length, map, reverse, slice_set, slice_index_or, refl, sym, ap, subst, arith}
 use Rattle.std.proofs.lemmas.List.{length-map, length-set}
 use mathlib.Core.Option.{some}
 use lib.ListN.{get_elem?}
 use Rattle.event_word.specs.Seats.{AreAll, AreNew, IsSeatOf, Token, number_of, sources_of}
 use Rattle.wakeup_source.specs.SourceStates.{SourceState, new_source}
+use Rattle.sleep_model.specs.declared.entry.SourceEntry.{SourceEntry}
+use Rattle.run_objects.specs.Closed.{histories_of}
+use Rattle.running_laws.specs.Running.{kept_histories}
 use Rattle.run_objects.specs.Objects.{AreUncalled, SeatedSourceState, seats_of}
 use Rattle.sleep_run.specs.RunFields as fields
+use Rattle.sleep_run.specs.Runs.{entries_in}
 
 -- ---- lists
 
@@ -15,7 +19,7 @@ set_mapped f [] i x = refl
 set_mapped f (y ∷ ys) zero x = refl
 set_mapped {A} {B} f (y ∷ ys) (suc i) x = ap (λ (l : List B). f y ∷ l) (set_mapped f ys i x)
 
-index_mapped : {A B : Type 0} (f : A → B) (xs : List A) (i : ℕ) (d : A) → slice_index_or (map f xs) i (f d) ≡ f (slice_index_or xs i d)
+pub index_mapped : {A B : Type 0} (f : A → B) (xs : List A) (i : ℕ) (d : A) → slice_index_or (map f xs) i (f d) ≡ f (slice_index_or xs i d)
 index_mapped f [] i d = refl
 index_mapped f (y ∷ ys) zero d = refl
 index_mapped f (y ∷ ys) (suc i) d = index_mapped f ys i d
@@ -36,6 +40,12 @@ elem_set {A} (y ∷ ys) (suc i) (suc k) x t e = more (elem_set ys i k x t e)
     more : ((k ≡ i) × (t ≡ x)) ⊎ (get_elem? ys k ≡ some t) → ((suc k ≡ suc i) × (t ≡ x)) ⊎ (get_elem? (y ∷ ys) (suc k) ≡ some t)
     more (inl h) = inl (ap suc h.0, h.1)
     more (inr h) = inr h
+
+-- one that is put back
+pub put_back : {A : Type 0} (xs : List A) (i : ℕ) (x : A) → x ≡ slice_index_or xs i x → slice_set xs i x ≡ xs
+put_back [] i x is = refl
+put_back {A} (y ∷ ys) zero x is = ap (λ (z : A). z ∷ ys) is
+put_back {A} (y ∷ ys) (suc i) x is = ap (λ (l : List A). y ∷ l) (put_back ys i x is)
 
 -- ---- a source that is called
 
@@ -77,11 +87,10 @@ seats_same look new ts table sources all = record {
 
 -- ---- how many entries there are
 
-pub sum_set : (xs : List SourceState) (i : ℕ) (x new : SourceState) → i < length xs → x ≡ slice_index_or xs i x → length x.past < length new.past
-    → sum (map (λ s. length s.past) xs) < sum (map (λ s. length s.past) (slice_set xs i new))
-sum_set [] i x new l is more = absurd (omega arith)
-sum_set (y ∷ ys) zero x new l is more = omega (arith, more, ap (λ (s : SourceState). length s.past) is)
-sum_set (y ∷ ys) (suc i) x new l is more = omega (arith, sum_set ys i x new (omega (arith, l)) is more)
+pub more_set : (xs : List SourceState) (i : ℕ) (x new : SourceState) → i < length xs → x ≡ slice_index_or xs i x → length x.past < length new.past → entries_in xs < entries_in (slice_set xs i new)
+more_set [] i x new l is more = absurd (omega arith)
+more_set (y ∷ ys) zero x new l is more = omega (arith, more, ap (λ (s : SourceState). length s.past) is)
+more_set (y ∷ ys) (suc i) x new l is more = omega (arith, more_set ys i x new (omega (arith, l)) is more)
 
 -- ---- at first
 
@@ -92,3 +101,10 @@ uncalled_at xs new s none l = by xs s (omega (arith, l, length-map xs (λ (x : S
     by [] i l h = absurd (omega arith)
     by (y ∷ ys) zero l h = h y refl
     by (y ∷ ys) (suc i) l h = by ys i (omega (arith, l)) h
+
+-- ---- at the end
+
+-- the histories that are kept are the sources'
+pub histories_kept : (xs : List SeatedSourceState) → histories_of xs ≡ kept_histories (fields.sources_of xs)
+histories_kept [] = refl
+histories_kept (x ∷ xs) = ap (λ (hs : List (List SourceEntry)). reverse x.source.past ∷ hs) (histories_kept xs)

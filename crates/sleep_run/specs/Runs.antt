@@ -1,5 +1,5 @@
 -- A run of a machine, as far as it has come.
-use Rattle.std.specs.Prelude.{◌≡◌, ◌≤◌, ◌<◌, ◌+◌, ◌⊎◌, Bool, true, false, ℕ, List, length, map, reverse, sum, None, Result, Ok, Err}
+use Rattle.std.specs.Prelude.{◌≡◌, ◌≤◌, ◌<◌, ◌+◌, ◌⊎◌, Bool, true, false, ℕ, List, [], ◌∷◌, length, reverse, None, Result, Ok, Err}
 use Rattle.std.specs.List.{list_any}
 use Rattle.sleep_model.specs.declared.entry.Actor.{Actor}
 use Rattle.sleep_model.specs.declared.entry.JournalEntry.{JournalEntry}
@@ -24,7 +24,9 @@ use Rattle.event_word.specs.Seats.{Token, floor_of, looked_of}
 use Rattle.sleep_state.specs.Places.{entries}
 use Rattle.sleep_core.specs.Cores.{IsActor}
 use Rattle.wakeup_source.specs.SourceStates.{SourceState}
-use Rattle.running_laws.specs.Running.{calls_made, histories, of_sources}
+use Rattle.sleep_script.specs.Jobs.{JobState}
+use Rattle.running_laws.specs.Running.{IsRunning, calls_made, histories, kept_histories, of_sources}
+use Rattle.run_objects.specs.Closed.{IsLaidTable}
 use Rattle.sleep_run.specs.declared.rest.Rest.{Rest}
 use Rattle.sleep_run.specs.declared.rest.Rest.TheVariants.{GoesOn, Finished, Stuck}
 use Rattle.sleep_run.specs.declared.run.RunFault.{RunFault}
@@ -38,9 +40,19 @@ pub record RunState : Type 0 where
   pub seat : Token
   pub floor : Stamp
 
+-- how many entries these sources have
+abbrev pub entries_in : List SourceState → ℕ
+entries_in [] = 0
+entries_in (source ∷ sources) = length source.past + entries_in sources
+
 -- how many entries were made
 abbrev pub entries_made : RunState → ℕ
-entries_made run = length run.journal + sum (map (λ s. length s.past) run.sources)
+entries_made run = length run.journal + entries_in run.sources
+
+-- a run goes on, as each actor's job does
+pub record IsGoingOn (run : RunState) : Type 0 where
+  pub jobs : Actor → JobState
+  pub running : IsRunning run.machine run.journal run.sources jobs run.floor
 
 -- nothing was made: at most the word was looked at
 pub record IsSame (old new : RunState) : Type 0 where
@@ -63,6 +75,11 @@ IsFull m s = (s ≤ length m.sources) × (most_entries < places m s + 4)
 abbrev pub Fails : Machine → RunFault → Type 0
 Fails m (fault.SourceFull s) = IsFull m s
 Fails m fault.Mem = Unit {0}
+
+-- the table of the event word was closed, and lays all steps of the run
+pub record IsClosed (run : RunState) : Type 0 where
+  pub on : IsGoingOn run
+  pub laid : IsLaidTable (looked_of run.seat) (reverse run.journal) (kept_histories run.sources)
 
 -- a call on that source was refused: its history has fewer than four places left, or memory ran out
 abbrev pub IsRefused : RunState → RunFault → Type 0

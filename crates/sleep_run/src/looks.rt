@@ -46,7 +46,8 @@ impl<'m> Run<'m> {
         requires { source ≤ length self.now.machine.sources }
         ensures { result ≡ expiry (histories self.now.sources source) }
     {
-        self.sources[source as usize].source().due()
+        let one = &self.sources[source as usize];
+        one.source().due()
     }
 
     /// Whether the event in progress of a source is to end now.

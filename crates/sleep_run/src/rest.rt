@@ -14,7 +14,9 @@ use log_merge::merge_journal;
 use run_objects::{SeatedSource, close_table};
 use sleep_base::Mem;
 use sleep_core::Core;
-use sleep_model::{Actor, Due, EntryList, EventNow, ListOf, Log, LogEnd, Stats, Waiting};
+use sleep_model::{
+    Actor, Due, EntryList, EventNow, Journal, ListOf, Log, LogEnd, SourceList, Stats, Waiting,
+};
 use std::alloc::{AllocError, Global};
 use std::sync::Wait;
 
@@ -97,8 +99,8 @@ impl<'m> Run<'m> {
     ghost use Rattle.sleep_model.specs.Legal.{JumpStep, is_enabled, none_enabled, none_expires, waiting};
     ghost use Rattle.sleep_model.specs.Numbers.{time_of};
     ghost use Rattle.sleep_state.specs.Places.{entries};
-    ghost use Rattle.running_laws.specs.Running.{histories};
-    ghost use Rattle.sleep_run.specs.Runs.{is_resting, IsCalm, IsHalted, IsSeen, AfterRest, AfterAll, EndsSo, Fails, IsRefused, IsRun, entries_made};
+    ghost use Rattle.running_laws.specs.Running.{histories, kept_histories};
+    ghost use Rattle.sleep_run.specs.Runs.{is_resting, IsCalm, IsClosed, IsHalted, IsSeen, AfterRest, AfterAll, EndsSo, Fails, IsRefused, IsRun, entries_made};
 
     /// Whether all is calm: nobody has a call on a source to make, and no attempt is open.
     fn is_calm(&self) -> bool
@@ -275,13 +277,12 @@ impl<'m> Run<'m> {
         Ok((end, stats))
     }
 
-    /// The log of a run that is over and ended so: the table of the event word is closed, and the journal and the
-    /// sources' histories are merged.
-    fn merged(self, alloc: Global, end: LogEnd, stats: Vec<Stats>) -> Result<Log, Mem>
-        requires end { EndsSo self end }
-        requires stats { stats.items ≡ all_stats self.sources (time_of (entries self.journal)) }
-        requires ranged { list_all fits_stats stats.items ≡ true }
-        ensures { IfOk result (λ log. IsRun self.entry.machine log) }
+    /// The journal and the sources' histories, of which the closed table of the event word lays all steps. `Mem` where
+    /// there is no memory.
+    fn closed(self, alloc: Global) -> Result<(Journal, Vec<SourceList>), Mem>
+        ensures journal { IfOk result (λ kept. kept.0.past ≡ self.entry.journal) }
+        ensures histories { IfOk result (λ kept. kept.1.items ≡ kept_histories self.entry.sources) }
+        ensures laid { OnOk result (IsClosed self.entry) }
     {
         let Run {
             table,
@@ -289,7 +290,18 @@ impl<'m> Run<'m> {
             seated,
             ..
         } = self;
-        let (journal, histories) = close_table(alloc, table, sources, seated)?;
+        let kept = close_table(alloc, table, sources, seated)?;
+        Ok(kept)
+    }
+
+    /// The log of a run that is over and ended so: its journal and its sources' histories are merged.
+    fn merged(self, alloc: Global, end: LogEnd, stats: Vec<Stats>) -> Result<Log, Mem>
+        requires end { EndsSo self end }
+        requires stats { stats.items ≡ all_stats self.sources (time_of (entries self.journal)) }
+        requires ranged { list_all fits_stats stats.items ≡ true }
+        ensures { IfOk result (λ log. IsRun self.entry.machine log) }
+    {
+        let (journal, histories) = self.closed(alloc)?;
         let entries = merge_journal(alloc, journal, &histories)?;
         Ok(log_of(entries, stats, end))
     }
@@ -307,20 +319,17 @@ impl<'m> Run<'m> {
 
     /// Why a run gives nothing, of which a call was refused: where a source is full, the table of the event word is
     /// closed, and what was made up to then is a legal log, so the machine's calls may fill the source.
-    pub(crate) fn into_fault<R: Wait>(mut self, rt: &R, alloc: Global, fault: RunFault) -> RunFault
-        requires { IsRefused self.entry fault }
-        ensures { Fails self.entry.machine result }
+    pub(crate) fn into_fault<R: Wait>(
+        mut self,
+        rt: &R,
+        alloc: Global,
+        fault: RunFault,
+    ) -> Result<RunFault, Mem>
+        requires { IsRefused self fault }
+        ensures { IfOk result (Fails self.entry.machine) }
     {
-        let _ = self.look(rt);
-        let Run {
-            table,
-            sources,
-            seated,
-            ..
-        } = self;
-        match close_table(alloc, table, sources, seated) {
-            Ok(_) => fault,
-            Err(_) => RunFault::Mem,
-        }
+        let _word = self.look(rt);
+        let _kept = self.closed(alloc)?;
+        Ok(fault)
     }
 }

@@ -207,7 +207,7 @@ impl<'m> Run<'m> {
     {
         match self.all_rounds(rt) {
             Ok(rest) => Ok(self.into_log(alloc, rest)?),
-            Err(fault) => Err(self.into_fault(rt, alloc, fault)),
+            Err(fault) => Err(self.into_fault(rt, alloc, fault)?),
         }
     }
 }

@@ -162,7 +162,7 @@ impl<'m> Run<'m> {
     ghost use Rattle.running_laws.specs.Running.{CallsNext, calls_made, histories, of_sources};
     ghost use Rattle.run_objects.specs.Objects.{AreUncalled, seats_of};
     ghost use Rattle.sleep_run.specs.declared.run.RunFault.TheVariants as fault;
-    ghost use Rattle.sleep_run.specs.Runs.{IsRefused, IsSame, IsSeen, entries_made};
+    ghost use Rattle.sleep_run.specs.Runs.{IsGoingOn, IsRefused, IsSame, IsSeen, entries_made};
     ghost use Rattle.sleep_run.specs.Tries.{AfterAsking};
     ghost use Rattle.sleep_run.specs.JobsOf.{first_jobs};
 
@@ -217,7 +217,8 @@ impl<'m> Run<'m> {
     /// The machine's core.
     #[inline(always)]
     pub(crate) fn core(&self) -> &Core<'m>
-        ensures { result.now ≡ record { machine = self.now.machine; past = self.now.journal } }
+        ensures is { result.now ≡ record { machine = self.now.machine; past = self.now.journal } }
+        ensures kept { IsGoingOn self.now }
     {
         self.seated.core()
     }
