@@ -1,25 +1,21 @@
 -- A call on a source of a run.
-use Rattle.std.proofs.Common.{◌≡◌, ◌≤◌, ◌<◌, ◌+◌, ◌∙◌, ℕ, suc, List, [], ◌∷◌, Bool, true, false, nat_lt, length, map, slice_set, slice_index_or, refl, sym, ap, subst, arith}
+use Rattle.std.proofs.Common.{◌≡◌, ◌≤◌, ◌<◌, ◌+◌, ◌∙◌, ℕ, List, [], ◌∷◌, Bool, true, false, nat_lt, length, map, slice_set, slice_index_or, refl, sym, ap, subst, arith}
 use Rattle.std.proofs.lemmas.Bool.Decides.{nat_tests}
 use Rattle.std.proofs.lemmas.List.{length-map}
-use Rattle.sleep_model.specs.declared.entry.JournalEntry.{JournalEntry}
-use Rattle.sleep_model.specs.declared.entry.SourceEntry.{SourceEntry}
-use Rattle.sleep_model.specs.declared.machine.Machine.{Machine}
 use Rattle.sleep_model.specs.declared.machine.SourceCall.{SourceCall}
-use Rattle.sleep_model.specs.declared.word.EventNow.{EventNow}
 use Rattle.sleep_model.specs.declared.word.WordKind.{WordKind}
 use Rattle.sleep_model.specs.Merge.{of_source}
 use Rattle.sleep_model.specs.Numbers.{time_of}
 use Rattle.sleep_model.specs.Sources.{makes, since, most_entries}
 use Rattle.sleep_state.specs.Places.{entries}
-use Rattle.event_word.specs.Seats.{IsSeatOf, number_of}
+use Rattle.event_word.specs.Seats.{IsSeatOf}
 use Rattle.wakeup_source.specs.declared.call_by.CallBy.{CallBy}
 use Rattle.wakeup_source.specs.declared.fault.SourceFault.{SourceFault}
 use Rattle.wakeup_source.specs.declared.fault.SourceFault.TheVariants as source
 use Rattle.wakeup_source.specs.Called.{Calls, Scene, Steps, after_note, after_step}
 use Rattle.wakeup_source.specs.SourceStates.{SourceState, latest}
 use Rattle.wakeup_source.specs.SourceStates as states
-use Rattle.run_objects.specs.Objects.{SeatedSourceState, scene_of, seats_of}
+use Rattle.run_objects.specs.Objects.{SeatedSourceState}
 use Rattle.running_laws.specs.Running.{histories, of_sources}
 use Rattle.running_laws.proofs.Asked.{timely}
 use Rattle.running_laws.proofs.Lists.{history_at, source_at}
@@ -65,8 +61,12 @@ module _ (r : Inside) (k : KeepsRun r) (s : ℕ) (there : s ≤ length r.machine
   -- none of its entries is later than now
   pub not_later : (at : ℕ) → at ≡ time_of (entries r.seated.core.past) → latest (states.bare one.source.past) ≤ at
   not_later at now =
-      omega (arith, now, timely r.machine.now r.seated.core.past sources (job_at r.jobs) r.floor k.running s one.source within_sources,
-      ap (λ (x : SourceState). latest (states.bare x.past)) old_is)
+      omega (
+        arith,
+        now,
+        timely r.machine.now r.seated.core.past sources (job_at r.jobs) r.floor k.running s one.source within_sources,
+        ap (λ (x : SourceState). latest (states.bare x.past)) old_is,
+      )
 
   -- its entries are the run's of that source
   pub entries_are : of_sources sources s ≡ map of_source one.source.past

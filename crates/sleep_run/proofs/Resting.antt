@@ -1,12 +1,11 @@
 -- Where a run rests, and how it ends.
-use Rattle.std.proofs.Common.{◌≡◌, ◌≤◌, ◌<◌, ◌+◌, ◌++◌, ◌∙◌, ◌⊎◌, inl, inr, ℕ, zero, suc, Bool, true, false, not, ◌&&◌, ◌||◌, List, [], ◌∷◌, length, map, reverse, drop, Option, Some, None, is_none, slice_get, slice_index_or, Ok, refl, sym, ap, ap₂, subst, cond, append_assoc, arith}
+use Rattle.std.proofs.Common.{◌≡◌, ◌≤◌, ◌<◌, ◌+◌, ◌++◌, ◌∙◌, ◌⊎◌, inl, inr, ℕ, zero, suc, Bool, true, false, not, ◌&&◌, ◌||◌, List, [], ◌∷◌, length, reverse, drop, Option, Some, None, is_none, slice_get, Ok, refl, sym, ap, ap₂, subst, cond, append_assoc, arith}
 use Rattle.std.specs.List.{list_all}
 use Rattle.std.proofs.lemmas.List.{length-set, length-replicate, drop_all}
 use Rattle.sleep_model.specs.declared.entry.Actor.{Actor}
 use Rattle.sleep_model.specs.declared.entry.Actor.TheVariants as actor
 use Rattle.sleep_model.specs.declared.entry.Entry.{Entry}
 use Rattle.sleep_model.specs.declared.entry.JournalEntry.{JournalEntry}
-use Rattle.sleep_model.specs.declared.entry.SourceEntry.{SourceEntry}
 use Rattle.sleep_model.specs.declared.log.Log.{Log}
 use Rattle.sleep_model.specs.declared.log.LogEnd.{LogEnd}
 use Rattle.sleep_model.specs.declared.log.LogEnd.TheVariants.{Finished, Stuck}
@@ -18,13 +17,12 @@ use Rattle.sleep_model.specs.declared.place.Due.{Due}
 use Rattle.sleep_model.specs.declared.place.Due.TheVariants.{Makes, Waits, Gone}
 use Rattle.sleep_model.specs.declared.place.Seat.{Seat}
 use Rattle.sleep_model.specs.declared.word.EventNow.{EventNow}
-use Rattle.sleep_model.specs.declared.word.Stamp.{Stamp}
 use Rattle.sleep_model.specs.Accepted.{IsAccepted}
 use Rattle.sleep_model.specs.Attempt.{attempt_due}
 use Rattle.sleep_model.specs.Due.{due, own_due, all_gone}
 use Rattle.sleep_model.specs.Fits.{fits_stats}
 use Rattle.sleep_model.specs.Freezer.{freezing}
-use Rattle.sleep_model.specs.Legal.{IsLegalLog, IsFinishedLog, IsStuckLog, is_enabled, is_finished, is_idle, next_time, none_enabled, put_waiting, waiting, waiting_from}
+use Rattle.sleep_model.specs.Legal.{IsLegalLog, IsFinishedLog, IsStuckLog, is_enabled, next_time, none_enabled, put_waiting, waiting, waiting_from}
 use Rattle.sleep_model.specs.Merge.{merge}
 use Rattle.sleep_model.specs.Numbers.{time_of}
 use Rattle.sleep_model.specs.Path.{maker, is_actor}
@@ -36,16 +34,15 @@ use Rattle.sleep_state.specs.Places.{entries}
 use Rattle.sleep_laws.proofs.Closing.{ends_closed}
 use Rattle.sleep_laws.proofs.Held.{guarded_sleep}
 use Rattle.sleep_laws.proofs.Lawful.{laws_of_legal}
-use Rattle.sleep_script.specs.Jobs.{JobState}
 use Rattle.growth_laws.specs.Ranged.{is_told}
 use Rattle.growth_laws.proofs.Fitted.{log_fits}
 use Rattle.wakeup_source.specs.SourceStates.{SourceState}
 use Rattle.sleep_run.specs.declared.run.RunFault.{RunFault}
 use Rattle.sleep_run.specs.declared.run.RunFault.TheVariants as fault
-use Rattle.running_laws.specs.Running.{IsRunning, histories, kept_histories, of_sources}
+use Rattle.running_laws.specs.Running.{histories, kept_histories, of_sources}
 use Rattle.running_laws.proofs.Ends.{running_ends, running_keeps, stats_are, told_all}
 use Rattle.sleep_run.specs.Waits.{all_stats, waits_of}
-use Rattle.sleep_run.specs.Runs.{AfterTry, EndsSo, Fails, IsClosed, IsHalted, IsRefused, IsRun, IsSame, IsSeen, RunState, entries_in, entries_made, is_over, is_resting}
+use Rattle.sleep_run.specs.Runs.{AfterTry, EndsSo, Fails, IsClosed, IsHalted, IsRefused, IsRun, IsSame, IsSeen, RunState, entries_in, entries_made, is_resting}
 
 -- ---- tries
 
@@ -114,12 +111,12 @@ run_is run k items stats end log merged counted over is ranged = subst (λ (l : 
     by Finished over =
         let log : Log = record { entries = items; stats = stats; end = Finished } in
         let ends = running_ends m run.journal run.sources k.on.jobs run.floor k.on.running k.laid.steps k.laid.looks k.laid.answer over.0 k.laid.laid (k.laid.seen over.0 over.1.seen) over.1.high log
-            (record { entries = merged; stats = counted ∙ stats_are m run.journal run.sources k.on.jobs run.floor k.on.running }) in
+        (record { entries = merged; stats = counted ∙ stats_are m run.journal run.sources k.on.jobs run.floor k.on.running }) in
         run_of m log k.on.running.accepted ends.0 (inl (ends.1 refl over.2)) told ranged
     by (Stuck those) over =
         let log : Log = record { entries = items; stats = stats; end = Stuck those } in
         let ends = running_ends m run.journal run.sources k.on.jobs run.floor k.on.running k.laid.steps k.laid.looks k.laid.answer over.0 k.laid.laid (k.laid.seen over.0 over.1.seen) over.1.high log
-            (record { entries = merged; stats = counted ∙ stats_are m run.journal run.sources k.on.jobs run.floor k.on.running }) in
+        (record { entries = merged; stats = counted ∙ stats_are m run.journal run.sources k.on.jobs run.floor k.on.running }) in
         run_of m log k.on.running.accepted ends.0 (inr (ends.2 (ap Stuck over.3) over.2.left over.2.idle over.2.timeless)) told ranged
 
 -- why a run of which a call was refused gives nothing, by a look at what is the same run

@@ -1,9 +1,9 @@
 -- The sources of a run, with their seats.
-use Rattle.std.proofs.Common.{◌≡◌, ◌≤◌, ◌<◌, ◌+◌, ◌∙◌, ◌⊎◌, inl, inr, ℕ, zero, suc, Bool, true, false, ◌==◌, List, [], ◌∷◌, length, map, reverse, slice_set, slice_index_or, refl, sym, ap, subst, arith}
+use Rattle.std.proofs.Common.{◌≡◌, ◌<◌, ◌∙◌, ◌⊎◌, inl, inr, ℕ, zero, suc, List, [], ◌∷◌, length, map, reverse, slice_set, slice_index_or, refl, sym, ap, subst, arith}
 use Rattle.std.proofs.lemmas.List.{length-map, length-set}
 use mathlib.Core.Option.{some}
 use lib.ListN.{get_elem?}
-use Rattle.event_word.specs.Seats.{AreAll, AreNew, IsSeatOf, Token, number_of, sources_of}
+use Rattle.event_word.specs.Seats.{AreAll, IsSeatOf, Token, number_of, sources_of}
 use Rattle.wakeup_source.specs.SourceStates.{SourceState, new_source}
 use Rattle.sleep_model.specs.declared.entry.SourceEntry.{SourceEntry}
 use Rattle.run_objects.specs.Closed.{histories_of}
@@ -59,8 +59,8 @@ source_is xs i x is = ap (λ (s : SeatedSourceState). s.source) is ∙ sym (inde
 pub seat_is : (look : Token) (xs : List SeatedSourceState) (i : ℕ) (x : SeatedSourceState) → AreAll look (seats_of xs) → i < length xs → x ≡ slice_index_or xs i x → IsSeatOf look.table_id i x.seat
 seat_is look xs i x all l is =
     let there : get_elem? (seats_of xs) i ≡ some x.seat =
-        elem_at (seats_of xs) i x.seat (omega (arith, l, length-map xs (λ (s : SeatedSourceState). s.seat)))
-        ∙ ap some (index_mapped (λ (s : SeatedSourceState). s.seat) xs i x ∙ ap (λ (s : SeatedSourceState). s.seat) (sym is)) in
+    elem_at (seats_of xs) i x.seat (omega (arith, l, length-map xs (λ (s : SeatedSourceState). s.seat)))
+    ∙ ap some (index_mapped (λ (s : SeatedSourceState). s.seat) xs i x ∙ ap (λ (s : SeatedSourceState). s.seat) (sym is)) in
     all.each_is i x.seat there
 
 -- and stays the source's there

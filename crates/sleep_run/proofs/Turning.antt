@@ -1,14 +1,12 @@
 -- A turn and a jump of a run.
-use Rattle.std.proofs.Common.{◌≡◌, ◌≤◌, ◌<◌, ◌+◌, ◌^◌, ◌∙◌, ℕ, suc, true, List, [], ◌∷◌, length, refl, sym, ap, subst, arith}
+use Rattle.std.proofs.Common.{◌≡◌, ◌≤◌, ◌∙◌, suc, List, [], ◌∷◌, length, refl, sym, ap, subst, arith}
 use Rattle.sleep_model.specs.declared.entry.Actor.{Actor}
-use Rattle.sleep_model.specs.declared.entry.Entry.{Entry}
 use Rattle.sleep_model.specs.declared.entry.JournalEntry.{JournalEntry}
 use Rattle.sleep_model.specs.declared.machine.Machine.{Machine}
 use Rattle.sleep_model.specs.Legal.{JournalPart}
 use Rattle.sleep_state.specs.Places.{entries}
-use Rattle.event_word.specs.Seats.{AreAll, Token, sources_of}
+use Rattle.event_word.specs.Seats.{AreAll, sources_of}
 use Rattle.sleep_core.specs.Cores.{CoreState, IsActor, with_entry}
-use Rattle.sleep_script.specs.Jobs.{JobState}
 use Rattle.sleep_script.proofs.Following.{turns_few}
 use Rattle.run_objects.specs.Objects.{SeatedCoreState, seats_of}
 use Rattle.running_laws.specs.Running.{IsRunning}

@@ -1,5 +1,5 @@
 -- What a run's fields are.
-use Rattle.std.specs.Prelude.{◌≡◌, length, List, map}
+use Rattle.std.specs.Prelude.{◌≡◌, List, map}
 use Rattle.event_word.specs.Seats.{AreAll}
 use Rattle.wakeup_source.specs.SourceStates.{SourceState}
 use Rattle.running_laws.specs.Running.{IsRunning}

@@ -35,11 +35,7 @@ pub(crate) enum Rest {
 }
 
 /// The statistics of the sources at that moment.
-fn stats_of(
-    alloc: Global,
-    sources: &[SeatedSource],
-    at: u64,
-) -> Result<Vec<Stats>, AllocError>
+fn stats_of(alloc: Global, sources: &[SeatedSource], at: u64) -> Result<Vec<Stats>, AllocError>
     requires time { All (λ s. latest (bare s.source.past) ≤ at) sources.now }
     requires small { at ≤ 2 ^ 63 }
     ensures all { IfOk result (λ v. v.items ≡ all_stats (sources_of sources.now) at) }

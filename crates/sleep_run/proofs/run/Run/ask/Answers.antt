@@ -1,4 +1,4 @@
-use Rattle.std.proofs.Common.{◌≡◌, subst}
+use Rattle.std.proofs.Common.{subst}
 use Rattle.sleep_state.specs.Places.{entries}
 use Rattle.sleep_script.specs.Jobs.{IsWanted}
 use Rattle.sleep_script.proofs.Following.{wanted_source, wanted_core}

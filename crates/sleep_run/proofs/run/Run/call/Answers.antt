@@ -2,7 +2,6 @@ use Rattle.std.proofs.Common.{◌≡◌, ◌≤◌, ◌<◌, ◌+◌, ◌^◌, �
 use Rattle.std.proofs.lemmas.List.{length-map}
 use Rattle.sleep_model.specs.declared.entry.Actor.{Actor}
 use Rattle.sleep_model.specs.declared.machine.SourceCall.{SourceCall}
-use Rattle.sleep_model.specs.declared.word.Stamp.{Stamp}
 use Rattle.sleep_model.specs.Numbers.{time_of}
 use Rattle.sleep_model.specs.Sources.{most_entries}
 use Rattle.sleep_state.specs.Places.{entries}
@@ -11,7 +10,7 @@ use Rattle.sleep_script.specs.Jobs.{after_call}
 use Rattle.wakeup_source.specs.declared.call_by.CallBy.{CallBy}
 use Rattle.wakeup_source.specs.SourceStates.{SourceState}
 use Rattle.run_objects.specs.Objects.{SeatedSourceState, scene_of}
-use Rattle.running_laws.specs.Running.{CallsNext, IsRunning, IsWith, of_sources}
+use Rattle.running_laws.specs.Running.{CallsNext, IsRunning, of_sources}
 use Rattle.running_laws.proofs.Asked.{call_is, call_left, call_may, call_there}
 use Rattle.running_laws.proofs.Calls.{IsCalledNow, running_call}
 use Rattle.running_laws.proofs.Kept.{actor_told}
@@ -19,7 +18,7 @@ use Rattle.sleep_run.specs.declared.run.Run.TheInside.{Inside}
 use Rattle.sleep_run.specs.declared.run.RunFault.TheVariants as fault
 use Rattle.sleep_run.specs.JobsOf.{AreAllJobs, JobsState, job_at, with_job}
 use Rattle.sleep_run.specs.RunFields.{KeepsRun, sources_of, state}
-use Rattle.sleep_run.specs.Runs.{IsRefused, RunState, entries_made}
+use Rattle.sleep_run.specs.Runs.{RunState, entries_made}
 use Rattle.sleep_run.proofs.Calling.{at_table, call_more, more_entries, not_later, old_is, refused, refused_put, wanted, within}
 use Rattle.sleep_run.proofs.JobsKept.{all_jobs_with, has_job, jobs_with}
 use Rattle.sleep_run.proofs.SeatsKept.{seats_set, sources_set}

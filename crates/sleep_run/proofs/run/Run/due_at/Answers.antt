@@ -1,5 +1,4 @@
-use Rattle.std.proofs.Common.{◌≡◌, ◌≤◌, ◌∙◌, List, length, sym, ap, subst}
-use Rattle.sleep_model.specs.declared.entry.Entry.{Entry}
+use Rattle.std.proofs.Common.{◌≤◌, ◌∙◌, length, sym, ap, subst}
 use Rattle.sleep_model.specs.Sources.{expiry}
 use Rattle.wakeup_source.specs.SourceStates.{SourceState, bare}
 use Rattle.running_laws.specs.Running.{histories}

@@ -1,4 +1,4 @@
-use Rattle.std.proofs.Common.{◌≡◌, ◌≤◌, ◌<◌, ◌+◌, ◌∙◌, ℕ, List, true, nat_le, length, slice_set, refl, sym, ap, subst, arith, Err}
+use Rattle.std.proofs.Common.{◌≡◌, ◌≤◌, ◌+◌, ◌∙◌, ℕ, List, true, nat_le, length, refl, sym, ap, subst, arith, Err}
 use Rattle.std.proofs.lemmas.Bool.Decides.{nat_tests}
 use Rattle.std.proofs.lemmas.List.{length-map}
 use Rattle.sleep_model.specs.declared.entry.Actor.TheVariants as actor
@@ -33,7 +33,7 @@ due : (r : Inside) (s : RunState) → state r ≡ s → (source at : ℕ) (one :
     → has_expired (expiry (histories s.sources source)) (time_of (entries s.journal)) ≡ true → has_expired (expiry (bare one.past)) at ≡ true
 due r s same source at one own now h =
     let mine : has_expired (expiry (histories (sources_of r.sources.items) source)) (time_of (entries r.seated.core.past)) ≡ true =
-        subst (λ (x : RunState). has_expired (expiry (histories x.sources source)) (time_of (entries x.journal)) ≡ true) (sym same) h in
+    subst (λ (x : RunState). has_expired (expiry (histories x.sources source)) (time_of (entries x.journal)) ≡ true) (sym same) h in
     subst (λ (t : ℕ). has_expired (expiry (bare one.past)) t ≡ true) (sym now) (subst (λ (xs : List Entry). has_expired (expiry xs) (time_of (entries r.seated.core.past)) ≡ true) own mine)
 
 pub index_mut-one-requires : goal.index_mut-one-requires

@@ -1,4 +1,4 @@
-use Rattle.std.proofs.Common.{◌≡◌, ◌∙◌, ◌||◌, nat_lt, sym, ap}
+use Rattle.std.proofs.Common.{◌∙◌, ◌||◌, nat_lt, ap}
 use Rattle.sleep_model.specs.Calls.{calls_due}
 use Rattle.sleep_model.specs.Due.{due}
 use Rattle.sleep_model.specs.Legal.{is_made}

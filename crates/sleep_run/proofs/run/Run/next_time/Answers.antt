@@ -1,8 +1,7 @@
-use Rattle.std.proofs.Common.{◌≡◌, ◌∙◌, Option, ℕ, sym, ap}
-use Rattle.sleep_model.specs.Legal.{journal_time, next_time, sooner}
+use Rattle.std.proofs.Common.{◌∙◌, Option, ℕ, sym, ap}
+use Rattle.sleep_model.specs.Legal.{journal_time, sooner}
 use Rattle.sleep_state.specs.Places.{entries}
 use Rattle.sleep_core.specs.Cores.{CoreState}
-use Rattle.running_laws.specs.Running.{histories}
 use Rattle.running_laws.proofs.Asked.{closes}
 use Rattle.sleep_run.proofs.run.Run.next_time.Goals as goal
 

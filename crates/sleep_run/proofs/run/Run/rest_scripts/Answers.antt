@@ -15,6 +15,6 @@ returns-then-are_still c =
     let core = c.core.result.now in
     let calm : IsCalm s = subst (λ (b : Bool). OnTrue b (IsCalm s)) c.if-calm.true c.requires in
     let still : AllStill (seats (length s.machine.actors) (entries s.journal)) (time_of (entries s.journal)) =
-        subst (λ (x : CoreState). AllStill (seats (length x.machine.actors) (entries x.past)) (time_of (entries x.past))) c.core.ensures.is
-        (subst (λ (b : Bool). OnTrue b (AllStill (seats (length core.machine.actors) (entries core.past)) (time_of (entries core.past)))) c.if-are_still.true c.are_still.ensures) in
+    subst (λ (x : CoreState). AllStill (seats (length x.machine.actors) (entries x.past)) (time_of (entries x.past))) c.core.ensures.is
+    (subst (λ (b : Bool). OnTrue b (AllStill (seats (length core.machine.actors) (entries core.past)) (time_of (entries core.past)))) c.if-are_still.true c.are_still.ensures) in
     sym (no_script s c.core.ensures.kept calm c.args.word still)

@@ -1,7 +1,6 @@
-use Rattle.std.proofs.Common.{◌≡◌, ◌≤◌, ◌<◌, ◌∙◌, ℕ, List, ◌∷◌, length, true, Ok, refl, sym, ap, subst, arith}
+use Rattle.std.proofs.Common.{◌≡◌, ◌∙◌, List, ◌∷◌, length, true, Ok, sym, ap, subst, arith}
 use Rattle.sleep_model.specs.declared.entry.Actor.{Actor}
 use Rattle.sleep_model.specs.declared.entry.JournalEntry.{JournalEntry}
-use Rattle.sleep_model.specs.declared.machine.Machine.{Machine}
 use Rattle.sleep_model.specs.Calls.{calls_due}
 use Rattle.sleep_model.specs.Fits.{is_word64}
 use Rattle.sleep_model.specs.Numbers.{time_of}
@@ -12,13 +11,12 @@ use Rattle.sleep_core.specs.Cores.{CoreState, IsActor, made_entry}
 use Rattle.sleep_core.specs.Turned.{AfterTurn}
 use Rattle.sleep_script.specs.Jobs.{after_turn}
 use Rattle.running_laws.specs.Running.{IsRunning, calls_made}
-use Rattle.running_laws.proofs.Kept.{none_left}
 use Rattle.running_laws.proofs.Turns.{running_turn}
 use Rattle.sleep_run.specs.declared.run.Run.TheInside.{Inside}
 use Rattle.sleep_run.specs.JobsOf.{AreAllJobs, JobsState, job_at, with_job}
 use Rattle.sleep_run.specs.RunFields.{sources_of, state}
-use Rattle.sleep_run.specs.Runs.{RunState, entries_made}
-use Rattle.sleep_run.proofs.JobsKept.{all_jobs_with, has_job, jobs_with}
+use Rattle.sleep_run.specs.Runs.{RunState}
+use Rattle.sleep_run.proofs.JobsKept.{all_jobs_with, jobs_with}
 use Rattle.sleep_run.proofs.Turning.{few_turns, legal_after, looked_machine, looked_running, looked_seats, looked_table}
 use Rattle.sleep_run.proofs.run.Run.turn.Goals as goal
 
@@ -58,7 +56,7 @@ invariant_of-self-in-Did g c =
     let past : new.core.past ≡ e ∷ journal = ap (λ (x : CoreState). x.past) did.1 in
     let job = after_turn c.in-Did.stamp kind c.in-Did.attempt (job_at r.jobs who) in
     let timed : is_word64 (time_of (entries journal)) ≡ true =
-        ap is_word64 (ap (λ (x : RunState). time_of (entries x.journal)) c.self.view_is ∙ (sym (ap (λ (x : CoreState). time_of (entries x.past)) c.core-2.ensures.is) ∙ sym c.time-time.ensures.time)) ∙ c.moments_are_ranged.ensures in
+    ap is_word64 (ap (λ (x : RunState). time_of (entries x.journal)) c.self.view_is ∙ (sym (ap (λ (x : CoreState). time_of (entries x.past)) c.core-2.ensures.is) ∙ sym c.time-time.ensures.time)) ∙ c.moments_are_ranged.ensures in
     record {
       machine_is = ap (λ (x : CoreState). x.machine) did.1 ∙ k.machine_is;
       running =
