@@ -34,7 +34,7 @@ use Rattle.run_laws.proofs.Held.{each_by, held_grows}
 
 -- ---- parts and lists
 
-part_note : (s : ℕ) (c : SourceCall) → part_of (note s c) ≡ Notes s c
+pub part_note : (s : ℕ) (c : SourceCall) → part_of (note s c) ≡ Notes s c
 part_note s call.Awake = refl
 part_note s call.Relax = refl
 part_note s (call.Event ms hard) = refl
@@ -45,7 +45,7 @@ part_step s step.Start = refl
 part_step s step.Finish = refl
 part_step s step.Hard = refl
 
-bare_same : (past : List SourceEntry) → states.bare past ≡ bare (map of_source past)
+pub bare_same : (past : List SourceEntry) → states.bare past ≡ bare (map of_source past)
 bare_same [] = refl
 bare_same (e ∷ past) = ap (λ (l : List Entry). e.entry ∷ l) (bare_same past)
 
@@ -68,7 +68,7 @@ known_longer t t' p p' h u q a b = grind (arith, nat_tests)
 at_most_self : (a : ℕ) → nat_le a a ≡ true
 at_most_self a = grind (arith, nat_tests)
 
-in_order_known : (floor : Stamp) (past : List SourceEntry) → AreInOrder floor past → knows floor (map of_source past) ≡ true
+pub in_order_known : (floor : Stamp) (past : List SourceEntry) → AreInOrder floor past → knows floor (map of_source past) ≡ true
 in_order_known floor [] h = refl
 in_order_known floor (e ∷ past) h = both (nat_le e.stamp.tick floor.tick) (nat_le (position_behind (of_source e)) floor.pos) (is e.stamp.tick floor.tick h.1) (is (position_behind (of_source e)) floor.pos h.0)
   where

@@ -45,7 +45,7 @@ rises_on (y ∷ l) x e h a = behind y l h
         (both_left (nat_lt y.stamp.tick z.stamp.tick && nat_le (position_behind y) z.stamp.pos) (rises_behind z (l ++ x ∷ [])) h)
         (behind z l (both_right (nat_lt y.stamp.tick z.stamp.tick && nat_le (position_behind y) z.stamp.pos) (rises_behind z (l ++ x ∷ [])) h))
 
-falling_rises : (l : List JournalEntry) → falls l ≡ true → rises (reverse l) ≡ true
+pub falling_rises : (l : List JournalEntry) → falls l ≡ true → rises (reverse l) ≡ true
 falling_rises [] h = refl
 falling_rises (e ∷ []) h = refl
 falling_rises (e ∷ x ∷ l) h =
@@ -116,7 +116,7 @@ any_reverse q (x ∷ l) h = ap (list_any q) (reverse-append (x ∷ []) l) ∙ by
     by true is h rest = any_last q (reverse l) x is
     by false is h rest = any_onto q (reverse l) (x ∷ []) (rest h)
 
-past_back : (l : List JournalEntry) → past_of (reverse l) ≡ bare l
+pub past_back : (l : List JournalEntry) → past_of (reverse l) ≡ bare l
 past_back l = ap (λ (k : List Entry). reverse k) (map_back l) ∙ reverse-reverse (map (λ (e : JournalEntry). e.entry) l)
 
 -- ---- the whole
@@ -126,7 +126,7 @@ module _ (m : Machine) (made : Made) (journal : List JournalEntry) (hs : List (L
   all = all_entries journal hs
 
   -- what each entry passes, all pass
-  told : (q : JournalEntry → Bool) → AllOf q made → list_all q all ≡ true
+  pub told : (q : JournalEntry → Bool) → AllOf q made → list_all q all ≡ true
   told q h =
       all_append q journal (sources_entries hs)
       (subst (λ (l : List JournalEntry). list_all q l ≡ true) (sym w.journal_is) (all_reverse q made.journal h.0))
@@ -219,7 +219,7 @@ module _ (m : Machine) (made : Made) (journal : List JournalEntry) (hs : List (L
   journal_back : past_of journal ≡ bare made.journal
   journal_back = ap past_of w.journal_is ∙ past_back made.journal
 
-  source_back : (s : ℕ) → source_past hs s ≡ bare (made.of s)
+  pub source_back : (s : ℕ) → source_past hs s ≡ bare (made.of s)
   source_back s = ap past_of (w.histories_are s) ∙ past_back (made.of s)
 
   legal : AreLegalApart m journal hs (λ who. reverse (made.own who))

@@ -41,7 +41,7 @@ of_journal = record { kept = refl; none = λ s. refl; there = λ m. refl; may = 
 of_time : IsOwn OfTime
 of_time = record { kept = refl; none = λ s. refl; there = λ m. refl; may = λ made e. tt; place = λ made e h. h }
 
-leaves : (e : JournalEntry) → is_journals e ≡ true → position_behind e ≡ e.stamp.pos
+pub leaves : (e : JournalEntry) → is_journals e ≡ true → position_behind e ≡ e.stamp.pos
 leaves e kept =
     let none : step_number e ≡ 0 = ap (λ (b : Bool). cond b 1 0) (kept_still e.entry.kind kept) in
     let sum : e.stamp.pos + step_number e ≡ e.stamp.pos + 0 = ap (λ (n : ℕ). e.stamp.pos + n) none in

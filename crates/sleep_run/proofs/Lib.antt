@@ -1,8 +1,8 @@
-pub mod AllEntries
 mod Calm
-pub mod JobsKept
 mod Owing
+pub mod Calling
+pub mod Fields
+pub mod JobsKept
 pub mod Resting
-pub mod Running
-pub mod SourcesKept
-pub mod Whole
+pub mod SeatsKept
+pub mod Turning

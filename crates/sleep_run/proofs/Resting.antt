@@ -1,95 +1,130 @@
--- Where a run rests.
-use Rattle.std.proofs.Common.{◌≡◌, ◌<◌, ◌+◌, ◌++◌, ◌∙◌, ◌⊎◌, inl, inr, ℕ, zero, suc, Bool, true, false, ◌&&◌, ◌||◌, List, [], ◌∷◌, length, map, reverse, drop, Option, Some, None, is_none, slice_get, slice_index_or, Ok, refl, sym, ap, ap₂, subst, cond, append_assoc, ◌≤◌, arith}
-use Rattle.std.specs.List.{list_all, range_with_len}
+-- Where a run rests, and how it ends.
+use Rattle.std.proofs.Common.{◌≡◌, ◌≤◌, ◌<◌, ◌+◌, ◌++◌, ◌∙◌, ◌⊎◌, inl, inr, ℕ, zero, suc, Bool, true, false, not, ◌&&◌, ◌||◌, List, [], ◌∷◌, length, reverse, drop, Option, Some, None, is_none, slice_get, Ok, refl, sym, ap, ap₂, subst, cond, append_assoc, arith}
+use Rattle.std.specs.List.{list_all}
 use Rattle.std.proofs.lemmas.List.{length-set, length-replicate, drop_all}
 use Rattle.sleep_model.specs.declared.entry.Actor.{Actor}
 use Rattle.sleep_model.specs.declared.entry.Actor.TheVariants as actor
 use Rattle.sleep_model.specs.declared.entry.Entry.{Entry}
+use Rattle.sleep_model.specs.declared.entry.JournalEntry.{JournalEntry}
 use Rattle.sleep_model.specs.declared.log.Log.{Log}
 use Rattle.sleep_model.specs.declared.log.LogEnd.{LogEnd}
 use Rattle.sleep_model.specs.declared.log.LogEnd.TheVariants.{Finished, Stuck}
 use Rattle.sleep_model.specs.declared.log.Stats.{Stats}
 use Rattle.sleep_model.specs.declared.log.Waiting.{Waiting}
 use Rattle.sleep_model.specs.declared.machine.Machine.{Machine}
+use Rattle.sleep_model.specs.declared.machine.Script.{Script}
 use Rattle.sleep_model.specs.declared.place.Due.{Due}
 use Rattle.sleep_model.specs.declared.place.Due.TheVariants.{Makes, Waits, Gone}
+use Rattle.sleep_model.specs.declared.place.Seat.{Seat}
 use Rattle.sleep_model.specs.declared.word.EventNow.{EventNow}
 use Rattle.sleep_model.specs.Accepted.{IsAccepted}
-use Rattle.sleep_model.specs.declared.machine.Script.{Script}
-use Rattle.sleep_model.specs.declared.place.Seat.{Seat}
 use Rattle.sleep_model.specs.Attempt.{attempt_due}
 use Rattle.sleep_model.specs.Due.{due, own_due, all_gone}
 use Rattle.sleep_model.specs.Fits.{fits_stats}
 use Rattle.sleep_model.specs.Freezer.{freezing}
-use Rattle.sleep_model.specs.Legal.{IsLegal, IsLegalLog, IsFinishedLog, IsStuckLog, IsStuckAfter, stats_of, next_time, waiting, waiting_from, put_waiting}
+use Rattle.sleep_model.specs.Legal.{IsLegalLog, IsFinishedLog, IsStuckLog, is_enabled, next_time, none_enabled, put_waiting, waiting, waiting_from}
+use Rattle.sleep_model.specs.Merge.{merge}
 use Rattle.sleep_model.specs.Numbers.{time_of}
-use Rattle.sleep_model.specs.Parts.{journal}
 use Rattle.sleep_model.specs.Path.{maker, is_actor}
+use Rattle.sleep_model.specs.Places.{places}
 use Rattle.sleep_model.specs.Scripts.{entry_steps}
 use Rattle.sleep_model.specs.Seats.{SeatPart, seats, seats_after, seat_at, seat_part, first_seat}
-use Rattle.sleep_model.specs.Sources.{history, stats_at}
 use Rattle.sleep_model.specs.Steps.{seat_due, task_due}
-use Rattle.sleep_laws.proofs.Closing.{rests_closed, ends_closed}
+use Rattle.sleep_state.specs.Places.{entries}
+use Rattle.sleep_laws.proofs.Closing.{ends_closed}
 use Rattle.sleep_laws.proofs.Held.{guarded_sleep}
 use Rattle.sleep_laws.proofs.Lawful.{laws_of_legal}
 use Rattle.growth_laws.specs.Ranged.{is_told}
 use Rattle.growth_laws.proofs.Fitted.{log_fits}
-use Rattle.growth_laws.proofs.Timely.{newest, newest_timely}
-use Rattle.wakeup_source.specs.SourceStates.{SourceState, bare, latest}
-use Rattle.sleep_run.specs.Waits.{waits_of, all_stats}
-use Rattle.sleep_run.proofs.SourcesKept.{latest_is}
-use Rattle.sleep_run.specs.Runs.{IsSourceOf, AreSources, RunState, AfterTry, is_resting, EndsSo, IsRun}
+use Rattle.wakeup_source.specs.SourceStates.{SourceState}
+use Rattle.sleep_run.specs.declared.run.RunFault.{RunFault}
+use Rattle.sleep_run.specs.declared.run.RunFault.TheVariants as fault
+use Rattle.running_laws.specs.Running.{histories, kept_histories, of_sources}
+use Rattle.running_laws.proofs.Ends.{running_ends, running_keeps, stats_are, told_all}
+use Rattle.sleep_run.specs.Waits.{all_stats, waits_of}
+use Rattle.sleep_run.specs.Runs.{AfterTry, EndsSo, Fails, IsClosed, IsHalted, IsRefused, IsRun, IsSame, IsSeen, RunState, entries_in, entries_made, is_resting}
 
 -- ---- tries
+
+-- where nothing was made there are as many entries
+pub made_same : (old new : RunState) → IsSame old new → entries_made new ≡ entries_made old
+made_same old new h = ap₂ (λ (j : List JournalEntry) (s : List SourceState). length j + entries_in s) h.journal h.sources
+
+pub same_then : (first second third : RunState) → IsSame first second → IsSame second third → IsSame first third
+same_then first second third h g = record {
+  machine = g.machine ∙ h.machine;
+  journal = g.journal ∙ h.journal;
+  sources = g.sources ∙ h.sources;
+  floor = g.floor ∙ h.floor;
+}
 
 -- a try behind another
 pub try_then : (first second third : RunState) (x y : Bool) → AfterTry first second (Ok x) → AfterTry second third (Ok y) → AfterTry first third (Ok (y || x))
 try_then first second third true true h g = omega (arith, h, g)
-try_then first second third false true h g = subst (λ (s : RunState). length s.past < length third.past) h g
-try_then first second third true false h g = subst (λ (s : RunState). length first.past < length s.past) (sym g) h
-try_then first second third false false h g = g ∙ h
+try_then first second third false true h g = omega (arith, g, made_same first second h)
+try_then first second third true false h g = omega (arith, h, made_same second third g)
+try_then first second third false false h g = same_then first second third h g
+
+-- one actor more that is not enabled
+pub none_more : (m : Machine) (journal : List Entry) (of : ℕ → List Entry) (now : EventNow) (kind : ℕ → Actor) (n k : ℕ) (none on : Bool) → k ≡ suc n → none ≡ none_enabled m journal of now kind n
+    → on ≡ is_enabled m journal of now (kind n) → (not on && none) ≡ none_enabled m journal of now kind k
+none_more m journal of now kind n k none on next so is =
+    ap₂ (λ x y. not x && y) is so ∙ ap (none_enabled m journal of now kind) (sym next)
 
 -- ---- nobody goes on
-
--- where nobody goes on and no moment is pending no attempt is open
-pub closes : (m : Machine) → IsAccepted m → (past : List Entry) → IsLegal m past → next_time m (journal past) (λ s. history s past) ≡ None → is_resting m past ≡ true → maker (journal past) ≡ None
-closes m acc past legal none rests = rests_closed m (record { parents = acc.parents; links = acc.links; scripts = acc.scripts }) past legal rests none
 
 gone_false : (a : Bool) (o : Option Actor) → (a && is_none o) ≡ false → o ≡ None → a ≡ false
 gone_false true None h e = h
 gone_false false o h e = refl
 gone_false true (Some w) h e = absurd (cc)
 
--- the run is stuck where it is not over
-pub stuck_of : (m : Machine) (past : List Entry) → (all_gone m (journal past) && is_none (maker (journal past))) ≡ false → maker (journal past) ≡ None → is_resting m past ≡ true
-    → next_time m (journal past) (λ s. history s past) ≡ None → IsStuckAfter m past
-stuck_of m past going closed rests none = record { left = gone_false (all_gone m (journal past)) (maker (journal past)) going closed; idle = rests; timeless = none }
+-- nobody goes on where the run is not over
+pub halted_of : (run : RunState) (word : EventNow) → (all_gone run.machine (entries run.journal) && is_none (maker (entries run.journal))) ≡ false → maker (entries run.journal) ≡ None → is_resting run word ≡ true
+    → next_time run.machine (entries run.journal) (histories run.sources) ≡ None → IsHalted run word
+halted_of run word going closed rests none = record { left = gone_false (all_gone run.machine (entries run.journal)) (maker (entries run.journal)) going closed; idle = rests; timeless = none }
 
 -- ---- the log
 
--- the log of a run that is over
-pub run_of : (m : Machine) (items : List Entry) (stats : List Stats) (end : LogEnd) → IsAccepted m → IsLegal m (reverse items) → EndsSo (record { machine = m; past = reverse items }) end → stats ≡ stats_of m (reverse items)
-    → list_all (is_told m) (reverse items) ≡ true → list_all fits_stats stats ≡ true → IsRun m (record { entries = items; stats = stats; end = end })
-run_of m items stats Finished acc legal over counted told ranged =
-    let log : Log = record { entries = items; stats = stats; end = Finished } in
-    let whole : IsLegalLog m log = record { legal = legal; stats = counted } in
-    let ends : (IsFinishedLog m log) ⊎ (IsStuckLog m log) = inl (record { says = refl; finished = over }) in
-    record { legal = whole; over = ends; laws = laws_of_legal m (reverse items) legal; guarded = guarded_sleep m acc.sources (reverse items) legal; closed = ends_closed m acc log whole ends; fits = log_fits m acc log whole ends told ranged }
-run_of m items stats (Stuck those) acc legal over counted told ranged =
-    let log : Log = record { entries = items; stats = stats; end = Stuck those } in
-    let whole : IsLegalLog m log = record { legal = legal; stats = counted } in
-    let ends : (IsFinishedLog m log) ⊎ (IsStuckLog m log) = inr (record { says = ap Stuck over.1; stuck = over.0 }) in
-    record { legal = whole; over = ends; laws = laws_of_legal m (reverse items) legal; guarded = guarded_sleep m acc.sources (reverse items) legal; closed = ends_closed m acc log whole ends; fits = log_fits m acc log whole ends told ranged }
+-- a legal log that is over, whose fields were told
+run_of : (m : Machine) (log : Log) → IsAccepted m → IsLegalLog m log → (IsFinishedLog m log) ⊎ (IsStuckLog m log) → list_all (is_told m) (reverse log.entries) ≡ true → list_all fits_stats log.stats ≡ true → IsRun m log
+run_of m log acc legal over told ranged = record {
+  legal = legal;
+  over = over;
+  laws = laws_of_legal m (reverse log.entries) legal.legal;
+  guarded = guarded_sleep m acc.sources (reverse log.entries) legal.legal;
+  closed = ends_closed m acc log legal over;
+  fits = log_fits m acc log legal over told ranged;
+}
 
--- the log of a run that is over
-pub run_is : (run : RunState) (items : List Entry) (stats : List Stats) (end : LogEnd) (log : Log) → IsAccepted run.machine → IsLegal run.machine run.past → reverse items ≡ run.past → stats ≡ stats_of run.machine run.past
-    → EndsSo run end → log ≡ record { entries = items; stats = stats; end = end } → list_all (is_told run.machine) run.past ≡ true → list_all fits_stats stats ≡ true → IsRun run.machine log
-run_is run items stats end log acc legal all counted over is told ranged =
-    subst (λ (l : Log). IsRun run.machine l) (sym is)
-    (run_of run.machine items stats end acc (subst (λ (past : List Entry). IsLegal run.machine past) (sym all) legal)
-    (subst (λ (past : List Entry). EndsSo (record { machine = run.machine; past = past }) end) (sym all) over)
-    (counted ∙ ap (λ (past : List Entry). stats_of run.machine past) (sym all))
-    (subst (λ (past : List Entry). list_all (is_told run.machine) past ≡ true) (sym all) told) ranged)
+-- with the closed table a run that is over ends in the log of its merge
+pub run_is : (run : RunState) → IsClosed run → (items : List Entry) (stats : List Stats) (end : LogEnd) (log : Log) → items ≡ merge (reverse run.journal) (kept_histories run.sources)
+    → stats ≡ all_stats run.sources (time_of (entries run.journal)) → EndsSo run end → log ≡ record { entries = items; stats = stats; end = end } → list_all fits_stats stats ≡ true → IsRun run.machine log
+run_is run k items stats end log merged counted over is ranged = subst (λ (l : Log). IsRun run.machine l) (sym is) (by end over)
+  where
+    m : Machine
+    m = run.machine
+
+    told : list_all (is_told m) (reverse items) ≡ true
+    told = subst (λ (xs : List Entry). list_all (is_told m) (reverse xs) ≡ true) (sym merged) (told_all m run.journal run.sources k.on.jobs run.floor k.on.running)
+
+    by : (end : LogEnd) → EndsSo run end → IsRun m (record { entries = items; stats = stats; end = end })
+    by Finished over =
+        let log : Log = record { entries = items; stats = stats; end = Finished } in
+        let ends = running_ends m run.journal run.sources k.on.jobs run.floor k.on.running k.laid.steps k.laid.looks k.laid.answer over.0 k.laid.laid (k.laid.seen over.0 over.1.seen) over.1.high log
+        (record { entries = merged; stats = counted ∙ stats_are m run.journal run.sources k.on.jobs run.floor k.on.running }) in
+        run_of m log k.on.running.accepted ends.0 (inl (ends.1 refl over.2)) told ranged
+    by (Stuck those) over =
+        let log : Log = record { entries = items; stats = stats; end = Stuck those } in
+        let ends = running_ends m run.journal run.sources k.on.jobs run.floor k.on.running k.laid.steps k.laid.looks k.laid.answer over.0 k.laid.laid (k.laid.seen over.0 over.1.seen) over.1.high log
+        (record { entries = merged; stats = counted ∙ stats_are m run.journal run.sources k.on.jobs run.floor k.on.running }) in
+        run_of m log k.on.running.accepted ends.0 (inr (ends.2 (ap Stuck over.3) over.2.left over.2.idle over.2.timeless)) told ranged
+
+-- why a run of which a call was refused gives nothing, by a look at what is the same run
+pub fault_is : (old run : RunState) (word : EventNow) (given : RunFault) → IsSame old run → IsSeen run word → IsClosed run → IsRefused old given → Fails old.machine given
+fault_is old run word (fault.SourceFull s) same seen k refused =
+    let keeps = running_keeps run.machine run.journal run.sources k.on.jobs run.floor k.on.running k.laid.steps k.laid.looks k.laid.answer word k.laid.laid (k.laid.seen word seen.seen) seen.high s in
+    (refused.0, omega (arith, refused.1, keeps, ap (λ (xs : List SourceState). length (of_sources xs s)) same.sources, ap (λ (m : Machine). places m s) same.machine))
+fault_is old run word fault.Mem same seen k refused = tt
 
 -- ---- who waits
 
@@ -147,24 +182,3 @@ waits_go_on m past now i k those new d closed l next is added h =
     ap₂ (λ (xs : List Waiting) (n : ℕ). xs ++ waiting_from m past now n (drop n (seats (length m.actors) past))) (added ∙ ap (λ x. those ++ waits_of i x) is) next
     ∙ (append_assoc those (waits_of i (due m past (actor.Script i) now)) (waiting_from m past now (i + 1) (drop (i + 1) (seats (length m.actors) past)))
     ∙ (ap (λ xs. those ++ xs) (sym (waits_more m past now i closed l)) ∙ h))
-
--- ---- the statistics
-
-stats_from : (past : List Entry) (xs : List SourceState) (a n : ℕ) (at : ℕ) → length xs ≡ n → ((s : ℕ) (none : SourceState) → s < length xs → IsSourceOf (a + s) past (slice_index_or xs s none)) → all_stats xs at ≡ map (λ s. stats_at (history s past) at) (range_with_len a n)
-stats_from past [] a zero at l h = refl
-stats_from past [] a (suc n) at l h = absurd (omega arith)
-stats_from past (x ∷ xs) a zero at l h = absurd (omega arith)
-stats_from past (x ∷ xs) a (suc n) at l h =
-    let first : bare x.past ≡ history a past = (h 0 x (omega arith)).entries ∙ ap (λ k. history k past) (omega arith) in
-    ap₂ (λ y ys. y ∷ ys) (ap (λ own. stats_at own at) first)
-    (stats_from past xs (a + 1) n at (omega (arith, l)) (λ s none k. (let there : a + suc s ≡ a + 1 + s = omega arith in subst (λ (t : ℕ). IsSourceOf t past (slice_index_or xs s none)) there (h (suc s) none (omega (arith, k))))))
-
--- the statistics of the sources are those of the log
-pub stats_are : (m : Machine) (past : List Entry) (xs : List SourceState) → AreSources m past xs → all_stats xs (time_of past) ≡ stats_of m past
-stats_are m past xs h = stats_from past xs 0 (length m.sources + 1) (time_of past) h.count (λ s none l. (let there : s ≡ 0 + s = omega arith in subst (λ (t : ℕ). IsSourceOf t past (slice_index_or xs s none)) there (h.each s none l)))
-
--- no source has an entry that is later than now
-pub sources_timely : (m : Machine) (past : List Entry) (xs : List SourceState) → IsLegal m past → AreSources m past xs → (at s : ℕ) (none : SourceState) → at ≡ time_of past → s < length xs → latest (bare (slice_index_or xs s none).past) ≤ at
-sources_timely m past xs legal h at s none now l =
-    let here = h.each s none l in
-    omega (arith, latest_is (bare (slice_index_or xs s none).past), ap newest here.entries, newest_timely m past legal s, now)

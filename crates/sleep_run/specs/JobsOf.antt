@@ -25,6 +25,11 @@ HasJob jobs actor.Auto = Unit {0}
 HasJob jobs (actor.Dev d) = d < length jobs.devices
 HasJob jobs _ = ⊥
 
+-- each actor of a machine has one
+pub record AreAllJobs (m : Machine) (jobs : JobsState) : Type 0 where
+  pub scripts : length jobs.scripts ≡ length m.actors
+  pub devices : length jobs.devices ≡ length m.devices
+
 -- another job of an actor in place of the one before
 abbrev pub with_job : JobsState → Actor → JobState → JobsState
 with_job jobs (actor.Script i) job = record jobs { scripts = slice_set jobs.scripts i job }

@@ -1,8 +1,6 @@
-pub mod AllEntries
-pub mod Called
-pub mod Firsts
 pub mod JobsFields
 pub mod JobsOf
+pub mod Refused
 pub mod RunFields
 pub mod Runs
 pub mod Tries

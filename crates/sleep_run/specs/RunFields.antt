@@ -1,16 +1,31 @@
 -- What a run's fields are.
-use Rattle.std.specs.Prelude.{length}
-use Rattle.sleep_model.specs.Woven.{AreWithin}
+use Rattle.std.specs.Prelude.{◌≡◌, List, map}
+use Rattle.event_word.specs.Seats.{AreAll}
+use Rattle.wakeup_source.specs.SourceStates.{SourceState}
+use Rattle.running_laws.specs.Running.{IsRunning}
+use Rattle.run_objects.specs.Objects.{SeatedSourceState, seats_of}
 use Rattle.sleep_run.specs.declared.run.Run.TheInside.{Inside}
-use Rattle.sleep_run.specs.AllEntries.{all_of}
-use Rattle.sleep_run.specs.Runs.{RunState, IsRunning}
+use Rattle.sleep_run.specs.JobsOf.{AreAllJobs, job_at}
+use Rattle.sleep_run.specs.Runs.{RunState}
+
+-- the sources, without their seats
+abbrev pub sources_of : List SeatedSourceState → List SourceState
+sources_of sources = map (λ s. s.source) sources
 
 -- a run as contracts see it
 abbrev pub state : Inside → RunState
-state r = record { machine = r.machine.now; past = all_of r.core.past r.others.items }
+state r = record {
+  machine = r.machine.now;
+  journal = r.seated.core.past;
+  sources = sources_of r.sources.items;
+  seat = r.seated.seat;
+  floor = r.floor;
+}
 
--- what holds of a run between turns: it goes on, and no entry of a source stands behind more of the journal than there is
-abbrev pub keeps : Inside → Type 0
-keeps r =
-    IsRunning r.machine.now (all_of r.core.past r.others.items) r.core r.events r.sources.items r.jobs r.floor
-    × AreWithin (length r.core.past) r.others.items
+-- what holds of a run between turns: it goes on, each actor has its job, and all seats are at the table
+pub record KeepsRun (r : Inside) : Type 0 where
+  pub machine_is : r.seated.core.machine ≡ r.machine.now
+  pub running : IsRunning r.machine.now r.seated.core.past (sources_of r.sources.items) (job_at r.jobs) r.floor
+  pub all_jobs : AreAllJobs r.machine.now r.jobs
+  pub table : r.seated.seat.table_id ≡ r.table.desk.shared.table_id
+  pub seats : AreAll r.seated.seat (seats_of r.sources.items)

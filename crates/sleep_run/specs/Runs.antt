@@ -1,83 +1,71 @@
 -- A run of a machine, as far as it has come.
-use Rattle.std.specs.Prelude.{◌≡◌, ◌≤◌, ◌<◌, ◌+◌, ◌⊎◌, Bool, true, false, ℕ, List, length, reverse, slice_index_or, None, Result, Ok, Err}
-use Rattle.std.specs.List.{list_all}
+use Rattle.std.specs.Prelude.{◌≡◌, ◌≤◌, ◌<◌, ◌+◌, ◌⊎◌, Bool, true, false, ℕ, List, [], ◌∷◌, length, reverse, None, Result, Ok, Err}
+use Rattle.std.specs.List.{list_any}
 use Rattle.sleep_model.specs.declared.entry.Actor.{Actor}
-use Rattle.sleep_model.specs.declared.entry.Entry.{Entry}
+use Rattle.sleep_model.specs.declared.entry.JournalEntry.{JournalEntry}
 use Rattle.sleep_model.specs.declared.log.Log.{Log}
 use Rattle.sleep_model.specs.declared.log.LogEnd.{LogEnd}
 use Rattle.sleep_model.specs.declared.log.LogEnd.TheVariants as end
 use Rattle.sleep_model.specs.declared.machine.Machine.{Machine}
 use Rattle.sleep_model.specs.declared.word.EventNow.{EventNow}
 use Rattle.sleep_model.specs.declared.word.Stamp.{Stamp}
-use Rattle.sleep_model.specs.Accepted.{IsAccepted}
-use Rattle.sleep_model.specs.Calls.{calls_due, made}
+use Rattle.sleep_model.specs.Calls.{calls_due}
+use Rattle.sleep_model.specs.Due.{all_gone}
 use Rattle.sleep_model.specs.Fits.{IsWritable}
 use Rattle.sleep_model.specs.Laws.{Laws, GuardedSleep}
-use Rattle.sleep_model.specs.Legal.{IsLegal, IsLegalLog, IsFinishedLog, IsStuckLog, IsStuckAfter, is_finished_after, is_idle, waiting}
-use Rattle.sleep_model.specs.Numbers.{numbers}
+use Rattle.sleep_model.specs.Legal.{IsLegalLog, IsFinishedLog, IsStuckLog, is_finished, is_idle, next_time, waiting}
+use Rattle.sleep_model.specs.Merge.{is_word}
 use Rattle.sleep_model.specs.Parts.{journal}
 use Rattle.sleep_model.specs.Path.{maker}
 use Rattle.sleep_model.specs.Places.{places}
-use Rattle.sleep_model.specs.Sources.{history, most_entries}
+use Rattle.sleep_model.specs.Sources.{most_entries}
 use Rattle.sleep_model.specs.Word.{position}
-use Rattle.growth_laws.specs.Ranged.{is_told}
-use Rattle.growth_laws.specs.Whole.{OweNone}
+use Rattle.event_word.specs.Seats.{Token, floor_of, looked_of}
 use Rattle.sleep_state.specs.Places.{entries}
-use Rattle.sleep_core.specs.Cores.{CoreState, IsActor}
-use Rattle.sleep_core.specs.Histories.{last_stamp}
-use Rattle.sleep_script.specs.Jobs.{IsJobOf}
-use Rattle.wakeup_source.specs.SourceStates.{SourceState, bare}
-use Rattle.sleep_run.specs.JobsOf.{JobsState, job_at}
+use Rattle.sleep_core.specs.Cores.{IsActor}
+use Rattle.wakeup_source.specs.SourceStates.{SourceState}
+use Rattle.sleep_script.specs.Jobs.{JobState}
+use Rattle.running_laws.specs.Running.{IsRunning, calls_made, histories, kept_histories, of_sources}
+use Rattle.run_objects.specs.Closed.{IsLaidTable}
 use Rattle.sleep_run.specs.declared.rest.Rest.{Rest}
 use Rattle.sleep_run.specs.declared.rest.Rest.TheVariants.{GoesOn, Finished, Stuck}
 use Rattle.sleep_run.specs.declared.run.RunFault.{RunFault}
 use Rattle.sleep_run.specs.declared.run.RunFault.TheVariants as fault
 
--- the machine of a run, and all entries so far, the newest first
+-- the machine of a run, its journal and its sources so far, the seat by which it looks at the event word, and the last stamp that anybody made
 pub record RunState : Type 0 where
   pub machine : Machine
-  pub past : List Entry
+  pub journal : List JournalEntry
+  pub sources : List SourceState
+  pub seat : Token
+  pub floor : Stamp
 
--- how many calls on sources an actor has made
-abbrev pub calls_made : Machine → List Entry → Actor → ℕ
-calls_made m past who = made (length m.sources + 1) (λ s. history s past) who
+-- how many entries these sources have
+abbrev pub entries_in : List SourceState → ℕ
+entries_in [] = 0
+entries_in (source ∷ sources) = length source.past + entries_in sources
 
--- ---- the sources
+-- how many entries were made
+abbrev pub entries_made : RunState → ℕ
+entries_made run = length run.journal + entries_in run.sources
 
--- a source of the run has its number, and keeps the entries of its history
-pub record IsSourceOf (s : ℕ) (past : List Entry) (source : SourceState) : Type 0 where
-  pub number : source.id ≡ s
-  pub entries : bare source.past ≡ history s past
+-- a run goes on, as each actor's job does
+pub record IsGoingOn (run : RunState) : Type 0 where
+  pub jobs : Actor → JobState
+  pub running : IsRunning run.machine run.journal run.sources jobs run.floor
 
--- so has each of a machine's sources, autosleep's last
-pub record AreSources (m : Machine) (past : List Entry) (sources : List SourceState) : Type 0 where
-  pub count : length sources ≡ length m.sources + 1
-  pub each : (s : ℕ) (none : SourceState) → s < length sources → IsSourceOf s past (slice_index_or sources s none)
+-- nothing was made: at most the word was looked at
+pub record IsSame (old new : RunState) : Type 0 where
+  pub machine : new.machine ≡ old.machine
+  pub journal : new.journal ≡ old.journal
+  pub sources : new.sources ≡ old.sources
+  pub floor : new.floor ≡ old.floor
 
--- ---- the jobs
-
--- each actor's job stands where the entries so far have brought it
-pub record AreJobs (m : Machine) (past : List Entry) (jobs : JobsState) : Type 0 where
-  pub scripts : length jobs.scripts ≡ length m.actors
-  pub devices : length jobs.devices ≡ length m.devices
-  pub each : (who : Actor) → IsActor m who → IsJobOf m who (journal past) (calls_made m past who) (job_at jobs who)
-
--- ---- a run
-
--- what a run keeps, between turns: a legal list of entries, whose journal is the core's and whose histories are the sources', and jobs that stand where it has brought them; nobody is inside a call
-pub record IsRunning (m : Machine) (past : List Entry) (core : CoreState) (word : EventNow) (sources : List SourceState) (jobs : JobsState) (floor : Stamp) : Type 0 where
-  pub accepted : IsAccepted m
-  pub machine_is : core.machine ≡ m
-  pub journal_is : entries core.past ≡ journal past
-  pub legal : IsLegal m past
-  pub word_is : word ≡ numbers past
-  pub low : (last_stamp core.past).pos ≤ position word
-  pub floor_low : floor.pos ≤ position word
-  pub floor_tick : (last_stamp core.past).tick ≤ floor.tick
-  pub sources_are : AreSources m past sources
-  pub jobs_are : AreJobs m past jobs
-  pub owe_none : OweNone past
-  pub told : list_all (is_told m) past ≡ true
+-- the word was looked at last, at or behind all that was made
+pub record IsSeen (run : RunState) (word : EventNow) : Type 0 where
+  pub seen : list_any (is_word word) (looked_of run.seat) ≡ true
+  pub newest : position word ≡ floor_of run.seat
+  pub high : run.floor.pos ≤ position word
 
 -- the calls of a machine may fill a source: its history, which has so many places, may come to where fewer than four are left for a call and its expiry (own)
 abbrev pub IsFull : Machine → ℕ → Type 0
@@ -88,39 +76,64 @@ abbrev pub Fails : Machine → RunFault → Type 0
 Fails m (fault.SourceFull s) = IsFull m s
 Fails m fault.Mem = Unit {0}
 
+-- the table of the event word was closed, and lays all steps of the run
+pub record IsClosed (run : RunState) : Type 0 where
+  pub on : IsGoingOn run
+  pub laid : IsLaidTable (looked_of run.seat) (reverse run.journal) (kept_histories run.sources)
+
+-- a call on that source was refused: its history has fewer than four places left, or memory ran out
+abbrev pub IsRefused : RunState → RunFault → Type 0
+IsRefused run (fault.SourceFull s) =
+    (s ≤ length run.machine.sources) × (most_entries < length (of_sources run.sources s) + 4)
+IsRefused run fault.Mem = Unit {0}
+
 -- after a try, entries were made, or nothing has changed
 abbrev pub AfterTry : RunState → RunState → Result Bool RunFault → Type 0
-AfterTry old new (Ok true) = length old.past < length new.past
-AfterTry old new (Ok false) = new ≡ old
-AfterTry old new (Err fault) = Fails old.machine fault
+AfterTry old new (Ok true) = entries_made old < entries_made new
+AfterTry old new (Ok false) = IsSame old new
+AfterTry old new (Err fault) = IsRefused new fault
 
--- nobody can make anything after these entries
-abbrev pub is_resting : Machine → List Entry → Bool
-is_resting m past = is_idle m (journal past) (λ s. history s past) (numbers past)
+-- nobody can make anything that sees that word
+abbrev pub is_resting : RunState → EventNow → Bool
+is_resting run word = is_idle run.machine (entries run.journal) (histories run.sources) word
+
+-- the run is over, by that word
+abbrev pub is_over : RunState → EventNow → Bool
+is_over run word = is_finished run.machine (entries run.journal) (histories run.sources) word
+
+-- nobody goes on, by that word: a script has not exited, nobody is enabled, and no time is pending
+pub record IsHalted (run : RunState) (word : EventNow) : Type 0 where
+  pub left : all_gone run.machine (entries run.journal) ≡ false
+  pub idle : is_resting run word ≡ true
+  pub timeless : next_time run.machine (entries run.journal) (histories run.sources) ≡ None
 
 -- all is calm: no attempt is open, and each actor has made the calls on sources that are due
-pub record IsCalm (m : Machine) (past : List Entry) : Type 0 where
-  pub closed : maker (journal past) ≡ None
-  pub made : (who : Actor) → IsActor m who → calls_made m past who ≡ calls_due m who (journal past)
+pub record IsCalm (run : RunState) : Type 0 where
+  pub closed : maker (entries run.journal) ≡ None
+  pub made : (who : Actor) → IsActor run.machine who
+      → calls_made run.machine run.sources who ≡ calls_due run.machine who (entries run.journal)
 
 -- after a round that did nothing, time jumps, or somebody can go on after all; else the run is over
 abbrev pub AfterRest : RunState → RunState → Result Rest RunFault → Type 0
-AfterRest old new (Ok GoesOn) = (length old.past < length new.past) ⊎ ((new ≡ old) × (is_resting old.machine old.past ≡ false))
-AfterRest old new (Ok Finished) = (new ≡ old) × (is_finished_after old.machine old.past ≡ true)
-AfterRest old new (Ok Stuck) = (new ≡ old) × IsStuckAfter old.machine old.past
-AfterRest old new (Err fault) = Fails old.machine fault
+AfterRest old new (Ok GoesOn) =
+    (entries_made old < entries_made new)
+    ⊎ (IsSame old new × ((word : EventNow) × IsSeen new word × (is_resting new word ≡ false)))
+AfterRest old new (Ok (Finished word)) = IsSame old new × IsSeen new word × (is_over new word ≡ true)
+AfterRest old new (Ok (Stuck word)) = IsSame old new × IsSeen new word × IsHalted new word
+AfterRest old new (Err fault) = IsRefused new fault
 
 -- after all rounds the run is over
 abbrev pub AfterAll : RunState → Result Rest RunFault → Type 0
 AfterAll run (Ok GoesOn) = ⊥
-AfterAll run (Ok Finished) = is_finished_after run.machine run.past ≡ true
-AfterAll run (Ok Stuck) = IsStuckAfter run.machine run.past
-AfterAll run (Err fault) = Fails run.machine fault
+AfterAll run (Ok (Finished word)) = IsSeen run word × (is_over run word ≡ true)
+AfterAll run (Ok (Stuck word)) = IsSeen run word × IsHalted run word
+AfterAll run (Err fault) = IsRefused run fault
 
--- the run is over, and ends so
+-- the run is over, and ends so, by a word that was looked at last
 abbrev pub EndsSo : RunState → LogEnd → Type 0
-EndsSo run end.Finished = is_finished_after run.machine run.past ≡ true
-EndsSo run (end.Stuck those) = IsStuckAfter run.machine run.past × (those ≡ waiting run.machine (journal run.past) (numbers run.past))
+EndsSo run end.Finished = (word : EventNow) × IsSeen run word × (is_over run word ≡ true)
+EndsSo run (end.Stuck those) =
+    (word : EventNow) × IsSeen run word × IsHalted run word × (those ≡ waiting run.machine (entries run.journal) word)
 
 -- the log of a whole run: it is legal, and over, and so the laws hold of it, and no attempt is open; it fits the machine, so that its text tells it, and where it is stuck names somebody
 pub record IsRun (m : Machine) (log : Log) : Type 0 where

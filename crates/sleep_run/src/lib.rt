@@ -2,7 +2,6 @@
 #![tactic(auto)]
 
 mod asks;
-mod calls;
 mod jobs;
 mod looks;
 mod rest;

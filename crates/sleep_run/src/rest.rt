@@ -3,19 +3,22 @@
 ghost use Rattle.std.specs.Prelude.{◌≡◌, ◌≤◌, ◌<◌, ◌^◌, ◌++◌, true, length, IfOk, OnOk, All};
 ghost use Rattle.std.specs.List.{list_all};
 ghost use Rattle.sleep_model.specs.Fits.{fits_stats};
+ghost use Rattle.sleep_run.specs.RunFields.{sources_of};
 ghost use Rattle.sleep_run.specs.Waits.{waits_of, all_stats};
 ghost use Rattle.wakeup_source.specs.SourceStates.{bare, latest};
 
 use crate::run::{Run, RunFault, wait_unless};
 use crate::waiters::Waiters;
-use event_word::Events;
 use growth_laws::{moments_are_ranged, stats_are_ranged};
+use log_merge::merge_journal;
+use run_objects::{SeatedSource, close_table};
 use sleep_base::Mem;
 use sleep_core::Core;
-use sleep_model::{Actor, Due, EntryList, EventNow, ListOf, Log, LogEnd, Stats, Waiting};
+use sleep_model::{
+    Actor, Due, EntryList, EventNow, Journal, ListOf, Log, LogEnd, SourceList, Stats, Waiting,
+};
 use std::alloc::{AllocError, Global};
 use std::sync::Wait;
-use wakeup_source::{MOST_ENTRIES, WakeSource};
 
 /// The greatest moment of a run, in ms. A run that comes past it waits for ever.
 const LAST_MOMENT: u64 = 1 << 63;
@@ -25,26 +28,22 @@ const LAST_MOMENT: u64 = 1 << 63;
 pub(crate) enum Rest {
     /// Another round.
     GoesOn,
-    /// The end: nothing is left to do.
-    Finished,
-    /// The end: nobody goes on.
-    Stuck,
+    /// The end, by the word that was looked at last: nothing is left to do.
+    Finished(EventNow),
+    /// The end, by that word: nobody goes on.
+    Stuck(EventNow),
 }
 
 /// The statistics of the sources at that moment.
-fn stats_of(
-    alloc: Global,
-    sources: &[WakeSource<MOST_ENTRIES>],
-    at: u64,
-) -> Result<Vec<Stats>, AllocError>
-    requires time { All (λ s. latest (bare s.past) ≤ at) sources.now }
+fn stats_of(alloc: Global, sources: &[SeatedSource], at: u64) -> Result<Vec<Stats>, AllocError>
+    requires time { All (λ s. latest (bare s.source.past) ≤ at) sources.now }
     requires small { at ≤ 2 ^ 63 }
-    ensures all { IfOk result (λ v. v.items ≡ all_stats sources.now at) }
+    ensures all { IfOk result (λ v. v.items ≡ all_stats (sources_of sources.now) at) }
     ensures ranged { IfOk result (λ v. list_all fits_stats v.items ≡ true) }
 {
     let mut stats = Vec::with_capacity(alloc, sources.len())?;
     for source in sources {
-        let one = source.stats(at);
+        let one = source.source().stats(at);
         stats_are_ranged(one);
         stats.push(one)?;
     }
@@ -88,32 +87,32 @@ fn wake_sleepers(core: &Core<'_>, waiters: &mut Waiters) {
 }
 
 impl<'m> Run<'m> {
-    ghost use Rattle.std.specs.Prelude.{◌≡◌, ◌<◌, ◌+◌, true, length, reverse, Ok, IfOk, OnOk, IfErr};
+    ghost use Rattle.std.specs.Prelude.{◌≡◌, ◌<◌, ◌+◌, true, length, Ok, IfOk, OnOk, IfErr};
     ghost use Rattle.std.specs.List.{list_all};
     ghost use Rattle.sleep_model.specs.Fits.{fits_stats};
     ghost use Rattle.std.specs.Bool.{OnTrue};
     ghost use Rattle.sleep_model.specs.declared.entry.Actor.TheVariants.{Script, Dev};
-    ghost use Rattle.sleep_model.specs.Legal.{JumpStep, IsStuckAfter, is_enabled, none_enabled, none_expires, stats_of, waiting};
-    ghost use Rattle.sleep_model.specs.Numbers.{numbers, time_of};
-    ghost use Rattle.sleep_model.specs.Parts.{journal};
-    ghost use Rattle.sleep_model.specs.Sources.{history};
-    ghost use Rattle.sleep_run.specs.Runs.{is_resting, IsCalm, AfterRest, AfterAll, EndsSo, Fails, IsRun};
+    ghost use Rattle.sleep_model.specs.Legal.{JumpStep, is_enabled, none_enabled, none_expires, waiting};
+    ghost use Rattle.sleep_model.specs.Numbers.{time_of};
+    ghost use Rattle.sleep_state.specs.Places.{entries};
+    ghost use Rattle.running_laws.specs.Running.{histories, kept_histories};
+    ghost use Rattle.sleep_run.specs.Runs.{is_resting, IsCalm, IsClosed, IsHalted, IsSeen, AfterRest, AfterAll, EndsSo, Fails, IsRefused, IsRun, entries_made};
 
     /// Whether all is calm: nobody has a call on a source to make, and no attempt is open.
     fn is_calm(&self) -> bool
-        ensures { OnTrue result (IsCalm self.now.machine self.now.past) }
+        ensures { OnTrue result (IsCalm self.now) }
     {
-        self.jobs.owe_none() && !self.core.is_open()
+        self.jobs.owe_none() && !self.core().is_open()
     }
 
     /// Whether a script can make anything that sees this word. Where all is calm, none can that has exited or sleeps on.
     #[inline(always)]
     fn may_go(&self, calm: bool, script: u32, word: EventNow) -> bool
-        requires calm { OnTrue calm (IsCalm self.now.machine self.now.past) }
+        requires calm { OnTrue calm (IsCalm self.now) }
         requires script { script < length self.now.machine.actors }
-        ensures { result ≡ is_enabled self.now.machine (journal self.now.past) (λ s. history s self.now.past) word (Script script) }
+        ensures { result ≡ is_enabled self.now.machine (entries self.now.journal) (histories self.now.sources) word (Script script) }
     {
-        if calm && self.core.is_still(script) {
+        if calm && self.core().is_still(script) {
             return false;
         }
         self.is_enabled(Actor::Script(script), word)
@@ -121,10 +120,10 @@ impl<'m> Run<'m> {
 
     /// Whether no script can make anything that sees this word. Where all is calm and all scripts are still, none is asked.
     fn rest_scripts(&self, calm: bool, word: EventNow) -> bool
-        requires { OnTrue calm (IsCalm self.now.machine self.now.past) }
-        ensures { result ≡ none_enabled self.now.machine (journal self.now.past) (λ s. history s self.now.past) word Script (length self.now.machine.actors) }
+        requires { OnTrue calm (IsCalm self.now) }
+        ensures { result ≡ none_enabled self.now.machine (entries self.now.journal) (histories self.now.sources) word Script (length self.now.machine.actors) }
     {
-        if calm && self.core.are_still() {
+        if calm && self.core().are_still() {
             return true;
         }
         self.rest_all_scripts(calm, word)
@@ -132,8 +131,8 @@ impl<'m> Run<'m> {
 
     /// Whether no script can make anything that sees this word, by a pass over all.
     fn rest_all_scripts(&self, calm: bool, word: EventNow) -> bool
-        requires { OnTrue calm (IsCalm self.now.machine self.now.past) }
-        ensures { result ≡ none_enabled self.now.machine (journal self.now.past) (λ s. history s self.now.past) word Script (length self.now.machine.actors) }
+        requires { OnTrue calm (IsCalm self.now) }
+        ensures { result ≡ none_enabled self.now.machine (entries self.now.journal) (histories self.now.sources) word Script (length self.now.machine.actors) }
     {
         let mut none = true;
         for script in 0..self.machine.actors.len() as u32 {
@@ -144,8 +143,8 @@ impl<'m> Run<'m> {
 
     /// Whether no device can make anything that sees this word. Where all is calm, none can.
     fn rest_devices(&self, calm: bool, word: EventNow) -> bool
-        requires { OnTrue calm (IsCalm self.now.machine self.now.past) }
-        ensures { result ≡ none_enabled self.now.machine (journal self.now.past) (λ s. history s self.now.past) word Dev (length self.now.machine.devices) }
+        requires { OnTrue calm (IsCalm self.now) }
+        ensures { result ≡ none_enabled self.now.machine (entries self.now.journal) (histories self.now.sources) word Dev (length self.now.machine.devices) }
     {
         // A look at the field makes the invariant known here: the entries are legal.
         let _ = &self.machine;
@@ -154,7 +153,7 @@ impl<'m> Run<'m> {
 
     /// Whether no device can make anything that sees this word, each of them being asked.
     fn rest_all_devices(&self, word: EventNow) -> bool
-        ensures { result ≡ none_enabled self.now.machine (journal self.now.past) (λ s. history s self.now.past) word Dev (length self.now.machine.devices) }
+        ensures { result ≡ none_enabled self.now.machine (entries self.now.journal) (histories self.now.sources) word Dev (length self.now.machine.devices) }
     {
         let mut none = true;
         for device in 0..self.machine.devices.len() as u32 {
@@ -165,7 +164,7 @@ impl<'m> Run<'m> {
 
     /// Whether no timer of a source is to make anything.
     fn rest_timers(&self) -> bool
-        ensures { result ≡ none_expires (length self.now.machine.sources + 1) (λ s. history s self.now.past) (time_of self.now.past) }
+        ensures { result ≡ none_expires (length self.now.machine.sources + 1) (histories self.now.sources) (time_of (entries self.now.journal)) }
     {
         let mut none = true;
         for source in 0..self.sources() {
@@ -174,11 +173,10 @@ impl<'m> Run<'m> {
         none
     }
 
-    /// Whether nobody can make anything.
-    fn is_resting(&self) -> bool
-        ensures { result ≡ is_resting self.now.machine self.now.past }
+    /// Whether nobody can make anything that sees this word.
+    fn is_resting(&self, word: EventNow) -> bool
+        ensures { result ≡ is_resting self.now word }
     {
-        let word = self.word();
         let calm = self.is_calm();
         let by_script = self.rest_scripts(calm, word);
         let works = self.is_enabled(Actor::Auto, word);
@@ -187,20 +185,20 @@ impl<'m> Run<'m> {
         by_script & !works & by_device & by_timer
     }
 
-    /// Time jumps to the next pending moment, where nobody can make anything.
-    fn jump<R: Wait>(&mut self, rt: &R, to: u64) -> Result<(), RunFault>
-        requires least { JumpStep self.old.machine (journal self.old.past) (λ s. history s self.old.past) (numbers self.old.past) to }
-        requires later { time_of self.old.past < to }
+    /// Time jumps to the next pending moment, where nobody can make anything by the word that was looked at last.
+    fn jump<R: Wait>(&mut self, rt: &R, word: EventNow, to: u64) -> Result<(), RunFault>
+        requires least { JumpStep self.old.machine (entries self.old.journal) (histories self.old.sources) word to }
+        requires seen { IsSeen self.old word }
+        requires later { time_of (entries self.old.journal) < to }
         ensures machine { self.new.machine ≡ self.old.machine }
-        ensures made { OnOk result (length self.old.past < length self.new.past) }
-        ensures fault { IfErr result (Fails self.old.machine) }
+        ensures made { OnOk result (entries_made self.old < entries_made self.new) }
+        ensures fault { IfErr result (IsRefused self.new) }
     {
         wait_unless(rt, to <= LAST_MOMENT && self.floor.tick < u64::MAX);
         moments_are_ranged(to);
-        let now = self.events.look();
-        self.floor = self.core.jump(now, to, self.floor)?;
+        self.floor = self.seated.jump(word, to, self.floor)?;
         self.waiters.wake_for_time();
-        wake_sleepers(&self.core, &mut self.waiters);
+        wake_sleepers(self.seated.core(), &mut self.waiters);
         Ok(())
     }
 
@@ -209,36 +207,33 @@ impl<'m> Run<'m> {
         ensures machine { self.new.machine ≡ self.old.machine }
         ensures after { AfterRest self.old self.new result }
     {
-        if !self.is_resting() {
+        let word = self.look(rt);
+        if !self.is_resting(word) {
             self.waiters.wake_all();
             return Ok(Rest::GoesOn);
         }
         if self.is_whole() {
-            return Ok(Rest::Finished);
+            return Ok(Rest::Finished(word));
         }
         match self.next_time() {
             Some(to) => {
                 wait_unless(rt, to > self.time());
-                self.jump(rt, to)?;
+                self.jump(rt, word, to)?;
                 Ok(Rest::GoesOn)
             }
-            None => Ok(Rest::Stuck),
+            None => Ok(Rest::Stuck(word)),
         }
     }
 
-    /// The scripts that wait, and for what, where nobody goes on.
-    fn waiting(&self, alloc: Global) -> Result<Vec<Waiting>, AllocError>
-        requires { IsStuckAfter self.now.machine self.now.past }
-        ensures { IfOk result (λ v. v.items ≡ waiting self.now.machine (journal self.now.past) (numbers self.now.past)) }
+    /// The scripts that wait, and for what, where nobody goes on by that word.
+    fn waiting(&self, alloc: Global, word: EventNow) -> Result<Vec<Waiting>, AllocError>
+        requires { IsHalted self.now word }
+        ensures { IfOk result (λ v. v.items ≡ waiting self.now.machine (entries self.now.journal) word) }
     {
-        let word = self.word();
         let mut those = Vec::new(alloc);
         for script in 0..self.machine.actors.len() as u32 {
-            push_waiting(
-                &mut those,
-                script,
-                self.core.due(Actor::Script(script), word),
-            )?;
+            let due = self.core().due(Actor::Script(script), word);
+            push_waiting(&mut those, script, due)?;
         }
         Ok(those)
     }
@@ -249,8 +244,8 @@ impl<'m> Run<'m> {
         ensures { IfOk result (λ end. EndsSo self.now end) }
     {
         match rest {
-            Rest::Stuck => {
-                let those = self.waiting(alloc)?;
+            Rest::Stuck(word) => {
+                let those = self.waiting(alloc, word)?;
                 Ok(LogEnd::Stuck(ListOf::of_vec(those)))
             }
             _ => Ok(LogEnd::Finished),
@@ -259,31 +254,52 @@ impl<'m> Run<'m> {
 
     /// The statistics of all sources now.
     fn stats(&self, alloc: Global) -> Result<Vec<Stats>, AllocError>
-        ensures all { IfOk result (λ v. v.items ≡ stats_of self.now.machine self.now.past) }
+        ensures all { IfOk result (λ v. v.items ≡ all_stats self.now.sources (time_of (entries self.now.journal))) }
         ensures ranged { IfOk result (λ v. list_all fits_stats v.items ≡ true) }
     {
         let stats = stats_of(alloc, &self.sources, self.time())?;
         Ok(stats)
     }
 
-    /// All entries, in the order in which they were made.
-    fn into_entries(self) -> EntryList
-        ensures { reverse result ≡ self.entry.past }
-    {
-        let Run { core, others, .. } = self;
-        EntryList::of_parts(core.into_journal(), others)
-    }
-
     /// How a run that is over ended, and the statistics of all sources then.
     fn ending(&self, alloc: Global, rest: Rest) -> Result<(LogEnd, Vec<Stats>), AllocError>
         requires { AfterAll self.now (Ok rest) }
         ensures end { IfOk result (λ e. EndsSo self.now e.0) }
-        ensures stats { IfOk result (λ e. e.1.items ≡ stats_of self.now.machine self.now.past) }
+        ensures stats { IfOk result (λ e. e.1.items ≡ all_stats self.now.sources (time_of (entries self.now.journal))) }
         ensures ranged { IfOk result (λ e. list_all fits_stats e.1.items ≡ true) }
     {
         let end = self.end(alloc, rest)?;
         let stats = self.stats(alloc)?;
         Ok((end, stats))
+    }
+
+    /// The journal and the sources' histories, of which the closed table of the event word lays all steps. `Mem` where
+    /// there is no memory.
+    fn closed(self, alloc: Global) -> Result<(Journal, Vec<SourceList>), Mem>
+        ensures journal { IfOk result (λ kept. kept.0.past ≡ self.entry.journal) }
+        ensures histories { IfOk result (λ kept. kept.1.items ≡ kept_histories self.entry.sources) }
+        ensures laid { OnOk result (IsClosed self.entry) }
+    {
+        let Run {
+            table,
+            sources,
+            seated,
+            ..
+        } = self;
+        let kept = close_table(alloc, table, sources, seated)?;
+        Ok(kept)
+    }
+
+    /// The log of a run that is over and ended so: its journal and its sources' histories are merged.
+    fn merged(self, alloc: Global, end: LogEnd, stats: Vec<Stats>) -> Result<Log, Mem>
+        requires end { EndsSo self end }
+        requires stats { stats.items ≡ all_stats self.sources (time_of (entries self.journal)) }
+        requires ranged { list_all fits_stats stats.items ≡ true }
+        ensures { IfOk result (λ log. IsRun self.entry.machine log) }
+    {
+        let (journal, histories) = self.closed(alloc)?;
+        let entries = merge_journal(alloc, journal, &histories)?;
+        Ok(log_of(entries, stats, end))
     }
 
     /// The log of a run that is over.
@@ -292,8 +308,24 @@ impl<'m> Run<'m> {
         ensures { IfOk result (λ log. IsRun self.entry.machine log) }
     {
         match self.ending(alloc, rest) {
-            Ok((end, stats)) => Ok(log_of(self.into_entries(), stats, end)),
+            Ok((end, stats)) => self.merged(alloc, end, stats),
             Err(_) => Err(Mem),
         }
+    }
+
+    /// Why a run gives nothing, of which a call was refused: where a source is full, the table of the event word is
+    /// closed, and what was made up to then is a legal log, so the machine's calls may fill the source.
+    pub(crate) fn into_fault<R: Wait>(
+        mut self,
+        rt: &R,
+        alloc: Global,
+        fault: RunFault,
+    ) -> Result<RunFault, Mem>
+        requires { IsRefused self fault }
+        ensures { IfOk result (Fails self.entry.machine) }
+    {
+        let _word = self.look(rt);
+        let _kept = self.closed(alloc)?;
+        Ok(fault)
     }
 }

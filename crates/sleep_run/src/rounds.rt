@@ -16,7 +16,7 @@ use std::sync::Wait;
 impl<'m> Run<'m> {
     ghost use Rattle.std.specs.Prelude.{◌≡◌, ◌≤◌, ◌<◌, length, IfSome, IfOk, IfErr};
     ghost use Rattle.sleep_core.specs.Cores.{IsActor};
-    ghost use Rattle.sleep_run.specs.Runs.{Fails, IsRun, AfterTry, AfterAll};
+    ghost use Rattle.sleep_run.specs.Runs.{Fails, IsRefused, IsRun, AfterTry, AfterAll};
     ghost use Rattle.sleep_run.specs.Tries.{AfterAsking};
 
     /// An actor's try in a round: its next call on a source, else its turn. What the core answers to a turn.
@@ -173,7 +173,7 @@ impl<'m> Run<'m> {
     /// Rounds, for as long as each makes entries. Whether the last one did.
     fn rounds<R: Wait>(&mut self, rt: &R) -> Result<bool, RunFault>
         ensures machine { self.new.machine ≡ self.old.machine }
-        ensures fault { IfErr result (Fails self.old.machine) }
+        ensures fault { IfErr result (IsRefused self.new) }
     {
         for _ in 0..u64::MAX {
             if !self.round(rt)? {
@@ -205,8 +205,10 @@ impl<'m> Run<'m> {
         ensures ok { IfOk result (λ log. IsRun self.entry.machine log) }
         ensures fault { IfErr result (Fails self.entry.machine) }
     {
-        let rest = self.all_rounds(rt)?;
-        Ok(self.into_log(alloc, rest)?)
+        match self.all_rounds(rt) {
+            Ok(rest) => Ok(self.into_log(alloc, rest)?),
+            Err(fault) => Err(self.into_fault(rt, alloc, fault)?),
+        }
     }
 }
 

@@ -3,23 +3,23 @@
 ghost use Rattle.std.specs.Prelude.{◌≡◌, ◌≤◌, ◌<◌, ◌+◌, zero, suc, true, length, IfOk};
 ghost use Rattle.sleep_run.specs.declared.run.RunFault.TheVariants as fault;
 ghost use Rattle.sleep_model.specs.Accepted.{IsAccepted};
-ghost use Rattle.sleep_run.specs.Firsts.{first_sources, run_fault};
+ghost use Rattle.sleep_run.specs.Refused.{run_fault};
 
-use crate::calls::make_whole;
 use crate::jobs::Jobs;
 use crate::waiters::Waiters;
 use answer_book::AnswerBook;
 use device_links::Links;
-use event_word::PlainEvents;
+use event_word::EventTable;
 use growth_laws::{calls_are_ranged, kinds_are_ranged, moments_are_ranged};
+use run_objects::{SeatedCore, SeatedSource, seated_sources};
 use sleep_base::Mem;
 use sleep_core::{Core, CoreFault, CoreTurn};
-use sleep_model::{Actor, Kind, Log, Machine, OtherEntry, Phase, SourceCall, Stamp, Why};
+use sleep_model::{Actor, EventNow, Kind, Log, Machine, Phase, SourceCall, Stamp, Why};
 use std::alloc::{AllocError, Global};
 use std::marker::Model;
 use std::sync::Wait;
 use thiserror::Error;
-use wakeup_source::{CallBy, MOST_ENTRIES, SourceFault, WakeSource};
+use wakeup_source::{CallBy, SourceFault};
 
 /// What a whole run gives.
 #[derive(Drop)]
@@ -77,12 +77,12 @@ pub(crate) enum Tried {
 #[derive(Drop)]
 pub(crate) struct Run<'m> {
     pub(crate) machine: &'m Machine,
-    pub(crate) core: Core<'m>,
-    pub(crate) events: PlainEvents,
-    /// The sources' entries, each behind as many of the core's journal as it says.
-    pub(crate) others: Vec<OtherEntry>,
-    /// The wakeup sources, `autosleep` last.
-    pub(crate) sources: Vec<WakeSource<MOST_ENTRIES>>,
+    /// The event word.
+    pub(crate) table: EventTable,
+    /// The machine's core, with its seat at the word.
+    pub(crate) seated: SeatedCore<'m>,
+    /// The wakeup sources with their seats, `autosleep` last.
+    pub(crate) sources: Vec<SeatedSource>,
     pub(crate) jobs: Jobs<'m>,
     /// The last stamp that anybody made.
     pub(crate) floor: Stamp,
@@ -94,11 +94,11 @@ impl<'m> Model for Run<'m> {
 
     ghost Value = { RunState };
 
-    ghost use Rattle.sleep_run.specs.RunFields.{state, keeps};
+    ghost use Rattle.sleep_run.specs.RunFields.{state, KeepsRun};
 
     ghost view = { state };
 
-    ghost invariant = { keeps };
+    ghost invariant = { KeepsRun };
 }
 
 /// Waits for ever unless that holds.
@@ -110,29 +110,6 @@ pub(crate) fn wait_unless<R: Wait>(rt: &R, holds: bool)
     }
     for _ in rt.forever() {}
     unreachable!()
-}
-
-/// So many sources, none of which was ever called.
-fn sources_of(alloc: Global, many: u32) -> Result<Vec<WakeSource<MOST_ENTRIES>>, AllocError>
-    ensures { IfOk result (λ v. v.items ≡ first_sources many) }
-{
-    let mut sources = Vec::with_capacity(alloc, many as usize)?;
-    for source in 0..many {
-        sources.push(WakeSource::new(alloc, source))?;
-    }
-    Ok(sources)
-}
-
-/// The sources of a machine, `autosleep` last, none of which was ever called.
-fn all_sources(
-    alloc: Global,
-    machine: &Machine,
-) -> Result<Vec<WakeSource<MOST_ENTRIES>>, AllocError>
-    requires { IsAccepted machine.now }
-    ensures { IfOk result (λ v. v.items ≡ first_sources (length machine.now.sources + 1)) }
-{
-    let sources = sources_of(alloc, machine.sources.len() as u32 + 1)?;
-    Ok(sources)
 }
 
 /// Everybody is to be asked.
@@ -173,43 +150,44 @@ fn wake_ready(core: &Core<'_>, waiters: &mut Waiters, phase: Phase, devices: &[u
 }
 
 impl<'m> Run<'m> {
-    ghost use Rattle.std.specs.Prelude.{◌≡◌, ◌≤◌, ◌<◌, ◌+◌, [], true, length, reverse, Err, IfOk, OnOk, IfErr};
-    ghost use Rattle.sleep_model.specs.declared.entry.Actor.TheVariants.{Timer};
-    ghost use Rattle.sleep_model.specs.declared.machine.SourceCall.TheVariants.{Expire};
+    ghost use Rattle.std.specs.Prelude.{◌≡◌, ◌≤◌, ◌<◌, ◌+◌, [], true, length, reverse, vec_len, Err, IfOk, OnOk, IfErr};
     ghost use Rattle.sleep_model.specs.Accepted.{IsAccepted};
-    ghost use Rattle.sleep_model.specs.Calls.{calls_due, calls_of, note};
+    ghost use Rattle.sleep_model.specs.Calls.{calls_due};
     ghost use Rattle.sleep_model.specs.Numbers.{time_of};
     ghost use Rattle.sleep_model.specs.Order.{parents_of};
-    ghost use Rattle.sleep_model.specs.Parts.{journal};
-    ghost use Rattle.sleep_model.specs.Sources.{history, expiry, has_expired, most_entries};
-    ghost use Rattle.sleep_run.specs.declared.run.RunFault.TheVariants as fault;
+    ghost use Rattle.sleep_model.specs.Sources.{expiry, has_expired, most_entries};
+    ghost use Rattle.event_word.specs.Seats.{AreNew, IsUntouched};
+    ghost use Rattle.sleep_state.specs.Places.{entries};
     ghost use Rattle.sleep_core.specs.Cores.{IsActor};
-    ghost use Rattle.sleep_run.specs.Runs.{calls_made, Fails};
+    ghost use Rattle.running_laws.specs.Running.{CallsNext, calls_made, histories, of_sources};
+    ghost use Rattle.run_objects.specs.Objects.{AreUncalled, seats_of};
+    ghost use Rattle.sleep_run.specs.declared.run.RunFault.TheVariants as fault;
+    ghost use Rattle.sleep_run.specs.Runs.{IsGoingOn, IsRefused, IsSame, IsSeen, entries_made};
     ghost use Rattle.sleep_run.specs.Tries.{AfterAsking};
-    ghost use Rattle.sleep_run.specs.Firsts.{CallsNext, first_sources};
     ghost use Rattle.sleep_run.specs.JobsOf.{first_jobs};
 
     /// A run of these parts, in which nothing is done yet.
     fn of_parts(
         machine: &'m Machine,
-        core: Core<'m>,
-        sources: Vec<WakeSource<MOST_ENTRIES>>,
+        table: EventTable,
+        seated: SeatedCore<'m>,
+        sources: Vec<SeatedSource>,
         jobs: Jobs<'m>,
         waiters: Waiters,
-        others: Vec<OtherEntry>,
     ) -> Self
         requires accepted { IsAccepted machine.now }
-        requires core { core ≡ record { machine = machine.now; past = [] } }
-        requires sources { sources.items ≡ first_sources (length machine.now.sources + 1) }
+        requires core { seated.core ≡ record { machine = machine.now; past = [] } }
+        requires table { seated.seat.table_id ≡ table.desk.shared.table_id }
+        requires count { vec_len sources ≡ length machine.now.sources + 1 }
+        requires sources { AreUncalled sources.items }
+        requires seats { AreNew seated.seat (seats_of sources.items) }
         requires jobs { jobs ≡ first_jobs machine.now }
-        requires others { others.items ≡ [] }
-        ensures { result ≡ record { machine = machine.now; past = [] } }
+        ensures { result.machine ≡ machine.now }
     {
         Run {
             machine,
-            core,
-            events: PlainEvents::new(),
-            others,
+            table,
+            seated,
             sources,
             jobs,
             floor: Stamp { pos: 0, tick: 0 },
@@ -227,14 +205,30 @@ impl<'m> Run<'m> {
         requires accepted { IsAccepted machine.now }
         requires book { book.now ≡ machine.now.answers }
         requires links { links ≡ record { parents = parents_of machine.now.devices; links = reverse machine.now.links } }
-        ensures { IfOk result (λ run. run ≡ record { machine = machine.now; past = [] }) }
+        ensures { IfOk result (λ run. run.machine ≡ machine.now) }
     {
-        let sources = all_sources(alloc, machine)?;
+        let (table, sources, look) = seated_sources(alloc, machine.sources.len() as u32 + 1)?;
         let jobs = Jobs::new(alloc, machine, book)?;
         let waiters = all_waiters(alloc, machine)?;
-        let core = Core::new(alloc, machine, links)?;
-        let others = Vec::new(alloc);
-        Ok(Run::of_parts(machine, core, sources, jobs, waiters, others))
+        let seated = SeatedCore::new(Core::new(alloc, machine, links)?, look);
+        Ok(Run::of_parts(machine, table, seated, sources, jobs, waiters))
+    }
+
+    /// The machine's core.
+    #[inline(always)]
+    pub(crate) fn core(&self) -> &Core<'m>
+        ensures is { result.now ≡ record { machine = self.now.machine; past = self.now.journal } }
+        ensures kept { IsGoingOn self.now }
+    {
+        self.seated.core()
+    }
+
+    /// Looks at the event word, at or behind all that was made.
+    pub(crate) fn look<R: Wait>(&mut self, rt: &R) -> EventNow
+        ensures same { IsSame self.old self.new }
+        ensures seen { IsSeen self.new result }
+    {
+        self.seated.look(rt, &self.table, self.floor.pos)
     }
 
     /// An actor makes the call on a source that is next, as a whole: its note, and all steps that it makes. `Mem` only
@@ -247,23 +241,21 @@ impl<'m> Run<'m> {
         call: SourceCall,
     ) -> Result<(), RunFault>
         requires actor { IsActor self.old.machine who }
-        requires next { CallsNext self.old.machine self.old.past who source call }
+        requires next { CallsNext self.old.machine self.old.journal self.old.sources who source call }
         ensures machine { self.new.machine ≡ self.old.machine }
-        ensures made { OnOk result (length self.old.past < length self.new.past) }
-        ensures fault { IfErr result (Fails self.old.machine) }
-        ensures want { result ≡ Err fault.Mem → length (history source self.old.past) + 4 ≤ most_entries }
+        ensures made { OnOk result (entries_made self.old < entries_made self.new) }
+        ensures fault { IfErr result (IsRefused self.new) }
+        ensures want { result ≡ Err fault.Mem → length (of_sources self.old.sources source) + 4 ≤ most_entries }
     {
         let by = CallBy {
             actor: who,
             floor: self.floor,
-            now: self.core.time(),
+            now: self.core().time(),
         };
         moments_are_ranged(by.now);
         calls_are_ranged(source, call);
-        let before = self.core.len();
         let one = &mut self.sources[source as usize];
-        let others = &mut self.others;
-        match make_whole(rt, one, &mut self.events, others, before, by, call) {
+        match one.call(rt, &self.table, by, call) {
             Ok(stamp) => {
                 self.floor = stamp;
                 self.jobs.told_call(who, stamp);
@@ -277,23 +269,20 @@ impl<'m> Run<'m> {
     /// The timer of a source ends the event in progress, whose moment has come. Refuses as `call`.
     pub(crate) fn expire<R: Wait>(&mut self, rt: &R, source: u32) -> Result<(), RunFault>
         requires there { source ≤ length self.old.machine.sources }
-        requires due { has_expired (expiry (history source self.old.past)) (time_of self.old.past) ≡ true }
+        requires due { has_expired (expiry (histories self.old.sources source)) (time_of (entries self.old.journal)) ≡ true }
         ensures machine { self.new.machine ≡ self.old.machine }
-        ensures made { OnOk result (length self.old.past < length self.new.past) }
-        ensures fault { IfErr result (Fails self.old.machine) }
-        ensures want { result ≡ Err fault.Mem → length (history source self.old.past) + 4 ≤ most_entries }
+        ensures made { OnOk result (entries_made self.old < entries_made self.new) }
+        ensures fault { IfErr result (IsRefused self.new) }
+        ensures want { result ≡ Err fault.Mem → length (of_sources self.old.sources source) + 4 ≤ most_entries }
     {
         let by = CallBy {
             actor: Actor::Timer(source),
             floor: self.floor,
-            now: self.core.time(),
+            now: self.core().time(),
         };
         moments_are_ranged(by.now);
-        let before = self.core.len();
         let one = &mut self.sources[source as usize];
-        let others = &mut self.others;
-        let call = SourceCall::Expire;
-        match make_whole(rt, one, &mut self.events, others, before, by, call) {
+        match one.call(rt, &self.table, by, SourceCall::Expire) {
             Ok(stamp) => {
                 self.floor = stamp;
                 self.waiters.wake_for_word();
@@ -311,8 +300,8 @@ impl<'m> Run<'m> {
         self.waiters.wake_maker(device);
         if !self.waiters.are_in_step() {
             self.waiters.device_waits(device);
-            let waiting = waiting_for(&self.core, phase, device);
-            wake_ready(&self.core, &mut self.waiters, phase, waiting);
+            let waiting = waiting_for(self.seated.core(), phase, device);
+            wake_ready(self.seated.core(), &mut self.waiters, phase, waiting);
         }
     }
 
@@ -323,7 +312,7 @@ impl<'m> Run<'m> {
     {
         match kind {
             Kind::Schedule(phase, device) => {
-                wake_ready(&self.core, &mut self.waiters, phase, &[device]);
+                wake_ready(self.seated.core(), &mut self.waiters, phase, &[device]);
             }
             Kind::End(phase, device, _) | Kind::Skip(phase, device, _) => {
                 self.wake_after_end(phase, device);
@@ -340,17 +329,17 @@ impl<'m> Run<'m> {
     #[inline(always)]
     pub(crate) fn turn<R: Wait>(&mut self, rt: &R, who: Actor) -> Result<Tried, RunFault>
         requires actor { IsActor self.old.machine who }
-        requires calls { calls_made self.old.machine self.old.past who ≡ calls_due self.old.machine who (journal self.old.past) }
+        requires calls { calls_made self.old.machine self.old.sources who ≡ calls_due self.old.machine who (entries self.old.journal) }
         ensures machine { self.new.machine ≡ self.old.machine }
         ensures after { AfterAsking self.old self.new result }
     {
         // A journal is shorter than 2^63, so the job's number of turns stays in its range.
-        let _made = self.core.len();
+        let _made = self.core().len();
         let calls = self.jobs.calls(who);
-        let time = self.core.time();
+        let time = self.core().time();
         let turn = self
-            .core
-            .turn(rt, &mut self.events, who, calls, self.floor, time)?;
+            .seated
+            .turn(rt, &self.table, who, calls, self.floor, time)?;
         match turn {
             CoreTurn::Did {
                 stamp,

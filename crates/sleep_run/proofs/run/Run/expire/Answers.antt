@@ -1,79 +1,128 @@
-use Rattle.std.proofs.Common.{◌≡◌, ◌≤◌, ◌+◌, ◌∙◌, ℕ, true, length, refl, sym, ap, subst, Err}
+use Rattle.std.proofs.Common.{◌≡◌, ◌≤◌, ◌+◌, ◌∙◌, ℕ, List, true, nat_le, length, refl, sym, ap, subst, arith, Err}
+use Rattle.std.proofs.lemmas.Bool.Decides.{nat_tests}
+use Rattle.std.proofs.lemmas.List.{length-map}
 use Rattle.sleep_model.specs.declared.entry.Actor.TheVariants as actor
+use Rattle.sleep_model.specs.declared.entry.Entry.{Entry}
 use Rattle.sleep_model.specs.declared.machine.SourceCall.TheVariants as call
 use Rattle.sleep_model.specs.Numbers.{time_of}
-use Rattle.sleep_model.specs.Sources.{history, expiry, has_expired, most_entries}
+use Rattle.sleep_model.specs.Sources.{expiry, has_expired, most_entries}
+use Rattle.sleep_state.specs.Places.{entries}
+use Rattle.sleep_core.specs.Cores.{CoreState}
 use Rattle.wakeup_source.specs.declared.call_by.CallBy.{CallBy}
-use Rattle.wakeup_source.specs.declared.fault.SourceFault.{SourceFault}
-use Rattle.wakeup_source.specs.declared.fault.SourceFault.TheVariants as source
-use Rattle.sleep_model.specs.Woven.{AreWithin}
-use Rattle.sleep_run.specs.AllEntries.{all_of}
+use Rattle.wakeup_source.specs.SourceStates.{SourceState, bare}
+use Rattle.run_objects.specs.Objects.{SeatedSourceState, scene_of}
+use Rattle.running_laws.specs.Running.{IsRunning, histories, of_sources}
+use Rattle.running_laws.proofs.Calls.{IsCalledNow, running_expire}
 use Rattle.sleep_run.specs.declared.run.Run.TheInside.{Inside}
-use Rattle.sleep_run.specs.declared.run.RunFault.{RunFault}
-use Rattle.sleep_run.specs.Firsts.{run_fault}
-use Rattle.sleep_run.specs.RunFields.{state}
-use Rattle.sleep_run.specs.Runs.{RunState, Fails, IsFull}
-use Rattle.sleep_run.proofs.Running.{time_joint, can_make, running_expire, is_full, wanted}
-use Rattle.sleep_run.proofs.SourcesKept.{bare_count}
+use Rattle.sleep_run.specs.declared.run.RunFault.TheVariants as fault
+use Rattle.sleep_run.specs.JobsOf.{job_at}
+use Rattle.sleep_run.specs.RunFields.{sources_of, state}
+use Rattle.sleep_run.specs.Runs.{RunState, entries_made}
+use Rattle.sleep_run.proofs.Calling.{at_table, call_more, history_is, more_entries, not_later, old_is, refused, refused_put, wanted, within}
+use Rattle.sleep_run.proofs.JobsKept.{not_timer}
+use Rattle.sleep_run.proofs.SeatsKept.{seats_set, sources_set}
 use Rattle.sleep_run.proofs.run.Run.expire.Goals as goal
 
 there : (r : Inside) (s : RunState) → state r ≡ s → (source : ℕ) → source ≤ length s.machine.sources → source ≤ length r.machine.now.sources
 there r s same source h = subst (λ (x : RunState). source ≤ length x.machine.sources) (sym same) h
 
-due : (r : Inside) (s : RunState) → state r ≡ s → (source : ℕ) → has_expired (expiry (history source s.past)) (time_of s.past) ≡ true → has_expired (expiry (history source (all_of r.core.past r.others.items))) (time_of (all_of r.core.past r.others.items)) ≡ true
-due r s same source h = subst (λ (x : RunState). has_expired (expiry (history source x.past)) (time_of x.past) ≡ true) (sym same) h
+time : (r : Inside) (s : RunState) → state r ≡ s → (core : CoreState) (at : ℕ) → core ≡ record { machine = s.machine; past = s.journal } → at ≡ time_of (entries core.past) → at ≡ time_of (entries r.seated.core.past)
+time r s same core at is now = now ∙ (ap (λ (x : CoreState). time_of (entries x.past)) is ∙ sym (ap (λ (x : RunState). time_of (entries x.journal)) same))
 
-pub make_whole-requires-clause-time : goal.make_whole-requires-clause-time
-make_whole-requires-clause-time g c =
-    let r = c.self.inside in
-    let at : c.time.result ≡ time_of (all_of r.core.past r.others.items) = c.time.ensures.time ∙ time_joint r.machine.now (all_of r.core.past r.others.items) r.core r.events r.sources.items r.jobs r.floor c.self.invariant.0 in
-    (can_make r.machine.now (all_of r.core.past r.others.items) r.core r.events r.sources.items r.jobs r.floor c.self.invariant.0 c.args.source call.Expire c.index_mut-one.result.now c.time.result (there r c.args.self.now c.self.view_is c.args.source c.requires.there) c.index_mut-one.ensures.value at).timely
+due : (r : Inside) (s : RunState) → state r ≡ s → (source at : ℕ) (one : SourceState) → histories (sources_of r.sources.items) source ≡ bare one.past → at ≡ time_of (entries r.seated.core.past)
+    → has_expired (expiry (histories s.sources source)) (time_of (entries s.journal)) ≡ true → has_expired (expiry (bare one.past)) at ≡ true
+due r s same source at one own now h =
+    let mine : has_expired (expiry (histories (sources_of r.sources.items) source)) (time_of (entries r.seated.core.past)) ≡ true =
+    subst (λ (x : RunState). has_expired (expiry (histories x.sources source)) (time_of (entries x.journal)) ≡ true) (sym same) h in
+    subst (λ (t : ℕ). has_expired (expiry (bare one.past)) t ≡ true) (sym now) (subst (λ (xs : List Entry). has_expired (expiry xs) (time_of (entries r.seated.core.past)) ≡ true) own mine)
 
-pub make_whole-requires-clause-can : goal.make_whole-requires-clause-can
-make_whole-requires-clause-can g c =
+pub index_mut-one-requires : goal.index_mut-one-requires
+index_mut-one-requires g c =
     let r = c.self.inside in
-    let at : c.time.result ≡ time_of (all_of r.core.past r.others.items) = c.time.ensures.time ∙ time_joint r.machine.now (all_of r.core.past r.others.items) r.core r.events r.sources.items r.jobs r.floor c.self.invariant.0 in
-    (can_make r.machine.now (all_of r.core.past r.others.items) r.core r.events r.sources.items r.jobs r.floor c.self.invariant.0 c.args.source call.Expire c.index_mut-one.result.now c.time.result (there r c.args.self.now c.self.view_is c.args.source c.requires.there) c.index_mut-one.ensures.value at).room
+    omega (arith, there r c.args.self.now c.self.view_is c.args.source c.requires.there, c.self.invariant.running.sources_are.count, length-map r.sources.items (λ (x : SeatedSourceState). x.source), r.sources.ok)
 
-pub make_whole-requires-clause-may : goal.make_whole-requires-clause-may
-make_whole-requires-clause-may g c =
+pub call-requires-clause-time : goal.call-requires-clause-time
+call-requires-clause-time g c =
     let r = c.self.inside in
-    let at : c.time.result ≡ time_of (all_of r.core.past r.others.items) = c.time.ensures.time ∙ time_joint r.machine.now (all_of r.core.past r.others.items) r.core r.events r.sources.items r.jobs r.floor c.self.invariant.0 in
-    let here = (can_make r.machine.now (all_of r.core.past r.others.items) r.core r.events r.sources.items r.jobs r.floor c.self.invariant.0 c.args.source call.Expire c.index_mut-one.result.now c.time.result (there r c.args.self.now c.self.view_is c.args.source c.requires.there) c.index_mut-one.ensures.value at).here in
-    subst (λ own. has_expired (expiry own) c.time.result ≡ true) (sym here.entries) (subst (λ (t : ℕ). has_expired (expiry (history c.args.source (all_of r.core.past r.others.items))) t ≡ true) (sym at) (due r c.args.self.now c.self.view_is c.args.source c.requires.due))
+    let t = there r c.args.self.now c.self.view_is c.args.source c.requires.there in
+    not_later r c.self.invariant c.args.source t c.index_mut-one.result.now c.index_mut-one.ensures.value c.time.result (time r c.args.self.now c.self.view_is c.core.result.now c.time.result c.core.ensures.is c.time.ensures.time)
+
+pub call-requires-clause-may : goal.call-requires-clause-may
+call-requires-clause-may g c =
+    let r = c.self.inside in
+    let t = there r c.args.self.now c.self.view_is c.args.source c.requires.there in
+    due r c.args.self.now c.self.view_is c.args.source c.time.result c.index_mut-one.result.now.source
+    (history_is r c.self.invariant c.args.source t c.index_mut-one.result.now c.index_mut-one.ensures.value)
+    (time r c.args.self.now c.self.view_is c.core.result.now c.time.result c.core.ensures.is c.time.ensures.time) c.requires.due
+
+pub call-requires-clause-table : goal.call-requires-clause-table
+call-requires-clause-table g c =
+    let r = c.self.inside in
+    let t = there r c.args.self.now c.self.view_is c.args.source c.requires.there in
+    at_table r c.self.invariant c.args.source t c.index_mut-one.result.now c.index_mut-one.ensures.value
+
+timer : (s n : ℕ) → s ≤ n → nat_le s n ≡ true
+timer s n l = grind (arith, nat_tests)
 
 pub invariant_of-self : goal.invariant_of-self
 invariant_of-self g c =
     let r = c.self.inside in
-    let at : c.time.result ≡ time_of (all_of r.core.past r.others.items) = c.time.ensures.time ∙ time_joint r.machine.now (all_of r.core.past r.others.items) r.core r.events r.sources.items r.jobs r.floor c.self.invariant.0 in
-    let by : CallBy = record { actor = actor.Timer c.args.source; floor = r.floor; now = c.time.result } in (
-      running_expire r.machine.now (all_of r.core.past r.others.items) r.core r.events r.sources.items r.jobs r.floor c.self.invariant.0 c.args.source by c.make_whole.new.events c.index_mut-one.result.now c.make_whole.new.source c.in-Ok.stamp
-          (all_of r.core.past c.make_whole.new.others.items) (there r c.args.self.now c.self.view_is c.args.source c.requires.there) refl (due r c.args.self.now c.self.view_is c.args.source c.requires.due) at refl c.index_mut-one.ensures.value c.in-Ok.ensures.room
-          (bare_count c.index_mut-one.result.now.past) c.in-Ok.ensures.made (c.in-Ok.ensures.entries.all r.core.past (sym c.len-before.ensures.len)) c.moments_are_ranged.ensures,
-      subst (λ k. AreWithin k r.others.items → AreWithin k c.make_whole.new.others.items) c.len-before.ensures.len c.in-Ok.ensures.entries.within c.self.invariant.1,
-    )
+    let k = c.self.invariant in
+    let m = r.machine.now in
+    let journal = r.seated.core.past in
+    let sources = sources_of r.sources.items in
+    let s = c.args.source in
+    let one = c.index_mut-one.result.now in
+    let new = c.call.new.self in
+    let is = c.index_mut-one.ensures.value in
+    let t = there r c.args.self.now c.self.view_is s c.requires.there in
+    let at = time r c.args.self.now c.self.view_is c.core.result.now c.time.result c.core.ensures.is c.time.ensures.time in
+    let by : CallBy = record { actor = actor.Timer s; floor = r.floor; now = c.time.result } in
+    let now : IsCalledNow m journal sources (job_at r.jobs) r.floor k.running s by call.Expire (scene_of one) (scene_of new) = record {
+      there = t;
+      old_is = old_is r k s t one is;
+      next = refl;
+      may = due r c.args.self.now c.self.view_is s c.time.result one.source (history_is r k s t one is) at c.requires.due;
+      floor_is = refl;
+      time_is = at;
+      calls = c.in-Ok.ensures.calls.1;
+      settled = c.in-Ok.ensures.settled;
+      timed = c.moments_are_ranged.ensures;
+      acts = timer s (length m.sources) t;
+      ranged = refl;
+    } in
+    record {
+      machine_is = k.machine_is;
+      running =
+          subst (λ (xs : List SourceState). IsRunning m journal xs (job_at r.jobs) c.in-Ok.stamp) (sym (sources_set r.sources.items s new))
+          (running_expire m journal sources (job_at r.jobs) r.floor k.running s by call.Expire (scene_of one) (scene_of new) now c.in-Ok.stamp c.in-Ok.ensures.calls.0 (λ other b. not_timer m s other b));
+      all_jobs = k.all_jobs;
+      table = k.table;
+      seats = seats_set r.seated.seat r.sources.items s one new k.seats (within r k s t one is) is c.in-Ok.ensures.table c.in-Ok.ensures.number.0;
+    }
 
-failed : (r : Inside) (s : RunState) → state r ≡ s → (number : ℕ) (fault : SourceFault) (given : RunFault) → given ≡ run_fault fault number → (fault ≡ source.Full → IsFull r.machine.now number) → Fails s.machine given
-failed r s same number source.Full given is full =
-    subst (λ (x : RunState). Fails x.machine given) same (subst (Fails r.machine.now) (sym is) (full refl))
-failed r s same number source.Mem given is full =
-    subst (λ (x : RunState). Fails x.machine given) same (subst (Fails r.machine.now) (sym is) tt)
+pub returns-in-Ok-clause-made : goal.returns-in-Ok-clause-made
+returns-in-Ok-clause-made g c =
+    let r = c.self.inside in
+    let one = c.index_mut-one.result.now in
+    let new = c.call.new.self in
+    let t = there r c.args.self.now c.self.view_is c.args.source c.requires.there in
+    let by : CallBy = record { actor = actor.Timer c.args.source; floor = r.floor; now = c.time.result } in
+    omega (arith, more_entries r c.self.invariant c.args.source t one c.index_mut-one.ensures.value new (call_more by call.Expire (scene_of one) (scene_of new) c.in-Ok.ensures.calls.1), ap entries_made c.self.view_is)
 
 pub returns-in-Err-clause-fault : goal.returns-in-Err-clause-fault
 returns-in-Err-clause-fault g c =
     let r = c.self.inside in
+    let k = c.self.invariant in
     let t = there r c.args.self.now c.self.view_is c.args.source c.requires.there in
-    let at : c.time.result ≡ time_of (all_of r.core.past r.others.items) = c.time.ensures.time ∙ time_joint r.machine.now (all_of r.core.past r.others.items) r.core r.events r.sources.items r.jobs r.floor c.self.invariant.0 in
-    let here = (can_make r.machine.now (all_of r.core.past r.others.items) r.core r.events r.sources.items r.jobs r.floor c.self.invariant.0 c.args.source call.Expire c.index_mut-one.result.now c.time.result t c.index_mut-one.ensures.value at).here in
-    failed r c.args.self.now c.self.view_is c.args.source c.in-Err.fault c.fault_of.result c.fault_of.ensures
-    (λ e. is_full r.machine.now (all_of r.core.past r.others.items) r.core r.events r.sources.items r.jobs r.floor c.self.invariant.0 c.args.source c.index_mut-one.result.now t here (bare_count c.index_mut-one.result.now.past) (c.in-Err.ensures.full.0 (ap Err e)))
+    refused_put r k c.args.source t c.index_mut-one.result.now c.index_mut-one.ensures.value c.call.new.self c.in-Err.ensures.err c.fault_of.result
+    (refused r k c.args.source t c.index_mut-one.result.now c.index_mut-one.ensures.value c.in-Err.fault c.fault_of.result c.fault_of.ensures (λ e. c.in-Err.ensures.full.0 (ap Err e)))
 
 pub returns-in-Err-clause-want : goal.returns-in-Err-clause-want
 returns-in-Err-clause-want g c want =
     let r = c.self.inside in
+    let k = c.self.invariant in
     let t = there r c.args.self.now c.self.view_is c.args.source c.requires.there in
-    let at : c.time.result ≡ time_of (all_of r.core.past r.others.items) = c.time.ensures.time ∙ time_joint r.machine.now (all_of r.core.past r.others.items) r.core r.events r.sources.items r.jobs r.floor c.self.invariant.0 in
-    let here = (can_make r.machine.now (all_of r.core.past r.others.items) r.core r.events r.sources.items r.jobs r.floor c.self.invariant.0 c.args.source call.Expire c.index_mut-one.result.now c.time.result t c.index_mut-one.ensures.value at).here in
-    subst (λ (x : RunState). length (history c.args.source x.past) + 4 ≤ most_entries) c.self.view_is
-    (wanted c.args.source (all_of r.core.past r.others.items) c.index_mut-one.result.now c.in-Err.fault c.fault_of.result here (bare_count c.index_mut-one.result.now.past)
-    (λ l. (let full = c.in-Err.ensures.full.1 l in cc)) c.fault_of.ensures (cc))
+    subst (λ (x : RunState). length (of_sources x.sources c.args.source) + 4 ≤ most_entries) c.self.view_is
+    (wanted r k c.args.source t c.index_mut-one.result.now c.index_mut-one.ensures.value c.in-Err.fault c.fault_of.result c.fault_of.ensures
+    (λ l. (let full = c.in-Err.ensures.full.1 l in cc)) (let no : c.fault_of.result ≡ fault.Mem = cc in no))

@@ -1,9 +1,12 @@
-use Rattle.std.proofs.Common.{◌≡◌, ◌∙◌, Bool, true, false, not, sym, subst, refl}
+use Rattle.std.proofs.Common.{◌≡◌, ◌∙◌, Bool, true, false, not, is_some, sym, ap, subst, refl}
 use Rattle.std.specs.Bool.{OnTrue}
-use Rattle.sleep_run.specs.AllEntries.{all_of}
+use Rattle.sleep_model.specs.Path.{maker}
+use Rattle.sleep_state.specs.Places.{entries}
+use Rattle.sleep_core.specs.Cores.{CoreState}
 use Rattle.sleep_run.specs.JobsOf.{OweNone}
-use Rattle.sleep_run.specs.Runs.{RunState, IsCalm}
+use Rattle.sleep_run.specs.Runs.{IsCalm}
 use Rattle.sleep_run.proofs.Calm.{calm_is}
+use Rattle.sleep_run.proofs.Fields.{goes_on, has_all}
 use Rattle.sleep_run.proofs.run.Run.is_calm.Goals as goal
 
 where_not : (b : Bool) (P : Type 0) → (b ≡ false → P) → OnTrue (not b) P
@@ -13,7 +16,8 @@ where_not false P h = h refl
 pub returns-then-owe_none : goal.returns-then-owe_none
 returns-then-owe_none c =
     let r = c.self.inside in
+    let s = c.args.self.now in
     let none : OweNone r.jobs = subst (λ (b : Bool). OnTrue b (OweNone r.jobs)) c.if-owe_none.true c.owe_none.ensures in
-    where_not c.is_open.result (IsCalm c.args.self.now.machine c.args.self.now.past)
-    (λ shut. subst (λ (s : RunState). IsCalm s.machine s.past) c.self.view_is
-    (calm_is r.machine.now (all_of r.core.past r.others.items) r.core r.events r.sources.items r.jobs r.floor c.self.invariant.0 none (sym c.is_open.ensures ∙ shut)))
+    where_not c.is_open.result (IsCalm s)
+    (λ shut. calm_is s r.jobs (goes_on r s c.self.view_is c.self.invariant) (has_all r s c.self.view_is c.self.invariant) none
+    (sym (ap (λ (x : CoreState). is_some (maker (entries x.past))) c.core.ensures.is) ∙ (sym c.is_open.ensures ∙ shut)))

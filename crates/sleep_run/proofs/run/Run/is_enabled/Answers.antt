@@ -1,16 +1,19 @@
-use Rattle.std.proofs.Common.{◌≡◌, ◌∙◌, sym, subst}
-use Rattle.sleep_model.specs.Legal.{is_enabled}
-use Rattle.sleep_model.specs.Parts.{journal}
-use Rattle.sleep_model.specs.Sources.{history}
-use Rattle.sleep_core.specs.Cores.{IsActor}
-use Rattle.sleep_run.specs.AllEntries.{all_of}
-use Rattle.sleep_run.specs.Runs.{RunState}
-use Rattle.sleep_run.proofs.Running.{enabled_is}
+use Rattle.std.proofs.Common.{◌∙◌, ◌||◌, nat_lt, ap}
+use Rattle.sleep_model.specs.Calls.{calls_due}
+use Rattle.sleep_model.specs.Due.{due}
+use Rattle.sleep_model.specs.Legal.{is_made}
+use Rattle.sleep_state.specs.Places.{entries}
+use Rattle.sleep_core.specs.Cores.{CoreState}
+use Rattle.running_laws.proofs.Kept.{enabled_is}
+use Rattle.sleep_run.specs.JobsOf.{job_at}
+use Rattle.sleep_run.proofs.Fields.{goes_on}
 use Rattle.sleep_run.proofs.run.Run.is_enabled.Goals as goal
 
 pub returns : goal.returns
 returns c =
     let r = c.self.inside in
-    let a : IsActor r.machine.now c.args.who = subst (λ (s : RunState). IsActor s.machine c.args.who) (sym c.self.view_is) c.requires in
-    subst (λ (s : RunState). c.enabled.result ≡ is_enabled s.machine (journal s.past) (λ t. history t s.past) c.args.word c.args.who) c.self.view_is
-    (c.enabled.ensures ∙ enabled_is r.machine.now (all_of r.core.past r.others.items) r.core r.events r.sources.items r.jobs r.floor c.self.invariant.0 c.args.word c.args.who c.calls-calls.result a c.calls-calls.ensures)
+    let s = c.args.self.now in
+    let run = goes_on r s c.self.view_is c.self.invariant in
+    c.enabled.ensures
+    ∙ (ap (λ (x : CoreState). nat_lt c.calls-calls.result (calls_due x.machine c.args.who (entries x.past)) || is_made (due x.machine (entries x.past) c.args.who c.args.word)) c.core.ensures.is
+    ∙ enabled_is s.machine s.journal s.sources (job_at r.jobs) s.floor run c.args.word c.args.who c.calls-calls.result (c.calls-calls.ensures ∙ (run.jobs_are c.args.who c.requires).calls_are))

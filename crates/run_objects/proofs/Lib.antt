@@ -1,0 +1,4 @@
+pub mod Firsts
+pub mod Laying
+pub mod Machines
+pub mod Sources

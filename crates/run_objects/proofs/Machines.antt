@@ -1,0 +1,63 @@
+-- A look, a turn and a jump leave each word of the journal one that the seat looked at.
+use Rattle.std.proofs.Common.{◌≡◌, ◌≤◌, List, ◌∷◌, Some, Result, Ok, Err, refl, sym, subst, arith}
+use Rattle.sleep_model.specs.declared.entry.Actor.{Actor}
+use Rattle.sleep_model.specs.declared.entry.Actor.TheVariants as actor
+use Rattle.sleep_model.specs.declared.entry.JournalEntry.{JournalEntry}
+use Rattle.sleep_model.specs.declared.entry.Kind.TheVariants as kind
+use Rattle.sleep_model.specs.declared.word.EventNow.{EventNow}
+use Rattle.sleep_model.specs.declared.word.Stamp.{Stamp}
+use Rattle.sleep_model.specs.Word.{position}
+use Rattle.event_word.specs.Looks.{GrewTo}
+use Rattle.event_word.specs.Seats.{IsLook, IsUnused, floor_of, looked_of}
+use Rattle.sleep_core.specs.declared.turns.CoreFault.{CoreFault}
+use Rattle.sleep_core.specs.declared.turns.CoreTurn.{CoreTurn}
+use Rattle.sleep_core.specs.declared.turns.CoreTurn.TheVariants.{Did, NotYet, Done}
+use Rattle.sleep_core.specs.Cores.{CoreState, made_entry}
+use Rattle.sleep_core.specs.Histories.{last_stamp}
+use Rattle.sleep_core.specs.Turned.{AfterTurn}
+use Rattle.run_laws.specs.Laid.{is_placed}
+use Rattle.run_laws.specs.Seated.{AreSeen, sees}
+use Rattle.run_laws.proofs.Seated.{watch_keeps}
+use Rattle.run_objects.specs.Objects.{IsSeatedCore, SeatedCoreState}
+use Rattle.merge_laws.proofs.Lists.{all_tail}
+
+-- more looks leave each word of the journal looked at
+looked_on : (looked new : List EventNow) (journal : List JournalEntry) (word : EventNow) → AreSeen looked journal → GrewTo word (Some looked) (Some new) → AreSeen new journal
+looked_on looked new journal word h g =
+    let e : JournalEntry = record {
+      stamp = record { pos = position word; tick = 0 };
+      entry = record { time = 0; now = word; actor = actor.Time; kind = kind.Jump };
+    } in
+    let more : AreSeen new (e ∷ journal) = watch_keeps looked new journal e h g refl in
+    (all_tail (sees new) e journal more.0, all_tail is_placed e journal more.1)
+
+-- the machine after looks
+pub looked : (old new : SeatedCoreState) (word : EventNow) → IsSeatedCore old → IsLook new.seat → IsUnused new.seat → new.core ≡ old.core
+    → GrewTo word (Some (looked_of old.seat)) (Some (looked_of new.seat)) → floor_of old.seat ≤ floor_of new.seat → IsSeatedCore new
+looked old new word kept look unused same grew rises = record {
+  seat = look;
+  unused = unused;
+  seen = subst (λ (c : CoreState). AreSeen (looked_of new.seat) c.past) (sym same) (looked_on (looked_of old.seat) (looked_of new.seat) old.core.past word kept.seen grew);
+  low = subst (λ (c : CoreState). (last_stamp c.past).pos ≤ floor_of new.seat) (sym same) (omega (arith, kept.low, rises));
+}
+
+-- ---- a turn
+
+turn_seen : (result : Result CoreTurn CoreFault) (old new : CoreState) (who : Actor) (word : EventNow) (floor : Stamp) (before after : List EventNow) → AreSeen before old.past
+    → GrewTo word (Some before) (Some after) → AfterTurn old new who word floor result → AreSeen after new.past
+turn_seen (Ok (Did stamp k attempt)) old new who word floor before after h g t =
+    subst (λ (c : CoreState). AreSeen after c.past) (sym t.1) (watch_keeps before after old.past (made_entry old.past who word floor k) h g refl)
+turn_seen (Ok (NotYet why)) old new who word floor before after h g t = subst (λ (c : CoreState). AreSeen after c.past) (sym t.1) (looked_on before after old.past word h g)
+turn_seen (Ok Done) old new who word floor before after h g t = subst (λ (c : CoreState). AreSeen after c.past) (sym t.1) (looked_on before after old.past word h g)
+turn_seen (Err fault) old new who word floor before after h g t = subst (λ (c : CoreState). AreSeen after c.past) (sym t.2) (looked_on before after old.past word h g)
+
+-- the machine after a turn
+pub turned : (result : Result CoreTurn CoreFault) (old new : SeatedCoreState) (who : Actor) (word : EventNow) (floor : Stamp) → IsSeatedCore old → IsLook new.seat → IsUnused new.seat
+    → GrewTo word (Some (looked_of old.seat)) (Some (looked_of new.seat)) → AfterTurn old.core new.core who word floor result
+    → (last_stamp new.core.past).pos ≤ floor_of new.seat → IsSeatedCore new
+turned result old new who word floor kept look unused grew after low = record {
+  seat = look;
+  unused = unused;
+  seen = turn_seen result old.core new.core who word floor (looked_of old.seat) (looked_of new.seat) kept.seen grew after;
+  low = low;
+}

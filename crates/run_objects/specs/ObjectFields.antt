@@ -1,0 +1,54 @@
+-- What the fields of a seated source and of a seated core are.
+use Rattle.std.specs.Prelude.{◌≡◌, true, [], Option, Some, None, is_some}
+use Rattle.event_word.specs.declared.table.EventSeat.{EventSeat}
+use Rattle.event_word.specs.declared.table.LookSeat.{LookSeat}
+use Rattle.event_word.specs.Counting.{source_view}
+use Rattle.event_word.specs.Seats.{Token}
+use Rattle.run_objects.specs.declared.source.SeatedSource.TheInside as source
+use Rattle.run_objects.specs.declared.machine.SeatedCore.TheInside as machine
+use Rattle.run_objects.specs.Objects.{SeatedSourceState, SeatedCoreState, IsSeatedSource, IsSeatedCore}
+
+-- a seat of no source
+abbrev pub no_seat : Token
+no_seat = record {
+  marker = record {};
+  table_id = record {
+    words = 0;
+    slots = 0;
+    views_name = 0;
+    atom = 0;
+    block = 0;
+    offset = 0;
+    slot_names = [];
+  };
+  id = 0;
+  me = (source_view 0, []);
+}
+
+-- the seat of a source that is in its place
+abbrev pub event_seat : Option EventSeat → Token
+event_seat None = no_seat
+event_seat (Some seat) = seat.token
+
+-- the seat that only looks, in its place
+abbrev pub look_seat : Option LookSeat → Token
+look_seat None = no_seat
+look_seat (Some seat) = seat.token
+
+-- a source as contracts see it
+abbrev pub source_state : source.Inside → SeatedSourceState
+source_state s = record { source = s.source; seat = event_seat s.seat }
+
+-- the machine as contracts see it
+abbrev pub core_state : machine.Inside → SeatedCoreState
+core_state s = record { core = s.core; seat = look_seat s.seat }
+
+-- the seat is in its place, and the source's
+pub record KeepsSource (s : source.Inside) : Type 0 where
+  pub placed : is_some s.seat ≡ true
+  pub kept : IsSeatedSource (source_state s)
+
+-- the seat is in its place, and the machine's
+pub record KeepsCore (s : machine.Inside) : Type 0 where
+  pub placed : is_some s.seat ≡ true
+  pub kept : IsSeatedCore (core_state s)

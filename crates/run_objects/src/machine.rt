@@ -1,0 +1,153 @@
+//! The machine's core with the seat by which it looks at the event word.
+
+ghost use Rattle.std.specs.Prelude.{◌≡◌, ◌≤◌, ◌<◌, ◌+◌, ◌-◌, ◌^◌, [], true, Some, IfOk, IsSome, OnErr};
+ghost use Rattle.std.specs.List.{list_any};
+ghost use Rattle.sleep_model.specs.declared.word.EventNow.{EventNow};
+ghost use Rattle.sleep_model.specs.Calls.{calls_due};
+ghost use Rattle.sleep_model.specs.Legal.{JournalPart};
+ghost use Rattle.sleep_model.specs.Merge.{is_word};
+ghost use Rattle.sleep_model.specs.Numbers.{time_of};
+ghost use Rattle.sleep_model.specs.Word.{position};
+ghost use Rattle.sleep_state.specs.Places.{entries};
+ghost use Rattle.event_word.specs.Looks.{GrewTo};
+ghost use Rattle.event_word.specs.Seats.{floor_of, looked_of, sources_of};
+ghost use Rattle.sleep_core.specs.Cores.{IsActor, jump_entry, next_stamp, with_entry};
+ghost use Rattle.sleep_core.specs.Histories.{last_stamp};
+ghost use Rattle.sleep_core.specs.Turned.{AfterTurn};
+ghost use Rattle.run_objects.specs.Objects.{IsSeatedCore};
+
+use event_word::{EventTable, LookSeat, look_from};
+use sleep_base::Mem;
+use sleep_core::{Core, CoreFault, CoreTurn};
+use sleep_model::{Actor, EventNow, Journal, Stamp};
+use std::marker::Model;
+use std::sync::Wait;
+
+/// The machine as it stands under its lock: its core, and the seat by which it looks at the event word
+/// (`kernel/power/suspend.c`, `combined_event_count`). Contracts see the core, and what its seat knows.
+#[derive(Drop)]
+pub struct SeatedCore<'m> {
+    core: Core<'m>,
+    // The seat is out within a call alone.
+    seat: Option<LookSeat>,
+}
+
+impl<'m> Model for SeatedCore<'m> {
+    ghost use Rattle.run_objects.specs.Objects.{SeatedCoreState};
+
+    ghost Value = { SeatedCoreState };
+
+    ghost use Rattle.run_objects.specs.ObjectFields.{KeepsCore, core_state};
+
+    ghost view = { core_state };
+
+    ghost invariant = { KeepsCore };
+}
+
+/// Takes the seat out of its place.
+#[inline(always)]
+fn taken(place: &mut Option<LookSeat>) -> LookSeat
+    requires { IsSome place.old }
+    ensures { place.old ≡ Some result }
+{
+    match place.take() {
+        Some(seat) => seat,
+        None => unreachable!(),
+    }
+}
+
+impl<'m> SeatedCore<'m> {
+    /// A core that has made nothing yet, with the seat by which it will look.
+    pub fn new(core: Core<'m>, seat: LookSeat) -> Self
+        requires { core.past ≡ [] }
+        ensures { result ≡ record { core = core.entry; seat = seat.token } }
+    {
+        SeatedCore {
+            core,
+            seat: Some(seat),
+        }
+    }
+
+    /// The core, between turns.
+    #[inline(always)]
+    pub fn core(&self) -> &Core<'m>
+        ensures is { result.now ≡ self.now.core }
+        ensures kept { IsSeatedCore self.now }
+    {
+        &self.core
+    }
+
+    /// Looks at the event word until its position is at least `floor`.
+    pub fn look<R: Wait>(&mut self, rt: &R, table: &EventTable, floor: u64) -> EventNow
+        requires table { self.old.seat.table_id ≡ table.now.desk.shared.table_id }
+        ensures core { self.new.core ≡ self.old.core }
+        ensures table { self.new.seat.table_id ≡ self.old.seat.table_id }
+        ensures sources { sources_of self.new.seat ≡ sources_of self.old.seat }
+        ensures seen { list_any (is_word result) (looked_of self.new.seat) ≡ true }
+        ensures grew { GrewTo result (Some (looked_of self.old.seat)) (Some (looked_of self.new.seat)) }
+        ensures low { floor ≤ position result }
+        ensures above { (floor_of self.old.seat ≤ position result) × (floor_of self.new.seat ≡ position result) }
+    {
+        let mut events = taken(&mut self.seat).on(table);
+        let word = look_from(rt, &mut events, floor);
+        self.seat = Some(events.off());
+        word
+    }
+
+    /// One turn of an actor, by a word that is looked at: as that of the core alone. `NotYet`, `Done` and `Mem` come
+    /// where they come of the core, and nothing of it has changed then.
+    #[inline(always)]
+    pub fn turn<R: Wait>(
+        &mut self,
+        rt: &R,
+        table: &EventTable,
+        who: Actor,
+        calls: u32,
+        floor: Stamp,
+        now: u64,
+    ) -> Result<CoreTurn, CoreFault>
+        requires table { self.old.seat.table_id ≡ table.now.desk.shared.table_id }
+        requires actor { IsActor self.old.core.machine who }
+        requires calls { calls ≡ calls_due self.old.core.machine who (entries self.old.core.past) }
+        requires now { now ≡ time_of (entries self.old.core.past) }
+        ensures turn { (word : EventNow) × (floor.pos ≤ position word) × ((last_stamp self.old.core.past).pos ≤ position word)
+            × AfterTurn self.old.core self.new.core who word floor result }
+        ensures legal { JournalPart self.new.core.machine (entries self.new.core.past) }
+        ensures table { self.new.seat.table_id ≡ self.old.seat.table_id }
+        ensures sources { sources_of self.new.seat ≡ sources_of self.old.seat }
+    {
+        let mut events = taken(&mut self.seat).on(table);
+        let answer = self.core.turn(rt, &mut events, who, calls, floor, now);
+        self.seat = Some(events.off());
+        answer
+    }
+
+    /// Time jumps to `to` ms, later than now, as seen at the word that was looked at last. That the moment is the
+    /// next pending one is for the caller to see to. `Mem` where there is no memory; nothing has changed then.
+    pub fn jump(&mut self, word: EventNow, to: u64, floor: Stamp) -> Result<Stamp, Mem>
+        requires seen { list_any (is_word word) (looked_of self.old.seat) ≡ true }
+        requires newest { position word ≡ floor_of self.old.seat }
+        requires floor { floor.pos ≤ position word }
+        requires tick { floor.tick < 2 ^ 64 - 1 }
+        requires last_tick { (last_stamp self.old.core.past).tick < 2 ^ 64 - 1 }
+        requires later { time_of (entries self.old.core.past) < to }
+        requires small { to ≤ 2 ^ 63 }
+        ensures ok { IfOk result (λ stamp. (stamp ≡ next_stamp self.old.core.past floor word)
+            × (self.new.core ≡ with_entry self.old.core (jump_entry self.old.core.past word to floor))) }
+        ensures err { OnErr result (self.new.core ≡ self.old.core) }
+        ensures seat { self.new.seat ≡ self.old.seat }
+        ensures legal { JournalPart self.new.core.machine (entries self.new.core.past) }
+    {
+        self.core.jump(word, to, floor)
+    }
+
+    /// The seat, and the journal.
+    pub(crate) fn into_parts(self) -> (LookSeat, Journal)
+        ensures seat { result.0.token ≡ self.entry.seat }
+        ensures journal { result.1.past ≡ self.entry.core.past }
+        ensures kept { IsSeatedCore self.entry }
+    {
+        let SeatedCore { core, mut seat } = self;
+        (taken(&mut seat), core.into_journal())
+    }
+}

@@ -1,0 +1,106 @@
+-- What is so of a run between turns.
+use Rattle.std.proofs.Common.{◌≡◌, ◌≤◌, ◌<◌, ◌+◌, ◌∙◌, ℕ, suc, Bool, true, false, ◌||◌, nat_lt, List, [], ◌∷◌, length, slice_index_or, refl, sym, ap, subst, arith}
+use Rattle.std.proofs.lemmas.Bool.Decides.{nat_tests}
+use Rattle.sleep_model.specs.declared.entry.Actor.{Actor}
+use Rattle.sleep_model.specs.declared.entry.Actor.TheVariants as actor
+use Rattle.sleep_model.specs.declared.entry.Entry.{Entry}
+use Rattle.sleep_model.specs.declared.entry.JournalEntry.{JournalEntry}
+use Rattle.sleep_model.specs.declared.entry.SourceEntry.{SourceEntry}
+use Rattle.sleep_model.specs.declared.machine.Machine.{Machine}
+use Rattle.sleep_model.specs.declared.word.EventNow.{EventNow}
+use Rattle.sleep_model.specs.declared.word.Stamp.{Stamp}
+use Rattle.sleep_model.specs.Calls.{calls_due, notes_of}
+use Rattle.sleep_model.specs.Due.{due}
+use Rattle.sleep_model.specs.Fits.{fits_actor}
+use Rattle.sleep_model.specs.Legal.{is_enabled, is_made}
+use Rattle.sleep_model.specs.Sources.{owed}
+use Rattle.sleep_state.specs.Places.{entries}
+use Rattle.sleep_core.specs.Cores.{IsActor}
+use Rattle.sleep_script.specs.Jobs.{JobState}
+use Rattle.sleep_script.proofs.Following.{all_made}
+use Rattle.wakeup_source.specs.SourceStates.{SourceState}
+use Rattle.wakeup_source.specs.SourceStates as states
+use Rattle.run_laws.specs.Acts.{IsFree, Made, bare}
+use Rattle.run_laws.specs.Called.{knows}
+use Rattle.run_laws.specs.Held.{AllOf, EachJump}
+use Rattle.run_laws.proofs.Jobs.{settled_is_free}
+use Rattle.running_laws.specs.Running.{IsRunning, calls_made, histories, made_so, of_sources}
+use Rattle.running_laws.proofs.Known.{few_made, knows_each, knows_jumps, made_is_notes}
+use Rattle.running_laws.proofs.Lists.{history_at, source_beyond}
+
+-- an actor is the machine's
+pub actor_told : (m : Machine) (who : Actor) → IsActor m who → fits_actor m who ≡ true
+actor_told m (actor.Script i) h = let is : nat_lt i (length m.actors) ≡ true = grind (arith, nat_tests) in is
+actor_told m actor.Auto h = refl
+actor_told m (actor.Dev d) h = let is : nat_lt d (length m.devices) ≡ true = grind (arith, nat_tests) in is
+actor_told m (actor.Timer s) h = absurd h
+actor_told m actor.Time h = refl
+
+module _ (m : Machine) (journal : List JournalEntry) (sources : List SourceState) (jobs : Actor → JobState) (floor : Stamp) (r : IsRunning m journal sources jobs floor) where
+  abbrev pub all : Made
+  all = made_so journal sources r.own
+
+  -- ---- the sources
+
+  by_place : (P : List Entry → Type 0) → P [] → ((s : ℕ) (none : SourceState) → s < length sources → P (states.bare (slice_index_or sources s none).past)) → (s : ℕ) → P (histories sources s)
+  by_place P empty each s = by (nat_lt s (length sources)) refl
+    where
+      by : (b : Bool) → nat_lt s (length sources) ≡ b → P (histories sources s)
+      by true is =
+          let l : s < length sources = grind (arith, nat_tests) in
+          let none : SourceState = states.new_source s in
+          subst P (sym (history_at sources s none l)) (each s none l)
+      by false is =
+          let l : length sources ≤ s = grind (arith, nat_tests) in
+          subst P (sym (ap bare (source_beyond sources s l))) empty
+
+  -- no source is owed a step
+  pub owes_none : (s : ℕ) → owed (histories sources s) ≡ []
+  owes_none s = by_place (λ (own : List Entry). owed own ≡ []) refl (λ s none l. (r.sources_are.each s none l).settled.owes_none) s
+
+  -- so nobody is inside a call
+  pub free : (who : Actor) → IsFree m all who
+  free who = settled_is_free m all who owes_none
+
+  bare_count : (p : List SourceEntry) → length (states.bare p) ≡ length p
+  bare_count [] = refl
+  bare_count (e ∷ p) = ap suc (bare_count p)
+
+  -- each has its places
+  pub short : (s : ℕ) → length (histories sources s) ≤ 60000
+  short s = by_place (λ (own : List Entry). length own ≤ 60000) (omega arith)
+      (λ s none l. omega (arith, bare_count (slice_index_or sources s none).past, (r.sources_are.each s none l).settled.short)) s
+
+  -- an actor makes few calls
+  pub few_calls : (who : Actor) → calls_made m sources who ≤ 15360000
+  few_calls who = omega (arith, few_made (length m.sources + 1) (histories sources) who short, r.accepted.sources)
+
+  -- ---- what the stamp knows
+
+  pub all_known : AllOf (λ e. knows floor (e ∷ [])) all
+  all_known = (
+    knows_each floor journal r.held.journal_falls r.floor_knows.journal,
+    λ s. knows_each floor (of_sources sources s) (r.held.sources_fall s) (r.floor_knows.sources s),
+  )
+
+  pub jumps_known : EachJump (λ jump. knows floor (jump ∷ []) ≡ true) journal
+  jumps_known = knows_jumps floor journal all_known.0
+
+  -- ---- the jobs
+
+  -- an actor's calls are its notes
+  pub calls_are_notes : (who : Actor) → calls_made m sources who ≡ notes_of who (bare (r.own who))
+  calls_are_notes who = made_is_notes m all who r.held
+
+  -- an actor that has made its calls has none left
+  pub none_left : (who : Actor) → IsActor m who → calls_made m sources who ≡ calls_due m who (entries journal) → (jobs who).pending ≡ []
+  none_left who a own = (all_made m who (entries journal) (calls_made m sources who) (jobs who) (r.jobs_are who a)).1 own
+
+  -- ---- who is enabled
+
+  -- an actor is enabled where it has a call to make, or an entry is due of it
+  pub enabled_is : (now : EventNow) (who : Actor) (n : ℕ) → n ≡ calls_made m sources who
+      → (nat_lt n (calls_due m who (entries journal)) || is_made (due m (entries journal) who now)) ≡ is_enabled m (entries journal) (histories sources) now who
+  enabled_is now who n e =
+      ap (λ k. nat_lt k (calls_due m who (entries journal)) || is_made (due m (entries journal) who now)) e
+      ∙ ap (λ b. b || nat_lt (calls_made m sources who) (calls_due m who (entries journal)) || is_made (due m (entries journal) who now)) (sym (free who))

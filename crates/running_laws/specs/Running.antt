@@ -1,0 +1,92 @@
+-- A run of a machine, as far as it has come: its journal and its sources' histories, which are kept apart (own: Linux keeps no such log).
+use Rattle.std.specs.Prelude.{◌≡◌, ◌<◌, ◌+◌, ℕ, zero, suc, true, false, List, [], ◌∷◌, length, map, reverse, Some, slice_get, slice_index_or}
+use Rattle.sleep_model.specs.declared.entry.Actor.{Actor}
+use Rattle.sleep_model.specs.declared.entry.Entry.{Entry}
+use Rattle.sleep_model.specs.declared.entry.JournalEntry.{JournalEntry}
+use Rattle.sleep_model.specs.declared.entry.SourceEntry.{SourceEntry}
+use Rattle.sleep_model.specs.declared.machine.Machine.{Machine}
+use Rattle.sleep_model.specs.declared.machine.SourceCall.{SourceCall}
+use Rattle.sleep_model.specs.declared.word.Stamp.{Stamp}
+use Rattle.sleep_model.specs.Accepted.{IsAccepted}
+use Rattle.sleep_model.specs.Calls.{calls_of, made, note}
+use Rattle.sleep_model.specs.Merge.{of_source}
+use Rattle.sleep_model.specs.Path.{is_same}
+use Rattle.sleep_state.specs.Places.{entries}
+use Rattle.sleep_core.specs.Cores.{IsActor}
+use Rattle.sleep_script.specs.Jobs.{IsJobOf, JobState}
+use Rattle.wakeup_source.specs.SourceStates.{IsSettled, SourceState}
+use Rattle.growth_laws.specs.Ranged.{is_told}
+use Rattle.run_laws.specs.Acts.{Made, bare}
+use Rattle.run_laws.specs.Called.{knows}
+use Rattle.run_laws.specs.Held.{AllOf, Held}
+
+-- ---- the sources
+
+-- the entries of source s among these sources, the newest first
+abbrev pub of_sources : List SourceState → ℕ → List JournalEntry
+of_sources [] s = []
+of_sources (x ∷ sources) zero = map of_source x.past
+of_sources (x ∷ sources) (suc s) = of_sources sources s
+
+-- the same without their stamps
+abbrev pub histories : List SourceState → ℕ → List Entry
+histories sources s = bare (of_sources sources s)
+
+-- the history of each, the oldest entry first
+abbrev pub kept_histories : List SourceState → List (List SourceEntry)
+kept_histories sources = map (λ s. reverse s.past) sources
+
+-- a source has its number, and is between calls
+pub record IsSourceOf (s : ℕ) (source : SourceState) : Type 0 where
+  pub number : source.id ≡ s
+  pub settled : IsSettled source
+
+-- so has each of a machine's sources, autosleep's last
+pub record AreSources (m : Machine) (sources : List SourceState) : Type 0 where
+  pub count : length sources ≡ length m.sources + 1
+  pub each : (s : ℕ) (none : SourceState) → s < length sources → IsSourceOf s (slice_index_or sources s none)
+
+-- ---- the jobs
+
+-- how many calls on sources an actor has made
+abbrev pub calls_made : Machine → List SourceState → Actor → ℕ
+calls_made m sources who = made (length m.sources + 1) (histories sources) who
+
+-- the call comes next of that actor's
+abbrev pub CallsNext : Machine → List JournalEntry → List SourceState → Actor → ℕ → SourceCall → Type 0
+CallsNext m journal sources who s call =
+    slice_get (calls_of m who (entries journal)) (calls_made m sources who) ≡ Some (note s call)
+
+-- each actor's job stands where the entries so far have brought it
+abbrev pub AreJobs : Machine → List JournalEntry → List SourceState → (Actor → JobState) → Type 0
+AreJobs m journal sources jobs =
+    (who : Actor) → IsActor m who → IsJobOf m who (entries journal) (calls_made m sources who) (jobs who)
+
+-- one actor's job is another, and the other actors' are as they were
+pub record IsWith (m : Machine) (old new : Actor → JobState) (who : Actor) (job : JobState) : Type 0 where
+  pub same : new who ≡ job
+  pub others : (other : Actor) → IsActor m other → is_same who other ≡ false → new other ≡ old other
+
+-- ---- a run
+
+-- what was made so far, and by whom
+abbrev pub made_so : List JournalEntry → List SourceState → (Actor → List JournalEntry) → Made
+made_so journal sources own = record { journal = journal; of = of_sources sources; own = own }
+
+-- who last knew that stamp knew all of these
+pub record KnowsAll (floor : Stamp) (made : Made) : Type 0 where
+  pub journal : knows floor made.journal ≡ true
+  pub sources : (s : ℕ) → knows floor (made.of s) ≡ true
+  pub own : (who : Actor) → knows floor (made.own who) ≡ true
+
+-- what a run keeps, between turns: all that is known of what was made, sources that are between calls, and jobs that stand where it has brought them; the stamp is at or above all of it
+pub record IsRunning
+    (m : Machine) (journal : List JournalEntry) (sources : List SourceState) (jobs : Actor → JobState) (floor : Stamp)
+    : Type 0 where
+  pub accepted : IsAccepted m
+  pub own : Actor → List JournalEntry
+  pub held : Held m (made_so journal sources own)
+  pub sources_are : AreSources m sources
+  pub jobs_are : AreJobs m journal sources jobs
+  pub floor_knows : KnowsAll floor (made_so journal sources own)
+  pub told : AllOf (λ e. is_told m e.entry) (made_so journal sources own)
