@@ -1,5 +1,7 @@
-ghost use Rattle.std.specs.Prelude.{◌≡◌, ◌≤◌, ◌^◌, true, IfOk, OnOk};
-ghost use Rattle.event_word.specs.Seats.{IsSeatOf, sources_of};
+ghost use Rattle.std.specs.Prelude.{◌≡◌, ◌≤◌, ◌^◌, [], true, IfOk, OnOk};
+ghost use Rattle.event_word.specs.Seats.{IsSeatOf, number_of, sources_of};
+ghost use Rattle.sleep_model.specs.Legal.{JournalPart};
+ghost use Rattle.sleep_state.specs.Places.{entries};
 ghost use Rattle.sleep_core.specs.Cores.{IsActor};
 ghost use Rattle.wakeup_source.specs.SourceStates.{bare, latest, new_source};
 
@@ -21,6 +23,9 @@ const SLEEPER: &str =
 const TASK: Actor = Actor::Script(0);
 
 const START: Stamp = Stamp { pos: 0, tick: 0 };
+
+/// An event of 5 ms.
+const LONG: SourceCall = SourceCall::Event { ms: 5, hard: false };
 
 /// A hard event without length.
 const HARD: SourceCall = SourceCall::Event { ms: 0, hard: true };
@@ -69,22 +74,31 @@ fn expire<R: Wait>(
     Ok(source.call(rt, table, at(now), SourceCall::Expire)?)
 }
 
-/// Each call once: what the caller then knows.
+/// Each call once: what the caller then knows of each.
+fn call_each<R: Wait>(
+    rt: &R,
+    table: &EventTable,
+    source: &mut SeatedSource,
+) -> Result<[Stamp; 5], Fail>
+    requires table { source.old.seat.table_id ≡ table.now.desk.shared.table_id }
+    requires time { latest (bare source.old.source.past) ≤ 0 }
+{
+    let awake = source.call(rt, table, at(0), SourceCall::Awake)?;
+    let relaxed = source.call(rt, table, at(1), SourceCall::Relax)?;
+    let hard = source.call(rt, table, at(2), HARD)?;
+    let long = source.call(rt, table, at(3), LONG)?;
+    let expired = expire(rt, table, source, 8)?;
+    Ok([awake, relaxed, hard, long, expired])
+}
+
+/// Each call moves the word by its steps, and has a tick for each entry.
 #[test]
 fn each_call_goes_through_the_seat(rt: HostRuntime) -> Result<(), Fail> {
     let (table, mut source, _look) = one_source(rt.alloc())?;
-    let awake = source.call(&rt, &table, at(0), SourceCall::Awake)?;
-    assert_eq!(rt; awake, Stamp { pos: 1, tick: 2 });
-    let relaxed = source.call(&rt, &table, at(1), SourceCall::Relax)?;
-    assert_eq!(rt; relaxed, Stamp { pos: 2, tick: 4 });
-    let hard = source.call(&rt, &table, at(2), HARD)?;
-    assert_eq!(rt; hard, Stamp { pos: 5, tick: 8 });
-    let ms = 5;
-    let long = source.call(&rt, &table, at(3), SourceCall::Event { ms, hard: false })?;
-    assert_eq!(rt; long, Stamp { pos: 6, tick: 10 });
-    let expired = expire(&rt, &table, &mut source, 8)?;
-    assert_eq!(rt; expired, Stamp { pos: 7, tick: 12 });
-    assert_eq!(rt; source.source().history().len(), 12);
+    let stamps = call_each(&rt, &table, &mut source)?;
+    let positions = stamps.map(|stamp| stamp.pos);
+    let ticks = stamps.map(|stamp| stamp.tick);
+    assert_eq!(rt; (positions, ticks), ([1, 2, 5, 6, 7], [2, 4, 8, 10, 12]));
     Ok(())
 }
 
@@ -106,10 +120,9 @@ fn fill<R: Wait>(rt: &R, table: &EventTable, source: &mut SeatedSource) -> Resul
 fn a_full_source_is_not_called(rt: HostRuntime) -> Result<(), Fail> {
     let (table, mut source, _look) = one_source(rt.alloc())?;
     fill(&rt, &table, &mut source)?;
-    assert_eq!(rt; source.source().history().len(), 60_000);
     let refused = source.call(&rt, &table, at(0), SourceCall::Relax);
-    assert_eq!(rt; refused, Err(SourceFault::Full));
-    assert_eq!(rt; source.source().history().len(), 60_000);
+    let made = source.source().history().len();
+    assert_eq!(rt; (refused, made), (Err(SourceFault::Full), 60_000));
     Ok(())
 }
 
@@ -124,22 +137,85 @@ fn has_task(machine: &Machine) -> Result<(), Fail>
     }
 }
 
-/// One turn of the task, where no call is due of it.
-fn turn<R: Wait>(rt: &R, table: &EventTable, machine: &mut SeatedCore<'_>) -> Result<CoreTurn, Fail>
+/// One turn of the task, where no call is due of it: the position at which it made an entry.
+fn turn<R: Wait>(rt: &R, table: &EventTable, machine: &mut SeatedCore<'_>) -> Result<u64, Fail>
     requires table { machine.old.seat.table_id ≡ table.now.desk.shared.table_id }
     requires actor { IsActor machine.old.core.machine TASK }
     ensures table { machine.new.seat.table_id ≡ machine.old.seat.table_id }
     ensures sources { sources_of machine.new.seat ≡ sources_of machine.old.seat }
+    ensures legal { OnOk result (JournalPart machine.new.core.machine (entries machine.new.core.past)) }
 {
     if machine.core().calls_due(TASK) != 0 {
         return Err("a call on a source is due".into());
     }
     let now = machine.core().time();
-    Ok(machine.turn(rt, table, TASK, 0, START, now)?)
+    match machine.turn(rt, table, TASK, 0, START, now)? {
+        CoreTurn::Did { stamp, .. } => Ok(stamp.pos),
+        _ => Err("the task makes nothing".into()),
+    }
 }
 
-/// A look sees the source's start, time jumps by that word, and a turn begins the task's sleep. Then the table closes,
-/// with one entry of time, one of the task, and two of the source.
+/// The source stays awake, a look sees it, time jumps by that word, and a turn begins the task's sleep. Answers the
+/// positions of all three.
+fn play<R: Wait>(
+    rt: &R,
+    table: &EventTable,
+    source: &mut SeatedSource,
+    machine: &mut SeatedCore<'_>,
+) -> Result<[u64; 3], Fail>
+    requires source { source.old.seat.table_id ≡ table.now.desk.shared.table_id }
+    requires time { latest (bare source.old.source.past) ≤ 0 }
+    requires table { machine.old.seat.table_id ≡ table.now.desk.shared.table_id }
+    requires actor { IsActor machine.old.core.machine TASK }
+    requires new { machine.old.core.past ≡ [] }
+    ensures source { (source.new.seat.table_id ≡ source.old.seat.table_id) × (number_of source.new.seat ≡ number_of source.old.seat) }
+    ensures table { machine.new.seat.table_id ≡ machine.old.seat.table_id }
+    ensures sources { sources_of machine.new.seat ≡ sources_of machine.old.seat }
+    ensures legal { OnOk result (JournalPart machine.new.core.machine (entries machine.new.core.past)) }
+{
+    let called = source.call(rt, table, at(0), SourceCall::Awake)?;
+    let word = machine.look(rt, table, 1);
+    let jumped = machine.jump(word, 7, START)?;
+    let turned = turn(rt, table, machine)?;
+    Ok([called.pos, jumped.pos, turned])
+}
+
+/// How many entries the journal of a closed table has, and its source.
+fn closed(
+    alloc: Global,
+    table: EventTable,
+    source: SeatedSource,
+    machine: SeatedCore<'_>,
+) -> Result<(usize, usize), Mem>
+    requires table { machine.seat.table_id ≡ table.desk.shared.table_id }
+    requires source { IsSeatOf machine.seat.table_id 0 source.seat }
+    requires sources { sources_of machine.seat ≡ 1 }
+    requires legal { JournalPart machine.core.machine (entries machine.core.past) }
+{
+    let sources = vec![in alloc; source]?;
+    let (journal, histories) = close_table(alloc, table, sources, machine)?;
+    let made = histories.first().map_or(0, |history| history.len());
+    Ok((journal.len(), made))
+}
+
+/// The machine of that core, and what it plays with its source up to the close.
+fn played<R: Wait>(
+    rt: &R,
+    alloc: Global,
+    core: Core<'_>,
+) -> Result<([u64; 3], (usize, usize)), Fail>
+    requires actor { IsActor core.machine TASK }
+    requires new { core.past ≡ [] }
+{
+    let (table, mut source, look) = one_source(alloc)?;
+    let mut machine = SeatedCore::new(core, look);
+    let positions = play(rt, &table, &mut source, &mut machine)?;
+    let made = closed(alloc, table, source, machine)?;
+    Ok((positions, made))
+}
+
+/// All see the source's start, at the position behind which it stands. The closed table has one entry of time, one of
+/// the task, and two of the source.
 #[test]
 fn a_run_closes_its_table(rt: HostRuntime) -> Result<(), Fail> {
     let Ok(ReadMachine { machine, links }) = read_machine(rt.alloc(), SLEEPER.as_bytes()) else {
@@ -147,27 +223,7 @@ fn a_run_closes_its_table(rt: HostRuntime) -> Result<(), Fail> {
     };
     has_task(&machine)?;
     let core = Core::new(rt.alloc(), &machine, links)?;
-    let (table, mut source, look) = one_source(rt.alloc())?;
-    let mut seated = SeatedCore::new(core, look);
-    source.call(&rt, &table, at(0), SourceCall::Awake)?;
-    let word = seated.look(&rt, &table, 1);
-    assert_eq!(rt; (word.inpr, word.count, word.hard), (1, 0, 0));
-    let jumped = seated.jump(word, 7, START)?;
-    assert_eq!(rt; jumped, Stamp { pos: 1, tick: 1 });
-    let slept = turn(&rt, &table, &mut seated)?;
-    assert!(rt;
-        matches!(
-            slept,
-            CoreTurn::Did {
-                stamp: Stamp { pos: 1, tick: 2 },
-                ..
-            }
-        )
-    );
-    let sources = vec![in rt.alloc(); source]?;
-    let (journal, histories) = close_table(rt.alloc(), table, sources, seated)?;
-    assert_eq!(rt; journal.len(), 2);
-    assert_eq!(rt; histories.len(), 1);
-    assert_eq!(rt; histories[0].len(), 2);
+    let both = played(&rt, rt.alloc(), core)?;
+    assert_eq!(rt; both, ([1, 1, 1], (2, 2)));
     Ok(())
 }
