@@ -23,6 +23,14 @@ pub enum Ending {
     WriteFault,
     /// The history of the source of that name has no place left for a call.
     SourceFull(Name),
+    /// A machine and its log are longer together than an input of them may be.
+    LongInput,
+    /// That line of a log is the first that the grammar has not, or that is missing.
+    BadLine(u32),
+    /// A log adds a link where as many stand as a machine may have.
+    TooManyLinks,
+    /// A log adds a link that closes a cycle.
+    LinkCycle,
     /// There was no memory.
     NoMemory,
 }
@@ -35,7 +43,12 @@ impl Ending {
         match self {
             Ending::Done => 0,
             Ending::NoForm => 2,
-            Ending::TooLong | Ending::Broken { .. } => 3,
+            Ending::TooLong
+            | Ending::Broken { .. }
+            | Ending::LongInput
+            | Ending::BadLine(_)
+            | Ending::TooManyLinks
+            | Ending::LinkCycle => 3,
             Ending::ReadFault => 4,
             Ending::WriteFault => 5,
             Ending::Stuck => 6,
@@ -50,22 +63,28 @@ impl Ending {
     {
         match self {
             Ending::Done | Ending::Stuck => "",
-            Ending::NoForm => "usage: run [--workers N] or gen SEED DEVICES or soak SEED DEVICES\n",
+            Ending::NoForm =>
+                "usage: run [--workers N] or gen SEED DEVICES or soak SEED DEVICES or stats\n",
             Ending::TooLong => "machine: longer than 16777216 bytes\n",
             Ending::Broken { .. } => "machine: rule ",
             Ending::ReadFault => "read fault\n",
             Ending::WriteFault => "write fault\n",
             Ending::SourceFull(_) => "source full: ",
+            Ending::LongInput => "input: longer than 268435456 bytes\n",
+            Ending::BadLine(_) => "log: line ",
+            Ending::TooManyLinks => "log: links\n",
+            Ending::LinkCycle => "log: cycle\n",
             Ending::NoMemory => "want of memory\n",
         }
     }
 
-    /// The number of a rule, where it says one, by this buffer.
+    /// The number of a rule or of a line, where it says one, by this buffer.
     pub fn number<'b>(&self, buffer: &'b mut Buffer) -> &'b [u8]
         ensures { result.now ≡ number_of self.now }
     {
         match self {
             Ending::Broken { rule, .. } => buffer.format(*rule).as_bytes(),
+            Ending::BadLine(line) => buffer.format(*line).as_bytes(),
             _ => b"",
         }
     }
@@ -96,7 +115,7 @@ impl Ending {
         ensures { result.now ≡ tail_of self.now }
     {
         match self {
-            Ending::Broken { .. } | Ending::SourceFull(_) => "\n",
+            Ending::Broken { .. } | Ending::SourceFull(_) | Ending::BadLine(_) => "\n",
             _ => "",
         }
     }

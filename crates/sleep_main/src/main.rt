@@ -10,6 +10,10 @@ mod generated_tests;
 #[cfg(test)]
 mod rows;
 mod said;
+mod stats;
+#[cfg(test)]
+mod stats_tests;
+mod telling;
 #[cfg(test)]
 mod tests;
 mod top;

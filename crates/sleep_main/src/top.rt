@@ -9,6 +9,7 @@ ghost use Rattle.sleep_run.specs.Runs.{Fails};
 use crate::ending::Ending;
 use crate::generated::{soak_generated, write_generated};
 use crate::said::is_stuck;
+use crate::stats::tell_stats;
 use command_line::{Command, command_of};
 use itoa::Buffer;
 use log_text::LogText;
@@ -20,7 +21,7 @@ use std::alloc::Global;
 use std::sync::Wait;
 
 /// The most bytes that a machine file has.
-const MOST_BYTES: u32 = 16_777_216;
+pub const MOST_BYTES: u32 = 16_777_216;
 
 /// The name of the source of autosleep.
 fn autosleep() -> Name
@@ -128,7 +129,7 @@ fn is_done(command: Command) -> bool
 {
     match command {
         Command::Run { workers } => workers == 1,
-        Command::Gen { .. } | Command::Soak { .. } => true,
+        Command::Gen { .. } | Command::Soak { .. } | Command::Stats => true,
     }
 }
 
@@ -161,6 +162,7 @@ fn do_command<R: Wait, S: ByteSource, K: ByteSink>(
         Command::Run { .. } => run_file(rt, alloc, input, out),
         Command::Gen { seed, devices } => write_generated(alloc, seed, devices, out),
         Command::Soak { seed, devices } => soak_generated(rt, alloc, seed, devices, out),
+        Command::Stats => tell_stats(alloc, input, out),
     }
 }
 
@@ -251,6 +253,8 @@ pub fn say<K: ByteSink>(err: &mut K, ending: &Ending)
 ///   writes its log to `out`.
 /// - `gen SEED DEVICES`: writes the file of the generated machine of a seed of 64 bits with 1 to 1,000 devices.
 /// - `soak SEED DEVICES`: runs that machine, and writes the line of its log's numbers.
+/// - `stats`: reads a machine file of one line and a log of it behind that, and writes what the log counts, its last
+///   failures, the longest chain of devices at its end, and each device's level.
 ///
 /// The answer is the status, and `err` is told what it means:
 ///
