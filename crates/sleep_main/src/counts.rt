@@ -65,7 +65,7 @@ pub fn counts_of(log: &Log) -> Counts
 }
 
 /// Puts a number behind a line, with its word before it.
-pub fn put_count(line: &mut Vec<u8>, word: &str, number: usize) -> Result<(), Mem>
+fn put_count(line: &mut Vec<u8>, word: &str, number: usize) -> Result<(), Mem>
     ensures { OnOk result (line.new.items ≡ line.old.items ++ counted word.now number) }
 {
     let mut digits = Buffer::new();

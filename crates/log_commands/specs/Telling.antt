@@ -9,7 +9,10 @@ use Rattle.sleep_model.specs.Text.{device, newline, space}
 use Rattle.sleep_stats.specs.declared.chain.Chain.{Chain}
 use Rattle.sleep_stats.specs.declared.counts.Counts.{Counts}
 use Rattle.sleep_stats.specs.declared.counts.LastDev.{LastDev}
-use Rattle.sleep_main.specs.Counting.{counted}
+
+-- a number behind its word
+abbrev pub counted : List ℕ → ℕ → List ℕ
+counted word n = word ++ decimal n
 
 -- the line of a count
 abbrev pub count_row : List ℕ → ℕ → List ℕ
@@ -24,25 +27,37 @@ counts_text c =
     ++ count_row (codes "failed_suspend_noirq ") c.failed_suspend_noirq ++ count_row (codes "failed_resume ") c.failed_resume
     ++ count_row (codes "failed_resume_early ") c.failed_resume_early ++ count_row (codes "failed_resume_noirq ") c.failed_resume_noirq
 
--- the line of a device whose callback failed, where there is one (last_failed_dev)
-abbrev pub dev_row : Machine → Option LastDev → List ℕ
-dev_row m None = []
-dev_row m (Some d) =
+-- the line of a device whose callback failed (last_failed_dev)
+abbrev pub failed_dev_row : Machine → LastDev → List ℕ
+failed_dev_row m d =
     codes "last_failed_dev " ++ device m d.device ++ space ++ phase_name d.phase ++ space ++ name_of d.error ++ newline
 
--- the line of an attempt's error, where there is one (last_failed_errno)
+-- that line, where there is one
+abbrev pub dev_row : Machine → Option LastDev → List ℕ
+dev_row m None = []
+dev_row m (Some d) = failed_dev_row m d
+
+-- the line of an attempt's error (last_failed_errno)
+abbrev pub failed_errno_row : Errno → List ℕ
+failed_errno_row r = codes "last_failed_errno " ++ name_of r ++ newline
+
+-- that line, where there is one
 abbrev pub errno_row : Option Errno → List ℕ
 errno_row None = []
-errno_row (Some r) = codes "last_failed_errno " ++ name_of r ++ newline
+errno_row (Some r) = failed_errno_row r
 
 -- the lines of the last failures, the newest first
 abbrev pub failures_text : Machine → Counts → List ℕ
 failures_text m c =
     dev_row m c.last_devs.newest ++ dev_row m c.last_devs.older ++ errno_row c.last_errnos.newest ++ errno_row c.last_errnos.older
 
+-- the names of devices, each behind a space
+abbrev pub names_text : Machine → List ℕ → List ℕ
+names_text m devices = flat_map (λ d. space ++ device m d) devices
+
 -- the line of a chain: its length, and its devices
 abbrev pub chain_row : Machine → List ℕ → List ℕ
-chain_row m devices = counted (codes "chain ") (length devices) ++ flat_map (λ d. space ++ device m d) devices ++ newline
+chain_row m devices = counted (codes "chain ") (length devices) ++ names_text m devices ++ newline
 
 -- the line of a device's level
 abbrev pub level_row : Machine → ℕ → ℕ → List ℕ

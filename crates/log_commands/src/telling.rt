@@ -1,16 +1,37 @@
 //! What is told of a log's counts and of the longest chain of devices.
 
-ghost use Rattle.std.specs.Prelude.{◌≡◌, ◌++◌, OnOk, IfOk, length};
-ghost use Rattle.std.specs.List.{flat_map};
-ghost use Rattle.sleep_model.specs.Text.{device, space};
-ghost use Rattle.sleep_main.specs.Telling.{chain_row, count_row, counts_text, dev_row, errno_row, failures_text, level_row, levels_text, stats_text};
+ghost use Rattle.std.specs.Prelude.{◌≡◌, ◌<◌, ◌^◌, ◌++◌, OnOk, IfOk, length};
+ghost use Rattle.log_commands.specs.Telling.{chain_row, count_row, counted, counts_text, dev_row, errno_row, failed_dev_row, failed_errno_row, failures_text, level_row, levels_text, names_text, stats_text};
 
-use crate::counts::put_count;
 use itoa::Buffer;
 use sleep_base::{Errno, Mem};
 use sleep_model::Machine;
 use sleep_stats::{Chain, Counts, LastDev};
 use std::alloc::Global;
+
+/// Puts words and other bytes behind a text.
+fn put_word(text: &mut Vec<u8>, word: &str, bytes: &[u8]) -> Result<(), Mem>
+    ensures { OnOk result (text.new.items ≡ text.old.items ++ (word.now ++ bytes.now)) }
+{
+    text.extend_from_slice(word.as_bytes())?;
+    text.extend_from_slice(bytes)?;
+    Ok(())
+}
+
+/// Puts two words behind a text.
+fn put_words(text: &mut Vec<u8>, word: &str, other: &str) -> Result<(), Mem>
+    ensures { OnOk result (text.new.items ≡ text.old.items ++ (word.now ++ other.now)) }
+{
+    put_word(text, word, other.as_bytes())
+}
+
+/// Puts a word and a number behind a text.
+fn put_count(text: &mut Vec<u8>, word: &str, number: usize) -> Result<(), Mem>
+    ensures { OnOk result (text.new.items ≡ text.old.items ++ counted word.now number) }
+{
+    let mut digits = Buffer::new();
+    put_word(text, word, digits.format(number).as_bytes())
+}
 
 /// Puts a word and a number behind a text, in a line.
 fn put_row(text: &mut Vec<u8>, word: &str, number: u32) -> Result<(), Mem>
@@ -37,19 +58,33 @@ fn put_counts(text: &mut Vec<u8>, counts: &Counts) -> Result<(), Mem>
     put_row(text, "failed_resume_noirq ", counts.failed_resume_noirq)
 }
 
+/// Puts the line of a device whose callback failed behind a text.
+fn put_failed_dev(text: &mut Vec<u8>, machine: &Machine, last: LastDev) -> Result<(), Mem>
+    ensures { OnOk result (text.new.items ≡ text.old.items ++ failed_dev_row machine.now last) }
+{
+    put_word(text, "last_failed_dev ", machine.device_name(last.device))?;
+    put_words(text, " ", last.phase.name())?;
+    put_words(text, " ", last.error.name())?;
+    text.push(b'\n')?;
+    Ok(())
+}
+
 /// Puts the line of a device whose callback failed behind a text, where there is one.
 fn put_dev(text: &mut Vec<u8>, machine: &Machine, failed: Option<LastDev>) -> Result<(), Mem>
     ensures { OnOk result (text.new.items ≡ text.old.items ++ dev_row machine.now failed) }
 {
-    if let Some(last) = failed {
-        text.extend_from_slice(b"last_failed_dev ")?;
-        text.extend_from_slice(machine.device_name(last.device))?;
-        text.push(b' ')?;
-        text.extend_from_slice(last.phase.name().as_bytes())?;
-        text.push(b' ')?;
-        text.extend_from_slice(last.error.name().as_bytes())?;
-        text.push(b'\n')?;
+    match failed {
+        Some(last) => put_failed_dev(text, machine, last),
+        None => Ok(()),
     }
+}
+
+/// Puts the line of an attempt's error behind a text.
+fn put_failed_errno(text: &mut Vec<u8>, error: Errno) -> Result<(), Mem>
+    ensures { OnOk result (text.new.items ≡ text.old.items ++ failed_errno_row error) }
+{
+    put_words(text, "last_failed_errno ", error.name())?;
+    text.push(b'\n')?;
     Ok(())
 }
 
@@ -57,12 +92,10 @@ fn put_dev(text: &mut Vec<u8>, machine: &Machine, failed: Option<LastDev>) -> Re
 fn put_errno(text: &mut Vec<u8>, failed: Option<Errno>) -> Result<(), Mem>
     ensures { OnOk result (text.new.items ≡ text.old.items ++ errno_row failed) }
 {
-    if let Some(error) = failed {
-        text.extend_from_slice(b"last_failed_errno ")?;
-        text.extend_from_slice(error.name().as_bytes())?;
-        text.push(b'\n')?;
+    match failed {
+        Some(error) => put_failed_errno(text, error),
+        None => Ok(()),
     }
-    Ok(())
 }
 
 /// Puts the lines of the last failures behind a text, the newest first.
@@ -77,11 +110,10 @@ fn put_failures(text: &mut Vec<u8>, machine: &Machine, counts: &Counts) -> Resul
 
 /// Puts the names of devices behind a text, each behind a space.
 fn put_names(text: &mut Vec<u8>, machine: &Machine, devices: &[u32]) -> Result<(), Mem>
-    ensures { OnOk result (text.new.items ≡ text.old.items ++ flat_map (λ d. space ++ device machine.now d) devices.now) }
+    ensures { OnOk result (text.new.items ≡ text.old.items ++ names_text machine.now devices.now) }
 {
     for number in devices {
-        text.push(b' ')?;
-        text.extend_from_slice(machine.device_name(*number))?;
+        put_word(text, " ", machine.device_name(*number))?;
     }
     Ok(())
 }
@@ -100,11 +132,8 @@ fn put_chain(text: &mut Vec<u8>, machine: &Machine, devices: &[u32]) -> Result<(
 fn put_level(text: &mut Vec<u8>, machine: &Machine, number: u32, level: u32) -> Result<(), Mem>
     ensures { OnOk result (text.new.items ≡ text.old.items ++ level_row machine.now number level) }
 {
-    let mut digits = Buffer::new();
-    text.extend_from_slice(b"level ")?;
-    text.extend_from_slice(machine.device_name(number))?;
-    text.push(b' ')?;
-    text.extend_from_slice(digits.format(level).as_bytes())?;
+    put_word(text, "level ", machine.device_name(number))?;
+    put_count(text, " ", level as usize)?;
     text.push(b'\n')?;
     Ok(())
 }
