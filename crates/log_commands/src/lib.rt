@@ -1,0 +1,12 @@
+//! Commands that read a machine with a log of it, and tell of them.
+#![tactic(auto)]
+
+mod input;
+mod links;
+mod stats;
+mod telling;
+#[cfg(test)]
+mod tests;
+
+pub use input::{LogInput, read_log_input};
+pub use stats::stats_of;
