@@ -1,0 +1,10 @@
+-- The numbers and the time of a place.
+use Rattle.std.specs.Prelude.{◌≡◌, List}
+use Rattle.sleep_model.specs.declared.entry.Entry.{Entry}
+use Rattle.sleep_model.specs.Legal.{IsOnTime}
+use Rattle.sleep_model.specs.Numbers.{numbers}
+use Rattle.sleep_model.specs.Parts.{part_of}
+
+-- an entry carries the word and the time of its place; a jump carries a time of its own (combined_event_count)
+abbrev pub KeepsNumbers : List Entry → Entry → Type 0
+KeepsNumbers past e = (e.now ≡ numbers past) × IsOnTime past e.time (part_of e.kind)
