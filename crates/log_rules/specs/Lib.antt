@@ -22,6 +22,7 @@ pub mod Answers
 pub mod Attempts
 pub mod Enabled
 pub mod Freezer
+pub mod Law
 pub mod Links
 pub mod Numbers
 pub mod Owed

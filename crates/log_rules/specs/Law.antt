@@ -1,0 +1,29 @@
+-- The law: an entry of the journal is due of its actor exactly where it keeps all rules.
+use Rattle.std.specs.Prelude.{◌≡◌, ℕ, true, false, List}
+use Rattle.sleep_model.specs.declared.entry.Actor.{Actor}
+use Rattle.sleep_model.specs.declared.entry.Actor.TheVariants as actor
+use Rattle.sleep_model.specs.declared.entry.Entry.{Entry}
+use Rattle.sleep_model.specs.declared.entry.Kind.{Kind}
+use Rattle.sleep_model.specs.declared.machine.Machine.{Machine}
+use Rattle.sleep_model.specs.declared.place.Due.TheVariants.{Makes}
+use Rattle.sleep_model.specs.declared.word.EventNow.{EventNow}
+use Rattle.sleep_model.specs.Due.{due}
+use Rattle.sleep_model.specs.Legal.{JournalPart}
+use Rattle.log_rules.specs.All.{KeepsAll}
+use Rattle.log_rules.specs.Questions.{is_maker}
+
+-- that entry is due of its actor (kernel/power/suspend.c, kernel/power/main.c)
+abbrev pub IsDue : Machine → List Entry → EventNow → Actor → Kind → Type 0
+IsDue m past now who k = due m past who now ≡ Makes k
+
+-- behind a legal journal what is due keeps all rules, and, behind any entries, what keeps all rules is due
+abbrev pub AreOne : Machine → List Entry → EventNow → Actor → Kind → Type 0
+AreOne m past now who k =
+    (JournalPart m past → IsDue m past now who k → KeepsAll m past now who k)
+    × (KeepsAll m past now who k → IsDue m past now who k)
+
+-- so for each script outside attempts of its own (kernel/power/main.c)
+abbrev pub OneForScripts : Type 0
+OneForScripts =
+    (m : Machine) (past : List Entry) (now : EventNow) (i : ℕ) (k : Kind) → is_maker past (actor.Script i) ≡ false
+    → AreOne m past now (actor.Script i) k
