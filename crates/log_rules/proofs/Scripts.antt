@@ -302,4 +302,4 @@ script_forth m past now i k e j d =
 
 -- scripts outside attempts of their own
 pub scripts : OneForScripts
-scripts m past now i k e = (script_forth m past now i k e, script_back m past now i k e)
+scripts m past now i k e = record { keeps = script_forth m past now i k e; makes = script_back m past now i k e }

@@ -16,11 +16,10 @@ use Rattle.log_rules.specs.Questions.{is_maker}
 abbrev pub IsDue : Machine → List Entry → EventNow → Actor → Kind → Type 0
 IsDue m past now who k = due m past who now ≡ Makes k
 
--- behind a legal journal what is due keeps all rules, and, behind any entries, what keeps all rules is due
-abbrev pub AreOne : Machine → List Entry → EventNow → Actor → Kind → Type 0
-AreOne m past now who k =
-    (JournalPart m past → IsDue m past now who k → KeepsAll m past now who k)
-    × (KeepsAll m past now who k → IsDue m past now who k)
+-- behind a legal journal what is due keeps all rules, and, behind any entries, what keeps all rules is due (kernel/power/suspend.c, kernel/power/main.c)
+pub record AreOne (m : Machine) (past : List Entry) (now : EventNow) (who : Actor) (k : Kind) : Type 0 where
+  pub keeps : JournalPart m past → IsDue m past now who k → KeepsAll m past now who k
+  pub makes : KeepsAll m past now who k → IsDue m past now who k
 
 -- so for each script outside attempts of its own (kernel/power/main.c)
 abbrev pub OneForScripts : Type 0
