@@ -101,19 +101,37 @@ pub plain_restored : (m : Machine) (past : List Entry) (k : Kind) → Plain k �
 plain_restored m past (kind.Over n r) h = absurd h
 plain_restored m past _ h = tt
 
+-- no end of a freeze
+abbrev pub NoFroze : Kind → Type 0
+NoFroze (kind.Froze g end) = ⊥
+NoFroze _ = Unit {0}
+
+-- no waking
+abbrev pub NoWake : Kind → Type 0
+NoWake (kind.Wake by_event) = ⊥
+NoWake _ = Unit {0}
+
+pub freeze_else : (m : Machine) (past : List Entry) (now : EventNow) (o : Option ℕ) (k : Kind) → NoFroze k → FreezeEnds m past now o k
+freeze_else m past now None (kind.Froze g end) h = absurd h
+freeze_else m past now None _ h = tt
+freeze_else m past now (Some s) (kind.Froze g end) h = absurd h
+freeze_else m past now (Some s) _ h = tt
+
+pub wake_else : (m : Machine) (past : List Entry) (now : EventNow) (o : Option Sleep) (k : Kind) → NoWake k → WakesBy m past now o k
+wake_else m past now None k h = tt
+wake_else m past now (Some s) (kind.Wake by_event) h = absurd h
+wake_else m past now (Some s) _ h = tt
+
+no_froze : (k : Kind) → Plain k → NoFroze k
+no_froze (kind.Froze g end) h = h
+no_froze _ h = tt
+
+no_wake : (k : Kind) → Plain k → NoWake k
+no_wake (kind.Wake by_event) h = h
+no_wake _ h = tt
+
 pub plain_freeze : (m : Machine) (past : List Entry) (now : EventNow) (k : Kind) → Plain k → FreezeEnds m past now (freeze_since past) k
-plain_freeze m past now k h = by_since (freeze_since past) k h
-  where
-    by_since : (o : Option ℕ) (k : Kind) → Plain k → FreezeEnds m past now o k
-    by_since None (kind.Froze g end) h = absurd h
-    by_since None _ h = tt
-    by_since (Some s) (kind.Froze g end) h = absurd h
-    by_since (Some s) _ h = tt
+plain_freeze m past now k h = freeze_else m past now (freeze_since past) k (no_froze k h)
 
 pub plain_wake : (m : Machine) (past : List Entry) (now : EventNow) (k : Kind) → Plain k → WakesBy m past now (sleep_of past) k
-plain_wake m past now k h = by_sleep (sleep_of past) k h
-  where
-    by_sleep : (o : Option Sleep) (k : Kind) → Plain k → WakesBy m past now o k
-    by_sleep None k h = tt
-    by_sleep (Some s) (kind.Wake by_event) h = absurd h
-    by_sleep (Some s) _ h = tt
+plain_wake m past now k h = wake_else m past now (sleep_of past) k (no_wake k h)

@@ -1,2 +1,4 @@
+pub mod Devices
 pub mod Facts
 pub mod Scripts
+pub mod Work

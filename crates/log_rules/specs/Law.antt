@@ -26,3 +26,25 @@ abbrev pub OneForScripts : Type 0
 OneForScripts =
     (m : Machine) (past : List Entry) (now : EventNow) (i : ℕ) (k : Kind) → is_maker past (actor.Script i) ≡ false
     → AreOne m past now (actor.Script i) k
+
+-- so for autosleep's work outside attempts of its own (try_to_suspend)
+abbrev pub OneForWork : Type 0
+OneForWork =
+    (m : Machine) (past : List Entry) (now : EventNow) (k : Kind) → is_maker past actor.Auto ≡ false
+    → AreOne m past now actor.Auto k
+
+-- so for each asynchronous device (async_suspend, async_resume)
+abbrev pub OneForDevices : Type 0
+OneForDevices =
+    (m : Machine) (past : List Entry) (now : EventNow) (d : ℕ) (k : Kind) → is_maker past (actor.Dev d) ≡ false
+    → AreOne m past now (actor.Dev d) k
+
+-- so for who makes the open attempt (suspend_devices_and_enter, suspend_enter)
+abbrev pub OneForMakers : Type 0
+OneForMakers =
+    (m : Machine) (past : List Entry) (now : EventNow) (who : Actor) (k : Kind) → is_maker past who ≡ true
+    → AreOne m past now who k
+
+-- so for every actor: for each machine, behind each legal journal, an entry of the journal is due exactly where it keeps all rules (kernel/power/suspend.c, kernel/power/main.c)
+abbrev pub OneForAll : Type 0
+OneForAll = (m : Machine) (past : List Entry) (now : EventNow) (who : Actor) (k : Kind) → AreOne m past now who k
