@@ -1,4 +1,5 @@
 pub mod Devices
 pub mod Facts
+pub mod Rows
 pub mod Scripts
 pub mod Work
