@@ -1,5 +1,6 @@
 pub mod Devices
 pub mod Facts
+pub mod Keeping
 pub mod Rows
 pub mod Scripts
 pub mod Work
