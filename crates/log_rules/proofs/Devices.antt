@@ -82,12 +82,12 @@ back m past now d k e h = rw e (device_back m past now d (async_work m past d) k
 
 -- ---- what is due keeps all rules
 
-down_is : (p : Phase) → Down p → is_down p ≡ true
+pub down_is : (p : Phase) → Down p → is_down p ≡ true
 down_is _ InSuspend = refl
 down_is _ InLate = refl
 down_is _ InNoirq = refl
 
-up_is : (p : Phase) → Up p → is_down p ≡ false
+pub up_is : (p : Phase) → Up p → is_down p ≡ false
 up_is _ InResume = refl
 up_is _ InEarly = refl
 up_is _ InResumeNoirq = refl
