@@ -1,5 +1,5 @@
 -- Asynchronous devices: what is due is what keeps all rules.
-use Rattle.std.proofs.Common.{◌≡◌, ◌∙◌, ℕ, Bool, true, false, ◌&&◌, List, ◌∷◌, Option, Some, None, cond, refl, sym, ap, subst}
+use Rattle.std.proofs.Common.{◌≡◌, ◌∙◌, ℕ, Bool, true, false, List, Option, cond, refl, sym, ap, subst}
 use Rattle.sleep_base.specs.declared.errno.Errno.{Errno}
 use Rattle.sleep_model.specs.declared.entry.Actor.{Actor}
 use Rattle.sleep_model.specs.declared.entry.Actor.TheVariants as actor
@@ -11,15 +11,12 @@ use Rattle.sleep_model.specs.declared.entry.SkipCause.TheVariants as skip
 use Rattle.sleep_model.specs.declared.machine.Machine.{Machine}
 use Rattle.sleep_model.specs.declared.place.AsyncWork.{AsyncWork}
 use Rattle.sleep_model.specs.declared.place.AsyncWork.TheVariants.{Idle, Scheduled, Inside}
-use Rattle.sleep_model.specs.declared.place.Due.{Due}
-use Rattle.sleep_model.specs.declared.place.Due.TheVariants.{Makes, Waits, Gone}
-use Rattle.sleep_model.specs.declared.place.Stand.{Stand}
+use Rattle.sleep_model.specs.declared.place.Due.TheVariants.{Makes}
 use Rattle.sleep_model.specs.declared.word.EventNow.{EventNow}
 use Rattle.phase_table.specs.declared.phase.Phase.{Phase}
-use Rattle.phase_table.specs.declared.phase.Phase.TheVariants as phase
 use Rattle.phase_table.specs.Phases.{is_down, mirror}
 use Rattle.sleep_model.specs.Attempt.{attempt_due, freeze_since, sleep_of}
-use Rattle.sleep_model.specs.Devices.{after_device, async_work, device_due, device_error, is_async_device, scheduled_due, stand_in, waits_above, waits_below, work_by}
+use Rattle.sleep_model.specs.Devices.{after_device, async_work, device_due, device_error, is_async_device, waits_above, waits_below}
 use Rattle.sleep_model.specs.Legal.{JournalPart}
 use Rattle.sleep_model.specs.Numbers.{time_of}
 use Rattle.sleep_model.specs.Path.{maker, is_actor}
@@ -35,7 +32,7 @@ use Rattle.log_rules.specs.Restored.{KeepsRestored}
 use Rattle.log_rules.specs.Runtime.{KeepsRuntime}
 use Rattle.log_rules.specs.Enabled.{AwakeActor}
 use Rattle.log_rules.specs.Freezer.{FreezesActor}
-use Rattle.log_rules.specs.Law.{IsDue, AreOne, OneForDevices}
+use Rattle.log_rules.specs.Law.{IsDue, OneForDevices}
 use Rattle.log_rules.specs.Path.{PathOf}
 use Rattle.log_rules.specs.Questions.{is_maker, row_now, turn_of}
 use Rattle.log_rules.specs.Reads.{ReadsActor}

@@ -1,5 +1,5 @@
 -- Inside an attempt: what its maker makes by all rules is what is due at the row.
-use Rattle.std.proofs.Common.{◌≡◌, ◌∙◌, ℕ, Bool, true, false, List, Option, Some, None, is_some, cond, refl, sym, ap, subst}
+use Rattle.std.proofs.Common.{◌≡◌, ◌∙◌, ℕ, Bool, true, false, List, Option, Some, None, is_some, refl, sym, ap, subst}
 use Rattle.sleep_base.specs.declared.errno.Errno.{Errno}
 use Rattle.sleep_model.specs.declared.entry.Entry.{Entry}
 use Rattle.sleep_model.specs.declared.entry.FrozeEnd.{FrozeEnd}
@@ -15,7 +15,6 @@ use Rattle.sleep_model.specs.declared.place.Stage.TheVariants as stage
 use Rattle.sleep_model.specs.declared.word.EventNow.{EventNow}
 use Rattle.phase_table.specs.declared.phase.Phase.{Phase}
 use Rattle.phase_table.specs.declared.phase.Phase.TheVariants as phase
-use Rattle.phase_table.specs.Phases.{mirror}
 use Rattle.sleep_model.specs.Attempt.{enter_due, freeze_due, freeze_since, sleep_of, stage_due}
 use Rattle.sleep_model.specs.Devices.{callback, device_error, down_due, is_async_device, next_down, next_prepared, phase_error, phase_failed, prepare_due, taken, unless_failed, up_due, waits_down, walk_down}
 use Rattle.sleep_laws.proofs.Made.{Down, InSuspend, InLate, InNoirq, Up, InResume, InEarly, InResumeNoirq}
@@ -28,7 +27,7 @@ use Rattle.log_rules.specs.Path.{IsOfRow, IsOfDown, IsOfUp}
 use Rattle.log_rules.specs.Questions.{row_now, turn_of}
 use Rattle.log_rules.specs.Skip.{KeepsSkip, IsTurn, IsNextDown}
 use Rattle.log_rules.specs.Steps.{IsWalkStep}
-use Rattle.log_rules.specs.Walk.{KeepsWalk, PreparesAt, CompletesAt, SchedulesAt, BeginsAt, BeginsBy, IsNextUp, IsInside, EndsAt, EndsBy, is_through, IsDownDone, IsUpDone, DoneAt}
+use Rattle.log_rules.specs.Walk.{KeepsWalk, PreparesAt, CompletesAt, SchedulesAt, BeginsAt, BeginsBy, IsInside, EndsAt, EndsBy, is_through, DoneAt}
 use Rattle.log_rules.proofs.Facts.{never}
 
 -- ---- what phases answer

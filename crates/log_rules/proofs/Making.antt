@@ -1,5 +1,5 @@
 -- Inside an attempt: what is due at the row keeps all rules.
-use Rattle.std.proofs.Common.{◌≡◌, ◌+◌, ◌∙◌, ℕ, Bool, true, false, not, ◌&&◌, ◌||◌, nat_le, nat_lt, List, [], ◌∷◌, length, Option, Some, None, is_some, cond, refl, sym, ap, subst}
+use Rattle.std.proofs.Common.{◌≡◌, ◌+◌, ◌∙◌, ℕ, Bool, true, false, not, ◌&&◌, nat_le, nat_lt, List, [], ◌∷◌, length, Option, Some, None, is_some, cond, refl, sym, ap, subst}
 use Rattle.sleep_base.specs.declared.errno.Errno.{Errno}
 use Rattle.sleep_model.specs.declared.entry.Entry.{Entry}
 use Rattle.sleep_model.specs.declared.entry.FrozeEnd.{FrozeEnd}
@@ -13,18 +13,17 @@ use Rattle.sleep_model.specs.declared.machine.Machine.{Machine}
 use Rattle.sleep_model.specs.declared.machine.What.TheVariants as what
 use Rattle.sleep_model.specs.declared.place.Callback.{Callback}
 use Rattle.sleep_model.specs.declared.place.Due.{Due}
-use Rattle.sleep_model.specs.declared.place.Due.TheVariants.{Makes, Waits, Gone}
+use Rattle.sleep_model.specs.declared.place.Due.TheVariants.{Makes}
 use Rattle.sleep_model.specs.declared.place.Sleep.{Sleep}
 use Rattle.sleep_model.specs.declared.place.Stage.{Stage}
 use Rattle.sleep_model.specs.declared.place.Stage.TheVariants as stage
-use Rattle.sleep_model.specs.declared.place.Stand.{Stand}
 use Rattle.sleep_model.specs.declared.place.Stand.TheVariants as stand
 use Rattle.sleep_model.specs.declared.word.EventNow.{EventNow}
 use Rattle.phase_table.specs.declared.phase.Phase.{Phase}
 use Rattle.phase_table.specs.declared.phase.Phase.TheVariants as phase
 use Rattle.phase_table.specs.Phases.{mirror, tests_wakeup}
 use Rattle.sleep_model.specs.Attempt.{answered, busy_error, cpu_kind, enter_due, failed, freeze_due, freeze_since, froze_due, gives_up_at, if_left, sleep_of, stage_due, wakes_due}
-use Rattle.sleep_model.specs.Devices.{after_device, callback, complete_due, device_error, down_due, is_async_device, is_direct, next_completed, next_down, next_prepared, next_to_schedule, next_up, phase_error, phase_failed, prepare_due, stand_in, take_down, taken, up_due, waits_above, waits_below, waits_down, waits_up, walk_down, walk_up}
+use Rattle.sleep_model.specs.Devices.{after_device, callback, complete_due, device_error, down_due, is_async_device, is_direct, next_completed, next_down, next_prepared, next_to_schedule, next_up, phase_error, phase_failed, prepare_due, stand_in, take_down, up_due, waits_above, waits_below, waits_down, waits_up, walk_down, walk_up}
 use Rattle.sleep_model.specs.Freezer.{left}
 use Rattle.sleep_model.specs.Guard.{pending}
 use Rattle.sleep_model.specs.Notifiers.{next_called, next_posted, next_cpu_off, next_cpu_on, next_stopped, next_started}
@@ -33,8 +32,8 @@ use Rattle.sleep_model.specs.Path.{attempts, maker}
 use Rattle.sleep_model.specs.Stands.{is_down_in}
 use Rattle.sleep_model.specs.Order.{order}
 use Rattle.sleep_model.specs.Word.{position}
-use Rattle.sleep_laws.proofs.Boards.{Three, three, first_found}
-use Rattle.sleep_laws.proofs.Made.{Down, InSuspend, InLate, InNoirq, Up, InResume, InEarly, InResumeNoirq}
+use Rattle.sleep_laws.proofs.Boards.{three, first_found}
+use Rattle.sleep_laws.proofs.Made.{Down, Up}
 use Rattle.sleep_laws.proofs.Making.{OnlyMade, Proper}
 use Rattle.sleep_laws.proofs.Standing.{InsideIf, CallAt}
 use Rattle.log_rules.specs.Answers.{phase_answer}
@@ -48,7 +47,7 @@ use Rattle.log_rules.specs.Runtime.{KeepsRuntime}
 use Rattle.log_rules.specs.Skip.{KeepsSkip, IsTurn, IsNextDown}
 use Rattle.log_rules.specs.Steps.{IsWalkStep}
 use Rattle.log_rules.specs.Walk.{KeepsWalk, PreparesAt, CompletesAt, SchedulesAt, BeginsAt, BeginsBy, IsNextUp, EndsAt, EndsBy, is_through, DoneAt}
-use Rattle.log_rules.proofs.Facts.{never, only_if, only_map, NoFroze, NoWake, freeze_else, wake_else}
+use Rattle.log_rules.proofs.Facts.{never, only_if, NoFroze, NoWake, freeze_else, wake_else}
 use Rattle.log_rules.proofs.Keeping.{down_answer, up_answer}
 use Rattle.log_rules.proofs.Devices.{up_is}
 

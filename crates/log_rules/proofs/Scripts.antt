@@ -22,9 +22,9 @@ use Rattle.sleep_model.specs.Lock.{holder, is_on}
 use Rattle.sleep_model.specs.Laws.{steps_of, is_of_read, is_of_save}
 use Rattle.sleep_model.specs.Marks.{mark_at, raised}
 use Rattle.sleep_model.specs.Numbers.{time_of}
-use Rattle.sleep_model.specs.Path.{attempts, maker, is_actor}
+use Rattle.sleep_model.specs.Path.{attempts, maker}
 use Rattle.sleep_model.specs.Scripts.{entry_steps}
-use Rattle.sleep_model.specs.Steps.{step_due, seat_due, read_due, count_due, saved_number, state_due, unless_unsaved, autosleep_due, sleep_due, slept_due, mark_due}
+use Rattle.sleep_model.specs.Steps.{step_due, seat_due, read_due, count_due, saved_number, state_due, unless_unsaved, autosleep_due, sleep_due, slept_due}
 use Rattle.sleep_model.specs.Word.{visible}
 use Rattle.sleep_model.specs.Tasks.{is_mem, is_off, is_line, is_user, freezes_at}
 use Rattle.sleep_laws.proofs.Holding.{held, HolderOf}
@@ -33,14 +33,14 @@ use Rattle.log_rules.specs.All.{KeepsAll}
 use Rattle.log_rules.specs.Attempts.{KeepsAttempts}
 use Rattle.log_rules.specs.Enabled.{AwakeTask, AwakeActor}
 use Rattle.log_rules.specs.Freezer.{FreezesBy, FreezesTask, FreezesActor}
-use Rattle.log_rules.specs.Law.{IsDue, AreOne, OneForScripts}
+use Rattle.log_rules.specs.Law.{IsDue, OneForScripts}
 use Rattle.log_rules.specs.Links.{KeepsLinks}
 use Rattle.log_rules.specs.Path.{PathOf}
-use Rattle.log_rules.specs.Questions.{is_maker, seat_of, op_of}
+use Rattle.log_rules.specs.Questions.{is_maker, seat_of}
 use Rattle.log_rules.specs.Reads.{ReadsTask, ReadsActor}
 use Rattle.log_rules.specs.Runtime.{KeepsRuntime}
 use Rattle.log_rules.specs.Steps.{IsOfOp, IsStep, IsScriptStep, StepsOf, is_of_write}
-use Rattle.log_rules.proofs.Facts.{never, only_if, only_is, only_map, itself, is_none, Plain, plain_walk, plain_skip, plain_owed, plain_answers, plain_restored, plain_freeze, plain_wake}
+use Rattle.log_rules.proofs.Facts.{never, only_if, only_is, only_map, itself, Plain, plain_walk, plain_skip, plain_owed, plain_answers, plain_restored, plain_freeze, plain_wake}
 
 -- ---- what keeps all rules is due
 

@@ -1,5 +1,5 @@
 -- The autosleep work outside attempts of its own: what is due is what keeps all rules.
-use Rattle.std.proofs.Common.{◌≡◌, ◌+◌, ◌∙◌, ℕ, Bool, true, false, ◌==◌, ◌&&◌, nat_le, List, Option, Some, None, is_some, is_none, cond, refl, sym, ap, subst}
+use Rattle.std.proofs.Common.{◌≡◌, ◌∙◌, ℕ, Bool, true, false, ◌==◌, ◌&&◌, nat_le, List, Option, Some, None, is_none, cond, refl, sym, ap, subst}
 use Rattle.sleep_model.specs.declared.entry.Actor.{Actor}
 use Rattle.sleep_model.specs.declared.entry.Actor.TheVariants as actor
 use Rattle.sleep_model.specs.declared.entry.Entry.{Entry}
@@ -7,8 +7,7 @@ use Rattle.sleep_model.specs.declared.entry.Kind.{Kind}
 use Rattle.sleep_model.specs.declared.entry.Kind.TheVariants as kind
 use Rattle.sleep_model.specs.declared.log.Why.TheVariants as why
 use Rattle.sleep_model.specs.declared.machine.Machine.{Machine}
-use Rattle.sleep_model.specs.declared.place.Due.{Due}
-use Rattle.sleep_model.specs.declared.place.Due.TheVariants.{Makes, Waits, Gone}
+use Rattle.sleep_model.specs.declared.place.Due.TheVariants.{Makes, Waits}
 use Rattle.sleep_model.specs.declared.place.Work.{Work}
 use Rattle.sleep_model.specs.declared.place.Work.TheVariants.{Resting, Reading, Saving, Attempting, Looking, Napping, Closing}
 use Rattle.sleep_model.specs.declared.word.EventNow.{EventNow}
@@ -26,7 +25,7 @@ use Rattle.log_rules.specs.All.{KeepsAll}
 use Rattle.log_rules.specs.Attempts.{KeepsAttempts}
 use Rattle.log_rules.specs.Enabled.{AwakeActor}
 use Rattle.log_rules.specs.Freezer.{FreezesActor}
-use Rattle.log_rules.specs.Law.{IsDue, AreOne, OneForWork}
+use Rattle.log_rules.specs.Law.{IsDue, OneForWork}
 use Rattle.log_rules.specs.Links.{KeepsLinks}
 use Rattle.log_rules.specs.Path.{PathOf}
 use Rattle.log_rules.specs.Questions.{is_maker}

@@ -1,6 +1,7 @@
-//! The law: an entry is due of its actor exactly where it keeps all rules.
+//! The law: an entry of the journal is due of its actor exactly where it keeps all rules. Behind a legal
+//! journal what is due keeps them, and behind any entries at all what keeps them is due.
 
-ghost use Rattle.log_rules.specs.Law.{OneForScripts};
+ghost use Rattle.log_rules.specs.Law.{OneForAll, OneForDevices, OneForMakers, OneForScripts, OneForWork};
 
 /// Outside attempts of its own a script makes an entry that is due of it exactly where that entry keeps all
 /// rules: reads, saves and writes to the state and to autosleep, sleeps, marks, runtime requests and links,
@@ -8,4 +9,34 @@ ghost use Rattle.log_rules.specs.Law.{OneForScripts};
 #[tactic(auto, using(crate::proofs::Scripts::scripts))]
 pub fn scripts_keep_rules()
     ensures { OneForScripts }
+{}
+
+/// Outside attempts of its own autosleep's work makes an entry that is due of it exactly where that entry
+/// keeps all rules (`kernel/power/autosleep.c`, `try_to_suspend`).
+#[tactic(auto, using(crate::proofs::Work::the_work))]
+pub fn work_keeps_rules()
+    ensures { OneForWork }
+{}
+
+/// An asynchronous device makes an entry that is due of it exactly where that entry keeps all rules
+/// (`drivers/base/power/main.c`, `async_suspend`, `async_resume`).
+#[tactic(auto, using(crate::proofs::Devices::the_devices))]
+pub fn devices_keep_rules()
+    ensures { OneForDevices }
+{}
+
+/// Who makes the open attempt makes an entry that is due exactly where that entry keeps all rules, at each
+/// row of the attempt's table, on the way down and on the way up (`kernel/power/suspend.c`,
+/// `enter_state`, `suspend_devices_and_enter`, `suspend_enter`; `drivers/base/power/main.c`).
+#[tactic(auto, using(crate::proofs::Makers::the_makers))]
+pub fn makers_keep_rules()
+    ensures { OneForMakers }
+{}
+
+/// For every machine, word and actor: behind every legal journal an entry of the journal that is due
+/// keeps all rules, and behind any list of entries one that keeps all rules is due. So the rules, each by
+/// itself, and what is due are one thing written twice.
+#[tactic(auto, using(crate::proofs::Makers::all))]
+pub fn entries_keep_rules()
+    ensures { OneForAll }
 {}

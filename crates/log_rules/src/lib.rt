@@ -3,4 +3,6 @@
 
 mod law;
 
-pub use law::scripts_keep_rules;
+pub use law::{
+    devices_keep_rules, entries_keep_rules, makers_keep_rules, scripts_keep_rules, work_keeps_rules,
+};
