@@ -196,6 +196,8 @@ class Kept(Place):
     def begins(self, e, phase, d):
         if phase in DOWN:
             return self.is_turn(phase, d) and self.turn_of(phase, d) is None
+        if phase not in UP:
+            return False
         p = UP[phase]
         if self.is_async(d):
             return self.stands[p][d] == "rescheduled" and not self.waits_above(p, d)
@@ -342,9 +344,9 @@ class Kept(Place):
         if e.part == "time":
             return e.who == "time"
         if e.part == "step":
-            last = self.last.get(e.who)
-            of_it = last is not None and last.part in ("note", "step") and last.words[1] == e.words[1]
-            return of_it and self.sources[e.words[1]].caller == e.who
+            source = self.sources[e.words[1]]
+            beside = any(s.owed and s.caller == e.who for s in self.sources.values() if s is not source)
+            return not beside and (not source.owed or source.caller == e.who)
         if self.is_inside(e.who):
             return False
         if e.part == "note":
@@ -517,9 +519,10 @@ class Kept(Place):
             yield from [f"platform {row[1]}", *(f"platform {row[1]} {r}" for r in errors)]
         yield from (f"prepare {d} {r}" for d in self.names for r in (*errors, "1"))
         phase = row[1] if row[0] in ("downs", "ups") else {"prepares": "prepare", "completes": "complete"}.get(row[0])
-        yield from (f"{verb} {phase} {d}" for d in self.names for verb in ("schedule", "begin") if phase)
-        yield from (f"end {phase} {d} {r}" for d in self.names for r in errors if phase)
-        yield from (f"skip {phase} {d} {c}" for d in self.names for c in ("pending", "direct") if phase)
+        if row[0] in ("downs", "ups"):
+            yield from (f"{verb} {phase} {d}" for d in self.names for verb in ("schedule", "begin"))
+            yield from (f"end {phase} {d} {r}" for d in self.names for r in errors)
+            yield from (f"skip {phase} {d} {c}" for d in self.names for c in ("pending", "direct"))
         yield from (f"done {phase} {r}" for r in errors if phase)
         yield from (f"complete {d}" for d in self.names)
         yield from (f"cpu {x} {k}" for k in range(self.tree.get("cpus", 1)) for x in ("off", "on", "EBUSY"))

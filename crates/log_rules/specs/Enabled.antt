@@ -1,5 +1,5 @@
 -- Who may go on while the machine sleeps, what wakes it, and where time jumps (kernel/power/suspend.c, suspend_enter).
-use Rattle.std.specs.Prelude.{◌≡◌, Bool, false, not, ◌&&◌, List, Option, Some, None, slice_get}
+use Rattle.std.specs.Prelude.{◌≡◌, ◌<◌, Bool, false, not, ◌&&◌, List, Option, Some, None, slice_get}
 use Rattle.sleep_model.specs.declared.entry.Actor.{Actor}
 use Rattle.sleep_model.specs.declared.entry.Actor.TheVariants as actor
 use Rattle.sleep_model.specs.declared.entry.Entry.{Entry}
@@ -14,6 +14,10 @@ use Rattle.sleep_model.specs.Attempt.{sleep_of, sleeps_now, wakes_due}
 use Rattle.sleep_model.specs.Due.{is_over}
 use Rattle.sleep_model.specs.Tasks.{is_line}
 use Rattle.log_rules.specs.Questions.{is_maker}
+use Rattle.sleep_model.specs.Legal.{JumpStep}
+use Rattle.sleep_model.specs.Numbers.{numbers, time_of}
+use Rattle.sleep_model.specs.Parts.{Part, OfJournal, Notes, Moves, OfTime, journal}
+use Rattle.sleep_model.specs.Sources.{history}
 
 -- a task makes nothing while the machine sleeps, unless it is an interrupt line (own)
 abbrev pub AwakeTask : Bool → Option Script → Type 0
@@ -34,3 +38,12 @@ WakesBy m past now _ _ = Unit {0}
 -- who makes an entry of the journal may go on, and the machine wakes rightly (suspend_enter)
 abbrev pub KeepsEnabled : Machine → List Entry → EventNow → Actor → Kind → Type 0
 KeepsEnabled m past now who k = AwakeActor m past who (is_maker past who) × WakesBy m past now (sleep_of past) k
+
+-- ---- among all entries
+
+-- who makes an entry of the journal may go on; time jumps, forward, to the least pending time, where nobody can make anything and something is left to do (suspend_enter; jumps are own)
+abbrev pub EnabledEntry : Machine → List Entry → Entry → Part → Type 0
+EnabledEntry m past e OfJournal = KeepsEnabled m (journal past) e.now e.actor e.kind
+EnabledEntry m past e OfTime =
+    JumpStep m (journal past) (λ s. history s past) (numbers past) e.time × (time_of past < e.time)
+EnabledEntry m past e _ = Unit {0}

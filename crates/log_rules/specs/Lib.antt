@@ -15,12 +15,15 @@
 -- Enabled    who may go on while the machine sleeps, what wakes it, and where time jumps
 -- Source     a wakeup source's own entries
 -- Links      links that are added or set
--- All        all of them
+-- All        all of them, of an entry of the journal
+-- Entry      all of them, of any entry
+-- Law        that what is due keeps them, and what keeps them is due
 
 pub mod All
 pub mod Answers
 pub mod Attempts
 pub mod Enabled
+pub mod Entry
 pub mod Freezer
 pub mod Law
 pub mod Links

@@ -15,6 +15,8 @@ use Rattle.sleep_model.specs.Attempt.{answered, busy_error, freeze_since, sleep_
 use Rattle.sleep_model.specs.Guard.{pending}
 use Rattle.sleep_model.specs.Notifiers.{next_called, next_posted, next_cpu_off, next_cpu_on, next_stopped, next_started}
 use Rattle.log_rules.specs.Questions.{is_maker, row_now}
+use Rattle.sleep_model.specs.Devices.{callback}
+use Rattle.sleep_model.specs.Parts.{Part, OfJournal, Notes, Moves, OfTime, journal}
 
 -- an entry of a phase on the devices' way down (dpm_suspend)
 abbrev pub IsOfDown : Phase → Kind → Type 0
@@ -75,3 +77,16 @@ PathOf m past now false k = Unit {0}
 -- inside an attempt its maker keeps to the table (enter_state, suspend_devices_and_enter, suspend_enter)
 abbrev pub KeepsPath : Machine → List Entry → EventNow → Actor → Kind → Type 0
 KeepsPath m past now who k = PathOf m past now (is_maker past who) k
+
+-- ---- among all entries
+
+-- inside an attempt its maker calls on sources only where it is inside a callback (dpm_run_callback, pm_wakeup_event)
+abbrev pub ReportsOf : List Entry → Bool → Type 0
+ReportsOf past true = is_some (callback past) ≡ true
+ReportsOf past false = Unit {0}
+
+-- inside an attempt its maker keeps to the table, and calls on sources from callbacks alone (enter_state, dpm_run_callback)
+abbrev pub PathEntry : Machine → List Entry → Entry → Part → Type 0
+PathEntry m past e (Notes s call) = ReportsOf (journal past) (is_maker (journal past) e.actor)
+PathEntry m past e (Moves s step) = Unit {0}
+PathEntry m past e _ = KeepsPath m (journal past) e.now e.actor e.kind

@@ -1,10 +1,16 @@
 -- A wakeup source's own entries (drivers/base/power/wakeup.c).
-use Rattle.std.specs.Prelude.{◌∷◌, List}
+use Rattle.std.specs.Prelude.{List, ◌∷◌}
 use Rattle.sleep_model.specs.declared.entry.Entry.{Entry}
 use Rattle.sleep_model.specs.declared.machine.Machine.{Machine}
 use Rattle.sleep_model.specs.Legal.{OwnStep, HistoriesFit}
-use Rattle.sleep_model.specs.Parts.{part_of}
+use Rattle.sleep_model.specs.Parts.{Part, OfJournal, Notes, Moves, OfTime}
+use Rattle.sleep_model.specs.Sources.{history, owed, IsNext}
 
--- a note begins a call where the source's last one owes nothing, a step is the one that is owed next, an expiry is due, the source is there, and its history has a place (wakeup_source_report_event, pm_wakeup_timer_fn)
-abbrev pub KeepsSource : Machine → List Entry → Entry → Type 0
-KeepsSource m past e = OwnStep past e (part_of e.kind) × HistoriesFit m (e ∷ past)
+-- a note begins a call where the source's last one owes nothing, an expiry only where it is due; a step is the one that is owed next (wakeup_source_report_event, pm_wakeup_timer_fn)
+abbrev pub CallEntry : List Entry → Entry → Part → Type 0
+CallEntry past e (Moves s step) = IsNext step (owed (history s past))
+CallEntry past e part = OwnStep past e part
+
+-- and the source is there, and its history has a place for it (own)
+abbrev pub SourceEntry : Machine → List Entry → Entry → Part → Type 0
+SourceEntry m past e part = CallEntry past e part × HistoriesFit m (e ∷ past)

@@ -1,5 +1,5 @@
 -- Each actor's own steps, once and in order.
-use Rattle.std.specs.Prelude.{◌≡◌, ◌+◌, ℕ, Bool, true, false, ◌||◌, nat_le, List, length, Option, Some, None, slice_get, if◌then◌else◌}
+use Rattle.std.specs.Prelude.{◌≡◌, ◌+◌, ℕ, Bool, true, false, ◌&&◌, ◌||◌, nat_le, List, length, Option, Some, None, slice_get, if◌then◌else◌}
 use Rattle.sleep_model.specs.declared.entry.Actor.{Actor}
 use Rattle.sleep_model.specs.declared.entry.Actor.TheVariants as actor
 use Rattle.sleep_model.specs.declared.entry.Entry.{Entry}
@@ -26,6 +26,11 @@ use Rattle.sleep_model.specs.Numbers.{time_of}
 use Rattle.sleep_model.specs.Steps.{sleep_due, mark_due}
 use Rattle.sleep_model.specs.Tasks.{is_mem, is_off, is_user, freezes_at}
 use Rattle.log_rules.specs.Questions.{is_maker, seat_of, op_of}
+use Rattle.sleep_model.specs.Calls.{is_left}
+use Rattle.sleep_model.specs.Legal.{IsOwnTurn, IsOwnCall, IsOutside}
+use Rattle.sleep_model.specs.Parts.{Part, OfJournal, Notes, Moves, OfTime, journal}
+use Rattle.sleep_model.specs.Path.{is_actor}
+use Rattle.sleep_model.specs.Sources.{history, owed, caller}
 
 -- ---- a script
 
@@ -136,3 +141,25 @@ StepsOf m past now actor.Time false k = ⊥
 -- each entry is of its actor's own steps, once and in order (kernel/power/main.c, kernel/power/autosleep.c, drivers/base/power/main.c)
 abbrev pub KeepsSteps : Machine → List Entry → EventNow → Actor → Kind → Type 0
 KeepsSteps m past now who k = StepsOf m past now who (is_maker past who) k
+
+-- ---- among all entries
+
+-- that source owes steps of a call by the actor (wakeup_source_report_event)
+abbrev pub is_inside : List Entry → Actor → Bool
+is_inside own who = is_left (owed own) && is_actor who (caller own)
+
+-- an actor inside a call makes the steps of that call alone, and no other's (wakeup_source_report_event)
+abbrev pub IsOfCall : List Entry → Actor → ℕ → Type 0
+IsOfCall past who s =
+    ((t : ℕ) → is_inside (history t past) who ≡ true → t ≡ s)
+    × (is_left (owed (history s past)) ≡ true → caller (history s past) ≡ Some who)
+
+-- an entry of the journal is its actor's next step, once the calls before it are made whole; a note is its actor's next call; a step of the word is of the call that its actor is inside; time makes the jumps (own)
+abbrev pub StepsEntry : Machine → List Entry → Entry → Part → Type 0
+StepsEntry m past e OfJournal =
+    KeepsSteps m (journal past) e.now e.actor e.kind × IsOwnTurn m (journal past) (λ s. history s past) e.actor
+    × IsOutside m (λ s. history s past) e.actor
+StepsEntry m past e (Notes s call) =
+    IsOwnCall m (journal past) (λ t. history t past) e.actor e.kind × IsOutside m (λ t. history t past) e.actor
+StepsEntry m past e (Moves s step) = IsOfCall past e.actor s
+StepsEntry m past e OfTime = e.actor ≡ actor.Time

@@ -1,5 +1,5 @@
 -- The phases of devices: who is next, what has to wait, and what callbacks answer (drivers/base/power/main.c).
-use Rattle.std.specs.Prelude.{◌≡◌, ℕ, ℤ, Bool, true, false, ◌||◌, List, Option, Some, None, is_some, is_none}
+use Rattle.std.specs.Prelude.{◌≡◌, ℕ, ℤ, Bool, true, false, ◌&&◌, ◌||◌, List, Option, Some, None, is_some, is_none}
 use Rattle.sleep_base.specs.declared.errno.Errno.{Errno}
 use Rattle.sleep_model.specs.declared.entry.Entry.{Entry}
 use Rattle.sleep_model.specs.declared.entry.Kind.{Kind}
@@ -15,10 +15,18 @@ use Rattle.phase_table.specs.declared.phase.Phase.{Phase}
 use Rattle.phase_table.specs.declared.phase.Phase.TheVariants as phase
 use Rattle.phase_table.specs.Phases.{is_down, mirror}
 use Rattle.sleep_model.specs.Answers.{answer, answer_number}
-use Rattle.sleep_model.specs.Devices.{callback, device_error, phase_failed, is_async_device, stand_in, waits_above, waits_down, waits_up, next_down, next_to_schedule, next_up, next_prepared, next_completed}
+use Rattle.sleep_model.specs.Devices.{async_work, callback, device_error, phase_failed, is_async_device, stand_in, waits_above, waits_down, waits_up, next_down, next_to_schedule, next_up, next_prepared, next_completed}
 use Rattle.sleep_model.specs.Path.{attempts}
 use Rattle.log_rules.specs.Questions.{row_now, turn_of}
 use Rattle.log_rules.specs.Skip.{IsNextDown, IsScheduledDown}
+use Rattle.sleep_model.specs.declared.entry.Actor.{Actor}
+use Rattle.sleep_model.specs.declared.entry.Actor.TheVariants as actor
+use Rattle.sleep_model.specs.declared.place.AsyncWork.{AsyncWork}
+use Rattle.sleep_model.specs.declared.place.AsyncWork.TheVariants.{Inside}
+use Rattle.sleep_model.specs.Legal.{IsOwnTurn, IsOwnCall}
+use Rattle.sleep_model.specs.Parts.{Part, OfJournal, Notes, Moves, OfTime, journal}
+use Rattle.sleep_model.specs.Sources.{history}
+use Rattle.log_rules.specs.Questions.{is_maker}
 
 -- ---- prepare and complete
 
@@ -129,3 +137,27 @@ KeepsWalk m past now (kind.Begin p d) = BeginsBy m past now p d (is_async_device
 KeepsWalk m past now (kind.End p d r) = EndsBy m past p d (is_async_device m d) (row_now m past) × (r ≡ device_error m past p d)
 KeepsWalk m past now (kind.Done p r) = DoneAt m past p (row_now m past)
 KeepsWalk m past now _ = Unit {0}
+
+-- ---- among all entries
+
+-- inside a callback of its own (async_suspend, async_resume)
+abbrev pub is_inside_work : AsyncWork → Bool
+is_inside_work (Inside p) = true
+is_inside_work _ = false
+
+-- the actor is inside a device's callback: an asynchronous device in its own, who makes the attempt in that of the walk (dpm_run_callback)
+abbrev pub is_in_callback : Machine → List Entry → Actor → Bool
+is_in_callback m past (actor.Dev d) = is_inside_work (async_work m past d)
+is_in_callback m past who = is_maker past who && is_some (callback past)
+
+-- a callback ends once its reports are made (pm_wakeup_event in a callback)
+abbrev pub ReportsMade : Machine → List Entry → Actor → Kind → Type 0
+ReportsMade m past who (kind.End p d r) = IsOwnTurn m (journal past) (λ s. history s past) who
+ReportsMade m past who _ = Unit {0}
+
+-- devices are taken in order and answer what the machine answers, and a callback makes its reports in order, and nothing else (drivers/base/power/main.c)
+abbrev pub WalkEntry : Machine → List Entry → Entry → Part → Type 0
+WalkEntry m past e OfJournal = KeepsWalk m (journal past) e.now e.kind × ReportsMade m past e.actor e.kind
+WalkEntry m past e (Notes s call) =
+    is_in_callback m (journal past) e.actor ≡ true → IsOwnCall m (journal past) (λ t. history t past) e.actor e.kind
+WalkEntry m past e _ = Unit {0}

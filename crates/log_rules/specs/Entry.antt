@@ -1,0 +1,53 @@
+-- All rules of an entry among all entries: of the journal, of a source, or a jump of time.
+use Rattle.std.specs.Prelude.{List, ◌∷◌}
+use Rattle.sleep_model.specs.declared.entry.Entry.{Entry}
+use Rattle.sleep_model.specs.declared.machine.Machine.{Machine}
+use Rattle.sleep_model.specs.Legal.{IsLegal}
+use Rattle.sleep_model.specs.Parts.{Part, OfJournal, part_of, journal}
+use Rattle.log_rules.specs.Answers.{KeepsAnswers}
+use Rattle.log_rules.specs.Attempts.{KeepsAttempts}
+use Rattle.log_rules.specs.Enabled.{EnabledEntry}
+use Rattle.log_rules.specs.Freezer.{FreezerEntry}
+use Rattle.log_rules.specs.Links.{KeepsLinks}
+use Rattle.log_rules.specs.Numbers.{KeepsNumbers}
+use Rattle.log_rules.specs.Owed.{KeepsOwed}
+use Rattle.log_rules.specs.Path.{PathEntry}
+use Rattle.log_rules.specs.Reads.{KeepsReads}
+use Rattle.log_rules.specs.Restored.{KeepsRestored}
+use Rattle.log_rules.specs.Runtime.{KeepsRuntime}
+use Rattle.log_rules.specs.Skip.{KeepsSkip}
+use Rattle.log_rules.specs.Source.{SourceEntry}
+use Rattle.log_rules.specs.Steps.{StepsEntry}
+use Rattle.log_rules.specs.Walk.{WalkEntry}
+
+-- what is asked of an entry of the journal alone
+abbrev pub OnJournal : Part → Type 0 → Type 0
+OnJournal OfJournal rule = rule
+OnJournal _ rule = Unit {0}
+
+-- an entry behind these keeps each rule (kernel/power/suspend.c, kernel/power/main.c, drivers/base/power/main.c, drivers/base/power/wakeup.c)
+pub record KeepsEntry (m : Machine) (past : List Entry) (e : Entry) : Type 0 where
+  pub links : OnJournal (part_of e.kind) (KeepsLinks m (journal past) e.kind)
+  pub numbers : KeepsNumbers past e
+  pub attempts : OnJournal (part_of e.kind) (KeepsAttempts (journal past) e.kind)
+  pub reads : OnJournal (part_of e.kind) (KeepsReads m (journal past) e.now e.actor e.kind)
+  pub walk : WalkEntry m past e (part_of e.kind)
+  pub skip : OnJournal (part_of e.kind) (KeepsSkip m (journal past) e.now e.kind)
+  pub runtime : OnJournal (part_of e.kind) (KeepsRuntime m (journal past) e.kind)
+  pub owed : OnJournal (part_of e.kind) (KeepsOwed m (journal past) e.kind)
+  pub freezer : FreezerEntry m past e (part_of e.kind)
+  pub path : PathEntry m past e (part_of e.kind)
+  pub answers : OnJournal (part_of e.kind) (KeepsAnswers (journal past) e.kind)
+  pub restored : OnJournal (part_of e.kind) (KeepsRestored m (journal past) e.kind)
+  pub steps : StepsEntry m past e (part_of e.kind)
+  pub enabled : EnabledEntry m past e (part_of e.kind)
+  pub source : SourceEntry m past e (part_of e.kind)
+
+-- behind legal entries one more is legal exactly where it keeps each rule (kernel/power/suspend.c, kernel/power/main.c)
+pub record LegalIsKept (m : Machine) (past : List Entry) (e : Entry) : Type 0 where
+  pub keeps : IsLegal m (e ∷ past) → KeepsEntry m past e
+  pub legal : KeepsEntry m past e → IsLegal m (e ∷ past)
+
+-- so behind each legal list of entries, of whatever machine: what is legal is what keeps the rules (kernel/power/suspend.c, kernel/power/main.c)
+abbrev pub OneForEntries : Type 0
+OneForEntries = (m : Machine) (past : List Entry) (e : Entry) → IsLegal m past → LegalIsKept m past e
