@@ -11,6 +11,7 @@ use Rattle.sleep_model.specs.declared.place.Sleep.{Sleep}
 use Rattle.sleep_model.specs.declared.word.EventNow.{EventNow}
 use Rattle.sleep_model.specs.Attempt.{freeze_since, sleep_of}
 use Rattle.sleep_model.specs.Laws.{Owed, Restored}
+use Rattle.sleep_model.specs.Parts.{Part, OfJournal, OfTime}
 use Rattle.log_rules.specs.Answers.{KeepsAnswers}
 use Rattle.log_rules.specs.Enabled.{WakesBy}
 use Rattle.log_rules.specs.Freezer.{FreezeEnds}
@@ -40,6 +41,22 @@ pub itself : (d : Due) → OnlyMade (λ k. d ≡ Makes k) d
 itself (Makes k) = refl
 itself (Waits w) = tt
 itself Gone = tt
+
+-- nothing is due
+abbrev IsGone : Due → Type 0
+IsGone Gone = Unit {0}
+IsGone _ = ⊥
+
+pub gone : (k : Kind) → Gone ≡ Makes k → ⊥
+gone k e = subst IsGone e tt
+
+-- an entry of the journal is none of time
+abbrev IsOfJournal : Part → Type 0
+IsOfJournal OfJournal = Unit {0}
+IsOfJournal _ = ⊥
+
+pub journal_no_time : OfJournal ≡ OfTime → ⊥
+journal_no_time e = subst IsOfJournal e tt
 
 pub is_none : {A : Type 0} (o : Option A) → is_some o ≡ false → o ≡ None
 is_none None e = refl

@@ -36,7 +36,7 @@ use Rattle.log_rules.specs.Questions.{is_maker, row_at, row_now}
 use Rattle.log_rules.specs.Reads.{ReadsActor}
 use Rattle.log_rules.specs.Steps.{IsWalkStep, StepsOf}
 use Rattle.log_rules.proofs.Devices.{the_devices}
-use Rattle.log_rules.proofs.Facts.{never, only_is}
+use Rattle.log_rules.proofs.Facts.{never, only_is, gone}
 use Rattle.log_rules.proofs.Keeping.{row_back}
 use Rattle.log_rules.proofs.Making.{PhaseAnswers, RowKept, row_made}
 use Rattle.log_rules.proofs.Rows.{due_in_row, maker_due, comes, row_proper}
@@ -53,14 +53,6 @@ back m past now who k e h = rw e (maker_due m past now ∙ by_row (row_now m pas
     by_row (Some row) f i p s = row_back m past now row k i f p h.attempts h.walk h.skip h.freezer.1 h.answers h.enabled.1 s
 
 -- ---- what is due keeps all rules
-
--- nothing is due
-abbrev IsGone : Due → Type 0
-IsGone Gone = Unit {0}
-IsGone _ = ⊥
-
-gone : (k : Kind) → Gone ≡ Makes k → ⊥
-gone k e = subst IsGone e tt
 
 -- an entry of the journal that is no jump
 abbrev IsJournal : Kind → Type 0

@@ -25,23 +25,27 @@ abbrev pub OnJournal : Part → Type 0 → Type 0
 OnJournal OfJournal rule = rule
 OnJournal _ rule = Unit {0}
 
+-- an entry of that part behind these keeps each rule (kernel/power/suspend.c, kernel/power/main.c, drivers/base/power/main.c, drivers/base/power/wakeup.c)
+pub record KeepsPart (m : Machine) (past : List Entry) (e : Entry) (part : Part) : Type 0 where
+  pub links : OnJournal part (KeepsLinks m (journal past) e.kind)
+  pub numbers : KeepsNumbers past e part
+  pub attempts : OnJournal part (KeepsAttempts (journal past) e.kind)
+  pub reads : OnJournal part (KeepsReads m (journal past) e.now e.actor e.kind)
+  pub walk : WalkEntry m past e part
+  pub skip : OnJournal part (KeepsSkip m (journal past) e.now e.kind)
+  pub runtime : OnJournal part (KeepsRuntime m (journal past) e.kind)
+  pub owed : OnJournal part (KeepsOwed m (journal past) e.kind)
+  pub freezer : FreezerEntry m past e part
+  pub path : PathEntry m past e part
+  pub answers : OnJournal part (KeepsAnswers (journal past) e.kind)
+  pub restored : OnJournal part (KeepsRestored m (journal past) e.kind)
+  pub steps : StepsEntry m past e part
+  pub enabled : EnabledEntry m past e part
+  pub source : SourceEntry m past e part
+
 -- an entry behind these keeps each rule (kernel/power/suspend.c, kernel/power/main.c, drivers/base/power/main.c, drivers/base/power/wakeup.c)
-pub record KeepsEntry (m : Machine) (past : List Entry) (e : Entry) : Type 0 where
-  pub links : OnJournal (part_of e.kind) (KeepsLinks m (journal past) e.kind)
-  pub numbers : KeepsNumbers past e
-  pub attempts : OnJournal (part_of e.kind) (KeepsAttempts (journal past) e.kind)
-  pub reads : OnJournal (part_of e.kind) (KeepsReads m (journal past) e.now e.actor e.kind)
-  pub walk : WalkEntry m past e (part_of e.kind)
-  pub skip : OnJournal (part_of e.kind) (KeepsSkip m (journal past) e.now e.kind)
-  pub runtime : OnJournal (part_of e.kind) (KeepsRuntime m (journal past) e.kind)
-  pub owed : OnJournal (part_of e.kind) (KeepsOwed m (journal past) e.kind)
-  pub freezer : FreezerEntry m past e (part_of e.kind)
-  pub path : PathEntry m past e (part_of e.kind)
-  pub answers : OnJournal (part_of e.kind) (KeepsAnswers (journal past) e.kind)
-  pub restored : OnJournal (part_of e.kind) (KeepsRestored m (journal past) e.kind)
-  pub steps : StepsEntry m past e (part_of e.kind)
-  pub enabled : EnabledEntry m past e (part_of e.kind)
-  pub source : SourceEntry m past e (part_of e.kind)
+abbrev pub KeepsEntry : Machine → List Entry → Entry → Type 0
+KeepsEntry m past e = KeepsPart m past e (part_of e.kind)
 
 -- behind legal entries one more is legal exactly where it keeps each rule (kernel/power/suspend.c, kernel/power/main.c)
 pub record LegalIsKept (m : Machine) (past : List Entry) (e : Entry) : Type 0 where

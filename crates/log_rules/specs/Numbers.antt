@@ -3,8 +3,8 @@ use Rattle.std.specs.Prelude.{◌≡◌, List}
 use Rattle.sleep_model.specs.declared.entry.Entry.{Entry}
 use Rattle.sleep_model.specs.Legal.{IsOnTime}
 use Rattle.sleep_model.specs.Numbers.{numbers}
-use Rattle.sleep_model.specs.Parts.{part_of}
+use Rattle.sleep_model.specs.Parts.{Part}
 
 -- an entry carries the word and the time of its place; a jump carries a time of its own (combined_event_count)
-abbrev pub KeepsNumbers : List Entry → Entry → Type 0
-KeepsNumbers past e = (e.now ≡ numbers past) × IsOnTime past e.time (part_of e.kind)
+abbrev pub KeepsNumbers : List Entry → Entry → Part → Type 0
+KeepsNumbers past e part = (e.now ≡ numbers past) × IsOnTime past e.time part
