@@ -1,5 +1,5 @@
 -- One call at a time: an actor that is inside a call of a source made its last entry there.
-use Rattle.std.proofs.Common.{◌≡◌, ◌<◌, ◌≤◌, ◌+◌, ◌++◌, ◌∙◌, ℕ, zero, suc, Bool, true, false, ◌==◌, ◌&&◌, ◌||◌, nat_le, List, [], ◌∷◌, length, Option, Some, None, cond, refl, sym, ap, subst, arith, slice_get}
+use Rattle.std.proofs.Common.{◌≡◌, ◌<◌, ◌+◌, ◌++◌, ◌∙◌, ℕ, zero, suc, Bool, true, false, ◌==◌, ◌&&◌, ◌||◌, List, [], ◌∷◌, length, Option, Some, None, cond, refl, sym, ap, subst, arith, slice_get}
 use Rattle.std.proofs.lemmas.Bool.Decides.{nat_tests}
 use Rattle.std.specs.List.{list_all}
 use Rattle.sleep_model.specs.declared.entry.Actor.{Actor}
@@ -8,20 +8,17 @@ use Rattle.sleep_model.specs.declared.entry.Entry.{Entry}
 use Rattle.sleep_model.specs.declared.entry.Kind.{Kind}
 use Rattle.sleep_model.specs.declared.entry.Kind.TheVariants as kind
 use Rattle.sleep_model.specs.declared.machine.Machine.{Machine}
-use Rattle.sleep_model.specs.declared.machine.SourceCall.{SourceCall}
-use Rattle.sleep_model.specs.declared.machine.SourceCall.TheVariants as call
 use Rattle.sleep_model.specs.declared.word.EventNow.{EventNow}
-use Rattle.sleep_model.specs.declared.word.WordKind.{WordKind}
 use Rattle.sleep_model.specs.declared.place.Due.TheVariants.{Makes, Gone}
 use Rattle.sleep_model.specs.declared.place.Stage.{Stage}
 use Rattle.sleep_model.specs.Attempt.{attempt_due}
-use Rattle.sleep_model.specs.Calls.{calls_of, calls_behind, calls_due, ends_turn, is_calling, is_left, made, report_calls, turns_ended}
+use Rattle.sleep_model.specs.Calls.{calls_of, calls_behind, ends_turn, is_calling, is_left, made, report_calls, turns_ended}
 use Rattle.sleep_model.specs.Due.{due}
-use Rattle.sleep_model.specs.Legal.{IsLegal, HistoriesFit, JournalPart, JournalStep, JointPart, JointStep, IsOwnCall, SourcePart, OwnStep, is_behind, is_there}
+use Rattle.sleep_model.specs.Legal.{IsLegal, JournalPart, JournalStep, JointPart, JointStep, IsOwnCall, SourcePart, OwnStep, is_behind, is_there}
 use Rattle.sleep_model.specs.Numbers.{time_after, time_of}
 use Rattle.sleep_model.specs.Parts.{Part, OfJournal, Notes, Moves, OfTime, part_of, is_kept, journal}
 use Rattle.sleep_model.specs.Path.{attempts, maker, is_actor, is_same}
-use Rattle.sleep_model.specs.Sources.{history, is_of, owed, owed_after, caller, caller_after, since}
+use Rattle.sleep_model.specs.Sources.{history, is_of, owed, caller, caller_after}
 use Rattle.sleep_model.specs.Table.{stage_of}
 use Rattle.sleep_laws.proofs.Holding.{held, StageMaker}
 use Rattle.sleep_laws.proofs.Telling.{none≢some}
@@ -73,11 +70,11 @@ actor_same (actor.Timer s) (actor.Timer t) e = ap actor.Timer (same_number s t e
 actor_same actor.Time actor.Time e = refl
 actor_same _ _ e = never e
 
-and_left : (a b : Bool) → (a && b) ≡ true → a ≡ true
+pub and_left : (a b : Bool) → (a && b) ≡ true → a ≡ true
 and_left true b e = refl
 and_left false b e = never e
 
-and_right : (a b : Bool) → (a && b) ≡ true → b ≡ true
+pub and_right : (a b : Bool) → (a && b) ≡ true → b ≡ true
 and_right true b e = e
 and_right false b e = never e
 

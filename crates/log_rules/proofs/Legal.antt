@@ -1,30 +1,27 @@
 -- Legal lists of entries: one more is legal exactly where it keeps all rules.
-use Rattle.std.proofs.Common.{◌≡◌, ◌<◌, ◌+◌, ◌∙◌, ℕ, Bool, true, false, ◌&&◌, List, [], ◌∷◌, length, Option, Some, None, cond, refl, sym, ap, subst}
+use Rattle.std.proofs.Common.{◌≡◌, ◌<◌, ◌+◌, ◌∙◌, ℕ, suc, arith, nat_le, Bool, true, false, ◌&&◌, List, [], ◌∷◌, length, Some, cond, refl, sym, subst}
+use Rattle.std.proofs.lemmas.Bool.Decides.{nat_tests}
+use Rattle.std.specs.List.{list_all, range_with_len}
 use Rattle.sleep_model.specs.declared.entry.Actor.{Actor}
-use Rattle.sleep_model.specs.declared.entry.Actor.TheVariants as actor
 use Rattle.sleep_model.specs.declared.entry.Entry.{Entry}
 use Rattle.sleep_model.specs.declared.entry.Kind.{Kind}
 use Rattle.sleep_model.specs.declared.entry.Kind.TheVariants as kind
 use Rattle.sleep_model.specs.declared.machine.Machine.{Machine}
-use Rattle.sleep_model.specs.declared.place.Stage.{Stage}
 use Rattle.sleep_model.specs.declared.word.WordKind.{WordKind}
-use Rattle.sleep_model.specs.Calls.{calls_due, is_left, made}
-use Rattle.sleep_model.specs.Legal.{IsLegal, IsOwnTurn, IsOnTime, HistoriesFit, JournalPart, JournalStep, JointPart, JointStep, OwnStep, is_behind}
-use Rattle.sleep_model.specs.Numbers.{numbers, time_of}
+use Rattle.sleep_model.specs.Calls.{is_left}
+use Rattle.sleep_model.specs.Legal.{IsLegal, is_short, IsOwnTurn, IsOnTime, HistoriesFit, JournalPart, JournalStep, JointStep, OwnStep}
+use Rattle.sleep_model.specs.Numbers.{numbers}
 use Rattle.sleep_model.specs.Parts.{Part, OfJournal, Notes, Moves, OfTime, part_of, is_kept, journal}
-use Rattle.sleep_model.specs.Path.{maker, is_actor, is_same}
-use Rattle.sleep_model.specs.Sources.{history, owed, caller, IsNext}
+use Rattle.sleep_model.specs.Path.{maker}
+use Rattle.sleep_model.specs.Sources.{history, is_of, most_entries, owed, caller, IsNext}
 use Rattle.sleep_model.specs.Table.{stage_of}
-use Rattle.sleep_laws.proofs.Holding.{held, StageMaker}
+use Rattle.sleep_laws.proofs.Holding.{held}
 use Rattle.log_rules.specs.All.{KeepsAll}
-use Rattle.log_rules.specs.Entry.{KeepsPart, KeepsEntry, LegalIsKept, OneForEntries}
-use Rattle.log_rules.specs.Path.{PathOf, ReportsOf}
-use Rattle.log_rules.specs.Freezer.{ThawedActor}
+use Rattle.log_rules.specs.Entry.{KeepsPart, KeepsEach, OneForEntries, OneForLists}
+use Rattle.log_rules.specs.Path.{PathOf}
 use Rattle.log_rules.specs.Questions.{is_maker}
-use Rattle.log_rules.specs.Steps.{is_inside}
 use Rattle.log_rules.specs.Walk.{ReportsMade}
-use Rattle.log_rules.proofs.Facts.{never}
-use Rattle.log_rules.proofs.Inside.{JournalIf, grown, newest, inside_behind, behind_one, time_journal, time_makes_none, same_actor}
+use Rattle.log_rules.proofs.Inside.{JournalIf, grown, earlier, and_left, and_right, newest, inside_behind, behind_one, time_journal, time_makes_none, same_actor}
 use Rattle.log_rules.proofs.Makers.{all}
 use Rattle.log_rules.proofs.Quiet.{note_reports, note_thawed, step_thawed_actor}
 
@@ -208,3 +205,58 @@ entries m past e l = record {
   keeps = λ h. keeps m past e l (part_of e.kind) (pieces m past e h);
   legal = λ k. legal m past e l (makes m past e l (part_of e.kind) k);
 }
+
+-- ---- whole lists
+
+short_none : (xs : List ℕ) → list_all (is_short []) xs ≡ true
+short_none [] = refl
+short_none (x ∷ xs) = short_none xs
+
+first : (m : Machine) → IsLegal m []
+first m = record {
+  journal = tt;
+  sources = tt;
+  histories = record { there = refl; short = short_none (range_with_len 0 (length m.sources + 1)) };
+  placed = tt;
+  joint = tt;
+}
+
+less : (a n : ℕ) → nat_le (suc a) n ≡ true → nat_le a n ≡ true
+less a n h = grind (arith, nat_tests)
+
+shorter : (past : List Entry) (e : Entry) (s : ℕ) → is_short (e ∷ past) s ≡ true → is_short past s ≡ true
+shorter past e s h = by_source (is_of s (part_of e.kind)) h
+  where
+    by_source : (b : Bool) → nat_le (length (cond b (e ∷ history s past) (history s past))) most_entries ≡ true → nat_le (length (history s past)) most_entries ≡ true
+    by_source true h = less (length (history s past)) most_entries h
+    by_source false h = h
+
+all_shorter : (past : List Entry) (e : Entry) (xs : List ℕ) → list_all (is_short (e ∷ past)) xs ≡ true → list_all (is_short past) xs ≡ true
+all_shorter past e [] h = refl
+all_shorter past e (x ∷ xs) h = both (is_short past x) _ (shorter past e x (and_left (is_short (e ∷ past) x) _ h)) (all_shorter past e xs (and_right (is_short (e ∷ past) x) _ h))
+  where
+    both : (a b : Bool) → a ≡ true → b ≡ true → (a && b) ≡ true
+    both a b e f = rw (e, f) refl
+
+earlier_legal : (m : Machine) (past : List Entry) (e : Entry) → IsLegal m (e ∷ past) → IsLegal m past
+earlier_legal m past e h = record {
+  journal = (earlier m past e (grown m (e ∷ past) h)).in_journal;
+  sources = h.sources.1;
+  histories = record { there = (earlier m past e (grown m (e ∷ past) h)).there; short = all_shorter past e _ h.histories.short };
+  placed = h.placed.2;
+  joint = h.joint.1;
+}
+
+keeps_each : (m : Machine) (past : List Entry) → IsLegal m past → KeepsEach m past
+keeps_each m [] h = tt
+keeps_each m (e ∷ past) h =
+    let before : IsLegal m past = earlier_legal m past e h in
+    ((entries m past e before).keeps h, keeps_each m past before)
+
+each_legal : (m : Machine) (past : List Entry) → KeepsEach m past → IsLegal m past
+each_legal m [] k = first m
+each_legal m (e ∷ past) k = (entries m past e (each_legal m past k.1)).legal k.0
+
+-- a list of entries is legal exactly where each of them keeps each rule
+pub lists : OneForLists
+lists m past = record { keeps = keeps_each m past; legal = each_legal m past }

@@ -1,5 +1,5 @@
 -- Who makes an attempt has no call left outside of a callback, and a frozen task has none.
-use Rattle.std.proofs.Common.{◌≡◌, ◌+◌, ◌++◌, ◌∙◌, ◌⊎◌, inl, inr, ℕ, zero, suc, Bool, true, false, not, ◌==◌, ◌&&◌, ◌||◌, List, [], ◌∷◌, length, map, Option, Some, None, is_some, cond, refl, sym, ap, subst, arith, slice_get, slice_set, slice_index_or}
+use Rattle.std.proofs.Common.{◌≡◌, ◌+◌, ◌++◌, ◌∙◌, ◌⊎◌, inl, inr, ℕ, zero, suc, Bool, true, false, not, ◌==◌, ◌||◌, List, [], ◌∷◌, length, map, Option, Some, None, is_some, cond, refl, sym, ap, subst, arith, slice_get, slice_set}
 use Rattle.std.proofs.lemmas.Bool.Decides.{nat_tests}
 use Rattle.sleep_model.specs.declared.entry.Actor.{Actor}
 use Rattle.sleep_model.specs.declared.entry.Actor.TheVariants as actor
@@ -21,11 +21,11 @@ use Rattle.sleep_model.specs.declared.place.Stage.{Stage}
 use Rattle.sleep_model.specs.declared.place.Work.{Work}
 use Rattle.sleep_model.specs.declared.word.EventNow.{EventNow}
 use Rattle.sleep_model.specs.declared.word.WordKind.{WordKind}
-use Rattle.sleep_model.specs.Calls.{calls_of, calls_behind, calls_due, ends_turn, is_note_of, made, notes_of, one_more, report_calls, turns_ended}
+use Rattle.sleep_model.specs.Calls.{calls_of, calls_due, ends_turn, is_note_of, made, notes_of, report_calls}
 use Rattle.sleep_model.specs.Attempt.{failed}
 use Rattle.sleep_model.specs.Devices.{callback, callback_after, is_device}
-use Rattle.sleep_model.specs.Freezer.{all_asked, all_let_go, asked_by, freezing, freezing_at, freezings, freezings_after, is_in, is_task, let_go, unasked}
-use Rattle.sleep_model.specs.Legal.{IsLegal, IsOwnCall, JournalPart, JournalStep, JointStep, is_behind}
+use Rattle.sleep_model.specs.Freezer.{all_asked, all_let_go, freezing, freezing_at, freezings, freezings_after, is_in, is_task, let_go, unasked}
+use Rattle.sleep_model.specs.Legal.{IsOwnCall, JournalPart, JournalStep, JointStep, is_behind}
 use Rattle.sleep_model.specs.Parts.{Part, OfJournal, Notes, Moves, OfTime, part_of, is_kept, journal}
 use Rattle.sleep_model.specs.Path.{attempts, maker, maker_after, is_actor, is_same}
 use Rattle.sleep_model.specs.Sources.{history, is_of}
@@ -41,7 +41,7 @@ use Rattle.log_rules.specs.Path.{ReportsOf}
 use Rattle.log_rules.specs.Questions.{is_maker}
 use Rattle.log_rules.proofs.Facts.{never, journal_no_time}
 use Rattle.log_rules.proofs.Makers.{all}
-use Rattle.log_rules.proofs.Inside.{Grown, grown, earlier, actor_same, same_actor, time_makes_none}
+use Rattle.log_rules.proofs.Inside.{Grown, earlier, actor_same, same_actor, time_makes_none}
 
 -- ---- calls that are made and owed
 
@@ -347,9 +347,10 @@ frozen_rests m (e ∷ past) g i x f = by_part (part_of e.kind) refl (frozen_rest
             let says : e.kind ≡ kind.Frozen = own_frozen m (journal past) e.time e.now e.actor e.kind i (entry_made m (journal past) e j) own j x f in
             let even : Even m past (actor.Script i) = subst (λ (y : Actor). made (length m.sources + 1) (λ s. history s past) y ≡ calls_due m y (journal past)) own t.0 in
             let reports : report_calls m (attempts (journal past)) e.kind ≡ [] = subst (λ (y : Kind). report_calls m (attempts (journal past)) y ≡ []) (sym says) refl in
-            let turns : ends_turn e.kind ≡ false = subst (λ (y : Kind). ends_turn y ≡ false) (sym says) refl in
-            (made_other (length m.sources + 1) e past (actor.Script i) (no_note_kept e (actor.Script i) (part_of e.kind) (ap is_kept q)) ∙ even ∙ sym (calls_quiet m e (journal past) (actor.Script i) s reports turns),
-            λ z. rw s (ap (is_of z) q))
+            let turns : ends_turn e.kind ≡ false = subst (λ (y : Kind). ends_turn y ≡ false) (sym says) refl in (
+              made_other (length m.sources + 1) e past (actor.Script i) (no_note_kept e (actor.Script i) (part_of e.kind) (ap is_kept q)) ∙ even ∙ sym (calls_quiet m e (journal past) (actor.Script i) s reports turns),
+              λ z. rw s (ap (is_of z) q),
+            )
         by_actor true s OfTime q k t = absurd (subst IsTask (sym (actor_same e.actor (actor.Script i) s) ∙ (subst (JournalStep m (journal past) e) q j.0).0) tt)
         by_actor true s (Notes u v) q k t = never k
         by_actor true s (Moves u v) q k t = never k

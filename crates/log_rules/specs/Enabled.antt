@@ -16,7 +16,7 @@ use Rattle.sleep_model.specs.Tasks.{is_line}
 use Rattle.log_rules.specs.Questions.{is_maker}
 use Rattle.sleep_model.specs.Legal.{JumpStep}
 use Rattle.sleep_model.specs.Numbers.{numbers, time_of}
-use Rattle.sleep_model.specs.Parts.{Part, OfJournal, Notes, Moves, OfTime, journal}
+use Rattle.sleep_model.specs.Parts.{Part, OfJournal, OfTime, journal}
 use Rattle.sleep_model.specs.Sources.{history}
 
 -- a task makes nothing while the machine sleeps, unless it is an interrupt line (own)

@@ -1,5 +1,5 @@
 -- All rules of an entry among all entries: of the journal, of a source, or a jump of time.
-use Rattle.std.specs.Prelude.{List, ◌∷◌}
+use Rattle.std.specs.Prelude.{List, [], ◌∷◌}
 use Rattle.sleep_model.specs.declared.entry.Entry.{Entry}
 use Rattle.sleep_model.specs.declared.machine.Machine.{Machine}
 use Rattle.sleep_model.specs.Legal.{IsLegal}
@@ -55,3 +55,17 @@ pub record LegalIsKept (m : Machine) (past : List Entry) (e : Entry) : Type 0 wh
 -- so behind each legal list of entries, of whatever machine: what is legal is what keeps the rules (kernel/power/suspend.c, kernel/power/main.c)
 abbrev pub OneForEntries : Type 0
 OneForEntries = (m : Machine) (past : List Entry) (e : Entry) → IsLegal m past → LegalIsKept m past e
+
+-- each entry, the newest first, keeps each rule where it stands
+abbrev pub KeepsEach : Machine → List Entry → Type 0
+KeepsEach m [] = Unit {0}
+KeepsEach m (e ∷ past) = KeepsEntry m past e × KeepsEach m past
+
+-- a list of entries is legal exactly where each of them keeps each rule (kernel/power/suspend.c, kernel/power/main.c)
+pub record LegalIsKeptThroughout (m : Machine) (past : List Entry) : Type 0 where
+  pub keeps : IsLegal m past → KeepsEach m past
+  pub legal : KeepsEach m past → IsLegal m past
+
+-- so for every machine and every list of entries (kernel/power/suspend.c, kernel/power/main.c)
+abbrev pub OneForLists : Type 0
+OneForLists = (m : Machine) (past : List Entry) → LegalIsKeptThroughout m past

@@ -15,7 +15,7 @@ use Rattle.sleep_model.specs.Attempt.{froze_due, freeze_since}
 use Rattle.sleep_model.specs.Freezer.{freezing, left}
 use Rattle.sleep_model.specs.Tasks.{is_user, freezes_at}
 use Rattle.log_rules.specs.Questions.{is_maker, seat_of, op_of}
-use Rattle.sleep_model.specs.Parts.{Part, OfJournal, Notes, Moves, OfTime, journal}
+use Rattle.sleep_model.specs.Parts.{Part, OfJournal, OfTime, journal}
 
 -- a frozen task makes nothing; one that is asked says at a freeze point that it freezes, and nothing else; nobody else says so (try_to_freeze, __refrigerator)
 abbrev pub FreezesBy : Freezing → Bool → Kind → Type 0

@@ -16,7 +16,7 @@ use Rattle.sleep_model.specs.Guard.{pending}
 use Rattle.sleep_model.specs.Notifiers.{next_called, next_posted, next_cpu_off, next_cpu_on, next_stopped, next_started}
 use Rattle.log_rules.specs.Questions.{is_maker, row_now}
 use Rattle.sleep_model.specs.Devices.{callback}
-use Rattle.sleep_model.specs.Parts.{Part, OfJournal, Notes, Moves, OfTime, journal}
+use Rattle.sleep_model.specs.Parts.{Part, Notes, Moves, journal}
 
 -- an entry of a phase on the devices' way down (dpm_suspend)
 abbrev pub IsOfDown : Phase → Kind → Type 0

@@ -3,7 +3,7 @@ use Rattle.std.specs.Prelude.{List, ◌∷◌}
 use Rattle.sleep_model.specs.declared.entry.Entry.{Entry}
 use Rattle.sleep_model.specs.declared.machine.Machine.{Machine}
 use Rattle.sleep_model.specs.Legal.{OwnStep, HistoriesFit}
-use Rattle.sleep_model.specs.Parts.{Part, OfJournal, Notes, Moves, OfTime}
+use Rattle.sleep_model.specs.Parts.{Part, Moves}
 use Rattle.sleep_model.specs.Sources.{history, owed, IsNext}
 
 -- a note begins a call where the source's last one owes nothing, an expiry only where it is due; a step is the one that is owed next (wakeup_source_report_event, pm_wakeup_timer_fn)

@@ -24,7 +24,7 @@ use Rattle.sleep_model.specs.declared.entry.Actor.TheVariants as actor
 use Rattle.sleep_model.specs.declared.place.AsyncWork.{AsyncWork}
 use Rattle.sleep_model.specs.declared.place.AsyncWork.TheVariants.{Inside}
 use Rattle.sleep_model.specs.Legal.{IsOwnTurn, IsOwnCall}
-use Rattle.sleep_model.specs.Parts.{Part, OfJournal, Notes, Moves, OfTime, journal}
+use Rattle.sleep_model.specs.Parts.{Part, OfJournal, Notes, journal}
 use Rattle.sleep_model.specs.Sources.{history}
 use Rattle.log_rules.specs.Questions.{is_maker}
 

@@ -1,6 +1,6 @@
-//! The law: an entry of the journal is due of its actor exactly where it keeps all rules. Behind a legal
-//! journal what is due keeps them, and behind any entries at all what keeps them is due.
+//! The law: an entry is legal, and one of the journal due of its actor, exactly where it keeps all rules.
 
+ghost use Rattle.log_rules.specs.Entry.{OneForEntries, OneForLists};
 ghost use Rattle.log_rules.specs.Law.{OneForAll, OneForDevices, OneForMakers, OneForScripts, OneForWork};
 
 /// Outside attempts of its own a script makes an entry that is due of it exactly where that entry keeps all
@@ -39,4 +39,20 @@ pub fn makers_keep_rules()
 #[tactic(auto, using(crate::proofs::Makers::all))]
 pub fn entries_keep_rules()
     ensures { OneForAll }
+{}
+
+/// Behind every legal list of entries, of whatever machine, one more entry is legal exactly where it keeps
+/// each rule: an entry of the journal, a call on a wakeup source and each of its steps on the word, and a
+/// jump of time (`kernel/power/suspend.c`, `kernel/power/main.c`, `drivers/base/power/main.c`,
+/// `drivers/base/power/wakeup.c`).
+#[tactic(auto, using(crate::proofs::Legal::entries))]
+pub fn legal_entries_keep_rules()
+    ensures { OneForEntries }
+{}
+
+/// Every list of entries, of whatever machine, is legal exactly where each of its entries keeps each rule
+/// where it stands.
+#[tactic(auto, using(crate::proofs::Legal::lists))]
+pub fn legal_lists_keep_rules()
+    ensures { OneForLists }
 {}
