@@ -4,7 +4,7 @@ Written from crates/log_rules/specs, a function a definition; each has the numbe
 """
 
 from .limits import FREEZE_MS, MOST_ENTRIES, NAP_MS
-from .place import DOWN, UP, Place, is_good, is_mem, note_of
+from .place import DOWN, UP, Entry, Place, is_good, is_mem
 
 LINKS, NUMBERS, ATTEMPTS, READS, WALK, SKIP, RUNTIME = 2, 4, 7, 8, 9, 10, 11
 OWED, FREEZER, PATH, ANSWERS, RESTORED, STEPS, ENABLED, SOURCE = 12, 13, 14, 15, 16, 17, 18, 22
@@ -467,8 +467,6 @@ class Kept(Place):
         return any(self.left.get(who) or any(self.breaks_none(who, w) for w in self.could(who)) for who in actors)
 
     def breaks_none(self, who, w):
-        from .place import Entry
-
         return not self.breaks(Entry(f"{self.time} {self.inpr}/{self.count}/{self.hard} {who} {w}"))
 
     def could(self, who):
