@@ -9,6 +9,7 @@ from .place import DOWN, UP, Entry, Place, is_good, is_mem
 LINKS, NUMBERS, ATTEMPTS, READS, WALK, SKIP, RUNTIME = 2, 4, 7, 8, 9, 10, 11
 OWED, FREEZER, PATH, ANSWERS, RESTORED, STEPS, ENABLED, SOURCE = 12, 13, 14, 15, 16, 17, 18, 22
 TESTED = ("suspend", "late")
+OF_ATTEMPTS = "over notify freeze froze thaw platform prepare complete schedule done cpu irqs syscore enter wake clear".split()
 UNDOES = {"end": "begin", "finish": "prepare", "wake": "prepare_late"}
 
 
@@ -354,7 +355,8 @@ class Kept(Place):
         if self.left.get(e.who):
             return False
         if self.is_maker(e):
-            return e.verb not in ("begin", "end", "skip") or not self.is_async(e.words[2])
+            walks = e.verb in ("begin", "end", "skip")
+            return not self.is_async(e.words[2]) if walks else e.verb in OF_ATTEMPTS
         if e.who in self.seats:
             return self.is_step(self.seats[e.who], e.words)
         if e.who == "auto":

@@ -26,7 +26,7 @@ use Rattle.log_rules.specs.Freezer.{FreezeEnds}
 use Rattle.log_rules.specs.Path.{IsOfRow, IsOfDown, IsOfUp}
 use Rattle.log_rules.specs.Questions.{row_now, turn_of}
 use Rattle.log_rules.specs.Skip.{KeepsSkip, IsTurn, IsNextDown}
-use Rattle.log_rules.specs.Steps.{IsWalkStep}
+use Rattle.log_rules.specs.Steps.{IsMakerStep}
 use Rattle.log_rules.specs.Walk.{KeepsWalk, PreparesAt, CompletesAt, SchedulesAt, BeginsAt, BeginsBy, IsInside, EndsAt, EndsBy, is_through, DoneAt}
 use Rattle.log_rules.proofs.Facts.{never}
 
@@ -73,7 +73,7 @@ done_down m past now p None None w h = rw w refl
 done_down m past now p None (Some d) w h = never h
 done_down m past now p (Some r) next w h = rw w refl
 
-down_back : (m : Machine) (past : List Entry) (now : EventNow) (p : Phase) (k : Kind) → Down p → row_now m past ≡ Some (stage.Downs p) → IsOfDown p k → KeepsWalk m past now k → KeepsSkip m past now k → KeepsAnswers past k → IsWalkStep m k → down_due m past now p (callback past) ≡ Makes k
+down_back : (m : Machine) (past : List Entry) (now : EventNow) (p : Phase) (k : Kind) → Down p → row_now m past ≡ Some (stage.Downs p) → IsOfDown p k → KeepsWalk m past now k → KeepsSkip m past now k → KeepsAnswers past k → IsMakerStep m k → down_due m past now p (callback past) ≡ Makes k
 down_back m past now p (kind.Schedule q d) i e o w s n b =
     let h : SchedulesAt m past q d (Some (stage.Downs p)) = subst (SchedulesAt m past q d) e w in
     rw (h.1) (rw (h.2) (rw (h.3) (rw (h.4) (rw (h.0) refl))))
@@ -101,7 +101,7 @@ end_up : (m : Machine) (past : List Entry) (p : Phase) (d : ℕ) (o : Option Cal
 end_up m past p d None h = absurd h
 end_up m past p d (Some c) h = rw h refl
 
-up_back : (m : Machine) (past : List Entry) (now : EventNow) (p : Phase) (k : Kind) → Up p → row_now m past ≡ Some (stage.Ups p) → IsOfUp p k → KeepsWalk m past now k → KeepsAnswers past k → IsWalkStep m k → up_due m past p (callback past) ≡ Makes k
+up_back : (m : Machine) (past : List Entry) (now : EventNow) (p : Phase) (k : Kind) → Up p → row_now m past ≡ Some (stage.Ups p) → IsOfUp p k → KeepsWalk m past now k → KeepsAnswers past k → IsMakerStep m k → up_due m past p (callback past) ≡ Makes k
 up_back m past now p (kind.Schedule q d) i e o w n b =
     let h : SchedulesAt m past q d (Some (stage.Ups p)) = subst (SchedulesAt m past q d) e w in
     rw (h.1) (rw (h.2) (rw (h.0) refl))
@@ -120,7 +120,7 @@ up_back m past now p _ i e o w n b = absurd o
 
 -- ---- all rows
 
-pub row_back : (m : Machine) (past : List Entry) (now : EventNow) (s : Stage) (k : Kind) → Proper s → row_now m past ≡ Some s → IsOfRow m past now s k → KeepsAttempts past k → KeepsWalk m past now k → KeepsSkip m past now k → FreezeEnds m past now (freeze_since past) k → KeepsAnswers past k → WakesBy m past now (sleep_of past) k → IsWalkStep m k → stage_due m past now s ≡ Makes k
+pub row_back : (m : Machine) (past : List Entry) (now : EventNow) (s : Stage) (k : Kind) → Proper s → row_now m past ≡ Some s → IsOfRow m past now s k → KeepsAttempts past k → KeepsWalk m past now k → KeepsSkip m past now k → FreezeEnds m past now (freeze_since past) k → KeepsAnswers past k → WakesBy m past now (sleep_of past) k → IsMakerStep m k → stage_due m past now s ≡ Makes k
 row_back m past now stage.Notifies (kind.NotifyPrepare x r) i e o a w s f n z b = rw (o.0, o.1) refl
 row_back m past now (stage.Freezes g) (kind.Freeze h) i e o a w s f n z b = rw (o.0, o.1) refl
 row_back m past now (stage.Freezes g) (kind.Froze h end) i e o a w s f n z b =

@@ -33,7 +33,7 @@ use Rattle.log_rules.specs.Law.{IsDue, AreOne, OneForMakers, OneForAll}
 use Rattle.log_rules.specs.Path.{IsOfRow, IsOfRowIf, PathOf}
 use Rattle.log_rules.specs.Questions.{is_maker, row_at, row_now}
 use Rattle.log_rules.specs.Reads.{ReadsActor}
-use Rattle.log_rules.specs.Steps.{IsWalkStep, StepsOf}
+use Rattle.log_rules.specs.Steps.{IsMakerStep, StepsOf}
 use Rattle.log_rules.proofs.Devices.{the_devices}
 use Rattle.log_rules.proofs.Facts.{never, only_is, gone}
 use Rattle.log_rules.proofs.Keeping.{row_back}
@@ -47,7 +47,7 @@ use Rattle.log_rules.proofs.Work.{the_work}
 back : (m : Machine) (past : List Entry) (now : EventNow) (who : Actor) (k : Kind) → is_maker past who ≡ true → KeepsAll m past now who k → IsDue m past now who k
 back m past now who k e h = rw e (maker_due m past now ∙ by_row (row_now m past) refl (row_proper m past) (subst (λ (b : Bool). PathOf m past now b k) e h.path) (subst (λ (b : Bool). StepsOf m past now who b k) e h.steps))
   where
-    by_row : (o : Option Stage) → row_now m past ≡ o → ProperIf o → IsOfRowIf m past now o k → IsWalkStep m k → due_in_row m past now o ≡ Makes k
+    by_row : (o : Option Stage) → row_now m past ≡ o → ProperIf o → IsOfRowIf m past now o k → IsMakerStep m k → due_in_row m past now o ≡ Makes k
     by_row None f i p s = absurd p
     by_row (Some row) f i p s = row_back m past now row k i f p h.attempts h.walk h.skip h.freezer.1 h.answers h.enabled.1 s
 
@@ -105,7 +105,7 @@ no_sleep : (m : Machine) (past : List Entry) (who : Actor) → AwakeActor m past
 no_sleep m past (actor.Script i) = tt
 no_sleep m past _ = tt
 
-walk_step : (m : Machine) (past : List Entry) (now : EventNow) (who : Actor) (k : Kind) → IsWalkStep m k → StepsOf m past now who true k
+walk_step : (m : Machine) (past : List Entry) (now : EventNow) (who : Actor) (k : Kind) → IsMakerStep m k → StepsOf m past now who true k
 walk_step m past now (actor.Script i) k h = h
 walk_step m past now _ k h = h
 

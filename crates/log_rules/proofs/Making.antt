@@ -45,7 +45,7 @@ use Rattle.log_rules.specs.Path.{IsOfRow}
 use Rattle.log_rules.specs.Questions.{row_now, turn_of}
 use Rattle.log_rules.specs.Runtime.{KeepsRuntime}
 use Rattle.log_rules.specs.Skip.{KeepsSkip, IsTurn, IsNextDown}
-use Rattle.log_rules.specs.Steps.{IsWalkStep}
+use Rattle.log_rules.specs.Steps.{IsMakerStep}
 use Rattle.log_rules.specs.Walk.{KeepsWalk, PreparesAt, CompletesAt, SchedulesAt, BeginsAt, BeginsBy, IsNextUp, EndsAt, EndsBy, is_through, DoneAt}
 use Rattle.log_rules.proofs.Facts.{never, only_if, NoFroze, NoWake, freeze_else, wake_else}
 use Rattle.log_rules.proofs.Keeping.{down_answer, up_answer}
@@ -65,13 +65,13 @@ pub record RowKept (m : Machine) (past : List Entry) (now : EventNow) (s : Stage
   pub freeze : FreezeEnds m past now (freeze_since past) k
   pub wakes : WakesBy m past now (sleep_of past) k
   pub answers : PhaseAnswers past k
-  pub beside : IsWalkStep m k
+  pub beside : IsMakerStep m k
   pub runtime : KeepsRuntime m past k
   pub links : KeepsLinks m past k
 
 module _ (m : Machine) (past : List Entry) (now : EventNow) where
   -- a row of which the table alone speaks
-  row : (s : Stage) (k : Kind) → IsOfRow m past now s k → KeepsAttempts past k → KeepsWalk m past now k → KeepsSkip m past now k → NoFroze k → NoWake k → PhaseAnswers past k → IsWalkStep m k → KeepsRuntime m past k → KeepsLinks m past k → RowKept m past now s k
+  row : (s : Stage) (k : Kind) → IsOfRow m past now s k → KeepsAttempts past k → KeepsWalk m past now k → KeepsSkip m past now k → NoFroze k → NoWake k → PhaseAnswers past k → IsMakerStep m k → KeepsRuntime m past k → KeepsLinks m past k → RowKept m past now s k
   row s k o a w q f z n b u l = record {
     of_row = o;
     attempts = a;

@@ -120,18 +120,40 @@ IsDeviceStep d (Scheduled p) (kind.Skip q e cause) = (e ≡ d) × (q ≡ p)
 IsDeviceStep d (Inside p) (kind.End q e r) = (e ≡ d) × (q ≡ p)
 IsDeviceStep d _ _ = ⊥
 
--- the walk itself begins, ends and passes over synchronous devices alone (dpm_async_fn)
-abbrev pub IsWalkStep : Machine → Kind → Type 0
-IsWalkStep m (kind.Begin p d) = is_async_device m d ≡ false
-IsWalkStep m (kind.End p d r) = is_async_device m d ≡ false
-IsWalkStep m (kind.Skip p d cause) = is_async_device m d ≡ false
-IsWalkStep m _ = Unit {0}
+-- an entry of an attempt, whose walk itself begins, ends and passes over synchronous devices alone (enter_state, suspend_devices_and_enter, suspend_enter, dpm_async_fn)
+abbrev pub IsMakerStep : Machine → Kind → Type 0
+IsMakerStep m (kind.Begin p d) = is_async_device m d ≡ false
+IsMakerStep m (kind.End p d r) = is_async_device m d ≡ false
+IsMakerStep m (kind.Skip p d cause) = is_async_device m d ≡ false
+IsMakerStep m (kind.Over n r) = Unit {0}
+IsMakerStep m (kind.NotifyPrepare x r) = Unit {0}
+IsMakerStep m (kind.NotifyPost x) = Unit {0}
+IsMakerStep m (kind.Freeze g) = Unit {0}
+IsMakerStep m (kind.Froze g end) = Unit {0}
+IsMakerStep m (kind.Thaw those) = Unit {0}
+IsMakerStep m (kind.PlatformDo step r) = Unit {0}
+IsMakerStep m (kind.PlatformUndo step) = Unit {0}
+IsMakerStep m (kind.Prepare d r) = Unit {0}
+IsMakerStep m (kind.Complete d) = Unit {0}
+IsMakerStep m (kind.Schedule p d) = Unit {0}
+IsMakerStep m (kind.Done p r) = Unit {0}
+IsMakerStep m (kind.CpuOff x) = Unit {0}
+IsMakerStep m (kind.CpuBusy x) = Unit {0}
+IsMakerStep m (kind.CpuOn x) = Unit {0}
+IsMakerStep m (kind.Irqs on) = Unit {0}
+IsMakerStep m (kind.SyscoreCheck r) = Unit {0}
+IsMakerStep m (kind.SyscoreSuspend x r) = Unit {0}
+IsMakerStep m (kind.SyscoreResume x) = Unit {0}
+IsMakerStep m (kind.Enter busy) = Unit {0}
+IsMakerStep m (kind.Wake by_event) = Unit {0}
+IsMakerStep m kind.Clear = Unit {0}
+IsMakerStep m _ = ⊥
 
 -- ---- all
 
 -- an entry of an actor that makes the open attempt, or of its own steps: timers and time make none of the journal (own)
 abbrev pub StepsOf : Machine → List Entry → EventNow → Actor → Bool → Kind → Type 0
-StepsOf m past now who true k = IsWalkStep m k
+StepsOf m past now who true k = IsMakerStep m k
 StepsOf m past now (actor.Script i) false k = IsScriptStep m past (seat_of m past i) (op_of m past i) (slice_get m.actors i) k
 StepsOf m past now actor.Auto false k = IsWorkStep m past now (work past) k
 StepsOf m past now (actor.Dev d) false k = IsDeviceStep d (async_work m past d) k
