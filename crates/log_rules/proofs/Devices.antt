@@ -23,7 +23,7 @@ use Rattle.sleep_model.specs.Path.{maker, is_actor}
 use Rattle.sleep_laws.proofs.DevicesStand.{all_owed}
 use Rattle.sleep_laws.proofs.Made.{Down, InSuspend, InLate, InNoirq, Up, InResume, InEarly, InResumeNoirq, ScheduledAt, DeviceMade, EntryMade, ByMaker, ByTask, ByWork, ByDevice, ByTime}
 use Rattle.sleep_laws.proofs.MakingOwn.{made}
-use Rattle.log_rules.specs.All.{KeepsAll}
+use Rattle.log_rules.specs.All.{KeepsAll, KeepsMost}
 use Rattle.log_rules.specs.Answers.{KeepsAnswers}
 use Rattle.log_rules.specs.Attempts.{KeepsAttempts}
 use Rattle.log_rules.specs.Links.{KeepsLinks}
@@ -74,7 +74,7 @@ device_back m past now d (Inside p) (kind.End q e r) a wk sk s =
     ap (λ x. Makes (kind.End p d x)) (sym here.1) ∙ ap Makes (sym same)
 device_back m past now d _ _ a wk sk s = absurd s
 
-back : (m : Machine) (past : List Entry) (now : EventNow) (d : ℕ) (k : Kind) → is_maker past (actor.Dev d) ≡ false → KeepsAll m past now (actor.Dev d) k → IsDue m past now (actor.Dev d) k
+back : (m : Machine) (past : List Entry) (now : EventNow) (d : ℕ) (k : Kind) → is_maker past (actor.Dev d) ≡ false → KeepsMost m past now (actor.Dev d) k → IsDue m past now (actor.Dev d) k
 back m past now d k e h = rw e (device_back m past now d (async_work m past d) k refl h.walk h.skip (subst (λ (b : Bool). StepsOf m past now (actor.Dev d) b k) e h.steps))
 
 -- ---- what is due keeps all rules

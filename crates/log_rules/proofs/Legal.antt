@@ -16,7 +16,7 @@ use Rattle.sleep_model.specs.Path.{maker}
 use Rattle.sleep_model.specs.Sources.{history, is_of, most_entries, owed, caller, IsNext}
 use Rattle.sleep_model.specs.Table.{stage_of}
 use Rattle.sleep_laws.proofs.Holding.{held}
-use Rattle.log_rules.specs.All.{KeepsAll}
+use Rattle.log_rules.specs.All.{KeepsAll, KeepsMost}
 use Rattle.log_rules.specs.Entry.{KeepsPart, KeepsEach, OneForEntries, OneForLists}
 use Rattle.log_rules.specs.Path.{PathOf}
 use Rattle.log_rules.specs.Questions.{is_maker}
@@ -148,18 +148,16 @@ module _ (m : Machine) (past : List Entry) (e : Entry) where
 
   makes : IsLegal m past → (p : Part) → KeepsPart m past e p → Pieces m past e p
   makes l OfJournal k =
-      let kept : KeepsAll m (journal past) e.now e.actor e.kind = record {
+      let kept : KeepsMost m (journal past) e.now e.actor e.kind = record {
         links = k.links;
         attempts = k.attempts;
         reads = k.reads;
         walk = k.walk.0;
         skip = k.skip;
         runtime = k.runtime;
-        owed = k.owed;
         freezer = k.freezer;
         path = k.path;
         answers = k.answers;
-        restored = k.restored;
         steps = k.steps.0;
         enabled = k.enabled;
       } in

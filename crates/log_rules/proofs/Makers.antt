@@ -25,11 +25,11 @@ use Rattle.sleep_laws.proofs.DevicesStand.{all_owed, all_restored}
 use Rattle.sleep_laws.proofs.Making.{ProperIf}
 use Rattle.sleep_laws.proofs.Passing.{standing, standing_made}
 use Rattle.sleep_laws.proofs.Standing.{CallIf, Standing}
-use Rattle.log_rules.specs.All.{KeepsAll}
+use Rattle.log_rules.specs.All.{KeepsAll, KeepsMost}
 use Rattle.log_rules.specs.Answers.{KeepsAnswers}
 use Rattle.log_rules.specs.Enabled.{AwakeActor}
 use Rattle.log_rules.specs.Freezer.{FreezesActor}
-use Rattle.log_rules.specs.Law.{IsDue, AreOne, OneForMakers, OneForAll}
+use Rattle.log_rules.specs.Law.{IsDue, AreOne, OneForMakers, OneForAll, OwedFollows}
 use Rattle.log_rules.specs.Path.{IsOfRow, IsOfRowIf, PathOf}
 use Rattle.log_rules.specs.Questions.{is_maker, row_at, row_now}
 use Rattle.log_rules.specs.Reads.{ReadsActor}
@@ -44,7 +44,7 @@ use Rattle.log_rules.proofs.Work.{the_work}
 
 -- ---- what keeps all rules is due
 
-back : (m : Machine) (past : List Entry) (now : EventNow) (who : Actor) (k : Kind) → is_maker past who ≡ true → KeepsAll m past now who k → IsDue m past now who k
+back : (m : Machine) (past : List Entry) (now : EventNow) (who : Actor) (k : Kind) → is_maker past who ≡ true → KeepsMost m past now who k → IsDue m past now who k
 back m past now who k e h = rw e (maker_due m past now ∙ by_row (row_now m past) refl (row_proper m past) (subst (λ (b : Bool). PathOf m past now b k) e h.path) (subst (λ (b : Bool). StepsOf m past now who b k) e h.steps))
   where
     by_row : (o : Option Stage) → row_now m past ≡ o → ProperIf o → IsOfRowIf m past now o k → IsMakerStep m k → due_in_row m past now o ≡ Makes k
@@ -159,7 +159,7 @@ the_makers m past now who k e = record { keeps = forth m past now who k e; makes
 -- ---- all
 
 -- timers and time make nothing of the journal of their own
-none_makes : (m : Machine) (past : List Entry) (now : EventNow) (who : Actor) (k : Kind) → is_maker past who ≡ false → own_due m past who now ≡ Gone → (KeepsAll m past now who k → ⊥) → AreOne m past now who k
+none_makes : (m : Machine) (past : List Entry) (now : EventNow) (who : Actor) (k : Kind) → is_maker past who ≡ false → own_due m past who now ≡ Gone → (KeepsMost m past now who k → ⊥) → AreOne m past now who k
 none_makes m past now who k e g n = record {
   keeps = λ j d. absurd (gone k (sym g ∙ subst (λ (b : Bool). cond b (attempt_due m past now) (own_due m past who now) ≡ Makes k) e d));
   makes = λ h. absurd (n h);
@@ -176,3 +176,9 @@ all m past now who k = by_role who (is_maker past who) refl
     by_role (actor.Dev d) false e = the_devices m past now d k e
     by_role (actor.Timer s) false e = none_makes m past now (actor.Timer s) k e refl (λ h. subst (λ (b : Bool). StepsOf m past now (actor.Timer s) b k) e h.steps)
     by_role actor.Time false e = none_makes m past now actor.Time k e refl (λ h. subst (λ (b : Bool). StepsOf m past now actor.Time b k) e h.steps)
+
+-- what is owed, and what is restored, follow from the other rules
+pub owed_follows : OwedFollows
+owed_follows m past now who k j h =
+    let kept : KeepsAll m past now who k = (all m past now who k).keeps j ((all m past now who k).makes h) in
+    (kept.owed, kept.restored)

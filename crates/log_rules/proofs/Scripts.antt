@@ -29,7 +29,7 @@ use Rattle.sleep_model.specs.Word.{visible}
 use Rattle.sleep_model.specs.Tasks.{is_mem, is_off, is_line, is_user, freezes_at}
 use Rattle.sleep_laws.proofs.Holding.{held, HolderOf}
 use Rattle.sleep_laws.proofs.Making.{OnlyMade}
-use Rattle.log_rules.specs.All.{KeepsAll}
+use Rattle.log_rules.specs.All.{KeepsAll, KeepsMost}
 use Rattle.log_rules.specs.Attempts.{KeepsAttempts}
 use Rattle.log_rules.specs.Enabled.{AwakeTask, AwakeActor}
 use Rattle.log_rules.specs.Freezer.{FreezesBy, FreezesTask, FreezesActor}
@@ -98,7 +98,7 @@ seat_back m past now f seat None k z w a u l r s = absurd s
 seat_back m past now f seat (Some x) k z w a u l r s =
     rw (s.0) (rw (frozen_not f _ k z) (rw w (freezes_or_steps m past now f (is_user x.kind) seat (slice_get (entry_steps x) seat.done) k z a u l r s.1)))
 
-pub script_back : (m : Machine) (past : List Entry) (now : EventNow) (i : ℕ) (k : Kind) → is_maker past (actor.Script i) ≡ false → KeepsAll m past now (actor.Script i) k → IsDue m past now (actor.Script i) k
+pub script_back : (m : Machine) (past : List Entry) (now : EventNow) (i : ℕ) (k : Kind) → is_maker past (actor.Script i) ≡ false → KeepsMost m past now (actor.Script i) k → IsDue m past now (actor.Script i) k
 script_back m past now i k e h =
     rw e (seat_back m past now (freezing m i past) (seat_of m past i) (slice_get m.actors i) k
     (subst (λ (b : Bool). FreezesActor m past (actor.Script i) b k) e h.freezer.0)

@@ -21,7 +21,7 @@ use Rattle.sleep_model.specs.Path.{maker, is_actor}
 use Rattle.sleep_model.specs.Word.{visible}
 use Rattle.sleep_laws.proofs.Holding.{held, HolderOf, WorkHolds}
 use Rattle.sleep_laws.proofs.Making.{OnlyMade}
-use Rattle.log_rules.specs.All.{KeepsAll}
+use Rattle.log_rules.specs.All.{KeepsAll, KeepsMost}
 use Rattle.log_rules.specs.Attempts.{KeepsAttempts}
 use Rattle.log_rules.specs.Enabled.{AwakeActor}
 use Rattle.log_rules.specs.Freezer.{FreezesActor}
@@ -50,7 +50,7 @@ work_back m past now Closing kind.AutoAgain a r s = rw s refl
 work_back m past now Closing kind.AutoOff a r s = rw s refl
 work_back m past now _ _ a r s = absurd s
 
-auto_back : (m : Machine) (past : List Entry) (now : EventNow) (k : Kind) → is_maker past actor.Auto ≡ false → KeepsAll m past now actor.Auto k → IsDue m past now actor.Auto k
+auto_back : (m : Machine) (past : List Entry) (now : EventNow) (k : Kind) → is_maker past actor.Auto ≡ false → KeepsMost m past now actor.Auto k → IsDue m past now actor.Auto k
 auto_back m past now k e h =
     let w : AwakeActor m past actor.Auto false = subst (λ (b : Bool). AwakeActor m past actor.Auto b) e h.enabled.0 in
     rw e (rw w.0 (rw w.1 (work_back m past now (work past) k h.attempts

@@ -34,3 +34,17 @@ pub record KeepsAll (m : Machine) (past : List Entry) (now : EventNow) (who : Ac
   pub restored : KeepsRestored m past k
   pub steps : KeepsSteps m past now who k
   pub enabled : KeepsEnabled m past now who k
+
+-- and all but two of them: that only what is owed is undone, and that nothing is owed in the end, follow from these (kernel/power/suspend.c, kernel/power/main.c)
+pub record KeepsMost (m : Machine) (past : List Entry) (now : EventNow) (who : Actor) (k : Kind) : Type 0 where
+  pub links : KeepsLinks m past k
+  pub attempts : KeepsAttempts past k
+  pub reads : KeepsReads m past now who k
+  pub walk : KeepsWalk m past now k
+  pub skip : KeepsSkip m past now k
+  pub runtime : KeepsRuntime m past k
+  pub freezer : KeepsFreezer m past now who k
+  pub path : KeepsPath m past now who k
+  pub answers : KeepsAnswers past k
+  pub steps : KeepsSteps m past now who k
+  pub enabled : KeepsEnabled m past now who k

@@ -1,7 +1,7 @@
 //! The law: an entry is legal, and one of the journal due of its actor, exactly where it keeps all rules.
 
 ghost use Rattle.log_rules.specs.Entry.{OneForEntries, OneForLists};
-ghost use Rattle.log_rules.specs.Law.{OneForAll, OneForDevices, OneForMakers, OneForScripts, OneForWork};
+ghost use Rattle.log_rules.specs.Law.{OneForAll, OneForDevices, OneForMakers, OneForScripts, OneForWork, OwedFollows};
 
 /// Outside attempts of its own a script makes an entry that is due of it exactly where that entry keeps all
 /// rules: reads, saves and writes to the state and to autosleep, sleeps, marks, runtime requests and links,
@@ -39,6 +39,14 @@ pub fn makers_keep_rules()
 #[tactic(auto, using(crate::proofs::Makers::all))]
 pub fn entries_keep_rules()
     ensures { OneForAll }
+{}
+
+/// Behind every legal journal an entry that keeps all rules but two keeps those two as well: it undoes only
+/// what is owed, and ends an attempt only where nothing is owed (`kernel/power/suspend.c`,
+/// `suspend_devices_and_enter`, `suspend_finish`).
+#[tactic(auto, using(crate::proofs::Makers::owed_follows))]
+pub fn owed_follows()
+    ensures { OwedFollows }
 {}
 
 /// Behind every legal list of entries, of whatever machine, one more entry is legal exactly where it keeps

@@ -5,5 +5,5 @@ mod law;
 
 pub use law::{
     devices_keep_rules, entries_keep_rules, legal_entries_keep_rules, legal_lists_keep_rules,
-    makers_keep_rules, scripts_keep_rules, work_keeps_rules,
+    makers_keep_rules, owed_follows, scripts_keep_rules, work_keeps_rules,
 };

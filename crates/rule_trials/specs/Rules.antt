@@ -1,5 +1,5 @@
 -- The rules of a log, each as one question of an entry and the entries before it, and whether a log keeps it at a place.
-use Rattle.std.specs.Prelude.{ℕ, List, [], ◌∷◌, take, drop, reverse}
+use Rattle.std.specs.Prelude.{ℕ, Bool, true, false, ◌==◌, List, [], ◌∷◌, take, drop, reverse}
 use Rattle.sleep_model.specs.declared.entry.Entry.{Entry}
 use Rattle.sleep_model.specs.declared.machine.Machine.{Machine}
 use Rattle.sleep_model.specs.Parts.{part_of, journal}
@@ -101,3 +101,23 @@ BrokenNext rule m past (e ∷ later) = rule m past e → ⊥
 -- the entry with that place, from 0, breaks the rule
 abbrev pub BrokenAt : Rule → Machine → ℕ → List Entry → Type 0
 BrokenAt rule m k entries = BrokenNext rule m (reverse (take k entries)) (drop k entries)
+
+-- ---- one rule alone
+
+-- what is asked, unless it is left out
+abbrev pub Unless : Bool → Type 0 → Type 0
+Unless true rule = Unit {0}
+Unless false rule = rule
+
+-- all rules but the one with that number, which a checker names it by, are kept
+abbrev pub KeepsOthers : ℕ → Rule
+KeepsOthers n m past e =
+    Unless (n == 2) (links m past e) × Unless (n == 4) (numbers m past e) × Unless (n == 7) (attempts m past e)
+    × Unless (n == 8) (reads m past e) × Unless (n == 9) (walk m past e) × Unless (n == 10) (skip m past e)
+    × Unless (n == 11) (runtime m past e) × Unless (n == 12) (owed m past e) × Unless (n == 13) (freezer m past e)
+    × Unless (n == 14) (path m past e) × Unless (n == 15) (answers m past e) × Unless (n == 16) (restored m past e)
+    × Unless (n == 17) (steps m past e) × Unless (n == 18) (enabled m past e) × Unless (n == 22) (source m past e)
+
+-- an entry breaks the rule with that number, and no other
+abbrev pub BreaksAlone : ℕ → Rule → Rule
+BreaksAlone n rule m past e = KeepsOthers n m past e × (rule m past e → ⊥)

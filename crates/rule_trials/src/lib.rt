@@ -1,12 +1,14 @@
-//! Each rule of a log at an entry of a worked log that keeps it, and at one of a broken copy that breaks it.
+//! Each rule of a log at an entry of a worked log that keeps it, and at one of a broken copy that breaks it: for
+//! all but two of them one that breaks no other. What is owed and what is restored no entry breaks alone.
 #![tactic(auto)]
 
-ghost use Rattle.std.specs.Prelude.{None, Some, true};
+ghost use Rattle.std.specs.Prelude.{None, Some, pos, true};
 ghost use Rattle.sleep_base.specs.declared.errno.Errno.TheVariants.{EBUSY};
 ghost use Rattle.sleep_model.specs.declared.entry.Actor.TheVariants as actor;
 ghost use Rattle.sleep_model.specs.declared.entry.FrozeEnd.TheVariants as froze;
 ghost use Rattle.sleep_model.specs.declared.entry.Group.TheVariants as group;
 ghost use Rattle.sleep_model.specs.declared.entry.Kind.TheVariants as kind;
+ghost use Rattle.sleep_model.specs.declared.entry.SkipCause.TheVariants as skips;
 ghost use Rattle.sleep_model.specs.declared.machine.PlatUndo.TheVariants as undo;
 ghost use Rattle.phase_table.specs.declared.phase.Phase.TheVariants as phase;
 ghost use Rattle.log_trials.specs.Attempts.{callback_reports_machine, callback_reports_entries, event_stops_a_device_machine, event_stops_a_device_entries};
@@ -16,29 +18,29 @@ ghost use Rattle.log_trials.specs.Devices.{asynchronous_child_machine, asynchron
 ghost use Rattle.log_trials.specs.Freezing.{freeze_times_out_machine, freeze_times_out_entries};
 ghost use Rattle.log_trials.specs.Links.{link_added_machine, link_added_entries};
 ghost use Rattle.log_trials.specs.Timers.{event_expires_machine, event_expires_entries};
-ghost use Rattle.rule_trials.specs.Rules.{KeptAt, BrokenAt, links, numbers, attempts, reads, walk, skip, runtime, owed, freezer, path, answers, restored, steps, enabled, source};
+ghost use Rattle.rule_trials.specs.Rules.{KeptAt, BrokenAt, BreaksAlone, links, numbers, attempts, reads, walk, skip, runtime, owed, freezer, path, answers, restored, steps, enabled, source};
 
 /// A link that would close a cycle is refused.
 pub fn links_are_answered()
     ensures kept { KeptAt links link_added_machine 1 link_added_entries }
     // It is added.
-    ensures broken { BrokenAt links link_added_machine 1 (says 1 (kind.LinkAdd 0 1 None) link_added_entries) }
+    ensures broken { KeptAt (BreaksAlone 2 links) link_added_machine 1 (says 1 (kind.LinkAdd 0 1 None) link_added_entries) }
 {}
 
 /// A phase that is done carries the time of its place.
 pub fn entries_carry_their_time()
     ensures kept { KeptAt numbers event_stops_a_device_machine 30 event_stops_a_device_entries }
     // It carries another.
-    ensures broken { BrokenAt numbers event_stops_a_device_machine 30 (at_time 30 5 event_stops_a_device_entries) }
+    ensures broken { KeptAt (BreaksAlone 4 numbers) event_stops_a_device_machine 30 (at_time 30 5 event_stops_a_device_entries) }
 {}
 
 /// The second attempt stands under no count.
 pub fn attempts_have_their_number()
     ensures kept { KeptAt attempts event_stops_a_device_machine 42 event_stops_a_device_entries }
     // It counts itself the third.
-    ensures number { BrokenAt attempts event_stops_a_device_machine 42 (says 42 (kind.Attempt 3 None) event_stops_a_device_entries) }
+    ensures number { KeptAt (BreaksAlone 7 attempts) event_stops_a_device_machine 42 (says 42 (kind.Attempt 3 None) event_stops_a_device_entries) }
     // It claims a count that is no longer in force.
-    ensures guard { BrokenAt attempts event_stops_a_device_machine 42 (says 42 (kind.Attempt 2 (Some 0)) event_stops_a_device_entries) }
+    ensures guard { KeptAt (BreaksAlone 7 attempts) event_stops_a_device_machine 42 (says 42 (kind.Attempt 2 (Some 0)) event_stops_a_device_entries) }
 {}
 
 /// While autosleep is on a save is busy, and the work reads the count.
@@ -46,15 +48,17 @@ pub fn reads_answer_the_count()
     ensures save { KeptAt reads autosleep_machine 7 autosleep_entries }
     ensures read { KeptAt reads autosleep_machine 8 autosleep_entries }
     // The save is answered.
-    ensures saved { BrokenAt reads autosleep_machine 7 (says 7 (kind.Saved 0) autosleep_entries) }
+    ensures saved { KeptAt (BreaksAlone 8 reads) autosleep_machine 7 (says 7 (kind.Saved 0) autosleep_entries) }
     // The work reads an older count.
-    ensures older { BrokenAt reads autosleep_machine 8 (says 8 (kind.Read 0) autosleep_entries) }
+    ensures older { KeptAt (BreaksAlone 8 reads) autosleep_machine 8 (says 8 (kind.Read 0) autosleep_entries) }
 {}
 
 /// The last device goes down first, and its callback ends once its report is made.
 pub fn devices_go_in_order()
     ensures kept { KeptAt walk event_stops_a_device_machine 22 event_stops_a_device_entries }
     ensures report { KeptAt walk callback_reports_machine 12 callback_reports_entries }
+    // A device answers to its prepare what the machine does not.
+    ensures answer { KeptAt (BreaksAlone 9 walk) event_stops_a_device_machine 16 (says 16 (kind.Prepare 0 (pos 1)) event_stops_a_device_entries) }
     // The first goes down first.
     ensures order { BrokenAt walk event_stops_a_device_machine 22 (says 22 (kind.Begin phase.Suspend 0) event_stops_a_device_entries) }
     // It ends before its report.
@@ -66,6 +70,8 @@ pub fn devices_go_in_order()
 /// A wakeup passes a device over.
 pub fn devices_are_passed_over()
     ensures kept { KeptAt skip event_stops_a_device_machine 28 event_stops_a_device_entries }
+    // It is called direct-complete.
+    ensures cause { KeptAt (BreaksAlone 10 skip) event_stops_a_device_machine 28 (says 28 (kind.Skip phase.Suspend 0 skips.Direct) event_stops_a_device_entries) }
     // It begins all the same.
     ensures begins { BrokenAt skip event_stops_a_device_machine 28 (says 28 (kind.Begin phase.Suspend 0) event_stops_a_device_entries) }
 {}
@@ -74,7 +80,7 @@ pub fn devices_are_passed_over()
 pub fn requests_are_answered()
     ensures kept { KeptAt runtime runtime_requests_machine 17 runtime_requests_entries }
     // It is suspended.
-    ensures broken { BrokenAt runtime runtime_requests_machine 17 (says 17 (kind.RuntimeAsk 0 true None) runtime_requests_entries) }
+    ensures broken { KeptAt (BreaksAlone 11 runtime) runtime_requests_machine 17 (says 17 (kind.RuntimeAsk 0 true None) runtime_requests_entries) }
 {}
 
 /// The device that is down resumes.
@@ -91,16 +97,16 @@ pub fn tasks_freeze()
     // The task wakes up in place of freezing.
     ensures slept { BrokenAt freezer autosleep_machine 13 (says 13 kind.Slept autosleep_entries) }
     // The freeze is over while the task is left.
-    ensures early { BrokenAt freezer autosleep_machine 13 (left_out 13 autosleep_entries) }
+    ensures early { KeptAt (BreaksAlone 13 freezer) autosleep_machine 13 (left_out 13 autosleep_entries) }
     // It counts a task too many.
-    ensures number { BrokenAt freezer freeze_times_out_machine 6 (says 6 (kind.Froze group.User (froze.Timeout 2 0)) freeze_times_out_entries) }
+    ensures number { KeptAt (BreaksAlone 13 freezer) freeze_times_out_machine 6 (says 6 (kind.Froze group.User (froze.Timeout 2 0)) freeze_times_out_entries) }
 {}
 
 /// After a phase that failed the platform is told first.
 pub fn makers_keep_to_the_table()
     ensures kept { KeptAt path event_stops_a_device_machine 31 event_stops_a_device_entries }
     // Its end comes first.
-    ensures broken { BrokenAt path event_stops_a_device_machine 31 (says 31 (kind.PlatformUndo undo.End) event_stops_a_device_entries) }
+    ensures broken { KeptAt (BreaksAlone 14 path) event_stops_a_device_machine 31 (says 31 (kind.PlatformUndo undo.End) event_stops_a_device_entries) }
 {}
 
 /// A phase, and its attempt, answer what failed.
@@ -108,9 +114,9 @@ pub fn failures_are_answered()
     ensures done { KeptAt answers event_stops_a_device_machine 30 event_stops_a_device_entries }
     ensures over { KeptAt answers event_stops_a_device_machine 41 event_stops_a_device_entries }
     // The phase answers that all is well.
-    ensures well { BrokenAt answers event_stops_a_device_machine 30 (says 30 (kind.Done phase.Suspend None) event_stops_a_device_entries) }
+    ensures well { KeptAt (BreaksAlone 15 answers) event_stops_a_device_machine 30 (says 30 (kind.Done phase.Suspend None) event_stops_a_device_entries) }
     // The attempt does.
-    ensures entered { BrokenAt answers event_stops_a_device_machine 41 (says 41 (kind.Over 1 None) event_stops_a_device_entries) }
+    ensures entered { KeptAt (BreaksAlone 15 answers) event_stops_a_device_machine 41 (says 41 (kind.Over 1 None) event_stops_a_device_entries) }
 {}
 
 /// Where an attempt is over all tasks are let go.
@@ -125,9 +131,9 @@ pub fn steps_are_their_actors()
     ensures naps { KeptAt steps autosleep_machine 41 autosleep_entries }
     ensures begins { KeptAt steps asynchronous_child_machine 10 asynchronous_child_entries }
     // It naps for less.
-    ensures shorter { BrokenAt steps autosleep_machine 41 (says 41 (kind.SleepD 1400) autosleep_entries) }
+    ensures shorter { KeptAt (BreaksAlone 17 steps) autosleep_machine 41 (says 41 (kind.SleepD 1400) autosleep_entries) }
     // The walk begins the device.
-    ensures other { BrokenAt steps asynchronous_child_machine 10 (by 10 (actor.Script 0) asynchronous_child_entries) }
+    ensures other { KeptAt (BreaksAlone 17 steps) asynchronous_child_machine 10 (by 10 (actor.Script 0) asynchronous_child_entries) }
 {}
 
 /// A machine that saw no event wakes by its alarm, and time jumps to the least pending moment.
@@ -135,14 +141,16 @@ pub fn machines_wake()
     ensures wakes { KeptAt enabled autosleep_machine 28 autosleep_entries }
     ensures jumps { KeptAt enabled autosleep_machine 42 autosleep_entries }
     // It says that an event woke it.
-    ensures event { BrokenAt enabled autosleep_machine 28 (says 28 (kind.Wake true) autosleep_entries) }
+    ensures event { KeptAt (BreaksAlone 18 enabled) autosleep_machine 28 (says 28 (kind.Wake true) autosleep_entries) }
     // Time jumps too far.
-    ensures far { BrokenAt enabled autosleep_machine 42 (at_time 42 1300 autosleep_entries) }
+    ensures far { KeptAt (BreaksAlone 18 enabled) autosleep_machine 42 (at_time 42 1300 autosleep_entries) }
 {}
 
 /// An expiry finishes its source's event.
 pub fn sources_make_what_they_owe()
     ensures kept { KeptAt source event_expires_machine 10 event_expires_entries }
+    // It expires before its time.
+    ensures early { KeptAt (BreaksAlone 22 source) event_expires_machine 4 (by 4 (actor.Timer 0) (says 4 (kind.Expire 0) event_expires_entries)) }
     // It starts another.
     ensures broken { BrokenAt source event_expires_machine 10 (says 10 (kind.Start 0) event_expires_entries) }
 {}
