@@ -38,7 +38,7 @@ time_further : (past : List Entry) (time : ℕ) (now : EventNow) (who : Actor) (
 time_further past time now who kind.Jump h = refl
 time_further past time now who _ h = h
 
--- the journal's time is the list's
+-- the last jump among all entries is the journal's
 pub time_journal : (past : List Entry) → time_of (journal past) ≡ time_of past
 time_journal [] = refl
 time_journal (e ∷ past) = time_further past e.time e.now e.actor e.kind (time_journal past)

@@ -1,4 +1,4 @@
--- The rules of a log, each by itself: what an entry has to be to keep each of them, by the entries before it, the machine and the entry.
+-- The rules of a log, each by itself: what each of them asks of an entry, by the entries before it and the machine.
 --
 -- Numbers    the word and the time that it carries
 -- Attempts   the number and the guard of an attempt

@@ -39,7 +39,7 @@ has_more m past stage.StartsCpus = is_some (next_cpu_on m past)
 has_more m past stage.Posts = is_some (next_posted m past)
 has_more m past _ = true
 
--- the row under way, or else the one behind it (suspend_enter)
+-- the row that is under way, unless it has nothing left: then the row that follows it (suspend_enter)
 abbrev pub row_at : Machine → List Entry → Option Stage → Option Stage
 row_at m past None = None
 row_at m past (Some here) = Some (by_case (has_more m past here) here (behind here))

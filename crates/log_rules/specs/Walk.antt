@@ -101,7 +101,7 @@ EndsBy m past p d false row = EndsAt past p d row
 
 -- ---- a phase is done
 
--- an error stands, or no device is left (dpm_suspend, dpm_prepare)
+-- no device is left, or an error ends the phase early (dpm_suspend, dpm_prepare)
 abbrev pub is_through : Option Errno → Option ℕ → Bool
 is_through error next = is_some error || is_none next
 
