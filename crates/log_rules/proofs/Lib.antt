@@ -1,6 +1,7 @@
 pub mod Devices
 pub mod Facts
 pub mod Inside
+pub mod Judging
 pub mod Keeping
 pub mod Legal
 pub mod Makers

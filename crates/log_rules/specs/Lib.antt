@@ -17,6 +17,7 @@
 -- Links      links that are added or set
 -- All        all of them, of an entry of the journal
 -- Entry      all of them, of any entry
+-- Verdict    the first bad line of a log, and the number of the rule that it breaks
 -- Law        that what is due keeps them, and what keeps them is due
 
 pub mod All
@@ -37,4 +38,5 @@ pub mod Runtime
 pub mod Skip
 pub mod Source
 pub mod Steps
+pub mod Verdict
 pub mod Walk

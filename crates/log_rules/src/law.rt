@@ -1,6 +1,7 @@
 //! The law: an entry is legal, and one of the journal due of its actor, exactly where it keeps all rules.
 
 ghost use Rattle.log_rules.specs.Entry.{OneForEntries, OneForLists};
+ghost use Rattle.log_rules.specs.Verdict.{FirstBadIsOne, GoodHasNone};
 ghost use Rattle.log_rules.specs.Law.{OneForAll, OneForDevices, OneForMakers, OneForScripts, OneForWork, OwedFollows};
 
 /// Outside attempts of its own a script makes an entry that is due of it exactly where that entry keeps all
@@ -63,4 +64,16 @@ pub fn legal_entries_keep_rules()
 #[tactic(auto, using(crate::proofs::Legal::lists))]
 pub fn legal_lists_keep_rules()
     ensures { OneForLists }
+{}
+
+/// A log that is legal and finished has no bad line.
+#[tactic(auto, using(crate::proofs::Judging::none_of_good))]
+pub fn good_logs_have_no_bad_line()
+    ensures { GoodHasNone }
+{}
+
+/// A log has one first bad line at most, and one number for it: the least of the rules that are broken there.
+#[tactic(auto, using(crate::proofs::Judging::first_bad_is_one))]
+pub fn first_bad_line_is_one()
+    ensures { FirstBadIsOne }
 {}
