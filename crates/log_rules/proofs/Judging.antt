@@ -1,11 +1,11 @@
 -- A good log has no bad line, and a bad one has one first bad line.
-use Rattle.std.proofs.Common.{◌≡◌, ◌<◌, ◌+◌, ◌∙◌, ◌⊎◌, inl, inr, ℕ, zero, suc, Bool, true, false, nat_lt, List, [], ◌∷◌, ◌++◌, length, reverse, take, Option, Some, None, refl, sym, ap, subst, arith, slice_get}
+use Rattle.std.proofs.Common.{◌≡◌, ◌<◌, ◌+◌, ◌∙◌, ℕ, zero, suc, Bool, true, false, nat_lt, List, [], ◌∷◌, ◌++◌, length, reverse, take, refl, sym, ap, subst, arith, slice_get}
 use Rattle.std.proofs.lemmas.Bool.Decides.{nat_tests}
 use Rattle.sleep_model.specs.declared.entry.Entry.{Entry}
 use Rattle.sleep_model.specs.declared.log.Log.{Log}
 use Rattle.sleep_model.specs.declared.log.Stats.{Stats}
 use Rattle.sleep_model.specs.declared.machine.Machine.{Machine}
-use Rattle.sleep_model.specs.Legal.{IsLegalLog, IsFinishedLog, stats_of}
+use Rattle.sleep_model.specs.Legal.{stats_of}
 use Rattle.log_rules.specs.Entry.{KeepsEntry, KeepsEach}
 use Rattle.log_rules.specs.Verdict.{Rule, Links, Numbers, Attempts, Reads, Walk, Skip, Runtime, Owed, Freezer, Path, Answers, Restored, Steps, Enabled, Source, number_of, KeepsRule, BreaksFirst, IsFirstBad, AtEntry, AtStats, AtEnd, IsGood, GoodHasNone, FirstBadIsOne}
 use Rattle.log_rules.proofs.Legal.{lists}
