@@ -1,0 +1,12 @@
+pub mod Devices
+pub mod Facts
+pub mod Inside
+pub mod Judging
+pub mod Keeping
+pub mod Legal
+pub mod Makers
+pub mod Making
+pub mod Quiet
+pub mod Rows
+pub mod Scripts
+pub mod Work

@@ -1,0 +1,50 @@
+-- All rules of an entry of the journal.
+use Rattle.std.specs.Prelude.{List}
+use Rattle.sleep_model.specs.declared.entry.Actor.{Actor}
+use Rattle.sleep_model.specs.declared.entry.Entry.{Entry}
+use Rattle.sleep_model.specs.declared.entry.Kind.{Kind}
+use Rattle.sleep_model.specs.declared.machine.Machine.{Machine}
+use Rattle.sleep_model.specs.declared.word.EventNow.{EventNow}
+use Rattle.log_rules.specs.Answers.{KeepsAnswers}
+use Rattle.log_rules.specs.Attempts.{KeepsAttempts}
+use Rattle.log_rules.specs.Enabled.{KeepsEnabled}
+use Rattle.log_rules.specs.Freezer.{KeepsFreezer}
+use Rattle.log_rules.specs.Links.{KeepsLinks}
+use Rattle.log_rules.specs.Owed.{KeepsOwed}
+use Rattle.log_rules.specs.Path.{KeepsPath}
+use Rattle.log_rules.specs.Reads.{KeepsReads}
+use Rattle.log_rules.specs.Restored.{KeepsRestored}
+use Rattle.log_rules.specs.Runtime.{KeepsRuntime}
+use Rattle.log_rules.specs.Skip.{KeepsSkip}
+use Rattle.log_rules.specs.Steps.{KeepsSteps}
+use Rattle.log_rules.specs.Walk.{KeepsWalk}
+
+-- what an actor that sees this word makes behind the journal's entries keeps each rule (kernel/power/suspend.c, kernel/power/main.c)
+pub record KeepsAll (m : Machine) (past : List Entry) (now : EventNow) (who : Actor) (k : Kind) : Type 0 where
+  pub links : KeepsLinks m past k
+  pub attempts : KeepsAttempts past k
+  pub reads : KeepsReads m past now who k
+  pub walk : KeepsWalk m past now k
+  pub skip : KeepsSkip m past now k
+  pub runtime : KeepsRuntime m past k
+  pub owed : KeepsOwed m past k
+  pub freezer : KeepsFreezer m past now who k
+  pub path : KeepsPath m past now who k
+  pub answers : KeepsAnswers past k
+  pub restored : KeepsRestored m past k
+  pub steps : KeepsSteps m past now who k
+  pub enabled : KeepsEnabled m past now who k
+
+-- and all but two of them: that only what is owed is undone, and that nothing is owed in the end, follow from these (kernel/power/suspend.c, kernel/power/main.c)
+pub record KeepsMost (m : Machine) (past : List Entry) (now : EventNow) (who : Actor) (k : Kind) : Type 0 where
+  pub links : KeepsLinks m past k
+  pub attempts : KeepsAttempts past k
+  pub reads : KeepsReads m past now who k
+  pub walk : KeepsWalk m past now k
+  pub skip : KeepsSkip m past now k
+  pub runtime : KeepsRuntime m past k
+  pub freezer : KeepsFreezer m past now who k
+  pub path : KeepsPath m past now who k
+  pub answers : KeepsAnswers past k
+  pub steps : KeepsSteps m past now who k
+  pub enabled : KeepsEnabled m past now who k

@@ -1,0 +1,56 @@
+-- Who freezes, and how a freeze ends (kernel/power/process.c, kernel/freezer.c).
+use Rattle.std.specs.Prelude.{◌≡◌, ℕ, Bool, true, false, ◌&&◌, List, Option, Some, None, slice_get}
+use Rattle.sleep_model.specs.declared.entry.Actor.{Actor}
+use Rattle.sleep_model.specs.declared.entry.Actor.TheVariants as actor
+use Rattle.sleep_model.specs.declared.entry.Entry.{Entry}
+use Rattle.sleep_model.specs.declared.entry.Kind.{Kind}
+use Rattle.sleep_model.specs.declared.entry.Kind.TheVariants as kind
+use Rattle.sleep_model.specs.declared.machine.Machine.{Machine}
+use Rattle.sleep_model.specs.declared.machine.Op.{Op}
+use Rattle.sleep_model.specs.declared.machine.Script.{Script}
+use Rattle.sleep_model.specs.declared.place.Due.TheVariants.{Makes}
+use Rattle.sleep_model.specs.declared.place.Freezing.{Freezing}
+use Rattle.sleep_model.specs.declared.word.EventNow.{EventNow}
+use Rattle.sleep_model.specs.Attempt.{froze_due, freeze_since}
+use Rattle.sleep_model.specs.Freezer.{freezing, left}
+use Rattle.sleep_model.specs.Tasks.{is_user, freezes_at}
+use Rattle.log_rules.specs.Questions.{is_maker, seat_of, op_of}
+use Rattle.sleep_model.specs.Parts.{Part, OfJournal, OfTime, journal}
+
+-- a frozen task makes nothing; one that is asked says at a freeze point that it freezes, and nothing else; nobody else says so (try_to_freeze, __refrigerator)
+abbrev pub FreezesBy : Freezing → Bool → Kind → Type 0
+FreezesBy f point kind.Frozen = (f.frozen ≡ false) × ((f.asked && point) ≡ true)
+FreezesBy f point _ = (f.frozen ≡ false) × ((f.asked && point) ≡ false)
+
+-- so for a task of that kind at its operation (try_to_freeze)
+abbrev pub FreezesTask : Freezing → Bool → Option Op → Option Script → Kind → Type 0
+FreezesTask f begun op None k = Unit {0}
+FreezesTask f begun op (Some s) k = FreezesBy f (freezes_at (is_user s.kind) begun op) k
+
+-- tasks outside attempts of their own freeze where they are asked to (try_to_freeze)
+abbrev pub FreezesActor : Machine → List Entry → Actor → Bool → Kind → Type 0
+FreezesActor m past (actor.Script i) false k = FreezesTask (freezing m i past) (seat_of m past i).waits (op_of m past i) (slice_get m.actors i) k
+FreezesActor m past _ _ k = Unit {0}
+
+-- a freeze ends by who is left, by its time, or by a wakeup, and only where it has begun (try_to_freeze_tasks)
+abbrev pub FreezeEnds : Machine → List Entry → EventNow → Option ℕ → Kind → Type 0
+FreezeEnds m past now None (kind.Froze g end) = ⊥
+FreezeEnds m past now (Some since) (kind.Froze g end) = froze_due past now g since (left m g past) ≡ Makes (kind.Froze g end)
+FreezeEnds m past now _ _ = Unit {0}
+
+-- tasks freeze where they are asked to, and a freeze ends rightly (try_to_freeze, try_to_freeze_tasks)
+abbrev pub KeepsFreezer : Machine → List Entry → EventNow → Actor → Kind → Type 0
+KeepsFreezer m past now who k = FreezesActor m past who (is_maker past who) k × FreezeEnds m past now (freeze_since past) k
+
+-- ---- among all entries
+
+-- a frozen task makes no call either (__refrigerator)
+abbrev pub ThawedActor : Machine → List Entry → Actor → Bool → Type 0
+ThawedActor m past (actor.Script i) false = (freezing m i past).frozen ≡ false
+ThawedActor m past _ _ = Unit {0}
+
+-- tasks freeze where they are asked to, frozen ones make nothing, and a freeze ends rightly (try_to_freeze, try_to_freeze_tasks)
+abbrev pub FreezerEntry : Machine → List Entry → Entry → Part → Type 0
+FreezerEntry m past e OfJournal = KeepsFreezer m (journal past) e.now e.actor e.kind
+FreezerEntry m past e OfTime = Unit {0}
+FreezerEntry m past e _ = ThawedActor m (journal past) e.actor (is_maker (journal past) e.actor)

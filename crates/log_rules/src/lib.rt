@@ -1,0 +1,10 @@
+//! The rules of a log, each by itself, and the law that they are what is due. No function here has code.
+#![tactic(auto)]
+
+mod law;
+
+pub use law::{
+    devices_keep_rules, entries_keep_rules, first_bad_line_is_one, good_logs_have_no_bad_line,
+    legal_entries_keep_rules, legal_lists_keep_rules, makers_keep_rules, owed_follows,
+    scripts_keep_rules, work_keeps_rules,
+};
