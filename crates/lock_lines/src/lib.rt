@@ -5,6 +5,8 @@ mod answer;
 mod board;
 mod cut;
 mod fault;
+#[cfg(test)]
+mod tests;
 mod text;
 mod verb;
 
