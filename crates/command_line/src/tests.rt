@@ -64,6 +64,7 @@ fn words_of_a_form(rt: HostRuntime) -> Result<(), Fail> {
                 devices: 1_000,
             },
         ),
+        ("sleep stats", Command::Stats),
         ("-- run", Command::Run { workers: 4 }),
         (" run", Command::Run { workers: 4 }),
     ] {
@@ -158,6 +159,15 @@ fn words_of_no_form(rt: HostRuntime) -> Result<(), Fail> {
         "sleep soak 1",
         "sleep soak 1 1 1",
         "sleep soak run 1",
+        "sleep stats 1",
+        "sleep stats 1 1",
+        "sleep stats --workers 1",
+        "sleep stats --workers=1",
+        "sleep stats -1",
+        "sleep stats stats",
+        "sleep stat",
+        "sleep Stats",
+        "sleep stats ",
         "sleep läuft",
         "sleep -é",
         "sleep --é",
@@ -182,6 +192,7 @@ fn the_end_of_options_is_of_no_form(rt: HostRuntime) -> Result<(), Fail> {
         "sleep gen 1 --",
         "sleep gen -- 1 1",
         "sleep gen 1 1 --",
+        "sleep stats --",
     ] {
         assert_eq!(rt; asked(rt.alloc(), line)?, None);
     }
@@ -213,6 +224,9 @@ fn help_is_of_no_form(rt: HostRuntime) -> Result<(), Fail> {
         "sleep soak --help 1",
         "sleep soak help",
         "sleep soak 1 help",
+        "sleep stats help",
+        "sleep stats --help",
+        "sleep stats -h",
     ] {
         assert_eq!(rt; asked(rt.alloc(), line)?, None);
     }

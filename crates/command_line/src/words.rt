@@ -45,7 +45,7 @@ fn seeded_command<'a>(alloc: Global, name: &'a str) -> Result<clap::Command<'a>,
         .arg(Arg::new(alloc, "devices").required(true))
 }
 
-/// The three commands. A call for help is an error like any other.
+/// The four commands. A call for help is an error like any other.
 fn whole_command<'a>(alloc: Global) -> Result<clap::Command<'a>, AllocError>
     ensures { IfOk result (λ c. app_of c ≡ whole_app) }
 {
@@ -54,7 +54,8 @@ fn whole_command<'a>(alloc: Global) -> Result<clap::Command<'a>, AllocError>
         .disable_help_subcommand(true)
         .subcommand(run_command(alloc)?)?
         .subcommand(seeded_command(alloc, "gen")?)?
-        .subcommand(seeded_command(alloc, "soak")?)
+        .subcommand(seeded_command(alloc, "soak")?)?
+        .subcommand(clap::Command::new(alloc, "stats"))
 }
 
 /// The matches of the words.
@@ -112,6 +113,7 @@ fn command_read(matches: &ArgMatches) -> Option<Command>
         "run" => run_read(inner),
         "gen" => seeded_read(inner).map(|(seed, devices)| Command::Gen { seed, devices }),
         "soak" => seeded_read(inner).map(|(seed, devices)| Command::Soak { seed, devices }),
+        "stats" => Some(Command::Stats),
         _ => None,
     }
 }

@@ -10,10 +10,17 @@ use Rattle.machine_file.specs.Tree.{tree}
 use Rattle.machine_file.specs.Whole.{Broken as Breach, broken_by, first_broken, machine_in, unless_broken, whole_machine}
 use Rattle.sleep_run.specs.Runs.{IsFull}
 use Rattle.command_line.specs.declared.command.Command.{Command}
-use Rattle.command_line.specs.declared.command.Command.TheVariants.{Run, Gen, Soak}
-use Rattle.sleep_main.specs.declared.ending.Ending.{Ending}
-use Rattle.sleep_main.specs.declared.ending.Ending.TheVariants.{Done, Stuck, NoForm, TooLong, Broken, ReadFault, WriteFault, SourceFull, NoMemory}
-use Rattle.sleep_main.specs.Endings.{Stream, Streams, NoFault, Completes, Ended, RunEnded, GenEnded, SoakEnded, IsOneOf, IsRefusal, status_of}
+use Rattle.command_line.specs.declared.command.Command.TheVariants.{Run, Gen, Soak, Stats}
+use Rattle.program_ending.specs.declared.ending.Ending.{Ending}
+use Rattle.program_ending.specs.declared.ending.Ending.TheVariants.{Done, Stuck, NoForm, ReadFault, WriteFault, Refused, NoMemory}
+use Rattle.program_ending.specs.declared.refusal.Refusal.{Refusal}
+use Rattle.program_ending.specs.declared.refusal.Refusal.TheVariants.{Broken, SourceFull, LongInput}
+use Rattle.program_ending.specs.Endings.{status_of}
+use Rattle.log_commands.specs.Input.{IsLogIn}
+use Rattle.log_commands.specs.Stats.{IsStatsOf, RefusesStats}
+use Rattle.log_commands.specs.Taking.{refusal_of}
+use Rattle.log_commands.proofs.Fitting.{none_refused}
+use Rattle.sleep_main.specs.Endings.{Stream, Streams, NoFault, NoFaults, Completes, Ended, RunEnded, GenEnded, SoakEnded, IsInput, IsOneOf, IsRefusal, FillsNone, ReadWhole, RefusesInput, RefusesRun, StatsEnded, TellEnded}
 
 -- a count that rose is no count that stayed
 rose_not : (before now : ℕ) → Rose before now → NoFault before now → ⊥
@@ -43,22 +50,43 @@ no_machine (Some d) m b e f = by_rule (first_broken d) e f
     by_rule None g h = absurd (cc)
     by_rule (Some x) g h = absurd (cc)
 
+-- an input that is these bytes is refused for what they are
+refused_whole : (most : ℕ) (long : Refusal) (Why : List ℕ → Refusal → Type 0) (old new : Streams) (bytes : List ℕ) (refusal : Refusal) → IsInput most old bytes → RefusesInput most long Why old.input new.input refusal → Why bytes refusal
+refused_whole most long Why old new bytes refusal is (inl h) = absurd (omega (arith, h.3, part old.input.bytes new.input.bytes bytes h.1 is.0 h.2, is.1))
+refused_whole most long Why old new bytes refusal is (inr h) = subst (λ (bs : List ℕ). Why bs refusal) (whole old.input.bytes new.input.bytes bytes h.0 is.0 h.1.taken h.1.at_end) h.2
+
+-- bytes that spell a machine none of whose sources can be filled are not refused
+no_refusal : (bytes : List ℕ) (m : Machine) → machine_in bytes ≡ Some m → FillsNone m → (refusal : Refusal) → RefusesRun bytes refusal → ⊥
+no_refusal bytes m spells none (Broken rule place) h = no_machine (tree bytes) m _ h spells
+no_refusal bytes m spells none (SourceFull name) h =
+    let same : h.machine ≡ m = one_machine h.machine m (sym h.spells ∙ spells) in none h.number (subst (λ (x : Machine). IsFull x h.number) same h.full)
+no_refusal bytes m spells none refusal h = absurd h
+
 -- a run of a file
 run_completes : (workers : ℕ) (old new : Streams) (ending : Ending) → RunEnded old new ending → Completes (Some (Run workers)) old new (status_of ending)
-run_completes workers old new Done h = λ bytes told fits m spells none read out. inl refl
-run_completes workers old new Stuck h = λ bytes told fits m spells none read out. inr (inl refl)
-run_completes workers old new NoForm h = λ bytes told fits m spells none read out. absurd h
-run_completes workers old new TooLong h = λ bytes told fits m spells none read out. absurd (omega (arith, h.0.2, part old.input.bytes new.input.bytes bytes h.0.0 told h.0.1, fits))
-run_completes workers old new (Broken rule place) h = λ bytes told fits m spells none read out.
-    absurd (no_machine (tree h.0.0) m _ h.0.2 (subst (λ (bs : List ℕ). machine_in bs ≡ Some m) (sym (whole old.input.bytes new.input.bytes bytes h.0.0 told h.0.1.taken h.0.1.at_end)) spells))
-run_completes workers old new ReadFault h = λ bytes told fits m spells none read out. absurd (rose_not old.input.faults new.input.faults h.0 read)
-run_completes workers old new WriteFault h = λ bytes told fits m spells none read out. absurd (rose_not old.output.faults new.output.faults h.3.0 out)
-run_completes workers old new (SourceFull name) h = λ bytes told fits m spells none read out.
-    (let all : h.0.0 ≡ bytes = whole old.input.bytes new.input.bytes bytes h.0.0 told h.0.1.taken h.0.1.at_end in
-    let f = h.0.2 in
-    let same : f.machine ≡ m = one_machine f.machine m (sym f.spells ∙ (ap machine_in all ∙ spells)) in
-    absurd (none f.number (subst (λ (x : Machine). IsFull x f.number) same f.full)))
-run_completes workers old new NoMemory h = λ bytes told fits m spells none read out. inr (inr refl)
+run_completes workers old new Done h = λ bytes is m spells none faults. inl refl
+run_completes workers old new Stuck h = λ bytes is m spells none faults. inr (inl refl)
+run_completes workers old new NoForm h = λ bytes is m spells none faults. absurd h
+run_completes workers old new (Refused refusal) h = λ bytes is m spells none faults.
+    absurd (no_refusal bytes m spells none refusal (refused_whole 16777216 _ RefusesRun old new bytes refusal is h.0))
+run_completes workers old new ReadFault h = λ bytes is m spells none faults. absurd (rose_not old.input.faults new.input.faults h.0 faults.0)
+run_completes workers old new WriteFault h = λ bytes is m spells none faults. absurd (rose_not old.output.faults new.output.faults h.3.0 faults.1)
+run_completes workers old new NoMemory h = λ bytes is m spells none faults. inr (inr refl)
+
+-- a command that tells of an input which is not refused
+tell_completes : (most : ℕ) (long : Refusal) (Gives : List ℕ → List ℕ → Type 0) (Why : List ℕ → Refusal → Type 0) (old new : Streams) (ending : Ending) → TellEnded most long Gives Why old new ending
+    → (bytes : List ℕ) → IsInput most old bytes → ((refusal : Refusal) → Why bytes refusal → ⊥) → NoFaults old new → IsOneOf Done Done (status_of ending)
+tell_completes most long Gives Why old new Done h bytes is none faults = inl refl
+tell_completes most long Gives Why old new Stuck h bytes is none faults = absurd h
+tell_completes most long Gives Why old new NoForm h bytes is none faults = absurd h
+tell_completes most long Gives Why old new (Refused refusal) h bytes is none faults = absurd (none refusal (refused_whole most long Why old new bytes refusal is h.0))
+tell_completes most long Gives Why old new ReadFault h bytes is none faults = absurd (rose_not old.input.faults new.input.faults h.0 faults.0)
+tell_completes most long Gives Why old new WriteFault h bytes is none faults = absurd (rose_not old.output.faults new.output.faults h.4.0 faults.1)
+tell_completes most long Gives Why old new NoMemory h bytes is none faults = inr (inr refl)
+
+stats_completes : (old new : Streams) (ending : Ending) → StatsEnded old new ending → Completes (Some Stats) old new (status_of ending)
+stats_completes old new ending h = λ bytes is m log read good faults.
+    tell_completes 268435456 LongInput IsStatsOf RefusesStats old new ending h bytes is (none_refused bytes m log read good) faults
 
 -- gen tells of no run that is stuck
 gen_completes : (seed devices : ℕ) (old new : Stream) (ending : Ending) → GenEnded seed devices old new ending → NoFault old.faults new.faults → IsOneOf Done Done (status_of ending)
@@ -66,10 +94,8 @@ gen_completes seed devices old new Done h none = inl refl
 gen_completes seed devices old new Stuck h none = absurd (true≢false (sym h.0))
 gen_completes seed devices old new WriteFault h none = absurd (rose_not old.faults new.faults h.0 none)
 gen_completes seed devices old new NoForm h none = absurd h
-gen_completes seed devices old new TooLong h none = absurd h
-gen_completes seed devices old new (Broken rule place) h none = absurd h
 gen_completes seed devices old new ReadFault h none = absurd h
-gen_completes seed devices old new (SourceFull name) h none = absurd h
+gen_completes seed devices old new (Refused refusal) h none = absurd h
 gen_completes seed devices old new NoMemory h none = inr (inr refl)
 
 soak_completes : (seed devices : ℕ) (old new : Stream) (ending : Ending) → SoakEnded seed devices old new ending → NoFault old.faults new.faults → IsOneOf Done Stuck (status_of ending)
@@ -77,10 +103,8 @@ soak_completes seed devices old new Done h none = inl refl
 soak_completes seed devices old new Stuck h none = inr (inl refl)
 soak_completes seed devices old new WriteFault h none = absurd (rose_not old.faults new.faults h.3.0 none)
 soak_completes seed devices old new NoForm h none = absurd h.3
-soak_completes seed devices old new TooLong h none = absurd h.3
-soak_completes seed devices old new (Broken rule place) h none = absurd h.3
 soak_completes seed devices old new ReadFault h none = absurd h.3
-soak_completes seed devices old new (SourceFull name) h none = absurd h.3
+soak_completes seed devices old new (Refused refusal) h none = absurd h.3
 soak_completes seed devices old new NoMemory h none = inr (inr refl)
 
 refused_completes : (ending : Ending) → IsRefusal ending → IsOneOf NoForm NoForm (status_of ending)
@@ -88,14 +112,13 @@ refused_completes NoForm h = inl refl
 refused_completes NoMemory h = inr (inr refl)
 refused_completes Done h = absurd h
 refused_completes Stuck h = absurd h
-refused_completes TooLong h = absurd h
-refused_completes (Broken rule place) h = absurd h
 refused_completes ReadFault h = absurd h
 refused_completes WriteFault h = absurd h
-refused_completes (SourceFull name) h = absurd h
+refused_completes (Refused refusal) h = absurd h
 
 pub completes : (command : Option Command) (old new : Streams) (ending : Ending) → Ended command old new ending → Completes command old new (status_of ending)
 completes None old new ending h = refused_completes ending h.0
 completes (Some (Run workers)) old new ending h = run_completes workers old new ending h
 completes (Some (Gen seed devices)) old new ending h = gen_completes seed devices old.output new.output ending h.1
 completes (Some (Soak seed devices)) old new ending h = soak_completes seed devices old.output new.output ending h.1
+completes (Some Stats) old new ending h = stats_completes old new ending h

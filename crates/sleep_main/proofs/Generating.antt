@@ -8,13 +8,13 @@ use Rattle.sleep_model.specs.Order.{parents_of}
 use Rattle.sleep_model.specs.Places.{places}
 use Rattle.device_links.specs.Passes.{CanStand}
 use Rattle.command_line.specs.declared.command.Command.{Command}
-use Rattle.command_line.specs.declared.command.Command.TheVariants.{Run, Gen, Soak}
+use Rattle.command_line.specs.declared.command.Command.TheVariants.{Run, Gen, Soak, Stats}
 use Rattle.machine_file.specs.Spelling.{spelling}
 use Rattle.sleep_script.specs.Generated.{generated}
 use Rattle.sleep_run.specs.Runs.{IsFull, IsRun}
 use Rattle.sleep_main.specs.declared.counts.Counts.{Counts}
-use Rattle.sleep_main.specs.declared.ending.Ending.{Ending}
-use Rattle.sleep_main.specs.declared.ending.Ending.TheVariants.{Done, Stuck, NoForm, TooLong, Broken, ReadFault, WriteFault, SourceFull, NoMemory}
+use Rattle.program_ending.specs.declared.ending.Ending.{Ending}
+use Rattle.program_ending.specs.declared.ending.Ending.TheVariants.{Done, Stuck, NoForm, ReadFault, WriteFault, Refused, NoMemory}
 use Rattle.sleep_main.specs.Counting.{count_line, counts_of}
 use Rattle.sleep_main.specs.Endings.{Stream, Streams, Ended, EndsAs, GenEnded, IsLineOf, SoakEnded, Writes, is_stuck}
 
@@ -52,11 +52,9 @@ gen_ended seed devices old new said ending is h = by ending (subst (λ text. Wri
     by Done h = h
     by Stuck h = h
     by NoForm h = h
-    by TooLong h = h
-    by (Broken rule place) h = h
     by ReadFault h = h
     by WriteFault h = h
-    by (SourceFull name) h = h
+    by (Refused refusal) h = h
     by NoMemory h = absurd h
 
 -- a line that was written, or a front of it
@@ -64,11 +62,9 @@ pub soak_ended : (seed devices : ℕ) (old new : Stream) (said : List ℕ) (stuc
 soak_ended seed devices old new said stuck Done line h = (said, stuck, line, h)
 soak_ended seed devices old new said stuck Stuck line h = (said, stuck, line, h)
 soak_ended seed devices old new said stuck NoForm line h = (said, stuck, line, h)
-soak_ended seed devices old new said stuck TooLong line h = (said, stuck, line, h)
-soak_ended seed devices old new said stuck (Broken rule place) line h = (said, stuck, line, h)
 soak_ended seed devices old new said stuck ReadFault line h = (said, stuck, line, h)
 soak_ended seed devices old new said stuck WriteFault line h = (said, stuck, line, h)
-soak_ended seed devices old new said stuck (SourceFull name) line h = (said, stuck, line, h)
+soak_ended seed devices old new said stuck (Refused refusal) line h = (said, stuck, line, h)
 soak_ended seed devices old new said stuck NoMemory line h = absurd h
 
 -- want of memory before anything was done
@@ -77,3 +73,4 @@ undone None now = (tt, refl, refl)
 undone (Some (Run workers)) now = refl
 undone (Some (Gen seed devices)) now = (refl, refl)
 undone (Some (Soak seed devices)) now = (refl, refl)
+undone (Some Stats) now = refl

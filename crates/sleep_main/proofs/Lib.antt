@@ -1,4 +1,4 @@
 pub mod Completing
 mod Filling
 mod Generating
-pub mod Saying
+pub mod Telling

@@ -1,5 +1,6 @@
--- How the program ends: its status, its text on standard error, and what it has read and written.
-use Rattle.std.specs.Prelude.{◌≡◌, ◌≤◌, ◌<◌, ◌-◌, ◌^◌, ◌⊎◌, ℕ, Bool, true, false, List, [], ◌∷◌, ◌++◌, length, codes, decimal, string_bytes, Option, Some, None, Result, Ok, Err}
+-- What the program has read and written where it ends so.
+use Rattle.std.specs.Prelude.{◌≡◌, ◌≤◌, ◌<◌, ◌-◌, ◌^◌, ◌⊎◌, ℕ, Bool, true, false, List, ◌++◌, length, string_bytes, Vec, Option, Some, None, Result, Ok, Err}
+use Rattle.std.specs.declared.alloc.Global.{Global}
 use Rattle.std.specs.Io.KnownBytes.{Consumes, Appends, IsAtEnd}
 use Rattle.sleep_base.specs.Faults.{Rose}
 use Rattle.sleep_base.specs.Whole.{Took}
@@ -8,75 +9,27 @@ use Rattle.sleep_model.specs.declared.log.LogEnd.{LogEnd}
 use Rattle.sleep_model.specs.declared.log.LogEnd.TheVariants as end
 use Rattle.sleep_model.specs.declared.machine.Machine.{Machine}
 use Rattle.sleep_model.specs.Legal.{IsFinishedLog, IsStuckLog}
+use Rattle.sleep_model.specs.Order.{parents_of}
 use Rattle.sleep_model.specs.Text.{text, source}
 use Rattle.command_line.specs.declared.command.Command.{Command}
-use Rattle.command_line.specs.declared.command.Command.TheVariants.{Run, Gen, Soak}
+use Rattle.command_line.specs.declared.command.Command.TheVariants.{Run, Gen, Soak, Stats}
 use Rattle.machine_file.specs.Spelling.{spelling}
 use Rattle.machine_file.specs.Whole.{machine_in, broken_at, broken_in}
 use Rattle.sleep_script.specs.Generated.{generated}
-use Rattle.sleep_main.specs.Counting.{count_line, counts_of}
-use Rattle.sleep_main.specs.declared.ending.Ending.{Ending}
-use Rattle.sleep_main.specs.declared.ending.Ending.TheVariants.{Done, Stuck, NoForm, TooLong, Broken, ReadFault, WriteFault, SourceFull, NoMemory}
-use Rattle.sleep_main.specs.declared.top.Ran.{Ran}
 use Rattle.sleep_run.specs.declared.run.RunFault.{RunFault}
 use Rattle.sleep_run.specs.declared.run.RunFault.TheVariants as fault
 use Rattle.sleep_run.specs.Runs.{IsRun, IsFull}
-
--- the program's status
-abbrev pub status_of : Ending → ℕ
-status_of Done = 0
-status_of NoForm = 2
-status_of TooLong = 3
-status_of (Broken rule place) = 3
-status_of ReadFault = 4
-status_of WriteFault = 5
-status_of Stuck = 6
-status_of (SourceFull name) = 7
-status_of NoMemory = 8
-
--- a line of standard error
-abbrev pub line : List ℕ → List ℕ
-line text = text ++ 10 ∷ []
-
--- what the program says on standard error
-abbrev pub text_of : Ending → List ℕ
-text_of Done = []
-text_of Stuck = []
-text_of NoForm = line (codes "usage: run [--workers N] or gen SEED DEVICES or soak SEED DEVICES")
-text_of TooLong = line (codes "machine: longer than 16777216 bytes")
-text_of (Broken rule place) = line (codes "machine: rule " ++ decimal rule ++ codes ": " ++ string_bytes place)
-text_of ReadFault = line (codes "read fault")
-text_of WriteFault = line (codes "write fault")
-text_of (SourceFull name) = line (codes "source full: " ++ name)
-text_of NoMemory = line (codes "want of memory")
-
--- what it says before a number or a name
-abbrev pub head_of : Ending → List ℕ
-head_of (Broken rule place) = codes "machine: rule "
-head_of (SourceFull name) = codes "source full: "
-head_of ending = text_of ending
-
--- the number of a rule, where it says one
-abbrev pub number_of : Ending → List ℕ
-number_of (Broken rule place) = decimal rule
-number_of ending = []
-
--- what it says between a rule's number and its place
-abbrev pub colon_of : Ending → List ℕ
-colon_of (Broken rule place) = codes ": "
-colon_of ending = []
-
--- the place where a rule is broken, or the name of a source, where it says one
-abbrev pub name_of : Ending → List ℕ
-name_of (Broken rule place) = string_bytes place
-name_of (SourceFull name) = name
-name_of ending = []
-
--- what it says behind the place or the name
-abbrev pub tail_of : Ending → List ℕ
-tail_of (Broken rule place) = line []
-tail_of (SourceFull name) = line []
-tail_of ending = []
+use Rattle.program_ending.specs.declared.ending.Ending.{Ending}
+use Rattle.program_ending.specs.declared.ending.Ending.TheVariants.{Done, Stuck, NoForm, ReadFault, WriteFault, Refused, NoMemory}
+use Rattle.program_ending.specs.declared.refusal.Refusal.{Refusal}
+use Rattle.program_ending.specs.declared.refusal.Refusal.TheVariants.{LongMachine, Broken, SourceFull, LongInput}
+use Rattle.program_ending.specs.Endings.{status_of}
+use Rattle.program_ending.specs.Telling.{Refuses}
+use Rattle.log_commands.specs.Input.{IsLogIn}
+use Rattle.log_commands.specs.Stats.{IsStatsOf, RefusesStats}
+use Rattle.log_commands.specs.Taking.{refusal_of}
+use Rattle.sleep_main.specs.Counting.{count_line, counts_of}
+use Rattle.sleep_main.specs.declared.top.Ran.{Ran}
 
 -- a stream at a moment: the bytes that are left or that were written, where it tells them, and its count of faults
 pub record Stream : Type 0 where
@@ -96,11 +49,43 @@ stream bytes faults = record { bytes = bytes; faults = faults }
 abbrev pub streams : Stream → Stream → Streams
 streams input output = record { input = input; output = output }
 
--- the whole input was read, and was these bytes
-pub record ReadWhole (old new : Streams) (bytes : List ℕ) : Type 0 where
-  pub taken : Consumes old.input.bytes new.input.bytes bytes
-  pub at_end : IsAtEnd new.input.bytes
-  pub fits : length bytes ≤ 16777216
+-- ---- reading and writing
+
+-- the whole input was read, and was these bytes, no more than so many
+pub record ReadWhole (most : ℕ) (old new : Stream) (bytes : List ℕ) : Type 0 where
+  pub taken : Consumes old.bytes new.bytes bytes
+  pub at_end : IsAtEnd new.bytes
+  pub fits : length bytes ≤ most
+
+-- the input is refused: it has more bytes than so many, or the whole input was bytes that are refused so
+abbrev pub RefusesInput : ℕ → Refusal → (List ℕ → Refusal → Type 0) → Stream → Stream → Refusal → Type 0
+RefusesInput most long Why old new refusal =
+    ((refusal ≡ long) × Took old.bytes new.bytes (λ n. most < n)) ⊎ ((bytes : List ℕ) × ReadWhole most old new bytes × Why bytes refusal)
+
+-- how the reading of an input ends
+abbrev pub ReadsInput : ℕ → Refusal → Stream → Stream → Result (Vec ℕ Global) Ending → Type 0
+ReadsInput most long old new (Ok bytes) = ReadWhole most old new bytes.items
+ReadsInput most long old new (Err (Refused refusal)) = (refusal ≡ long) × Took old.bytes new.bytes (λ n. most < n)
+ReadsInput most long old new (Err ReadFault) = Rose old.faults new.faults
+ReadsInput most long old new (Err NoMemory) = Unit {0}
+ReadsInput most long old new (Err ending) = ⊥
+
+-- nothing was written on standard output, and no write of it failed
+abbrev pub KeepsOut : Streams → Streams → Type 0
+KeepsOut old new = new.output ≡ old.output
+
+-- nothing was read, and no read failed
+abbrev pub KeepsInput : Streams → Streams → Type 0
+KeepsInput old new = new.input ≡ old.input
+
+-- a text, of a run that is stuck or not, was written whole; where a write failed, a front of it
+abbrev pub Writes : Stream → Stream → List ℕ → Bool → Ending → Type 0
+Writes old new said stuck Done = (stuck ≡ false) × Appends old.bytes new.bytes said
+Writes old new said stuck Stuck = (stuck ≡ true) × Appends old.bytes new.bytes said
+Writes old new said stuck WriteFault = Rose old.faults new.faults × ((front back : List ℕ) × (said ≡ front ++ back) × Appends old.bytes new.bytes front)
+Writes old new said stuck _ = ⊥
+
+-- ---- run
 
 -- the run was stuck
 abbrev pub is_stuck : LogEnd → Bool
@@ -135,7 +120,7 @@ pub record FillsSource (bytes name : List ℕ) : Type 0 where
 
 -- the ending names that source of the machine
 abbrev pub IsFullNamed : Machine → ℕ → Ending → Type 0
-IsFullNamed m s (SourceFull name) = name ≡ source m s
+IsFullNamed m s (Refused (SourceFull name)) = name ≡ source m s
 IsFullNamed m s _ = ⊥
 
 -- how the program ends where a run gives no log: a full source is named, and only want of memory is told as such
@@ -143,12 +128,11 @@ abbrev pub IsEndingOf : Machine → RunFault → Ending → Type 0
 IsEndingOf m (fault.SourceFull s) ending = IsFullNamed m s ending
 IsEndingOf m fault.Mem ending = ending ≡ NoMemory
 
--- how the program ends where the bytes give no text: they break a rule, or spell a machine that fills a source, or memory ran out
-abbrev pub EndsWithout : List ℕ → Ending → Type 0
-EndsWithout bytes (Broken rule place) = IsBroken bytes rule (string_bytes place)
-EndsWithout bytes (SourceFull name) = FillsSource bytes name
-EndsWithout bytes NoMemory = Unit {0}
-EndsWithout bytes _ = ⊥
+-- why the bytes give no log: they break a rule, or spell a machine that fills a source
+abbrev pub RefusesRun : List ℕ → Refusal → Type 0
+RefusesRun bytes (Broken rule place) = IsBroken bytes rule (string_bytes place)
+RefusesRun bytes (SourceFull name) = FillsSource bytes name
+RefusesRun bytes refusal = ⊥
 
 -- the bytes spell that machine, and the log is that of a run of it
 pub record IsRunOf (bytes : List ℕ) (m : Machine) (log : Log) : Type 0 where
@@ -158,24 +142,7 @@ pub record IsRunOf (bytes : List ℕ) (m : Machine) (log : Log) : Type 0 where
 -- the bytes give a machine and the log of its run, or there is none
 abbrev pub GivesRun : List ℕ → Result Ran Ending → Type 0
 GivesRun bytes (Ok ran) = IsRunOf bytes ran.machine ran.log
-GivesRun bytes (Err ending) = EndsWithout bytes ending
-
--- nothing was written on standard output, and no write of it failed
-abbrev pub KeepsOut : Streams → Streams → Type 0
-KeepsOut old new = new.output ≡ old.output
-
--- nothing was read, and no read failed
-abbrev pub KeepsInput : Streams → Streams → Type 0
-KeepsInput old new = new.input ≡ old.input
-
--- a text, of a run that is stuck or not, was written whole; where a write failed, a front of it
-abbrev pub Writes : Stream → Stream → List ℕ → Bool → Ending → Type 0
-Writes old new said stuck Done = (stuck ≡ false) × Appends old.bytes new.bytes said
-Writes old new said stuck Stuck = (stuck ≡ true) × Appends old.bytes new.bytes said
-Writes old new said stuck WriteFault = Rose old.faults new.faults × ((front back : List ℕ) × (said ≡ front ++ back) × Appends old.bytes new.bytes front)
-Writes old new said stuck _ = ⊥
-
--- ---- run
+GivesRun bytes (Err ending) = Refuses (RefusesRun bytes) ending
 
 -- the text of the log was written, or a front of it, or memory ran out before
 abbrev pub WritesLog : Ran → Stream → Stream → Ending → Type 0
@@ -183,28 +150,24 @@ WritesLog ran old new NoMemory = new ≡ old
 WritesLog ran old new ending = Writes old new (text ran.machine ran.log) (is_stuck ran.log.end) ending
 
 -- the whole input was a machine file, and the text is that of its log
-abbrev pub RanFile : Streams → Streams → List ℕ → Bool → Type 0
-RanFile old new said stuck = (bytes : List ℕ) × ReadWhole old new bytes × IsLogOf bytes said stuck
+abbrev pub RanFile : Stream → Stream → List ℕ → Bool → Type 0
+RanFile old new said stuck = (bytes : List ℕ) × ReadWhole 16777216 old new bytes × IsLogOf bytes said stuck
 
 -- the log's text was written, or a front of it
 abbrev pub WroteLog : Streams → Streams → Ending → Type 0
-WroteLog old new ending = (said : List ℕ) × (stuck : Bool) × RanFile old new said stuck × Writes old.output new.output said stuck ending
+WroteLog old new ending = (said : List ℕ) × (stuck : Bool) × RanFile old.input new.input said stuck × Writes old.output new.output said stuck ending
 
 -- what an ending of a run of a file means
 abbrev pub RunEnded : Streams → Streams → Ending → Type 0
 RunEnded old new Done = WroteLog old new Done
 RunEnded old new Stuck = WroteLog old new Stuck
-RunEnded old new NoForm = ⊥
--- more than 16,777,216 bytes came
-RunEnded old new TooLong = Took old.input.bytes new.input.bytes (λ n. 16777216 < n) × KeepsOut old new
--- the bytes break that rule first, and there
-RunEnded old new (Broken rule place) = ((bytes : List ℕ) × ReadWhole old new bytes × IsBroken bytes rule (string_bytes place)) × KeepsOut old new
+RunEnded old new WriteFault = WroteLog old new WriteFault
+-- more than 16,777,216 bytes came, they break that rule first and there, or a source's history has no place for a call
+RunEnded old new (Refused refusal) = RefusesInput 16777216 LongMachine RefusesRun old.input new.input refusal × KeepsOut old new
 -- a read failed
 RunEnded old new ReadFault = Rose old.input.faults new.input.faults × KeepsOut old new
-RunEnded old new WriteFault = WroteLog old new WriteFault
--- the history of that source has no place for a call
-RunEnded old new (SourceFull name) = ((bytes : List ℕ) × ReadWhole old new bytes × FillsSource bytes name) × KeepsOut old new
 RunEnded old new NoMemory = KeepsOut old new
+RunEnded old new NoForm = ⊥
 
 -- ---- gen
 
@@ -228,6 +191,34 @@ SoakEnded seed devices old new NoMemory = new ≡ old
 SoakEnded seed devices old new ending =
     (said : List ℕ) × (stuck : Bool) × IsLineOf seed devices said stuck × Writes old new said stuck ending
 
+-- ---- commands that tell of an input
+
+-- the whole input was bytes of which a text is told, and that was written, or a front of it
+abbrev pub WroteTold : ℕ → (List ℕ → List ℕ → Type 0) → Streams → Streams → Ending → Type 0
+WroteTold most Gives old new ending =
+    (bytes said : List ℕ) × ReadWhole most old.input new.input bytes × Gives bytes said × Writes old.output new.output said false ending
+
+-- what is told was written, or a front of it, or nothing
+abbrev pub WritesTold : Result (Vec ℕ Global) Ending → Stream → Stream → Ending → Type 0
+WritesTold (Ok text) old new ending = Writes old new text.items false ending
+WritesTold (Err other) old new ending = (ending ≡ other) × (new ≡ old)
+
+-- what an ending means of a command that reads an input of at most so many bytes, and tells of it or refuses it
+abbrev pub TellEnded : ℕ → Refusal → (List ℕ → List ℕ → Type 0) → (List ℕ → Refusal → Type 0) → Streams → Streams → Ending → Type 0
+TellEnded most long Gives Why old new Done = WroteTold most Gives old new Done
+TellEnded most long Gives Why old new WriteFault = WroteTold most Gives old new WriteFault
+-- more bytes came, or they are refused so
+TellEnded most long Gives Why old new (Refused refusal) = RefusesInput most long Why old.input new.input refusal × KeepsOut old new
+-- a read failed
+TellEnded most long Gives Why old new ReadFault = Rose old.input.faults new.input.faults × KeepsOut old new
+TellEnded most long Gives Why old new NoMemory = KeepsOut old new
+TellEnded most long Gives Why old new Stuck = ⊥
+TellEnded most long Gives Why old new NoForm = ⊥
+
+-- what an ending of stats means
+abbrev pub StatsEnded : Streams → Streams → Ending → Type 0
+StatsEnded old new ending = TellEnded 268435456 LongInput IsStatsOf RefusesStats old new ending
+
 -- ---- all words
 
 -- words of no form: the program says so, or memory ran out
@@ -241,6 +232,7 @@ abbrev pub Ended : Option Command → Streams → Streams → Ending → Type 0
 Ended None old new ending = IsRefusal ending × KeepsInput old new × KeepsOut old new
 Ended (Some (Run workers)) old new ending = RunEnded old new ending
 Ended (Some (Gen seed devices)) old new ending = KeepsInput old new × GenEnded seed devices old.output new.output ending
+Ended (Some Stats) old new ending = StatsEnded old new ending
 Ended (Some (Soak seed devices)) old new ending = KeepsInput old new × SoakEnded seed devices old.output new.output ending
 
 -- the text was said on a stream, or a front of it where its count of faults rose
@@ -259,11 +251,22 @@ FillsNone m = (s : ℕ) → ¬ (IsFull m s)
 abbrev pub IsOneOf : Ending → Ending → ℕ → Type 0
 IsOneOf one other status = (status ≡ status_of one) ⊎ (status ≡ status_of other) ⊎ (status ≡ status_of NoMemory)
 
--- completeness, where no fault is counted: an input that spells a machine none of whose sources can be filled gives a log, of a run that is finished or stuck; gen writes its file, and soak its line; or memory ran out
+-- no fault was counted of the streams
+abbrev pub NoFaults : Streams → Streams → Type 0
+NoFaults old new = NoFault old.input.faults new.input.faults × NoFault old.output.faults new.output.faults
+
+-- the input is these bytes, no more than so many
+abbrev pub IsInput : ℕ → Streams → List ℕ → Type 0
+IsInput most now bytes = (now.input.bytes ≡ Some bytes) × (length bytes ≤ most)
+
+-- completeness, where no fault is counted: an input that spells a machine none of whose sources can be filled gives a log, of a run that is finished or stuck; gen writes its file, soak its line, and stats what is told of a machine and a log that fits it, no link of which is refused; or memory ran out
 abbrev pub Completes : Option Command → Streams → Streams → ℕ → Type 0
 Completes None old new status = IsOneOf NoForm NoForm status
 Completes (Some (Run workers)) old new status =
-    (bytes : List ℕ) → old.input.bytes ≡ Some bytes → length bytes ≤ 16777216 → (m : Machine) → machine_in bytes ≡ Some m → FillsNone m
-    → NoFault old.input.faults new.input.faults → NoFault old.output.faults new.output.faults → IsOneOf Done Stuck status
+    (bytes : List ℕ) → IsInput 16777216 old bytes → (m : Machine) → machine_in bytes ≡ Some m → FillsNone m → NoFaults old new
+    → IsOneOf Done Stuck status
 Completes (Some (Gen seed devices)) old new status = NoFault old.output.faults new.output.faults → IsOneOf Done Done status
 Completes (Some (Soak seed devices)) old new status = NoFault old.output.faults new.output.faults → IsOneOf Done Stuck status
+Completes (Some Stats) old new status =
+    (bytes : List ℕ) → IsInput 268435456 old bytes → (m : Machine) → (log : Log) → IsLogIn bytes m log
+    → refusal_of (parents_of m.devices) m.links log.entries ≡ None → NoFaults old new → IsOneOf Done Done status

@@ -11,10 +11,10 @@ ghost use Rattle.sleep_run.specs.Runs.{IsRun};
 ghost use Rattle.sleep_main.specs.Endings.{GenEnded, IsLineOf, SoakEnded, stream};
 
 use crate::counts::{count_line, counts_of};
-use crate::ending::Ending;
 use crate::said::{Said, is_stuck, write_said};
 use device_links::Links;
 use machine_file::write_machine;
+use program_ending::Ending;
 use sleep_base::{ByteSink, Mem};
 use sleep_model::{Device, Log, Machine};
 use sleep_run::{RunFault, run_machine};

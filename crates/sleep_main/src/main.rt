@@ -3,18 +3,21 @@
 #![tactic(auto)]
 
 mod counts;
-mod ending;
 mod generated;
 #[cfg(test)]
 mod generated_tests;
+mod input;
 #[cfg(test)]
 mod rows;
 mod said;
 #[cfg(test)]
+mod stats_tests;
+#[cfg(test)]
 mod tests;
+mod told;
 mod top;
 
-use ending::Ending;
+use program_ending::Ending;
 use sleep_base::{StdSink, StdSource};
 use std::alloc::{AllocError, Global};
 use std::env;

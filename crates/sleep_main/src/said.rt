@@ -1,7 +1,7 @@
 ghost use Rattle.std.specs.Prelude.{◌≡◌};
 ghost use Rattle.sleep_main.specs.Endings.{Writes, is_stuck, stream};
 
-use crate::ending::Ending;
+use program_ending::Ending;
 use sleep_base::{ByteSink, write_all};
 use sleep_model::LogEnd;
 

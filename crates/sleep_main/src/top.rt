@@ -1,26 +1,26 @@
 ghost use Rattle.std.specs.Prelude.{◌≡◌, ◌≤◌, ◌++◌, IfOk, IfSome, codes, length, map, string_bytes};
 ghost use Rattle.sleep_base.specs.Whole.{WriteAll};
 ghost use Rattle.command_line.specs.Words.{IsInRange};
-ghost use Rattle.sleep_main.specs.declared.ending.Ending.{Ending};
-ghost use Rattle.sleep_main.specs.Endings.{GivesRun, IsEndingOf, IsFullNamed, RunEnded, WritesLog, Ended, Completes, Says, status_of, stream, streams, text_of};
+ghost use Rattle.program_ending.specs.declared.ending.Ending.{Ending};
+ghost use Rattle.program_ending.specs.Endings.{status_of, text_of};
+ghost use Rattle.sleep_main.specs.Endings.{GivesRun, IsEndingOf, IsFullNamed, RunEnded, WritesLog, Ended, Completes, Says, stream, streams};
 ghost use Rattle.sleep_main.specs.Words.{asked, is_done};
 ghost use Rattle.sleep_run.specs.Runs.{Fails};
 
-use crate::ending::Ending;
 use crate::generated::{soak_generated, write_generated};
+use crate::input::{MOST_MACHINE, read_input};
 use crate::said::is_stuck;
+use crate::told::tell_stats;
 use command_line::{Command, command_of};
 use itoa::Buffer;
 use log_text::LogText;
 use machine_file::{MachineFault, ReadMachine, read_machine};
-use sleep_base::{ByteSink, ByteSource, Failed, Mem, ReadStop, read_all, write_all};
+use program_ending::{Ending, Refusal};
+use sleep_base::{ByteSink, ByteSource, Failed, Mem, write_all};
 use sleep_model::{Log, Machine, Name};
 use sleep_run::{RunFault, run_machine};
 use std::alloc::Global;
 use std::sync::Wait;
-
-/// The most bytes that a machine file has.
-const MOST_BYTES: u32 = 16_777_216;
 
 /// The name of the source of autosleep.
 fn autosleep() -> Name
@@ -38,8 +38,8 @@ fn full(machine: &Machine, source: u32) -> Ending
     ensures { IsFullNamed machine.now source result }
 {
     match machine.sources.as_slice().get(source as usize) {
-        Some(name) => Ending::SourceFull(*name),
-        None => Ending::SourceFull(autosleep()),
+        Some(name) => Ending::Refused(Refusal::SourceFull(*name)),
+        None => Ending::Refused(Refusal::SourceFull(autosleep())),
     }
 }
 
@@ -69,7 +69,9 @@ fn run_of_bytes<R: Wait>(rt: &R, alloc: Global, bytes: &[u8]) -> Result<Ran, End
 {
     let ReadMachine { machine, links } = match read_machine(alloc, bytes) {
         Ok(read) => read,
-        Err(MachineFault::Rule { rule, place }) => return Err(Ending::Broken { rule, place }),
+        Err(MachineFault::Rule { rule, place }) => {
+            return Err(Ending::Refused(Refusal::Broken { rule, place }));
+        }
         Err(MachineFault::Mem) => return Err(Ending::NoMemory),
     };
     match run_machine(rt, alloc, &machine, links) {
@@ -110,11 +112,9 @@ fn run_file<R: Wait, S: ByteSource, K: ByteSink>(
         (streams (stream (S.left input.new) (S.faults input.new)) (stream (K.written out.new) (K.faults out.new)))
         result }
 {
-    let bytes = match read_all(alloc, input, MOST_BYTES) {
+    let bytes = match read_input(alloc, input, MOST_MACHINE, Refusal::LongMachine) {
         Ok(bytes) => bytes,
-        Err(ReadStop::Fault) => return Ending::ReadFault,
-        Err(ReadStop::TooLong) => return Ending::TooLong,
-        Err(ReadStop::Mem) => return Ending::NoMemory,
+        Err(ending) => return ending,
     };
     match run_of_bytes(rt, alloc, &bytes) {
         Ok(ran) => write_log(alloc, out, &ran),
@@ -128,7 +128,7 @@ fn is_done(command: Command) -> bool
 {
     match command {
         Command::Run { workers } => workers == 1,
-        Command::Gen { .. } | Command::Soak { .. } => true,
+        Command::Gen { .. } | Command::Soak { .. } | Command::Stats => true,
     }
 }
 
@@ -161,6 +161,7 @@ fn do_command<R: Wait, S: ByteSource, K: ByteSink>(
         Command::Run { .. } => run_file(rt, alloc, input, out),
         Command::Gen { seed, devices } => write_generated(alloc, seed, devices, out),
         Command::Soak { seed, devices } => soak_generated(rt, alloc, seed, devices, out),
+        Command::Stats => tell_stats(alloc, input, out),
     }
 }
 
@@ -251,20 +252,23 @@ pub fn say<K: ByteSink>(err: &mut K, ending: &Ending)
 ///   writes its log to `out`.
 /// - `gen SEED DEVICES`: writes the file of the generated machine of a seed of 64 bits with 1 to 1,000 devices.
 /// - `soak SEED DEVICES`: runs that machine, and writes the line of its log's numbers.
+/// - `stats`: reads a machine file of one line and a log of it behind that, and writes what the log counts, its last
+///   failures, the longest chain of devices at its end, and each device's level.
 ///
 /// The answer is the status, and `err` is told what it means:
 ///
 /// - 0: the text was written; of a run, one in which nothing was left to do. 6: of a run in which nobody went on.
 /// - 2: the words are others; nothing is read or written. Other words may give 8 instead, and nothing else.
 /// - 3: the input is longer than 16,777,216 bytes, or it breaks a rule of the format; `err` has the first rule with its
-///   place. Such an input may give 4 or 8 instead, and nothing else.
+///   place. To `stats` the machine or the log is such, and `err` says which, or with `log: links` or `log: cycle` that a
+///   link of the log is refused. Such an input may give 4 or 8 instead, and nothing else.
 /// - 4: a read failed. 5: a write failed, after a front of the text.
 /// - 7: the history of a wakeup source has no place left for a call.
 /// - 8: there was no memory.
 ///
 /// At 2, 3, 4, 7 and 8 nothing is written to `out`. Where no fault is counted, an input that spells a machine none
-/// of whose sources can be filled gives 0, 6 or 8, `gen` gives 0 or 8, and `soak` 0, 6 or 8. `gen` and `soak` leave
-/// `input` unread.
+/// of whose sources can be filled gives 0, 6 or 8, `gen` gives 0 or 8, `soak` 0, 6 or 8, and `stats` 0 or 8 of a machine
+/// and a log that fits it, no link of which is refused. `gen` and `soak` leave `input` unread.
 pub fn run_words<R: Wait, S: ByteSource, K: ByteSink>(
     rt: &R,
     alloc: Global,

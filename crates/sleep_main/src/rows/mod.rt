@@ -13,4 +13,5 @@ pub(crate) mod generated;
 pub(crate) mod laptop;
 pub(crate) mod links;
 pub(crate) mod many;
+pub(crate) mod stats;
 pub(crate) mod timers;

@@ -1,7 +1,7 @@
 use Rattle.std.proofs.Common.{◌≡◌, ◌∙◌, ◌++◌, ℕ, List, ap, subst}
 use Rattle.sleep_base.specs.Whole.{WriteAll}
-use Rattle.sleep_main.specs.Endings.{colon_of, head_of, name_of, number_of, tail_of}
-use Rattle.sleep_main.proofs.Saying.{text_parts}
+use Rattle.program_ending.specs.Endings.{colon_of, head_of, name_of, number_of, tail_of}
+use Rattle.program_ending.proofs.Saying.{text_parts}
 use Rattle.sleep_main.proofs.top.write_ending.Goals as goal
 
 pub returns : goal.returns

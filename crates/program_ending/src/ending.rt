@@ -1,28 +1,24 @@
 ghost use Rattle.std.specs.Prelude.{◌≡◌};
-ghost use Rattle.sleep_main.specs.Endings.{status_of, head_of, number_of, colon_of, name_of, tail_of};
+ghost use Rattle.program_ending.specs.Endings.{colon_of, head_of, name_of, number_of, status_of, tail_of};
 
+use crate::refusal::Refusal;
 use itoa::Buffer;
-use sleep_model::Name;
 
 /// How the program ends.
 #[derive(Debug, Drop)]
 pub enum Ending {
-    /// The text was written: a machine file, or what is told of a run in which nothing was left to do.
+    /// The text was written: a machine file, or what is told of a run in which nothing was left to do, or of an input.
     Done,
     /// The text was written, of a run in which nobody went on.
     Stuck,
     /// The words are of no form.
     NoForm,
-    /// The input is longer than a machine file may be.
-    TooLong,
-    /// The input breaks a rule of the format: the number of the first one, and its first place.
-    Broken { rule: u8, place: String },
     /// A read failed.
     ReadFault,
     /// A write of the text failed.
     WriteFault,
-    /// The history of the source of that name has no place left for a call.
-    SourceFull(Name),
+    /// The input is refused.
+    Refused(Refusal),
     /// There was no memory.
     NoMemory,
 }
@@ -35,11 +31,10 @@ impl Ending {
         match self {
             Ending::Done => 0,
             Ending::NoForm => 2,
-            Ending::TooLong | Ending::Broken { .. } => 3,
             Ending::ReadFault => 4,
             Ending::WriteFault => 5,
             Ending::Stuck => 6,
-            Ending::SourceFull(_) => 7,
+            Ending::Refused(refusal) => refusal.status(),
             Ending::NoMemory => 8,
         }
     }
@@ -50,22 +45,21 @@ impl Ending {
     {
         match self {
             Ending::Done | Ending::Stuck => "",
-            Ending::NoForm => "usage: run [--workers N] or gen SEED DEVICES or soak SEED DEVICES\n",
-            Ending::TooLong => "machine: longer than 16777216 bytes\n",
-            Ending::Broken { .. } => "machine: rule ",
+            Ending::NoForm =>
+                "usage: run [--workers N] or gen SEED DEVICES or soak SEED DEVICES or stats\n",
             Ending::ReadFault => "read fault\n",
             Ending::WriteFault => "write fault\n",
-            Ending::SourceFull(_) => "source full: ",
+            Ending::Refused(refusal) => refusal.head(),
             Ending::NoMemory => "want of memory\n",
         }
     }
 
-    /// The number of a rule, where it says one, by this buffer.
+    /// The number of a rule or of a line, where it says one, by this buffer.
     pub fn number<'b>(&self, buffer: &'b mut Buffer) -> &'b [u8]
         ensures { result.now ≡ number_of self.now }
     {
         match self {
-            Ending::Broken { rule, .. } => buffer.format(*rule).as_bytes(),
+            Ending::Refused(refusal) => refusal.number(buffer),
             _ => b"",
         }
     }
@@ -75,7 +69,7 @@ impl Ending {
         ensures { result.now ≡ colon_of self.now }
     {
         match self {
-            Ending::Broken { .. } => ": ",
+            Ending::Refused(Refusal::Broken { .. }) => ": ",
             _ => "",
         }
     }
@@ -85,18 +79,17 @@ impl Ending {
         ensures { result.now ≡ name_of self.now }
     {
         match self {
-            Ending::Broken { place, .. } => place.as_bytes(),
-            Ending::SourceFull(name) => name.bytes(),
+            Ending::Refused(refusal) => refusal.name(),
             _ => b"",
         }
     }
 
-    /// What it says behind the place or the name.
+    /// What it says behind all that: the end of a refusal's line.
     pub fn tail(&self) -> &'static str
         ensures { result.now ≡ tail_of self.now }
     {
         match self {
-            Ending::Broken { .. } | Ending::SourceFull(_) => "\n",
+            Ending::Refused(_) => "\n",
             _ => "",
         }
     }

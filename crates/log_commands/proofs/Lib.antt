@@ -1,0 +1,4 @@
+pub mod Fitting
+pub mod Rows
+pub mod Standing
+pub mod Trying

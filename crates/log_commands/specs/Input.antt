@@ -1,0 +1,53 @@
+-- A machine with a log of it in one input: the machine's file up to the first newline, and behind it the log's text (own).
+use Rattle.std.specs.Prelude.{◌≡◌, ◌≤◌, ◌<◌, ℕ, ◌+◌, ◌==◌, List, length, take, drop, string_bytes, Some}
+use Rattle.std.specs.List.{position_or_len}
+use Rattle.sleep_model.specs.declared.log.Log.{Log}
+use Rattle.sleep_model.specs.declared.machine.Machine.{Machine}
+use Rattle.sleep_model.specs.Fits.{IsWritable}
+use Rattle.sleep_model.specs.Text.{text}
+use Rattle.machine_file.specs.Whole.{machine_in, broken_at, broken_in}
+use Rattle.log_text.specs.Grammar.{IsFirstBad}
+use Rattle.program_ending.specs.declared.refusal.Refusal.{Refusal}
+use Rattle.program_ending.specs.declared.refusal.Refusal.TheVariants.{LongMachine, Broken, BadLine}
+
+-- how many bytes stand before the first newline; all where there is none
+abbrev pub line_length : List ℕ → ℕ
+line_length bytes = position_or_len (λ b. b == 10) bytes
+
+-- the machine's file: the bytes before the first newline
+abbrev pub file_in : List ℕ → List ℕ
+file_in bytes = take (line_length bytes) bytes
+
+-- the log's text: the bytes behind it
+abbrev pub text_in : List ℕ → List ℕ
+text_in bytes = drop (line_length bytes + 1) bytes
+
+-- the machine that its file spells, and the log that fits it whose text stands behind
+pub record IsLogIn (bytes : List ℕ) (m : Machine) (log : Log) : Type 0 where
+  pub few : length (file_in bytes) ≤ 16777216
+  pub spells : machine_in (file_in bytes) ≡ Some m
+  pub fits : IsWritable m log
+  pub is_text : text m log ≡ text_in bytes
+
+-- why the machine's file is refused: it is too long, or that is the first rule that it breaks, and its first place
+abbrev pub IsBadMachine : List ℕ → Refusal → Type 0
+IsBadMachine file LongMachine = 16777216 < length file
+IsBadMachine file (Broken rule place) = (length file ≤ 16777216) × (broken_in file ≡ Some (broken_at rule (string_bytes place)))
+IsBadMachine file refusal = ⊥
+
+-- why a log's text is refused: that is its first bad line
+abbrev pub IsBadLog : Machine → List ℕ → Refusal → Type 0
+IsBadLog m bytes (BadLine n) = IsFirstBad m bytes n
+IsBadLog m bytes refusal = ⊥
+
+-- a machine is spelled, and its log's text is refused so
+pub record HasBadLog (bytes : List ℕ) (refusal : Refusal) : Type 0 where
+  pub machine : Machine
+  pub few : length (file_in bytes) ≤ 16777216
+  pub spells : machine_in (file_in bytes) ≡ Some machine
+  pub bad : IsBadLog machine (text_in bytes) refusal
+
+-- why such an input is refused: for the machine, or else for the log
+abbrev pub IsBadInput : List ℕ → Refusal → Type 0
+IsBadInput bytes (BadLine n) = HasBadLog bytes (BadLine n)
+IsBadInput bytes refusal = IsBadMachine (file_in bytes) refusal

@@ -1,0 +1,4 @@
+pub mod Input
+pub mod Stats
+pub mod Taking
+pub mod Telling

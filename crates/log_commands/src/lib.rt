@@ -1,0 +1,10 @@
+//! Commands that read a machine with a log of it, and tell of them.
+#![tactic(auto)]
+
+mod input;
+mod links;
+mod stats;
+mod telling;
+
+pub use input::{LogInput, read_log_input};
+pub use stats::stats_of;

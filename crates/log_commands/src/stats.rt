@@ -1,0 +1,82 @@
+//! The statistics of a log.
+
+ghost use Rattle.std.specs.Prelude.{◌≡◌, IfErr, IfOk};
+ghost use Rattle.sleep_model.specs.Accepted.{IsAccepted};
+ghost use Rattle.sleep_model.specs.Fits.{IsWritable};
+ghost use Rattle.sleep_model.specs.Order.{parents_of};
+ghost use Rattle.device_links.specs.Passes.{CanStand};
+ghost use Rattle.machine_file.specs.Reading.{links_among};
+ghost use Rattle.sleep_stats.specs.Linked.{added_links};
+ghost use Rattle.program_ending.specs.declared.ending.Ending.TheVariants.{NoMemory};
+ghost use Rattle.program_ending.specs.Telling.{Refuses};
+ghost use Rattle.log_commands.specs.Stats.{IsBadLink, IsGoodTold, IsStatsOf, IsToldOf, RefusesStats};
+
+use crate::input::{LogInput, read_log_input};
+use crate::links::take_links;
+use crate::telling::stats_text;
+use device_links::Links;
+use program_ending::Ending;
+use sleep_model::{Log, Machine};
+use sleep_stats::{count, longest};
+use std::alloc::Global;
+
+/// What is told of a machine and its log. `NoMemory` for want of memory, and where the log has more entries than have
+/// numbers.
+fn told_of(alloc: Global, machine: &Machine, log: &Log) -> Result<Vec<u8>, Ending>
+    requires accepted { IsAccepted machine.now }
+    requires stand { CanStand (parents_of machine.now.devices) (added_links machine.now log.now) }
+    ensures told { IfOk result (λ said. IsToldOf machine.now log.now said.items) }
+    ensures memory { IfErr result (λ ending. ending ≡ NoMemory) }
+{
+    if log.entries.len() > u32::MAX as usize {
+        return Err(Ending::NoMemory);
+    }
+    let counts = count(log);
+    let Ok(chain) = longest(alloc, machine, log) else {
+        return Err(Ending::NoMemory);
+    };
+    match stats_text(alloc, machine, &counts, &chain) {
+        Ok(text) => Ok(text),
+        Err(_) => Err(Ending::NoMemory),
+    }
+}
+
+/// What is told of a machine and its log, once the links that the log adds were tried behind the machine's.
+fn told_if_linked(
+    alloc: Global,
+    machine: &Machine,
+    links: Links,
+    log: &Log,
+) -> Result<Vec<u8>, Ending>
+    requires accepted { IsAccepted machine.now }
+    requires links { links ≡ links_among machine.now }
+    requires fits { IsWritable machine.now log.now }
+    ensures told { IfOk result (λ said. IsGoodTold machine.now log.now said.items) }
+    ensures refused { IfErr result (Refuses (IsBadLink machine.now log.now)) }
+{
+    match take_links(links, log) {
+        Ok(()) => told_of(alloc, machine, log),
+        Err(ending) => Err(ending),
+    }
+}
+
+/// What is told of the machine and the log in these bytes: what the log counts of its attempts, its last failures, the
+/// longest chain of devices at its end, and each device's level.
+///
+/// Refused in turn: the machine, the log (`read_log_input`), and a link that the log adds where 4,000 stand
+/// (`TooManyLinks`) or that closes a cycle (`LinkCycle`). `NoMemory` for want of memory.
+pub fn stats_of(alloc: Global, bytes: &[u8]) -> Result<Vec<u8>, Ending>
+    ensures told { IfOk result (λ said. IsStatsOf bytes.now said.items) }
+    ensures refused { IfErr result (Refuses (RefusesStats bytes.now)) }
+{
+    match read_log_input(alloc, bytes) {
+        Ok(
+            LogInput {
+                machine,
+                links,
+                log,
+            },
+        ) => told_if_linked(alloc, &machine, links, &log),
+        Err(ending) => Err(ending),
+    }
+}
