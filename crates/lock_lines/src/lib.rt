@@ -3,6 +3,7 @@
 
 mod answer;
 mod board;
+mod command;
 mod cut;
 mod fault;
 #[cfg(test)]
@@ -11,5 +12,6 @@ mod text;
 mod verb;
 
 pub use answer::{MOST_BYTES, answer_lines};
+pub use command::locks_of;
 pub use fault::LinesFault;
 pub use verb::Verb;

@@ -10,7 +10,7 @@ ghost use Rattle.sleep_run.specs.Runs.{Fails};
 use crate::generated::{soak_generated, write_generated};
 use crate::input::{MOST_MACHINE, read_input};
 use crate::said::is_stuck;
-use crate::told::tell_stats;
+use crate::told::{tell_locks, tell_stats};
 use command_line::{Command, command_of};
 use itoa::Buffer;
 use log_text::LogText;
@@ -128,7 +128,7 @@ fn is_done(command: Command) -> bool
 {
     match command {
         Command::Run { workers } => workers == 1,
-        Command::Gen { .. } | Command::Soak { .. } | Command::Stats => true,
+        Command::Gen { .. } | Command::Soak { .. } | Command::Locks | Command::Stats => true,
     }
 }
 
@@ -161,6 +161,7 @@ fn do_command<R: Wait, S: ByteSource, K: ByteSink>(
         Command::Run { .. } => run_file(rt, alloc, input, out),
         Command::Gen { seed, devices } => write_generated(alloc, seed, devices, out),
         Command::Soak { seed, devices } => soak_generated(rt, alloc, seed, devices, out),
+        Command::Locks => tell_locks(rt, alloc, input, out),
         Command::Stats => tell_stats(alloc, input, out),
     }
 }
