@@ -1,13 +1,11 @@
 -- Where nothing fails, an accepted machine gives its log.
-use Rattle.std.proofs.Common.{◌≡◌, ◌≤◌, ◌++◌, ◌∙◌, inl, inr, ℕ, Bool, List, length, Option, true≢false, Some, None, refl, sym, ap, subst, arith}
+use Rattle.std.proofs.Common.{◌≡◌, ◌≤◌, ◌++◌, ◌∙◌, inl, inr, ℕ, List, length, Option, true≢false, Some, None, refl, sym, ap, subst, arith}
 use Rattle.std.proofs.lemmas.List.{length-append, append-nil}
-use Rattle.std.specs.Prelude.{option_and_then}
 use Rattle.std.specs.Io.KnownBytes.{Consumes, IsAtEnd}
 use Rattle.sleep_base.specs.Faults.{Rose}
 use Rattle.sleep_model.specs.declared.machine.Machine.{Machine}
-use Rattle.serde_json.specs.Data.{Data}
 use Rattle.machine_file.specs.Tree.{tree}
-use Rattle.machine_file.specs.Whole.{Broken as Breach, broken_by, first_broken, machine_in, unless_broken, whole_machine}
+use Rattle.machine_file.specs.Whole.{machine_in}
 use Rattle.sleep_run.specs.Runs.{IsFull}
 use Rattle.command_line.specs.declared.command.Command.{Command}
 use Rattle.command_line.specs.declared.command.Command.TheVariants.{Run, Gen, Soak, Locks, Stats}
@@ -17,11 +15,9 @@ use Rattle.program_ending.specs.declared.refusal.Refusal.{Refusal}
 use Rattle.program_ending.specs.declared.refusal.Refusal.TheVariants.{Broken, SourceFull, LongInput, BadLockLine, LongLocks}
 use Rattle.program_ending.specs.Endings.{status_of}
 use Rattle.lock_lines.specs.Command.{IsLocksOf, RefusesLocks}
-use Rattle.log_commands.specs.Input.{IsLogIn}
 use Rattle.log_commands.specs.Stats.{IsStatsOf, RefusesStats}
-use Rattle.log_commands.specs.Taking.{refusal_of}
-use Rattle.log_commands.proofs.Fitting.{none_refused}
-use Rattle.sleep_main.specs.Endings.{Stream, Streams, NoFault, NoFaults, Completes, Ended, RunEnded, GenEnded, SoakEnded, IsInput, IsOneOf, IsRefusal, FillsNone, LocksEnded, ReadWhole, RefusesInput, RefusesRun, StatsEnded, TellEnded}
+use Rattle.log_commands.proofs.Fitting.{no_machine, none_refused, one_machine}
+use Rattle.sleep_main.specs.Endings.{Stream, Streams, NoFault, NoFaults, Completes, Ended, RunEnded, GenEnded, SoakEnded, IsInput, IsOneOf, IsRefusal, FillsNone, LocksEnded, RefusesInput, RefusesRun, StatsEnded, TellEnded}
 
 -- a count that rose is no count that stayed
 rose_not : (before now : ℕ) → Rose before now → NoFault before now → ⊥
@@ -39,21 +35,9 @@ part None new bytes bs e taken = absurd (cc)
 part (Some xs) None bytes bs e taken = absurd taken
 part (Some xs) (Some ys) bytes bs e taken = let all : xs ≡ bytes = cc in omega (arith, ap length all, ap length taken, length-append bs ys)
 
-one_machine : (x y : Machine) → Some x ≡ Some y → x ≡ y
-one_machine x y e = cc
-
--- bytes that break a rule spell no machine
-no_machine : (t : Option Data) (m : Machine) (b : Breach) → broken_by t ≡ Some b → option_and_then (λ d. unless_broken (first_broken d) (whole_machine d)) t ≡ Some m → ⊥
-no_machine None m b e f = absurd (cc)
-no_machine (Some d) m b e f = by_rule (first_broken d) e f
-  where
-    by_rule : (o : Option Breach) → o ≡ Some b → unless_broken o (whole_machine d) ≡ Some m → ⊥
-    by_rule None g h = absurd (cc)
-    by_rule (Some x) g h = absurd (cc)
-
 -- an input that is these bytes is refused for what they are
 refused_whole : (most : ℕ) (long : Refusal) (Why : List ℕ → Refusal → Type 0) (old new : Streams) (bytes : List ℕ) (refusal : Refusal) → IsInput most old bytes → RefusesInput most long Why old.input new.input refusal → Why bytes refusal
-refused_whole most long Why old new bytes refusal is (inl h) = absurd (omega (arith, h.3, part old.input.bytes new.input.bytes bytes h.1 is.0 h.2, is.1))
+refused_whole most long Why old new bytes refusal is (inl h) = absurd (omega (arith, h.1.2, part old.input.bytes new.input.bytes bytes h.1.0 is.0 h.1.1, is.1))
 refused_whole most long Why old new bytes refusal is (inr h) = subst (λ (bs : List ℕ). Why bs refusal) (whole old.input.bytes new.input.bytes bytes h.0 is.0 h.1.taken h.1.at_end) h.2
 
 -- bytes that spell a machine none of whose sources can be filled are not refused

@@ -1,5 +1,5 @@
 -- What an ending of a run without a log means.
-use Rattle.std.proofs.Common.{◌≡◌, ◌⊎◌, inl, inr, ℕ, List, Some, refl, sym, subst}
+use Rattle.std.proofs.Common.{◌≡◌, inr, ℕ, List, Some, refl, sym, subst}
 use Rattle.sleep_model.specs.declared.machine.Machine.{Machine}
 use Rattle.sleep_model.specs.Text.{text}
 use Rattle.machine_file.specs.Whole.{machine_in}
@@ -8,7 +8,6 @@ use Rattle.sleep_run.specs.declared.run.RunFault.TheVariants as fault
 use Rattle.sleep_run.specs.Runs.{Fails, IsFull}
 use Rattle.program_ending.specs.declared.ending.Ending.{Ending}
 use Rattle.program_ending.specs.declared.ending.Ending.TheVariants.{Done, Stuck, NoForm, ReadFault, WriteFault, Refused, NoMemory}
-use Rattle.program_ending.specs.declared.refusal.Refusal.{Refusal}
 use Rattle.program_ending.specs.declared.refusal.Refusal.TheVariants.{SourceFull}
 use Rattle.program_ending.specs.Telling.{Refuses}
 use Rattle.sleep_main.specs.declared.top.Ran.{Ran}

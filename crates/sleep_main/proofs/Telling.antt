@@ -1,13 +1,12 @@
 -- What an ending of a command means that reads an input and tells of it.
-use Rattle.std.proofs.Common.{◌≡◌, ◌≤◌, ◌<◌, ◌⊎◌, inl, inr, ℕ, List, false, true≢false, refl, sym, subst, IfOk, IfErr}
+use Rattle.std.proofs.Common.{inl, inr, ℕ, List, false, true≢false, sym, subst, IfOk, IfErr}
 use Rattle.std.specs.Prelude.{Vec, Result, Ok, Err}
 use Rattle.std.specs.declared.alloc.Global.{Global}
 use Rattle.program_ending.specs.declared.ending.Ending.{Ending}
 use Rattle.program_ending.specs.declared.ending.Ending.TheVariants.{Done, Stuck, NoForm, ReadFault, WriteFault, Refused, NoMemory}
 use Rattle.program_ending.specs.declared.refusal.Refusal.{Refusal}
-use Rattle.program_ending.specs.declared.refusal.Refusal.TheVariants.{LongMachine}
 use Rattle.program_ending.specs.Telling.{Refuses}
-use Rattle.sleep_main.specs.Endings.{Streams, Stream, KeepsOut, ReadWhole, ReadsInput, RefusesRun, RunEnded, TellEnded, Writes, WritesTold}
+use Rattle.sleep_main.specs.Endings.{Streams, KeepsOut, ReadWhole, ReadsInput, TellEnded, Writes, WritesTold}
 
 module _ (most : ℕ) (long : Refusal) (Gives : List ℕ → List ℕ → Type 0) (Why : List ℕ → Refusal → Type 0) (old new : Streams) where
   -- an input that was not read ends the command so
@@ -43,13 +42,3 @@ module _ (most : ℕ) (long : Refusal) (Gives : List ℕ → List ℕ → Type 0
       → IfErr told (Refuses (Why bytes)) → WritesTold told old.output new.output ending → TellEnded most long Gives Why old new ending
   told_read bytes (Ok text) ending read gives refuses h = written bytes text.items ending read gives h
   told_read bytes (Err other) ending read gives refuses h = subst (TellEnded most long Gives Why old new) (sym h.0) (refused bytes other read refuses h.1)
-
--- an input that was not read ends a run of it so
-pub run_unread : (old new : Streams) (ending : Ending) → ReadsInput 16777216 LongMachine old.input new.input (Err ending) → KeepsOut old new → RunEnded old new ending
-run_unread old new (Refused refusal) h out = (inl h, out)
-run_unread old new ReadFault h out = (h, out)
-run_unread old new NoMemory h out = out
-run_unread old new Done h out = absurd h
-run_unread old new Stuck h out = absurd h
-run_unread old new NoForm h out = absurd h
-run_unread old new WriteFault h out = absurd h

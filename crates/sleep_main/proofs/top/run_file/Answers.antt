@@ -7,11 +7,6 @@ use Rattle.sleep_main.proofs.top.run_file.Goals as goal
 pub returns-in-Ok-run_of_bytes : goal.returns-in-Ok-run_of_bytes
 returns-in-Ok-run_of_bytes g c =
     let old : Streams = streams (stream (g.S.ByteSource.left c.args.input.now) (g.S.ByteSource.faults c.args.input.now)) (stream (g.K.ByteSink.written c.args.out.now) (g.K.ByteSink.faults c.args.out.now)) in
-    let new : Streams = streams (stream (g.S.ByteSource.left c.read_all.new.source) (g.S.ByteSource.faults c.read_all.new.source)) (stream (g.K.ByteSink.written c.write_log.new.out) (g.K.ByteSink.faults c.write_log.new.out)) in
-    let whole : ReadWhole old new c.in-Ok.bytes.items = record {
-      taken = c.in-Ok.ensures.bytes.0;
-      at_end = c.in-Ok.ensures.bytes.1;
-      fits = c.in-Ok.ensures.bytes.2;
-    } in
-    let read = subst (λ (bs : List ℕ). ReadWhole old new bs) (sym c.deref.ensures.value) whole in
+    let new : Streams = streams (stream (g.S.ByteSource.left c.read_input.new.input) (g.S.ByteSource.faults c.read_input.new.input)) (stream (g.K.ByteSink.written c.write_log.new.out) (g.K.ByteSink.faults c.write_log.new.out)) in
+    let read = subst (λ (bs : List ℕ). ReadWhole 16777216 old.input new.input bs) (sym c.deref.ensures.value) c.in-Ok.ensures in
     ended_with old new c.deref.result.now c.in-Ok-run_of_bytes.ran c.write_log.result read c.in-Ok-run_of_bytes.ensures c.write_log.ensures
