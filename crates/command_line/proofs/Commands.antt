@@ -6,7 +6,7 @@ use Rattle.clap.specs.Simple.{App, app_of, app_of_fields, new_app, on_top, with_
 use Rattle.clap.specs.declared.builder.command.Command.{Command}
 use Rattle.clap.specs.declared.builder.command.Command.TheViews.{out-Command}
 use Rattle.clap.proofs.WalkLemmas.{both}
-use Rattle.command_line.specs.Parses.{run_app, seeded_app, stats_app, whole_app, without_help}
+use Rattle.command_line.specs.Parses.{alone_app, run_app, seeded_app, whole_app, without_help}
 
 -- a plain command has no global argument
 no_globals : (c : Command) → (app_of c).top.is_plain ≡ true → (out-Command c).has_globals ≡ false
@@ -22,7 +22,9 @@ more : (old sub new : Command) (a s : App) → app_of old ≡ a → app_of sub �
 more old sub new a s old_is sub_is plain adds =
     adds.shape (no_globals sub (ap (λ (x : App). x.top.is_plain) sub_is ∙ plain)) ∙ ap₂ with_subcommand old_is (ap (λ (x : App). x.top) sub_is)
 
-pub whole_is : (none one two three run gen soak stats all : Command) → app_of none ≡ on_top without_help (new_app (codes "sleep")) → app_of run ≡ run_app → app_of gen ≡ seeded_app (codes "gen")
-    → app_of soak ≡ seeded_app (codes "soak") → app_of stats ≡ stats_app → AddsSubcommand none run one → AddsSubcommand one gen two → AddsSubcommand two soak three → AddsSubcommand three stats all → app_of all ≡ whole_app
-whole_is none one two three run gen soak stats all none_is run_is gen_is soak_is stats_is first second third fourth =
-    more three stats all _ _ (more two soak three _ _ (more one gen two _ _ (more none run one _ _ none_is run_is refl first) gen_is refl second) soak_is refl third) stats_is refl fourth
+pub whole_is : (none one two three four run gen soak locks stats all : Command) → app_of none ≡ on_top without_help (new_app (codes "sleep")) → app_of run ≡ run_app → app_of gen ≡ seeded_app (codes "gen")
+    → app_of soak ≡ seeded_app (codes "soak") → app_of locks ≡ alone_app (codes "locks") → app_of stats ≡ alone_app (codes "stats")
+    → AddsSubcommand none run one → AddsSubcommand one gen two → AddsSubcommand two soak three → AddsSubcommand three locks four → AddsSubcommand four stats all → app_of all ≡ whole_app
+whole_is none one two three four run gen soak locks stats all none_is run_is gen_is soak_is locks_is stats_is first second third fourth fifth =
+    let middle = more two soak three _ _ (more one gen two _ _ (more none run one _ _ none_is run_is refl first) gen_is refl second) soak_is refl third in
+    more four stats all _ _ (more three locks four _ _ middle locks_is refl fourth) stats_is refl fifth

@@ -14,12 +14,12 @@ use Rattle.clap.specs.Values.{kind_of}
 use Rattle.clap.proofs.OnLiterals.{clap_on_literals}
 use Rattle.clap.proofs.WalkLemmas.{both}
 use Rattle.command_line.specs.declared.command.Command.{Command}
-use Rattle.command_line.specs.declared.command.Command.TheVariants.{Gen, Soak}
-use Rattle.command_line.specs.Words.{command_in, command_of, run_of, seeded_of, stats_of, workers_of}
-use Rattle.command_line.specs.Parses.{are_few, command_read, is_end_of_options, run_read, seeded_read, stats_read, whole_app}
+use Rattle.command_line.specs.declared.command.Command.TheVariants.{Gen, Soak, Locks, Stats}
+use Rattle.command_line.specs.Words.{alone_of, command_in, command_of, run_of, seeded_of, workers_of}
+use Rattle.command_line.specs.Parses.{alone_read, are_few, command_read, is_end_of_options, run_read, seeded_read, whole_app}
 use Rattle.command_line.proofs.Turns.{word_is, IsLong, IsPlain}
 use Rattle.command_line.proofs.Named.{minus_devices, other_text, same_text}
-use Rattle.command_line.proofs.Leaves.{Agrees, LeafAgrees, run_leaf, run_none, run_one, run_two, seeded_leaf, seeded_none, seeded_one, seeded_two, stats_leaf, stats_more, stats_none}
+use Rattle.command_line.proofs.Leaves.{Agrees, LeafAgrees, run_leaf, run_none, run_one, run_two, seeded_leaf, seeded_none, seeded_one, seeded_two, alone_leaf, alone_more, alone_none}
 
 below : (k : Kinds) (read asked : Option Command) → Agrees k read asked → Agrees (or_else k []) read asked
 below [] read asked h = h
@@ -76,11 +76,18 @@ soak_words name (x ∷ y ∷ []) few ends =
     lifted (seeded_leaf (codes "soak")) (seeded_read Soak) (seeded_of Soak (x ∷ y ∷ [])) (x ∷ y ∷ []) (seeded_two (codes "soak") Soak x y one.0 (neither (is_end_of_options y) false one.1).0)
 soak_words name (x ∷ y ∷ z ∷ rest) few ends = absurd (not_few x y z rest few)
 
+locks_words : (name : Text) (words : List Text) → nat_le (length words) 2 ≡ true → Ends words → WordsAgree name (codes "locks" ∷ words)
+unfolding clap_on_literals
+locks_words name [] few ends = lifted (alone_leaf (codes "locks")) (alone_read Locks) (alone_of Locks []) [] (alone_none (codes "locks") Locks)
+locks_words name (x ∷ []) few ends = lifted (alone_leaf (codes "locks")) (alone_read Locks) None (x ∷ []) (alone_more (codes "locks") Locks x [] (neither (is_end_of_options x) false ends).0)
+locks_words name (x ∷ y ∷ []) few ends = lifted (alone_leaf (codes "locks")) (alone_read Locks) None (x ∷ y ∷ []) (alone_more (codes "locks") Locks x (y ∷ []) (neither (is_end_of_options x) (is_end_of_options y || false) ends).0)
+locks_words name (x ∷ y ∷ z ∷ rest) few ends = absurd (not_few x y z rest few)
+
 stats_words : (name : Text) (words : List Text) → nat_le (length words) 2 ≡ true → Ends words → WordsAgree name (codes "stats" ∷ words)
 unfolding clap_on_literals
-stats_words name [] few ends = lifted stats_leaf stats_read (stats_of []) [] stats_none
-stats_words name (x ∷ []) few ends = lifted stats_leaf stats_read None (x ∷ []) (stats_more x [] (neither (is_end_of_options x) false ends).0)
-stats_words name (x ∷ y ∷ []) few ends = lifted stats_leaf stats_read None (x ∷ y ∷ []) (stats_more x (y ∷ []) (neither (is_end_of_options x) (is_end_of_options y || false) ends).0)
+stats_words name [] few ends = lifted (alone_leaf (codes "stats")) (alone_read Stats) (alone_of Stats []) [] (alone_none (codes "stats") Stats)
+stats_words name (x ∷ []) few ends = lifted (alone_leaf (codes "stats")) (alone_read Stats) None (x ∷ []) (alone_more (codes "stats") Stats x [] (neither (is_end_of_options x) false ends).0)
+stats_words name (x ∷ y ∷ []) few ends = lifted (alone_leaf (codes "stats")) (alone_read Stats) None (x ∷ y ∷ []) (alone_more (codes "stats") Stats x (y ∷ []) (neither (is_end_of_options x) (is_end_of_options y || false) ends).0)
 stats_words name (x ∷ y ∷ z ∷ rest) few ends = absurd (not_few x y z rest few)
 
 -- where the first word's turn fails, the level does
@@ -96,11 +103,11 @@ level_fails s names h word words has under k ks e =
 abbrev top : App
 top = built whole_app
 
--- a first word that names none of the four
+-- a first word that names none of the five
 module _ (name word : Text) (words : List Text) (no_run : bytes_eq word (codes "run") ≡ false) (no_gen : bytes_eq word (codes "gen") ≡ false)
-    (no_soak : bytes_eq word (codes "soak") ≡ false) (no_stats : bytes_eq word (codes "stats") ≡ false) (end : is_end_of_options word ≡ false) where
+    (no_soak : bytes_eq word (codes "soak") ≡ false) (no_locks : bytes_eq word (codes "locks") ≡ false) (no_stats : bytes_eq word (codes "stats") ≡ false) (end : is_end_of_options word ≡ false) where
   unnamed : subcommand_met (names_of top) idle word ≡ None
-  unnamed = rw (other_text word (codes "run") no_run, other_text word (codes "gen") no_gen, other_text word (codes "soak") no_soak, other_text word (codes "stats") no_stats) refl
+  unnamed = rw (other_text word (codes "run") no_run, other_text word (codes "gen") no_gen, other_text word (codes "soak") no_soak, other_text word (codes "locks") no_locks, other_text word (codes "stats") no_stats) refl
 
   first_fails : (k : ErrorKind) × (ks : Kinds) × (turn_fault top.top (names_of top) (walk_from nothing_held) word ≡ k ∷ ks)
   unfolding clap_on_literals
@@ -113,7 +120,7 @@ module _ (name word : Text) (words : List Text) (no_run : bytes_eq word (codes "
       go (inr (inr h)) = (UnknownArgument, InvalidSubcommand ∷ [], h.0)
 
   no_command : command_in (word ∷ words) ≡ None
-  no_command = rw (no_run, no_gen, no_soak, no_stats) refl
+  no_command = rw (no_run, no_gen, no_soak, no_locks, no_stats) refl
 
   whole_fails : (k : ErrorKind) (ks : Kinds) → turn_fault top.top (names_of top) (walk_from nothing_held) word ≡ k ∷ ks → fault_of whole_app (name ∷ word ∷ words) ≡ k ∷ ks
   whole_fails k ks e = level_fails top.top (names_of top) nothing_held word words (is_some (entered top (stop_after top.top.rules (names_of top) (word ∷ words))))
@@ -144,13 +151,17 @@ words_agree name (word ∷ words) few = run (bytes_eq word (codes "run")) refl
     parts : (is_end_of_options word ≡ false) × Ends words
     parts = neither (is_end_of_options word) (list_any is_end_of_options words) ends
 
-    stats : bytes_eq word (codes "run") ≡ false → bytes_eq word (codes "gen") ≡ false → bytes_eq word (codes "soak") ≡ false → (b : Bool) → bytes_eq word (codes "stats") ≡ b → WordsAgree name (word ∷ words)
-    stats r g s true e = subst (λ w. WordsAgree name (w ∷ words)) (sym (same_text word (codes "stats") e)) (stats_words name words one parts.1)
-    stats r g s false e = other_words name word words r g s e parts.0
+    stats : bytes_eq word (codes "run") ≡ false → bytes_eq word (codes "gen") ≡ false → bytes_eq word (codes "soak") ≡ false → bytes_eq word (codes "locks") ≡ false → (b : Bool) → bytes_eq word (codes "stats") ≡ b → WordsAgree name (word ∷ words)
+    stats r g s l true e = subst (λ w. WordsAgree name (w ∷ words)) (sym (same_text word (codes "stats") e)) (stats_words name words one parts.1)
+    stats r g s l false e = other_words name word words r g s l e parts.0
+
+    locks : bytes_eq word (codes "run") ≡ false → bytes_eq word (codes "gen") ≡ false → bytes_eq word (codes "soak") ≡ false → (b : Bool) → bytes_eq word (codes "locks") ≡ b → WordsAgree name (word ∷ words)
+    locks r g s true e = subst (λ w. WordsAgree name (w ∷ words)) (sym (same_text word (codes "locks") e)) (locks_words name words one parts.1)
+    locks r g s false e = stats r g s e (bytes_eq word (codes "stats")) refl
 
     soak : bytes_eq word (codes "run") ≡ false → bytes_eq word (codes "gen") ≡ false → (b : Bool) → bytes_eq word (codes "soak") ≡ b → WordsAgree name (word ∷ words)
     soak r g true e = subst (λ w. WordsAgree name (w ∷ words)) (sym (same_text word (codes "soak") e)) (soak_words name words one parts.1)
-    soak r g false e = stats r g e (bytes_eq word (codes "stats")) refl
+    soak r g false e = locks r g e (bytes_eq word (codes "locks")) refl
 
     gen : bytes_eq word (codes "run") ≡ false → (b : Bool) → bytes_eq word (codes "gen") ≡ b → WordsAgree name (word ∷ words)
     gen r true e = subst (λ w. WordsAgree name (w ∷ words)) (sym (same_text word (codes "gen") e)) (gen_words name words one parts.1)
@@ -162,18 +173,20 @@ words_agree name (word ∷ words) few = run (bytes_eq word (codes "run")) refl
 
 -- ---- words of no form
 
-choose : (a b c d : Bool) (p q r s : Option Command) → p ≡ None → q ≡ None → r ≡ None → s ≡ None → cond a p (cond b q (cond c r (cond d s None))) ≡ None
-choose true b c d p q r s one two three four = one
-choose false true c d p q r s one two three four = two
-choose false false true d p q r s one two three four = three
-choose false false false true p q r s one two three four = four
-choose false false false false p q r s one two three four = refl
+choose : (a b c d e : Bool) (p q r s t : Option Command) → p ≡ None → q ≡ None → r ≡ None → s ≡ None → t ≡ None → cond a p (cond b q (cond c r (cond d s (cond e t None)))) ≡ None
+choose true b c d e p q r s t one two three four five = one
+choose false true c d e p q r s t one two three four five = two
+choose false false true d e p q r s t one two three four five = three
+choose false false false true e p q r s t one two three four five = four
+choose false false false false true p q r s t one two three four five = five
+choose false false false false false p q r s t one two three four five = refl
 
 -- whatever the first word is, these after it make no form
-unformed : (word : Text) (words : List Text) → run_of words ≡ None → ((make : ℕ → ℕ → Command) → seeded_of make words ≡ None) → stats_of words ≡ None → command_in (word ∷ words) ≡ None
-unformed word words run seeded stats =
-    choose (bytes_eq word (codes "run")) (bytes_eq word (codes "gen")) (bytes_eq word (codes "soak")) (bytes_eq word (codes "stats")) (run_of words) (seeded_of Gen words) (seeded_of Soak words) (stats_of words)
-    run (seeded Gen) (seeded Soak) stats
+unformed : (word : Text) (words : List Text) → run_of words ≡ None → ((make : ℕ → ℕ → Command) → seeded_of make words ≡ None) → ((what : Command) → alone_of what words ≡ None) → command_in (word ∷ words) ≡ None
+unformed word words run seeded alone =
+    choose (bytes_eq word (codes "run")) (bytes_eq word (codes "gen")) (bytes_eq word (codes "soak")) (bytes_eq word (codes "locks")) (bytes_eq word (codes "stats"))
+    (run_of words) (seeded_of Gen words) (seeded_of Soak words) (alone_of Locks words) (alone_of Stats words)
+    run (seeded Gen) (seeded Soak) (alone Locks) (alone Stats)
 
 end_is : (word : Text) → is_end_of_options word ≡ true → word ≡ codes "--"
 end_is word e = same_text word (codes "--") e
@@ -191,15 +204,15 @@ not_none false e = absurd (true≢false e)
 
 two_none : (word x : Text) (a b : Bool) → is_end_of_options word ≡ a → is_end_of_options x ≡ b → (a || (b || false)) ≡ true → command_in (word ∷ x ∷ []) ≡ None
 two_none word x true b e f any = ap (λ w. command_in (w ∷ x ∷ [])) (end_is word e)
-two_none word x false true e f any = ap (λ z. command_in (word ∷ z ∷ [])) (end_is x f) ∙ unformed word (codes "--" ∷ []) refl (λ make. refl) refl
+two_none word x false true e f any = ap (λ z. command_in (word ∷ z ∷ [])) (end_is x f) ∙ unformed word (codes "--" ∷ []) refl (λ make. refl) (λ what. refl)
 two_none word x false false e f any = absurd (true≢false (sym any))
 
 three_none : (word x y : Text) (a b c : Bool) → is_end_of_options word ≡ a → is_end_of_options x ≡ b → is_end_of_options y ≡ c → (a || (b || (c || false))) ≡ true
     → command_in (word ∷ x ∷ y ∷ []) ≡ None
 three_none word x y true b c e f g any = ap (λ w. command_in (w ∷ x ∷ y ∷ [])) (end_is word e)
-three_none word x y false true c e f g any = ap (λ z. command_in (word ∷ z ∷ y ∷ [])) (end_is x f) ∙ unformed word (codes "--" ∷ y ∷ []) refl (λ make. refl) refl
+three_none word x y false true c e f g any = ap (λ z. command_in (word ∷ z ∷ y ∷ [])) (end_is x f) ∙ unformed word (codes "--" ∷ y ∷ []) refl (λ make. refl) (λ what. refl)
 three_none word x y false false true e f g any = ap (λ z. command_in (word ∷ x ∷ z ∷ [])) (end_is y g)
-    ∙ unformed word (x ∷ codes "--" ∷ []) (end_last x) (λ make. minus_devices make x (codes "--") (codes "-") refl) refl
+    ∙ unformed word (x ∷ codes "--" ∷ []) (end_last x) (λ make. minus_devices make x (codes "--") (codes "-") refl) (λ what. refl)
 three_none word x y false false false e f g any = absurd (true≢false (sym any))
 
 others_none : (words : List Text) → are_few words ≡ false → command_in words ≡ None
@@ -213,7 +226,7 @@ others_none (word ∷ []) few = one (is_end_of_options word) refl (not_none _ fe
         absurd (true≢false (sym any ∙ no))
 others_none (word ∷ x ∷ []) few = two_none word x (is_end_of_options word) (is_end_of_options x) refl refl (not_none _ few)
 others_none (word ∷ x ∷ y ∷ []) few = three_none word x y (is_end_of_options word) (is_end_of_options x) (is_end_of_options y) refl refl refl (not_none _ few)
-others_none (word ∷ x ∷ y ∷ z ∷ rest) few = unformed word (x ∷ y ∷ z ∷ rest) refl (λ make. refl) refl
+others_none (word ∷ x ∷ y ∷ z ∷ rest) few = unformed word (x ∷ y ∷ z ∷ rest) refl (λ make. refl) (λ what. refl)
 
 -- ---- what the answers cite
 

@@ -9,8 +9,8 @@ use Rattle.clap.specs.declared.error.kind.ErrorKind.{ErrorKind}
 use Rattle.clap.specs.declared.error.kind.ErrorKind.TheVariants.{InvalidValue, UnknownArgument}
 use Rattle.clap.proofs.OnLiterals.{clap_on_literals}
 use Rattle.command_line.specs.declared.command.Command.{Command}
-use Rattle.command_line.specs.Words.{run_of, seeded_of, stats_of, workers_of, workers_prefix}
-use Rattle.command_line.specs.Parses.{run_app, run_read, seeded_app, seeded_read, stats_app, stats_read, whole_app, workers_rule}
+use Rattle.command_line.specs.Words.{alone_of, run_of, seeded_of, workers_of, workers_prefix}
+use Rattle.command_line.specs.Parses.{alone_app, alone_read, run_app, run_read, seeded_app, seeded_read, whole_app, workers_rule}
 use Rattle.command_line.proofs.Turns.{place, turn_by, word_is, IsLong, IsPlain}
 use Rattle.command_line.proofs.Named.{joined_parts, minus_devices, minus_seed, minus_workers, names_no_workers, same_text}
 
@@ -185,24 +185,25 @@ module _ (name : Text) (make : ℕ → ℕ → Command) where
       go (inr (inl h)) = fails (seeded_leaf name) (seeded_read make) asked (walk_from nothing_held) x (y ∷ []) UnknownArgument [] h.0 (minus_seed make x y h.1.0 h.1.1)
       go (inr (inr h)) = passes (seeded_leaf name) (seeded_read make) asked (walk_from nothing_held) (place (seeded_leaf name) [] [] (seed_held x) idle 2 y) x (y ∷ []) h.0 h.1 (seeded_last x y end_y)
 
--- ---- stats
+-- ---- a command without words of its own
 
-abbrev pub stats_leaf : Shape
-stats_leaf = leaf stats_app
+abbrev pub alone_leaf : Text → Shape
+alone_leaf name = leaf (alone_app name)
 
-abbrev StatsAgrees : List Text → Type 0
-StatsAgrees words = LeafAgrees stats_leaf stats_read (stats_of words) (walk_from nothing_held) words
+module _ (name : Text) (what : Command) where
+  abbrev AloneAgrees : List Text → Type 0
+  AloneAgrees words = LeafAgrees (alone_leaf name) (alone_read what) (alone_of what words) (walk_from nothing_held) words
 
-pub stats_none : StatsAgrees []
-unfolding clap_on_literals
-stats_none = refl
+  pub alone_none : AloneAgrees []
+  unfolding clap_on_literals
+  alone_none = refl
 
--- stats knows no word
-pub stats_more : (x : Text) (rest : List Text) → bytes_eq x (codes "--") ≡ false → StatsAgrees (x ∷ rest)
-unfolding clap_on_literals
-stats_more x rest end = fails stats_leaf stats_read None (walk_from nothing_held) x rest UnknownArgument [] (go (word_is stats_leaf [] [] None idle 1 x (λ c. refl) refl end)) refl
-  where
-    go : IsLong stats_leaf [] [] None idle 1 x ⊎ IsPlain stats_leaf [] [] None idle 1 x → turn_fault stats_leaf [] (place stats_leaf [] [] None idle 1 x) x ≡ UnknownArgument ∷ []
-    go (inl h) = h.2
-    go (inr (inl h)) = h.0
-    go (inr (inr h)) = h.0
+  -- such a command knows no word
+  pub alone_more : (x : Text) (rest : List Text) → bytes_eq x (codes "--") ≡ false → AloneAgrees (x ∷ rest)
+  unfolding clap_on_literals
+  alone_more x rest end = fails (alone_leaf name) (alone_read what) None (walk_from nothing_held) x rest UnknownArgument [] (go (word_is (alone_leaf name) [] [] None idle 1 x (λ c. refl) refl end)) refl
+    where
+      go : IsLong (alone_leaf name) [] [] None idle 1 x ⊎ IsPlain (alone_leaf name) [] [] None idle 1 x → turn_fault (alone_leaf name) [] (place (alone_leaf name) [] [] None idle 1 x) x ≡ UnknownArgument ∷ []
+      go (inl h) = h.2
+      go (inr (inl h)) = h.0
+      go (inr (inr h)) = h.0

@@ -4,8 +4,8 @@ use Rattle.std.specs.Prelude.{IfSome, nat_le, option_and_then, bytes_eq, take, d
 use Rattle.std.specs.List.{list_all}
 use Rattle.clap.proofs.WalkLemmas.{both}
 use Rattle.command_line.specs.declared.command.Command.{Command}
-use Rattle.command_line.specs.declared.command.Command.TheVariants.{Run, Gen, Soak}
-use Rattle.command_line.specs.Words.{IsInRange, command_of, has_no_zero_before, is_digit, number_in, run_of, seeded_of, stats_of, value_of, workers_of, workers_prefix}
+use Rattle.command_line.specs.declared.command.Command.TheVariants.{Run, Gen, Soak, Locks, Stats}
+use Rattle.command_line.specs.Words.{IsInRange, alone_of, command_of, has_no_zero_before, is_digit, number_in, run_of, seeded_of, value_of, workers_of, workers_prefix}
 
 if_so : (b : Bool) (n : ℕ) (P : ℕ → Type 0) → (b ≡ true → P n) → IfSome (cond b (Some n) None) P
 if_so true n P h = h refl
@@ -51,9 +51,9 @@ seeded_range make h (seed ∷ devices ∷ []) = go (number_in 0 (2 ^ 64 - 1) see
     go (Some s) = by s (number_in 1 1000 devices) (number_range 1 1000 devices)
 seeded_range make h (seed ∷ devices ∷ more ∷ words) = tt
 
-stats_range : (words : List (List ℕ)) → IfSome (stats_of words) IsInRange
-stats_range [] = tt
-stats_range (word ∷ words) = tt
+alone_range : (what : Command) → IsInRange what → (words : List (List ℕ)) → IfSome (alone_of what words) IsInRange
+alone_range what h [] = h
+alone_range what h (word ∷ words) = tt
 
 -- what words ask for is in range
 in_range : (words : List (List ℕ)) → IfSome (command_of words) IsInRange
@@ -63,7 +63,8 @@ in_range (name ∷ word ∷ words) =
     either (bytes_eq word (codes "run")) _ _ (run_range words)
     (either (bytes_eq word (codes "gen")) _ _ (seeded_range Gen (λ s d l m. (l, m)) words)
     (either (bytes_eq word (codes "soak")) _ _ (seeded_range Soak (λ s d l m. (l, m)) words)
-    (either (bytes_eq word (codes "stats")) _ None (stats_range words) tt)))
+    (either (bytes_eq word (codes "locks")) _ _ (alone_range Locks tt words)
+    (either (bytes_eq word (codes "stats")) _ None (alone_range Stats tt words) tt))))
 
 -- so is what was read of them
 pub asked_in_range : (words : List (List ℕ)) (o : Option Command) → o ≡ command_of words → IfSome o IsInRange

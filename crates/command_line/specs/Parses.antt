@@ -5,7 +5,7 @@ use Rattle.std.specs.Option.{option_map_or}
 use Rattle.clap.specs.Simple.{on_top}
 use Rattle.clap.specs.Words.{App, Row, Rule, Shape, first_of, new_app, new_rule, with_rule, with_subcommand}
 use Rattle.command_line.specs.declared.command.Command.{Command}
-use Rattle.command_line.specs.declared.command.Command.TheVariants.{Run, Gen, Soak, Stats}
+use Rattle.command_line.specs.declared.command.Command.TheVariants.{Run, Gen, Soak, Locks, Stats}
 use Rattle.command_line.specs.Words.{workers_of, seeded_of}
 
 -- the word that ends a command line's options
@@ -36,15 +36,15 @@ seeded_app name = with_rule (with_rule (new_app name) (wanted_rule (codes "seed"
 abbrev pub without_help : Shape → Shape
 without_help s = record s { disable_help_flag = true; disable_help_subcommand = true }
 
--- stats, without words of its own
-abbrev pub stats_app : App
-stats_app = new_app (codes "stats")
+-- a command without words of its own
+abbrev pub alone_app : List ℕ → App
+alone_app name = new_app name
 
--- the four commands
+-- the five commands
 abbrev pub whole_app : App
 whole_app =
-    with_subcommand (with_subcommand (with_subcommand (with_subcommand (on_top without_help (new_app (codes "sleep"))) run_app.top)
-    (seeded_app (codes "gen")).top) (seeded_app (codes "soak")).top) stats_app.top
+    with_subcommand (with_subcommand (with_subcommand (with_subcommand (with_subcommand (on_top without_help (new_app (codes "sleep"))) run_app.top)
+    (seeded_app (codes "gen")).top) (seeded_app (codes "soak")).top) (alone_app (codes "locks")).top) (alone_app (codes "stats")).top
 
 -- what the matches of run ask for
 abbrev pub run_read : List Row → Option Command
@@ -55,14 +55,14 @@ abbrev pub seeded_read : (ℕ → ℕ → Command) → List Row → Option Comma
 seeded_read make rows = option_and_then (λ seed. option_and_then (λ devices. seeded_of make (seed ∷ devices ∷ []))
     (first_of (codes "devices") rows)) (first_of (codes "seed") rows)
 
--- what the matches of stats ask for
-abbrev pub stats_read : List Row → Option Command
-stats_read rows = Some Stats
+-- what the matches of a command without words of its own ask for
+abbrev pub alone_read : Command → List Row → Option Command
+alone_read what rows = Some what
 
 -- what the matches ask for
 abbrev pub command_read : Option (List ℕ × List Row) → Option Command
 command_read None = None
 command_read (Some p) =
     if bytes_eq p.0 (codes "run") then run_read p.1 else if bytes_eq p.0 (codes "gen") then seeded_read Gen p.1
-    else if bytes_eq p.0 (codes "soak") then seeded_read Soak p.1 else if bytes_eq p.0 (codes "stats") then stats_read p.1
-    else None
+    else if bytes_eq p.0 (codes "soak") then seeded_read Soak p.1 else if bytes_eq p.0 (codes "locks") then alone_read Locks p.1
+    else if bytes_eq p.0 (codes "stats") then alone_read Stats p.1 else None

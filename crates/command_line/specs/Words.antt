@@ -2,7 +2,7 @@
 use Rattle.std.specs.Prelude.{ℕ, ◌≤◌, ◌+◌, ◌-◌, ◌*◌, ◌^◌, List, [], ◌∷◌, length, codes, Bool, true, false, ◌&&◌, take, drop, bytes_eq, nat_le, nat_lt, fold, Option, Some, None, option_map, option_and_then, if◌then◌else◌}
 use Rattle.std.specs.List.{list_all}
 use Rattle.command_line.specs.declared.command.Command.{Command}
-use Rattle.command_line.specs.declared.command.Command.TheVariants.{Run, Gen, Soak, Stats}
+use Rattle.command_line.specs.declared.command.Command.TheVariants.{Run, Gen, Soak, Locks, Stats}
 
 -- a digit
 abbrev pub is_digit : ℕ → Bool
@@ -51,18 +51,18 @@ seeded_of make (seed ∷ devices ∷ []) =
     option_and_then (λ s. option_map (make s) (number_in 1 1000 devices)) (number_in 0 (2 ^ 64 - 1) seed)
 seeded_of make _ = None
 
--- no word after stats
-abbrev pub stats_of : List (List ℕ) → Option Command
-stats_of [] = Some Stats
-stats_of _ = None
+-- no word after a command that has none of its own
+abbrev pub alone_of : Command → List (List ℕ) → Option Command
+alone_of what [] = Some what
+alone_of what _ = None
 
 -- the words after the program's name
 abbrev pub command_in : List (List ℕ) → Option Command
 command_in [] = None
 command_in (word ∷ words) =
     if bytes_eq word (codes "run") then run_of words else if bytes_eq word (codes "gen") then seeded_of Gen words
-    else if bytes_eq word (codes "soak") then seeded_of Soak words else if bytes_eq word (codes "stats") then stats_of words
-    else None
+    else if bytes_eq word (codes "soak") then seeded_of Soak words else if bytes_eq word (codes "locks") then alone_of Locks words
+    else if bytes_eq word (codes "stats") then alone_of Stats words else None
 
 -- what these words ask for, where they are of a form; the first is the program's name
 abbrev pub command_of : List (List ℕ) → Option Command
@@ -74,4 +74,5 @@ abbrev pub IsInRange : Command → Type 0
 IsInRange (Run workers) = (1 ≤ workers) × (workers ≤ 64)
 IsInRange (Gen seed devices) = (1 ≤ devices) × (devices ≤ 1000)
 IsInRange (Soak seed devices) = (1 ≤ devices) × (devices ≤ 1000)
+IsInRange Locks = Unit {0}
 IsInRange Stats = Unit {0}

@@ -7,6 +7,8 @@ pub enum Command {
     Gen { seed: u64, devices: u32 },
     /// To run that machine, and to write how its run ended.
     Soak { seed: u64, devices: u32 },
+    /// To read lines that lock and unlock names, and to write their answers.
+    Locks,
     /// To read a machine and a log of it, and to write the log's statistics.
     Stats,
 }

@@ -45,7 +45,7 @@ fn seeded_command<'a>(alloc: Global, name: &'a str) -> Result<clap::Command<'a>,
         .arg(Arg::new(alloc, "devices").required(true))
 }
 
-/// The four commands. A call for help is an error like any other.
+/// The five commands. A call for help is an error like any other.
 fn whole_command<'a>(alloc: Global) -> Result<clap::Command<'a>, AllocError>
     ensures { IfOk result (λ c. app_of c ≡ whole_app) }
 {
@@ -55,6 +55,7 @@ fn whole_command<'a>(alloc: Global) -> Result<clap::Command<'a>, AllocError>
         .subcommand(run_command(alloc)?)?
         .subcommand(seeded_command(alloc, "gen")?)?
         .subcommand(seeded_command(alloc, "soak")?)?
+        .subcommand(clap::Command::new(alloc, "locks"))?
         .subcommand(clap::Command::new(alloc, "stats"))
 }
 
@@ -113,6 +114,7 @@ fn command_read(matches: &ArgMatches) -> Option<Command>
         "run" => run_read(inner),
         "gen" => seeded_read(inner).map(|(seed, devices)| Command::Gen { seed, devices }),
         "soak" => seeded_read(inner).map(|(seed, devices)| Command::Soak { seed, devices }),
+        "locks" => Some(Command::Locks),
         "stats" => Some(Command::Stats),
         _ => None,
     }

@@ -1,3 +1,4 @@
 pub mod Digits
+pub mod Ending
 pub mod FirstLine
 pub mod Forms

@@ -1,4 +1,5 @@
 pub mod Answers
+pub mod Command
 pub mod Lines
 pub mod Steps
 pub mod Told

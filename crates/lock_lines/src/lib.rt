@@ -3,11 +3,15 @@
 
 mod answer;
 mod board;
+mod command;
 mod cut;
 mod fault;
+#[cfg(test)]
+mod tests;
 mod text;
 mod verb;
 
 pub use answer::{MOST_BYTES, answer_lines};
+pub use command::locks_of;
 pub use fault::LinesFault;
 pub use verb::Verb;

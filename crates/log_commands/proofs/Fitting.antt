@@ -13,7 +13,7 @@ use Rattle.log_text.proofs.NoBadLine.{none_bad}
 use Rattle.log_text.proofs.OneLog.{one_log}
 use Rattle.file_read_back.proofs.Naming.{machines_named}
 use Rattle.program_ending.specs.declared.refusal.Refusal.{Refusal}
-use Rattle.program_ending.specs.declared.refusal.Refusal.TheVariants.{LongMachine, Broken, SourceFull, LongInput, BadLine, TooManyLinks, LinkCycle}
+use Rattle.program_ending.specs.declared.refusal.Refusal.TheVariants.{LongMachine, Broken, BadLine}
 use Rattle.log_commands.specs.Input.{IsBadInput, IsLogIn, file_in, text_in}
 use Rattle.log_commands.specs.Stats.{RefusesStats}
 use Rattle.log_commands.specs.Taking.{refusal_of}
@@ -60,10 +60,7 @@ module _ (bytes : List ℕ) (m : Machine) (log : Log) (read : IsLogIn bytes m lo
   no_bad_input LongMachine h = omega (arith, h, read.few)
   no_bad_input (Broken rule place) h = no_machine (tree (file_in bytes)) m _ h.1 read.spells
   no_bad_input (BadLine n) h = no_bad_line h.machine n (same_machine h.machine h.spells) h.bad
-  no_bad_input TooManyLinks h = h
-  no_bad_input LinkCycle h = h
-  no_bad_input (SourceFull name) h = h
-  no_bad_input LongInput h = h
+  no_bad_input refusal h = h
 
   -- such an input is not refused
   pub none_refused : (refusal : Refusal) → RefusesStats bytes refusal → ⊥

@@ -3,7 +3,7 @@ use Rattle.std.specs.Prelude.{ℕ, List, [], ◌∷◌, ◌++◌, codes, decimal
 use Rattle.program_ending.specs.declared.ending.Ending.{Ending}
 use Rattle.program_ending.specs.declared.ending.Ending.TheVariants.{Done, Stuck, NoForm, ReadFault, WriteFault, Refused, NoMemory}
 use Rattle.program_ending.specs.declared.refusal.Refusal.{Refusal}
-use Rattle.program_ending.specs.declared.refusal.Refusal.TheVariants.{LongMachine, Broken, SourceFull, LongInput, BadLine, TooManyLinks, LinkCycle}
+use Rattle.program_ending.specs.declared.refusal.Refusal.TheVariants.{LongMachine, Broken, SourceFull, LongInput, BadLine, TooManyLinks, LinkCycle, LongLocks, BadLockLine}
 
 -- the status where an input is refused
 abbrev pub refusal_status : Refusal → ℕ
@@ -33,12 +33,14 @@ refusal_text LongInput = line (codes "input: longer than 268435456 bytes")
 refusal_text (BadLine n) = line (codes "log: line " ++ decimal n)
 refusal_text TooManyLinks = line (codes "log: links")
 refusal_text LinkCycle = line (codes "log: cycle")
+refusal_text LongLocks = line (codes "locks: longer than 16777216 bytes")
+refusal_text (BadLockLine n) = line (codes "locks: line " ++ decimal n)
 
 -- what the program says on standard error
 abbrev pub text_of : Ending → List ℕ
 text_of Done = []
 text_of Stuck = []
-text_of NoForm = line (codes "usage: run [--workers N] or gen SEED DEVICES or soak SEED DEVICES or stats")
+text_of NoForm = line (codes "usage: run [--workers N] or gen SEED DEVICES or soak SEED DEVICES or locks or stats")
 text_of ReadFault = line (codes "read fault")
 text_of WriteFault = line (codes "write fault")
 text_of (Refused refusal) = refusal_text refusal
@@ -55,11 +57,14 @@ refusal_head LongInput = codes "input: longer than 268435456 bytes"
 refusal_head (BadLine n) = codes "log: line "
 refusal_head TooManyLinks = codes "log: links"
 refusal_head LinkCycle = codes "log: cycle"
+refusal_head LongLocks = codes "locks: longer than 16777216 bytes"
+refusal_head (BadLockLine n) = codes "locks: line "
 
 -- the number of a rule or of a line, where it says one
 abbrev pub refusal_number : Refusal → List ℕ
 refusal_number (Broken rule place) = decimal rule
 refusal_number (BadLine n) = decimal n
+refusal_number (BadLockLine n) = decimal n
 refusal_number refusal = []
 
 -- the place where a rule is broken, or the name of a source, where it says one

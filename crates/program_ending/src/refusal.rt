@@ -21,6 +21,10 @@ pub enum Refusal {
     TooManyLinks,
     /// A log adds a link that closes a cycle.
     LinkCycle,
+    /// Lines that lock and unlock names are longer than 16,777,216 bytes.
+    LongLocks,
+    /// That line of them is the first of no form.
+    BadLockLine(u32),
 }
 
 impl Refusal {
@@ -46,6 +50,8 @@ impl Refusal {
             Refusal::BadLine(_) => "log: line ",
             Refusal::TooManyLinks => "log: links",
             Refusal::LinkCycle => "log: cycle",
+            Refusal::LongLocks => "locks: longer than 16777216 bytes",
+            Refusal::BadLockLine(_) => "locks: line ",
         }
     }
 
@@ -56,6 +62,7 @@ impl Refusal {
         match self {
             Refusal::Broken { rule, .. } => buffer.format(*rule).as_bytes(),
             Refusal::BadLine(line) => buffer.format(*line).as_bytes(),
+            Refusal::BadLockLine(line) => buffer.format(*line).as_bytes(),
             _ => b"",
         }
     }

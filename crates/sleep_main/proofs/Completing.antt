@@ -8,15 +8,16 @@ use Rattle.machine_file.specs.Tree.{tree}
 use Rattle.machine_file.specs.Whole.{machine_in}
 use Rattle.sleep_run.specs.Runs.{IsFull}
 use Rattle.command_line.specs.declared.command.Command.{Command}
-use Rattle.command_line.specs.declared.command.Command.TheVariants.{Run, Gen, Soak, Stats}
+use Rattle.command_line.specs.declared.command.Command.TheVariants.{Run, Gen, Soak, Locks, Stats}
 use Rattle.program_ending.specs.declared.ending.Ending.{Ending}
 use Rattle.program_ending.specs.declared.ending.Ending.TheVariants.{Done, Stuck, NoForm, ReadFault, WriteFault, Refused, NoMemory}
 use Rattle.program_ending.specs.declared.refusal.Refusal.{Refusal}
-use Rattle.program_ending.specs.declared.refusal.Refusal.TheVariants.{Broken, SourceFull, LongInput}
+use Rattle.program_ending.specs.declared.refusal.Refusal.TheVariants.{Broken, SourceFull, LongInput, BadLockLine, LongLocks}
 use Rattle.program_ending.specs.Endings.{status_of}
+use Rattle.lock_lines.specs.Command.{IsLocksOf, RefusesLocks}
 use Rattle.log_commands.specs.Stats.{IsStatsOf, RefusesStats}
 use Rattle.log_commands.proofs.Fitting.{no_machine, none_refused, one_machine}
-use Rattle.sleep_main.specs.Endings.{Stream, Streams, NoFault, NoFaults, Completes, Ended, RunEnded, GenEnded, SoakEnded, IsInput, IsOneOf, IsRefusal, FillsNone, RefusesInput, RefusesRun, StatsEnded, TellEnded}
+use Rattle.sleep_main.specs.Endings.{Stream, Streams, NoFault, NoFaults, Completes, Ended, RunEnded, GenEnded, SoakEnded, IsInput, IsOneOf, IsRefusal, FillsNone, LocksEnded, RefusesInput, RefusesRun, StatsEnded, TellEnded}
 
 -- a count that rose is no count that stayed
 rose_not : (before now : ℕ) → Rose before now → NoFault before now → ⊥
@@ -68,6 +69,16 @@ tell_completes most long Gives Why old new ReadFault h bytes is none faults = ab
 tell_completes most long Gives Why old new WriteFault h bytes is none faults = absurd (rose_not old.output.faults new.output.faults h.4.0 faults.1)
 tell_completes most long Gives Why old new NoMemory h bytes is none faults = inr (inr refl)
 
+-- lines that have an answer are not refused
+no_lock_refusal : (bytes said : List ℕ) → IsLocksOf bytes said → (refusal : Refusal) → RefusesLocks bytes refusal → ⊥
+no_lock_refusal bytes said is (BadLockLine n) h = absurd (cc)
+no_lock_refusal bytes said is (SourceFull name) h = absurd (cc)
+no_lock_refusal bytes said is refusal h = absurd h
+
+locks_completes : (old new : Streams) (ending : Ending) → LocksEnded old new ending → Completes (Some Locks) old new (status_of ending)
+locks_completes old new ending h = λ bytes said is told faults.
+    tell_completes 16777216 LongLocks IsLocksOf RefusesLocks old new ending h bytes is (no_lock_refusal bytes said told) faults
+
 stats_completes : (old new : Streams) (ending : Ending) → StatsEnded old new ending → Completes (Some Stats) old new (status_of ending)
 stats_completes old new ending h = λ bytes is m log read good faults.
     tell_completes 268435456 LongInput IsStatsOf RefusesStats old new ending h bytes is (none_refused bytes m log read good) faults
@@ -105,4 +116,5 @@ completes None old new ending h = refused_completes ending h.0
 completes (Some (Run workers)) old new ending h = run_completes workers old new ending h
 completes (Some (Gen seed devices)) old new ending h = gen_completes seed devices old.output new.output ending h.1
 completes (Some (Soak seed devices)) old new ending h = soak_completes seed devices old.output new.output ending h.1
+completes (Some Locks) old new ending h = locks_completes old new ending h
 completes (Some Stats) old new ending h = stats_completes old new ending h

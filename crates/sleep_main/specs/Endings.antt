@@ -12,7 +12,7 @@ use Rattle.sleep_model.specs.Legal.{IsFinishedLog, IsStuckLog}
 use Rattle.sleep_model.specs.Order.{parents_of}
 use Rattle.sleep_model.specs.Text.{text, source}
 use Rattle.command_line.specs.declared.command.Command.{Command}
-use Rattle.command_line.specs.declared.command.Command.TheVariants.{Run, Gen, Soak, Stats}
+use Rattle.command_line.specs.declared.command.Command.TheVariants.{Run, Gen, Soak, Locks, Stats}
 use Rattle.machine_file.specs.Spelling.{spelling}
 use Rattle.machine_file.specs.Whole.{machine_in, broken_at, broken_in}
 use Rattle.sleep_script.specs.Generated.{generated}
@@ -22,9 +22,10 @@ use Rattle.sleep_run.specs.Runs.{IsRun, IsFull}
 use Rattle.program_ending.specs.declared.ending.Ending.{Ending}
 use Rattle.program_ending.specs.declared.ending.Ending.TheVariants.{Done, Stuck, NoForm, ReadFault, WriteFault, Refused, NoMemory}
 use Rattle.program_ending.specs.declared.refusal.Refusal.{Refusal}
-use Rattle.program_ending.specs.declared.refusal.Refusal.TheVariants.{LongMachine, Broken, SourceFull, LongInput}
+use Rattle.program_ending.specs.declared.refusal.Refusal.TheVariants.{LongMachine, Broken, SourceFull, LongInput, LongLocks}
 use Rattle.program_ending.specs.Endings.{status_of}
 use Rattle.program_ending.specs.Telling.{Refuses}
+use Rattle.lock_lines.specs.Command.{IsLocksOf, RefusesLocks}
 use Rattle.log_commands.specs.Input.{IsLogIn}
 use Rattle.log_commands.specs.Stats.{IsStatsOf, RefusesStats}
 use Rattle.log_commands.specs.Taking.{refusal_of}
@@ -219,6 +220,10 @@ TellEnded most long Gives Why old new NoForm = ⊥
 abbrev pub StatsEnded : Streams → Streams → Ending → Type 0
 StatsEnded old new ending = TellEnded 268435456 LongInput IsStatsOf RefusesStats old new ending
 
+-- what an ending of locks means
+abbrev pub LocksEnded : Streams → Streams → Ending → Type 0
+LocksEnded old new ending = TellEnded 16777216 LongLocks IsLocksOf RefusesLocks old new ending
+
 -- ---- all words
 
 -- words of no form: the program says so, or memory ran out
@@ -232,6 +237,7 @@ abbrev pub Ended : Option Command → Streams → Streams → Ending → Type 0
 Ended None old new ending = IsRefusal ending × KeepsInput old new × KeepsOut old new
 Ended (Some (Run workers)) old new ending = RunEnded old new ending
 Ended (Some (Gen seed devices)) old new ending = KeepsInput old new × GenEnded seed devices old.output new.output ending
+Ended (Some Locks) old new ending = LocksEnded old new ending
 Ended (Some Stats) old new ending = StatsEnded old new ending
 Ended (Some (Soak seed devices)) old new ending = KeepsInput old new × SoakEnded seed devices old.output new.output ending
 
@@ -259,7 +265,7 @@ NoFaults old new = NoFault old.input.faults new.input.faults × NoFault old.outp
 abbrev pub IsInput : ℕ → Streams → List ℕ → Type 0
 IsInput most now bytes = (now.input.bytes ≡ Some bytes) × (length bytes ≤ most)
 
--- completeness, where no fault is counted: an input that spells a machine none of whose sources can be filled gives a log, of a run that is finished or stuck; gen writes its file, soak its line, and stats what is told of a machine and a log that fits it, no link of which is refused; or memory ran out
+-- completeness, where no fault is counted: an input that spells a machine none of whose sources can be filled gives a log, of a run that is finished or stuck; gen writes its file, soak its line, locks the answers to lines that are not refused, and stats what is told of a machine and a log that fits it, no link of which is refused; or memory ran out
 abbrev pub Completes : Option Command → Streams → Streams → ℕ → Type 0
 Completes None old new status = IsOneOf NoForm NoForm status
 Completes (Some (Run workers)) old new status =
@@ -267,6 +273,8 @@ Completes (Some (Run workers)) old new status =
     → IsOneOf Done Stuck status
 Completes (Some (Gen seed devices)) old new status = NoFault old.output.faults new.output.faults → IsOneOf Done Done status
 Completes (Some (Soak seed devices)) old new status = NoFault old.output.faults new.output.faults → IsOneOf Done Stuck status
+Completes (Some Locks) old new status =
+    (bytes said : List ℕ) → IsInput 16777216 old bytes → IsLocksOf bytes said → NoFaults old new → IsOneOf Done Done status
 Completes (Some Stats) old new status =
     (bytes : List ℕ) → IsInput 268435456 old bytes → (m : Machine) → (log : Log) → IsLogIn bytes m log
     → refusal_of (parents_of m.devices) m.links log.entries ≡ None → NoFaults old new → IsOneOf Done Done status

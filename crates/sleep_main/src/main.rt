@@ -8,6 +8,8 @@ mod generated;
 mod generated_tests;
 mod input;
 #[cfg(test)]
+mod locks_tests;
+#[cfg(test)]
 mod rows;
 mod said;
 #[cfg(test)]

@@ -10,7 +10,7 @@ ghost use Rattle.sleep_run.specs.Runs.{Fails};
 use crate::generated::{soak_generated, write_generated};
 use crate::input::{MOST_MACHINE, read_input};
 use crate::said::is_stuck;
-use crate::told::tell_stats;
+use crate::told::{tell_locks, tell_stats};
 use command_line::{Command, command_of};
 use itoa::Buffer;
 use log_text::LogText;
@@ -128,7 +128,7 @@ fn is_done(command: Command) -> bool
 {
     match command {
         Command::Run { workers } => workers == 1,
-        Command::Gen { .. } | Command::Soak { .. } | Command::Stats => true,
+        Command::Gen { .. } | Command::Soak { .. } | Command::Locks | Command::Stats => true,
     }
 }
 
@@ -161,6 +161,7 @@ fn do_command<R: Wait, S: ByteSource, K: ByteSink>(
         Command::Run { .. } => run_file(rt, alloc, input, out),
         Command::Gen { seed, devices } => write_generated(alloc, seed, devices, out),
         Command::Soak { seed, devices } => soak_generated(rt, alloc, seed, devices, out),
+        Command::Locks => tell_locks(rt, alloc, input, out),
         Command::Stats => tell_stats(alloc, input, out),
     }
 }
@@ -252,6 +253,7 @@ pub fn say<K: ByteSink>(err: &mut K, ending: &Ending)
 ///   writes its log to `out`.
 /// - `gen SEED DEVICES`: writes the file of the generated machine of a seed of 64 bits with 1 to 1,000 devices.
 /// - `soak SEED DEVICES`: runs that machine, and writes the line of its log's numbers.
+/// - `locks`: reads lines that lock and unlock names, and writes their answers and the statistics of each name.
 /// - `stats`: reads a machine file of one line and a log of it behind that, and writes what the log counts, its last
 ///   failures, the longest chain of devices at its end, and each device's level.
 ///
@@ -260,15 +262,16 @@ pub fn say<K: ByteSink>(err: &mut K, ending: &Ending)
 /// - 0: the text was written; of a run, one in which nothing was left to do. 6: of a run in which nobody went on.
 /// - 2: the words are others; nothing is read or written. Other words may give 8 instead, and nothing else.
 /// - 3: the input is longer than 16,777,216 bytes, or it breaks a rule of the format; `err` has the first rule with its
-///   place. To `stats` the machine or the log is such, and `err` says which, or with `log: links` or `log: cycle` that a
+///   place. To `locks` a line is of no form, and `err` has its number. To `stats` the machine or the log is such, and `err` says which, or with `log: links` or `log: cycle` that a
 ///   link of the log is refused. Such an input may give 4 or 8 instead, and nothing else.
 /// - 4: a read failed. 5: a write failed, after a front of the text.
-/// - 7: the history of a wakeup source has no place left for a call.
+/// - 7: the history of a wakeup source has no place left for a call, in a run or by a line of `locks`.
 /// - 8: there was no memory.
 ///
 /// At 2, 3, 4, 7 and 8 nothing is written to `out`. Where no fault is counted, an input that spells a machine none
-/// of whose sources can be filled gives 0, 6 or 8, `gen` gives 0 or 8, `soak` 0, 6 or 8, and `stats` 0 or 8 of a machine
-/// and a log that fits it, no link of which is refused. `gen` and `soak` leave `input` unread.
+/// of whose sources can be filled gives 0, 6 or 8, `gen` gives 0 or 8, `soak` 0, 6 or 8, `locks` 0 or 8 of lines that are
+/// of a form and fill no source, and `stats` 0 or 8 of a machine and a log that fits it, no link of which is refused.
+/// `gen` and `soak` leave `input` unread.
 pub fn run_words<R: Wait, S: ByteSource, K: ByteSink>(
     rt: &R,
     alloc: Global,
