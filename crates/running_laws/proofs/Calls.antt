@@ -28,7 +28,7 @@ use Rattle.wakeup_source.specs.Called.{Calls, Scene, Steps, after_note, after_st
 use Rattle.wakeup_source.specs.SourceStates.{IsSettled, SourceState, step_kind}
 use Rattle.wakeup_source.specs.SourceStates as states
 use Rattle.wakeup_source.specs.Told.{MayCall}
-use Rattle.growth_laws.specs.Ranged.{is_ranged, is_told}
+use Rattle.fit_laws.specs.Ranged.{is_ranged, is_told}
 use Rattle.log_merge.proofs.Reading.{both}
 use Rattle.merge_laws.specs.Apart.{IsCall}
 use Rattle.run_laws.specs.Acts.{Made, bare}

@@ -24,7 +24,7 @@ use Rattle.sleep_script.specs.Jobs.{JobState}
 use Rattle.event_word.specs.Steps.{MadeStep}
 use Rattle.wakeup_source.specs.SourceStates.{SourceState}
 use Rattle.wakeup_source.specs.SourceStates as states
-use Rattle.growth_laws.specs.Ranged.{is_told}
+use Rattle.fit_laws.specs.Ranged.{is_told}
 use Rattle.source_laws.proofs.Keeping.{histories_keep}
 use Rattle.merge_laws.specs.Apart.{past_of, source_past}
 use Rattle.merge_laws.specs.Merging.{IsMergeOf, stats_apart}

@@ -12,7 +12,7 @@ use Rattle.sleep_script.specs.Jobs.{IsJobOf, JobState, first_job, no_stamp}
 use Rattle.sleep_script.proofs.Following.{first_is_job}
 use Rattle.sleep_core.specs.Cores.{IsActor}
 use Rattle.wakeup_source.specs.SourceStates.{IsSettled, SourceState, new_source}
-use Rattle.growth_laws.specs.Ranged.{is_told}
+use Rattle.fit_laws.specs.Ranged.{is_told}
 use Rattle.run_laws.specs.Acts.{bare}
 use Rattle.run_laws.specs.Called.{knows}
 use Rattle.run_laws.specs.Held.{Held, nothing}

@@ -21,7 +21,7 @@ use Rattle.sleep_core.specs.Histories.{last_stamp}
 use Rattle.sleep_script.specs.Jobs.{IsJobOf, JobState, after_turn}
 use Rattle.sleep_script.proofs.Following.{other_entry, own_entry}
 use Rattle.wakeup_source.specs.SourceStates.{SourceState}
-use Rattle.growth_laws.specs.Ranged.{is_ranged, is_told}
+use Rattle.fit_laws.specs.Ranged.{is_ranged, is_told}
 use Rattle.log_merge.proofs.Reading.{both}
 use Rattle.merge_laws.proofs.Calling.{same_actor}
 use Rattle.run_laws.specs.Acts.{Made, with_entry}

@@ -15,7 +15,7 @@ use Rattle.sleep_state.specs.Places.{entries}
 use Rattle.sleep_core.specs.Cores.{IsActor}
 use Rattle.sleep_script.specs.Jobs.{IsJobOf, JobState}
 use Rattle.wakeup_source.specs.SourceStates.{IsSettled, SourceState}
-use Rattle.growth_laws.specs.Ranged.{is_told}
+use Rattle.fit_laws.specs.Ranged.{is_told}
 use Rattle.run_laws.specs.Acts.{Made, bare}
 use Rattle.run_laws.specs.Called.{knows}
 use Rattle.run_laws.specs.Held.{AllOf, Held}

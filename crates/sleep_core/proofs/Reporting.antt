@@ -13,7 +13,7 @@ use Rattle.sleep_model.specs.Accepted.{AreAnswers}
 use Rattle.sleep_model.specs.Answers.{answer_for, answer_reports, own_or, is_thing, is_for}
 use Rattle.sleep_model.specs.Calls.{calls_due, report_calls}
 use Rattle.sleep_model.specs.Path.{attempts, is_same}
-use Rattle.growth_laws.proofs.Planning.{reports_made, calls_counted}
+use Rattle.fit_laws.proofs.Planning.{reports_made, calls_counted}
 use Rattle.sleep_state.specs.Places.{entries}
 use Rattle.sleep_core.specs.Cores.{IsActor}
 use Rattle.sleep_core.specs.Histories.{Kept, after_entry}

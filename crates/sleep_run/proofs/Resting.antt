@@ -34,8 +34,8 @@ use Rattle.sleep_state.specs.Places.{entries}
 use Rattle.sleep_laws.proofs.Closing.{ends_closed}
 use Rattle.sleep_laws.proofs.Held.{guarded_sleep}
 use Rattle.sleep_laws.proofs.Lawful.{laws_of_legal}
-use Rattle.growth_laws.specs.Ranged.{is_told}
-use Rattle.growth_laws.proofs.Fitted.{log_fits}
+use Rattle.fit_laws.specs.Ranged.{is_told}
+use Rattle.fit_laws.proofs.Fitted.{log_fits}
 use Rattle.wakeup_source.specs.SourceStates.{SourceState}
 use Rattle.sleep_run.specs.declared.run.RunFault.{RunFault}
 use Rattle.sleep_run.specs.declared.run.RunFault.TheVariants as fault

@@ -9,7 +9,7 @@ ghost use Rattle.wakeup_source.specs.SourceStates.{bare, latest};
 
 use crate::run::{Run, RunFault, wait_unless};
 use crate::waiters::Waiters;
-use growth_laws::{moments_are_ranged, stats_are_ranged};
+use fit_laws::{moments_are_ranged, stats_are_ranged};
 use log_merge::merge_journal;
 use run_objects::{SeatedSource, close_table};
 use sleep_base::Mem;

@@ -10,7 +10,7 @@ use crate::waiters::Waiters;
 use answer_book::AnswerBook;
 use device_links::Links;
 use event_word::EventTable;
-use growth_laws::{calls_are_ranged, kinds_are_ranged, moments_are_ranged};
+use fit_laws::{calls_are_ranged, kinds_are_ranged, moments_are_ranged};
 use run_objects::{SeatedCore, SeatedSource, seated_sources};
 use sleep_base::Mem;
 use sleep_core::{Core, CoreFault, CoreTurn};

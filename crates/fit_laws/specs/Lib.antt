@@ -1,2 +1,1 @@
 pub mod Ranged
-pub mod Whole

@@ -1,16 +1,8 @@
-pub mod Calling
-pub mod Calls
 pub mod Fitted
 pub mod Fitting
-pub mod Growing
-pub mod Histories
-pub mod Idling
-pub mod Journals
 pub mod Locking
 pub mod Naming
 pub mod Planning
-pub mod Room
 pub mod Sitting
 pub mod Sourced
-pub mod Timely
 pub mod Waiting

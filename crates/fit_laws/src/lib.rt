@@ -1,9 +1,9 @@
-//! How a legal list of entries grows: one more entry of the journal, one whole call on a source, one jump
-//! of time; and that it fits its machine where its run is over.
+//! What is due of a machine's actors names things of that machine alone; so a legal log fits its machine where its run
+//! is over.
 #![tactic(auto)]
 
 ghost use Rattle.std.specs.Prelude.{◌≡◌, true};
-ghost use Rattle.growth_laws.specs.Ranged.{is_ranged};
+ghost use Rattle.fit_laws.specs.Ranged.{is_ranged};
 ghost use Rattle.sleep_model.specs.Calls.{note};
 ghost use Rattle.sleep_model.specs.Fits.{fits_stats, is_word64};
 

@@ -35,7 +35,7 @@ use Rattle.sleep_laws.proofs.Holding.{HolderOf, held}
 use Rattle.sleep_laws.proofs.Made.{ByDevice, ByMaker, ByTask, ByTime, ByWork, DeviceMade, EntryMade, Made, MayGo, StepMade, TaskMade, WorkMade, seat_of}
 use Rattle.sleep_laws.proofs.MakingOwn.{made}
 use Rattle.sleep_laws.proofs.Telling.{some≢none}
-use Rattle.growth_laws.proofs.Sitting.{IsAttempting, IsLock, IsSetting, LockAt, SetsAt, bad_text, free, op_at, seat_other, seat_own, seats_len, set_good, step_is}
+use Rattle.fit_laws.proofs.Sitting.{IsAttempting, IsLock, IsSetting, LockAt, SetsAt, bad_text, free, op_at, seat_other, seat_own, seats_len, set_good, step_is}
 
 -- ---- a task
 

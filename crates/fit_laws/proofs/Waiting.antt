@@ -43,8 +43,8 @@ use Rattle.sleep_laws.proofs.Closing.{rests_closed}
 use Rattle.sleep_laws.proofs.Made.{seat_of}
 use Rattle.sleep_laws.proofs.Operations.{Each, each_get, entry_operation}
 use Rattle.sleep_laws.proofs.Telling.{some≢none}
-use Rattle.growth_laws.proofs.Locking.{lock}
-use Rattle.growth_laws.proofs.Sitting.{IsAttempting, IsSetting, LockAt, SetsAt, SleepAt, free, op_at, seats_len, sleeper, step_is}
+use Rattle.fit_laws.proofs.Locking.{lock}
+use Rattle.fit_laws.proofs.Sitting.{IsAttempting, IsSetting, LockAt, SetsAt, SleepAt, free, op_at, seats_len, sleeper, step_is}
 
 -- ---- small facts
 
