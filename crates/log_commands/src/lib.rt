@@ -5,6 +5,8 @@ mod input;
 mod links;
 mod stats;
 mod telling;
+#[cfg(test)]
+mod tests;
 
 pub use input::{LogInput, read_log_input};
 pub use stats::stats_of;

@@ -82,6 +82,42 @@ fn links_of_a_log_are_tested(rt: HostRuntime) -> Result<(), Fail> {
     Ok(())
 }
 
+// A thousand devices in a list of a machine file.
+fn thousand_devices(alloc: Global) -> Result<String, Fail> {
+    let mut text = String::from_str(alloc, "{\"version\":1,\"devices\":[{\"name\":\"d0\"}")?;
+    for number in 1..1_000 {
+        write!(text, ",{{\"name\":\"d{number}\"}}")?;
+    }
+    text.push_str("]}\n")?;
+    Ok(text)
+}
+
+// So many lines, each of another link between the first half of the devices and the second.
+fn lines_of_links(alloc: Global, count: u32) -> Result<String, Fail> {
+    let mut text = String::new(alloc);
+    for number in 0..count {
+        let supplier = number % 500;
+        let consumer = 500 + (supplier + number / 500) % 500;
+        write!(text, "0 0/0/0 auto link d{supplier} d{consumer} 0\n")?;
+    }
+    Ok(text)
+}
+
+/// A log may add 4,000 links, and no more.
+#[test]
+fn four_thousand_links_may_stand(rt: HostRuntime) -> Result<(), Fail> {
+    let alloc = rt.alloc();
+    for (count, status, said) in [(4_000, 0, ""), (4_001, 3, "log: links\n")] {
+        let mut input = thousand_devices(alloc)?;
+        input.push_str(&lines_of_links(alloc, count)?)?;
+        input.push_str("source autosleep 0 0 0 0 0 0 0\nfinished\n")?;
+        let outcome = stats_of(&rt, alloc, &input)?;
+        assert_eq!(rt; outcome.status, status);
+        assert_eq!(rt; outcome.err.as_slice(), said.as_bytes());
+    }
+    Ok(())
+}
+
 /// A link that a log makes dormant is no step of a chain.
 #[test]
 fn dormant_links_are_no_steps(rt: HostRuntime) -> Result<(), Fail> {

@@ -1,14 +1,13 @@
 //! The links at a log's end.
 
-ghost use Rattle.std.specs.Prelude.{◌≡◌, IfOk, OnOk, List};
+ghost use Rattle.std.specs.Prelude.{◌≡◌, ◌++◌, ◌∷◌, [], IfOk, OnOk, List};
 ghost use Rattle.indexmap.specs.IndexMap.{get};
 ghost use Rattle.sleep_model.specs.declared.entry.Entry.{Entry};
 ghost use Rattle.sleep_model.specs.Accepted.{IsAccepted};
-ghost use Rattle.sleep_model.specs.Links.{is_linked};
 ghost use Rattle.sleep_model.specs.Order.{parents_of};
 ghost use Rattle.device_links.specs.Passes.{CanStand};
 ghost use Rattle.sleep_stats.specs.Linked.{added_after, added_links, last_linked, last_links, with_last, with_one};
-ghost use Rattle.sleep_stats.specs.States.{AreLast, AreSet};
+ghost use Rattle.sleep_stats.specs.States.{AreLast, AreMarked, AreSet};
 
 use device_links::Links;
 use indexmap::IndexMap;
@@ -27,64 +26,96 @@ fn parents_of(alloc: Global, devices: &[Device]) -> Result<Vec<Option<u32>>, Mem
     Ok(parents)
 }
 
-/// Whether a link of these two stands.
-fn is_linked(links: &[Link], supplier: u32, consumer: u32) -> bool
-    ensures { result ≡ is_linked links.now supplier consumer }
-{
-    for link in links {
-        if link.supplier == supplier && link.consumer == consumer {
-            return true;
-        }
-    }
-    false
+/// The ends of a link.
+#[derive(Clone, Copy, PartialEq, Eq, Hash)]
+struct Ends {
+    supplier: u32,
+    consumer: u32,
 }
 
-/// Puts a link that is active behind the others, unless it stands.
-fn add_link(links: &mut Vec<Link>, supplier: u32, consumer: u32) -> Result<(), Mem>
-    ensures { OnOk result (links.new.items ≡ with_one links.old.items supplier consumer) }
+/// Links, the oldest first, and whether they are active by their ends, so that one that stands is found at once.
+#[derive(Drop)]
+struct Standing {
+    links: Vec<Link>,
+    ends: IndexMap<Ends, bool>,
+}
+
+/// Puts a link behind the others.
+fn put_link(standing: &mut Standing, link: Link) -> Result<(), Mem>
+    requires { AreMarked standing.old.links.items (get ⟦<Ends as PartialEq>⟧.eq standing.old.ends) }
+    ensures links { OnOk result (standing.new.links.items ≡ standing.old.links.items ++ link ∷ []) }
+    ensures marked { OnOk result (AreMarked standing.new.links.items (get ⟦<Ends as PartialEq>⟧.eq standing.new.ends)) }
 {
-    if is_linked(links, supplier, consumer) {
-        return Ok(());
-    }
-    links.push(Link {
+    let Link {
         supplier,
         consumer,
-        active: true,
-    })?;
+        active,
+    } = link;
+    standing.ends.insert(Ends { supplier, consumer }, active)?;
+    standing.links.push(link)?;
     Ok(())
 }
 
+/// Puts a link that is active behind the others, unless it stands.
+fn add_link(standing: &mut Standing, supplier: u32, consumer: u32) -> Result<(), Mem>
+    requires { AreMarked standing.old.links.items (get ⟦<Ends as PartialEq>⟧.eq standing.old.ends) }
+    ensures links { OnOk result (standing.new.links.items ≡ with_one standing.old.links.items supplier consumer) }
+    ensures marked { OnOk result (AreMarked standing.new.links.items (get ⟦<Ends as PartialEq>⟧.eq standing.new.ends)) }
+{
+    if standing.ends.get(&Ends { supplier, consumer }).is_some() {
+        return Ok(());
+    }
+    put_link(
+        standing,
+        Link {
+            supplier,
+            consumer,
+            active: true,
+        },
+    )
+}
+
 /// Takes an entry's part in the links.
-fn note_link(links: &mut Vec<Link>, kind: Kind) -> Result<(), Mem>
-    ensures { OnOk result (links.new.items ≡ added_after kind links.old.items) }
+fn note_link(standing: &mut Standing, kind: Kind) -> Result<(), Mem>
+    requires { AreMarked standing.old.links.items (get ⟦<Ends as PartialEq>⟧.eq standing.old.ends) }
+    ensures links { OnOk result (standing.new.links.items ≡ added_after kind standing.old.links.items) }
+    ensures marked { OnOk result (AreMarked standing.new.links.items (get ⟦<Ends as PartialEq>⟧.eq standing.new.ends)) }
 {
     match kind {
         Kind::LinkAdd {
             supplier,
             consumer,
             r: None,
-        } => add_link(links, supplier, consumer),
+        } => add_link(standing, supplier, consumer),
         _ => Ok(()),
     }
+}
+
+/// These links, the oldest first.
+fn standing_of(alloc: Global, links: &[Link]) -> Result<Standing, Mem>
+    ensures links { IfOk result (λ s. s.links.items ≡ links.now) }
+    ensures marked { IfOk result (λ s. AreMarked s.links.items (get ⟦<Ends as PartialEq>⟧.eq s.ends)) }
+{
+    let mut standing = Standing {
+        links: Vec::new(alloc),
+        ends: IndexMap::new(alloc),
+    };
+    for link in links {
+        put_link(&mut standing, *link)?;
+    }
+    Ok(standing)
 }
 
 /// The machine's links, and those that the log adds, each once, the oldest first.
 fn added_links(alloc: Global, machine: &Machine, log: &Log) -> Result<Vec<Link>, Mem>
     ensures { IfOk result (λ v. v.items ≡ added_links machine.now log.now) }
 {
-    let mut links = Vec::from_slice(alloc, machine.links.as_slice())?;
+    let mut standing = standing_of(alloc, machine.links.as_slice())?;
     let mut reader = log.entries.reader();
     while let Some(entry) = reader.next() {
-        note_link(&mut links, entry.kind)?;
+        note_link(&mut standing, entry.kind)?;
     }
-    Ok(links)
-}
-
-/// The ends of a link.
-#[derive(Clone, Copy, PartialEq, Eq, Hash)]
-struct Ends {
-    supplier: u32,
-    consumer: u32,
+    Ok(standing.links)
 }
 
 /// Takes an entry's part in the states of links.
