@@ -33,7 +33,7 @@ crates' `specs/` and not here.
 
 # What to read, in order: a question, and the definitions that answer it, each with its crate and module.
 READING = [
-    ("What does a status of the program mean?", [("sleep_main", "Endings", ["Ended", "RunEnded", "RanFile", "Completes", "text_of"])]),
+    ("What does a status of the program mean?", [("sleep_main", "Endings", ["Ended", "RunEnded", "RanFile", "Completes"]), ("program_ending", "Endings", ["status_of", "text_of"])]),
     ("What is a run?", [("sleep_run", "Runs", ["IsRun", "IsFull"])]),
     ("Which machine do these bytes spell?", [("machine_file", "Whole", ["machine_in", "SpellsWhole", "first_broken", "rule"])]),
     ("When is a log legal, and at its end?", [("sleep_model", "Legal", ["IsLegalLog", "IsLegal", "JournalPart", "JournalStep", "SourcePart", "JointStep", "Placed", "JumpStep", "IsFinishedLog", "IsStuckLog", "is_enabled"])]),

@@ -113,7 +113,26 @@ def input_of(draw):
     lines = [line(draw) for _ in range(draw.randrange(60))]
     if draw.randrange(6) == 0:
         lines.insert(draw.randrange(len(lines) + 1), hostile(draw))
+    if draw.randrange(8) == 0:
+        lines = [b"lock n%d" % draw.randrange(300) for _ in range(200)] + lines
     return b"\n".join(lines) + (b"\n" if draw.randrange(4) else b"")
+
+
+# As long as an input may be, and one byte longer; as full as a source may be, by writes and by an expiry, and one entry fuller.
+LONGEST = b"inactive\n" * 4 + b"active\n" * ((MOST_INPUT - 36) // 7)
+EDGES = [
+    b"",
+    b"\0",
+    b"\n" * MOST_INPUT,
+    b"\n" * (MOST_INPUT + 1),
+    LONGEST,
+    LONGEST + b"\n",
+    b"lock a\n" * 59_996 + b"after 1\nactive\n",
+    b"lock a\n" * 59_997,
+    b"lock a 1\n" * 59_995 + b"after 1\nactive\n",
+    b"lock a 1\n" * 59_996 + b"after 1\nactive\n",
+    b"unlock a\nlock a\n" + b"unlock a\n" * 59_996,
+]
 
 
 def main():
@@ -121,8 +140,7 @@ def main():
     if len(sys.argv) < 4:
         return
     draw = random.Random(int(sys.argv[1]))
-    edges = [b"\n" * MOST_INPUT, b"\n" * (MOST_INPUT + 1), b"active\n" * 1000, b""]
-    for given in edges + [input_of(draw) for _ in range(int(sys.argv[2]))]:
+    for given in EDGES + [input_of(draw) for _ in range(int(sys.argv[2]))]:
         done = subprocess.run([sys.argv[3], "locks"], input=given, capture_output=True)
         if (done.returncode, done.stdout, done.stderr) != run(given):
             print(given[:2000], "\nprogram:", done.returncode, done.stdout[:2000], done.stderr, "\nsecond:", run(given))

@@ -116,7 +116,12 @@ pub(crate) fn wait_unless<R: Wait>(rt: &R, holds: bool)
 fn all_waiters(alloc: Global, machine: &Machine) -> Result<Waiters, Mem>
     requires { IsAccepted machine.now }
 {
-    Waiters::new(alloc, machine.actors.len(), machine.devices.as_slice())
+    Waiters::new(
+        alloc,
+        machine.actors.len(),
+        machine.marks.len(),
+        machine.devices.as_slice(),
+    )
 }
 
 /// Why a call on that source was refused.
@@ -317,7 +322,7 @@ impl<'m> Run<'m> {
             Kind::End(phase, device, _) | Kind::Skip(phase, device, _) => {
                 self.wake_after_end(phase, device);
             }
-            Kind::Post(_) => self.waiters.wake_for_mark(),
+            Kind::Post(mark) => self.waiters.wake_for_mark(mark),
             Kind::Over { .. } | Kind::AutoDone | Kind::AutoOff => self.waiters.wake_for_lock(),
             Kind::Freeze(_) | Kind::Thaw(_) | Kind::Wake { .. } => self.waiters.wake_scripts(),
             Kind::Frozen | Kind::Exit => self.waiters.wake_for_word(),

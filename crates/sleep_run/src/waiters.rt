@@ -20,6 +20,8 @@ pub(crate) struct Waiters {
     /// The maker that waits for it, if it is a script.
     maker: Option<u32>,
     for_mark: Asks,
+    /// Those of them that wait for each mark.
+    by_mark: Vec<Asks>,
     for_lock: Asks,
     /// Scripts that sleep.
     asleep: Asks,
@@ -44,9 +46,23 @@ fn asynchronous_of(alloc: Global, devices: &[Device]) -> Result<Asks, Mem>
     Ok(asynchronous)
 }
 
+/// Nobody waits for any of so many marks.
+fn none_by_mark(alloc: Global, scripts: usize, marks: usize) -> Result<Vec<Asks>, Mem> {
+    let mut by_mark = Vec::with_capacity(alloc, marks)?;
+    for _ in 0..marks {
+        by_mark.push(Asks::new(alloc, scripts)?)?;
+    }
+    Ok(by_mark)
+}
+
 impl Waiters {
     /// Nobody waits: each of so many scripts is to be asked, and the work.
-    pub(crate) fn new(alloc: Global, scripts: usize, devices: &[Device]) -> Result<Self, Mem>
+    pub(crate) fn new(
+        alloc: Global,
+        scripts: usize,
+        marks: usize,
+        devices: &[Device],
+    ) -> Result<Self, Mem>
         requires scripts { scripts < 2 ^ 32 }
         requires devices { length devices.now < 2 ^ 32 }
     {
@@ -60,6 +76,7 @@ impl Waiters {
             awaited: None,
             maker: None,
             for_mark: Asks::new(alloc, scripts)?,
+            by_mark: none_by_mark(alloc, scripts, marks)?,
             for_lock: Asks::new(alloc, scripts)?,
             asleep: Asks::new(alloc, scripts)?,
             frozen: Asks::new(alloc, scripts)?,
@@ -131,7 +148,7 @@ impl Waiters {
     fn script_waits(&mut self, script: u32, why: Why) {
         self.scripts.remove(script);
         match why {
-            Why::Mark(_) => self.for_mark.insert(script),
+            Why::Mark(mark) => self.waits_for_mark(script, mark),
             Why::LockHeld => self.for_lock.insert(script),
             Why::Until(_) => self.asleep.insert(script),
             Why::Frozen => self.frozen.insert(script),
@@ -140,6 +157,14 @@ impl Waiters {
                 self.maker = Some(script);
             }
             _ => self.for_word.insert(script),
+        }
+    }
+
+    /// The script waits for that mark.
+    fn waits_for_mark(&mut self, script: u32, mark: u32) {
+        self.for_mark.insert(script);
+        if let Some(waiting) = self.by_mark.get_mut(mark as usize) {
+            waiting.insert(script);
         }
     }
 
@@ -197,10 +222,12 @@ impl Waiters {
         self.auto = true;
     }
 
-    /// Wakes those that wait for a mark, since one was raised.
+    /// Wakes those that wait for that mark, which was raised.
     #[inline(never)]
-    pub(crate) fn wake_for_mark(&mut self) {
-        self.scripts.take(&mut self.for_mark);
+    pub(crate) fn wake_for_mark(&mut self, mark: u32) {
+        if let Some(waiting) = self.by_mark.get_mut(mark as usize) {
+            self.scripts.take(waiting);
+        }
     }
 
     /// Wakes those that wait for the autosleep lock, which was let go, and the work, which may be queued.
@@ -213,7 +240,7 @@ impl Waiters {
     /// Wakes the scripts that wait, but for those that sleep or are frozen.
     fn wake_but_sleepers(&mut self) {
         self.wake_for_word();
-        self.wake_for_mark();
+        self.scripts.take(&mut self.for_mark);
         self.wake_for_lock();
         self.wake_any_maker();
     }
