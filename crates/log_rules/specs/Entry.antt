@@ -3,6 +3,7 @@ use Rattle.std.specs.Prelude.{List, [], ◌∷◌}
 use Rattle.sleep_model.specs.declared.entry.Entry.{Entry}
 use Rattle.sleep_model.specs.declared.machine.Machine.{Machine}
 use Rattle.sleep_model.specs.Legal.{IsLegal}
+use Rattle.sleep_model.specs.Numbers.{numbers as word_at}
 use Rattle.sleep_model.specs.Parts.{Part, OfJournal, part_of, journal}
 use Rattle.log_rules.specs.Answers.{KeepsAnswers}
 use Rattle.log_rules.specs.Attempts.{KeepsAttempts}
@@ -30,9 +31,9 @@ pub record KeepsPart (m : Machine) (past : List Entry) (e : Entry) (part : Part)
   pub links : OnJournal part (KeepsLinks m (journal past) e.kind)
   pub numbers : KeepsNumbers past e part
   pub attempts : OnJournal part (KeepsAttempts (journal past) e.kind)
-  pub reads : OnJournal part (KeepsReads m (journal past) e.now e.actor e.kind)
+  pub reads : OnJournal part (KeepsReads m (journal past) (word_at past) e.actor e.kind)
   pub walk : WalkEntry m past e part
-  pub skip : OnJournal part (KeepsSkip m (journal past) e.now e.kind)
+  pub skip : OnJournal part (KeepsSkip m (journal past) (word_at past) e.kind)
   pub runtime : OnJournal part (KeepsRuntime m (journal past) e.kind)
   pub owed : OnJournal part (KeepsOwed m (journal past) e.kind)
   pub freezer : FreezerEntry m past e part

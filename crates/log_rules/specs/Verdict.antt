@@ -4,6 +4,7 @@ use Rattle.sleep_model.specs.declared.entry.Entry.{Entry}
 use Rattle.sleep_model.specs.declared.log.Log.{Log}
 use Rattle.sleep_model.specs.declared.machine.Machine.{Machine}
 use Rattle.sleep_model.specs.Legal.{IsLegalLog, IsFinishedLog, stats_of}
+use Rattle.sleep_model.specs.Numbers.{numbers as word_at}
 use Rattle.sleep_model.specs.Parts.{part_of, journal}
 use Rattle.log_rules.specs.Answers.{KeepsAnswers}
 use Rattle.log_rules.specs.Attempts.{KeepsAttempts}
@@ -63,9 +64,9 @@ abbrev pub KeepsRule : Machine → List Entry → Entry → Rule → Type 0
 KeepsRule m past e Links = OnJournal (part_of e.kind) (KeepsLinks m (journal past) e.kind)
 KeepsRule m past e Numbers = KeepsNumbers past e (part_of e.kind)
 KeepsRule m past e Attempts = OnJournal (part_of e.kind) (KeepsAttempts (journal past) e.kind)
-KeepsRule m past e Reads = OnJournal (part_of e.kind) (KeepsReads m (journal past) e.now e.actor e.kind)
+KeepsRule m past e Reads = OnJournal (part_of e.kind) (KeepsReads m (journal past) (word_at past) e.actor e.kind)
 KeepsRule m past e Walk = WalkEntry m past e (part_of e.kind)
-KeepsRule m past e Skip = OnJournal (part_of e.kind) (KeepsSkip m (journal past) e.now e.kind)
+KeepsRule m past e Skip = OnJournal (part_of e.kind) (KeepsSkip m (journal past) (word_at past) e.kind)
 KeepsRule m past e Runtime = OnJournal (part_of e.kind) (KeepsRuntime m (journal past) e.kind)
 KeepsRule m past e Owed = OnJournal (part_of e.kind) (KeepsOwed m (journal past) e.kind)
 KeepsRule m past e Freezer = FreezerEntry m past e (part_of e.kind)
