@@ -3,7 +3,9 @@ use Rattle.std.specs.Prelude.{ℕ, Bool, true, false, List, [], ◌∷◌, take,
 use Rattle.sleep_model.specs.declared.entry.Entry.{Entry}
 use Rattle.sleep_model.specs.declared.machine.Machine.{Machine}
 use Rattle.sleep_model.specs.Order.{is_among}
-use Rattle.log_rules.specs.Verdict.{Rule, Links, Numbers, Attempts, Reads, Walk, Skip, Runtime, Owed, Freezer, Path, Answers, Restored, Steps, Enabled, Source, number_of, KeepsRule}
+use Rattle.sleep_model.specs.Parts.{part_of}
+use Rattle.log_rules.specs.Entry.{Rule, Links, Numbers, Attempts, Reads, Walk, Skip, Runtime, Owed, Freezer, Path, Answers, Restored, Steps, Enabled, Source, KeepsRule}
+use Rattle.log_rules.specs.Verdict.{number_of}
 
 -- what may be asked of an entry, by the entries before it
 abbrev pub Question : Type 1
@@ -20,16 +22,16 @@ HoldsAt question m k entries = HoldsNext question m (reverse (take k entries)) (
 
 -- an entry keeps a rule
 abbrev pub Keeps : Rule → Question
-Keeps rule m past e = KeepsRule m past e rule
+Keeps rule m past e = KeepsRule m past e (part_of e.kind) rule
 
 -- an entry breaks a rule
 abbrev pub Breaks : Rule → Question
-Breaks rule m past e = KeepsRule m past e rule → ⊥
+Breaks rule m past e = KeepsRule m past e (part_of e.kind) rule → ⊥
 
 -- an entry breaks a rule or keeps it, as is said
 abbrev pub Judged : Bool → Rule → Question
-Judged true rule m past e = KeepsRule m past e rule → ⊥
-Judged false rule m past e = KeepsRule m past e rule
+Judged true rule m past e = KeepsRule m past e (part_of e.kind) rule → ⊥
+Judged false rule m past e = KeepsRule m past e (part_of e.kind) rule
 
 -- an entry breaks the rules with these numbers, and no other
 abbrev pub BreaksJust : List ℕ → Question
