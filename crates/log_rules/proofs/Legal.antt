@@ -74,20 +74,20 @@ module _ (m : Machine) (past : List Entry) (e : Entry) where
   keeps l OfJournal h =
       let k : KeepsAll m (journal past) (numbers past) e.actor e.kind = subst (λ (w : EventNow). KeepsAll m (journal past) w e.actor e.kind) h.now ((all m (journal past) e.now e.actor e.kind).keeps l.journal h.in_journal.0) in
       record {
-        links = k.links;
+        links = k.most.links;
         numbers = (h.now, h.time);
-        attempts = k.attempts;
-        reads = k.reads;
-        walk = (k.walk, reports_made e.kind h.joint.0);
-        skip = k.skip;
-        runtime = k.runtime;
+        attempts = k.most.attempts;
+        reads = k.most.reads;
+        walk = (k.most.walk, reports_made e.kind h.joint.0);
+        skip = k.most.skip;
+        runtime = k.most.runtime;
         owed = k.owed;
-        freezer = k.freezer;
-        path = k.path;
-        answers = k.answers;
+        freezer = k.most.freezer;
+        path = k.most.path;
+        answers = k.most.answers;
         restored = k.restored;
-        steps = (k.steps, h.joint.0, h.joint.1);
-        enabled = k.enabled;
+        steps = (k.most.steps, h.joint.0, h.joint.1);
+        enabled = k.most.enabled;
         source = (tt, h.fits);
       }
   keeps l (Notes s c) h = record {
