@@ -155,19 +155,21 @@ IsTime _ = ⊥
 -- the rules that say nothing of what a device makes are kept
 fill : (m : Machine) (past : List Entry) (now : EventNow) (d : ℕ) (k : Kind) → is_maker past (actor.Dev d) ≡ false → KeepsLinks m past k → KeepsAttempts past k → KeepsRuntime m past k → KeepsAnswers past k → KeepsRestored m past k → NoFroze k → NoWake k → Own m past now d k → KeepsOwed m past k → KeepsAll m past now (actor.Dev d) k
 fill m past now d k e l a u n s f w o x = record {
-  links = l;
-  attempts = a;
-  reads = subst (λ (b : Bool). ReadsActor m past now (actor.Dev d) b k) (sym e) tt;
-  walk = o.0;
-  skip = o.1;
-  runtime = u;
+  most = record {
+    links = l;
+    attempts = a;
+    reads = subst (λ (b : Bool). ReadsActor m past now (actor.Dev d) b k) (sym e) tt;
+    walk = o.0;
+    skip = o.1;
+    runtime = u;
+    freezer = (subst (λ (b : Bool). FreezesActor m past (actor.Dev d) b k) (sym e) tt, freeze_else m past now (freeze_since past) k f);
+    path = subst (λ (b : Bool). PathOf m past now b k) (sym e) tt;
+    answers = n;
+    steps = subst (λ (b : Bool). StepsOf m past now (actor.Dev d) b k) (sym e) o.2;
+    enabled = (subst (λ (b : Bool). AwakeActor m past (actor.Dev d) b) (sym e) tt, wake_else m past now (sleep_of past) k w);
+  };
   owed = x;
-  freezer = (subst (λ (b : Bool). FreezesActor m past (actor.Dev d) b k) (sym e) tt, freeze_else m past now (freeze_since past) k f);
-  path = subst (λ (b : Bool). PathOf m past now b k) (sym e) tt;
-  answers = n;
   restored = s;
-  steps = subst (λ (b : Bool). StepsOf m past now (actor.Dev d) b k) (sym e) o.2;
-  enabled = (subst (λ (b : Bool). AwakeActor m past (actor.Dev d) b) (sym e) tt, wake_else m past now (sleep_of past) k w);
 }
 
 -- of a device's entry the other rules ask nothing, but that what it undoes is owed

@@ -6,12 +6,13 @@ use Rattle.sleep_model.specs.declared.log.Log.{Log}
 use Rattle.sleep_model.specs.declared.log.Stats.{Stats}
 use Rattle.sleep_model.specs.declared.machine.Machine.{Machine}
 use Rattle.sleep_model.specs.Legal.{stats_of}
-use Rattle.log_rules.specs.Entry.{KeepsEntry, KeepsEach}
-use Rattle.log_rules.specs.Verdict.{Rule, Links, Numbers, Attempts, Reads, Walk, Skip, Runtime, Owed, Freezer, Path, Answers, Restored, Steps, Enabled, Source, number_of, KeepsRule, BreaksFirst, IsFirstBad, AtEntry, AtStats, AtEnd, IsGood, GoodHasNone, FirstBadIsOne}
+use Rattle.sleep_model.specs.Parts.{part_of}
+use Rattle.log_rules.specs.Entry.{Rule, Links, Numbers, Attempts, Reads, Walk, Skip, Runtime, Owed, Freezer, Path, Answers, Restored, Steps, Enabled, Source, KeepsRule, KeepsEntry, KeepsEach}
+use Rattle.log_rules.specs.Verdict.{number_of, BreaksFirst, IsFirstBad, AtEntry, AtStats, AtEnd, IsGood, GoodHasNone, FirstBadIsOne}
 use Rattle.log_rules.proofs.Legal.{lists}
 
 -- what keeps each rule keeps the rule of that name
-keeps_rule : (m : Machine) (past : List Entry) (e : Entry) (rule : Rule) → KeepsEntry m past e → KeepsRule m past e rule
+keeps_rule : (m : Machine) (past : List Entry) (e : Entry) (rule : Rule) → KeepsEntry m past e → KeepsRule m past e (part_of e.kind) rule
 keeps_rule m past e Links k = k.links
 keeps_rule m past e Numbers k = k.numbers
 keeps_rule m past e Attempts k = k.attempts

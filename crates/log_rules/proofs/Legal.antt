@@ -7,17 +7,19 @@ use Rattle.sleep_model.specs.declared.entry.Entry.{Entry}
 use Rattle.sleep_model.specs.declared.entry.Kind.{Kind}
 use Rattle.sleep_model.specs.declared.entry.Kind.TheVariants as kind
 use Rattle.sleep_model.specs.declared.machine.Machine.{Machine}
+use Rattle.sleep_model.specs.declared.word.EventNow.{EventNow}
 use Rattle.sleep_model.specs.declared.word.WordKind.{WordKind}
 use Rattle.sleep_model.specs.Calls.{is_left}
 use Rattle.sleep_model.specs.Legal.{IsLegal, is_short, IsOwnTurn, IsOnTime, HistoriesFit, JournalPart, JournalStep, JointStep, OwnStep}
 use Rattle.sleep_model.specs.Numbers.{numbers}
 use Rattle.sleep_model.specs.Parts.{Part, OfJournal, Notes, Moves, OfTime, part_of, is_kept, journal}
 use Rattle.sleep_model.specs.Path.{maker}
-use Rattle.sleep_model.specs.Sources.{history, is_of, most_entries, owed, caller, IsNext}
+use Rattle.sleep_model.specs.Sources.{history, is_of, most_entries, owed, caller, IsNext, SourceStep}
 use Rattle.sleep_model.specs.Table.{stage_of}
 use Rattle.sleep_laws.proofs.Holding.{held}
 use Rattle.log_rules.specs.All.{KeepsAll, KeepsMost}
 use Rattle.log_rules.specs.Entry.{KeepsPart, KeepsEach, OneForEntries, OneForLists}
+use Rattle.log_rules.specs.Law.{IsDue}
 use Rattle.log_rules.specs.Path.{PathOf}
 use Rattle.log_rules.specs.Questions.{is_maker}
 use Rattle.log_rules.specs.Walk.{ReportsMade}
@@ -70,22 +72,22 @@ module _ (m : Machine) (past : List Entry) (e : Entry) where
 
   keeps : IsLegal m past → (p : Part) → Pieces m past e p → KeepsPart m past e p
   keeps l OfJournal h =
-      let k : KeepsAll m (journal past) e.now e.actor e.kind = (all m (journal past) e.now e.actor e.kind).keeps l.journal h.in_journal.0 in
+      let k : KeepsAll m (journal past) (numbers past) e.actor e.kind = subst (λ (w : EventNow). KeepsAll m (journal past) w e.actor e.kind) h.now ((all m (journal past) e.now e.actor e.kind).keeps l.journal h.in_journal.0) in
       record {
-        links = k.links;
+        links = k.most.links;
         numbers = (h.now, h.time);
-        attempts = k.attempts;
-        reads = k.reads;
-        walk = (k.walk, reports_made e.kind h.joint.0);
-        skip = k.skip;
-        runtime = k.runtime;
+        attempts = k.most.attempts;
+        reads = k.most.reads;
+        walk = (k.most.walk, reports_made e.kind h.joint.0);
+        skip = k.most.skip;
+        runtime = k.most.runtime;
         owed = k.owed;
-        freezer = k.freezer;
-        path = k.path;
-        answers = k.answers;
+        freezer = k.most.freezer;
+        path = k.most.path;
+        answers = k.most.answers;
         restored = k.restored;
-        steps = (k.steps, h.joint.0, h.joint.1);
-        enabled = k.enabled;
+        steps = (k.most.steps, h.joint.0, h.joint.1);
+        enabled = k.most.enabled;
         source = (tt, h.fits);
       }
   keeps l (Notes s c) h = record {
@@ -103,7 +105,7 @@ module _ (m : Machine) (past : List Entry) (e : Entry) where
     restored = tt;
     steps = (h.joint.0, h.joint.1);
     enabled = tt;
-    source = (h.own, h.fits);
+    source = (subst (λ (z : ℕ). SourceStep (history s past) z e.actor (Notes s c)) h.time h.own, h.fits);
   }
   keeps l (Moves s x) h = record {
     links = tt;
@@ -132,7 +134,7 @@ module _ (m : Machine) (past : List Entry) (e : Entry) where
     runtime = tt;
     owed = tt;
     freezer = tt;
-    path = subst (λ (x : Actor). PathOf m (journal past) e.now (is_maker (journal past) x) e.kind) (sym h.in_journal.0) (subst (λ (b : Bool). PathOf m (journal past) e.now b e.kind) (sym (time_makes_none (maker (journal past)) (stage_of (journal past)) (held m (journal past) l.journal).2)) tt);
+    path = subst (λ (x : Actor). PathOf m (journal past) (numbers past) (is_maker (journal past) x) e.kind) (sym h.in_journal.0) (subst (λ (b : Bool). PathOf m (journal past) (numbers past) b e.kind) (sym (time_makes_none (maker (journal past)) (stage_of (journal past)) (held m (journal past) l.journal).2)) tt);
     answers = tt;
     restored = tt;
     steps = h.in_journal.0;
@@ -148,7 +150,7 @@ module _ (m : Machine) (past : List Entry) (e : Entry) where
 
   makes : IsLegal m past → (p : Part) → KeepsPart m past e p → Pieces m past e p
   makes l OfJournal k =
-      let kept : KeepsMost m (journal past) e.now e.actor e.kind = record {
+      let kept : KeepsMost m (journal past) (numbers past) e.actor e.kind = record {
         links = k.links;
         attempts = k.attempts;
         reads = k.reads;
@@ -162,7 +164,7 @@ module _ (m : Machine) (past : List Entry) (e : Entry) where
         enabled = k.enabled;
       } in
       record {
-        in_journal = ((all m (journal past) e.now e.actor e.kind).makes kept, k.numbers.1 ∙ sym (time_journal past));
+        in_journal = (subst (λ (w : EventNow). IsDue m (journal past) w e.actor e.kind) (sym k.numbers.0) ((all m (journal past) (numbers past) e.actor e.kind).makes kept), k.numbers.1 ∙ sym (time_journal past));
         own = tt;
         fits = k.source.1;
         now = k.numbers.0;
@@ -171,7 +173,7 @@ module _ (m : Machine) (past : List Entry) (e : Entry) where
       }
   makes l (Notes s c) k = record {
     in_journal = tt;
-    own = k.source.0;
+    own = subst (λ (z : ℕ). SourceStep (history s past) z e.actor (Notes s c)) (sym k.numbers.1) k.source.0;
     fits = k.source.1;
     now = k.numbers.0;
     time = k.numbers.1;

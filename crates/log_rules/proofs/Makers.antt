@@ -133,19 +133,21 @@ forth m past now who k e j x = by_row (row_now m past) refl (row_proper m past) 
     filled s f r =
         let legal : JournalPart m (placed past now who k ∷ past) = (is_step m past now who k (row_journal m past now s k r.of_row) x, j) in
         record {
-          links = r.links;
-          attempts = r.attempts;
-          reads = subst (λ (b : Bool). ReadsActor m past now who b k) (sym e) (no_reads m past now who k);
-          walk = r.walk;
-          skip = r.skip;
-          runtime = r.runtime;
+          most = record {
+            links = r.links;
+            attempts = r.attempts;
+            reads = subst (λ (b : Bool). ReadsActor m past now who b k) (sym e) (no_reads m past now who k);
+            walk = r.walk;
+            skip = r.skip;
+            runtime = r.runtime;
+            freezer = (subst (λ (b : Bool). FreezesActor m past who b k) (sym e) (no_freeze m past who k), r.freeze);
+            path = subst (λ (b : Bool). PathOf m past now b k) (sym e) (subst (λ (o : Option Stage). IsOfRowIf m past now o k) (sym f) r.of_row);
+            answers = all_answers past k r.answers (answers_failure m past (placed past now who k) legal);
+            steps = subst (λ (b : Bool). StepsOf m past now who b k) (sym e) (walk_step m past now who k r.beside);
+            enabled = (subst (λ (b : Bool). AwakeActor m past who b) (sym e) (no_sleep m past who), r.wakes);
+          };
           owed = all_owed m past (placed past now who k) legal;
-          freezer = (subst (λ (b : Bool). FreezesActor m past who b k) (sym e) (no_freeze m past who k), r.freeze);
-          path = subst (λ (b : Bool). PathOf m past now b k) (sym e) (subst (λ (o : Option Stage). IsOfRowIf m past now o k) (sym f) r.of_row);
-          answers = all_answers past k r.answers (answers_failure m past (placed past now who k) legal);
           restored = all_restored m past (placed past now who k) legal;
-          steps = subst (λ (b : Bool). StepsOf m past now who b k) (sym e) (walk_step m past now who k r.beside);
-          enabled = (subst (λ (b : Bool). AwakeActor m past who b) (sym e) (no_sleep m past who), r.wakes);
         }
 
     by_row : (o : Option Stage) → row_now m past ≡ o → ProperIf o → CallIf m o (callback past) (three m past) → due_in_row m past now o ≡ Makes k → KeepsAll m past now who k

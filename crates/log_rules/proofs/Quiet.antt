@@ -364,7 +364,7 @@ frozen_rests m (e ∷ past) g i x f = by_part (part_of e.kind) refl (frozen_rest
     stepped true s r u c = never (sym (r.1 u) ∙ subst (λ (y : Actor). is_behind u y past ≡ true) (actor_same e.actor (actor.Script i) s) c)
 
     by_part : (p : Part) → part_of e.kind ≡ p → (is_actor (actor.Script i) (maker (journal past)) ≡ false → (freezing m i (journal past)).frozen ≡ true → Rests m past (actor.Script i)) → JournalPart m (cond (is_kept p) (e ∷ journal past) (journal past)) → JointStep m past e p → is_actor (actor.Script i) (maker (cond (is_kept p) (e ∷ journal past) (journal past))) ≡ false → (freezing m i (cond (is_kept p) (e ∷ journal past) (journal past))).frozen ≡ true → (made (length m.sources + 1) (λ s. history s (e ∷ past)) (actor.Script i) ≡ calls_due m (actor.Script i) (cond (is_kept p) (e ∷ journal past) (journal past))) × ((s : ℕ) → is_behind s (actor.Script i) (e ∷ past) ≡ false)
-    by_part OfJournal q r j t x f = kept OfJournal q refl ((all m (journal past) e.now e.actor e.kind).keeps j.1 (subst (JournalStep m (journal past) e) q j.0).0).attempts t j r x f
+    by_part OfJournal q r j t x f = kept OfJournal q refl ((all m (journal past) e.now e.actor e.kind).keeps j.1 (subst (JournalStep m (journal past) e) q j.0).0).most.attempts t j r x f
     by_part OfTime q r j t x f = kept OfTime q refl (time_attempts (journal past) e.kind q) t j r x f
     by_part (Notes u v) q r j t x f = noted (is_same e.actor (actor.Script i)) refl (r x f) t.0
     by_part (Moves u v) q r j t x f = stepped (is_same e.actor (actor.Script i)) refl (r x f) u t

@@ -285,19 +285,21 @@ script_forth m past now i k e j d =
     let own : seat_due m past now (freezing m i past) (slice_get m.actors i) (seat_of m past i) ≡ Makes k = subst (λ (b : Bool). cond b (attempt_due m past now) (seat_due m past now (freezing m i past) (slice_get m.actors i) (seat_of m past i)) ≡ Makes k) e d in
     let s : Script m past now (freezing m i past) (slice_get m.actors i) (seat_of m past i) k = only_is (Script m past now (freezing m i past) (slice_get m.actors i) (seat_of m past i)) _ k (seat_made m past now (freezing m i past) (slice_get m.actors i) (seat_of m past i) (free_maker (maker past) (holder past) (held m past j).0)) own in
     record {
-      links = s.6;
-      attempts = s.4;
-      reads = subst (λ (b : Bool). ReadsActor m past now (actor.Script i) b k) (sym e) s.3;
-      walk = plain_walk m past now k s.7;
-      skip = plain_skip m past now k s.7;
-      runtime = s.5;
+      most = record {
+        links = s.6;
+        attempts = s.4;
+        reads = subst (λ (b : Bool). ReadsActor m past now (actor.Script i) b k) (sym e) s.3;
+        walk = plain_walk m past now k s.7;
+        skip = plain_skip m past now k s.7;
+        runtime = s.5;
+        freezer = (subst (λ (b : Bool). FreezesActor m past (actor.Script i) b k) (sym e) s.0, plain_freeze m past now k s.7);
+        path = subst (λ (b : Bool). PathOf m past now b k) (sym e) tt;
+        answers = plain_answers past k s.7;
+        steps = subst (λ (b : Bool). StepsOf m past now (actor.Script i) b k) (sym e) s.2;
+        enabled = (subst (λ (b : Bool). AwakeActor m past (actor.Script i) b) (sym e) s.1, plain_wake m past now k s.7);
+      };
       owed = plain_owed m past k s.7;
-      freezer = (subst (λ (b : Bool). FreezesActor m past (actor.Script i) b k) (sym e) s.0, plain_freeze m past now k s.7);
-      path = subst (λ (b : Bool). PathOf m past now b k) (sym e) tt;
-      answers = plain_answers past k s.7;
       restored = plain_restored m past k s.7;
-      steps = subst (λ (b : Bool). StepsOf m past now (actor.Script i) b k) (sym e) s.2;
-      enabled = (subst (λ (b : Bool). AwakeActor m past (actor.Script i) b) (sym e) s.1, plain_wake m past now k s.7);
     }
 
 -- scripts outside attempts of their own

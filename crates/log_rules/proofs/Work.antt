@@ -104,19 +104,21 @@ auto_forth m past now k e j d =
     let a : Awake m past now k = only_is (Awake m past now) _ k (auto_made m past now (held m past j).1 (held m past j).0 e) own in
     let s : Works m past now (work past) k = a.1 in
     record {
-      links = s.4;
-      attempts = s.2;
-      reads = subst (λ (b : Bool). ReadsActor m past now actor.Auto b k) (sym e) s.1;
-      walk = plain_walk m past now k s.5;
-      skip = plain_skip m past now k s.5;
-      runtime = s.3;
+      most = record {
+        links = s.4;
+        attempts = s.2;
+        reads = subst (λ (b : Bool). ReadsActor m past now actor.Auto b k) (sym e) s.1;
+        walk = plain_walk m past now k s.5;
+        skip = plain_skip m past now k s.5;
+        runtime = s.3;
+        freezer = (subst (λ (b : Bool). FreezesActor m past actor.Auto b k) (sym e) tt, plain_freeze m past now k s.5);
+        path = subst (λ (b : Bool). PathOf m past now b k) (sym e) tt;
+        answers = plain_answers past k s.5;
+        steps = subst (λ (b : Bool). StepsOf m past now actor.Auto b k) (sym e) s.0;
+        enabled = (subst (λ (b : Bool). AwakeActor m past actor.Auto b) (sym e) a.0, plain_wake m past now k s.5);
+      };
       owed = plain_owed m past k s.5;
-      freezer = (subst (λ (b : Bool). FreezesActor m past actor.Auto b k) (sym e) tt, plain_freeze m past now k s.5);
-      path = subst (λ (b : Bool). PathOf m past now b k) (sym e) tt;
-      answers = plain_answers past k s.5;
       restored = plain_restored m past k s.5;
-      steps = subst (λ (b : Bool). StepsOf m past now actor.Auto b k) (sym e) s.0;
-      enabled = (subst (λ (b : Bool). AwakeActor m past actor.Auto b) (sym e) a.0, plain_wake m past now k s.5);
     }
 
 -- the autosleep work outside attempts of its own

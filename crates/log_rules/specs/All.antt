@@ -19,23 +19,7 @@ use Rattle.log_rules.specs.Skip.{KeepsSkip}
 use Rattle.log_rules.specs.Steps.{KeepsSteps}
 use Rattle.log_rules.specs.Walk.{KeepsWalk}
 
--- what an actor that sees this word makes behind the journal's entries keeps each rule (kernel/power/suspend.c, kernel/power/main.c)
-pub record KeepsAll (m : Machine) (past : List Entry) (now : EventNow) (who : Actor) (k : Kind) : Type 0 where
-  pub links : KeepsLinks m past k
-  pub attempts : KeepsAttempts past k
-  pub reads : KeepsReads m past now who k
-  pub walk : KeepsWalk m past now k
-  pub skip : KeepsSkip m past now k
-  pub runtime : KeepsRuntime m past k
-  pub owed : KeepsOwed m past k
-  pub freezer : KeepsFreezer m past now who k
-  pub path : KeepsPath m past now who k
-  pub answers : KeepsAnswers past k
-  pub restored : KeepsRestored m past k
-  pub steps : KeepsSteps m past now who k
-  pub enabled : KeepsEnabled m past now who k
-
--- and all but two of them: that only what is owed is undone, and that nothing is owed in the end, follow from these (kernel/power/suspend.c, kernel/power/main.c)
+-- what an actor that sees this word makes behind the journal's entries keeps each rule but two (kernel/power/suspend.c, kernel/power/main.c)
 pub record KeepsMost (m : Machine) (past : List Entry) (now : EventNow) (who : Actor) (k : Kind) : Type 0 where
   pub links : KeepsLinks m past k
   pub attempts : KeepsAttempts past k
@@ -48,3 +32,9 @@ pub record KeepsMost (m : Machine) (past : List Entry) (now : EventNow) (who : A
   pub answers : KeepsAnswers past k
   pub steps : KeepsSteps m past now who k
   pub enabled : KeepsEnabled m past now who k
+
+-- and these two, which follow: only what is owed is undone, and nothing is owed in the end (suspend_devices_and_enter, suspend_finish)
+pub record KeepsAll (m : Machine) (past : List Entry) (now : EventNow) (who : Actor) (k : Kind) : Type 0 where
+  pub most : KeepsMost m past now who k
+  pub owed : KeepsOwed m past k
+  pub restored : KeepsRestored m past k

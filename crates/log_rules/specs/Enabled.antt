@@ -43,7 +43,7 @@ KeepsEnabled m past now who k = AwakeActor m past who (is_maker past who) × Wak
 
 -- who makes an entry of the journal may go on; time jumps, forward, to the least pending time, where nobody can make anything and something is left to do (suspend_enter; jumps are own)
 abbrev pub EnabledEntry : Machine → List Entry → Entry → Part → Type 0
-EnabledEntry m past e OfJournal = KeepsEnabled m (journal past) e.now e.actor e.kind
+EnabledEntry m past e OfJournal = KeepsEnabled m (journal past) (numbers past) e.actor e.kind
 EnabledEntry m past e OfTime =
     JumpStep m (journal past) (λ s. history s past) (numbers past) e.time × (time_of past < e.time)
 EnabledEntry m past e _ = Unit {0}

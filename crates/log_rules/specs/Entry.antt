@@ -3,6 +3,7 @@ use Rattle.std.specs.Prelude.{List, [], ◌∷◌}
 use Rattle.sleep_model.specs.declared.entry.Entry.{Entry}
 use Rattle.sleep_model.specs.declared.machine.Machine.{Machine}
 use Rattle.sleep_model.specs.Legal.{IsLegal}
+use Rattle.sleep_model.specs.Numbers.{numbers}
 use Rattle.sleep_model.specs.Parts.{Part, OfJournal, part_of, journal}
 use Rattle.log_rules.specs.Answers.{KeepsAnswers}
 use Rattle.log_rules.specs.Attempts.{KeepsAttempts}
@@ -25,23 +26,59 @@ abbrev pub OnJournal : Part → Type 0 → Type 0
 OnJournal OfJournal rule = rule
 OnJournal _ rule = Unit {0}
 
+-- a rule of an entry (own)
+pub data Rule : Type 0 where
+  Links : Rule
+  Numbers : Rule
+  Attempts : Rule
+  Reads : Rule
+  Walk : Rule
+  Skip : Rule
+  Runtime : Rule
+  Owed : Rule
+  Freezer : Rule
+  Path : Rule
+  Answers : Rule
+  Restored : Rule
+  Steps : Rule
+  Enabled : Rule
+  Source : Rule
+
+-- an entry of that part behind these keeps that rule (kernel/power/suspend.c, kernel/power/main.c, drivers/base/power/main.c, drivers/base/power/wakeup.c)
+abbrev pub KeepsRule : Machine → List Entry → Entry → Part → Rule → Type 0
+KeepsRule m past e part Links = OnJournal part (KeepsLinks m (journal past) e.kind)
+KeepsRule m past e part Numbers = KeepsNumbers past e part
+KeepsRule m past e part Attempts = OnJournal part (KeepsAttempts (journal past) e.kind)
+KeepsRule m past e part Reads = OnJournal part (KeepsReads m (journal past) (numbers past) e.actor e.kind)
+KeepsRule m past e part Walk = WalkEntry m past e part
+KeepsRule m past e part Skip = OnJournal part (KeepsSkip m (journal past) (numbers past) e.kind)
+KeepsRule m past e part Runtime = OnJournal part (KeepsRuntime m (journal past) e.kind)
+KeepsRule m past e part Owed = OnJournal part (KeepsOwed m (journal past) e.kind)
+KeepsRule m past e part Freezer = FreezerEntry m past e part
+KeepsRule m past e part Path = PathEntry m past e part
+KeepsRule m past e part Answers = OnJournal part (KeepsAnswers (journal past) e.kind)
+KeepsRule m past e part Restored = OnJournal part (KeepsRestored m (journal past) e.kind)
+KeepsRule m past e part Steps = StepsEntry m past e part
+KeepsRule m past e part Enabled = EnabledEntry m past e part
+KeepsRule m past e part Source = SourceEntry m past e part
+
 -- an entry of that part behind these keeps each rule (kernel/power/suspend.c, kernel/power/main.c, drivers/base/power/main.c, drivers/base/power/wakeup.c)
 pub record KeepsPart (m : Machine) (past : List Entry) (e : Entry) (part : Part) : Type 0 where
-  pub links : OnJournal part (KeepsLinks m (journal past) e.kind)
-  pub numbers : KeepsNumbers past e part
-  pub attempts : OnJournal part (KeepsAttempts (journal past) e.kind)
-  pub reads : OnJournal part (KeepsReads m (journal past) e.now e.actor e.kind)
-  pub walk : WalkEntry m past e part
-  pub skip : OnJournal part (KeepsSkip m (journal past) e.now e.kind)
-  pub runtime : OnJournal part (KeepsRuntime m (journal past) e.kind)
-  pub owed : OnJournal part (KeepsOwed m (journal past) e.kind)
-  pub freezer : FreezerEntry m past e part
-  pub path : PathEntry m past e part
-  pub answers : OnJournal part (KeepsAnswers (journal past) e.kind)
-  pub restored : OnJournal part (KeepsRestored m (journal past) e.kind)
-  pub steps : StepsEntry m past e part
-  pub enabled : EnabledEntry m past e part
-  pub source : SourceEntry m past e part
+  pub links : KeepsRule m past e part Links
+  pub numbers : KeepsRule m past e part Numbers
+  pub attempts : KeepsRule m past e part Attempts
+  pub reads : KeepsRule m past e part Reads
+  pub walk : KeepsRule m past e part Walk
+  pub skip : KeepsRule m past e part Skip
+  pub runtime : KeepsRule m past e part Runtime
+  pub owed : KeepsRule m past e part Owed
+  pub freezer : KeepsRule m past e part Freezer
+  pub path : KeepsRule m past e part Path
+  pub answers : KeepsRule m past e part Answers
+  pub restored : KeepsRule m past e part Restored
+  pub steps : KeepsRule m past e part Steps
+  pub enabled : KeepsRule m past e part Enabled
+  pub source : KeepsRule m past e part Source
 
 -- an entry behind these keeps each rule (kernel/power/suspend.c, kernel/power/main.c, drivers/base/power/main.c, drivers/base/power/wakeup.c)
 abbrev pub KeepsEntry : Machine → List Entry → Entry → Type 0

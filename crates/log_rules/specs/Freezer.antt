@@ -15,6 +15,7 @@ use Rattle.sleep_model.specs.Attempt.{froze_due, freeze_since}
 use Rattle.sleep_model.specs.Freezer.{freezing, left}
 use Rattle.sleep_model.specs.Tasks.{is_user, freezes_at}
 use Rattle.log_rules.specs.Questions.{is_maker, seat_of, op_of}
+use Rattle.sleep_model.specs.Numbers.{numbers}
 use Rattle.sleep_model.specs.Parts.{Part, OfJournal, OfTime, journal}
 
 -- a frozen task makes nothing; one that is asked says at a freeze point that it freezes, and nothing else; nobody else says so (try_to_freeze, __refrigerator)
@@ -51,6 +52,6 @@ ThawedActor m past _ _ = Unit {0}
 
 -- tasks freeze where they are asked to, frozen ones make nothing, and a freeze ends rightly (try_to_freeze, try_to_freeze_tasks)
 abbrev pub FreezerEntry : Machine → List Entry → Entry → Part → Type 0
-FreezerEntry m past e OfJournal = KeepsFreezer m (journal past) e.now e.actor e.kind
+FreezerEntry m past e OfJournal = KeepsFreezer m (journal past) (numbers past) e.actor e.kind
 FreezerEntry m past e OfTime = Unit {0}
 FreezerEntry m past e _ = ThawedActor m (journal past) e.actor (is_maker (journal past) e.actor)

@@ -16,6 +16,7 @@ use Rattle.sleep_model.specs.Guard.{pending}
 use Rattle.sleep_model.specs.Notifiers.{next_called, next_posted, next_cpu_off, next_cpu_on, next_stopped, next_started}
 use Rattle.log_rules.specs.Questions.{is_maker, row_now}
 use Rattle.sleep_model.specs.Devices.{callback}
+use Rattle.sleep_model.specs.Numbers.{numbers}
 use Rattle.sleep_model.specs.Parts.{Part, Notes, Moves, journal}
 
 -- an entry of a phase on the devices' way down (dpm_suspend)
@@ -89,4 +90,4 @@ ReportsOf past false = Unit {0}
 abbrev pub PathEntry : Machine → List Entry → Entry → Part → Type 0
 PathEntry m past e (Notes s call) = ReportsOf (journal past) (is_maker (journal past) e.actor)
 PathEntry m past e (Moves s step) = Unit {0}
-PathEntry m past e _ = KeepsPath m (journal past) e.now e.actor e.kind
+PathEntry m past e _ = KeepsPath m (journal past) (numbers past) e.actor e.kind

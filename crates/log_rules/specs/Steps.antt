@@ -22,7 +22,7 @@ use Rattle.sleep_model.specs.Devices.{async_work, is_async_device}
 use Rattle.sleep_model.specs.Laws.{is_of_read, is_of_save, is_pass, is_exit}
 use Rattle.sleep_model.specs.Lock.{is_on}
 use Rattle.sleep_model.specs.Marks.{mark_at, raised}
-use Rattle.sleep_model.specs.Numbers.{time_of}
+use Rattle.sleep_model.specs.Numbers.{numbers, time_of}
 use Rattle.sleep_model.specs.Steps.{sleep_due, mark_due}
 use Rattle.sleep_model.specs.Tasks.{is_mem, is_off, is_user, freezes_at}
 use Rattle.log_rules.specs.Questions.{is_maker, seat_of, op_of}
@@ -179,7 +179,7 @@ IsOfCall past who s =
 -- an entry of the journal is its actor's next step, once the calls before it are made whole; a note is its actor's next call; a step of the word is of the call that its actor is inside; time makes the jumps (own)
 abbrev pub StepsEntry : Machine → List Entry → Entry → Part → Type 0
 StepsEntry m past e OfJournal =
-    KeepsSteps m (journal past) e.now e.actor e.kind × IsOwnTurn m (journal past) (λ s. history s past) e.actor
+    KeepsSteps m (journal past) (numbers past) e.actor e.kind × IsOwnTurn m (journal past) (λ s. history s past) e.actor
     × IsOutside m (λ s. history s past) e.actor
 StepsEntry m past e (Notes s call) =
     IsOwnCall m (journal past) (λ t. history t past) e.actor e.kind × IsOutside m (λ t. history t past) e.actor

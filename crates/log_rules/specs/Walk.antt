@@ -24,6 +24,7 @@ use Rattle.sleep_model.specs.declared.entry.Actor.TheVariants as actor
 use Rattle.sleep_model.specs.declared.place.AsyncWork.{AsyncWork}
 use Rattle.sleep_model.specs.declared.place.AsyncWork.TheVariants.{Inside}
 use Rattle.sleep_model.specs.Legal.{IsOwnTurn, IsOwnCall}
+use Rattle.sleep_model.specs.Numbers.{numbers}
 use Rattle.sleep_model.specs.Parts.{Part, OfJournal, Notes, journal}
 use Rattle.sleep_model.specs.Sources.{history}
 use Rattle.log_rules.specs.Questions.{is_maker}
@@ -157,7 +158,7 @@ ReportsMade m past who _ = Unit {0}
 
 -- devices are taken in order and answer what the machine answers, and a callback makes its reports in order, and nothing else (drivers/base/power/main.c)
 abbrev pub WalkEntry : Machine → List Entry → Entry → Part → Type 0
-WalkEntry m past e OfJournal = KeepsWalk m (journal past) e.now e.kind × ReportsMade m past e.actor e.kind
+WalkEntry m past e OfJournal = KeepsWalk m (journal past) (numbers past) e.kind × ReportsMade m past e.actor e.kind
 WalkEntry m past e (Notes s call) =
     is_in_callback m (journal past) e.actor ≡ true → IsOwnCall m (journal past) (λ t. history t past) e.actor e.kind
 WalkEntry m past e _ = Unit {0}

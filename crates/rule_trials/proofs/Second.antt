@@ -3,11 +3,12 @@ use Rattle.std.proofs.Common.{◌<◌, [], ◌∷◌, drop, reverse, refl, arith
 use Rattle.sleep_model.specs.declared.entry.Actor.TheVariants as actor
 use Rattle.sleep_model.specs.declared.entry.Entry.{Entry}
 use Rattle.sleep_model.specs.declared.entry.Kind.TheVariants as kind
+use Rattle.sleep_model.specs.Parts.{OfJournal}
 use Rattle.log_trials.specs.Attempts.{event_stops_a_device_machine, event_stops_a_device, event_stops_a_device_entries}
 use Rattle.log_trials.specs.Broken.{at_time, with_entries}
 use Rattle.log_trials.specs.Terms.{entry, word}
-use Rattle.log_rules.specs.Entry.{KeepsEach}
-use Rattle.log_rules.specs.Verdict.{Rule, Links, Numbers, BreaksFirst, number_of, KeepsRule, IsFirstBad, AtEntry}
+use Rattle.log_rules.specs.Entry.{Rule, Links, Numbers, KeepsRule, KeepsEach}
+use Rattle.log_rules.specs.Verdict.{BreaksFirst, number_of, IsFirstBad, AtEntry}
 
 abbrev good_line : Entry
 good_line = entry 0 (word 0 0 0) (actor.Script 0) (kind.Read 0)
@@ -39,7 +40,7 @@ first_kept = (
 )
 
 -- the second keeps the rules that come before that of numbers
-lesser : (other : Rule) → number_of other < 4 → KeepsRule event_stops_a_device_machine (good_line ∷ []) bad_line other
+lesser : (other : Rule) → number_of other < 4 → KeepsRule event_stops_a_device_machine (good_line ∷ []) bad_line OfJournal other
 lesser Links l = tt
 lesser _ l = absurd (omega (arith, l))
 
