@@ -27,14 +27,6 @@ pub first : (look : Token) (sources front : List SeatedSourceState) (s : SeatedS
 first look sources front s is one uncalled new =
     first_of look front s (ap (λ (l : List SeatedSourceState). length l) (sym is) ∙ one) (subst AreUncalled is uncalled) (subst (λ (l : List SeatedSourceState). AreNew look (seats_of l)) is new)
 
--- one seat is all of a table of one source
-pub alone : (look t : Token) → sources_of look ≡ 1 → IsSeatOf look.table_id 0 t → AreAll look (t ∷ [])
-alone look t one is = record { counted = sym one; each_is = at }
-  where
-    at : (k : ℕ) (x : Token) → get_elem? (t ∷ []) k ≡ some x → IsSeatOf look.table_id k x
-    at zero x e = subst (λ (y : Token). IsSeatOf look.table_id 0 y) (some-injective t x e) is
-    at (suc k) x e = absurd (some-ne-none x (sym e))
-
 kept : (m : Machine) (past : List JournalEntry) (e : JournalEntry) (p : Part) → JournalStep m (entries past) e.entry p → is_kept p ≡ true
 kept m past e OfJournal h = refl
 kept m past e (Notes s c) h = absurd h

@@ -141,9 +141,10 @@ fn has_task(machine: &Machine) -> Result<(), Fail>
 fn turn<R: Wait>(rt: &R, table: &EventTable, machine: &mut SeatedCore<'_>) -> Result<u64, Fail>
     requires table { machine.old.seat.table_id ≡ table.now.desk.shared.table_id }
     requires actor { IsActor machine.old.core.machine TASK }
+    requires legal { JournalPart machine.old.core.machine (entries machine.old.core.past) }
     ensures table { machine.new.seat.table_id ≡ machine.old.seat.table_id }
     ensures sources { sources_of machine.new.seat ≡ sources_of machine.old.seat }
-    ensures legal { OnOk result (JournalPart machine.new.core.machine (entries machine.new.core.past)) }
+    ensures legal { JournalPart machine.new.core.machine (entries machine.new.core.past) }
 {
     if machine.core().calls_due(TASK) != 0 {
         return Err("a call on a source is due".into());
@@ -171,7 +172,7 @@ fn play<R: Wait>(
     ensures source { (source.new.seat.table_id ≡ source.old.seat.table_id) × (number_of source.new.seat ≡ number_of source.old.seat) }
     ensures table { machine.new.seat.table_id ≡ machine.old.seat.table_id }
     ensures sources { sources_of machine.new.seat ≡ sources_of machine.old.seat }
-    ensures legal { OnOk result (JournalPart machine.new.core.machine (entries machine.new.core.past)) }
+    ensures legal { JournalPart machine.new.core.machine (entries machine.new.core.past) }
 {
     let called = source.call(rt, table, at(0), SourceCall::Awake)?;
     let word = machine.look(rt, table, 1);
@@ -198,20 +199,39 @@ fn closed(
     Ok((journal.len(), made))
 }
 
-/// The machine of that core, and what it plays with its source up to the close.
+/// What is played up to the close of the table.
 fn played<R: Wait>(
     rt: &R,
     alloc: Global,
-    core: Core<'_>,
+    table: EventTable,
+    source: SeatedSource,
+    machine: SeatedCore<'_>,
 ) -> Result<([u64; 3], (usize, usize)), Fail>
-    requires actor { IsActor core.machine TASK }
-    requires new { core.past ≡ [] }
+    requires table { machine.seat.table_id ≡ table.desk.shared.table_id }
+    requires source { (source.source ≡ new_source 0) × IsSeatOf machine.seat.table_id 0 source.seat }
+    requires sources { sources_of machine.seat ≡ 1 }
+    requires actor { IsActor machine.core.machine TASK }
+    requires new { machine.core.past ≡ [] }
 {
-    let (table, mut source, look) = one_source(alloc)?;
-    let mut machine = SeatedCore::new(core, look);
-    let positions = play(rt, &table, &mut source, &mut machine)?;
-    let made = closed(alloc, table, source, machine)?;
-    Ok((positions, made))
+    let mut source = source;
+    let mut machine = machine;
+    let positions = play(rt, &table, &mut source, &mut machine);
+    let made = closed(alloc, table, source, machine);
+    Ok((positions?, made?))
+}
+
+/// A core with its seat, beside a table of one source.
+fn begun(alloc: Global, core: Core<'_>) -> Result<(EventTable, SeatedSource, SeatedCore<'_>), Mem>
+    requires { core.past ≡ [] }
+    ensures core { IfOk result (λ made. made.2.core ≡ core.entry) }
+    ensures source { IfOk result (λ made. (made.1.source ≡ new_source 0) × IsSeatOf made.2.seat.table_id 0 made.1.seat) }
+    ensures table { IfOk result (λ made. made.2.seat.table_id ≡ made.0.desk.shared.table_id) }
+    ensures sources { IfOk result (λ made. sources_of made.2.seat ≡ 1) }
+{
+    match one_source(alloc) {
+        Ok((table, source, look)) => Ok((table, source, SeatedCore::new(core, look))),
+        Err(fault) => Err(fault),
+    }
 }
 
 /// All see the source's start, at the position behind which it stands. The closed table has one entry of time, one of
@@ -223,7 +243,8 @@ fn a_run_closes_its_table(rt: HostRuntime) -> Result<(), Fail> {
     };
     has_task(&machine)?;
     let core = Core::new(rt.alloc(), &machine, links)?;
-    let both = played(&rt, rt.alloc(), core)?;
+    let (table, source, seated) = begun(rt.alloc(), core)?;
+    let both = played(&rt, rt.alloc(), table, source, seated)?;
     assert_eq!(rt; both, ([1, 1, 1], (2, 2)));
     Ok(())
 }
