@@ -1,14 +1,12 @@
 -- A table of one source.
-use Rattle.std.proofs.Common.{◌≡◌, ◌∙◌, ℕ, zero, suc, Bool, true, false, List, [], ◌∷◌, ◌++◌, length, Some, refl, sym, ap, subst, arith, length-append}
+use Rattle.std.proofs.Common.{◌≡◌, ◌∙◌, true, List, [], ◌∷◌, ◌++◌, length, refl, sym, ap, subst, arith, length-append}
 use Rattle.std.specs.List.{list_all}
-use mathlib.Core.Option.{some, some-injective, some-ne-none}
-use lib.ListN.{get_elem?}
 use Rattle.sleep_model.specs.declared.entry.JournalEntry.{JournalEntry}
 use Rattle.sleep_model.specs.declared.machine.Machine.{Machine}
 use Rattle.sleep_model.specs.Legal.{JournalPart, JournalStep}
 use Rattle.sleep_model.specs.Parts.{Part, OfJournal, Notes, Moves, OfTime, is_kept, part_of}
 use Rattle.sleep_state.specs.Places.{entries}
-use Rattle.event_word.specs.Seats.{AreAll, AreNew, IsSeatOf, Token, number_of, sources_of}
+use Rattle.event_word.specs.Seats.{AreNew, IsSeatOf, Token}
 use Rattle.wakeup_source.specs.SourceStates.{new_source}
 use Rattle.merge_laws.specs.Apart.{is_journals}
 use Rattle.merge_laws.proofs.Lists.{all_more}
