@@ -1,3 +1,4 @@
+pub mod Agreeing
 pub mod Digits
 pub mod Ending
 pub mod FirstLine

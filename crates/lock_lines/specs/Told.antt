@@ -1,5 +1,6 @@
 -- The answer to a whole text of lines.
-use Rattle.std.specs.Prelude.{ℕ, ◌+◌, ◌++◌, List, [], ◌∷◌, if◌then◌else◌, Option, Some, None, Result, Ok, Err}
+use Rattle.std.specs.Prelude.{◌≡◌, ℕ, ◌+◌, ◌++◌, List, [], ◌∷◌, if◌then◌else◌, Option, Some, None, Result, Ok, Err}
+use Rattle.wake_locks.specs.Counted.{AllAgree}
 use Rattle.lock_lines.specs.declared.fault.LinesFault.{LinesFault}
 use Rattle.lock_lines.specs.declared.fault.LinesFault.TheVariants.{Line}
 use Rattle.lock_lines.specs.Answers.{source_lines}
@@ -25,3 +26,7 @@ answered None these = ended (carried_all these first_board)
 -- the answer to a text: all forms are tried before the first line is carried out
 abbrev pub told : List ℕ → Result (List ℕ) LinesFault
 told bytes = answered (first_bad 1 (lines bytes)) (lines bytes)
+
+-- after all these lines each known lock stands as its source's entries say: active exactly where an event is in progress, and until when that ends (wakeup_source_activate, wakeup_source_deactivate)
+abbrev pub AgreeAfter : List ℕ → Type 0
+AgreeAfter bytes = (board : Board) → carried_all (lines bytes) first_board ≡ Ok board → AllAgree board.locks

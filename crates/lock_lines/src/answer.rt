@@ -1,6 +1,6 @@
-ghost use Rattle.std.specs.Prelude.{◌≡◌, ◌≤◌, Ok, length, IfOk, IfErr};
+ghost use Rattle.std.specs.Prelude.{◌≡◌, ◌≤◌, Ok, length, IfOk, IfErr, OnOk};
 ghost use Rattle.lock_lines.specs.Lines.{lines};
-ghost use Rattle.lock_lines.specs.Told.{first_bad, told};
+ghost use Rattle.lock_lines.specs.Told.{AgreeAfter, first_bad, told};
 ghost use Rattle.lock_lines.specs.Steps.{IsRefusal};
 
 use crate::board::LockBoard;
@@ -43,9 +43,14 @@ fn first_bad(bytes: &[u8]) -> Option<u32>
 ///
 /// All lines are tried before the first is carried out: `Line` is the first of no form. `Full` names the first lock
 /// on which a call is to be made though its history has fewer than four places left. `Mem` comes for want of memory.
+///
+/// What is told of names and what is told of sources agree: a name is active exactly where its source has an event in
+/// progress, and until when that ends.
+#[tactic(auto, using(crate::proofs::Agreeing::agreed))]
 pub fn answer_lines<R: Wait>(rt: &R, alloc: Global, bytes: &[u8]) -> Result<Vec<u8>, LinesFault>
     requires { length bytes.now ≤ MOST_BYTES }
     ensures text { IfOk result (λ text. told bytes.now ≡ Ok text.items) }
+    ensures agree { OnOk result (AgreeAfter bytes.now) }
     ensures refused { IfErr result (IsRefusal (told bytes.now)) }
 {
     if let Some(number) = first_bad(bytes) {

@@ -26,6 +26,7 @@ impl Model for LockBoard {
 
 ghost use Rattle.std.specs.Prelude.{◌≡◌, ◌≤◌, ◌+◌, ◌*◌, ◌^◌, ◌++◌, true, Ok, length, IfOk, IfErr, OnOk};
 ghost use Rattle.std.specs.List.{list_all};
+ghost use Rattle.wake_locks.specs.Counted.{AllAgree};
 ghost use Rattle.wake_locks.specs.Locks.{IsTimely};
 ghost use Rattle.wake_locks.specs.Writes.{asked_lock, asked_unlock};
 ghost use Rattle.lock_lines.specs.declared.fault.LinesFault.TheVariants as fault;
@@ -165,6 +166,7 @@ impl LockBoard {
         requires timely { IsTimely self.now self.locks }
         requires small { self.now ≤ 2 ^ 62 }
         ensures done { IfOk result (λ said. said.items ≡ self.said ++ source_lines self.now self.locks) }
+        ensures agree { OnOk result (AllAgree self.locks) }
         ensures refused { IfErr result (λ e. e ≡ fault.Mem) }
     {
         let LockBoard { locks, now, said } = self;

@@ -1,5 +1,6 @@
-ghost use Rattle.std.specs.Prelude.{◌≤◌, IfErr, IfOk, length};
+ghost use Rattle.std.specs.Prelude.{◌≤◌, IfErr, IfOk, OnOk, length};
 ghost use Rattle.program_ending.specs.Telling.{Refuses};
+ghost use Rattle.lock_lines.specs.Told.{AgreeAfter};
 ghost use Rattle.lock_lines.specs.Command.{IsEndingOf, IsLocksOf, RefusesLocks};
 
 use crate::answer::{MOST_BYTES, answer_lines};
@@ -27,6 +28,7 @@ fn ending_of(fault: LinesFault) -> Ending
 pub fn locks_of<R: Wait>(rt: &R, alloc: Global, bytes: &[u8]) -> Result<Vec<u8>, Ending>
     requires { length bytes.now ≤ MOST_BYTES }
     ensures told { IfOk result (λ said. IsLocksOf bytes.now said.items) }
+    ensures agree { OnOk result (AgreeAfter bytes.now) }
     ensures refused { IfErr result (Refuses (RefusesLocks bytes.now)) }
 {
     match answer_lines(rt, alloc, bytes) {

@@ -1,3 +1,4 @@
+pub mod Agreeing
 mod Calls
 pub mod Digits
 mod Expired

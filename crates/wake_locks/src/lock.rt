@@ -50,7 +50,7 @@ ghost use Rattle.wake_locks.specs.declared.answer.LockFault.TheVariants.{Full};
 ghost use Rattle.wake_locks.specs.Locks.{new_lock, after_call, by_name, maker, stands_so};
 ghost use Rattle.wake_locks.specs.LockFields.{IsMade, IsMeant};
 ghost use Rattle.wake_locks.specs.Standings.{end_of};
-ghost use Rattle.wake_locks.specs.Counted.{counted};
+ghost use Rattle.wake_locks.specs.Counted.{Agrees, counted};
 ghost use Rattle.wake_locks.specs.Writes.{IsFull};
 
 /// Who makes a call.
@@ -181,7 +181,8 @@ impl<const CAP: usize> Lock<CAP> {
     pub(crate) fn counted(&self, now: u64) -> LockStats
         requires time { latest self.now.own ≤ now }
         requires small { now ≤ 2 ^ 63 }
-        ensures { result ≡ counted now self.now }
+        ensures is { result ≡ counted now self.now }
+        ensures agrees { Agrees self.now }
     {
         LockStats {
             name: self.name,

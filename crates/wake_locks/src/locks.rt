@@ -36,7 +36,7 @@ impl<const CAP: usize> Model for WakeLocks<CAP> {
 }
 
 ghost use Rattle.std.specs.Prelude.{◌≡◌, ◌≢◌, ◌≤◌, ◌<◌, ◌+◌, ◌^◌, List, [], Ok, Err, None, length, slice_index_or, OnOk, OnErr, IfOk, IfErr, option_map, map};
-ghost use Rattle.wake_locks.specs.Counted.{counted};
+ghost use Rattle.wake_locks.specs.Counted.{AllAgree, counted};
 ghost use Rattle.sleep_model.specs.Sources.{most_entries, stats_at};
 ghost use Rattle.wake_locks.specs.declared.answer.LockAnswer.TheVariants as LockAnswer;
 ghost use Rattle.wake_locks.specs.declared.answer.LockFault.TheVariants as LockFault;
@@ -225,11 +225,13 @@ impl<const CAP: usize> WakeLocks<CAP> {
         Ok(ListOf::of_vec(names))
     }
 
-    /// What is counted of each known lock at that moment, in the order of their names.
+    /// What is counted of each known lock at that moment, in the order of their names. Each stands as its source's entries
+    /// say.
     pub fn all_stats(&self, now: u64) -> Result<Vec<LockStats>, Mem>
         requires time { AreBefore now self.now }
         requires small { now ≤ 2 ^ 63 }
-        ensures { IfOk result (λ all. all.items ≡ map (counted now) self.now) }
+        ensures counted { IfOk result (λ all. all.items ≡ map (counted now) self.now) }
+        ensures agree { OnOk result (AllAgree self.now) }
     {
         let mut all = Vec::new(self.alloc);
         for lock in &self.locks {

@@ -1,4 +1,7 @@
-use Rattle.std.proofs.Common.{◌≤◌, ◌∙◌, sym, subst, arith}
+use Rattle.std.proofs.Common.{◌≤◌, ◌∙◌, get_or, sym, subst, arith}
+use Rattle.std.proofs.lemmas.Grind.{common_steps}
+use Rattle.wake_locks.specs.Counted.{Agrees}
+use Rattle.wake_locks.proofs.Agreeing.{agree_more}
 use Rattle.wakeup_source.specs.SourceStates.{latest}
 use Rattle.wake_locks.specs.Locks.{LockState, AreBefore}
 use Rattle.wake_locks.proofs.Placed.{before_at}
@@ -11,3 +14,12 @@ counted-requires g c =
     let before = subst (AreBefore c.args.now) (sym (c.deref-lock-items.ensures.value ∙ c.self.view_is)) c.requires.time in
     let time : latest lock.own ≤ c.args.now = subst (λ (x : LockState). latest x.own ≤ c.args.now) (sym c.lock-item.is) (before_at c.args.now items before c.loop-lock.lock-index lock c.loop-lock-test.true) in
     (omega arith, (time, c.requires.small))
+
+pub loop-lock-preserved : goal.loop-lock-preserved
+loop-lock-preserved g c =
+    let lock = c.lock-item.result in
+    let one : Agrees (get_or c.deref-lock-items.result.now c.loop-lock.lock-index lock) = subst Agrees c.lock-item.is c.counted.ensures.agrees in
+    record {
+      counted = grind (arith, common_steps);
+      agree = agree_more c.loop-lock.lock-index c.deref-lock-items.result.now lock c.loop-lock-test.true c.loop-lock.invariant.agree one;
+    }
