@@ -1,6 +1,6 @@
 """A second writing of the named locks of user space, from the rules alone.
 
-Each name is inactive, active without end, or active until a moment; apart from that each name's source counts what
+At each moment a name has no lock, one with no end, or one with an end; apart from that each name's source counts what
 happened on it. The rules say what every line of the command `locks` answers; nothing here knows the program.
 """
 

@@ -101,7 +101,7 @@ is_resting run word = is_idle run.machine (entries run.journal) (histories run.s
 abbrev pub is_over : RunState → EventNow → Bool
 is_over run word = is_finished run.machine (entries run.journal) (histories run.sources) word
 
--- nobody goes on, by that word: a script has not exited, nobody is enabled, and no time is pending
+-- nobody goes on, by that word: a script has not exited, no actor can make anything, and no moment is pending
 pub record IsHalted (run : RunState) (word : EventNow) : Type 0 where
   pub left : all_gone run.machine (entries run.journal) ≡ false
   pub idle : is_resting run word ≡ true
