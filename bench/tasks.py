@@ -14,6 +14,7 @@ so that "as fast as an attempt's entries" reads 1. Rows:
   apart         the same sleeps, of different lengths: a jump of time for nearly each, which costs the same at any
                 number of tasks
   one waits     the same again, beside a task that waits for a mark: each jump passes over all tasks
+  posts         a task raises one mark 100,000 times, beside 254 that wait for another, which it raises at its end
 """
 
 import sys
@@ -45,6 +46,13 @@ def waiting(tree):
     return tree | {"actors": [first, second, *others]}
 
 
+def posts():
+    """A task that raises one mark again and again, and those that wait for another."""
+    script = [{"op": "post", "mark": "often", "times": 20000}] * 5 + [{"op": "post", "mark": "once"}] * 254
+    others = [{"name": f"w{i}", "kind": "user", "script": [{"op": "wait", "mark": "once"}]} for i in range(254)]
+    return {"version": 1, "actors": [{"name": "p", "kind": "user", "script": script}, *others]}
+
+
 def refused(tree):
     """The same machine with an answer of nobody, which is found when all else was read."""
     return tree | {"answers": [{"what": "notifier", "name": "nobody", "ret": "EIO"}]}
@@ -61,6 +69,7 @@ def main():
         ("in step", sleepers(lambda i: 7)),
         ("apart", sleepers(lambda i: 1009 + 37 * i)),
         ("one waits", waiting(sleepers(lambda i: 1009 + 37 * i))),
+        ("posts", posts()),
     ]
     print(f"{'machine':>14} {'entries':>9} {'ns/entry':>9} {'ratio':>6}")
     first = None
