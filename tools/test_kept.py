@@ -53,9 +53,12 @@ BROKEN = [
     ("autosleep", 7, "0 0/1/0 auto again", [17]),
     ("asynchronous_child", 11, "0 0/0/0 task:w begin suspend c", [17]),
     ("autosleep", 29, "1000 0/1/0 auto wake event", [18]),
+    ("event_stops_a_device", 32, "0 0/1/0 task:w wake alarm", [14, 18]),
+    ("event_stops_a_device", 32, "0 0/1/0 task:w frozen", [13, 14, 17]),
+    ("autosleep", 11, "0 0/1/0 auto frozen", [13, 17]),
     ("autosleep", 43, "1300 0/1/0 time jump", [18]),
     ("autosleep", 27, None, [18]),
-    ("event_stops_a_device", 27, "0 0/0/0 irq:k hard lid", [22]),
+    ("event_stops_a_device", 27, "0 0/0/0 irq:k hard lid", [17, 22]),
     ("event_stops_a_device", 27, "0 0/0/0 task:w start lid", [17]),
     ("event_stops_a_device", 26, None, [22]),
 ]

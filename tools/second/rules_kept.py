@@ -244,7 +244,7 @@ class Kept(Place):
             return self.irqs_off
         if e.verb == "platform" and len(w) == 2 and w[1] in UNDOES:
             return UNDOES[w[1]] in self.owes
-        return e.verb != "wake" or self.sleep is not None
+        return True
 
     def restored(self, e):
         if e.verb != "over":
@@ -281,6 +281,8 @@ class Kept(Place):
             point = seat.asked and self.freezes_at(seat)
             if seat.frozen or point != (e.verb == "frozen"):
                 return False
+        elif e.verb == "frozen":
+            return False
         if e.verb != "froze":
             return True
         left = self.tasks_left(e.words[1])
@@ -346,8 +348,9 @@ class Kept(Place):
             return e.who == "time"
         if e.part == "step":
             source = self.sources[e.words[1]]
-            beside = any(s.owed and s.caller == e.who for s in self.sources.values() if s is not source)
-            return not beside and (not source.owed or source.caller == e.who)
+            inside = [s for s in self.sources.values() if s.owed and s.caller == e.who]
+            own = all(s is source and s.owed[0] == e.verb for s in inside)
+            return own and (not source.owed or source.caller == e.who)
         if self.is_inside(e.who):
             return False
         if e.part == "note":
@@ -430,9 +433,9 @@ class Kept(Place):
             return self.is_jump(e)
         if e.part != "journal":
             return True
-        if e.verb == "wake" and self.sleep is not None:
-            event = self.position() > self.sleep[0]
-            alarm = self.time >= self.sleep[1] + self.tree.get("alarm_ms", 1000)
+        if e.verb == "wake":
+            event = self.sleep is not None and self.position() > self.sleep[0]
+            alarm = self.sleep is not None and self.time >= self.sleep[1] + self.tree.get("alarm_ms", 1000)
             if e.words[1] != ("event" if event else "alarm" if alarm else None):
                 return False
         if self.is_maker(e):

@@ -31,7 +31,7 @@ use Rattle.log_rules.specs.Owed.{KeepsOwed}
 use Rattle.log_rules.specs.Restored.{KeepsRestored}
 use Rattle.log_rules.specs.Runtime.{KeepsRuntime}
 use Rattle.log_rules.specs.Enabled.{AwakeActor}
-use Rattle.log_rules.specs.Freezer.{FreezesActor}
+use Rattle.log_rules.specs.Freezer.{FreezesActor, FreezesNot}
 use Rattle.log_rules.specs.Law.{IsDue, OneForDevices}
 use Rattle.log_rules.specs.Path.{PathOf}
 use Rattle.log_rules.specs.Questions.{is_maker, row_now, turn_of}
@@ -153,8 +153,8 @@ IsTime actor.Time = Unit {0}
 IsTime _ = ⊥
 
 -- the rules that say nothing of what a device makes are kept
-fill : (m : Machine) (past : List Entry) (now : EventNow) (d : ℕ) (k : Kind) → is_maker past (actor.Dev d) ≡ false → KeepsLinks m past k → KeepsAttempts past k → KeepsRuntime m past k → KeepsAnswers past k → KeepsRestored m past k → NoFroze k → NoWake k → Own m past now d k → KeepsOwed m past k → KeepsAll m past now (actor.Dev d) k
-fill m past now d k e l a u n s f w o x = record {
+fill : (m : Machine) (past : List Entry) (now : EventNow) (d : ℕ) (k : Kind) → is_maker past (actor.Dev d) ≡ false → KeepsLinks m past k → KeepsAttempts past k → KeepsRuntime m past k → KeepsAnswers past k → KeepsRestored m past k → FreezesNot k → NoFroze k → NoWake k → Own m past now d k → KeepsOwed m past k → KeepsAll m past now (actor.Dev d) k
+fill m past now d k e l a u n s z f w o x = record {
   most = record {
     links = l;
     attempts = a;
@@ -162,7 +162,7 @@ fill m past now d k e l a u n s f w o x = record {
     walk = o.0;
     skip = o.1;
     runtime = u;
-    freezer = (subst (λ (b : Bool). FreezesActor m past (actor.Dev d) b k) (sym e) tt, freeze_else m past now (freeze_since past) k f);
+    freezer = (subst (λ (b : Bool). FreezesActor m past (actor.Dev d) b k) (sym e) z, freeze_else m past now (freeze_since past) k f);
     path = subst (λ (b : Bool). PathOf m past now b k) (sym e) tt;
     answers = n;
     steps = subst (λ (b : Bool). StepsOf m past now (actor.Dev d) b k) (sym e) o.2;
@@ -174,9 +174,9 @@ fill m past now d k e l a u n s f w o x = record {
 
 -- of a device's entry the other rules ask nothing, but that what it undoes is owed
 rest_keeps : (m : Machine) (past : List Entry) (now : EventNow) (d : ℕ) (k : Kind) → is_maker past (actor.Dev d) ≡ false → JournalPart m past → IsDue m past now (actor.Dev d) k → Own m past now d k → KeepsAll m past now (actor.Dev d) k
-rest_keeps m past now d (kind.Begin p c) e j x o = fill m past now d (kind.Begin p c) e tt tt tt tt tt tt tt o (all_owed m past (placed past now (actor.Dev d) (kind.Begin p c)) ((x, refl), j))
-rest_keeps m past now d (kind.End p c r) e j x o = fill m past now d (kind.End p c r) e tt tt tt tt tt tt tt o (all_owed m past (placed past now (actor.Dev d) (kind.End p c r)) ((x, refl), j))
-rest_keeps m past now d (kind.Skip p c cause) e j x o = fill m past now d (kind.Skip p c cause) e tt tt tt tt tt tt tt o tt
+rest_keeps m past now d (kind.Begin p c) e j x o = fill m past now d (kind.Begin p c) e tt tt tt tt tt tt tt tt o (all_owed m past (placed past now (actor.Dev d) (kind.Begin p c)) ((x, refl), j))
+rest_keeps m past now d (kind.End p c r) e j x o = fill m past now d (kind.End p c r) e tt tt tt tt tt tt tt tt o (all_owed m past (placed past now (actor.Dev d) (kind.End p c r)) ((x, refl), j))
+rest_keeps m past now d (kind.Skip p c cause) e j x o = fill m past now d (kind.Skip p c cause) e tt tt tt tt tt tt tt tt o tt
 rest_keeps m past now d _ e j x o = absurd o.3
 
 -- a device that makes no attempt makes what is due of it as a device

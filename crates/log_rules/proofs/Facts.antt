@@ -15,6 +15,7 @@ use Rattle.sleep_model.specs.Parts.{Part, OfJournal, OfTime}
 use Rattle.log_rules.specs.Answers.{KeepsAnswers}
 use Rattle.log_rules.specs.Enabled.{WakesBy}
 use Rattle.log_rules.specs.Freezer.{FreezeEnds}
+use Rattle.log_rules.specs.Owed.{KeepsOwed}
 use Rattle.log_rules.specs.Skip.{KeepsSkip}
 use Rattle.log_rules.specs.Walk.{KeepsWalk}
 use Rattle.sleep_laws.proofs.Making.{OnlyMade}
@@ -95,7 +96,7 @@ plain_skip m past now (kind.Skip p d cause) h = absurd h
 plain_skip m past now (kind.Begin p d) h = absurd h
 plain_skip m past now _ h = tt
 
-pub plain_owed : (m : Machine) (past : List Entry) (k : Kind) → Plain k → Owed m past k
+pub plain_owed : (m : Machine) (past : List Entry) (k : Kind) → Plain k → KeepsOwed m past k
 plain_owed m past (kind.Complete d) h = absurd h
 plain_owed m past (kind.Schedule p d) h = absurd h
 plain_owed m past (kind.Begin p d) h = absurd h
@@ -134,7 +135,8 @@ freeze_else m past now (Some s) (kind.Froze g end) h = absurd h
 freeze_else m past now (Some s) _ h = tt
 
 pub wake_else : (m : Machine) (past : List Entry) (now : EventNow) (o : Option Sleep) (k : Kind) → NoWake k → WakesBy m past now o k
-wake_else m past now None k h = tt
+wake_else m past now None (kind.Wake by_event) h = absurd h
+wake_else m past now None _ h = tt
 wake_else m past now (Some s) (kind.Wake by_event) h = absurd h
 wake_else m past now (Some s) _ h = tt
 
@@ -151,3 +153,8 @@ plain_freeze m past now k h = freeze_else m past now (freeze_since past) k (no_f
 
 pub plain_wake : (m : Machine) (past : List Entry) (now : EventNow) (k : Kind) → Plain k → WakesBy m past now (sleep_of past) k
 plain_wake m past now k h = wake_else m past now (sleep_of past) k (no_wake k h)
+
+-- what is owed, waking left out
+pub owed_kept : (m : Machine) (past : List Entry) (k : Kind) → Owed m past k → KeepsOwed m past k
+owed_kept m past (kind.Wake by_event) h = tt
+owed_kept m past _ h = h

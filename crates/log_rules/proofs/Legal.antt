@@ -120,7 +120,12 @@ module _ (m : Machine) (past : List Entry) (e : Entry) where
     path = tt;
     answers = tt;
     restored = tt;
-    steps = (λ t i. behind_one past e.actor t s (inside_behind m past l t e.actor i) h.joint, λ i. h.own.1);
+    steps = (
+      λ t i.
+          let same : t ≡ s = behind_one past e.actor t s (inside_behind m past l t e.actor i) h.joint in
+          (same, subst (λ (u : ℕ). IsNext x (owed (history u past))) (sym same) h.own.0),
+      λ i. h.own.1,
+    );
     enabled = tt;
     source = (h.own.0, h.fits);
   }

@@ -28,14 +28,14 @@ use Rattle.sleep_laws.proofs.Standing.{CallIf, Standing}
 use Rattle.log_rules.specs.All.{KeepsAll, KeepsMost}
 use Rattle.log_rules.specs.Answers.{KeepsAnswers}
 use Rattle.log_rules.specs.Enabled.{AwakeActor}
-use Rattle.log_rules.specs.Freezer.{FreezesActor}
+use Rattle.log_rules.specs.Freezer.{FreezesActor, FreezesNot}
 use Rattle.log_rules.specs.Law.{IsDue, AreOne, OneForMakers, OneForAll, OwedFollows}
 use Rattle.log_rules.specs.Path.{IsOfRow, IsOfRowIf, PathOf}
 use Rattle.log_rules.specs.Questions.{is_maker, row_at, row_now}
 use Rattle.log_rules.specs.Reads.{ReadsActor}
 use Rattle.log_rules.specs.Steps.{IsMakerStep, StepsOf}
 use Rattle.log_rules.proofs.Devices.{the_devices}
-use Rattle.log_rules.proofs.Facts.{never, only_is, gone}
+use Rattle.log_rules.proofs.Facts.{never, only_is, gone, owed_kept}
 use Rattle.log_rules.proofs.Keeping.{row_back}
 use Rattle.log_rules.proofs.Making.{PhaseAnswers, RowKept, row_made}
 use Rattle.log_rules.proofs.Rows.{due_in_row, maker_due, comes, row_proper}
@@ -97,9 +97,14 @@ no_reads : (m : Machine) (past : List Entry) (now : EventNow) (who : Actor) (k :
 no_reads m past now (actor.Script i) k = tt
 no_reads m past now _ k = tt
 
-no_freeze : (m : Machine) (past : List Entry) (who : Actor) (k : Kind) → FreezesActor m past who true k
-no_freeze m past (actor.Script i) k = tt
-no_freeze m past _ k = tt
+row_freezes_not : (m : Machine) (past : List Entry) (now : EventNow) (s : Stage) (k : Kind) → IsOfRow m past now s k → FreezesNot k
+row_freezes_not m past now stage.Ends kind.Frozen o = o
+row_freezes_not m past now _ kind.Frozen o = o
+row_freezes_not m past now s _ o = tt
+
+no_freeze : (m : Machine) (past : List Entry) (who : Actor) (k : Kind) → FreezesNot k → FreezesActor m past who true k
+no_freeze m past (actor.Script i) k h = h
+no_freeze m past _ k h = h
 
 no_sleep : (m : Machine) (past : List Entry) (who : Actor) → AwakeActor m past who true
 no_sleep m past (actor.Script i) = tt
@@ -140,13 +145,13 @@ forth m past now who k e j x = by_row (row_now m past) refl (row_proper m past) 
             walk = r.walk;
             skip = r.skip;
             runtime = r.runtime;
-            freezer = (subst (λ (b : Bool). FreezesActor m past who b k) (sym e) (no_freeze m past who k), r.freeze);
+            freezer = (subst (λ (b : Bool). FreezesActor m past who b k) (sym e) (no_freeze m past who k (row_freezes_not m past now s k r.of_row)), r.freeze);
             path = subst (λ (b : Bool). PathOf m past now b k) (sym e) (subst (λ (o : Option Stage). IsOfRowIf m past now o k) (sym f) r.of_row);
             answers = all_answers past k r.answers (answers_failure m past (placed past now who k) legal);
             steps = subst (λ (b : Bool). StepsOf m past now who b k) (sym e) (walk_step m past now who k r.beside);
             enabled = (subst (λ (b : Bool). AwakeActor m past who b) (sym e) (no_sleep m past who), r.wakes);
           };
-          owed = all_owed m past (placed past now who k) legal;
+          owed = owed_kept m past k (all_owed m past (placed past now who k) legal);
           restored = all_restored m past (placed past now who k) legal;
         }
 

@@ -24,7 +24,7 @@ use Rattle.sleep_laws.proofs.Making.{OnlyMade}
 use Rattle.log_rules.specs.All.{KeepsAll, KeepsMost}
 use Rattle.log_rules.specs.Attempts.{KeepsAttempts}
 use Rattle.log_rules.specs.Enabled.{AwakeActor}
-use Rattle.log_rules.specs.Freezer.{FreezesActor}
+use Rattle.log_rules.specs.Freezer.{FreezesActor, FreezesNot}
 use Rattle.log_rules.specs.Law.{IsDue, OneForWork}
 use Rattle.log_rules.specs.Links.{KeepsLinks}
 use Rattle.log_rules.specs.Path.{PathOf}
@@ -88,6 +88,14 @@ work_made m past now (Napping None) g h e = (refl, tt, tt, tt, tt, tt)
 work_made m past now (Napping (Some until)) g h e = only_if (Works m past now (Napping (Some until))) (nat_le until (time_of past)) _ _ (λ t. (t, tt, tt, tt, tt, tt)) (λ t. tt)
 work_made m past now Closing g h e = only_if (Works m past now Closing) (is_on past) _ _ (λ o. (o, tt, tt, tt, tt, tt)) (λ o. (o, tt, tt, tt, tt, tt))
 
+-- the work does not say that it freezes
+work_freezes_not : (m : Machine) (past : List Entry) (now : EventNow) (w : Work) (k : Kind) → IsWorkStep m past now w k → FreezesNot k
+work_freezes_not m past now Resting kind.Frozen s = s
+work_freezes_not m past now (Napping None) kind.Frozen s = s
+work_freezes_not m past now (Napping (Some u)) kind.Frozen s = s
+work_freezes_not m past now _ kind.Frozen s = s
+work_freezes_not m past now w _ s = tt
+
 -- and that it may go on
 abbrev Awake : Machine → List Entry → EventNow → Kind → Type 0
 Awake m past now k = AwakeActor m past actor.Auto false × Works m past now (work past) k
@@ -111,7 +119,7 @@ auto_forth m past now k e j d =
         walk = plain_walk m past now k s.5;
         skip = plain_skip m past now k s.5;
         runtime = s.3;
-        freezer = (subst (λ (b : Bool). FreezesActor m past actor.Auto b k) (sym e) tt, plain_freeze m past now k s.5);
+        freezer = (subst (λ (b : Bool). FreezesActor m past actor.Auto b k) (sym e) (work_freezes_not m past now (work past) k s.0), plain_freeze m past now k s.5);
         path = subst (λ (b : Bool). PathOf m past now b k) (sym e) tt;
         answers = plain_answers past k s.5;
         steps = subst (λ (b : Bool). StepsOf m past now actor.Auto b k) (sym e) s.0;

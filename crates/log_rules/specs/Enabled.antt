@@ -32,6 +32,7 @@ AwakeActor m past _ _ = Unit {0}
 
 -- a machine that sleeps wakes by a step of the word, else by its alarm (suspend_enter, pm_wakeup_pending; the alarm is own)
 abbrev pub WakesBy : Machine → List Entry → EventNow → Option Sleep → Kind → Type 0
+WakesBy m past now None (kind.Wake by_event) = ⊥
 WakesBy m past now (Some s) (kind.Wake by_event) = wakes_due m past now s ≡ Makes (kind.Wake by_event)
 WakesBy m past now _ _ = Unit {0}
 

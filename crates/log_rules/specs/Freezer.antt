@@ -23,15 +23,20 @@ abbrev pub FreezesBy : Freezing → Bool → Kind → Type 0
 FreezesBy f point kind.Frozen = (f.frozen ≡ false) × ((f.asked && point) ≡ true)
 FreezesBy f point _ = (f.frozen ≡ false) × ((f.asked && point) ≡ false)
 
+-- nobody else says that it freezes (__refrigerator)
+abbrev pub FreezesNot : Kind → Type 0
+FreezesNot kind.Frozen = ⊥
+FreezesNot _ = Unit {0}
+
 -- so for a task of that kind at its operation (try_to_freeze)
 abbrev pub FreezesTask : Freezing → Bool → Option Op → Option Script → Kind → Type 0
-FreezesTask f begun op None k = Unit {0}
+FreezesTask f begun op None k = FreezesNot k
 FreezesTask f begun op (Some s) k = FreezesBy f (freezes_at (is_user s.kind) begun op) k
 
--- tasks outside attempts of their own freeze where they are asked to (try_to_freeze)
+-- tasks outside attempts of their own freeze where they are asked to, and nobody else does (try_to_freeze)
 abbrev pub FreezesActor : Machine → List Entry → Actor → Bool → Kind → Type 0
 FreezesActor m past (actor.Script i) false k = FreezesTask (freezing m i past) (seat_of m past i).waits (op_of m past i) (slice_get m.actors i) k
-FreezesActor m past _ _ k = Unit {0}
+FreezesActor m past _ _ k = FreezesNot k
 
 -- a freeze ends by who is left, by its time, or by a wakeup, and only where it has begun (try_to_freeze_tasks)
 abbrev pub FreezeEnds : Machine → List Entry → EventNow → Option ℕ → Kind → Type 0

@@ -17,6 +17,7 @@ use Rattle.sleep_model.specs.declared.place.Seat.{Seat}
 use Rattle.sleep_model.specs.declared.place.Work.{Work}
 use Rattle.sleep_model.specs.declared.place.Work.TheVariants.{Resting, Reading, Saving, Attempting, Looking, Napping, Closing}
 use Rattle.sleep_model.specs.declared.word.EventNow.{EventNow}
+use Rattle.sleep_model.specs.declared.word.WordKind.{WordKind}
 use Rattle.sleep_model.specs.Autosleep.{may_run, seen_count, work}
 use Rattle.sleep_model.specs.Devices.{async_work, is_async_device}
 use Rattle.sleep_model.specs.Laws.{is_of_read, is_of_save, is_pass, is_exit}
@@ -30,7 +31,7 @@ use Rattle.sleep_model.specs.Calls.{is_left}
 use Rattle.sleep_model.specs.Legal.{IsOwnTurn, IsOwnCall, IsOutside}
 use Rattle.sleep_model.specs.Parts.{Part, OfJournal, Notes, Moves, OfTime, journal}
 use Rattle.sleep_model.specs.Path.{is_actor}
-use Rattle.sleep_model.specs.Sources.{history, owed, caller}
+use Rattle.sleep_model.specs.Sources.{history, owed, caller, IsNext}
 
 -- ---- a script
 
@@ -170,10 +171,10 @@ KeepsSteps m past now who k = StepsOf m past now who (is_maker past who) k
 abbrev pub is_inside : List Entry → Actor → Bool
 is_inside own who = is_left (owed own) && is_actor who (caller own)
 
--- an actor inside a call makes the steps of that call alone, and no other's (wakeup_source_report_event)
-abbrev pub IsOfCall : List Entry → Actor → ℕ → Type 0
-IsOfCall past who s =
-    ((t : ℕ) → is_inside (history t past) who ≡ true → t ≡ s)
+-- an actor inside a call makes the step of it that is owed, and no other's (wakeup_source_report_event)
+abbrev pub IsOfCall : List Entry → Actor → ℕ → WordKind → Type 0
+IsOfCall past who s step =
+    ((t : ℕ) → is_inside (history t past) who ≡ true → (t ≡ s) × IsNext step (owed (history t past)))
     × (is_left (owed (history s past)) ≡ true → caller (history s past) ≡ Some who)
 
 -- an entry of the journal is its actor's next step, once the calls before it are made whole; a note is its actor's next call; a step of the word is of the call that its actor is inside; time makes the jumps (own)
@@ -183,5 +184,5 @@ StepsEntry m past e OfJournal =
     × IsOutside m (λ s. history s past) e.actor
 StepsEntry m past e (Notes s call) =
     IsOwnCall m (journal past) (λ t. history t past) e.actor e.kind × IsOutside m (λ t. history t past) e.actor
-StepsEntry m past e (Moves s step) = IsOfCall past e.actor s
+StepsEntry m past e (Moves s step) = IsOfCall past e.actor s step
 StepsEntry m past e OfTime = e.actor ≡ actor.Time
