@@ -54,6 +54,22 @@ fn bad_inputs_are_refused(rt: HostRuntime) -> Result<(), Fail> {
     assert_refused(&rt, alloc, bad, "log: line 2\n")
 }
 
+/// A first line is a machine's, so it is no longer than a machine file.
+#[test]
+fn a_long_first_line_is_refused(rt: HostRuntime) -> Result<(), Fail> {
+    let alloc = rt.alloc();
+    for (length, said) in [
+        (16_777_216, "machine: rule 1: json\n"),
+        (16_777_217, "machine: longer than 16777216 bytes\n"),
+    ] {
+        let input = vec![in alloc; b' '; length]?;
+        let outcome = given(&rt, alloc, &["sleep", "stats"], input, &GOOD)?;
+        assert_eq!(rt; outcome.status, 3);
+        assert_eq!(rt; outcome.err.as_slice(), said.as_bytes());
+    }
+    Ok(())
+}
+
 const TWO: &str = "{\"version\":1,\"devices\":[{\"name\":\"a\"},{\"name\":\"b\"}]}\n";
 
 // The statistics of a log of two devices whose entries are these lines.
