@@ -177,7 +177,7 @@ IsOfCall past who s step =
     ((t : ℕ) → is_inside (history t past) who ≡ true → (t ≡ s) × IsNext step (owed (history t past)))
     × (is_left (owed (history s past)) ≡ true → caller (history s past) ≡ Some who)
 
--- an entry of the journal is its actor's next step, once the calls before it are made whole; a note is its actor's next call; a step of the word is of the call that its actor is inside; time makes the jumps (own)
+-- an entry of the journal is its actor's next step, once the calls before it are made whole; a note is its actor's next call; a step of the word is none of another's call, and within a call of its actor the one that is owed; time makes the jumps (own)
 abbrev pub StepsEntry : Machine → List Entry → Entry → Part → Type 0
 StepsEntry m past e OfJournal =
     KeepsSteps m (journal past) (numbers past) e.actor e.kind × IsOwnTurn m (journal past) (λ s. history s past) e.actor
