@@ -1,0 +1,5 @@
+pub mod NoteFields
+pub mod Roots
+pub mod Calling
+pub mod Objects
+pub mod Told
