@@ -64,11 +64,11 @@ impl<'w, 'm, R: Wait> World<'w, 'm, R> {
         requires now { by.now ≡ self.now.moment }
         ensures pass { IsWorldPass self.now.machine.now self.now.table.now.desk.shared.table_id
             self.now.desk.now.shared.table_id self.now.moment result.pass.token }
-        ensures same { (number_of result.pass.token ≡ number_of pass.token) × (first_of result.pass.token ≡ first_of pass.token) }
-        ensures made { (gains : List (Made Noted)) × (made_of result.pass.token ≡ made_of pass.token ++ gains)
+        ensures same { (number_of result.pass.token ≡ number_of pass.entry.token) × (first_of result.pass.token ≡ first_of pass.entry.token) }
+        ensures made { (gains : List (Made Noted)) × (made_of result.pass.token ≡ made_of pass.entry.token ++ gains)
             × AfterReport by call source result.answer gains }
     {
-        let mut held = take(self.desk, self.rt, pass, source as usize + 1);
+        let mut held = take(self.desk, self.rt, pass, 1 + source as usize);
         let answer = held.value().report(self.rt, self.table, by, call);
         Reported {
             pass: give(self.desk, held),
@@ -86,8 +86,8 @@ impl<'w, 'm, R: Wait> World<'w, 'm, R> {
         requires actor { IsActor self.now.machine.now who }
         ensures pass { IsWorldPass self.now.machine.now self.now.table.now.desk.shared.table_id
             self.now.desk.now.shared.table_id self.now.moment result.pass.token }
-        ensures same { (number_of result.pass.token ≡ number_of pass.token) × (first_of result.pass.token ≡ first_of pass.token) }
-        ensures made { (gains : List (Made Noted)) × (made_of result.pass.token ≡ made_of pass.token ++ gains)
+        ensures same { (number_of result.pass.token ≡ number_of pass.entry.token) × (first_of result.pass.token ≡ first_of pass.entry.token) }
+        ensures made { (gains : List (Made Noted)) × (made_of result.pass.token ≡ made_of pass.entry.token ++ gains)
             × AfterCoreTurn self.now.machine.now who calls floor result.answer gains }
     {
         let mut held = take(self.desk, self.rt, pass, 0);
