@@ -1,15 +1,12 @@
 -- A call on a source and a turn of the machine, by what their objects gain.
-use Rattle.std.proofs.Common.{◌≡◌, ◌≢◌, ◌∙◌, ℕ, suc, ◌+◌, List, [], ◌∷◌, ◌++◌, length, map, Option, Some, None, Result, Ok, Err, refl, sym, ap, subst, append_assoc, arith}
+use Rattle.std.proofs.Common.{◌≡◌, ◌∙◌, ℕ, ◌+◌, List, [], ◌∷◌, ◌++◌, length, map, Option, Some, None, Result, Ok, Err, refl, sym, ap, subst}
 use Rattle.std.proofs.lemmas.List.{length-map, map-append}
 use Rattle.sleep_model.specs.declared.entry.Actor.{Actor}
-use Rattle.sleep_model.specs.declared.entry.Kind.{Kind}
 use Rattle.sleep_model.specs.declared.entry.JournalEntry.{JournalEntry}
 use Rattle.sleep_model.specs.declared.entry.SourceEntry.{SourceEntry}
-use Rattle.sleep_model.specs.declared.machine.Machine.{Machine}
 use Rattle.sleep_model.specs.declared.machine.SourceCall.{SourceCall}
 use Rattle.sleep_model.specs.declared.word.Stamp.{Stamp}
 use Rattle.sleep_model.specs.declared.word.WordKind.{WordKind}
-use Rattle.sleep_model.specs.Calls.{calls_due}
 use Rattle.sleep_model.specs.Legal.{JournalPart}
 use Rattle.sleep_model.specs.Merge.{of_source}
 use Rattle.sleep_model.specs.Path.{attempts}
@@ -23,16 +20,15 @@ use Rattle.sleep_core.specs.Cores.{CoreState, made_entry, with_entry}
 use Rattle.wakeup_source.specs.declared.call_by.CallBy.{CallBy}
 use Rattle.wakeup_source.specs.declared.fault.SourceFault.{SourceFault}
 use Rattle.wakeup_source.specs.Called.{Calls, Scene, Steps, after_step}
-use Rattle.wakeup_source.specs.SourceStates.{SourceState, bare, note_entry, note_tick, step_entry}
+use Rattle.wakeup_source.specs.SourceStates.{bare, note_entry, note_tick, step_entry}
 use Rattle.turn_lock.specs.Passes.{HasGrown, gained}
-use Rattle.run_laws.specs.Passes.{Noted, items}
+use Rattle.run_laws.specs.Passes.{items}
 use Rattle.run_objects.specs.Objects.{SeatedCoreState, SeatedSourceState, scene_of}
-use Rattle.run_world.specs.declared.object.WorldObject.{WorldObject}
 use Rattle.run_world.specs.declared.object.WorldObject.TheVariants as object
 use Rattle.run_world.specs.declared.timed.TimedSource.{TimedSource}
 use Rattle.run_world.specs.Roots.{notes_on}
-use Rattle.run_world.specs.Calling.{AfterCall, AfterMachineTurn, IsTried}
-use Rattle.run_world.specs.Objects.{journal_of, notes_of, root_of}
+use Rattle.run_world.specs.Calling.{AfterCall, AfterMachineTurn}
+use Rattle.run_world.specs.Objects.{notes_of, root_of}
 use Rattle.run_world.specs.Told.{AfterCoreTurn, AfterReport}
 use Rattle.run_world.proofs.Adding.{append_none, items_count, items_more, placed_more, placed_none}
 

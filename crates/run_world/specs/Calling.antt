@@ -16,7 +16,6 @@ use Rattle.sleep_core.specs.Histories.{last_stamp}
 use Rattle.sleep_core.specs.Turned.{AfterTurn}
 use Rattle.wakeup_source.specs.declared.call_by.CallBy.{CallBy}
 use Rattle.wakeup_source.specs.declared.fault.SourceFault.{SourceFault}
-use Rattle.wakeup_source.specs.declared.fault.SourceFault.TheVariants as fault
 use Rattle.wakeup_source.specs.Called.{Calls}
 use Rattle.wakeup_source.specs.SourceStates.{IsSettled, bare}
 use Rattle.wakeup_source.specs.Told.{MayCall}

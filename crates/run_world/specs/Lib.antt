@@ -3,3 +3,4 @@ pub mod Roots
 pub mod Calling
 pub mod Objects
 pub mod Told
+pub mod Held

@@ -1,5 +1,5 @@
 -- The objects of the world: object 0 is the machine, object 1 + s the source s.
-use Rattle.std.specs.Prelude.{◌≡◌, ◌≤◌, ◌<◌, ◌+◌, ℕ, List, [], ◌∷◌, ◌++◌, map, length, Option, Some, None}
+use Rattle.std.specs.Prelude.{◌≡◌, ◌+◌, ℕ, List, map, length, Some, None}
 use mathlib.Core.Option.{some}
 use lib.ListN.{get_elem?}
 use Rattle.sleep_model.specs.declared.entry.JournalEntry.{JournalEntry}
@@ -11,7 +11,6 @@ use Rattle.turn_lock.specs.Passes.{Token, IsPass, first_of}
 use Rattle.run_world.specs.declared.object.WorldObject.{WorldObject}
 use Rattle.run_world.specs.declared.object.WorldObject.TheVariants as object
 use Rattle.run_world.specs.Roots.{WorldRoot, machine_root, source_root}
-use Rattle.run_world.specs.Roots as roots
 
 -- what never changes in an object
 abbrev pub root_of : WorldObject → WorldRoot

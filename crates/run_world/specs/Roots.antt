@@ -1,7 +1,6 @@
 -- What never changes in an object of the world, and what its list has.
-use Rattle.std.specs.Prelude.{◌≡◌, ◌≤◌, ◌<◌, ◌+◌, ℕ, List, [], ◌∷◌, ◌++◌, map, length, Option, Some, None}
+use Rattle.std.specs.Prelude.{ℕ, List, [], ◌∷◌, ◌++◌, Option, Some, None}
 use Rattle.sleep_model.specs.declared.entry.JournalEntry.{JournalEntry}
-use Rattle.sleep_model.specs.declared.entry.SourceEntry.{SourceEntry}
 use Rattle.sleep_model.specs.declared.machine.Machine.{Machine}
 use Rattle.atomic_table.specs.Seated.{TableId}
 use Rattle.event_word.specs.Seats.{sources_of}

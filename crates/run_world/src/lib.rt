@@ -3,12 +3,16 @@
 //! takes one lock, and its pass knows what it made there. No program stands on it yet.
 #![tactic(auto)]
 
+mod closing;
 mod note;
 mod object;
+mod opening;
 mod timed;
 mod world;
 
+pub use closing::close_world;
 pub use note::WorldNote;
 pub use object::WorldObject;
+pub use opening::world_objects;
 pub use timed::TimedSource;
 pub use world::{CoreReply, Reported, World, WorldDesk, WorldPass};

@@ -57,7 +57,13 @@ impl<'w, 'm, R: Wait> World<'w, 'm, R> {
     /// A whole call on a source, under its lock alone (`__pm_stay_awake`, `__pm_relax`, `pm_wakeup_ws_event`,
     /// `pm_wakeup_timer_fn`). Answers as `SeatedSource::call`; what the pass then made is what it had made, and the
     /// call's entries, which stand at the end of the source's history. Any other answer than a stamp adds nothing.
-    pub fn report(&self, pass: WorldPass<'m>, source: u32, call: SourceCall, by: CallBy) -> Reported<'m>
+    pub fn report(
+        &self,
+        pass: WorldPass<'m>,
+        source: u32,
+        call: SourceCall,
+        by: CallBy,
+    ) -> Reported<'m>
         requires pass { IsWorldPass self.now.machine.now self.now.table.now.desk.shared.table_id
             self.now.desk.now.shared.table_id self.now.moment pass.token }
         requires there { source ≤ length self.now.machine.now.sources }
@@ -80,7 +86,13 @@ impl<'w, 'm, R: Wait> World<'w, 'm, R> {
     /// machine's; None where the calls are not all that are due. Else answers as `SeatedCore::turn`; what the pass then
     /// made is what it had made, and the turn's entry, which stands at the end of the journal. Any other answer than
     /// `Did` adds nothing.
-    pub fn core_turn(&self, pass: WorldPass<'m>, who: Actor, calls: u32, floor: Stamp) -> CoreReply<'m>
+    pub fn core_turn(
+        &self,
+        pass: WorldPass<'m>,
+        who: Actor,
+        calls: u32,
+        floor: Stamp,
+    ) -> CoreReply<'m>
         requires pass { IsWorldPass self.now.machine.now self.now.table.now.desk.shared.table_id
             self.now.desk.now.shared.table_id self.now.moment pass.token }
         requires actor { IsActor self.now.machine.now who }

@@ -1,4 +1,4 @@
-use Rattle.std.proofs.Common.{◌≡◌, ap}
+use Rattle.std.proofs.Common.{ap}
 use Rattle.run_world.specs.Roots.{WorldRoot}
 use Rattle.run_world.proofs.Taking.{machine_taken, turn_made}
 use Rattle.run_world.proofs.world.World.core_turn.Goals as goal

@@ -1,4 +1,4 @@
-use Rattle.std.proofs.Common.{◌≡◌, ◌∙◌, ap, sym}
+use Rattle.std.proofs.Common.{◌∙◌, ap, sym}
 use Rattle.run_world.specs.Roots.{WorldRoot}
 use Rattle.run_world.proofs.Taking.{report_made, source_taken}
 use Rattle.run_world.proofs.world.World.report.Goals as goal
