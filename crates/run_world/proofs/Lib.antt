@@ -1,0 +1,4 @@
+pub mod Adding
+pub mod Reports
+pub mod Taking
+pub mod Worlds

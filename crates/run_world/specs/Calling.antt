@@ -1,0 +1,50 @@
+-- What a call on a source in a burst comes to.
+use Rattle.std.specs.Prelude.{◌≡◌, ◌≢◌, ◌≤◌, ℕ, Option, Some, None, Result, Ok, Err}
+use Rattle.sleep_model.specs.declared.entry.Actor.{Actor}
+use Rattle.sleep_model.specs.declared.word.EventNow.{EventNow}
+use Rattle.sleep_model.specs.declared.machine.SourceCall.{SourceCall}
+use Rattle.sleep_model.specs.declared.machine.SourceCall.TheVariants as calls
+use Rattle.sleep_model.specs.declared.word.Stamp.{Stamp}
+use Rattle.sleep_model.specs.Calls.{calls_due}
+use Rattle.sleep_model.specs.Legal.{JournalPart}
+use Rattle.sleep_model.specs.Word.{position}
+use Rattle.sleep_state.specs.Places.{entries}
+use Rattle.sleep_core.specs.declared.turns.CoreFault.{CoreFault}
+use Rattle.sleep_core.specs.declared.turns.CoreTurn.{CoreTurn}
+use Rattle.sleep_core.specs.Cores.{CoreState}
+use Rattle.sleep_core.specs.Histories.{last_stamp}
+use Rattle.sleep_core.specs.Turned.{AfterTurn}
+use Rattle.wakeup_source.specs.declared.call_by.CallBy.{CallBy}
+use Rattle.wakeup_source.specs.declared.fault.SourceFault.{SourceFault}
+use Rattle.wakeup_source.specs.Called.{Calls}
+use Rattle.wakeup_source.specs.SourceStates.{IsSettled, bare}
+use Rattle.wakeup_source.specs.Told.{MayCall}
+use Rattle.run_objects.specs.Objects.{SeatedSourceState, scene_of}
+
+-- a whole call that may be made on a source between calls (__pm_stay_awake, __pm_relax, pm_wakeup_ws_event, pm_wakeup_timer_fn)
+pub record IsMade (by : CallBy) (call : SourceCall) (old new : SeatedSourceState) (stamp : Stamp) : Type 0 where
+  pub settled : IsSettled old.source
+  pub may : MayCall call (bare old.source.past) by.now
+  pub calls : Calls by call (scene_of old) (scene_of new)
+  pub stamp_is : stamp ≡ new.source.floor
+
+-- a call that answers a stamp was made; none comes for an expiry alone, whose moment has not come; nothing else changes the source
+abbrev pub AfterCall : CallBy → SourceCall → SeatedSourceState → SeatedSourceState → Result (Option Stamp) SourceFault → Type 0
+AfterCall by call old new (Ok (Some stamp)) = IsMade by call old new stamp
+AfterCall by call old new (Ok None) = (call ≡ calls.Expire) × (new ≡ old)
+AfterCall by call old new (Err fault) = new ≡ old
+
+-- a turn of an actor whose calls were all made, by a word that is looked at
+pub record IsTried (old new : CoreState) (who : Actor) (calls : ℕ) (floor : Stamp) (result : Result CoreTurn CoreFault) : Type 0 where
+  pub calls_are : calls ≡ calls_due old.machine who (entries old.past)
+  pub word : EventNow
+  pub floor_low : floor.pos ≤ position word
+  pub last_low : (last_stamp old.past).pos ≤ position word
+  pub after : AfterTurn old new who word floor result
+  pub legal : JournalPart new.machine (entries new.past)
+
+-- a turn of the machine was tried, or an actor's calls are not those that are due, and nothing has changed
+abbrev pub AfterMachineTurn : CoreState → CoreState → Actor → ℕ → Stamp → Result (Option CoreTurn) CoreFault → Type 0
+AfterMachineTurn old new who calls floor (Ok (Some turn)) = IsTried old new who calls floor (Ok turn)
+AfterMachineTurn old new who calls floor (Ok None) = (calls ≢ calls_due old.machine who (entries old.past)) × (new ≡ old)
+AfterMachineTurn old new who calls floor (Err fault) = IsTried old new who calls floor (Err fault)

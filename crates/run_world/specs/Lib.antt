@@ -1,0 +1,6 @@
+pub mod NoteFields
+pub mod Roots
+pub mod Calling
+pub mod Objects
+pub mod Told
+pub mod Held

@@ -1,0 +1,68 @@
+//! How the machine and its sources come back from the world of a burst.
+
+ghost use Rattle.std.specs.Prelude.{◌≡◌, ℕ, IfOk};
+ghost use Rattle.atomic_table.specs.Seated.{TableId};
+ghost use Rattle.sleep_model.specs.declared.machine.Machine.{Machine};
+ghost use Rattle.turn_lock.specs.Passes.{AreAll as AreAllPasses, first_of};
+ghost use Rattle.turn_lock.specs.Passing.{made_lists, tokens};
+ghost use Rattle.run_world.specs.declared.object.WorldObject.TheVariants as variant;
+ghost use Rattle.run_world.specs.Held.{AreAt, AreThose, IsAt, IsClosedWorld, IsMachine, IsThat};
+ghost use Rattle.run_world.specs.Objects.{AreObjects};
+
+use crate::object::WorldObject;
+use crate::world::WorldPass;
+use run_objects::{SeatedCore, SeatedSource};
+use sleep_base::Mem;
+use std::alloc::Global;
+use turn_lock::{LockTable, close_locks};
+
+/// The machine that the object is.
+fn machine_of<'m>(object: WorldObject<'m>) -> SeatedCore<'m>
+    requires { IsMachine object }
+    ensures { object.entry ≡ variant.Machine result }
+{
+    match object {
+        WorldObject::Machine(machine) => machine,
+        WorldObject::Source(_) => unreachable!(),
+    }
+}
+
+/// The source that the object is.
+fn source_of(object: WorldObject<'_>) -> SeatedSource
+    requires { (moment : ℕ) × IsAt moment object }
+    ensures { IsThat result object.entry }
+{
+    match object {
+        WorldObject::Source(source) => source.into_source(),
+        WorldObject::Machine(_) => unreachable!(),
+    }
+}
+
+/// The sources that the objects are, in order.
+fn sources_of(alloc: Global, objects: Vec<WorldObject<'_>>) -> Result<Vec<SeatedSource>, Mem>
+    requires { (moment : ℕ) × AreAt moment objects.items }
+    ensures { IfOk result (λ sources. AreThose sources.items objects.entry.items) }
+{
+    let mut sources = Vec::with_capacity(alloc, objects.len())?;
+    for object in objects {
+        sources.push(source_of(object))?;
+    }
+    Ok(sources)
+}
+
+/// Closes the world: the machine, and its sources in the order of their numbers, with what the passes made, which
+/// stand in the order of theirs. `Mem` where there is no memory.
+pub fn close_world<'m>(
+    alloc: Global,
+    locks: LockTable<WorldObject<'m>>,
+    passes: Vec<WorldPass<'m>>,
+) -> Result<(SeatedCore<'m>, Vec<SeatedSource>), Mem>
+    requires passes { AreAllPasses locks.own (tokens passes.items) }
+    requires objects { (m : Machine) × (table : TableId) × (moment : ℕ) × AreObjects m table moment (first_of locks.own) }
+    ensures { IfOk result (λ parts. IsClosedWorld (first_of locks.entry.own) (made_lists passes.entry.items) parts.0 parts.1.items) }
+{
+    let mut objects = close_locks(alloc, locks, passes)?;
+    let machine = machine_of(objects.remove(0));
+    let sources = sources_of(alloc, objects)?;
+    Ok((machine, sources))
+}

@@ -1,0 +1,18 @@
+//! The world that the workers of a run share (own: Linux shares its variables bare): the machine and each wakeup
+//! source, each under a lock of its own, so that a report on a source waits for no turn of the machine. A call
+//! takes one lock, and its pass knows what it made there. No program stands on it yet.
+#![tactic(auto)]
+
+mod closing;
+mod note;
+mod object;
+mod opening;
+mod timed;
+mod world;
+
+pub use closing::close_world;
+pub use note::WorldNote;
+pub use object::WorldObject;
+pub use opening::world_objects;
+pub use timed::TimedSource;
+pub use world::{CoreReply, Reported, World, WorldDesk, WorldPass};

@@ -1,0 +1,116 @@
+//! What stands under one lock.
+
+ghost use Rattle.std.specs.Prelude.{◌≡◌, ◌+◌, None, Some};
+ghost use Rattle.sleep_model.specs.declared.machine.Machine.{Machine};
+ghost use Rattle.event_word.specs.Seats.{sources_of};
+ghost use Rattle.sleep_core.specs.Cores.{IsActor};
+ghost use Rattle.turn_lock.specs.Passes.{HasGrown, gained};
+ghost use Rattle.run_world.specs.Calling.{AfterMachineTurn};
+ghost use Rattle.run_world.specs.Objects.{notes_of, root_of};
+ghost use Rattle.run_world.specs.Told.{AfterCoreTurn, AfterReport};
+
+use crate::note::WorldNote;
+use crate::timed::TimedSource;
+use event_word::EventTable;
+use run_objects::SeatedCore;
+use sleep_core::{CoreFault, CoreTurn};
+use sleep_model::{Actor, SourceCall, Stamp};
+use std::sync::Wait;
+use turn_lock::Booked;
+use wakeup_source::{CallBy, SourceFault};
+
+/// What stands under one lock of the world: the machine (`kernel/power/suspend.c`), or a wakeup source
+/// (`drivers/base/power/wakeup.c`), each with its seat at the event word.
+#[derive(Drop)]
+pub enum WorldObject<'m> {
+    /// The machine. It is object 0.
+    Machine(SeatedCore<'m>),
+    /// A wakeup source. Source s is object 1 + s.
+    Source(TimedSource),
+}
+
+/// A turn of the machine; None where the calls are not those that are due.
+fn turn_of<R: Wait>(
+    machine: &mut SeatedCore<'_>,
+    rt: &R,
+    table: &EventTable,
+    who: Actor,
+    calls: u32,
+    floor: Stamp,
+) -> Result<Option<CoreTurn>, CoreFault>
+    requires actor { IsActor machine.old.core.machine who }
+    requires table { machine.old.seat.table_id ≡ table.now.desk.shared.table_id }
+    ensures after { AfterMachineTurn machine.old.core machine.new.core who calls floor result }
+    ensures table { machine.new.seat.table_id ≡ machine.old.seat.table_id }
+    ensures sources { sources_of machine.new.seat ≡ sources_of machine.old.seat }
+    ensures machine { machine.new.core.machine ≡ machine.old.core.machine }
+{
+    if machine.core().calls_due(who) != u64::from(calls) {
+        return Ok(None);
+    }
+    let time = machine.core().time();
+    match machine.turn(rt, table, who, calls, floor, time) {
+        Ok(turn) => Ok(Some(turn)),
+        Err(fault) => Err(fault),
+    }
+}
+
+impl<'m> Booked for WorldObject<'m> {
+    ghost use Rattle.run_world.specs.Roots.{WorldRoot};
+    ghost use Rattle.run_world.specs.Objects.{root_of, notes_of};
+
+    type Item = WorldNote;
+
+    ghost Root = { WorldRoot };
+
+    ghost root = { root_of };
+
+    ghost entries = { notes_of };
+}
+
+impl<'m> WorldObject<'m> {
+    /// A whole call on the source that it is.
+    pub(crate) fn report<R: Wait>(
+        &mut self,
+        rt: &R,
+        table: &EventTable,
+        by: CallBy,
+        call: SourceCall,
+    ) -> Result<Option<Stamp>, SourceFault>
+        requires source { (root_of self.old).machine ≡ None }
+        requires table { (root_of self.old).table ≡ table.now.desk.shared.table_id }
+        requires now { by.now ≡ (root_of self.old).moment }
+        ensures root { root_of self.new ≡ root_of self.old }
+        ensures grown { HasGrown root_of notes_of (notes_of self.old) self.new }
+        ensures after { AfterReport by call (root_of self.old).number result
+            (gained root_of notes_of (1 + (root_of self.old).number) (notes_of self.old) self.new) }
+    {
+        match self {
+            WorldObject::Source(source) => source.report(rt, table, by, call),
+            WorldObject::Machine(_) => unreachable!(),
+        }
+    }
+
+    /// A turn of the machine that it is, by an actor that has made so many calls on sources; None where those are
+    /// not all that are due.
+    pub(crate) fn turn<R: Wait>(
+        &mut self,
+        rt: &R,
+        table: &EventTable,
+        who: Actor,
+        calls: u32,
+        floor: Stamp,
+    ) -> Result<Option<CoreTurn>, CoreFault>
+        requires machine { (m : Machine) × ((root_of self.old).machine ≡ Some m) × IsActor m who }
+        requires table { (root_of self.old).table ≡ table.now.desk.shared.table_id }
+        ensures root { root_of self.new ≡ root_of self.old }
+        ensures grown { HasGrown root_of notes_of (notes_of self.old) self.new }
+        ensures after { (m : Machine) → (root_of self.old).machine ≡ Some m
+            → AfterCoreTurn m who calls floor result (gained root_of notes_of 0 (notes_of self.old) self.new) }
+    {
+        match self {
+            WorldObject::Machine(machine) => turn_of(machine, rt, table, who, calls, floor),
+            WorldObject::Source(_) => unreachable!(),
+        }
+    }
+}

@@ -1,0 +1,112 @@
+//! The locks of the world, and the calls that workers make under them.
+
+ghost use Rattle.std.specs.Prelude.{◌≡◌, ◌≤◌, ◌+◌, ◌++◌, List, length};
+ghost use Rattle.sleep_model.specs.declared.machine.Machine.{Machine};
+ghost use Rattle.sleep_core.specs.Cores.{IsActor};
+ghost use Rattle.run_laws.specs.Passes.{Noted};
+ghost use Rattle.turn_lock.specs.declared.view.Made.{Made};
+ghost use Rattle.turn_lock.specs.Passes.{first_of, made_of, number_of};
+ghost use Rattle.run_world.specs.Objects.{IsWorldPass};
+ghost use Rattle.run_world.specs.Told.{AfterCoreTurn, AfterReport};
+
+use crate::note::WorldNote;
+use crate::object::WorldObject;
+use event_word::EventTable;
+use sleep_core::{CoreFault, CoreTurn};
+use sleep_model::{Actor, Machine, SourceCall, Stamp};
+use std::sync::Wait;
+use turn_lock::{Desk, Pass, give, take};
+use wakeup_source::{CallBy, SourceFault};
+
+/// The locks of the world, an object each.
+pub type WorldDesk<'m> = Desk<WorldObject<'m>, WorldNote>;
+
+/// The right to take one object of the world at a time. It knows what it made.
+pub type WorldPass<'m> = Pass<WorldObject<'m>>;
+
+/// What all workers of a burst share. Nobody holds it: each call takes one lock and gives it back.
+pub struct World<'w, 'm, R> {
+    pub rt: &'w R,
+    /// The machine that is run.
+    pub machine: &'m Machine,
+    /// The event word.
+    pub table: &'w EventTable,
+    /// The locks: object 0 is the machine, object 1 + s the source s.
+    pub desk: &'w WorldDesk<'m>,
+    /// The time in ms, which stands still in a burst.
+    pub moment: u64,
+}
+
+/// What a report on a source answers, with the pass.
+#[derive(Drop)]
+pub struct Reported<'m> {
+    pub pass: WorldPass<'m>,
+    /// What the caller then knows; None where it was an expiry whose moment has not come.
+    pub answer: Result<Option<Stamp>, SourceFault>,
+}
+
+/// What a turn of the machine answers, with the pass.
+#[derive(Drop)]
+pub struct CoreReply<'m> {
+    pub pass: WorldPass<'m>,
+    /// What it did; None where the actor has calls on sources to make first.
+    pub answer: Result<Option<CoreTurn>, CoreFault>,
+}
+
+impl<'w, 'm, R: Wait> World<'w, 'm, R> {
+    /// A whole call on a source, under its lock alone (`__pm_stay_awake`, `__pm_relax`, `pm_wakeup_ws_event`,
+    /// `pm_wakeup_timer_fn`). Answers as `SeatedSource::call`; what the pass then made is what it had made, and the
+    /// call's entries, which stand at the end of the source's history. Any other answer than a stamp adds nothing.
+    pub fn report(
+        &self,
+        pass: WorldPass<'m>,
+        source: u32,
+        call: SourceCall,
+        by: CallBy,
+    ) -> Reported<'m>
+        requires pass { IsWorldPass self.now.machine.now self.now.table.now.desk.shared.table_id
+            self.now.desk.now.shared.table_id self.now.moment pass.token }
+        requires there { source ≤ length self.now.machine.now.sources }
+        requires now { by.now ≡ self.now.moment }
+        ensures pass { IsWorldPass self.now.machine.now self.now.table.now.desk.shared.table_id
+            self.now.desk.now.shared.table_id self.now.moment result.pass.token }
+        ensures same { (number_of result.pass.token ≡ number_of pass.entry.token) × (first_of result.pass.token ≡ first_of pass.entry.token) }
+        ensures made { (gains : List (Made Noted)) × (made_of result.pass.token ≡ made_of pass.entry.token ++ gains)
+            × AfterReport by call source result.answer gains }
+    {
+        let mut held = take(self.desk, self.rt, pass, 1 + source as usize);
+        let answer = held.value().report(self.rt, self.table, by, call);
+        Reported {
+            pass: give(self.desk, held),
+            answer,
+        }
+    }
+
+    /// A turn of an actor that has made so many calls on sources, under the machine's lock alone. Time is the
+    /// machine's; None where the calls are not all that are due. Else answers as `SeatedCore::turn`; what the pass then
+    /// made is what it had made, and the turn's entry, which stands at the end of the journal. Any other answer than
+    /// `Did` adds nothing.
+    pub fn core_turn(
+        &self,
+        pass: WorldPass<'m>,
+        who: Actor,
+        calls: u32,
+        floor: Stamp,
+    ) -> CoreReply<'m>
+        requires pass { IsWorldPass self.now.machine.now self.now.table.now.desk.shared.table_id
+            self.now.desk.now.shared.table_id self.now.moment pass.token }
+        requires actor { IsActor self.now.machine.now who }
+        ensures pass { IsWorldPass self.now.machine.now self.now.table.now.desk.shared.table_id
+            self.now.desk.now.shared.table_id self.now.moment result.pass.token }
+        ensures same { (number_of result.pass.token ≡ number_of pass.entry.token) × (first_of result.pass.token ≡ first_of pass.entry.token) }
+        ensures made { (gains : List (Made Noted)) × (made_of result.pass.token ≡ made_of pass.entry.token ++ gains)
+            × AfterCoreTurn self.now.machine.now who calls floor result.answer gains }
+    {
+        let mut held = take(self.desk, self.rt, pass, 0);
+        let answer = held.value().turn(self.rt, self.table, who, calls, floor);
+        CoreReply {
+            pass: give(self.desk, held),
+            answer,
+        }
+    }
+}
