@@ -1,1 +1,3 @@
+mod Ordering
+mod Tabling
 mod Walking

@@ -39,8 +39,8 @@ pub record AreTies (t : Ties) : Type 0 where
   pub linked : AreLinks t.parents t.links
 
 -- what is made of them: what hangs below and above each device by the active links, and the order (dpm_list)
-pub record IsMade (t : Ties) (below above : List (List ℕ)) (order : List ℕ) : Type 0 where
+pub record IsMade (t : Ties) (rows_below rows_above : List (List ℕ)) (devices : List ℕ) : Type 0 where
   pub ties : AreTies t
-  pub below : IsTableOf (length t.parents) (dependents t.parents (active_of t.links)) below
-  pub above : IsTableOf (length t.parents) (superiors t.parents (active_of t.links)) above
-  pub order : order ≡ order_by t.parents t.links
+  pub below : IsTableOf (length t.parents) (dependents t.parents (active_of t.links)) rows_below
+  pub above : IsTableOf (length t.parents) (superiors t.parents (active_of t.links)) rows_above
+  pub order : devices ≡ order_by t.parents t.links

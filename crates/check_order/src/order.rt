@@ -1,16 +1,15 @@
 //! The order of devices that links leave.
 
-ghost use Rattle.std.specs.Prelude.{◌≡◌, ◌<◌, ◌^◌, ℕ, true, IfOk, length, reverse};
+ghost use Rattle.std.specs.Prelude.{◌≡◌, ◌<◌, ◌^◌, ◌++◌, ℕ, true, false, not, IfOk, filter, length, reverse, slice_index_or};
 ghost use Rattle.std.specs.List.{range_with_len};
 ghost use Rattle.sleep_model.specs.Order.{EachAfterParent, is_among, order_by};
 ghost use Rattle.sleep_model.specs.Links.{AreLinks};
 ghost use Rattle.device_rows.specs.Table.{row_at};
-ghost use Rattle.check_order.specs.Visited.{AreMarked};
-ghost use Rattle.check_order.specs.Kept.{moved_behind, put_last};
+ghost use Rattle.check_order.specs.Kept.{moved_behind};
 
 use crate::tables::rows_below;
 use crate::walk::{Visits, visit_below};
-use device_rows::Rows;
+use device_rows::{Flags, Rows};
 use sleep_base::Mem;
 use sleep_model::Link;
 use std::alloc::Global;
@@ -26,20 +25,18 @@ fn registered(alloc: Global, count: u32) -> Result<Vec<u32>, Mem>
     Ok(order)
 }
 
-// The order with the visited devices at its end.
-fn with_last(alloc: Global, order: &[u32], visits: Visits) -> Result<Vec<u32>, Mem>
-    requires marked { AreMarked (length visits.marks) visits }
-    requires within { (d : ℕ) → is_among order.now d ≡ true → d < length visits.marks }
-    ensures { IfOk result (λ v. v.items ≡ put_last visits.out order.now) }
+// The order without the marked devices, with these at its end.
+fn with_last(alloc: Global, order: &[u32], marks: &Flags, devices: &[u32]) -> Result<Vec<u32>, Mem>
+    ensures { IfOk result (λ v. v.items
+        ≡ filter (λ d. not (slice_index_or marks.now d false)) order.now ++ devices.now) }
 {
-    let Visits { out, marks } = visits;
     let mut moved = Vec::new(alloc);
     for device in order {
         if !marks.is_set(*device) {
             moved.push(*device)?;
         }
     }
-    moved.extend_from_slice(&out.into_vec())?;
+    moved.extend_from_slice(devices)?;
     Ok(moved)
 }
 
@@ -56,8 +53,8 @@ pub(crate) fn move_behind(
     requires within { (d : ℕ) → is_among order.now d ≡ true → d < length table.now.rows }
     ensures { IfOk result (λ v. v.items ≡ moved_behind (length table.now.rows) (row_at table.now) device order.now) }
 {
-    let visits = visit_below(alloc, table, device)?;
-    with_last(alloc, order, visits)
+    let Visits { out, marks } = visit_below(alloc, table, device)?;
+    with_last(alloc, order, &marks, &out.into_vec())
 }
 
 /// The order that these links leave: each moves its consumer to the end, with all that hangs below it by the

@@ -13,8 +13,7 @@ visit-requires t c =
     let k = c.loop-i.i - 1 in
     let x = get_or row k 0 in
     let within : k < length row = omega arith in
-    let stands : is_among (row_at c.args.table.now c.args.device) x ≡ true = ap (λ xs. is_among xs x) (sym c.row-row.ensures) ∙ among_at row k within in
-    (
+    let stands : is_among (row_at c.args.table.now c.args.device) x ≡ true = ap (λ xs. is_among xs x) (sym c.row-row.ensures) ∙ among_at row k within in (
       omega arith,
       (
         (λ d y i. subst (λ (j : ℕ). y < j) (sym m.count) (c.requires.within d y i)),
