@@ -15,4 +15,4 @@ loop-number-preserved c =
     (child_next ps i c.loop-number.table.rows c.requires.after c.loop-number-test.true c.loop-number.invariant)
 
 pub loop-number-init : goal.loop-number-init
-loop-number-init c = no_children c.args.parents.now c.in_ok-table.field-0.rows c.in_ok-table.ensures
+loop-number-init c = no_children c.args.parents.now c.in_ok-table.table.rows c.in_ok-table.ensures
