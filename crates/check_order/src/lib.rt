@@ -2,6 +2,10 @@
 //! walks, and anew after each change of a link.
 #![tactic(auto)]
 
+mod links;
 mod order;
 mod tables;
+mod ties;
 mod walk;
+
+pub use ties::DeviceTies;
