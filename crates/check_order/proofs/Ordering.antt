@@ -1,5 +1,5 @@
 -- The order that links leave, one link after the other.
-use Rattle.std.proofs.Common.{◌≡◌, ◌<◌, ◌+◌, ◌∙◌, ℕ, Bool, true, false, not, List, [], ◌∷◌, ◌++◌, length, take, drop, reverse, filter, get_or, Option, refl, sym, ap, subst, cond, arith}
+use Rattle.std.proofs.Common.{◌≡◌, ◌<◌, ◌+◌, ◌∙◌, ℕ, true, false, not, List, [], ◌∷◌, ◌++◌, length, take, drop, reverse, filter, get_or, Option, refl, sym, ap, subst, cond}
 use Rattle.std.proofs.lemmas.List.{take-append-drop, reverse-append}
 use Rattle.std.proofs.lemmas.List.Elements.{filter_agree}
 use Rattle.sleep_model.specs.declared.machine.Link.{Link}

@@ -1,5 +1,5 @@
 -- Tables of rows, as they are made.
-use Rattle.std.proofs.Common.{◌≡◌, ◌<◌, ◌≤◌, ◌+◌, ◌∙◌, ℕ, zero, suc, Bool, true, false, not, ◌==◌, List, [], ◌∷◌, ◌++◌, length, map, take, reverse, filter, get_or, set, slice_get, option_to_list, replicate, Option, Some, None, IfSome, refl, sym, ap, subst, cond, arith, length-set}
+use Rattle.std.proofs.Common.{◌≡◌, ◌<◌, ◌≤◌, ◌+◌, ◌∙◌, ℕ, zero, suc, Bool, true, false, ◌==◌, List, [], ◌∷◌, ◌++◌, length, map, take, reverse, filter, get_or, set, slice_get, option_to_list, replicate, Option, Some, None, IfSome, refl, sym, ap, subst, cond, arith, length-set}
 use Rattle.std.specs.List.{range_with_len}
 use Rattle.std.proofs.lemmas.List.{append-nil, take_more, length-take-le, length-map, length-replicate, reverse-append, get_or-set_same, get_or-set_other}
 use Rattle.std.proofs.lemmas.List.Elements.{filter-append}

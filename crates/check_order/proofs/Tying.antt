@@ -1,10 +1,10 @@
 -- What is made of parents and links, and of the same with one link more, or another state.
-use Rattle.std.proofs.Common.{◌≡◌, ◌<◌, ◌∙◌, ℕ, zero, suc, Bool, true, false, ◌||◌, List, [], ◌∷◌, ◌++◌, length, map, reverse, filter, get_or, Option, refl, sym, ap, subst, arith}
+use Rattle.std.proofs.Common.{◌≡◌, ◌<◌, ◌∙◌, ℕ, zero, suc, true, false, ◌||◌, List, [], ◌∷◌, ◌++◌, length, map, reverse, get_or, Option, refl, sym, ap, subst, arith}
 use Rattle.std.proofs.lemmas.List.{reverse-append}
 use Rattle.std.proofs.lemmas.Bool.{or_left, or_right}
 use Rattle.std.proofs.Math.Bool.{or_assoc}
 use Rattle.sleep_model.specs.declared.machine.Link.{Link}
-use Rattle.sleep_model.specs.Order.{is_among, is_link, dependents, superiors, last_places, moved, EachAfterParent}
+use Rattle.sleep_model.specs.Order.{is_among, is_link, dependents, superiors, moved, EachAfterParent}
 use Rattle.sleep_model.specs.Links.{AreLinks, is_linked, is_dependent}
 use Rattle.sleep_model.proofs.Acyclic.{among_last}
 use Rattle.device_rows.specs.Table.{Table, row_at}

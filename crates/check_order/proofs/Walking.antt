@@ -1,8 +1,7 @@
 -- Walks that go into no device twice leave each device at its last place.
-use Rattle.std.proofs.Common.{◌≡◌, ◌<◌, ◌≤◌, ◌+◌, ◌∙◌, ℕ, zero, suc, Bool, true, false, ◌==◌, ◌||◌, List, [], ◌∷◌, ◌++◌, ◌⊎◌, inl, inr, length, drop, get_or, set, Option, refl, sym, ap, subst, cond, arith, length-append, length-set}
+use Rattle.std.proofs.Common.{◌≡◌, ◌<◌, ◌≤◌, ◌∙◌, ℕ, zero, suc, Bool, true, false, ◌==◌, ◌||◌, List, [], ◌∷◌, ◌⊎◌, inl, inr, length, get_or, Option, refl, sym, ap, subst, cond, arith, length-append}
 use Rattle.std.specs.List.{flat_map}
-use Rattle.std.proofs.lemmas.List.{drop_more, get_or-set_same, get_or-set_other}
-use Rattle.std.proofs.lemmas.Bool.{false≢true, eqb-true, eqb-false, or_cases}
+use Rattle.std.proofs.lemmas.Bool.{false≢true, eqb-true, or_cases}
 use Rattle.sleep_model.specs.declared.machine.Link.{Link}
 use Rattle.sleep_model.specs.Order.{is_among, dependents, EachAfterParent, last_places, moved, order_by}
 use Rattle.sleep_model.specs.Links.{IsOrder, AreLinks}
@@ -10,7 +9,7 @@ use Rattle.sleep_model.proofs.Dependents.{among_first, among_rest, Within, withi
 use Rattle.sleep_model.proofs.Dependents.{visited as walked}
 use Rattle.sleep_model.proofs.Acyclic.{links_descend, order_ranked, order_covers, order_length}
 use Rattle.check_order.specs.declared.walk.Visits.{Visits}
-use Rattle.check_order.specs.Visited.{put_first, all_visited, visited, AreMarked, Leaves}
+use Rattle.check_order.specs.Visited.{put_first, all_visited, visited, AreMarked}
 
 -- ---- closed lists
 

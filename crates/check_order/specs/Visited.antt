@@ -1,5 +1,5 @@
 -- Walks below a device that go into none twice.
-use Rattle.std.specs.Prelude.{◌≡◌, ◌<◌, ℕ, zero, suc, Bool, false, List, [], ◌∷◌, length, if◌then◌else◌, slice_index_or}
+use Rattle.std.specs.Prelude.{◌≡◌, ◌<◌, ℕ, zero, suc, false, List, [], ◌∷◌, length, if◌then◌else◌, slice_index_or}
 use Rattle.sleep_model.specs.Order.{is_among}
 use Rattle.check_order.specs.declared.walk.Visits.{Visits}
 

@@ -1,4 +1,4 @@
-use Rattle.std.proofs.Common.{◌≡◌, ◌++◌, ◌∙◌, ℕ, List, Vec, false, length, filter, get_or, not, ap, sym}
+use Rattle.std.proofs.Common.{◌≡◌, ◌++◌, ◌∙◌, false, length, filter, get_or, not, ap}
 use Rattle.std.proofs.lemmas.Result.{IfOk-weaker}
 use Rattle.device_rows.specs.Table.{row_at}
 use Rattle.check_order.specs.Kept.{moved_behind}

@@ -1,6 +1,4 @@
-use Rattle.std.proofs.Common.{◌≡◌, ◌∙◌, ◌+◌, length, take, reverse, ap, sym, subst}
-use Rattle.sleep_model.specs.Order.{dependents}
-use Rattle.check_order.specs.Kept.{IsTableOf}
+use Rattle.std.proofs.Common.{◌∙◌, ◌+◌, length, take, reverse}
 use Rattle.check_order.proofs.Tabling.{no_link, links_within, supplier_within, consumer_within, below_next}
 use Rattle.check_order.proofs.Ordering.{first_links, hang_within, stand_within, order_more}
 use Rattle.check_order.proofs.order.order_of.Goals as goal

@@ -1,5 +1,4 @@
-use Rattle.std.proofs.Common.{◌≡◌, ◌∙◌, length, filter, reverse, ap}
-use Rattle.check_order.specs.Kept.{AreWithin}
+use Rattle.std.proofs.Common.{◌∙◌, length, filter, reverse, ap}
 use Rattle.check_order.proofs.Tabling.{links_within, within_filter, active_reverse}
 use Rattle.check_order.proofs.Tying.{within_as, below_as, above_as}
 use Rattle.check_order.proofs.ties.made.Goals as goal

@@ -1,7 +1,6 @@
-use Rattle.std.proofs.Common.{◌≡◌, ◌<◌, ◌-◌, ◌∙◌, ℕ, length, get_or, drop, ap, sym, subst, arith, true}
+use Rattle.std.proofs.Common.{◌≡◌, ◌<◌, ◌-◌, ◌∙◌, ℕ, length, get_or, ap, sym, subst, arith, true}
 use Rattle.sleep_model.specs.Order.{is_among}
 use Rattle.device_rows.specs.Table.{row_at}
-use Rattle.check_order.specs.Visited.{AreMarked, Leaves, all_visited, visited}
 use Rattle.check_order.proofs.Walking.{among_at, marked_as}
 use Rattle.check_order.proofs.walk.+visit.Goals as goal
 

@@ -1,4 +1,4 @@
-use Rattle.std.proofs.Common.{◌≡◌, ◌<◌, ◌∙◌, length, reverse, ap, sym, subst}
+use Rattle.std.proofs.Common.{◌<◌, ◌∙◌, length, reverse, ap, sym, subst}
 use Rattle.sleep_model.specs.Links.{is_dependent}
 use Rattle.check_order.specs.Kept.{Ties}
 use Rattle.check_order.proofs.Tabling.{links_within}
