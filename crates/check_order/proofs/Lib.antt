@@ -1,0 +1,4 @@
+mod Ordering
+mod Tabling
+mod Tying
+mod Walking

@@ -1,0 +1,5 @@
+use Rattle.std.proofs.Common.{◌≡◌, false, not, filter, take, get_or}
+use Rattle.check_order.proofs.order.with_last.Given as goal
+
+abbrev pub invariant-loop-device : goal.invariant-loop-device
+invariant-loop-device l = l.moved.items ≡ filter (λ d. not (get_or l.marks d false)) (take l.device-index l.order)

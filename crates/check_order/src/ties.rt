@@ -1,0 +1,151 @@
+//! What hangs below what, by devices' parents and their links.
+
+ghost use Rattle.std.specs.Prelude.{◌≡◌, IfOk, reverse};
+ghost use Rattle.sleep_model.specs.Order.{order_by};
+ghost use Rattle.check_order.specs.Kept.{AreTies, Ties};
+
+use crate::links::{set_states, stands};
+use crate::order::{move_behind, order_of};
+use crate::tables::{active_links, rows_above, rows_below};
+use crate::walk::visit_below;
+use device_rows::Rows;
+use sleep_base::Mem;
+use sleep_model::Link;
+use std::alloc::Global;
+use std::marker::Model;
+
+/// The devices of a machine with the links between them, and what these make: the order of devices
+/// (`drivers/base/power/main.c`, `dpm_list`), and what must sleep before and wake before each. Contracts see the
+/// parents and the links, the newest first.
+#[derive(Drop)]
+pub struct DeviceTies {
+    parents: Vec<Option<u32>>,
+    links: Vec<Link>,
+    below: Rows,
+    above: Rows,
+    order: Vec<u32>,
+}
+
+impl Model for DeviceTies {
+    ghost use Rattle.std.specs.Prelude.{reverse};
+    ghost use Rattle.check_order.specs.Kept.{IsMade, Ties};
+
+    ghost Value = { Ties };
+
+    ghost view = { λ t. record { parents = t.parents.items; links = reverse t.links.items } };
+
+    ghost invariant = { λ t. IsMade (record { parents = t.parents.items; links = reverse t.links.items })
+        t.below.rows t.above.rows t.order.items };
+}
+
+impl DeviceTies {
+    ghost use Rattle.std.specs.Prelude.{◌≡◌, ◌∷◌, ◌<◌, true, IfOk, length, map};
+    ghost use Rattle.sleep_model.specs.Order.{active_of, dependents, superiors, order_by, with_state};
+    ghost use Rattle.sleep_model.specs.Links.{AreLinks, is_dependent, is_linked};
+    ghost use Rattle.check_order.specs.Kept.{AreTies, with_links};
+
+    /// Devices with these parents, in the order of their registration, and these links, in the order in which they
+    /// were added. `Mem` if there is no memory for them.
+    pub fn new(alloc: Global, parents: &[Option<u32>], links: &[Link]) -> Result<DeviceTies, Mem>
+        requires { AreTies (record { parents = parents.now; links = reverse links.now }) }
+        ensures { IfOk result (λ t. t ≡ record { parents = parents.now; links = reverse links.now }) }
+    {
+        let order = order_of(alloc, parents, links)?;
+        made(
+            Vec::from_slice(alloc, parents)?,
+            Vec::from_slice(alloc, links)?,
+            order,
+        )
+    }
+
+    /// The order of devices: as they were registered, moved by the links in turn, dormant ones too
+    /// (`drivers/base/power/main.c`, `dpm_list`).
+    pub fn order(&self) -> &[u32]
+        ensures { result.now ≡ order_by self.now.parents self.now.links }
+    {
+        &self.order
+    }
+
+    /// What must sleep before a device does, by the links that are active: its children, then its consumers
+    /// (`dpm_wait_for_subordinate`). None where there is no such device.
+    pub fn below(&self, device: u32) -> &[u32]
+        ensures { result.now ≡ dependents self.now.parents (active_of self.now.links) device }
+    {
+        self.below.row(device)
+    }
+
+    /// What must be awake before a device is, by the links that are active: its parent, then its suppliers
+    /// (`dpm_wait_for_superior`). None where there is no such device.
+    pub fn above(&self, device: u32) -> &[u32]
+        ensures { result.now ≡ superiors self.now.parents (active_of self.now.links) device }
+    {
+        self.above.row(device)
+    }
+
+    /// Whether a link between these two stands, active or dormant.
+    pub fn is_linked(&self, supplier: u32, consumer: u32) -> bool
+        ensures { result ≡ is_linked self.now.links supplier consumer }
+    {
+        stands(&self.links, supplier, consumer)
+    }
+
+    /// Whether the supplier is the consumer or hangs below it, by children and all links
+    /// (`drivers/base/core.c`, `device_is_dependent`). `Mem` if there is no memory for the walk.
+    pub fn is_dependent(&self, consumer: u32, supplier: u32) -> Result<bool, Mem>
+        requires consumer { consumer < length self.now.parents }
+        requires supplier { supplier < length self.now.parents }
+        ensures { IfOk result (λ b. b ≡ is_dependent self.now.parents self.now.links consumer supplier) }
+    {
+        let alloc = *self.order.allocator();
+        let table = rows_below(alloc, &self.parents, &self.links)?;
+        let visits = visit_below(alloc, &table, consumer)?;
+        Ok(visits.marks.is_set(supplier))
+    }
+
+    /// The same devices with one more link, the newest, which may be added to those that stand
+    /// (`device_link_add`). `Mem` if there is no memory for them.
+    pub fn with_link(&self, link: Link) -> Result<DeviceTies, Mem>
+        requires { AreLinks self.now.parents (link ∷ self.now.links) }
+        ensures { IfOk result (λ t. t ≡ with_links self.now (link ∷ self.now.links)) }
+    {
+        let alloc = *self.order.allocator();
+        let mut links = Vec::from_slice(alloc, &self.links)?;
+        links.push(link)?;
+        let table = rows_below(alloc, &self.parents, &links)?;
+        let order = move_behind(alloc, &table, link.consumer, &self.order)?;
+        made(Vec::from_slice(alloc, &self.parents)?, links, order)
+    }
+
+    /// The same devices with that state of the link between these two, if there is one
+    /// (`device_links_driver_bound`). `Mem` if there is no memory for them.
+    pub fn with_state(&self, supplier: u32, consumer: u32, active: bool) -> Result<DeviceTies, Mem>
+        ensures { IfOk result (λ t. t ≡ with_links self.now (map (with_state supplier consumer active) self.now.links)) }
+    {
+        let alloc = *self.order.allocator();
+        let links = set_states(alloc, &self.links, supplier, consumer, active)?;
+        made(
+            Vec::from_slice(alloc, &self.parents)?,
+            links,
+            Vec::from_slice(alloc, &self.order)?,
+        )
+    }
+}
+
+// The devices with these links, whose order is this.
+fn made(parents: Vec<Option<u32>>, links: Vec<Link>, order: Vec<u32>) -> Result<DeviceTies, Mem>
+    requires ties { AreTies (record { parents = parents.items; links = reverse links.items }) }
+    requires order { order.items ≡ order_by parents.items (reverse links.items) }
+    ensures { IfOk result (λ t. t ≡ record { parents = parents.items; links = reverse links.items }) }
+{
+    let alloc = *order.allocator();
+    let active = active_links(alloc, &links)?;
+    let below = rows_below(alloc, &parents, &active)?;
+    let above = rows_above(alloc, &parents, &active)?;
+    Ok(DeviceTies {
+        parents,
+        links,
+        below,
+        above,
+        order,
+    })
+}
