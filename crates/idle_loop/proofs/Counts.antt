@@ -49,5 +49,5 @@ few_hards z past sizes legal =
     let all : total z.wakers (λ k. hards_of k past) ≡ hards past = all_hards z past legal in
     let wakers : z.wakers ≤ 16 = sizes.wakers.1 in
     let events : z.events ≤ 1000 = sizes.events.1 in
-    let product : z.wakers * z.events ≤ 16 * 1000 = mul_both z.wakers z.events 16 1000 wakers events in
+    let product : z.wakers * z.events ≤ 16 * 1000 = grind (arith, wakers, events) in
     omega arith

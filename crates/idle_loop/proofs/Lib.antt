@@ -1,3 +1,4 @@
 pub mod Races
 pub mod Counts
 pub mod Keeping
+pub mod Ending

@@ -49,11 +49,11 @@ never state.Idle is = is_entered state.Idle is
 never state.Enter is = is_entered state.Wake is
 never state.Wake is = is_entered state.Wake is
 
-awake : (s : IdleState) → s ≡ state.Idle → s ≡ state.Enter → ⊥
+pub awake : (s : IdleState) → s ≡ state.Idle → s ≡ state.Enter → ⊥
 awake s is other = subst IsEntered is (is_entered s other)
 
 -- what an entry that is made says, as it counts for one waker
-abbrev Due : IdleKind → Bool → IdleState → Option ℕ → ℕ → ℕ → Type 0
+abbrev pub Due : IdleKind → Bool → IdleState → Option ℕ → ℕ → ℕ → Type 0
 Due Hard b s o wakes hards = b ≡ true → hards ≡ wakes
 Due Begin b s o wakes hards = Unit {0}
 Due Wake b s o wakes hards = Unit {0}
@@ -61,7 +61,7 @@ Due TryOk b s o wakes hards = o ≡ Some 0
 Due TryBusy b s o wakes hards = s ≡ state.Idle
 Due Leave b s o wakes hards = Unit {0}
 
-due_of : (z : IdleSizes) (past : List IdleEntry) (maker who : ℕ) (what : IdleKind) → MayMake z past maker what → Due what (maker == who) (state_after past) (session_of past) (wakes_of who past) (hards_of who past)
+pub due_of : (z : IdleSizes) (past : List IdleEntry) (maker who : ℕ) (what : IdleKind) → MayMake z past maker what → Due what (maker == who) (state_after past) (session_of past) (wakes_of who past) (hards_of who past)
 due_of z past maker who Hard may = λ same. dite (ℕ_discrete maker who)
     (λ (e : maker ≡ who). subst (λ (k : ℕ). hards_of k past ≡ wakes_of k past) e may.1)
     (λ (other : maker ≢ who). absurd (false≢true (sym (ne_eqb maker who other) ∙ same)))

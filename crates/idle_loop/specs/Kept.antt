@@ -1,12 +1,13 @@
 -- What one worker's run of suspend-to-idle keeps (kernel/power/suspend.c, s2idle_loop).
-use Rattle.std.specs.Prelude.{◌≡◌, ◌<◌, ◌≤◌, ◌+◌, if◌then◌else◌, ℕ, Bool, true, false, List, [], length, Option, Some, None, replicate, slice_index_or}
+use Rattle.std.specs.Prelude.{◌≡◌, ◌<◌, ◌≤◌, ◌+◌, ℕ, Bool, true, false, List, [], length, Option, Some, None, replicate, slice_index_or}
 use Rattle.sleep_model.specs.declared.word.EventNow.{EventNow}
 use Rattle.idle_loop.specs.declared.entry.IdleState.TheVariants as state
+use Rattle.idle_loop.specs.declared.entry.IdleKind.{IdleKind}
 use Rattle.idle_loop.specs.declared.entry.IdleEntry.{IdleEntry}
 use Rattle.idle_loop.specs.declared.entry.IdleSizes.{IdleSizes}
 use Rattle.idle_loop.specs.declared.entry.WakerNow.{WakerNow}
 use Rattle.idle_loop.specs.Gates.{Gate}
-use Rattle.idle_loop.specs.IdleLogs.{IsIdleLog, state_after, session_of, hards, begun, hards_of, wakes_of}
+use Rattle.idle_loop.specs.IdleLogs.{IsIdleLog, MayMake, state_after, session_of, hards, begun, hards_of, wakes_of}
 
 -- a run of one worker: its sizes, the idler's state, the event word, what each waker has made, and the entries, the newest first (own)
 pub record Alone : Type 0 where
@@ -47,9 +48,14 @@ IsSession false forgotten hard (Some n) = ⊥
 IsSession true forgotten hard None = ⊥
 IsSession true forgotten hard (Some n) = forgotten + n ≡ hard
 
+-- one where a wake is still to be made
+abbrev pub owed : Bool → ℕ
+owed true = 1
+owed false = 0
+
 -- a waker's wakes and hard events
 abbrev pub Stands : ℕ → WakerNow → List IdleEntry → Type 0
-Stands who w past = (wakes_of who past ≡ w.wakes) × (hards_of who past ≡ w.wakes + (if w.owes then 1 else 0))
+Stands who w past = (wakes_of who past ≡ w.wakes) × (hards_of who past ≡ w.wakes + owed w.owes)
 
 -- the entries are a legal log, and the rest is what they say
 pub record Kept (z : IdleSizes) (gate : Gate) (count : ℕ) (ws : List WakerNow) (past : List IdleEntry) : Type 0 where
@@ -69,3 +75,11 @@ IsKept a = Kept a.sizes a.gate a.word.hard a.wakers a.past
 -- a run that goes on keeps its sizes, and what it keeps
 abbrev pub GoesOn : Alone → Alone → Type 0
 GoesOn old new = IsKept new × (new.sizes ≡ old.sizes)
+
+-- every waker is through (own)
+abbrev pub AreThrough : Alone → Type 0
+AreThrough a = (who : ℕ) → who < a.sizes.wakers → wakes_of who a.past ≡ a.sizes.events
+
+-- the idler may make nothing (s2idle_loop)
+abbrev pub HasNothing : Alone → Type 0
+HasNothing a = (what : IdleKind) → MayMake a.sizes a.past a.sizes.wakers what → ⊥

@@ -1,11 +1,12 @@
 //! The steps of wakers and idler on one worker.
 
 ghost use Rattle.std.specs.Prelude.{◌≡◌, ◌<◌, ◌≤◌, ◌+◌, ◌∷◌, true, false, IfOk, reverse, length, slice_set};
+ghost use Rattle.std.specs.Bool.{OnTrue};
 ghost use Rattle.idle_loop.specs.declared.entry.IdleState.TheVariants as IdleState;
-ghost use Rattle.idle_loop.specs.IdleLogs.{IsOver};
-ghost use Rattle.idle_loop.specs.Kept.{AreSizes, IsKept, GoesOn, first_alone, waker_at};
+ghost use Rattle.idle_loop.specs.IdleLogs.{IsOver, IsIdleRun};
+ghost use Rattle.idle_loop.specs.Kept.{AreSizes, IsKept, GoesOn, AreThrough, HasNothing, first_alone, waker_at};
 
-use crate::entry::{IdleEntry, IdleKind, IdleSizes, IdleState, WakerNow};
+use crate::entry::{IdleEntry, IdleKind, IdleLog, IdleSizes, IdleState, WakerNow};
 use crate::gate::IdleGate;
 use event_word::{Bump, Events, PlainEvents};
 use sleep_base::Mem;
@@ -74,6 +75,7 @@ impl Alone {
     }
 
     /// A waker's hard event (`pm_system_wakeup`).
+    #[tactic(auto, using(crate::proofs::Keeping::goes_hard))]
     fn make_hard(&mut self, who: u32, waker: WakerNow) -> Result<(), Mem>
         requires kept { IsKept self.old }
         requires who { who < self.old.sizes.wakers }
@@ -94,6 +96,7 @@ impl Alone {
     }
 
     /// A waker's wake, behind its hard event (`s2idle_wake`).
+    #[tactic(auto, using(crate::proofs::Keeping::goes_wake))]
     fn make_wake(&mut self, who: u32, waker: WakerNow) -> Result<(), Mem>
         requires kept { IsKept self.old }
         requires who { who < self.old.sizes.wakers }
@@ -142,6 +145,7 @@ impl Alone {
     }
 
     /// The idler looks, and enters or ends the session (`s2idle_enter`).
+    #[tactic(auto, using(crate::proofs::Keeping::goes_ok, crate::proofs::Keeping::goes_busy))]
     fn try_enter(&mut self) -> Result<(), Mem>
         requires kept { IsKept self.old }
         requires open { self.old.gate.in_session ≡ true }
@@ -198,5 +202,54 @@ impl Alone {
     {
         self.waker_turns()?;
         self.idler_turn()
+    }
+
+    /// Whether every waker is through.
+    #[tactic(auto, using(crate::proofs::Ending::through_one))]
+    fn are_through(&self) -> bool
+        requires { IsKept self.now }
+        ensures { OnTrue result (AreThrough self.now) }
+    {
+        for who in 0..self.sizes.wakers {
+            if self.waker(who).wakes < self.sizes.events {
+                return false;
+            }
+        }
+        true
+    }
+
+    /// Whether the idler has nothing to do: it has entered, or no session is left.
+    #[tactic(auto, using(crate::proofs::Ending::entered_none, crate::proofs::Ending::awake_none))]
+    fn has_nothing(&self) -> bool
+        requires { IsKept self.now }
+        ensures { OnTrue result (HasNothing self.now) }
+    {
+        match self.gate.state() {
+            IdleState::Idle => !self.gate.is_open() && self.gate.begun() >= self.sizes.sessions,
+            IdleState::Enter => true,
+            IdleState::Wake => false,
+        }
+    }
+
+    /// Whether all is over.
+    pub fn is_over(&self) -> bool
+        requires { IsKept self.now }
+        ensures { OnTrue result (IsOver self.now.sizes self.now.past) }
+    {
+        self.are_through() && self.has_nothing()
+    }
+
+    /// The log.
+    #[tactic(auto, using(crate::proofs::Ending::ended_run))]
+    pub fn into_log(self) -> IdleLog
+        requires kept { IsKept self }
+        requires over { IsOver self.sizes self.past }
+        ensures { IsIdleRun self.sizes result }
+    {
+        let idle = self.gate.is_entered();
+        IdleLog {
+            entries: self.log,
+            idle,
+        }
     }
 }

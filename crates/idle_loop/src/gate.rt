@@ -26,7 +26,7 @@ impl<const BITS: u32> Model for IdleGate<BITS> {
 impl<const BITS: u32> IdleGate<BITS> {
     ghost use Rattle.std.specs.Prelude.{◌≡◌, ◌≤◌, ◌<◌, ◌+◌, ◌^◌, true, false, not, nat_lt, if◌then◌else◌};
     ghost use Rattle.idle_loop.specs.declared.entry.IdleState.TheVariants as IdleState;
-    ghost use Rattle.idle_loop.specs.IdleLogs.{woken};
+    ghost use Rattle.idle_loop.specs.IdleLogs.{woken, is_entered};
     ghost use Rattle.idle_loop.specs.Gates.{is_waked, left, tried};
 
     /// The state Idle, and no session.
@@ -94,6 +94,13 @@ impl<const BITS: u32> IdleGate<BITS> {
         ensures { result ≡ self.now.state }
     {
         self.state
+    }
+
+    /// Whether the idler has entered.
+    pub fn is_entered(&self) -> bool
+        ensures { result ≡ is_entered self.now.state }
+    {
+        matches!(self.state, IdleState::Enter)
     }
 
     /// Whether a session is open.

@@ -6,7 +6,9 @@ mod alone;
 mod entry;
 mod gate;
 mod laws;
+mod run;
 
 pub use entry::{IdleEntry, IdleKind, IdleLog, IdleSizes, IdleState, WakerNow};
 pub use gate::IdleGate;
 pub use laws::{no_hard_event_sleeps, no_wakeup_is_lost};
+pub use run::run_idle_alone;
