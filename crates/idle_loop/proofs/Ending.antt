@@ -99,7 +99,7 @@ ended_run a log kept over same idle = record {
   ended = idle ∙ ap is_entered (kept.state ∙ ap state_after (sym same));
   none_lost = λ later past parts. loses_none a.sizes past (legal_before a.sizes later past (subst (IsIdleLog a.sizes) (sym same ∙ parts) kept.legal));
   none_sleeps = λ who slept. subst (λ (past : List IdleEntry). since_begin who past ≡ 0) (sym same)
-    (sleeps_over_none a.sizes a.past kept.legal over (entered_is (state_after a.past) (ap is_entered (sym kept.state) ∙ (sym idle ∙ slept))) who);
+      (sleeps_over_none a.sizes a.past kept.legal over (entered_is (state_after a.past) (ap is_entered (sym kept.state) ∙ (sym idle ∙ slept))) who);
 }
 
 first_stands : (who : ℕ) (w : WakerNow) → w ≡ new_waker → Stands who w []

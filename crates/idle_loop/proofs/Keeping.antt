@@ -34,9 +34,10 @@ more_none n a none = omega arith
 
 -- an entry of another leaves what a waker has made
 stands_still : (who : ℕ) (w : WakerNow) (past : List IdleEntry) (e : IdleEntry) → e.who ≢ who → Stands who w past → Stands who w (e ∷ past)
-stands_still who w past e other stands =
-    (more_none (wakes_of who past) (if e.who == who then is_wake e.what else 0) (other_adds e.who who (is_wake e.what) other) ∙ stands.0,
-     more_none (hards_of who past) (if e.who == who then is_hard e.what else 0) (other_adds e.who who (is_hard e.what) other) ∙ stands.1)
+stands_still who w past e other stands = (
+  more_none (wakes_of who past) (if e.who == who then is_wake e.what else 0) (other_adds e.who who (is_wake e.what) other) ∙ stands.0,
+  more_none (hards_of who past) (if e.who == who then is_hard e.what else 0) (other_adds e.who who (is_hard e.what) other) ∙ stands.1,
+)
 
 -- an entry of the idler leaves what the wakers have made
 all_still : (z : IdleSizes) (ws : List WakerNow) (past : List IdleEntry) (e : IdleEntry) → e.who ≡ z.wakers → ((who : ℕ) → who < z.wakers → Stands who (waker_at ws who) past) → (who : ℕ) → who < z.wakers → Stands who (waker_at ws who) (e ∷ past)
@@ -46,9 +47,9 @@ all_still z ws past e idler stand who low = stands_still who (waker_at ws who) p
 one_moves : (z : IdleSizes) (ws : List WakerNow) (past : List IdleEntry) (e : IdleEntry) (w : WakerNow) → length ws ≡ z.wakers → e.who < z.wakers → Stands e.who w (e ∷ past) → ((who : ℕ) → who < z.wakers → Stands who (waker_at ws who) past) → (who : ℕ) → who < z.wakers → Stands who (waker_at (set ws e.who w) who) (e ∷ past)
 one_moves z ws past e w counted mine own stand who low = dite (ℕ_discrete e.who who)
     (λ (same : e.who ≡ who). subst (λ (k : ℕ). Stands k (waker_at (set ws e.who w) k) (e ∷ past)) same
-        (subst (λ (v : WakerNow). Stands e.who v (e ∷ past)) (sym (get_or-set_same ws e.who w new_waker (omega arith))) own))
+    (subst (λ (v : WakerNow). Stands e.who v (e ∷ past)) (sym (get_or-set_same ws e.who w new_waker (omega arith))) own))
     (λ (other : e.who ≢ who). subst (λ (v : WakerNow). Stands who v (e ∷ past)) (sym (get_or-set_other ws e.who who w new_waker (λ same. other (sym same))))
-        (stands_still who (waker_at ws who) past e other (stand who low)))
+    (stands_still who (waker_at ws who) past e other (stand who low)))
 
 -- ---- the session
 
@@ -111,10 +112,12 @@ goes_hard a who w kept low is free few =
     let v = waker_at a.wakers who in
     let stands : Stands who v a.past = kept.wakers who low in
     let w' : WakerNow = record { wakes = w.wakes; owes = true } in
-    let e : IdleEntry = entry h who Hard in
-    (kept_more a.sizes a.gate a.gate h (h + 1) a.wakers (set a.wakers who w') a.past e kept refl (may_hard a.sizes who w v a.past low stands is free few) refl refl
-        (session_hard a.gate.in_session a.gate.forgotten h (session_of a.past) kept.session) (sym (more_none a.gate.begun 0 refl)) (length-set a.wakers who w')
-        (one_moves a.sizes a.wakers a.past e w' kept.counted low (own_hard who h w v a.past stands is free) kept.wakers), refl)
+    let e : IdleEntry = entry h who Hard in (
+      kept_more a.sizes a.gate a.gate h (h + 1) a.wakers (set a.wakers who w') a.past e kept refl (may_hard a.sizes who w v a.past low stands is free few) refl refl
+          (session_hard a.gate.in_session a.gate.forgotten h (session_of a.past) kept.session) (sym (more_none a.gate.begun 0 refl)) (length-set a.wakers who w')
+          (one_moves a.sizes a.wakers a.past e w' kept.counted low (own_hard who h w v a.past stands is free) kept.wakers),
+      refl,
+    )
 
 pub goes_wake : (a : Alone) (who : ℕ) (w : WakerNow) → IsKept a → who < a.sizes.wakers → w ≡ waker_at a.wakers who → w.owes ≡ true →
     GoesOn a (record a { gate = record a.gate { state = woken a.gate.state }; wakers = set a.wakers who (record { wakes = w.wakes + 1; owes = false }); past = entry a.word.hard who Wake ∷ a.past })
@@ -124,19 +127,23 @@ goes_wake a who w kept low is owes =
     let g' : Gate = record a.gate { state = woken a.gate.state } in
     let stands : Stands who v a.past = kept.wakers who low in
     let w' : WakerNow = record { wakes = w.wakes + 1; owes = false } in
-    let e : IdleEntry = entry h who Wake in
-    (kept_more a.sizes a.gate g' h h a.wakers (set a.wakers who w') a.past e kept refl (may_wake a.sizes who w v a.past low stands is owes) (sym (more_none h 0 refl)) refl
-        kept.session (sym (more_none a.gate.begun 0 refl)) (length-set a.wakers who w')
-        (one_moves a.sizes a.wakers a.past e w' kept.counted low (own_wake who h w v a.past stands is owes) kept.wakers), refl)
+    let e : IdleEntry = entry h who Wake in (
+      kept_more a.sizes a.gate g' h h a.wakers (set a.wakers who w') a.past e kept refl (may_wake a.sizes who w v a.past low stands is owes) (sym (more_none h 0 refl)) refl
+          kept.session (sym (more_none a.gate.begun 0 refl)) (length-set a.wakers who w')
+          (one_moves a.sizes a.wakers a.past e w' kept.counted low (own_wake who h w v a.past stands is owes) kept.wakers),
+      refl,
+    )
 
 -- an entry of the idler
 idler_goes : (a : Alone) (g' : Gate) (what : IdleKind) → IsKept a → MayMake a.sizes a.past a.sizes.wakers what → is_hard what ≡ 0 → g'.state ≡ state_by what a.gate.state → IsSession g'.in_session g'.forgotten a.word.hard (session_by what (session_of a.past)) → g'.begun ≡ a.gate.begun + is_begin what →
     GoesOn a (record a { gate = g'; past = entry a.word.hard a.sizes.wakers what ∷ a.past })
 idler_goes a g' what kept may none moved session begins =
     let h = a.word.hard in
-    let e : IdleEntry = entry h a.sizes.wakers what in
-    (kept_more a.sizes a.gate g' h h a.wakers a.wakers a.past e kept refl may (sym (more_none h (is_hard what) none)) moved session begins refl
-        (all_still a.sizes a.wakers a.past e refl kept.wakers), refl)
+    let e : IdleEntry = entry h a.sizes.wakers what in (
+      kept_more a.sizes a.gate g' h h a.wakers a.wakers a.past e kept refl may (sym (more_none h (is_hard what) none)) moved session begins refl
+          (all_still a.sizes a.wakers a.past e refl kept.wakers),
+      refl,
+    )
 
 pub goes_begin : (a : Alone) → IsKept a → a.gate.in_session ≡ false → a.gate.begun < a.sizes.sessions →
     GoesOn a (record a { gate = record a.gate { in_session = true; begun = a.gate.begun + 1; forgotten = a.word.hard }; past = entry a.word.hard a.sizes.wakers Begin ∷ a.past })

@@ -33,8 +33,6 @@ since_least : (who : ℕ) (past : List IdleEntry) → AtLeast (since_begin who p
 since_least who [] = tt
 since_least who (e ∷ past) = since_step e.what (e.who == who) (since_begin who past) (session_of past) (since_least who past)
 
-
-
 -- none of the states is another
 abbrev IsEntered : IdleState → Type 0
 IsEntered state.Idle = ⊥
@@ -128,11 +126,11 @@ pub in_turn : (z : IdleSizes) (past : List IdleEntry) → IsIdleLog z past → (
 in_turn z [] legal who = (omega arith, omega arith, omega arith, λ high. refl)
 in_turn z (e ∷ past) legal who = dite (ℕ_discrete e.who who)
     (λ (same : e.who ≡ who). subst (λ (a : ℕ). InTurn z who (wakes_of who past + a) (hards_of who (e ∷ past))) (sym (own_adds e.who who (is_wake e.what) same))
-        (subst (λ (a : ℕ). InTurn z who (wakes_of who past + is_wake e.what) (hards_of who past + a)) (sym (own_adds e.who who (is_hard e.what) same))
-            (turn_step z past e.who who e.what legal.1 (in_turn z past legal.2 who) same)))
+    (subst (λ (a : ℕ). InTurn z who (wakes_of who past + is_wake e.what) (hards_of who past + a)) (sym (own_adds e.who who (is_hard e.what) same))
+    (turn_step z past e.who who e.what legal.1 (in_turn z past legal.2 who) same)))
     (λ (other : e.who ≢ who). subst (λ (a : ℕ). InTurn z who (wakes_of who past + a) (hards_of who (e ∷ past))) (sym (other_adds e.who who (is_wake e.what) other))
-        (subst (λ (a : ℕ). InTurn z who (wakes_of who past + 0) (hards_of who past + a)) (sym (other_adds e.who who (is_hard e.what) other))
-            (same_turn z who (wakes_of who past) (hards_of who past) (in_turn z past legal.2 who))))
+    (subst (λ (a : ℕ). InTurn z who (wakes_of who past + 0) (hards_of who past + a)) (sym (other_adds e.who who (is_hard e.what) other))
+    (same_turn z who (wakes_of who past) (hards_of who past) (in_turn z past legal.2 who))))
 
 -- a waker's hard events since the begin are some of its own
 since_few : (who : ℕ) (past : List IdleEntry) → since_begin who past ≤ hards_of who past
@@ -160,5 +158,5 @@ sleeps_over_none z past legal over entered who =
     let lost : 0 < since_begin who past → wakes_of who past < hards_of who past = loses_none z past legal who entered in
     let most : hards_of who past ≤ z.events = turn.2 in
     or_else (who < z.wakers) (z.wakers ≤ who) (since_begin who past ≡ 0) (le_or_lt who z.wakers)
-        (λ low. let through : wakes_of who past ≡ z.events = over.through who low in zero_or (since_begin who past) (λ some. let less = lost some in omega arith))
-        (λ high. let none : hards_of who past ≡ 0 = turn.3 high in omega arith)
+    (λ low. let through : wakes_of who past ≡ z.events = over.through who low in zero_or (since_begin who past) (λ some. let less = lost some in omega arith))
+    (λ high. let none : hards_of who past ≡ 0 = turn.3 high in omega arith)

@@ -240,7 +240,6 @@ impl Alone {
     }
 
     /// The log.
-    #[tactic(auto, using(crate::proofs::Ending::ended_run))]
     pub fn into_log(self) -> IdleLog
         requires kept { IsKept self }
         requires over { IsOver self.sizes self.past }

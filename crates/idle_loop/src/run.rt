@@ -1,14 +1,14 @@
 //! A whole run on one worker.
 
+ghost use Rattle.std.specs.Prelude.{IfOk};
+ghost use Rattle.idle_loop.specs.IdleLogs.{IsIdleRun};
+ghost use Rattle.idle_loop.specs.Kept.{AreSizes};
+
 use crate::alone::Alone;
 use crate::entry::{IdleLog, IdleSizes};
 use sleep_base::Mem;
 use std::alloc::Global;
 use std::sync::Wait;
-
-ghost use Rattle.std.specs.Prelude.{IfOk};
-ghost use Rattle.idle_loop.specs.IdleLogs.{IsIdleRun};
-ghost use Rattle.idle_loop.specs.Kept.{AreSizes};
 
 /// Runs wakers and idler on the caller's thread: each round a turn of each waker, in their order, and one of the idler, up
 /// to the end. There are 1 to 16 wakers, and 1 to 1,000 events and sessions. `Mem` where there is no memory for the log.
