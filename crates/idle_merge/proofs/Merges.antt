@@ -49,12 +49,12 @@ none_more n false = omega arith
 
 -- an entry of the journal by hand: what it leaves of the session
 next_session : (what : IdleKind) (hard count : ℕ) (f n : Option ℕ) → hard ≡ count → what ≢ Hard → Agrees count f n → Agrees count (forgot_by what hard f) (session_by what n)
-next_session Hard hard count f n at no is = absurd (no refl)
-next_session Begin hard count f n at no is = omega (arith, at)
-next_session Wake hard count f n at no is = is
-next_session TryOk hard count f n at no is = is
-next_session TryBusy hard count f n at no is = tt
-next_session Leave hard count f n at no is = is
+next_session Hard hard count f n at soft is = absurd (soft refl)
+next_session Begin hard count f n at soft is = omega (arith, at)
+next_session Wake hard count f n at soft is = is
+next_session TryOk hard count f n at soft is = is
+next_session TryBusy hard count f n at soft is = tt
+next_session Leave hard count f n at soft is = is
 
 -- the gate makes no hard event
 abbrev IsHardEvent : IdleKind → Type 0
@@ -74,12 +74,12 @@ not_hard z journal hard who TryBusy may is = subst IsHardEvent (sym is) tt
 not_hard z journal hard who Leave may is = subst IsHardEvent (sym is) tt
 
 no_hard : (what : IdleKind) → what ≢ Hard → is_hard what ≡ 0
-no_hard Hard no = absurd (no refl)
-no_hard Begin no = refl
-no_hard Wake no = refl
-no_hard TryOk no = refl
-no_hard TryBusy no = refl
-no_hard Leave no = refl
+no_hard Hard soft = absurd (soft refl)
+no_hard Begin soft = refl
+no_hard Wake soft = refl
+no_hard TryOk soft = refl
+no_hard TryBusy soft = refl
+no_hard Leave soft = refl
 
 if_none : (n a : ℕ) (b : Bool) → a ≡ 0 → n + (if b then a else 0) ≡ n
 if_none n a true none = omega (arith, none)
@@ -101,13 +101,13 @@ merged_hard who makers journal log m = record {
 
 merged_entry : (z : IdleSizes) (e : IdleEntry) (makers : List ℕ) (journal log : List IdleEntry) → MayEnter z journal e.hard e.who e.what → e.hard ≡ length makers → Merged makers journal log → Merged makers (e ∷ journal) (e ∷ log)
 merged_entry z e makers journal log may at m =
-    let no : e.what ≢ Hard = not_hard z journal e.hard e.who e.what may in
+    let soft : e.what ≢ Hard = not_hard z journal e.hard e.who e.what may in
     record {
-      hard = add_none (hards log) (is_hard e.what) (no_hard e.what no) ∙ m.hard;
+      hard = add_none (hards log) (is_hard e.what) (no_hard e.what soft) ∙ m.hard;
       state = ap (state_by e.what) m.state;
-      session = next_session e.what e.hard (length makers) (forgotten journal) (session_of log) at no m.session;
+      session = next_session e.what e.hard (length makers) (forgotten journal) (session_of log) at soft m.session;
       begun = ap (λ (n : ℕ). n + is_begin e.what) m.begun;
-      made = λ k. if_none (hards_of k log) (is_hard e.what) (e.who == k) (no_hard e.what no) ∙ m.made k;
+      made = λ k. if_none (hards_of k log) (is_hard e.what) (e.who == k) (no_hard e.what soft) ∙ m.made k;
       woke = λ k. ap (λ (n : ℕ). n + (if e.who == k then is_wake e.what else 0)) (m.woke k);
       saw = (omega (arith, at), m.saw);
     }
@@ -171,13 +171,17 @@ legal_rest z all whole hard wake later makers newer journal log cut parts saw is
     let count : made_by who hs ≡ wakes_of who js = turn.1 in
     let few : made_by who hs < z.events = turn.2 in
     let made : hards_of who rest ≡ made_by who hs = said.made who in
-    let woke : wakes_of who rest ≡ wakes_of who js = said.woke who in
-    (sym said.hard, (turn.0, omega arith, omega arith),
-     legal_rest z all whole hard wake (later ++ who ∷ []) hs newer js rest (cut ∙ sym (append_assoc later (who ∷ []) hs)) parts (less_saw (length hs) newer least) is m)
+    let woke : wakes_of who rest ≡ wakes_of who js = said.woke who in (
+      sym said.hard,
+      (turn.0, omega arith, omega arith),
+      legal_rest z all whole hard wake (later ++ who ∷ []) hs newer js rest (cut ∙ sym (append_assoc later (who ∷ []) hs)) parts (less_saw (length hs) newer least) is m,
+    )
 legal_rest z all whole hard wake later makers newer journal log cut parts saw is (NextEntry e hs js rest at m) =
-    let said = merged z hs js rest is.1 m in
-    (at ∙ sym said.hard, may_gate z e e.what hs js rest is.0 at said (λ what. wake later hs e newer js cut parts at what),
-     legal_rest z all whole hard wake later hs (newer ++ e ∷ []) js rest cut (parts ∙ sym (append_assoc newer (e ∷ []) js)) (saw_more (length hs) newer e saw (omega (arith, at))) is.1 m)
+    let said = merged z hs js rest is.1 m in (
+      at ∙ sym said.hard,
+      may_gate z e e.what hs js rest is.0 at said (λ what. wake later hs e newer js cut parts at what),
+      legal_rest z all whole hard wake later hs (newer ++ e ∷ []) js rest cut (parts ∙ sym (append_assoc newer (e ∷ []) js)) (saw_more (length hs) newer e saw (omega (arith, at))) is.1 m,
+    )
 
 pub merges_to_legal : MergesToLegal
 merges_to_legal z makers journal log is hard wake m = legal_rest z makers journal hard wake [] makers [] journal log refl refl tt is m

@@ -17,6 +17,11 @@ pub data Merges : List ℕ → List IdleEntry → List IdleEntry → Type 0 wher
   NextHard : (who : ℕ) (makers : List ℕ) (journal log : List IdleEntry) → Merges makers journal log → Merges (who ∷ makers) journal (hard_entry (length makers) who ∷ log)
   NextEntry : (e : IdleEntry) (makers : List ℕ) (journal log : List IdleEntry) → e.hard ≡ length makers → Merges makers journal log → Merges makers (e ∷ journal) (e ∷ log)
 
+-- each of the entries, the oldest first, saw at least as many hard events as the one before, and at most that many (own)
+abbrev pub SeeMore : ℕ → ℕ → List IdleEntry → Type 0
+SeeMore low most [] = low ≤ most
+SeeMore low most (e ∷ later) = (low ≤ e.hard) × SeeMore e.hard most later
+
 -- how many hard events one waker made (pm_system_wakeup)
 abbrev pub made_by : ℕ → List ℕ → ℕ
 made_by who [] = 0

@@ -2,13 +2,11 @@
 //! events that come without the lock, merge to one legal log.
 #![tactic(auto)]
 
-ghost use Rattle.idle_merge.specs.Merging.{MergesToLegal};
+mod laws;
+mod merge;
 
-/// Where the journal is one of the gate by itself, each waker makes its hard events and wakes in turn by
-/// the numbers that the wakes saw, and each entry stands behind as many hard events as it saw, the merge
-/// of journal and hard events is a legal log (`kernel/power/suspend.c`, `s2idle_enter`, `s2idle_wake`;
-/// `drivers/base/power/wakeup.c`, `pm_system_wakeup`).
-#[tactic(auto, using(crate::proofs::Merges::merges_to_legal))]
-pub fn journal_and_hard_events_merge()
-    ensures { MergesToLegal }
-{}
+pub use laws::journal_and_hard_events_merge;
+pub use merge::merge_idle;
+
+#[cfg(test)]
+mod tests;
