@@ -1,0 +1,4 @@
+pub mod Races
+pub mod Counts
+pub mod Keeping
+pub mod Ending

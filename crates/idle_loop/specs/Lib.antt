@@ -1,0 +1,4 @@
+pub mod IdleLogs
+pub mod Gates
+pub mod Laws
+pub mod Kept

@@ -1,0 +1,61 @@
+//! What a log of suspend-to-idle says.
+
+/// Where the idler stands (`enum s2idle_states`, `s2idle_state`).
+#[derive(Clone, Copy, Debug, PartialEq, Eq)]
+pub enum IdleState {
+    /// It is awake (`S2IDLE_STATE_NONE`).
+    Idle,
+    /// It has entered (`S2IDLE_STATE_ENTER`).
+    Enter,
+    /// A waker has called it (`S2IDLE_STATE_WAKE`).
+    Wake,
+}
+
+/// What an entry tells.
+#[derive(Clone, Copy, Debug, PartialEq, Eq)]
+pub enum IdleKind {
+    /// A waker's hard event (`pm_system_wakeup`).
+    Hard,
+    /// The idler begins a session, and forgets the hard events so far (`pm_wakeup_clear`).
+    Begin,
+    /// A waker calls the idler (`s2idle_wake`).
+    Wake,
+    /// The idler looks, finds no wakeup pending, and enters (`s2idle_enter`).
+    TryOk,
+    /// The idler looks, finds a wakeup pending, and ends the session (`s2idle_enter`).
+    TryBusy,
+    /// The idler comes back from idle (`s2idle_enter`, behind its wait).
+    Leave,
+}
+
+/// An entry: how many hard events stand before it, who made it (a waker's number; the idler's is the
+/// number of wakers), and what.
+#[derive(Clone, Copy, Debug, PartialEq, Eq)]
+pub struct IdleEntry {
+    pub hard: u32,
+    pub who: u32,
+    pub what: IdleKind,
+}
+
+/// How many wakers there are, how many hard events each makes, and how many sessions the idler may
+/// begin.
+#[derive(Clone, Copy, Debug, PartialEq, Eq)]
+pub struct IdleSizes {
+    pub wakers: u32,
+    pub events: u32,
+    pub sessions: u32,
+}
+
+/// The log of a run, the oldest entry first, and whether the idler is in idle at its end.
+#[derive(Drop)]
+pub struct IdleLog {
+    pub entries: Vec<IdleEntry>,
+    pub idle: bool,
+}
+
+/// What a waker has made: so many wakes, and whether a hard event whose wake is still to be made.
+#[derive(Clone, Copy, Debug, PartialEq, Eq)]
+pub struct WakerNow {
+    pub wakes: u32,
+    pub owes: bool,
+}

@@ -1,0 +1,7 @@
+use Rattle.std.proofs.Common.{reverse, take, drop, length}
+use Rattle.idle_merge.specs.Merging.{Merges, SeeMore}
+use Rattle.idle_merge.proofs.Placing.{IsPlaced}
+use Rattle.idle_merge.proofs.merge.merge_idle.Given as goal
+
+abbrev pub invariant-loop-entry : goal.invariant-loop-entry
+invariant-loop-entry l = IsPlaced l.makers l.journal l.entry-index l.placed l.log.items

@@ -1,0 +1,12 @@
+//! Suspend-to-idle by several workers: a journal that the idler's gate keeps under its lock, and hard
+//! events that come without the lock, merge to one legal log.
+#![tactic(auto)]
+
+mod laws;
+mod merge;
+
+pub use laws::journal_and_hard_events_merge;
+pub use merge::merge_idle;
+
+#[cfg(test)]
+mod tests;
