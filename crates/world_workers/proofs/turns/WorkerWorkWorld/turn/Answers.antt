@@ -1,0 +1,9 @@
+use Rattle.std.proofs.Common.{◌≡◌, refl}
+use Rattle.world_workers.proofs.Going.{went_on}
+use Rattle.world_workers.proofs.turns.WorkerWorkWorld.turn.Goals as goal
+
+pub returns-clause-made : goal.returns-clause-made
+returns-clause-made g c =
+    let w = c.args.shared.now in
+    went_on w.machine.now w.table.now.desk.shared.table_id w.desk.now.shared.table_id w.moment c.args.self.now _ c.taken-pass.result c.act-pass.result.pass c.taken-pass.ensures refl
+    c.requires.goes.time refl c.act-pass.ensures
