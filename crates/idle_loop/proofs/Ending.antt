@@ -1,5 +1,5 @@
 -- When one worker's run is over.
-use Rattle.std.proofs.Common.{◌≡◌, ℕ, zero, suc, ◌+◌, ◌<◌, ◌≤◌, ◌++◌, Bool, true, false, Option, Some, None, List, [], ◌∷◌, ◌==◌, replicate, reverse, refl, ap, sym, subst, ◌∙◌, arith}
+use Rattle.std.proofs.Common.{◌≡◌, ℕ, ◌+◌, ◌<◌, ◌≤◌, ◌++◌, Bool, true, false, Option, Some, None, List, [], ◌∷◌, ◌==◌, replicate, reverse, refl, ap, sym, subst, ◌∙◌, arith}
 use Rattle.std.proofs.lemmas.Bool.{false≢true}
 use Rattle.std.proofs.lemmas.List.{get_or-replicate, length-replicate}
 use Rattle.idle_loop.specs.declared.entry.IdleState.{IdleState}
@@ -10,8 +10,8 @@ use Rattle.idle_loop.specs.declared.entry.IdleEntry.{IdleEntry}
 use Rattle.idle_loop.specs.declared.entry.IdleLog.{IdleLog}
 use Rattle.idle_loop.specs.declared.entry.IdleSizes.{IdleSizes}
 use Rattle.idle_loop.specs.declared.entry.WakerNow.{WakerNow}
-use Rattle.idle_loop.specs.IdleLogs.{woken, state_by, state_after, one_more, session_by, session_of, hards_of, wakes_of, since_begin, begun, MayMake, IsIdleLog, IsOver, is_entered, NoneIsLost, IsIdleRun}
-use Rattle.idle_loop.specs.Kept.{Alone, AreSizes, IsSession, Stands, Kept, IsKept, AreThrough, HasNothing, owed, waker_at, new_waker, first_alone}
+use Rattle.idle_loop.specs.IdleLogs.{woken, state_by, state_after, one_more, session_by, session_of, hards_of, wakes_of, since_begin, begun, IsIdleLog, IsOver, is_entered, IsIdleRun}
+use Rattle.idle_loop.specs.Kept.{Alone, AreSizes, IsSession, Stands, IsKept, HasNothing, waker_at, new_waker, first_alone}
 use Rattle.idle_loop.proofs.Races.{Due, due_of, awake, in_turn, loses_none, sleeps_over_none}
 use Rattle.idle_loop.proofs.Keeping.{session_none}
 

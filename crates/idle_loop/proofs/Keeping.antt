@@ -1,18 +1,17 @@
 -- Each step of one worker's run keeps what it keeps.
-use Rattle.std.proofs.Common.{◌≡◌, ℕ, zero, suc, ◌+◌, ◌<◌, ◌≤◌, ◌≢◌, ◌==◌, ◌&&◌, nat_lt, Bool, true, false, if◌then◌else◌, Option, Some, None, List, [], ◌∷◌, length, get_or, set, Result, Ok, Err, IfOk, refl, ap, sym, subst, ◌∙◌, arith}
-use Rattle.std.proofs.lemmas.List.{get_or-set_same, get_or-set_other, get_or-replicate, length-set, length-replicate}
+use Rattle.std.proofs.Common.{◌≡◌, ℕ, zero, suc, ◌+◌, ◌<◌, ◌≤◌, ◌≢◌, ◌==◌, ◌&&◌, nat_lt, Bool, true, false, if◌then◌else◌, Option, Some, None, List, ◌∷◌, length, set, Result, Ok, Err, IfOk, refl, ap, sym, subst, ◌∙◌, arith}
+use Rattle.std.proofs.lemmas.List.{get_or-set_same, get_or-set_other, length-set}
 use mathlib.Core.Logic.{dite}
 use native.Mathlib.Decide.{ℕ_discrete}
-use Rattle.idle_loop.specs.declared.entry.IdleState.{IdleState}
 use Rattle.idle_loop.specs.declared.entry.IdleState.TheVariants as state
 use Rattle.idle_loop.specs.declared.entry.IdleKind.{IdleKind}
 use Rattle.idle_loop.specs.declared.entry.IdleKind.TheVariants.{Hard, Begin, Wake, TryOk, TryBusy, Leave}
 use Rattle.idle_loop.specs.declared.entry.IdleEntry.{IdleEntry}
 use Rattle.idle_loop.specs.declared.entry.IdleSizes.{IdleSizes}
 use Rattle.idle_loop.specs.declared.entry.WakerNow.{WakerNow}
-use Rattle.idle_loop.specs.Gates.{Gate, tried, left}
-use Rattle.idle_loop.specs.IdleLogs.{woken, state_by, state_after, one_more, session_by, session_of, is_hard, is_wake, is_begin, hards, begun, hards_of, wakes_of, MayMake, IsIdleLog}
-use Rattle.idle_loop.specs.Kept.{Alone, AreSizes, IsSession, Stands, Kept, IsKept, GoesOn, new_waker, owed, waker_at}
+use Rattle.idle_loop.specs.Gates.{Gate}
+use Rattle.idle_loop.specs.IdleLogs.{woken, state_by, one_more, session_by, session_of, is_hard, is_wake, is_begin, hards, begun, hards_of, wakes_of, MayMake}
+use Rattle.idle_loop.specs.Kept.{Alone, IsSession, Stands, Kept, IsKept, GoesOn, new_waker, owed, waker_at}
 use Rattle.idle_loop.proofs.Races.{own_adds, other_adds, in_turn}
 use Rattle.idle_loop.proofs.Counts.{few_hards}
 

@@ -9,7 +9,7 @@ use Rattle.idle_loop.specs.declared.entry.IdleKind.{IdleKind}
 use Rattle.idle_loop.specs.declared.entry.IdleKind.TheVariants.{Hard, Begin, Wake, TryOk, TryBusy, Leave}
 use Rattle.idle_loop.specs.declared.entry.IdleEntry.{IdleEntry}
 use Rattle.idle_loop.specs.declared.entry.IdleSizes.{IdleSizes}
-use Rattle.idle_loop.specs.IdleLogs.{woken, state_by, state_after, one_more, session_by, session_of, is_hard, is_wake, since_by, since_begin, hards_of, wakes_of, MayMake, IsIdleLog, IsOver, NoneIsLost}
+use Rattle.idle_loop.specs.IdleLogs.{woken, state_by, state_after, session_by, session_of, is_hard, is_wake, since_by, since_begin, hards_of, wakes_of, MayMake, IsIdleLog}
 use Rattle.idle_loop.specs.Laws.{LosesNone, SleepsOverNone}
 
 -- what an option tells is at least that

@@ -1,4 +1,4 @@
-use Rattle.std.proofs.Common.{ℕ, ◌≤◌, [], sym, subst}
+use Rattle.std.proofs.Common.{◌≤◌, [], sym, subst}
 use Rattle.idle_loop.specs.Kept.{Alone}
 use Rattle.idle_loop.proofs.Keeping.{place_hard, few_now}
 use Rattle.idle_loop.proofs.alone.Alone.make_hard.Goals as goal
