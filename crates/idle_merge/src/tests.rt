@@ -1,3 +1,5 @@
+ghost use Rattle.std.specs.Prelude.{◌≡◌};
+
 use crate::merge_idle;
 use idle_loop::{IdleEntry, IdleKind, IdleSizes, run_idle_alone};
 use std::test::Fail;
@@ -24,6 +26,8 @@ fn a_run_taken_apart_merges_again(rt: HostRuntime) -> Result<(), Fail> {
     Ok(())
 }
 
-fn entry(hard: u32, who: u32, what: IdleKind) -> IdleEntry {
+fn entry(hard: u32, who: u32, what: IdleKind) -> IdleEntry
+    ensures { result ≡ record { hard = hard; who = who; what = what } }
+{
     IdleEntry { hard, who, what }
 }
