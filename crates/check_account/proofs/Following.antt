@@ -1,5 +1,5 @@
 -- The account follows the entries one by one.
-use Rattle.std.proofs.Common.{◌≡◌, ◌≤◌, ◌<◌, ◌+◌, ◌-◌, ◌^◌, ℕ, suc, List, [], ◌∷◌, length, Option, Some, None, refl, arith}
+use Rattle.std.proofs.Common.{◌≡◌, ◌≤◌, ◌+◌, ℕ, suc, List, [], ◌∷◌, length, Option, Some, None, refl, arith}
 use Rattle.sleep_model.specs.declared.entry.Actor.{Actor}
 use Rattle.sleep_model.specs.declared.entry.Entry.{Entry}
 use Rattle.sleep_model.specs.declared.entry.Kind.{Kind}
@@ -9,8 +9,8 @@ use Rattle.sleep_model.specs.declared.word.WordKind as word
 use Rattle.sleep_model.specs.declared.word.WordKind.TheVariants as step
 use Rattle.sleep_model.specs.Numbers.{numbers, after_step, word_step}
 use Rattle.sleep_model.specs.Parts.{journal}
-use Rattle.sleep_model.specs.Path.{attempts, attempts_after}
-use Rattle.check_account.specs.Accounts.{account_after, account_of, HasRoom, AccountFollows, AccountFits}
+use Rattle.sleep_model.specs.Path.{attempts}
+use Rattle.check_account.specs.Accounts.{account_after, account_of, AccountFollows, AccountFits}
 
 by_kind : (past : List Entry) (time : ℕ) (now : EventNow) (who : Actor) (k : Kind)
     → account_after (record { time = time; now = now; actor = who; kind = k }) (account_of past) ≡ account_of (record { time = time; now = now; actor = who; kind = k } ∷ past)

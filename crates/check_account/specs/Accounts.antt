@@ -4,12 +4,14 @@ use Rattle.sleep_base.specs.declared.errno.Errno.{Errno}
 use Rattle.sleep_model.specs.declared.entry.Actor.{Actor}
 use Rattle.sleep_model.specs.declared.entry.Entry.{Entry}
 use Rattle.sleep_model.specs.declared.place.Sleep.{Sleep}
+use Rattle.sleep_model.specs.declared.place.Stage.{Stage}
 use Rattle.sleep_model.specs.declared.word.EventNow.{EventNow}
 use Rattle.sleep_model.specs.Attempt.{failed, failed_after, freeze_since, freeze_since_after, sleep_of, sleep_after}
 use Rattle.sleep_model.specs.Guard.{in_force, force_after, count_part, forgotten, forgotten_after}
 use Rattle.sleep_model.specs.Numbers.{numbers, after_step, word_step, time_of, time_after}
 use Rattle.sleep_model.specs.Parts.{journal}
 use Rattle.sleep_model.specs.Path.{attempts, attempts_after, maker, maker_after}
+use Rattle.sleep_model.specs.Table.{stage_of, stage_after}
 use Rattle.sleep_model.specs.Word.{position}
 
 -- the event word, the time, the saved count with the hard events that are forgotten, and the open attempt (combined_event_count, saved_count, enter_state)
@@ -20,6 +22,7 @@ pub record AccountState : Type 0 where
   pub forgotten : ℕ
   pub attempts : ℕ
   pub maker : Option Actor
+  pub stage : Option Stage
   pub failed : Option Errno
   pub freeze_since : Option ℕ
   pub sleep : Option Sleep
@@ -33,6 +36,7 @@ account_after e before = record {
   forgotten = forgotten_after e.kind e.now before.forgotten;
   attempts = attempts_after e.kind before.attempts;
   maker = maker_after e.kind e.actor before.maker;
+  stage = stage_after e.kind before.stage;
   failed = failed_after e.kind before.failed;
   freeze_since = freeze_since_after e.kind e.time before.freeze_since;
   sleep = sleep_after e.kind (position e.now) e.time before.sleep;
@@ -47,6 +51,7 @@ account_of past = record {
   forgotten = forgotten (journal past);
   attempts = attempts (journal past);
   maker = maker (journal past);
+  stage = stage_of (journal past);
   failed = failed (journal past);
   freeze_since = freeze_since (journal past);
   sleep = sleep_of (journal past);

@@ -1,9 +1,10 @@
 ghost use Rattle.std.specs.Prelude.{◌≡◌};
 
 use crate::attempt::{attempts_after, failed_after, freeze_since_after, maker_after, sleep_after};
-use crate::counts::{force_after, forgotten_after, time_after, word_after};
+use crate::counts::{count_pending, force_after, forgotten_after, time_after, word_after};
+use crate::stage::stage_after;
 use sleep_base::Errno;
-use sleep_model::{Actor, Entry, EventNow, Sleep, pos};
+use sleep_model::{Actor, Entry, EventNow, Sleep, Stage, pos};
 use std::marker::Model;
 
 /// What the entries passed so far leave: each field is what a definition reads from them.
@@ -15,6 +16,7 @@ pub struct Account {
     forgotten: u32,
     attempts: u32,
     maker: Option<Actor>,
+    stage: Option<Stage>,
     failed: Option<Errno>,
     freeze_since: Option<u64>,
     sleep: Option<Sleep>,
@@ -32,6 +34,7 @@ impl Model for Account {
       forgotten = a.forgotten;
       attempts = a.attempts;
       maker = a.maker;
+      stage = a.stage;
       failed = a.failed;
       freeze_since = a.freeze_since;
       sleep = a.sleep;
@@ -39,7 +42,8 @@ impl Model for Account {
 }
 
 impl Account {
-    ghost use Rattle.std.specs.Prelude.{◌≡◌, []};
+    ghost use Rattle.std.specs.Prelude.{◌≡◌, ◌||◌, [], nat_lt};
+    ghost use Rattle.sleep_model.specs.Guard.{count_pending};
     ghost use Rattle.check_account.specs.Accounts.{HasRoom, account_after, account_of};
 
     /// Before the first entry.
@@ -57,6 +61,7 @@ impl Account {
             forgotten: 0,
             attempts: 0,
             maker: None,
+            stage: None,
             failed: None,
             freeze_since: None,
             sleep: None,
@@ -74,8 +79,80 @@ impl Account {
         self.forgotten = forgotten_after(e.kind, e.now, self.forgotten);
         self.attempts = attempts_after(e.kind, self.attempts);
         self.maker = maker_after(e.kind, e.actor, self.maker);
+        self.stage = stage_after(e.kind, self.stage);
         self.failed = failed_after(e.kind, self.failed);
         self.freeze_since = freeze_since_after(e.kind, e.time, self.freeze_since);
         self.sleep = sleep_after(e.kind, pos(e.now), e.time, self.sleep);
+    }
+
+    /// The word that stands behind these entries (`combined_event_count`).
+    pub fn word(&self) -> EventNow
+        ensures { result ≡ self.now.word }
+    {
+        self.word
+    }
+
+    /// The time of the last jump, in ms; 0 before any.
+    pub fn time(&self) -> u64
+        ensures { result ≡ self.now.time }
+    {
+        self.time
+    }
+
+    /// The count in force, if there is one (`events_check_enabled`, `saved_count`).
+    pub fn in_force(&self) -> Option<u32>
+        ensures { result ≡ self.now.force }
+    {
+        self.force
+    }
+
+    /// How many attempts were begun.
+    pub fn attempts(&self) -> u32
+        ensures { result ≡ self.now.attempts }
+    {
+        self.attempts
+    }
+
+    /// Who makes the open attempt, if one is open.
+    pub fn maker(&self) -> Option<Actor>
+        ensures { result ≡ self.now.maker }
+    {
+        self.maker
+    }
+
+    /// The stage of the open attempt, if one is open.
+    pub fn stage(&self) -> Option<Stage>
+        ensures { result ≡ self.now.stage }
+    {
+        self.stage
+    }
+
+    /// The error of the open attempt's step that failed.
+    pub fn failed(&self) -> Option<Errno>
+        ensures { result ≡ self.now.failed }
+    {
+        self.failed
+    }
+
+    /// Since when a freeze goes on, in ms, if one does.
+    pub fn freeze_since(&self) -> Option<u64>
+        ensures { result ≡ self.now.freeze_since }
+    {
+        self.freeze_since
+    }
+
+    /// The machine's sleep, if it sleeps.
+    pub fn sleep(&self) -> Option<Sleep>
+        ensures { result ≡ self.now.sleep }
+    {
+        self.sleep
+    }
+
+    /// Whether a wakeup is pending at that word: the count in force has changed, or a hard event came that no freeze
+    /// forgot (`pm_wakeup_pending`).
+    pub fn is_pending(&self, now: EventNow) -> bool
+        ensures { result ≡ (count_pending self.now.force now || nat_lt self.now.forgotten now.hard) }
+    {
+        count_pending(self.force, now) || now.hard > self.forgotten
     }
 }

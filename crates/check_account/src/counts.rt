@@ -45,15 +45,15 @@ pub(crate) fn time_after(kind: Kind, at: u64, before: u64) -> u64
     }
 }
 
-/// Whether an event was registered since that count was read, or is in progress (`pm_wakeup_pending`).
-pub(crate) fn has_changed(now: EventNow, count: u32) -> bool
+// Whether an event was registered since that count was read, or is in progress (`pm_wakeup_pending`).
+fn has_changed(now: EventNow, count: u32) -> bool
     ensures { result ≡ has_changed now count }
 {
     now.count % 16_777_216 != count || now.inpr > 0
 }
 
-// Whether a count that is in force has changed.
-fn count_pending(force: Option<u32>, now: EventNow) -> bool
+/// Whether a count that is in force has changed.
+pub(crate) fn count_pending(force: Option<u32>, now: EventNow) -> bool
     ensures { result ≡ count_pending force now }
 {
     match force {

@@ -6,6 +6,7 @@ mod account;
 mod attempt;
 mod counts;
 mod law;
+mod stage;
 
 pub use account::Account;
 pub use law::{account_fits, account_follows};
