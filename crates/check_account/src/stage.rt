@@ -1,0 +1,178 @@
+//! The stage of the open attempt: which row of its table is under way.
+
+ghost use Rattle.std.specs.Prelude.{◌≡◌};
+ghost use Rattle.sleep_model.specs.Table.{after_done, behind_down, behind_freeze, behind_platform_down, behind_platform_up, behind_thaw, behind_up, by_case, by_error, by_froze, failed_freeze, failed_phase, failed_platform_down, stage_after};
+
+use sleep_base::Errno;
+use sleep_model::{FrozeEnd, Group, Kind, Phase, PlatDo, PlatUndo, Stage, Thaw};
+
+// The first where there is no error, else the second.
+fn by_error(r: Option<Errno>, good: Stage, failed: Stage) -> Stage
+    ensures { result ≡ by_error r good failed }
+{
+    match r {
+        None => good,
+        Some(_) => failed,
+    }
+}
+
+// The first where it is so, else the second.
+fn by_case(so: bool, here: Stage, there: Stage) -> Stage
+    ensures { result ≡ by_case so here there }
+{
+    if so { here } else { there }
+}
+
+// The first where a freeze left none, else the second.
+fn by_froze(end: FrozeEnd, good: Stage, failed: Stage) -> Stage
+    ensures { result ≡ by_froze end good failed }
+{
+    match end {
+        FrozeEnd::AllFrozen => good,
+        _ => failed,
+    }
+}
+
+// What follows a freeze that left none.
+fn behind_freeze(group: Group) -> Stage
+    ensures { result ≡ behind_freeze group }
+{
+    match group {
+        Group::User => Stage::Freezes(Group::Kernel),
+        Group::Kernel => Stage::PlatformDown(PlatDo::Begin),
+    }
+}
+
+// What follows a freeze that left tasks.
+fn failed_freeze(group: Group) -> Stage
+    ensures { result ≡ failed_freeze group }
+{
+    match group {
+        Group::User => Stage::Thaws(Thaw::All),
+        Group::Kernel => Stage::Thaws(Thaw::Kernel),
+    }
+}
+
+// What follows a thaw.
+fn behind_thaw(those: Thaw) -> Stage
+    ensures { result ≡ behind_thaw those }
+{
+    match those {
+        Thaw::Kernel => Stage::Thaws(Thaw::All),
+        Thaw::All => Stage::Posts,
+    }
+}
+
+// What follows a step of the platform on the way down.
+fn behind_platform_down(step: PlatDo) -> Stage
+    ensures { result ≡ behind_platform_down step }
+{
+    match step {
+        PlatDo::Begin => Stage::Prepares,
+        PlatDo::Prepare => Stage::Downs(Phase::Late),
+        PlatDo::PrepareLate => Stage::StopsCpus,
+    }
+}
+
+// What follows such a step that failed.
+fn failed_platform_down(step: PlatDo) -> Stage
+    ensures { result ≡ failed_platform_down step }
+{
+    match step {
+        PlatDo::Begin => Stage::PlatformUp(PlatUndo::End),
+        PlatDo::Prepare => Stage::PlatformUp(PlatUndo::Finish),
+        PlatDo::PrepareLate => Stage::PlatformUp(PlatUndo::Wake),
+    }
+}
+
+// What follows a step of the platform on the way up.
+fn behind_platform_up(step: PlatUndo) -> Stage
+    ensures { result ≡ behind_platform_up step }
+{
+    match step {
+        PlatUndo::Recover | PlatUndo::Finish => Stage::Ups(Phase::Resume),
+        PlatUndo::Wake => Stage::Ups(Phase::ResumeNoirq),
+        PlatUndo::End => Stage::Clears,
+    }
+}
+
+// What follows a phase on the devices' way down.
+fn behind_down(phase: Phase) -> Stage
+    ensures { result ≡ behind_down phase }
+{
+    match phase {
+        Phase::Suspend => Stage::PlatformDown(PlatDo::Prepare),
+        Phase::Late => Stage::Downs(Phase::Noirq),
+        _ => Stage::PlatformDown(PlatDo::PrepareLate),
+    }
+}
+
+// What follows a phase on the devices' way up.
+fn behind_up(phase: Phase) -> Stage
+    ensures { result ≡ behind_up phase }
+{
+    match phase {
+        Phase::ResumeNoirq => Stage::Ups(Phase::Early),
+        Phase::Early => Stage::PlatformUp(PlatUndo::Finish),
+        _ => Stage::Completes,
+    }
+}
+
+// What follows a phase that failed.
+fn failed_phase(phase: Phase) -> Stage
+    ensures { result ≡ failed_phase phase }
+{
+    match phase {
+        Phase::Late => Stage::Ups(Phase::Early),
+        Phase::Noirq => Stage::Ups(Phase::ResumeNoirq),
+        _ => Stage::PlatformUp(PlatUndo::Recover),
+    }
+}
+
+// What follows a phase that is done.
+fn after_done(phase: Phase, r: Option<Errno>) -> Stage
+    ensures { result ≡ after_done phase r }
+{
+    match phase {
+        Phase::Prepare => by_error(r, Stage::Downs(Phase::Suspend), failed_phase(phase)),
+        Phase::Suspend | Phase::Late | Phase::Noirq => {
+            by_error(r, behind_down(phase), failed_phase(phase))
+        }
+        Phase::Syscore => Stage::Enters,
+        Phase::SyscoreResume => Stage::StartsIrqs,
+        Phase::ResumeNoirq | Phase::Early | Phase::Resume => behind_up(phase),
+        Phase::Complete => Stage::PlatformUp(PlatUndo::End),
+    }
+}
+
+/// The stage of the open attempt after an entry, if one is open (`kernel/power/suspend.c`, `enter_state`,
+/// `suspend_devices_and_enter`, `suspend_enter`).
+pub(crate) fn stage_after(kind: Kind, before: Option<Stage>) -> Option<Stage>
+    ensures { result ≡ stage_after kind before }
+{
+    Some(match kind {
+        Kind::Attempt { .. } => Stage::Notifies,
+        Kind::NotifyPrepare(_, r) => by_error(r, Stage::Notifies, Stage::Posts),
+        Kind::Freeze(group) => Stage::Freezes(group),
+        Kind::Froze(group, end) => by_froze(end, behind_freeze(group), failed_freeze(group)),
+        Kind::PlatformDo(step, r) => by_error(
+            r,
+            behind_platform_down(step),
+            failed_platform_down(step),
+        ),
+        Kind::Done(phase, r) => after_done(phase, r),
+        Kind::CpuOff(_) => Stage::StopsCpus,
+        Kind::CpuBusy(_) | Kind::CpuOn(_) => Stage::StartsCpus,
+        Kind::Irqs { on } => by_case(on, Stage::StartsCpus, Stage::Checks),
+        Kind::SyscoreCheck(r) => by_error(r, Stage::StopsSyscore, Stage::StartsIrqs),
+        Kind::SyscoreSuspend(_, r) => by_error(r, Stage::StopsSyscore, Stage::StartsSyscore),
+        Kind::Enter { busy } => by_case(busy, Stage::StartsSyscore, Stage::Enters),
+        Kind::Wake { .. } | Kind::SyscoreResume(_) => Stage::StartsSyscore,
+        Kind::PlatformUndo(step) => behind_platform_up(step),
+        Kind::Clear => Stage::Thaws(Thaw::All),
+        Kind::Thaw(those) => behind_thaw(those),
+        Kind::NotifyPost(_) => Stage::Posts,
+        Kind::Over { .. } => return None,
+        _ => return before,
+    })
+}
