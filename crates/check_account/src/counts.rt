@@ -45,7 +45,7 @@ pub(crate) fn time_after(kind: Kind, at: u64, before: u64) -> u64
     }
 }
 
-// Whether an event was registered since that count was read, or is in progress (`pm_wakeup_pending`).
+// Whether the count of events differs from the one in force, or an event is in progress (`pm_wakeup_pending`).
 fn has_changed(now: EventNow, count: u32) -> bool
     ensures { result ≡ has_changed now count }
 {

@@ -89,7 +89,7 @@ impl DeviceTies {
         stands(&self.links, supplier, consumer)
     }
 
-    /// Whether the supplier is the consumer or hangs below it, by children and all links
+    /// Whether a walk down from the consumer, over children and links of either state, meets the supplier
     /// (`drivers/base/core.c`, `device_is_dependent`). `Mem` if there is no memory for the walk.
     pub fn is_dependent(&self, consumer: u32, supplier: u32) -> Result<bool, Mem>
         requires consumer { consumer < length self.now.parents }

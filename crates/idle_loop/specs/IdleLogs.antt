@@ -8,7 +8,7 @@ use Rattle.idle_loop.specs.declared.entry.IdleEntry.{IdleEntry}
 use Rattle.idle_loop.specs.declared.entry.IdleSizes.{IdleSizes}
 use Rattle.idle_loop.specs.declared.entry.IdleLog.{IdleLog}
 
--- a wake turns Enter into Wake, and changes no other state (s2idle_wake)
+-- a wake takes Enter to Wake and leaves each other state (s2idle_wake)
 abbrev pub woken : IdleState → IdleState
 woken state.Idle = state.Idle
 woken state.Enter = state.Wake
@@ -124,7 +124,7 @@ abbrev pub IsIdleLog : IdleSizes → List IdleEntry → Type 0
 IsIdleLog z [] = Unit {0}
 IsIdleLog z (e ∷ past) = (e.hard ≡ hards past) × MayMake z past e.who e.what × IsIdleLog z past
 
--- every waker is through, and the idler has nothing to make: it is in idle, or all sessions are over (s2idle_loop)
+-- all wakers are through, and nothing is left for the idler: it is in idle, or all sessions are over (s2idle_loop)
 pub record IsOver (z : IdleSizes) (past : List IdleEntry) : Type 0 where
   pub through : (who : ℕ) → who < z.wakers → wakes_of who past ≡ z.events
   pub nothing : (what : IdleKind) → MayMake z past z.wakers what → ⊥
@@ -135,7 +135,7 @@ is_entered state.Idle = false
 is_entered state.Enter = true
 is_entered state.Wake = false
 
--- where the idler has entered, every waker with a hard event since the session's begin has still to wake it: no wakeup is
+-- where the idler has entered, a waker that made a hard event in this session still owes its wake: no wakeup is
 -- lost (s2idle_enter, s2idle_wake)
 abbrev pub NoneIsLost : List IdleEntry → Type 0
 NoneIsLost past = (who : ℕ) → state_after past ≡ state.Enter → 0 < since_begin who past → wakes_of who past < hards_of who past

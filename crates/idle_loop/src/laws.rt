@@ -2,8 +2,8 @@
 
 ghost use Rattle.idle_loop.specs.Laws.{LosesNone, SleepsOverNone};
 
-/// In every legal log, where the idler has entered, each waker with a hard event since the session's
-/// begin has still to wake it (`kernel/power/suspend.c`, `s2idle_enter`, `s2idle_wake`).
+/// In every legal log, where the idler has entered, each waker that made a hard event in this session
+/// still owes its wake (`kernel/power/suspend.c`, `s2idle_enter`, `s2idle_wake`).
 #[tactic(auto, using(crate::proofs::Races::loses_none))]
 pub fn no_wakeup_is_lost()
     ensures { LosesNone }
