@@ -65,6 +65,11 @@ abbrev pub SawMost : ℕ → List IdleEntry → Type 0
 SawMost hard [] = Unit {0}
 SawMost hard (e ∷ journal) = (e.hard ≤ hard) × SawMost hard journal
 
+-- each of the entries, the newest first, saw at least as many hard events as the one after it, and at most that many (own)
+abbrev pub SeesInOrder : ℕ → List IdleEntry → Type 0
+SeesInOrder most [] = Unit {0}
+SeesInOrder most (e ∷ journal) = (e.hard ≤ most) × SeesInOrder e.hard journal
+
 -- each hard event is made by a waker that has made a wake for each earlier one: those wakes saw none from this event on (pm_system_wakeup)
 abbrev pub HardsInTurn : IdleSizes → List ℕ → List IdleEntry → Type 0
 HardsInTurn z makers journal = (later before : List ℕ) (who : ℕ) (newer older : List IdleEntry) → makers ≡ later ++ who ∷ before → journal ≡ newer ++ older

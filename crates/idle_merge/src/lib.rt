@@ -2,9 +2,11 @@
 //! events that come without the lock, merge to one legal log.
 #![tactic(auto)]
 
+mod book;
 mod laws;
 mod merge;
 
+pub use book::IdleBook;
 pub use laws::journal_and_hard_events_merge;
 pub use merge::merge_idle;
 
