@@ -66,6 +66,8 @@ def is_right(text, sizes):
 
 
 def main():
+    if len(sys.argv) != 3:
+        sys.exit(__doc__)
     seed, logs = int(sys.argv[1]), int(sys.argv[2])
     rng = random.Random(seed)
     for text, sizes in ((BACK, (1, 2, 1)), (ASLEEP, (1, 1, 1))):
