@@ -1,4 +1,4 @@
-use Rattle.std.proofs.Common.{◌≡◌, refl}
+use Rattle.std.proofs.Common.{refl}
 use Rattle.world_workers.proofs.Going.{went_on}
 use Rattle.world_workers.proofs.turns.WorkerWorkWorld.turn.Goals as goal
 
