@@ -9,7 +9,7 @@ fn sent<T: Send + Drop>(value: T) -> T
     value
 }
 
-/// The core may be sent to a thread.
+/// A thread may take the core over.
 pub fn sent_core(core: Core<'_>) -> Core<'_>
     ensures { result ≡ core.entry }
 {

@@ -11,7 +11,7 @@ use std::sync::Wait;
 
 /// The event word as one holder sees it (`drivers/base/power/wakeup.c`, `combined_event_count`).
 pub trait Events {
-    /// The word, where nobody else moves it.
+    /// The word, if no other thread can move it.
     ghost tells: { Self → Option EventNow };
 
     /// The words looked at, the newest first, where they are told.

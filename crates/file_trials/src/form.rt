@@ -32,7 +32,7 @@ pub fn members_are_known()
     ensures unknown { Breaks "{'version':1,'alarm':1}" 2 "top" }
 {}
 
-/// The version is there, and is 1 or 2.
+/// A file names its version, and it is one of the two known.
 #[tactic(auto, unfolding(crate::proofs::Reading::reading))]
 pub fn version_is_known()
     ensures missing { Breaks "{}" 3 "version" }
@@ -97,7 +97,7 @@ pub fn lists_are_short()
     ensures notifiers { Breaks "{'version':1,'notifiers':[{'name':'n'},{'name':'n'},{'name':'n'},{'name':'n'},{'name':'n'},{'name':'n'},{'name':'n'},{'name':'n'},{'name':'n'},{'name':'n'},{'name':'n'},{'name':'n'},{'name':'n'},{'name':'n'},{'name':'n'},{'name':'n'},{'name':'n'},{'name':'n'},{'name':'n'},{'name':'n'},{'name':'n'},{'name':'n'},{'name':'n'},{'name':'n'},{'name':'n'},{'name':'n'},{'name':'n'},{'name':'n'},{'name':'n'},{'name':'n'},{'name':'n'},{'name':'n'},{'name':'n'}]}" 6 "notifiers" }
 {}
 
-/// A name is 1 to 32 bytes of a to z, 0 to 9, and the signs _ . -
+/// A name has at most 32 bytes and at least one, each a small letter, a digit or one of _ . -
 #[tactic(auto, unfolding(crate::proofs::Reading::reading))]
 pub fn names_are_spelled()
     ensures capital { Breaks "{'version':1,'sources':['Lid']}" 7 "sources[0]" }

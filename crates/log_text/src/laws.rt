@@ -14,7 +14,7 @@ pub fn text_tells_log()
     ensures { (m : Machine) (a b : Log) → AreNamed m → IsWritable m a → IsWritable m b → text m a ≡ text m b → a ≡ b }
 {}
 
-/// The text of a log that fits the machine has no bad line.
+/// Where a log fits its machine, each line of its text can be read.
 #[tactic(auto, using(crate::proofs::NoBadLine::none_bad))]
 pub fn written_lines_are_good()
     ensures { (m : Machine) (log : Log) → AreNamed m → IsWritable m log → (n : ℕ) → IsFirstBad m (text m log) n → ⊥ }

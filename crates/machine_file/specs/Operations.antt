@@ -124,7 +124,7 @@ changes_links o = has_text (codes "op") (codes "link") o || has_text (codes "op"
 abbrev pub is_formed : Bool → Data → Data → Bool
 is_formed second actor o = (second || not (changes_links o)) && is_some_and (fits_row o) (row_of o)
 
--- it is allowed to the actor's kind
+-- actors of this kind may have the operation in their scripts
 abbrev pub is_allowed : Data → Data → Bool
 is_allowed actor o = is_some_and (λ r. is_among_names r.makers (text_at (codes "kind") actor)) (row_of o)
 

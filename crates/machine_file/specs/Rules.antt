@@ -17,7 +17,7 @@ is_name s = nat_le 1 (length s) && nat_le (length s) 32 && list_all is_name_byte
 abbrev pub name_of : Data → List ℕ
 name_of d = text_at (codes "name") d
 
--- the version is there, and is 1 or 2
+-- the file names its version, and it is one of the two known
 abbrev pub has_version : Data → Bool
 has_version d = is_some_and (λ v. is_number 1 v || is_number 2 v) (get (codes "version") d)
 

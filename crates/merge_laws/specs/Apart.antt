@@ -100,7 +100,7 @@ IsActor who calls inside (e ∷ own) =
 
 -- ---- each jump by itself
 
--- the entries of a history before a jump to that time: those with an earlier one
+-- what a source made before time jumped to that moment: its entries with an earlier time
 abbrev pub before : ℕ → List Entry → List Entry
 before time own = filter (λ e. nat_lt e.time time) own
 

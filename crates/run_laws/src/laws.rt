@@ -39,7 +39,7 @@ pub fn what_is_held_merges()
     ensures { HeldTells }
 {}
 
-/// A look at a word that is at or above every source's floor saw the last word.
+/// Where no source's floor is above a look, the look saw the last word.
 pub fn last_look_saw_the_last_word()
     ensures { LooksLast }
 {}

@@ -33,7 +33,7 @@ use Rattle.sleep_laws.proofs.Made.{Down, Made, Comes, AtOnce, PastNotifiers, Pas
 use Rattle.sleep_laws.proofs.Telling.{some≢none}
 use Rattle.sleep_laws.proofs.MakingOwn.{by_maker, entry_made}
 
--- until the attempt enters or fails its guard is in force; in a phase on the way down, while no error stands in the phase
+-- until the attempt enters or fails its guard is in force; in a phase on the way down as long as the phase has no error
 abbrev pub HeldAt : Stage → Option Errno → Option ℕ → Option ℕ → Type 0
 HeldAt stage.Notifies error guard force = force ≡ guard
 HeldAt (stage.Freezes g) error guard force = force ≡ guard

@@ -1,4 +1,4 @@
--- What has become of the devices at each stage of an attempt, for each of the three pairs of phases.
+-- What has become of the devices at each stage of an attempt, by the pair of phases.
 use Rattle.std.proofs.Common.{◌≡◌, Bool, true, false, Option, Some, None, refl, sym}
 use Rattle.std.proofs.lemmas.Bool.{true≢false}
 use Rattle.sleep_model.specs.declared.machine.PlatDo.TheVariants as down

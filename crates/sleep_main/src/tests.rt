@@ -267,7 +267,7 @@ fn too_long_an_input_is_refused(rt: HostRuntime) -> Result<(), Fail> {
     Ok(())
 }
 
-/// A read that fails, at each call in turn, the one at the end included: nothing is written.
+/// Whichever read fails, the last one too: nothing is written.
 #[test]
 fn a_failing_read_is_told(rt: HostRuntime) -> Result<(), Fail> {
     for chunk in [1usize, 64] {

@@ -300,7 +300,7 @@ abbrev pub FoundPending : List Entry → EventNow → CountPart → Type 0
 FoundPending past now Finds = pending past now ≡ true
 FoundPending past now _ = Unit {0}
 
--- ---- each actor's steps, once and in order
+-- ---- the steps of an actor: none left out, none twice, none early
 
 -- an entry of a read
 abbrev pub is_of_read : Kind → Bool

@@ -247,7 +247,7 @@ waiting_from m past now i (seat ∷ rest) =
 abbrev pub waiting : Machine → List Entry → EventNow → List Waiting
 waiting m past now = waiting_from m past now 0 (seats (length m.actors) past)
 
--- after these entries nobody goes on: a script has not exited, nobody is enabled, and no time is pending
+-- after these entries nobody goes on: some script has not exited, no actor may make an entry, and nothing waits for a time
 pub record IsStuckAfter (m : Machine) (past : List Entry) : Type 0 where
   pub left : all_gone m (journal past) ≡ false
   pub idle : is_idle m (journal past) (λ s. history s past) (numbers past) ≡ true

@@ -12,6 +12,7 @@
 --   Sources    what a call on a wakeup source makes
 --   Steps      what a task makes
 --   Laws       what every legal log keeps
+--   Rules      the same rules a second time, each by itself: what each of them asks of an entry
 --
 -- One entry, followed down. In the log of a parent p and its child c stands `0 0/0/0 task:w begin suspend p`.
 --   IsLegalLog asks IsLegal, which asks of each entry of the journal a JournalStep: the entry is `due` of its actor.
@@ -48,6 +49,7 @@ pub mod Parts
 pub mod Path
 pub mod Places
 pub mod ReaderFields
+pub mod Rules
 pub mod Runtime
 pub mod Scripts
 pub mod Seats

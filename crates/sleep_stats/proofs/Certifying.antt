@@ -45,7 +45,7 @@ order_depends dependents_of (y ∷ ys) h d x m n = by_place (order_depends depen
     by_place rest (inl e) = among_rest y ys x (within_of ys (dependents_of y) h.1 x (subst (λ (z : ℕ). is_among (dependents_of z) x ≡ true) (sym (eqb-true y d e)) n))
     by_place rest (inr e) = among_rest y ys x (rest e n)
 
--- ---- no chain is longer
+-- ---- every chain is at most so long
 
 -- a device's level, and what is known of it
 record Leveled (l : Linked) (levels : List ℕ) (n d : ℕ) : Type 0 where

@@ -49,7 +49,7 @@ abbrev pub greatest : List ℕ → ℕ → List ℕ → ℕ
 greatest levels most [] = most
 greatest levels most (d ∷ ds) = greatest levels (max most (level_at levels d)) ds
 
--- a device's level is 1 more than the greatest right above it, else 1
+-- a device without any supplier has level 1, any other one level more than the highest of its suppliers
 abbrev pub IsLevel : Linked → List ℕ → ℕ → Type 0
 IsLevel l levels d = level_at levels d ≡ suc (greatest levels 0 (above_of l d))
 

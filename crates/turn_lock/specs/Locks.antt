@@ -61,7 +61,7 @@ abbrev Sat : Type 0 → Type 0 → Type 0
 Sat V I = Me (Option V) (View V I)
 
 module _ {V I R : Type 0} (root : V → R) (entries : V → List I) where
-  -- what a pass that takes an object learns of it: its root is the first value's, and each entry of the pass's list stands in it
+  -- what a pass learns when it takes an object: the root is the first value's, and the object has every entry that the pass added to it
   abbrev pub IsTaken : View V I → ℕ → V → Type 0
   IsTaken v i y = (u : V) × (es : List (ℕ × I)) × (get_elem? v.first i ≡ some u) × (root y ≡ root u) × (entries y ≡ entries u ++ bare es)
       × ((k : ℕ) → v.number ≡ Some k → of_object i v.made ≡ made_by k i (length (entries u)) es)

@@ -32,7 +32,7 @@ fn error_number(error: Errno) -> i32
     -i32::from(error.number())
 }
 
-/// What a device's prepare answered: 0, 1, or an error's number, below 0.
+/// What a device's prepare answered: 0, 1, or the negative number of an error.
 pub fn prepare_in(word: &[u8]) -> i32
     ensures { result ≡ prepare_in word.now }
 {

@@ -5,21 +5,21 @@ use Rattle.sleep_model.specs.declared.machine.Machine.{Machine}
 use Rattle.sleep_model.specs.Legal.{IsLegal}
 use Rattle.sleep_model.specs.Numbers.{numbers}
 use Rattle.sleep_model.specs.Parts.{Part, OfJournal, part_of, journal}
-use Rattle.log_rules.specs.Answers.{KeepsAnswers}
-use Rattle.log_rules.specs.Attempts.{KeepsAttempts}
-use Rattle.log_rules.specs.Enabled.{EnabledEntry}
-use Rattle.log_rules.specs.Freezer.{FreezerEntry}
-use Rattle.log_rules.specs.Links.{KeepsLinks}
-use Rattle.log_rules.specs.Numbers.{KeepsNumbers}
-use Rattle.log_rules.specs.Owed.{KeepsOwed}
-use Rattle.log_rules.specs.Path.{PathEntry}
-use Rattle.log_rules.specs.Reads.{KeepsReads}
-use Rattle.log_rules.specs.Restored.{KeepsRestored}
-use Rattle.log_rules.specs.Runtime.{KeepsRuntime}
-use Rattle.log_rules.specs.Skip.{KeepsSkip}
-use Rattle.log_rules.specs.Source.{SourceEntry}
-use Rattle.log_rules.specs.Steps.{StepsEntry}
-use Rattle.log_rules.specs.Walk.{WalkEntry}
+use Rattle.sleep_model.specs.Rules.Answers.{KeepsAnswers}
+use Rattle.sleep_model.specs.Rules.Attempts.{KeepsAttempts}
+use Rattle.sleep_model.specs.Rules.Enabled.{EnabledEntry}
+use Rattle.sleep_model.specs.Rules.Freezer.{FreezerEntry}
+use Rattle.sleep_model.specs.Rules.Links.{KeepsLinks}
+use Rattle.sleep_model.specs.Rules.Numbers.{KeepsNumbers}
+use Rattle.sleep_model.specs.Rules.Owed.{KeepsOwed}
+use Rattle.sleep_model.specs.Rules.Path.{PathEntry}
+use Rattle.sleep_model.specs.Rules.Reads.{KeepsReads}
+use Rattle.sleep_model.specs.Rules.Restored.{KeepsRestored}
+use Rattle.sleep_model.specs.Rules.Runtime.{KeepsRuntime}
+use Rattle.sleep_model.specs.Rules.Skip.{KeepsSkip}
+use Rattle.sleep_model.specs.Rules.Source.{SourceEntry}
+use Rattle.sleep_model.specs.Rules.Steps.{StepsEntry}
+use Rattle.sleep_model.specs.Rules.Walk.{WalkEntry}
 
 -- what is asked of an entry of the journal alone
 abbrev pub OnJournal : Part → Type 0 → Type 0
