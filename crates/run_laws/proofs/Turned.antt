@@ -89,8 +89,8 @@ module _ (m : Machine) (made : Made) (floor : Stamp) (e : JournalEntry) (t : May
   is_of_journal (Moves s x) h = absurd h
   is_of_journal OfTime h = absurd (let bad : true ≡ false = sym (not_time e.entry.actor h.0) ∙ t.timeless in cc)
 
-  part : part_of e.entry.kind ≡ OfJournal
-  part = is_of_journal (part_of e.entry.kind) t.legal.0
+  pub turn_part : part_of e.entry.kind ≡ OfJournal
+  turn_part = is_of_journal (part_of e.entry.kind) t.legal.0
 
   at_time : (p : Part) → p ≡ OfJournal → JournalStep m (bare made.journal) e.entry p → e.entry.time ≡ time_of (bare made.journal)
   at_time OfJournal is h = h.1
@@ -99,19 +99,19 @@ module _ (m : Machine) (made : Made) (floor : Stamp) (e : JournalEntry) (t : May
   at_time OfTime is h = absurd (let bad : is_jump OfTime ≡ is_jump OfJournal = ap is_jump is in cc)
 
   own : IsOwn (part_of e.entry.kind)
-  own = subst IsOwn (sym part) of_journal
+  own = subst IsOwn (sym turn_part) of_journal
 
   growth : IsGrowth m made e
   growth = record {
-    next = subst (IsNext m made e.entry.actor e.entry) (sym part) (t.all_made, t.free);
+    next = subst (IsNext m made e.entry.actor e.entry) (sym turn_part) (t.all_made, t.free);
     may = own.may made e;
     there = own.there m;
     of_journal = λ is. t.legal;
-    of_jump = λ is. absurd (let bad : true ≡ false = sym is ∙ ap is_jump part in cc);
+    of_jump = λ is. absurd (let bad : true ≡ false = sym is ∙ ap is_jump turn_part in cc);
     tick = some_tick floor.tick e.stamp.tick t.behind.tick;
     in_place = own.place made e (behind_last m made e t.held t.last);
     own = follows_known floor (made.own e.entry.actor) e t.own t.behind.tick t.behind.pos;
-    in_time = subst (IsInTime made e) (sym (ap is_jump part)) (above_jumps floor e made.journal t.behind.tick t.behind.pos t.jumps, at_time (part_of e.entry.kind) part t.legal.0);
+    in_time = subst (IsInTime made e) (sym (ap is_jump turn_part)) (above_jumps floor e made.journal t.behind.tick t.behind.pos t.jumps, at_time (part_of e.entry.kind) turn_part t.legal.0);
   }
 
   is_turned : IsTurned m made (with_entry e made) e.entry.actor e

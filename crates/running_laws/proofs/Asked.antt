@@ -31,7 +31,7 @@ use Rattle.wakeup_source.specs.Told.{MayCall}
 use Rattle.merge_laws.specs.Apart.{IsCall}
 use Rattle.run_laws.specs.Acts.{bare}
 use Rattle.merge_laws.proofs.Lists.{all_head}
-use Rattle.running_laws.specs.Running.{CallsNext, IsRunning, calls_made, histories}
+use Rattle.running_laws.specs.Running.{CallsNext, IsGoing, calls_made, histories}
 use Rattle.running_laws.proofs.Kept.{few_calls}
 use Rattle.running_laws.proofs.Lists.{entries_bare, source_at}
 
@@ -59,7 +59,7 @@ latest_within (e ∷ p) at h =
     let here : nat_le e.entry.time at ≡ true = all_head (λ (x : JournalEntry). nat_le x.entry.time at) (of_source e) (map of_source p) h in
     grind (arith, nat_tests)
 
-module _ (m : Machine) (journal : List JournalEntry) (sources : List SourceState) (jobs : Actor → JobState) (floor : Stamp) (r : IsRunning m journal sources jobs floor) where
+module _ (m : Machine) (journal : List JournalEntry) (sources : List SourceState) (jobs : Actor → JobState) {floors : Actor → Stamp} (r : IsGoing m journal sources jobs floors) where
   -- no entry of a source is later than now
   pub timely : (s : ℕ) (none : SourceState) → s < length sources → latest (states.bare (slice_index_or sources s none).past) ≤ time_of (entries journal)
   timely s none l =
@@ -85,7 +85,7 @@ module _ (m : Machine) (journal : List JournalEntry) (sources : List SourceState
   call_left who s c a next =
       let job = r.jobs_are who a in (
         omega (arith, ap length job.pending_is, length-drop (calls_made m sources who) (calls_of m who (entries journal)), some_left (calls_made m sources who) (calls_of m who (entries journal)) (note s c) next),
-        omega (arith, few_calls m journal sources jobs floor r who, job.calls_are),
+        omega (arith, few_calls m journal sources jobs r who, job.calls_are),
       )
 
   -- it is the actor's next

@@ -35,10 +35,12 @@ use Rattle.run_laws.specs.Acts.{Made, bare}
 use Rattle.run_laws.specs.Called.{IsCalled, IsReady, knows}
 use Rattle.run_laws.specs.Held.{EachJump, Held}
 use Rattle.run_laws.proofs.Acts.{actor_is}
-use Rattle.run_laws.proofs.Called.{call_grows, in_order_known, part_note}
-use Rattle.running_laws.specs.Running.{AreJobs, IsRunning, IsSourceOf, IsWith, KnowsAll, calls_made, histories, made_so, of_sources}
-use Rattle.running_laws.proofs.Kept.{calls_are_notes, free, jumps_known}
+use Rattle.run_laws.proofs.Called.{call_grows, part_note}
+use Rattle.running_laws.specs.Running.{AreJobs, FloorsKnow, IsGoing, IsMoved, IsRunning, IsSourceOf, IsWith, calls_made, histories, made_so, of_sources}
+use Rattle.running_laws.proofs.Kept.{calls_are_notes, free}
 use Rattle.running_laws.proofs.Known.{knows_more}
+use Rattle.running_laws.proofs.Turns.{all_raised, is_moved_one, moved_one}
+use Rattle.run_laws.proofs.Held.{each_by}
 use Rattle.running_laws.proofs.Lists.{entries_bare, source_at, source_other, source_set, sources_set}
 
 -- ---- what a call adds
@@ -155,7 +157,7 @@ call_told m by c old new timed acts ranged h told =
 
 -- ---- a call
 
-module _ (m : Machine) (journal : List JournalEntry) (sources : List SourceState) (jobs : Actor → JobState) (floor : Stamp) (r : IsRunning m journal sources jobs floor) where
+module _ (m : Machine) (journal : List JournalEntry) (sources : List SourceState) (jobs : Actor → JobState) {floors : Actor → Stamp} (r : IsGoing m journal sources jobs floors) where
   abbrev past : Made
   past = made_so journal sources r.own
 
@@ -165,7 +167,7 @@ module _ (m : Machine) (journal : List JournalEntry) (sources : List SourceState
     pub old_is : old.source ≡ slice_index_or sources s old.source
     pub next : IsCall by.actor (calls_of m by.actor (entries journal)) (calls_made m sources by.actor) (note s c)
     pub may : MayCall c (states.bare old.source.past) by.now
-    pub floor_is : by.floor ≡ floor
+    pub floor_is : by.floor ≡ floors by.actor
     pub time_is : by.now ≡ time_of (entries journal)
     pub calls : Calls by c old new
     pub settled : IsSettled new.source
@@ -198,13 +200,13 @@ module _ (m : Machine) (journal : List JournalEntry) (sources : List SourceState
       entries = ap (of_sources sources) here.number ∙ of_old;
       settled = here.settled;
       there = ap (λ (n : ℕ). nat_le n (length m.sources)) here.number ∙ (let l = h.there in let is : nat_le s (length m.sources) ≡ true = grind (arith, nat_tests) in is);
-      free = free m journal sources jobs floor r by.actor;
+      free = free m journal sources jobs r by.actor;
       next = subst (λ (n : ℕ). IsCall by.actor (calls_of m by.actor (bare journal)) (notes_of by.actor (bare (r.own by.actor))) (note n c)) (sym here.number)
-          (subst (λ (n : ℕ). IsCall by.actor (calls_of m by.actor (bare journal)) n (note s c)) (calls_are_notes m journal sources jobs floor r by.actor)
+          (subst (λ (n : ℕ). IsCall by.actor (calls_of m by.actor (bare journal)) n (note s c)) (calls_are_notes m journal sources jobs r by.actor)
           (subst (λ (xs : List Entry). IsCall by.actor (calls_of m by.actor xs) (calls_made m sources by.actor) (note s c)) (entries_bare journal) h.next));
       may = h.may;
-      own = ap (λ (f : Stamp). knows f (r.own by.actor)) h.floor_is ∙ r.floor_knows.own by.actor;
-      jumps = subst (λ (f : Stamp). EachJump (λ jump. knows f (jump ∷ []) ≡ true) journal) (sym h.floor_is) (jumps_known m journal sources jobs floor r);
+      own = ap (λ (f : Stamp). knows f (r.own by.actor)) h.floor_is ∙ r.floors_know.own by.actor;
+      jumps = subst (λ (f : Stamp). EachJump (λ jump. knows f (jump ∷ []) ≡ true) journal) (sym h.floor_is) (r.floors_know.jumps by.actor);
       time = h.time_is ∙ ap time_of (entries_bare journal);
     }
 
@@ -224,29 +226,32 @@ module _ (m : Machine) (journal : List JournalEntry) (sources : List SourceState
     is_so : grown.0 ≡ made_so journal sources' grown.0.own
     is_so = λ i. record { journal = grown.1.journal i; of = λ t. of_new t i; own = grown.0.own }
 
-    tick : floor.tick ≤ new.source.floor.tick
+    tick : (floors by.actor).tick ≤ new.source.floor.tick
     tick = omega (arith, one.tick, ap (λ (f : Stamp). f.tick) h.floor_is)
 
-    pos : floor.pos ≤ new.source.floor.pos
+    pos : (floors by.actor).pos ≤ new.source.floor.pos
     pos = omega (arith, one.pos, ap (λ (f : Stamp). f.pos) h.floor_is)
 
-    known : KnowsAll new.source.floor (made_so journal sources' grown.0.own)
-    known = record {
-      journal = knows_more floor new.source.floor journal tick pos r.floor_knows.journal;
-      sources = λ t. by_source t (s == t) refl;
+    -- the caller's stamp is the call's, and the others' know as much as they knew
+    known : (floors' : Actor → Stamp) → IsMoved floors floors' by.actor new.source.floor → FloorsKnow floors' (made_so journal sources' grown.0.own)
+    known floors' w = record {
       own = λ other. by_own other (is_same by.actor other) refl;
+      jumps = λ other. by_jump other (is_same by.actor other) refl;
     }
       where
-        by_source : (t : ℕ) (b : Bool) → (s == t) ≡ b → knows new.source.floor (of_sources sources' t) ≡ true
-        by_source t true e =
-            let same : s ≡ t = grind (arith, nat_tests) in
-            subst (λ (n : ℕ). knows new.source.floor (of_sources sources' n) ≡ true) same
-            (ap (knows new.source.floor) (source_set sources s new.source within) ∙ in_order_known new.source.floor new.source.past h.settled.in_order)
-        by_source t false e = ap (knows new.source.floor) (source_other sources s t new.source e) ∙ knows_more floor new.source.floor (of_sources sources t) tick pos (r.floor_knows.sources t)
+        by_own : (other : Actor) (b : Bool) → is_same by.actor other ≡ b → knows (floors' other) (grown.0.own other) ≡ true
+        by_own other true e =
+            ap (λ (x : Actor). knows (floors' x) (grown.0.own x)) (sym (actor_is by.actor other e))
+            ∙ (ap (λ (f : Stamp). knows f (grown.0.own by.actor)) w.same ∙ grown.1.own)
+        by_own other false e = ap₂ knows (w.others other e) (grown.1.others_own other e) ∙ r.floors_know.own other
 
-        by_own : (other : Actor) (b : Bool) → is_same by.actor other ≡ b → knows new.source.floor (grown.0.own other) ≡ true
-        by_own other true e = ap (λ (w : Actor). knows new.source.floor (grown.0.own w)) (sym (actor_is by.actor other e)) ∙ grown.1.own
-        by_own other false e = ap (knows new.source.floor) (grown.1.others_own other e) ∙ knows_more floor new.source.floor (r.own other) tick pos (r.floor_knows.own other)
+        by_jump : (other : Actor) (b : Bool) → is_same by.actor other ≡ b → EachJump (λ jump. knows (floors' other) (jump ∷ []) ≡ true) journal
+        by_jump other true e =
+            subst (λ (x : Actor). EachJump (λ jump. knows (floors' x) (jump ∷ []) ≡ true) journal) (actor_is by.actor other e)
+            (subst (λ (f : Stamp). EachJump (λ jump. knows f (jump ∷ []) ≡ true) journal) (sym w.same)
+            (each_by (λ jump. knows (floors by.actor) (jump ∷ []) ≡ true) (λ jump. knows new.source.floor (jump ∷ []) ≡ true) journal
+            (λ jump. knows_more (floors by.actor) new.source.floor (jump ∷ []) tick pos) (r.floors_know.jumps by.actor)))
+        by_jump other false e = subst (λ (f : Stamp). EachJump (λ jump. knows f (jump ∷ []) ≡ true) journal) (sym (w.others other e)) (r.floors_know.jumps other)
 
     told : (t : ℕ) → list_all (λ e. is_told m e.entry) (of_sources sources' t) ≡ true
     told t = is (s == t) refl
@@ -267,37 +272,60 @@ module _ (m : Machine) (journal : List JournalEntry) (sources : List SourceState
         ∙ (one.notes who ∙ ap (λ (l : List JournalEntry). one_more (is_same by.actor who) (notes_of who (bare l))) (sym of_old)))
 
     -- after a call the run goes on, as its jobs do
-    goes_on : (jobs' : Actor → JobState) → AreJobs m journal sources' jobs' → IsRunning m journal sources' jobs' new.source.floor
-    goes_on jobs' are = record {
+    goes_on : (jobs' : Actor → JobState) (floors' : Actor → Stamp) → IsMoved floors floors' by.actor new.source.floor → AreJobs m journal sources' jobs' → IsGoing m journal sources' jobs' floors'
+    goes_on jobs' floors' w are = record {
       accepted = r.accepted;
       own = grown.0.own;
       held = subst (Held m) is_so grown.1.held;
       sources_are = sources_set m sources s new.source within (record { number = new_number; settled = h.settled }) r.sources_are;
       jobs_are = are;
-      floor_knows = known;
+      floors_know = known floors' w;
       told = (r.told.0, told);
     }
 
-    -- after the call of an actor that has a job
-    pub running_call : (jobs' : Actor → JobState) (stamp : Stamp) → stamp ≡ new.source.floor → IsActor m by.actor → 0 < length (jobs by.actor).pending → IsWith m jobs jobs' by.actor (after_call stamp (jobs by.actor))
-        → IsRunning m journal sources' jobs' stamp
-    running_call jobs' stamp is a left w =
-        subst (λ (x : Stamp). IsRunning m journal sources' jobs' x) (sym is) (goes_on jobs' (λ other b. each other b (is_same by.actor other) refl))
+    called_jobs : (jobs' : Actor → JobState) (stamp : Stamp) → IsActor m by.actor → 0 < length (jobs by.actor).pending → IsWith m jobs jobs' by.actor (after_call stamp (jobs by.actor)) → AreJobs m journal sources' jobs'
+    called_jobs jobs' stamp a left w other b = each (is_same by.actor other) refl
       where
-        each : (other : Actor) → IsActor m other → (c : Bool) → is_same by.actor other ≡ c → IsJobOf m other (entries journal) (calls_made m sources' other) (jobs' other)
-        each other b true e =
+        each : (c : Bool) → is_same by.actor other ≡ c → IsJobOf m other (entries journal) (calls_made m sources' other) (jobs' other)
+        each true e =
             let more : calls_made m sources' by.actor ≡ calls_made m sources by.actor + 1 =
-            made_now by.actor ∙ ap (λ (b : Bool). one_more b (calls_made m sources by.actor)) (ap (λ (w : Actor). is_same by.actor w) (actor_is by.actor other e) ∙ e) in
+                made_now by.actor ∙ ap (λ (b : Bool). one_more b (calls_made m sources by.actor)) (ap (λ (w : Actor). is_same by.actor w) (actor_is by.actor other e) ∙ e) in
             subst (λ (x : Actor). IsJobOf m x (entries journal) (calls_made m sources' x) (jobs' x)) (actor_is by.actor other e)
             (subst (λ (n : ℕ). IsJobOf m by.actor (entries journal) n (jobs' by.actor)) (sym more)
             (subst (λ (j : JobState). IsJobOf m by.actor (entries journal) (calls_made m sources by.actor + 1) j) (sym w.same)
             (call_made m by.actor (entries journal) (calls_made m sources by.actor) (jobs by.actor) stamp left (r.jobs_are by.actor a))))
-        each other b false e =
+        each false e =
             subst (λ (n : ℕ). IsJobOf m other (entries journal) n (jobs' other)) (sym (made_now other ∙ ap (λ (b : Bool). one_more b (calls_made m sources other)) e))
             (subst (λ (j : JobState). IsJobOf m other (entries journal) (calls_made m sources other) j) (sym (w.others other b e)) (r.jobs_are other b))
 
+    expired_jobs : ((other : Actor) → IsActor m other → is_same by.actor other ≡ false) → AreJobs m journal sources' jobs
+    expired_jobs none other b = subst (λ (n : ℕ). IsJobOf m other (entries journal) n (jobs other)) (sym (made_now other ∙ ap (λ (c : Bool). one_more c (calls_made m sources other)) (none other b))) (r.jobs_are other b)
+
+    -- after the call of an actor that has a job
+    pub going_call : (jobs' : Actor → JobState) (floors' : Actor → Stamp) (stamp : Stamp) → stamp ≡ new.source.floor → IsActor m by.actor → 0 < length (jobs by.actor).pending
+        → IsWith m jobs jobs' by.actor (after_call stamp (jobs by.actor)) → IsMoved floors floors' by.actor stamp → IsGoing m journal sources' jobs' floors'
+    going_call jobs' floors' stamp is a left w moved = goes_on jobs' floors' (subst (IsMoved floors floors' by.actor) is moved) (called_jobs jobs' stamp a left w)
+
     -- after an expiry, whose timer has no job
-    pub running_expire : (stamp : Stamp) → stamp ≡ new.source.floor → ((other : Actor) → IsActor m other → is_same by.actor other ≡ false) → IsRunning m journal sources' jobs stamp
-    running_expire stamp is none =
-        subst (λ (x : Stamp). IsRunning m journal sources' jobs x) (sym is)
-        (goes_on jobs (λ other b. subst (λ (n : ℕ). IsJobOf m other (entries journal) n (jobs other)) (sym (made_now other ∙ ap (λ (c : Bool). one_more c (calls_made m sources other)) (none other b))) (r.jobs_are other b)))
+    pub going_expire : (floors' : Actor → Stamp) (stamp : Stamp) → stamp ≡ new.source.floor → ((other : Actor) → IsActor m other → is_same by.actor other ≡ false) → IsMoved floors floors' by.actor stamp
+        → IsGoing m journal sources' jobs floors'
+    going_expire floors' stamp is none moved = goes_on jobs floors' (subst (IsMoved floors floors' by.actor) is moved) (expired_jobs none)
+
+-- ---- with one worker
+
+module _ (m : Machine) (journal : List JournalEntry) (sources : List SourceState) (jobs : Actor → JobState) {floor : Stamp} (r : IsRunning m journal sources jobs floor)
+    (s : ℕ) (by : CallBy) (c : SourceCall) (old new : Scene) (h : IsCalledNow m journal sources jobs r s by c old new) where
+  -- after the call of an actor that has a job the run goes on, and all know it
+  pub running_call : (jobs' : Actor → JobState) (stamp : Stamp) → stamp ≡ new.source.floor → IsActor m by.actor → 0 < length (jobs by.actor).pending → IsWith m jobs jobs' by.actor (after_call stamp (jobs by.actor))
+      → IsRunning m journal (slice_set sources s new.source) jobs' stamp
+  running_call jobs' stamp is a left w =
+      all_raised m journal (slice_set sources s new.source) jobs' floor by.actor stamp (omega (arith, tick m journal sources jobs r s by c old new h, ap (λ (x : Stamp). x.tick) is))
+      (omega (arith, pos m journal sources jobs r s by c old new h, ap (λ (x : Stamp). x.pos) is))
+      (going_call m journal sources jobs r s by c old new h jobs' (moved_one floor by.actor stamp) stamp is a left w (is_moved_one floor by.actor stamp))
+
+  -- so after an expiry
+  pub running_expire : (stamp : Stamp) → stamp ≡ new.source.floor → ((other : Actor) → IsActor m other → is_same by.actor other ≡ false) → IsRunning m journal (slice_set sources s new.source) jobs stamp
+  running_expire stamp is none =
+      all_raised m journal (slice_set sources s new.source) jobs floor by.actor stamp (omega (arith, tick m journal sources jobs r s by c old new h, ap (λ (x : Stamp). x.tick) is))
+      (omega (arith, pos m journal sources jobs r s by c old new h, ap (λ (x : Stamp). x.pos) is))
+      (going_expire m journal sources jobs r s by c old new h (moved_one floor by.actor stamp) stamp is none (is_moved_one floor by.actor stamp))

@@ -71,7 +71,7 @@ kept_short (x ∷ sources) h =
 
 -- ---- the end of a run
 
-module _ (m : Machine) (journal : List JournalEntry) (sources : List SourceState) (jobs : Actor → JobState) (floor : Stamp) (r : IsRunning m journal sources jobs floor) where
+module _ (m : Machine) (journal : List JournalEntry) (sources : List SourceState) (jobs : Actor → JobState) {floor : Stamp} (r : IsRunning m journal sources jobs floor) where
   abbrev all : Made
   all = made_so journal sources r.own
 
@@ -94,7 +94,7 @@ module _ (m : Machine) (journal : List JournalEntry) (sources : List SourceState
     behind = λ s.
         ap (list_all (λ e. nat_le (position_behind e) (position word))) (kept_at sources s)
         ∙ all_reverse (λ (e : JournalEntry). nat_le (position_behind e) (position word)) (of_sources sources s)
-        (all_weaker (λ e. knows floor (e ∷ [])) (λ e. nat_le (position_behind e) (position word)) (of_sources sources s) below ((all_known m journal sources jobs floor r).1 s));
+        (all_weaker (λ e. knows floor (e ∷ [])) (λ e. nat_le (position_behind e) (position word)) (of_sources sources s) below ((all_known m journal sources jobs r).1 s));
   }
     where
       second : (a b : Bool) → (a && b) ≡ true → b ≡ true

@@ -14,7 +14,6 @@ use Rattle.sleep_core.specs.Cores.{IsActor}
 use Rattle.wakeup_source.specs.SourceStates.{IsSettled, SourceState, new_source}
 use Rattle.fit_laws.specs.Ranged.{is_told}
 use Rattle.run_laws.specs.Acts.{bare}
-use Rattle.run_laws.specs.Called.{knows}
 use Rattle.run_laws.specs.Held.{Held, nothing}
 use Rattle.run_laws.proofs.Held.{nothing_is_held}
 use Rattle.running_laws.specs.Running.{IsRunning, IsSourceOf, histories, made_so, of_sources}
@@ -55,6 +54,6 @@ module _ (m : Machine) (sources : List SourceState) (count : length sources ≡ 
     jobs_are = λ who a.
         subst (λ (n : ℕ). IsJobOf m who [] n (jobs who)) (sym (none_made (length m.sources + 1) (histories sources) who (λ s. ap bare (none_yet s))))
         (subst (λ (j : JobState). IsJobOf m who [] 0 j) (sym (first who a)) (first_is_job m who));
-    floor_knows = record { journal = refl; sources = λ s. ap (knows no_stamp) (none_yet s); own = λ who. refl };
+    floors_know = record { own = λ who. refl; jumps = λ who. tt };
     told = (refl, λ s. ap (list_all (λ e. is_told m e.entry)) (none_yet s));
   }

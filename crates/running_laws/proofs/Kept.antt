@@ -1,5 +1,10 @@
 -- What is so of a run between turns.
-use Rattle.std.proofs.Common.{◌≡◌, ◌≤◌, ◌<◌, ◌+◌, ◌∙◌, ℕ, suc, Bool, true, false, ◌||◌, nat_lt, List, [], ◌∷◌, length, slice_index_or, refl, sym, ap, subst, arith}
+use Rattle.std.proofs.Common.{◌≡◌, ◌≤◌, ◌<◌, ◌+◌, ◌∙◌, ℕ, suc, Bool, true, false, ◌||◌, nat_lt, List, [], ◌∷◌, length, slice_index_or, refl, sym, ap, subst, arith, nat_le, ◌&&◌}
+use Rattle.log_merge.proofs.Reading.{both_left}
+use Rattle.merge_laws.proofs.Lists.{all_head}
+use Rattle.sleep_core.specs.Histories.{last_stamp}
+use Rattle.sleep_model.specs.Merge.{position_behind}
+use Rattle.std.specs.List.{list_all}
 use Rattle.std.proofs.lemmas.Bool.Decides.{nat_tests}
 use Rattle.sleep_model.specs.declared.entry.Actor.{Actor}
 use Rattle.sleep_model.specs.declared.entry.Actor.TheVariants as actor
@@ -22,10 +27,10 @@ use Rattle.wakeup_source.specs.SourceStates.{SourceState}
 use Rattle.wakeup_source.specs.SourceStates as states
 use Rattle.run_laws.specs.Acts.{IsFree, Made, bare}
 use Rattle.run_laws.specs.Called.{knows}
-use Rattle.run_laws.specs.Held.{AllOf, EachJump}
+use Rattle.run_laws.specs.Held.{AllOf}
 use Rattle.run_laws.proofs.Jobs.{settled_is_free}
-use Rattle.running_laws.specs.Running.{IsRunning, calls_made, histories, made_so, of_sources}
-use Rattle.running_laws.proofs.Known.{few_made, knows_each, knows_jumps, made_is_notes}
+use Rattle.running_laws.specs.Running.{IsGoing, IsRunning, calls_made, histories, made_so, of_sources}
+use Rattle.running_laws.proofs.Known.{all_by_own, few_made, made_is_notes}
 use Rattle.running_laws.proofs.Lists.{history_at, source_beyond}
 
 -- an actor is the machine's
@@ -36,7 +41,7 @@ actor_told m (actor.Dev d) h = let is : nat_lt d (length m.devices) ≡ true = g
 actor_told m (actor.Timer s) h = absurd h
 actor_told m actor.Time h = refl
 
-module _ (m : Machine) (journal : List JournalEntry) (sources : List SourceState) (jobs : Actor → JobState) (floor : Stamp) (r : IsRunning m journal sources jobs floor) where
+module _ (m : Machine) (journal : List JournalEntry) (sources : List SourceState) (jobs : Actor → JobState) {floors : Actor → Stamp} (r : IsGoing m journal sources jobs floors) where
   abbrev pub all : Made
   all = made_so journal sources r.own
 
@@ -75,17 +80,6 @@ module _ (m : Machine) (journal : List JournalEntry) (sources : List SourceState
   pub few_calls : (who : Actor) → calls_made m sources who ≤ 15360000
   few_calls who = omega (arith, few_made (length m.sources + 1) (histories sources) who short, r.accepted.sources)
 
-  -- ---- what the stamp knows
-
-  pub all_known : AllOf (λ e. knows floor (e ∷ [])) all
-  all_known = (
-    knows_each floor journal r.held.journal_falls r.floor_knows.journal,
-    λ s. knows_each floor (of_sources sources s) (r.held.sources_fall s) (r.floor_knows.sources s),
-  )
-
-  pub jumps_known : EachJump (λ jump. knows floor (jump ∷ []) ≡ true) journal
-  jumps_known = knows_jumps floor journal all_known.0
-
   -- ---- the jobs
 
   -- an actor's calls are its notes
@@ -104,3 +98,19 @@ module _ (m : Machine) (journal : List JournalEntry) (sources : List SourceState
   enabled_is now who n e =
       ap (λ k. nat_lt k (calls_due m who (entries journal)) || is_made (due m (entries journal) who now)) e
       ∙ ap (λ b. b || nat_lt (calls_made m sources who) (calls_due m who (entries journal)) || is_made (due m (entries journal) who now)) (sym (free who))
+
+-- with one worker the one stamp knows all
+pub all_known : (m : Machine) (journal : List JournalEntry) (sources : List SourceState) (jobs : Actor → JobState) {floor : Stamp} (r : IsRunning m journal sources jobs floor)
+    → AllOf (λ e. knows floor (e ∷ [])) (made_so journal sources r.own)
+all_known m journal sources jobs {floor} r = all_by_own m (made_so journal sources r.own) floor r.held r.floors_know.own
+
+-- so no stamp of the journal is above it
+pub last_known : (m : Machine) (journal : List JournalEntry) (sources : List SourceState) (jobs : Actor → JobState) {floor : Stamp} → IsRunning m journal sources jobs floor → (last_stamp journal).tick ≤ floor.tick
+last_known m journal sources jobs {floor} r = by journal (all_known m journal sources jobs r).0
+  where
+    by : (l : List JournalEntry) → list_all (λ e. knows floor (e ∷ [])) l ≡ true → (last_stamp l).tick ≤ floor.tick
+    by [] h = omega arith
+    by (e ∷ l) h =
+        let here : nat_le e.stamp.tick floor.tick && nat_le (position_behind e) floor.pos ≡ true = all_head (λ (x : JournalEntry). knows floor (x ∷ [])) e l h in
+        let tick : nat_le e.stamp.tick floor.tick ≡ true = both_left (nat_le e.stamp.tick floor.tick) (nat_le (position_behind e) floor.pos) here in
+        grind (arith, nat_tests)

@@ -14,12 +14,12 @@ use Rattle.sleep_model.specs.Parts.{Part, OfJournal, Notes, Moves, OfTime, part_
 use Rattle.sleep_model.specs.Path.{is_same}
 use Rattle.sleep_model.specs.Sources.{history, is_of}
 use Rattle.log_merge.proofs.Reading.{both}
-use Rattle.merge_laws.specs.Apart.{own_of}
-use Rattle.merge_laws.proofs.Calling.{made_own}
-use Rattle.merge_laws.proofs.Lists.{all_map, filter_map_through}
+use Rattle.merge_laws.specs.Apart.{is_journals, own_of}
+use Rattle.merge_laws.proofs.Calling.{made_own, same_actor}
+use Rattle.merge_laws.proofs.Lists.{all_head, all_map, all_more, all_tail, filter_map_through}
 use Rattle.run_laws.specs.Acts.{Made, bare}
 use Rattle.run_laws.specs.Called.{knows}
-use Rattle.run_laws.specs.Held.{EachJump, Held, falls, follows}
+use Rattle.run_laws.specs.Held.{AllOf, EachJump, Held, falls, follows}
 
 -- ---- what a stamp knows
 
@@ -72,6 +72,40 @@ knows_jumps floor (e ∷ l) h = (
   λ jump. first (knows floor (e ∷ [])) (list_all (λ e. knows floor (e ∷ [])) l) h,
   knows_jumps floor l (second (knows floor (e ∷ [])) (list_all (λ e. knows floor (e ∷ [])) l) h),
 )
+
+-- what each actor's entries pass, all pass
+pub all_by_actor : (q : JournalEntry → Bool) (l : List JournalEntry) → ((who : Actor) → list_all q (entries_of who l) ≡ true) → list_all q l ≡ true
+all_by_actor q [] h = refl
+all_by_actor q (e ∷ l) h =
+    both (q e) (list_all q l)
+    (all_head q e (entries_of e.entry.actor l) (ap (λ (b : Bool). list_all q (cond b (e ∷ entries_of e.entry.actor l) (entries_of e.entry.actor l))) (sym (same_actor e.entry.actor)) ∙ h e.entry.actor))
+    (all_by_actor q l (λ who. rest who (is_same e.entry.actor who) (h who)))
+  where
+    rest : (who : Actor) (b : Bool) → list_all q (cond b (e ∷ entries_of who l) (entries_of who l)) ≡ true → list_all q (entries_of who l) ≡ true
+    rest who true g = all_tail q e (entries_of who l) g
+    rest who false g = g
+
+-- and what all pass, those pass that pass another test
+all_filtered : (q p : JournalEntry → Bool) (l : List JournalEntry) → list_all q l ≡ true → list_all q (filter p l) ≡ true
+all_filtered q p [] h = refl
+all_filtered q p (e ∷ l) h = by (p e) (all_filtered q p l (all_tail q e l h))
+  where
+    by : (b : Bool) → list_all q (filter p l) ≡ true → list_all q (cond b (e ∷ filter p l) (filter p l)) ≡ true
+    by true rest = all_more q e (filter p l) (all_head q e l h) rest
+    by false rest = rest
+
+-- who knows each actor's own entries knows all
+pub all_by_own : (m : Machine) (all : Made) (floor : Stamp) → Held m all → ((who : Actor) → knows floor (all.own who) ≡ true) → AllOf (λ e. knows floor (e ∷ [])) all
+all_by_own m all floor held h = (
+  all_by_actor q all.journal (λ who. ap (list_all q) (sym (held.steps.of_actors who).in_journal) ∙ all_filtered q is_journals (all.own who) (own who)),
+  λ s. all_by_actor q (all.of s) (λ who. ap (list_all q) (sym ((held.steps.of_actors who).in_sources s)) ∙ all_filtered q (λ e. is_of s (part_of e.entry.kind)) (all.own who) (own who)),
+)
+  where
+    q : JournalEntry → Bool
+    q e = knows floor (e ∷ [])
+
+    own : (who : Actor) → list_all q (all.own who) ≡ true
+    own who = knows_each floor (all.own who) (held.own_fall who) (h who)
 
 -- ---- the calls that an actor has made
 

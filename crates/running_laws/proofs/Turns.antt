@@ -1,5 +1,5 @@
 -- Turns and jumps keep what a run keeps.
-use Rattle.std.proofs.Common.{◌≡◌, ◌≤◌, ◌∙◌, ℕ, Bool, true, false, List, [], ◌∷◌, refl, sym, ap, subst, arith}
+use Rattle.std.proofs.Common.{◌≡◌, ◌≤◌, ◌∙◌, ℕ, Bool, true, false, List, [], ◌∷◌, refl, sym, ap, subst, arith, ap₂, cond}
 use Rattle.std.specs.List.{list_all}
 use Rattle.sleep_model.specs.declared.entry.Actor.{Actor}
 use Rattle.sleep_model.specs.declared.entry.Actor.TheVariants as actor
@@ -12,7 +12,9 @@ use Rattle.sleep_model.specs.declared.word.Stamp.{Stamp}
 use Rattle.sleep_model.specs.Calls.{calls_due}
 use Rattle.sleep_model.specs.Fits.{is_word64}
 use Rattle.sleep_model.specs.Legal.{JournalPart, JumpStep}
+use Rattle.sleep_model.specs.Merge.{is_jump}
 use Rattle.sleep_model.specs.Numbers.{time_of}
+use Rattle.sleep_model.specs.Parts.{OfJournal, part_of}
 use Rattle.sleep_model.specs.Path.{attempts, is_same}
 use Rattle.sleep_model.specs.Word.{position}
 use Rattle.sleep_state.specs.Places.{entries}
@@ -26,15 +28,14 @@ use Rattle.log_merge.proofs.Reading.{both}
 use Rattle.merge_laws.proofs.Calling.{same_actor}
 use Rattle.run_laws.specs.Acts.{Made, with_entry}
 use Rattle.run_laws.specs.Called.{knows}
-use Rattle.run_laws.specs.Held.{Held}
+use Rattle.run_laws.specs.Held.{EachJump, Held}
 use Rattle.run_laws.specs.Turned.{IsTurned, MayLeap, MayTurn, newest_stamp}
 use Rattle.run_laws.proofs.Acts.{actor_is}
 use Rattle.run_laws.proofs.Called.{knows_itself}
-use Rattle.run_laws.proofs.Turned.{leap_grows, leaves, turn_grows}
-use Rattle.merge_laws.specs.Apart.{is_journals}
-use Rattle.merge_laws.proofs.Lists.{all_head}
-use Rattle.running_laws.specs.Running.{AreJobs, IsRunning, IsWith, KnowsAll, calls_made, histories, made_so, of_sources}
-use Rattle.running_laws.proofs.Kept.{actor_told, all_known, calls_are_notes, free, jumps_known}
+use Rattle.run_laws.proofs.Held.{each_by}
+use Rattle.run_laws.proofs.Turned.{leap_grows, leaves, turn_grows, turn_part}
+use Rattle.running_laws.specs.Running.{AreJobs, FloorsKnow, IsGoing, IsMoved, IsRunning, IsWith, calls_made, histories, made_so}
+use Rattle.running_laws.proofs.Kept.{actor_told, all_known, calls_are_notes, free}
 use Rattle.running_laws.proofs.Known.{knows_more}
 use Rattle.running_laws.proofs.Lists.{entries_bare}
 
@@ -50,13 +51,28 @@ timeless m (actor.Dev d) h = refl
 timeless m (actor.Timer s) h = absurd h
 timeless m actor.Time h = absurd h
 
-module _ (m : Machine) (journal : List JournalEntry) (sources : List SourceState) (jobs : Actor → JobState) (floor : Stamp) (r : IsRunning m journal sources jobs floor) where
-  abbrev past : Made
-  past = made_so journal sources r.own
+-- ---- what actors know
 
-  -- what an entry of the journal leaves
-  behind_own : JournalEntry → Actor → List JournalEntry
-  behind_own e = (with_entry e past).own
+-- who knows more goes on knowing
+pub raised : (m : Machine) (journal : List JournalEntry) (sources : List SourceState) (jobs : Actor → JobState) (floors later : Actor → Stamp) → ((who : Actor) → (floors who).tick ≤ (later who).tick)
+    → ((who : Actor) → (floors who).pos ≤ (later who).pos) → IsGoing m journal sources jobs floors → IsGoing m journal sources jobs later
+raised m journal sources jobs floors later tick pos g = record {
+  accepted = g.accepted;
+  own = g.own;
+  held = g.held;
+  sources_are = g.sources_are;
+  jobs_are = g.jobs_are;
+  floors_know = record {
+    own = λ who. knows_more (floors who) (later who) (g.own who) (tick who) (pos who) (g.floors_know.own who);
+    jumps = λ who. each_by (λ jump. knows (floors who) (jump ∷ []) ≡ true) (λ jump. knows (later who) (jump ∷ []) ≡ true) journal
+        (λ jump. knows_more (floors who) (later who) (jump ∷ []) (tick who) (pos who)) (g.floors_know.jumps who);
+  };
+  told = g.told;
+}
+
+module _ (m : Machine) (journal : List JournalEntry) (sources : List SourceState) (jobs : Actor → JobState) {floors : Actor → Stamp} (g : IsGoing m journal sources jobs floors) where
+  abbrev past : Made
+  past = made_so journal sources g.own
 
   -- ---- an entry of the journal, of an actor or of time
 
@@ -64,55 +80,67 @@ module _ (m : Machine) (journal : List JournalEntry) (sources : List SourceState
     is_so : with_entry e past ≡ made_so (e ∷ journal) sources (with_entry e past).own
     is_so = λ i. record { journal = t.journal i; of = λ s. t.sources s i; own = (with_entry e past).own }
 
-    held : Held m (made_so (e ∷ journal) sources (with_entry e past).own)
-    held = subst (Held m) is_so t.held
-
-    known : floor.tick ≤ e.stamp.tick → floor.pos ≤ e.stamp.pos → KnowsAll e.stamp (made_so (e ∷ journal) sources (with_entry e past).own)
-    known tick pos = record {
-      journal = knows_itself e journal e.stamp refl (leaves e (all_head is_journals e journal held.kept));
-      sources = λ s. knows_more floor e.stamp (of_sources sources s) tick pos (r.floor_knows.sources s);
-      own = λ other. by other (is_same who other) refl;
-    }
+    -- the actor's stamp is the entry's, and the others' know as much as they knew
+    own_known : (floors' : Actor → Stamp) → IsMoved floors floors' who e.stamp → (other : Actor) → knows (floors' other) ((with_entry e past).own other) ≡ true
+    own_known floors' w other = by (is_same who other) refl
       where
-        by : (other : Actor) (b : Bool) → is_same who other ≡ b → knows e.stamp ((with_entry e past).own other) ≡ true
-        by other true is = ap (λ (w : Actor). knows e.stamp ((with_entry e past).own w)) (sym (actor_is who other is)) ∙ t.own
-        by other false is = ap (knows e.stamp) (t.others_own other is) ∙ knows_more floor e.stamp (r.own other) tick pos (r.floor_knows.own other)
+        by : (b : Bool) → is_same who other ≡ b → knows (floors' other) ((with_entry e past).own other) ≡ true
+        by true is =
+            ap (λ (x : Actor). knows (floors' x) ((with_entry e past).own x)) (sym (actor_is who other is))
+            ∙ (ap (λ (f : Stamp). knows f ((with_entry e past).own who)) w.same ∙ t.own)
+        by false is = ap₂ knows (w.others other is) (t.others_own other is) ∙ g.floors_know.own other
 
     -- the run goes on
-    goes_on : (jobs' : Actor → JobState) → floor.tick ≤ e.stamp.tick → floor.pos ≤ e.stamp.pos → AreJobs m (e ∷ journal) sources jobs' → is_told m e.entry ≡ true → IsRunning m (e ∷ journal) sources jobs' e.stamp
-    goes_on jobs' tick pos are told = record {
-      accepted = r.accepted;
+    goes_on : (jobs' : Actor → JobState) (floors' : Actor → Stamp) → FloorsKnow floors' (made_so (e ∷ journal) sources (with_entry e past).own) → AreJobs m (e ∷ journal) sources jobs' → is_told m e.entry ≡ true
+        → IsGoing m (e ∷ journal) sources jobs' floors'
+    goes_on jobs' floors' known are told = record {
+      accepted = g.accepted;
       own = (with_entry e past).own;
-      held = held;
-      sources_are = r.sources_are;
+      held = subst (Held m) is_so t.held;
+      sources_are = g.sources_are;
       jobs_are = are;
-      floor_knows = known tick pos;
-      told = (both (is_told m e.entry) (list_all (λ e. is_told m e.entry) journal) told r.told.0, r.told.1);
+      floors_know = known;
+      told = (both (is_told m e.entry) (list_all (λ e. is_told m e.entry) journal) told g.told.0, g.told.1);
     }
 
   -- ---- a turn
 
   module _ (who : Actor) (word : EventNow) (k : Kind) (a : IsActor m who) (made : calls_made m sources who ≡ calls_due m who (entries journal))
-      (low : floor.pos ≤ position word) (last : (last_stamp journal).pos ≤ position word) (legal : JournalPart m (entries (made_entry journal who word floor k ∷ journal))) where
+      (low : (floors who).pos ≤ position word) (last : (last_stamp journal).pos ≤ position word) (legal : JournalPart m (entries (made_entry journal who word (floors who) k ∷ journal))) where
     abbrev entry : JournalEntry
-    entry = made_entry journal who word floor k
+    entry = made_entry journal who word (floors who) k
 
-    may : MayTurn m past who floor entry
+    may : MayTurn m past who (floors who) entry
     may = record {
-      held = r.held;
+      held = g.held;
       by = refl;
       timeless = timeless m who a;
-      free = free m journal sources jobs floor r who;
-      all_made = sym (calls_are_notes m journal sources jobs floor r who) ∙ (made ∙ ap (calls_due m who) (entries_bare journal));
+      free = free m journal sources jobs g who;
+      all_made = sym (calls_are_notes m journal sources jobs g who) ∙ (made ∙ ap (calls_due m who) (entries_bare journal));
       legal = subst (JournalPart m) (entries_bare (entry ∷ journal)) legal;
-      own = r.floor_knows.own who;
-      jumps = jumps_known m journal sources jobs floor r;
+      own = g.floors_know.own who;
+      jumps = g.floors_know.jumps who;
       behind = record { tick = omega arith; pos = low };
       last = record { tick = omega (arith, ap (λ (s : Stamp). s.tick) (last_newest journal)); pos = omega (arith, last, ap (λ (s : Stamp). s.pos) (last_newest journal)) };
     }
 
     turned : IsTurned m past (with_entry entry past) who entry
-    turned = turn_grows m past who floor entry may
+    turned = turn_grows m past who (floors who) entry may
+
+    -- it is no jump
+    part : part_of k ≡ OfJournal
+    part = turn_part m past (floors who) entry may
+
+    jumps_known : (floors' : Actor → Stamp) → IsMoved floors floors' who entry.stamp → (other : Actor) → EachJump (λ jump. knows (floors' other) (jump ∷ []) ≡ true) (entry ∷ journal)
+    jumps_known floors' w other = (λ jump. absurd (let bad : true ≡ false = sym jump ∙ ap is_jump part in cc), by (is_same who other) refl)
+      where
+        by : (b : Bool) → is_same who other ≡ b → EachJump (λ jump. knows (floors' other) (jump ∷ []) ≡ true) journal
+        by true is =
+            subst (λ (x : Actor). EachJump (λ jump. knows (floors' x) (jump ∷ []) ≡ true) journal) (actor_is who other is)
+            (subst (λ (f : Stamp). EachJump (λ jump. knows f (jump ∷ []) ≡ true) journal) (sym w.same)
+            (each_by (λ jump. knows (floors who) (jump ∷ []) ≡ true) (λ jump. knows entry.stamp (jump ∷ []) ≡ true) journal
+            (λ jump. knows_more (floors who) entry.stamp (jump ∷ []) (omega arith) low) (g.floors_know.jumps who)))
+        by false is = subst (λ (f : Stamp). EachJump (λ jump. knows f (jump ∷ []) ≡ true) journal) (sym (w.others other is)) (g.floors_know.jumps other)
 
     are_jobs : (jobs' : Actor → JobState) (stamp : Stamp) (attempt : ℕ) → attempt ≡ attempts (entries (entry ∷ journal)) → IsWith m jobs jobs' who (after_turn stamp k attempt (jobs who)) → AreJobs m (entry ∷ journal) sources jobs'
     are_jobs jobs' stamp attempt begun w other b = by (is_same who other) refl
@@ -121,18 +149,55 @@ module _ (m : Machine) (journal : List JournalEntry) (sources : List SourceState
         by true is =
             subst (λ (x : Actor). IsJobOf m x (entries (entry ∷ journal)) (calls_made m sources x) (jobs' x)) (actor_is who other is)
             (subst (λ (j : JobState). IsJobOf m who (entries (entry ∷ journal)) (calls_made m sources who) j) (sym w.same)
-            (own_entry m who entry.entry (entries journal) (calls_made m sources who) (jobs who) stamp attempt (same_actor who) begun made (r.jobs_are who a)))
+            (own_entry m who entry.entry (entries journal) (calls_made m sources who) (jobs who) stamp attempt (same_actor who) begun made (g.jobs_are who a)))
         by false is =
             subst (λ (j : JobState). IsJobOf m other (entries (entry ∷ journal)) (calls_made m sources other) j) (sym (w.others other b is))
-            (other_entry m other entry.entry (entries journal) (calls_made m sources other) (jobs other) is (r.jobs_are other b))
+            (other_entry m other entry.entry (entries journal) (calls_made m sources other) (jobs other) is (g.jobs_are other b))
 
     -- after a turn of an actor that has made its calls the run goes on
-    pub running_turn : (jobs' : Actor → JobState) (stamp : Stamp) (attempt : ℕ) → stamp ≡ next_stamp journal floor word → attempt ≡ attempts (entries (entry ∷ journal)) → IsWith m jobs jobs' who (after_turn stamp k attempt (jobs who))
-        → is_word64 (time_of (entries journal)) ≡ true → is_ranged k ≡ true → IsRunning m (entry ∷ journal) sources jobs' stamp
-    running_turn jobs' stamp attempt s begun w timed ranged =
-        subst (λ (x : Stamp). IsRunning m (entry ∷ journal) sources jobs' x) (sym s)
-        (goes_on who entry turned jobs' (omega arith) low (are_jobs jobs' stamp attempt begun w)
-        (both _ _ (both _ _ timed (actor_told m who a)) ranged))
+    pub going_turn : (jobs' : Actor → JobState) (floors' : Actor → Stamp) (stamp : Stamp) (attempt : ℕ) → stamp ≡ next_stamp journal (floors who) word → attempt ≡ attempts (entries (entry ∷ journal))
+        → IsWith m jobs jobs' who (after_turn stamp k attempt (jobs who)) → IsMoved floors floors' who stamp
+        → is_word64 (time_of (entries journal)) ≡ true → is_ranged k ≡ true → IsGoing m (entry ∷ journal) sources jobs' floors'
+    going_turn jobs' floors' stamp attempt s begun w moved timed ranged =
+        let here : IsMoved floors floors' who entry.stamp = subst (IsMoved floors floors' who) s moved in
+        goes_on who entry turned jobs' floors' (record { own = own_known who entry turned floors' here; jumps = jumps_known floors' here }) (are_jobs jobs' stamp attempt begun w)
+        (both _ _ (both _ _ timed (actor_told m who a)) ranged)
+
+-- ---- with one worker
+
+-- one actor's stamp, where all others know another
+abbrev pub moved_one : Stamp → Actor → Stamp → Actor → Stamp
+moved_one floor who stamp other = cond (is_same who other) stamp floor
+
+pub is_moved_one : (floor : Stamp) (who : Actor) (stamp : Stamp) → IsMoved (λ other. floor) (moved_one floor who stamp) who stamp
+is_moved_one floor who stamp = record {
+  same = ap (λ (b : Bool). cond b stamp floor) (same_actor who);
+  others = λ other is. ap (λ (b : Bool). cond b stamp floor) is;
+}
+
+-- all come to know what one knows, where that is no less
+pub all_raised : (m : Machine) (journal : List JournalEntry) (sources : List SourceState) (jobs : Actor → JobState) (floor : Stamp) (who : Actor) (stamp : Stamp) → floor.tick ≤ stamp.tick → floor.pos ≤ stamp.pos
+    → IsGoing m journal sources jobs (moved_one floor who stamp) → IsRunning m journal sources jobs stamp
+all_raised m journal sources jobs floor who stamp tick pos g =
+    raised m journal sources jobs (moved_one floor who stamp) (λ other. stamp) (λ other. ticks (is_same who other)) (λ other. places (is_same who other)) g
+  where
+    ticks : (b : Bool) → (cond b stamp floor).tick ≤ stamp.tick
+    ticks true = omega arith
+    ticks false = tick
+
+    places : (b : Bool) → (cond b stamp floor).pos ≤ stamp.pos
+    places true = omega arith
+    places false = pos
+
+module _ (m : Machine) (journal : List JournalEntry) (sources : List SourceState) (jobs : Actor → JobState) {floor : Stamp} (r : IsRunning m journal sources jobs floor) where
+  -- after a turn the run goes on
+  pub running_turn : (who : Actor) (word : EventNow) (k : Kind) → IsActor m who → calls_made m sources who ≡ calls_due m who (entries journal) → floor.pos ≤ position word → (last_stamp journal).pos ≤ position word
+      → JournalPart m (entries (made_entry journal who word floor k ∷ journal)) → (jobs' : Actor → JobState) (stamp : Stamp) (attempt : ℕ) → stamp ≡ next_stamp journal floor word
+      → attempt ≡ attempts (entries (made_entry journal who word floor k ∷ journal)) → IsWith m jobs jobs' who (after_turn stamp k attempt (jobs who))
+      → is_word64 (time_of (entries journal)) ≡ true → is_ranged k ≡ true → IsRunning m (made_entry journal who word floor k ∷ journal) sources jobs' stamp
+  running_turn who word k a made low last legal jobs' stamp attempt s begun w timed ranged =
+      all_raised m (made_entry journal who word floor k ∷ journal) sources jobs' floor who stamp (omega (arith, ap (λ (x : Stamp). x.tick) s)) (omega (arith, low, ap (λ (x : Stamp). x.pos) s))
+      (going_turn m journal sources jobs r who word k a made low last legal jobs' (moved_one floor who stamp) stamp attempt s begun w (is_moved_one floor who stamp) timed ranged)
 
   -- ---- a jump of time
 
@@ -141,17 +206,20 @@ module _ (m : Machine) (journal : List JournalEntry) (sources : List SourceState
     abbrev jump : JournalEntry
     jump = jump_entry journal word to floor
 
-    may_leap : MayLeap m past floor jump
+    may_leap : MayLeap m (made_so journal sources r.own) floor jump
     may_leap = record {
       held = r.held;
       by = refl;
       leaps = refl;
       step = subst (λ (xs : List Entry). JumpStep m xs (histories sources) word to) (entries_bare journal) step;
       legal = subst (JournalPart m) (entries_bare (jump ∷ journal)) legal;
-      all = all_known m journal sources jobs floor r;
-      own = r.floor_knows.own actor.Time;
+      all = all_known m journal sources jobs r;
+      own = r.floors_know.own actor.Time;
       behind = record { tick = omega arith; pos = low };
     }
+
+    leapt : IsTurned m (made_so journal sources r.own) (with_entry jump (made_so journal sources r.own)) actor.Time jump
+    leapt = leap_grows m (made_so journal sources r.own) floor jump may_leap
 
     time_same : (who : Actor) → IsActor m who → is_same actor.Time who ≡ false
     time_same (actor.Script i) h = refl
@@ -160,10 +228,21 @@ module _ (m : Machine) (journal : List JournalEntry) (sources : List SourceState
     time_same (actor.Timer s) h = absurd h
     time_same actor.Time h = absurd h
 
-    -- after a jump the run goes on
+    own_all : (other : Actor) (b : Bool) → is_same actor.Time other ≡ b → knows jump.stamp ((with_entry jump (made_so journal sources r.own)).own other) ≡ true
+    own_all other true is = ap (λ (x : Actor). knows jump.stamp ((with_entry jump (made_so journal sources r.own)).own x)) (sym (actor_is actor.Time other is)) ∙ leapt.own
+    own_all other false is = ap (knows jump.stamp) (leapt.others_own other is) ∙ knows_more floor jump.stamp (r.own other) (omega arith) low (r.floors_know.own other)
+
+    -- after a jump the run goes on, and all know it
     pub running_jump : (stamp : Stamp) → stamp ≡ next_stamp journal floor word → is_word64 to ≡ true → IsRunning m (jump ∷ journal) sources jobs stamp
     running_jump stamp s timed =
         subst (λ (x : Stamp). IsRunning m (jump ∷ journal) sources jobs x) (sym s)
-        (goes_on actor.Time jump (leap_grows m past floor jump may_leap) jobs (omega arith) low
+        (goes_on m journal sources jobs r actor.Time jump leapt jobs (λ other. jump.stamp)
+        (record {
+          own = λ other. own_all other (is_same actor.Time other) refl;
+          jumps = λ other. (
+            λ leaps. knows_itself jump [] jump.stamp refl (leaves jump refl),
+            each_by (λ jump'. knows floor (jump' ∷ []) ≡ true) (λ jump'. knows jump.stamp (jump' ∷ []) ≡ true) journal (λ jump'. knows_more floor jump.stamp (jump' ∷ []) (omega arith) low) (r.floors_know.jumps other),
+          );
+        })
         (λ other b. other_entry m other jump.entry (entries journal) (calls_made m sources other) (jobs other) (time_same other b) (r.jobs_are other b))
         (both _ _ (both _ _ timed refl) refl))

@@ -18,7 +18,7 @@ use Rattle.wakeup_source.specs.SourceStates.{IsSettled, SourceState}
 use Rattle.fit_laws.specs.Ranged.{is_told}
 use Rattle.run_laws.specs.Acts.{Made, bare}
 use Rattle.run_laws.specs.Called.{knows}
-use Rattle.run_laws.specs.Held.{AllOf, Held}
+use Rattle.run_laws.specs.Held.{AllOf, EachJump, Held}
 
 -- ---- the sources
 
@@ -73,20 +73,29 @@ pub record IsWith (m : Machine) (old new : Actor → JobState) (who : Actor) (jo
 abbrev pub made_so : List JournalEntry → List SourceState → (Actor → List JournalEntry) → Made
 made_so journal sources own = record { journal = journal; of = of_sources sources; own = own }
 
--- who last knew that stamp knew all of these
-pub record KnowsAll (floor : Stamp) (made : Made) : Type 0 where
-  pub journal : knows floor made.journal ≡ true
-  pub sources : (s : ℕ) → knows floor (made.of s) ≡ true
-  pub own : (who : Actor) → knows floor (made.own who) ≡ true
+-- each actor's last stamp knows its own entries and each jump
+pub record FloorsKnow (floors : Actor → Stamp) (made : Made) : Type 0 where
+  pub own : (who : Actor) → knows (floors who) (made.own who) ≡ true
+  pub jumps : (who : Actor) → EachJump (λ jump. knows (floors who) (jump ∷ []) ≡ true) made.journal
 
--- what a run keeps, between turns: all that is known of what was made, sources that are between calls, and jobs that stand where it has brought them; the stamp is at or above all of it
-pub record IsRunning
-    (m : Machine) (journal : List JournalEntry) (sources : List SourceState) (jobs : Actor → JobState) (floor : Stamp)
-    : Type 0 where
+-- one actor's last stamp is another, and the other actors' are as they were
+pub record IsMoved (old new : Actor → Stamp) (who : Actor) (stamp : Stamp) : Type 0 where
+  pub same : new who ≡ stamp
+  pub others : (other : Actor) → is_same who other ≡ false → new other ≡ old other
+
+-- what a run keeps, between turns: all that is known of what was made, sources that are between calls, jobs that stand where it has brought them, and the last stamp of each actor
+pub record IsGoing
+    (m : Machine) (journal : List JournalEntry) (sources : List SourceState) (jobs : Actor → JobState)
+    (floors : Actor → Stamp) : Type 0 where
   pub accepted : IsAccepted m
   pub own : Actor → List JournalEntry
   pub held : Held m (made_so journal sources own)
   pub sources_are : AreSources m sources
   pub jobs_are : AreJobs m journal sources jobs
-  pub floor_knows : KnowsAll floor (made_so journal sources own)
+  pub floors_know : FloorsKnow floors (made_so journal sources own)
   pub told : AllOf (λ e. is_told m e.entry) (made_so journal sources own)
+
+-- with one worker all actors know one stamp, the last that anybody made
+abbrev pub IsRunning :
+    Machine → List JournalEntry → List SourceState → (Actor → JobState) → Stamp → Type 0
+IsRunning m journal sources jobs floor = IsGoing m journal sources jobs (λ who. floor)

@@ -64,7 +64,7 @@ module _ (r : Inside) (k : KeepsRun r) (s : ℕ) (there : s ≤ length r.machine
       omega (
         arith,
         now,
-        timely r.machine.now r.seated.core.past sources (job_at r.jobs) r.floor k.running s one.source within_sources,
+        timely r.machine.now r.seated.core.past sources (job_at r.jobs) k.running s one.source within_sources,
         ap (λ (x : SourceState). latest (states.bare x.past)) old_is,
       )
 

@@ -43,13 +43,13 @@ module _ (run : RunState) (on : IsGoingOn run) where
   -- one of whom nothing is due is not enabled
   rests : IsCalm run → (now : EventNow) (who : Actor) → IsActor m who → is_made (due m (entries run.journal) who now) ≡ false → is_enabled m (entries run.journal) (histories run.sources) now who ≡ false
   rests calm now who a none =
-      sym (enabled_is m run.journal run.sources on.jobs run.floor on.running now who (calls_made m run.sources who) refl)
+      sym (enabled_is m run.journal run.sources on.jobs on.running now who (calls_made m run.sources who) refl)
       ∙ ap₂ (λ (x y : Bool). x || y) (let all = calm.made who a in let no : nat_lt (calls_made m run.sources who) (calls_due m who (entries run.journal)) ≡ false = grind (arith, nat_tests) in no) none
 
   -- a script that is still is not
   pub script_rests : IsCalm run → (now : EventNow) (i : ℕ) → i < length m.actors → is_still (seat_at (seats (length m.actors) (entries run.journal)) i) (time_of (entries run.journal)) ≡ true
       → is_enabled m (entries run.journal) (histories run.sources) now (actor.Script i) ≡ false
-  script_rests calm now i l still = rests calm now (actor.Script i) l (still_rests m (entries run.journal) now i (legal_journal m run.journal run.sources on.jobs run.floor on.running) calm.closed still)
+  script_rests calm now i l still = rests calm now (actor.Script i) l (still_rests m (entries run.journal) now i (legal_journal m run.journal run.sources on.jobs on.running) calm.closed still)
 
   scripts_rest : IsCalm run → (now : EventNow) → AllStill (seats (length m.actors) (entries run.journal)) (time_of (entries run.journal)) → (n : ℕ) → n ≤ length m.actors
       → none_enabled m (entries run.journal) (histories run.sources) now actor.Script n ≡ true
@@ -66,7 +66,7 @@ module _ (run : RunState) (on : IsGoingOn run) where
   devices_rest calm now zero l = refl
   devices_rest calm now (suc n) l =
       ap₂ (λ (x y : Bool). not x && y)
-      (rests calm now (actor.Dev n) (omega (arith, l)) (device_rests m (entries run.journal) now n (legal_journal m run.journal run.sources on.jobs run.floor on.running) calm.closed))
+      (rests calm now (actor.Dev n) (omega (arith, l)) (device_rests m (entries run.journal) now n (legal_journal m run.journal run.sources on.jobs on.running) calm.closed))
       (devices_rest calm now n (omega (arith, l)))
 
   -- no device is

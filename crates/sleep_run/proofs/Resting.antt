@@ -105,24 +105,24 @@ run_is run k items stats end log merged counted over is ranged = subst (λ (l : 
     m = run.machine
 
     told : list_all (is_told m) (reverse items) ≡ true
-    told = subst (λ (xs : List Entry). list_all (is_told m) (reverse xs) ≡ true) (sym merged) (told_all m run.journal run.sources k.on.jobs run.floor k.on.running)
+    told = subst (λ (xs : List Entry). list_all (is_told m) (reverse xs) ≡ true) (sym merged) (told_all m run.journal run.sources k.on.jobs k.on.running)
 
     by : (end : LogEnd) → EndsSo run end → IsRun m (record { entries = items; stats = stats; end = end })
     by Finished over =
         let log : Log = record { entries = items; stats = stats; end = Finished } in
-        let ends = running_ends m run.journal run.sources k.on.jobs run.floor k.on.running k.laid.steps k.laid.looks k.laid.answer over.0 k.laid.laid (k.laid.seen over.0 over.1.seen) over.1.high log
-        (record { entries = merged; stats = counted ∙ stats_are m run.journal run.sources k.on.jobs run.floor k.on.running }) in
+        let ends = running_ends m run.journal run.sources k.on.jobs k.on.running k.laid.steps k.laid.looks k.laid.answer over.0 k.laid.laid (k.laid.seen over.0 over.1.seen) over.1.high log
+        (record { entries = merged; stats = counted ∙ stats_are m run.journal run.sources k.on.jobs k.on.running }) in
         run_of m log k.on.running.accepted ends.0 (inl (ends.1 refl over.2)) told ranged
     by (Stuck those) over =
         let log : Log = record { entries = items; stats = stats; end = Stuck those } in
-        let ends = running_ends m run.journal run.sources k.on.jobs run.floor k.on.running k.laid.steps k.laid.looks k.laid.answer over.0 k.laid.laid (k.laid.seen over.0 over.1.seen) over.1.high log
-        (record { entries = merged; stats = counted ∙ stats_are m run.journal run.sources k.on.jobs run.floor k.on.running }) in
+        let ends = running_ends m run.journal run.sources k.on.jobs k.on.running k.laid.steps k.laid.looks k.laid.answer over.0 k.laid.laid (k.laid.seen over.0 over.1.seen) over.1.high log
+        (record { entries = merged; stats = counted ∙ stats_are m run.journal run.sources k.on.jobs k.on.running }) in
         run_of m log k.on.running.accepted ends.0 (inr (ends.2 (ap Stuck over.3) over.2.left over.2.idle over.2.timeless)) told ranged
 
 -- why a run of which a call was refused gives nothing, by a look at what is the same run
 pub fault_is : (old run : RunState) (word : EventNow) (given : RunFault) → IsSame old run → IsSeen run word → IsClosed run → IsRefused old given → Fails old.machine given
 fault_is old run word (fault.SourceFull s) same seen k refused =
-    let keeps = running_keeps run.machine run.journal run.sources k.on.jobs run.floor k.on.running k.laid.steps k.laid.looks k.laid.answer word k.laid.laid (k.laid.seen word seen.seen) seen.high s in
+    let keeps = running_keeps run.machine run.journal run.sources k.on.jobs k.on.running k.laid.steps k.laid.looks k.laid.answer word k.laid.laid (k.laid.seen word seen.seen) seen.high s in
     (refused.0, omega (arith, refused.1, keeps, ap (λ (xs : List SourceState). length (of_sources xs s)) same.sources, ap (λ (m : Machine). places m s) same.machine))
 fault_is old run word fault.Mem same seen k refused = tt
 

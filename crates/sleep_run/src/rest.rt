@@ -194,7 +194,8 @@ impl<'m> Run<'m> {
         ensures made { OnOk result (entries_made self.old < entries_made self.new) }
         ensures fault { IfErr result (IsRefused self.new) }
     {
-        wait_unless(rt, to <= LAST_MOMENT && self.floor.tick < u64::MAX);
+        wait_unless(rt, to <= LAST_MOMENT);
+        wait_unless(rt, self.floor.tick < u64::MAX);
         moments_are_ranged(to);
         self.floor = self.seated.jump(word, to, self.floor)?;
         self.waiters.wake_for_time();

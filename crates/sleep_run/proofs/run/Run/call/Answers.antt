@@ -31,12 +31,12 @@ actor : (r : Inside) (s : RunState) → state r ≡ s → (who : Actor) → IsAc
 actor r s same who h = subst (λ (x : RunState). IsActor x.machine who) (sym same) h
 
 there : (r : Inside) → KeepsRun r → (s : RunState) → state r ≡ s → (who : Actor) (source : ℕ) (call : SourceCall) → CallsNext s.machine s.journal s.sources who source call → source ≤ length r.machine.now.sources
-there r k s same who source call h = call_there r.machine.now r.seated.core.past (sources_of r.sources.items) (job_at r.jobs) r.floor k.running who source call (next r s same who source call h)
+there r k s same who source call h = call_there r.machine.now r.seated.core.past (sources_of r.sources.items) (job_at r.jobs) k.running who source call (next r s same who source call h)
 
 left : (r : Inside) → KeepsRun r → (s : RunState) → state r ≡ s → (who : Actor) (source : ℕ) (call : SourceCall) → IsActor s.machine who → CallsNext s.machine s.journal s.sources who source call
     → (0 < length (job_at r.jobs who).pending) × ((job_at r.jobs who).calls + 1 < 2 ^ 32)
 left r k s same who source call a h =
-    call_left r.machine.now r.seated.core.past (sources_of r.sources.items) (job_at r.jobs) r.floor k.running who source call (actor r s same who a) (next r s same who source call h)
+    call_left r.machine.now r.seated.core.past (sources_of r.sources.items) (job_at r.jobs) k.running who source call (actor r s same who a) (next r s same who source call h)
 
 time : (r : Inside) (s : RunState) → state r ≡ s → (core : CoreState) (at : ℕ) → core ≡ record { machine = s.machine; past = s.journal } → at ≡ time_of (entries core.past) → at ≡ time_of (entries r.seated.core.past)
 time r s same core at is now = now ∙ (ap (λ (x : CoreState). time_of (entries x.past)) is ∙ sym (ap (λ (x : RunState). time_of (entries x.journal)) same))
@@ -58,7 +58,7 @@ call-requires-clause-time g c =
 pub call-requires-clause-may : goal.call-requires-clause-may
 call-requires-clause-may g c =
     let r = c.self.inside in
-    call_may r.machine.now r.seated.core.past (sources_of r.sources.items) (job_at r.jobs) r.floor c.self.invariant.running c.args.who c.args.source c.args.call
+    call_may r.machine.now r.seated.core.past (sources_of r.sources.items) (job_at r.jobs) c.self.invariant.running c.args.who c.args.source c.args.call
     (next r c.args.self.now c.self.view_is c.args.who c.args.source c.args.call c.requires.next) _ c.time.result
 
 pub call-requires-clause-table : goal.call-requires-clause-table
@@ -96,11 +96,11 @@ invariant_of-self g c =
     let t = there r k c.args.self.now c.self.view_is who s c.args.call c.requires.next in
     let at = time r c.args.self.now c.self.view_is c.core.result.now c.time.result c.core.ensures.is c.time.ensures.time in
     let by : CallBy = record { actor = who; floor = r.floor; now = c.time.result } in
-    let now : IsCalledNow m journal sources (job_at r.jobs) r.floor k.running s by c.args.call (scene_of one) (scene_of new) = record {
+    let now : IsCalledNow m journal sources (job_at r.jobs) k.running s by c.args.call (scene_of one) (scene_of new) = record {
       there = t;
       old_is = old_is r k s t one is;
-      next = call_is m journal sources (job_at r.jobs) r.floor k.running who s c.args.call a n;
-      may = call_may m journal sources (job_at r.jobs) r.floor k.running who s c.args.call n _ c.time.result;
+      next = call_is m journal sources (job_at r.jobs) k.running who s c.args.call a n;
+      may = call_may m journal sources (job_at r.jobs) k.running who s c.args.call n _ c.time.result;
       floor_is = refl;
       time_is = at;
       calls = c.in-Ok.ensures.calls.1;
@@ -115,7 +115,7 @@ invariant_of-self g c =
       running =
           subst (λ (xs : List SourceState). IsRunning m journal xs (job_at c.told_call.new.self) c.in-Ok.stamp) (sym (sources_set r.sources.items s new))
           (subst (λ (j : JobsState). IsRunning m journal (slice_set sources s new.source) (job_at j) c.in-Ok.stamp) (sym c.told_call.ensures)
-          (running_call m journal sources (job_at r.jobs) r.floor k.running s by c.args.call (scene_of one) (scene_of new) now (job_at jobs') c.in-Ok.stamp c.in-Ok.ensures.calls.0 a
+          (running_call m journal sources (job_at r.jobs) k.running s by c.args.call (scene_of one) (scene_of new) now (job_at jobs') c.in-Ok.stamp c.in-Ok.ensures.calls.0 a
           (left r k c.args.self.now c.self.view_is who s c.args.call c.requires.actor c.requires.next).0 (jobs_with m r.jobs who (after_call c.in-Ok.stamp (job_at r.jobs who)) k.all_jobs a)));
       all_jobs = subst (AreAllJobs m) (sym c.told_call.ensures) (all_jobs_with m r.jobs who (after_call c.in-Ok.stamp (job_at r.jobs who)) k.all_jobs);
       table = k.table;

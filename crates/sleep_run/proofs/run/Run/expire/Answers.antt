@@ -78,7 +78,7 @@ invariant_of-self g c =
     let t = there r c.args.self.now c.self.view_is s c.requires.there in
     let at = time r c.args.self.now c.self.view_is c.core.result.now c.time.result c.core.ensures.is c.time.ensures.time in
     let by : CallBy = record { actor = actor.Timer s; floor = r.floor; now = c.time.result } in
-    let now : IsCalledNow m journal sources (job_at r.jobs) r.floor k.running s by call.Expire (scene_of one) (scene_of new) = record {
+    let now : IsCalledNow m journal sources (job_at r.jobs) k.running s by call.Expire (scene_of one) (scene_of new) = record {
       there = t;
       old_is = old_is r k s t one is;
       next = refl;
@@ -95,7 +95,7 @@ invariant_of-self g c =
       machine_is = k.machine_is;
       running =
           subst (λ (xs : List SourceState). IsRunning m journal xs (job_at r.jobs) c.in-Ok.stamp) (sym (sources_set r.sources.items s new))
-          (running_expire m journal sources (job_at r.jobs) r.floor k.running s by call.Expire (scene_of one) (scene_of new) now c.in-Ok.stamp c.in-Ok.ensures.calls.0 (λ other b. not_timer m s other b));
+          (running_expire m journal sources (job_at r.jobs) k.running s by call.Expire (scene_of one) (scene_of new) now c.in-Ok.stamp c.in-Ok.ensures.calls.0 (λ other b. not_timer m s other b));
       all_jobs = k.all_jobs;
       table = k.table;
       seats = seats_set r.seated.seat r.sources.items s one new k.seats (within r k s t one is) is c.in-Ok.ensures.table c.in-Ok.ensures.number.0;

@@ -16,4 +16,4 @@ returns c =
     let run = goes_on r s c.self.view_is c.self.invariant in
     c.enabled.ensures
     ∙ (ap (λ (x : CoreState). nat_lt c.calls-calls.result (calls_due x.machine c.args.who (entries x.past)) || is_made (due x.machine (entries x.past) c.args.who c.args.word)) c.core.ensures.is
-    ∙ enabled_is s.machine s.journal s.sources (job_at r.jobs) s.floor run c.args.word c.args.who c.calls-calls.result (c.calls-calls.ensures ∙ (run.jobs_are c.args.who c.requires).calls_are))
+    ∙ enabled_is s.machine s.journal s.sources (job_at r.jobs) run c.args.word c.args.who c.calls-calls.result (c.calls-calls.ensures ∙ (run.jobs_are c.args.who c.requires).calls_are))

@@ -11,7 +11,7 @@ merge_journal-requires c =
     let s = c.args.self in
     let on = c.in_ok-journal.ensures.laid.on in
     ap (λ (past : List JournalEntry). rises (reverse past)) c.in_ok-journal.ensures.journal
-    ∙ journal_rises s.machine s.journal s.sources on.jobs s.floor on.running
+    ∙ journal_rises s.machine s.journal s.sources on.jobs on.running
 
 pub returns : goal.returns
 returns c =

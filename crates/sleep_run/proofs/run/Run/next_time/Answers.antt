@@ -16,4 +16,4 @@ pub returns-clause-closed : goal.returns-clause-closed
 returns-clause-closed c word none rests =
     let s = c.args.self.now in
     let on = c.core.ensures.kept in
-    closes s.machine s.journal s.sources on.jobs s.floor on.running word (sym (returns-clause-is c) ∙ none) rests
+    closes s.machine s.journal s.sources on.jobs on.running word (sym (returns-clause-is c) ∙ none) rests

@@ -62,7 +62,7 @@ invariant_of-self-in-Did g c =
       running =
           subst (λ (p : List JournalEntry). IsRunning m p sources (job_at c.told_turn.new.self) c.in-Did.stamp) (sym past)
           (subst (λ (j : JobsState). IsRunning m (e ∷ journal) sources (job_at j) c.in-Did.stamp) (sym c.told_turn.ensures)
-          (running_turn m journal sources (job_at r.jobs) r.floor k.running who t.0 kind a made t.1 t.2 (legal_after r k new.core e did.1 c.in_ok-turn.ensures.legal)
+          (running_turn m journal sources (job_at r.jobs) k.running who t.0 kind a made t.1 t.2 (legal_after r k new.core e did.1 c.in_ok-turn.ensures.legal)
           (job_at (with_job r.jobs who job)) c.in-Did.stamp c.in-Did.attempt did.2 (did.3 ∙ ap (λ (p : List JournalEntry). attempts (entries p)) past)
           (jobs_with m r.jobs who job k.all_jobs a) timed c.kinds_are_ranged.ensures));
       all_jobs = subst (AreAllJobs m) (sym c.told_turn.ensures) (all_jobs_with m r.jobs who job k.all_jobs);

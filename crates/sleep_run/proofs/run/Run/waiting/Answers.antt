@@ -17,7 +17,7 @@ loop-script-preserved c =
     let r = c.self.inside in
     let s = c.args.self.now in
     let count : c.len-script-end.result ≡ length s.machine.actors = subst (λ (s : RunState). c.len-script-end.result ≡ length s.machine.actors) c.self.view_is c.len-script-end.ensures in
-    let closed : maker (entries s.journal) ≡ None = closes s.machine s.journal s.sources (job_at r.jobs) s.floor (goes_on r s c.self.view_is c.self.invariant) c.args.word c.requires.timeless c.requires.idle in
+    let closed : maker (entries s.journal) ≡ None = closes s.machine s.journal s.sources (job_at r.jobs) (goes_on r s c.self.view_is c.self.invariant) c.args.word c.requires.timeless c.requires.idle in
     waits_go_on s.machine (entries s.journal) c.args.word c.loop-script.script (c.loop-script.script + 1) c.loop-script.those.items c.push_waiting.new.those.items c.due-due.result
     closed (omega (arith, count)) refl
     (c.due-due.ensures ∙ ap (λ (x : CoreState). due x.machine (entries x.past) (actor.Script c.loop-script.script) c.args.word) c.core.ensures.is) c.in_ok-push_waiting.ensures c.loop-script.invariant
