@@ -86,6 +86,7 @@ module _ (by : CallBy) (c : SourceCall) (old new : TimedSource) where
         may = h.may;
         calls = h.calls;
         grown = more.1;
+        leaves = h.leaves;
         stamp_is = h.stamp_is;
         gained = placed_more (1 + old.source.source.id) (length old.source.source.past) (notes_of (object.Source old)) (notes_of (object.Source new))
             (notes_on (map of_source old.source.source.past) (map of_source more.0)) (grown_source old.source.source.past new.source.source.past more.0 more.1)

@@ -26,6 +26,7 @@ pub record IsMade (by : CallBy) (call : SourceCall) (old new : SeatedSourceState
   pub settled : IsSettled old.source
   pub may : MayCall call (bare old.source.past) by.now
   pub calls : Calls by call (scene_of old) (scene_of new)
+  pub leaves : IsSettled new.source
   pub stamp_is : stamp ≡ new.source.floor
 
 -- a call that answers a stamp was made; none comes for an expiry alone, whose moment has not come; nothing else changes the source

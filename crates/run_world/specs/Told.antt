@@ -43,6 +43,7 @@ pub record IsReport (by : CallBy) (call : SourceCall) (s : ℕ) (stamp : Stamp) 
   pub may : MayCall call (bare old.source.past) by.now
   pub calls : Calls by call old new
   pub grown : new.source.past ≡ added ++ old.source.past
+  pub leaves : IsSettled new.source
   pub stamp_is : stamp ≡ new.source.floor
   pub gained : gains ≡ placed (1 + s) (length old.source.past) (notes_on (map of_source old.source.past) (map of_source added))
 

@@ -5,6 +5,7 @@ ghost use Rattle.atomic_table.specs.Seated.{TableId};
 ghost use Rattle.sleep_model.specs.declared.machine.Machine.{Machine};
 ghost use Rattle.turn_lock.specs.Passes.{AreAll as AreAllPasses, first_of};
 ghost use Rattle.turn_lock.specs.Passing.{made_lists, tokens};
+ghost use Rattle.run_objects.specs.Objects.{AreKept, IsSeatedCore, IsSeatedSource};
 ghost use Rattle.run_world.specs.declared.object.WorldObject.TheVariants as variant;
 ghost use Rattle.run_world.specs.Held.{AreAt, AreThose, IsAt, IsClosedWorld, IsMachine, IsThat};
 ghost use Rattle.run_world.specs.Objects.{AreObjects};
@@ -19,10 +20,14 @@ use turn_lock::{LockTable, close_locks};
 /// The machine that the object is.
 fn machine_of<'m>(object: WorldObject<'m>) -> SeatedCore<'m>
     requires { IsMachine object }
-    ensures { object.entry ≡ variant.Machine result }
+    ensures machine { object.entry ≡ variant.Machine result }
+    ensures kept { IsSeatedCore result }
 {
     match object {
-        WorldObject::Machine(machine) => machine,
+        WorldObject::Machine(machine) => {
+            let _kept = machine.core();
+            machine
+        }
         WorldObject::Source(_) => unreachable!(),
     }
 }
@@ -30,10 +35,15 @@ fn machine_of<'m>(object: WorldObject<'m>) -> SeatedCore<'m>
 /// The source that the object is.
 fn source_of(object: WorldObject<'_>) -> SeatedSource
     requires { (moment : ℕ) × IsAt moment object }
-    ensures { IsThat result object.entry }
+    ensures that { IsThat result object.entry }
+    ensures kept { IsSeatedSource result }
 {
     match object {
-        WorldObject::Source(source) => source.into_source(),
+        WorldObject::Source(timed) => {
+            let source = timed.into_source();
+            let _kept = source.source();
+            source
+        }
         WorldObject::Machine(_) => unreachable!(),
     }
 }
@@ -41,7 +51,8 @@ fn source_of(object: WorldObject<'_>) -> SeatedSource
 /// The sources that the objects are, in order.
 fn sources_of(alloc: Global, objects: Vec<WorldObject<'_>>) -> Result<Vec<SeatedSource>, Mem>
     requires { (moment : ℕ) × AreAt moment objects.items }
-    ensures { IfOk result (λ sources. AreThose sources.items objects.entry.items) }
+    ensures those { IfOk result (λ sources. AreThose sources.items objects.entry.items) }
+    ensures kept { IfOk result (λ sources. AreKept sources.items) }
 {
     let mut sources = Vec::with_capacity(alloc, objects.len())?;
     for object in objects {
@@ -51,7 +62,7 @@ fn sources_of(alloc: Global, objects: Vec<WorldObject<'_>>) -> Result<Vec<Seated
 }
 
 /// Closes the world: the machine, and its sources in the order of their numbers, with what the passes made, which
-/// stand in the order of theirs. `Mem` where there is no memory.
+/// stand in the order of theirs. Each keeps its seat. `Mem` where there is no memory.
 pub fn close_world<'m>(
     alloc: Global,
     locks: LockTable<WorldObject<'m>>,
@@ -59,7 +70,8 @@ pub fn close_world<'m>(
 ) -> Result<(SeatedCore<'m>, Vec<SeatedSource>), Mem>
     requires passes { AreAllPasses locks.own (tokens passes.items) }
     requires objects { (m : Machine) × (table : TableId) × (moment : ℕ) × AreObjects m table moment (first_of locks.own) }
-    ensures { IfOk result (λ parts. IsClosedWorld (first_of locks.entry.own) (made_lists passes.entry.items) parts.0 parts.1.items) }
+    ensures closed { IfOk result (λ parts. IsClosedWorld (first_of locks.entry.own) (made_lists passes.entry.items) parts.0 parts.1.items) }
+    ensures kept { IfOk result (λ parts. IsSeatedCore parts.0 × AreKept parts.1.items) }
 {
     let mut objects = close_locks(alloc, locks, passes)?;
     let machine = machine_of(objects.remove(0));

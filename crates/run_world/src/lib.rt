@@ -4,6 +4,7 @@
 #![tactic(auto)]
 
 mod closing;
+mod gate;
 mod note;
 mod object;
 mod opening;
@@ -11,6 +12,7 @@ mod timed;
 mod world;
 
 pub use closing::close_world;
+pub use gate::{Gate, OpenGate};
 pub use note::WorldNote;
 pub use object::WorldObject;
 pub use opening::world_objects;

@@ -9,6 +9,7 @@ ghost use Rattle.turn_lock.specs.Passes.{first_of, made_of, number_of};
 ghost use Rattle.run_world.specs.Objects.{IsWorldPass};
 ghost use Rattle.run_world.specs.Told.{AfterCoreTurn, AfterReport};
 
+use crate::gate::Gate;
 use crate::note::WorldNote;
 use crate::object::WorldObject;
 use event_word::EventTable;
@@ -25,8 +26,11 @@ pub type WorldDesk<'m> = Desk<WorldObject<'m>, WorldNote>;
 pub type WorldPass<'m> = Pass<WorldObject<'m>>;
 
 /// What all workers of a burst share. Nobody holds it: each call takes one lock and gives it back.
-pub struct World<'w, 'm, R> {
+#[derive(Drop)]
+pub struct World<'w, 'm, R, G> {
     pub rt: &'w R,
+    /// Who is told of the turns.
+    pub gate: &'w G,
     /// The machine that is run.
     pub machine: &'m Machine,
     /// The event word.
@@ -53,7 +57,7 @@ pub struct CoreReply<'m> {
     pub answer: Result<Option<CoreTurn>, CoreFault>,
 }
 
-impl<'w, 'm, R: Wait> World<'w, 'm, R> {
+impl<'w, 'm, R: Wait, G: Gate> World<'w, 'm, R, G> {
     /// A whole call on a source, under its lock alone (`__pm_stay_awake`, `__pm_relax`, `pm_wakeup_ws_event`,
     /// `pm_wakeup_timer_fn`). Answers as `SeatedSource::call`; what the pass then made is what it had made, and the
     /// call's entries, which stand at the end of the source's history. Any other answer than a stamp adds nothing.
@@ -82,10 +86,10 @@ impl<'w, 'm, R: Wait> World<'w, 'm, R> {
         }
     }
 
-    /// A turn of an actor that has made so many calls on sources, under the machine's lock alone. Time is the
-    /// machine's; None where the calls are not all that are due. Else answers as `SeatedCore::turn`; what the pass then
-    /// made is what it had made, and the turn's entry, which stands at the end of the journal. Any other answer than
-    /// `Did` adds nothing.
+    /// A turn of an actor that has made so many calls on sources, under the machine's lock alone. The gate is told of
+    /// the actor once it has the lock, before it looks at anything. Time is the machine's; None where the calls are not
+    /// all that are due. Else answers as `SeatedCore::turn`; what the pass then made is what it had made, and the turn's
+    /// entry, which stands at the end of the journal. Any other answer than `Did` adds nothing.
     pub fn core_turn(
         &self,
         pass: WorldPass<'m>,
@@ -103,6 +107,7 @@ impl<'w, 'm, R: Wait> World<'w, 'm, R> {
             × AfterCoreTurn self.now.machine.now who calls floor result.answer gains }
     {
         let mut held = take(self.desk, self.rt, pass, 0);
+        self.gate.held(who);
         let answer = held.value().turn(self.rt, self.table, who, calls, floor);
         CoreReply {
             pass: give(self.desk, held),

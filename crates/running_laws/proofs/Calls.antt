@@ -289,7 +289,7 @@ module _ (m : Machine) (journal : List JournalEntry) (sources : List SourceState
         each : (c : Bool) → is_same by.actor other ≡ c → IsJobOf m other (entries journal) (calls_made m sources' other) (jobs' other)
         each true e =
             let more : calls_made m sources' by.actor ≡ calls_made m sources by.actor + 1 =
-                made_now by.actor ∙ ap (λ (b : Bool). one_more b (calls_made m sources by.actor)) (ap (λ (w : Actor). is_same by.actor w) (actor_is by.actor other e) ∙ e) in
+            made_now by.actor ∙ ap (λ (b : Bool). one_more b (calls_made m sources by.actor)) (ap (λ (w : Actor). is_same by.actor w) (actor_is by.actor other e) ∙ e) in
             subst (λ (x : Actor). IsJobOf m x (entries journal) (calls_made m sources' x) (jobs' x)) (actor_is by.actor other e)
             (subst (λ (n : ℕ). IsJobOf m by.actor (entries journal) n (jobs' by.actor)) (sym more)
             (subst (λ (j : JobState). IsJobOf m by.actor (entries journal) (calls_made m sources by.actor + 1) j) (sym w.same)

@@ -1,81 +1,104 @@
--- What a try of a job comes to, by what the world answers.
-use Rattle.std.proofs.Common.{◌≡◌, ◌≤◌, ◌+◌, ℕ, Bool, true, false, List, [], ◌∷◌, ◌++◌, Option, Some, None, Result, Ok, Err, refl, sym, ap, subst, arith}
+-- What a try of a task comes to, by what the world answers.
+use Rattle.std.proofs.Common.{◌≡◌, ◌≤◌, ◌+◌, ℕ, Bool, true, false, List, [], ◌∷◌, ◌++◌, length, Option, Some, None, Result, Ok, Err, refl, sym, ap, subst, arith}
+use Rattle.sleep_model.specs.declared.entry.Actor.TheVariants as actor
 use Rattle.sleep_model.specs.declared.log.Want.TheVariants as want
 use Rattle.sleep_model.specs.declared.machine.Machine.{Machine}
 use Rattle.sleep_model.specs.declared.machine.SourceCall.{SourceCall}
+use Rattle.sleep_model.specs.declared.machine.SourceCall.TheVariants as calls
 use Rattle.sleep_model.specs.declared.word.Stamp.{Stamp}
-use Rattle.sleep_model.specs.Calls.{ends_turn, one_more}
+use Rattle.sleep_model.specs.Calls.{ends_turn, note, one_more}
 use Rattle.atomic_table.specs.Seated.{TableId}
 use Rattle.sleep_core.specs.declared.turns.CoreFault.{CoreFault}
 use Rattle.sleep_core.specs.declared.turns.CoreTurn.{CoreTurn}
 use Rattle.sleep_core.specs.declared.turns.CoreTurn.TheVariants.{Did, NotYet, Done}
-use Rattle.sleep_script.specs.Jobs.{IsWanted, JobState}
+use Rattle.sleep_script.specs.Jobs.{IsWanted, JobState, TimerState}
 use Rattle.wakeup_source.specs.declared.fault.SourceFault.{SourceFault}
+use Rattle.fit_laws.specs.Ranged.{is_ranged}
 use Rattle.turn_lock.specs.declared.view.Made.{Made}
 use Rattle.turn_lock.specs.Passes.{Token, made_of}
 use Rattle.run_laws.specs.Passes.{Noted}
 use Rattle.run_world.specs.declared.object.WorldObject.{WorldObject}
 use Rattle.run_world.specs.Objects.{IsWorldPass}
 use Rattle.run_world.specs.Told.{AfterCoreTurn, AfterReport, IsTurn}
-use Rattle.world_workers.specs.Acts.{Does, GoesIn, HasActed, HasMade, Nothing, Turns, Calls, told_call, told_turn}
+use Rattle.burst_tasks.specs.declared.task.Task.{Task}
+use Rattle.burst_tasks.specs.declared.task.Task.TheVariants as task
+use Rattle.burst_tasks.specs.Acts.{Does, Nothing, Turns, Calls, Expires}
+use Rattle.world_workers.specs.Tries.{GoesIn, HasActed, HasMade, IsRangedTurn, IsTaskIn, told_call, told_expiry, told_turn}
 
 few_more : (ends : Bool) (n : ℕ) → one_more ends n ≤ n + 1
 few_more true n = omega arith
 few_more false n = omega arith
 
-append_none : (l : List (Made Noted)) → l ++ [] ≡ l
+pub append_none : (l : List (Made Noted)) → l ++ [] ≡ l
 append_none [] = refl
 append_none (x ∷ l) = ap (λ (k : List (Made Noted)). x ∷ k) (append_none l)
 
 -- nothing was tried
-pub acted_still : (m : Machine) (table locks : TableId) (moment : ℕ) (old : JobState) (p : Token WorldObject Noted) → GoesIn m table locks moment old p → HasActed m table locks moment old old p p
-acted_still m table locks moment old p goes = record {
+pub acted_still : (m : Machine) (table locks : TableId) (moment : ℕ) (t : Task) (p : Token WorldObject Noted) → GoesIn m table locks moment t p → HasActed m table locks moment t t p p
+acted_still m table locks moment t p goes = record {
   gains = [];
   goes = goes;
   made = record { made = sym (append_none (made_of p)); number = refl; first = refl };
-  does = Nothing;
+  does = Nothing t;
   who = refl;
   turns = omega arith;
 }
 
-module _ (m : Machine) (table locks : TableId) (moment : ℕ) (old : JobState) (before after : Token WorldObject Noted) (goes : GoesIn m table locks moment old before)
+module _ (m : Machine) (table locks : TableId) (moment : ℕ) (before after : Token WorldObject Noted)
     (pass : IsWorldPass m table locks moment after) (gains : List (Made Noted)) (made : HasMade before after gains) where
-  pub acted_none : gains ≡ [] → HasActed m table locks moment old old before after
-  acted_none none = record {
+  -- a try that did nothing
+  acted_none : (t : Task) → IsTaskIn m t → gains ≡ [] → HasActed m table locks moment t t before after
+  acted_none t is_in none = record {
     gains = gains;
-    goes = record { pass = pass; machine = goes.machine; actor = goes.actor };
+    goes = record { pass = pass; is_in = is_in };
     made = made;
-    does = subst (λ (l : List (Made Noted)). Does moment old l old) (sym none) Nothing;
+    does = subst (λ (l : List (Made Noted)). Does (length m.sources + 1) moment t l t) (sym none) (Nothing t);
     who = refl;
     turns = omega arith;
   }
 
-  -- a turn of the machine that the job wanted
-  pub acted_turn : (answer : Result (Option CoreTurn) CoreFault) → IsWanted old want.Core → AfterCoreTurn m old.who old.calls old.floor answer gains
-      → HasActed m table locks moment old (told_turn answer old) before after
-  acted_turn (Ok (Some (Did stamp k attempt))) wants h = record {
+  -- a turn of the machine that a job wanted
+  pub acted_turn : (job : JobState) → IsTaskIn m (task.Acts job) → (answer : Result (Option CoreTurn) CoreFault) → IsWanted job want.Core → IsRangedTurn answer
+      → AfterCoreTurn m job.who job.calls job.floor answer gains → HasActed m table locks moment (task.Acts job) (task.Acts (told_turn answer job)) before after
+  acted_turn job is_in (Ok (Some (Did stamp k attempt))) wants ranged h = record {
     gains = gains;
-    goes = record { pass = pass; machine = goes.machine; actor = goes.actor };
+    goes = record { pass = pass; is_in = is_in };
     made = made;
-    does = Turns stamp k attempt gains wants (subst (λ (x : Machine). IsTurn x old.who old.calls old.floor stamp k attempt gains) (sym goes.machine) h);
+    does = Turns job stamp k attempt gains wants ranged (subst (λ (x : Machine). IsTurn x job.who job.calls job.floor stamp k attempt gains) (sym is_in.0) h);
     who = refl;
-    turns = few_more (ends_turn k) old.turns;
+    turns = few_more (ends_turn k) job.turns;
   }
-  acted_turn (Ok (Some (NotYet why))) wants h = acted_none h.gained
-  acted_turn (Ok (Some Done)) wants h = acted_none h.gained
-  acted_turn (Ok None) wants h = acted_none h.1
-  acted_turn (Err fault) wants h = acted_none h
+  acted_turn job is_in (Ok (Some (NotYet why))) wants ranged h = acted_none (task.Acts job) is_in h.gained
+  acted_turn job is_in (Ok (Some Done)) wants ranged h = acted_none (task.Acts job) is_in h.gained
+  acted_turn job is_in (Ok None) wants ranged h = acted_none (task.Acts job) is_in h.1
+  acted_turn job is_in (Err fault) wants ranged h = acted_none (task.Acts job) is_in h
 
-  -- a call on a source that the job wanted
-  pub acted_call : (s : ℕ) (call : SourceCall) (answer : Result (Option Stamp) SourceFault) → IsWanted old (want.Source s call)
-      → AfterReport (record { actor = old.who; floor = old.floor; now = moment }) call s answer gains → HasActed m table locks moment old (told_call answer old) before after
-  acted_call s call (Ok (Some stamp)) wants h = record {
+  -- a call on a source that a job wanted
+  pub acted_call : (job : JobState) → IsTaskIn m (task.Acts job) → (s : ℕ) (call : SourceCall) (answer : Result (Option Stamp) SourceFault) → s ≤ length m.sources
+      → IsWanted job (want.Source s call) → is_ranged (note s call) ≡ true → AfterReport (record { actor = job.who; floor = job.floor; now = moment }) call s answer gains
+      → HasActed m table locks moment (task.Acts job) (task.Acts (told_call answer job)) before after
+  acted_call job is_in s call (Ok (Some stamp)) there wants ranged h = record {
     gains = gains;
-    goes = record { pass = pass; machine = goes.machine; actor = goes.actor };
+    goes = record { pass = pass; is_in = is_in };
     made = made;
-    does = Calls s call stamp gains wants h;
+    does = Calls job s call stamp gains (omega (arith, there)) wants ranged h;
     who = refl;
     turns = omega arith;
   }
-  acted_call s call (Ok None) wants h = acted_none h.1
-  acted_call s call (Err fault) wants h = acted_none h
+  acted_call job is_in s call (Ok None) there wants ranged h = acted_none (task.Acts job) is_in h.1
+  acted_call job is_in s call (Err fault) there wants ranged h = acted_none (task.Acts job) is_in h
+
+  -- the call of a timer
+  pub acted_expiry : (timer : TimerState) → IsTaskIn m (task.Fires timer) → (answer : Result (Option Stamp) SourceFault)
+      → AfterReport (record { actor = actor.Timer timer.source; floor = timer.floor; now = moment }) calls.Expire timer.source answer gains
+      → HasActed m table locks moment (task.Fires timer) (task.Fires (told_expiry answer timer)) before after
+  acted_expiry timer is_in (Ok (Some stamp)) h = record {
+    gains = gains;
+    goes = record { pass = pass; is_in = is_in };
+    made = made;
+    does = Expires timer stamp gains (omega (arith, is_in)) h;
+    who = refl;
+    turns = omega arith;
+  }
+  acted_expiry timer is_in (Ok None) h = acted_none (task.Fires timer) is_in h.1
+  acted_expiry timer is_in (Err fault) h = acted_none (task.Fires timer) is_in h

@@ -1,2 +1,5 @@
 pub mod Acting
 pub mod Going
+pub mod Crews
+pub mod Opening
+pub mod Closing

@@ -1,2 +1,3 @@
-pub mod Acts
+pub mod Tries
 pub mod Workers
+pub mod Bursts

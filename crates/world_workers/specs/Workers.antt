@@ -1,43 +1,67 @@
 -- A worker of a burst, and what it did in it.
-use Rattle.std.specs.Prelude.{◌≡◌, ℕ, List, Some}
+use Rattle.std.specs.Prelude.{◌≡◌, ◌+◌, ℕ, true, List, [], ◌∷◌, Some, length}
 use Rattle.sleep_model.specs.declared.machine.Machine.{Machine}
 use Rattle.atomic_table.specs.Seated.{TableId}
 use Rattle.sleep_pool.specs.declared.turns.Turn.{Turn}
-use Rattle.sleep_script.specs.Jobs.{JobState}
+use Rattle.sleep_pool.specs.Turns.{AllWent, Went}
 use Rattle.turn_lock.specs.declared.table.Pass.{Pass}
 use Rattle.turn_lock.specs.declared.view.Made.{Made}
-use Rattle.turn_lock.specs.Passes.{Token}
+use Rattle.turn_lock.specs.Passes.{Token, first_of}
 use Rattle.run_laws.specs.Passes.{Noted}
 use Rattle.run_world.specs.declared.object.WorldObject.{WorldObject}
+use Rattle.burst_tasks.specs.declared.task.Task.{Task}
+use Rattle.burst_tasks.specs.Acts.{Plays, all_gains}
 use Rattle.world_workers.specs.declared.worker.Worker.{Worker}
-use Rattle.world_workers.specs.Acts.{GoesIn, HasMade, Plays, all_gains}
+use Rattle.world_workers.specs.Tries.{GoesIn, HasMade}
 
 -- how many turns a worker can still make
 abbrev pub left_of : Worker → ℕ
 left_of w = w.left
 
--- a worker has its pass, and goes with its job in a machine's world
+-- a worker has its pass, and goes with its task in a machine's world
 pub record IsWorkerOf (m : Machine) (table locks : TableId) (moment : ℕ) (w : Worker) : Type 0 where
   pub pass : Pass WorldObject Noted
   pub has : w.pass ≡ Some pass
   pub time : w.moment ≡ moment
-  pub goes : GoesIn m table locks moment w.job pass.token
+  pub goes : GoesIn m table locks moment w.task pass.token
 
--- a moment in a worker's life: the world's time, its job, and its pass
+-- each is one
+abbrev pub AreWorkersOf : Machine → TableId → TableId → ℕ → List Worker → Type 0
+AreWorkersOf m table locks moment [] = Unit {0}
+AreWorkersOf m table locks moment (w ∷ workers) = IsWorkerOf m table locks moment w × AreWorkersOf m table locks moment workers
+
+-- a moment in a worker's life: how many sources the world has, its time, the worker's task, and its pass
 pub record Moment : Type 0 where
+  pub sources : ℕ
   pub time : ℕ
-  pub job : JobState
+  pub task : Task
   pub token : Token WorldObject Noted
 
--- since that moment the worker's job did these acts, and its pass made just what they added
+-- since that moment the worker's task did these acts, and its pass made just what they added
 pub record Since (s : Moment) (w : Worker) : Type 0 where
   pub acts : List (List (Made Noted))
   pub pass : Pass WorldObject Noted
   pub has : w.pass ≡ Some pass
   pub made : HasMade s.token pass.token (all_gains acts)
+  pub count : length (first_of pass.token) ≡ s.sources + 1
   pub time : w.moment ≡ s.time
-  pub plays : Plays s.time s.job acts w.job
+  pub plays : Plays s.sources s.time s.task acts w.task
 
 -- from whatever moment a worker went on, it goes on, by these turns
 abbrev pub WentOn : Worker → List Turn → Worker → Type 0
 WentOn old turns new = (s : Moment) → Since s old → Since s new
+
+-- each worker went on by turns of its own, and of all these turns so many did something
+abbrev pub HaveGone : List Worker → List Worker → ℕ → Type 0
+HaveGone olds news did = AllWent (Went WentOn left_of true 1000) olds news did
+
+-- the workers have these passes, and these tasks
+abbrev pub AreParts : List Worker → List (Pass WorldObject Noted) → List Task → Type 0
+AreParts [] [] [] = Unit {0}
+AreParts (w ∷ workers) (p ∷ passes) (t ∷ tasks) = ((w.pass ≡ Some p) × (w.task ≡ t)) × AreParts workers passes tasks
+AreParts _ _ _ = ⊥
+
+-- each is at the beginning of a burst at that moment, and can make a thousand turns
+abbrev pub AreFresh : ℕ → List Worker → Type 0
+AreFresh moment [] = Unit {0}
+AreFresh moment (w ∷ workers) = ((w.moment ≡ moment) × (w.left ≡ 1000)) × AreFresh moment workers

@@ -1,14 +1,20 @@
-//! One try of an actor's job in the world.
+//! One try of a task in the world.
 
-ghost use Rattle.std.specs.Prelude.{◌≡◌, ◌<◌, ◌+◌, ◌^◌, [], length};
+ghost use Rattle.std.specs.Prelude.{◌≡◌, ◌≤◌, ◌<◌, ◌+◌, ◌^◌, true, [], length};
 ghost use Rattle.sleep_model.specs.declared.log.Want.TheVariants as want;
+ghost use Rattle.sleep_model.specs.Calls.{note};
 ghost use Rattle.sleep_script.specs.Jobs.{IsWanted};
-ghost use Rattle.world_workers.specs.Acts.{GoesIn, HasActed, told_call, told_turn};
+ghost use Rattle.fit_laws.specs.Ranged.{is_ranged};
+ghost use Rattle.burst_tasks.specs.declared.task.Task.TheVariants as variant;
+ghost use Rattle.burst_tasks.specs.Acts.{actor_of};
+ghost use Rattle.world_workers.specs.Tries.{GoesIn, HasActed, IsRangedTurn, told_call, told_expiry, told_turn, turns_of};
 
-use run_world::{World, WorldPass};
+use burst_tasks::Task;
+use fit_laws::{calls_are_ranged, kinds_are_ranged};
+use run_world::{Gate, World, WorldPass};
 use sleep_core::{CoreFault, CoreTurn};
-use sleep_model::{Actor, SourceCall, Stamp, Want};
-use sleep_script::Job;
+use sleep_model::{Actor, DeviceFlags, Machine, SourceCall, Stamp, Want};
+use sleep_script::{Job, TimerJob};
 use std::sync::Wait;
 use wakeup_source::{CallBy, SourceFault};
 
@@ -38,7 +44,8 @@ pub struct Acted<'m> {
 fn tell_turn(job: &mut Job<'_>, answer: Result<Option<CoreTurn>, CoreFault>) -> Tried
     requires made { job.old.pending ≡ [] }
     requires few { job.old.turns < 2 ^ 63 }
-    ensures { job.new ≡ told_turn answer job.old }
+    ensures told { job.new ≡ told_turn answer job.old }
+    ensures ranged { IsRangedTurn answer }
 {
     match answer {
         Ok(
@@ -50,6 +57,7 @@ fn tell_turn(job: &mut Job<'_>, answer: Result<Option<CoreTurn>, CoreFault>) -> 
                 },
             ),
         ) => {
+            kinds_are_ranged(kind);
             job.told_turn(stamp, kind, attempt);
             Tried::Made
         }
@@ -76,21 +84,58 @@ fn tell_call(job: &mut Job<'_>, source: u32, answer: Result<Option<Stamp>, Sourc
     }
 }
 
-/// A turn of the machine by an actor whose job wants one.
-fn turn<'m, R: Wait>(
-    world: &World<'_, 'm, R>,
+/// Tells the timer of that source what its call came to (`pm_wakeup_timer_fn`).
+fn tell_expiry(
+    timer: &mut TimerJob,
+    source: u32,
+    answer: Result<Option<Stamp>, SourceFault>,
+) -> Tried
+    ensures { timer.new ≡ told_expiry answer timer.old }
+{
+    match answer {
+        Ok(Some(stamp)) => {
+            timer.told_source(stamp);
+            Tried::Made
+        }
+        Ok(None) => Tried::Waits,
+        Err(SourceFault::Full) => Tried::Full(source),
+        Err(SourceFault::Mem) => Tried::Mem,
+    }
+}
+
+/// Whether the actor is a device that has no turns of its own (`is_async`): the walk makes its callbacks.
+fn is_synchronous(machine: &Machine, who: Actor) -> bool {
+    match who {
+        Actor::Dev(device) => match machine.devices.as_slice().get(device as usize) {
+            Some(device) => !device.flags.has(DeviceFlags::ASYNC),
+            None => true,
+        },
+        _ => false,
+    }
+}
+
+/// A turn of the machine by an actor whose job wants one. A device that has no turns takes no lock.
+fn turn<'m, R: Wait, G: Gate>(
+    world: &World<'_, 'm, R, G>,
     pass: WorldPass<'m>,
     job: &mut Job<'m>,
     who: Actor,
 ) -> Acted<'m>
     requires goes { GoesIn world.now.machine.now world.now.table.now.desk.shared.table_id
-        world.now.desk.now.shared.table_id world.now.moment job.old pass.token }
+        world.now.desk.now.shared.table_id world.now.moment (variant.Acts job.old) pass.token }
     requires who { who ≡ job.old.who }
     requires wants { IsWanted job.old want.Core }
     requires few { job.old.turns < 2 ^ 63 }
     ensures { HasActed world.now.machine.now world.now.table.now.desk.shared.table_id
-        world.now.desk.now.shared.table_id world.now.moment job.old job.new pass.entry.token result.pass.token }
+        world.now.desk.now.shared.table_id world.now.moment (variant.Acts job.old) (variant.Acts job.new)
+        pass.entry.token result.pass.token }
 {
+    if is_synchronous(world.machine, who) {
+        return Acted {
+            pass,
+            tried: Tried::Waits,
+        };
+    }
     let reply = world.core_turn(pass, who, job.calls(), job.floor());
     let tried = tell_turn(job, reply.answer);
     Acted {
@@ -100,8 +145,8 @@ fn turn<'m, R: Wait>(
 }
 
 /// A call on a source by an actor whose job wants it.
-fn call<'m, R: Wait>(
-    world: &World<'_, 'm, R>,
+fn call<'m, R: Wait, G: Gate>(
+    world: &World<'_, 'm, R, G>,
     pass: WorldPass<'m>,
     job: &mut Job<'m>,
     who: Actor,
@@ -109,11 +154,12 @@ fn call<'m, R: Wait>(
     call: SourceCall,
 ) -> Acted<'m>
     requires goes { GoesIn world.now.machine.now world.now.table.now.desk.shared.table_id
-        world.now.desk.now.shared.table_id world.now.moment job.old pass.token }
+        world.now.desk.now.shared.table_id world.now.moment (variant.Acts job.old) pass.token }
     requires who { who ≡ job.old.who }
     requires wants { IsWanted job.old (want.Source source call) }
     ensures { HasActed world.now.machine.now world.now.table.now.desk.shared.table_id
-        world.now.desk.now.shared.table_id world.now.moment job.old job.new pass.entry.token result.pass.token }
+        world.now.desk.now.shared.table_id world.now.moment (variant.Acts job.old) (variant.Acts job.new)
+        pass.entry.token result.pass.token }
 {
     if source as usize > world.machine.sources.len() || job.calls() == u32::MAX {
         return Acted {
@@ -121,6 +167,7 @@ fn call<'m, R: Wait>(
             tried: Tried::Waits,
         };
     }
+    calls_are_ranged(source, call);
     let by = CallBy {
         actor: who,
         floor: job.floor(),
@@ -134,20 +181,47 @@ fn call<'m, R: Wait>(
     }
 }
 
-/// One try of an actor's job: the call on a source that is next, else a turn of the machine. The job is told what was
-/// made, and the pass made just that. It takes one lock, or none.
-pub fn act<'m, R: Wait>(
-    world: &World<'_, 'm, R>,
+/// The call of a source's timer, which ends the event in progress once its moment has come (`pm_wakeup_timer_fn`).
+fn expire<'m, R: Wait, G: Gate>(
+    world: &World<'_, 'm, R, G>,
+    pass: WorldPass<'m>,
+    timer: &mut TimerJob,
+    source: u32,
+) -> Acted<'m>
+    requires goes { GoesIn world.now.machine.now world.now.table.now.desk.shared.table_id
+        world.now.desk.now.shared.table_id world.now.moment (variant.Fires timer.old) pass.token }
+    requires source { source ≡ timer.old.source }
+    ensures { HasActed world.now.machine.now world.now.table.now.desk.shared.table_id
+        world.now.desk.now.shared.table_id world.now.moment (variant.Fires timer.old) (variant.Fires timer.new)
+        pass.entry.token result.pass.token }
+{
+    let by = CallBy {
+        actor: Actor::Timer(source),
+        floor: timer.floor(),
+        now: world.moment,
+    };
+    let reported = world.report(pass, source, SourceCall::Expire, by);
+    let tried = tell_expiry(timer, source, reported.answer);
+    Acted {
+        pass: reported.pass,
+        tried,
+    }
+}
+
+/// One try of an actor's job: the call on a source that is next, else a turn of the machine.
+fn act_job<'m, R: Wait, G: Gate>(
+    world: &World<'_, 'm, R, G>,
     pass: WorldPass<'m>,
     job: &mut Job<'m>,
     who: Actor,
 ) -> Acted<'m>
     requires goes { GoesIn world.now.machine.now world.now.table.now.desk.shared.table_id
-        world.now.desk.now.shared.table_id world.now.moment job.old pass.token }
+        world.now.desk.now.shared.table_id world.now.moment (variant.Acts job.old) pass.token }
     requires who { who ≡ job.old.who }
     requires few { job.old.turns < 2 ^ 63 }
     ensures { HasActed world.now.machine.now world.now.table.now.desk.shared.table_id
-        world.now.desk.now.shared.table_id world.now.moment job.old job.new pass.entry.token result.pass.token }
+        world.now.desk.now.shared.table_id world.now.moment (variant.Acts job.old) (variant.Acts job.new)
+        pass.entry.token result.pass.token }
 {
     match job.next() {
         Want::Core => turn(world, pass, job, who),
@@ -156,5 +230,44 @@ pub fn act<'m, R: Wait>(
             pass,
             tried: Tried::Gone,
         },
+    }
+}
+
+/// One try of a timer.
+fn act_timer<'m, R: Wait, G: Gate>(
+    world: &World<'_, 'm, R, G>,
+    pass: WorldPass<'m>,
+    timer: &mut TimerJob,
+) -> Acted<'m>
+    requires goes { GoesIn world.now.machine.now world.now.table.now.desk.shared.table_id
+        world.now.desk.now.shared.table_id world.now.moment (variant.Fires timer.old) pass.token }
+    ensures { HasActed world.now.machine.now world.now.table.now.desk.shared.table_id
+        world.now.desk.now.shared.table_id world.now.moment (variant.Fires timer.old) (variant.Fires timer.new)
+        pass.entry.token result.pass.token }
+{
+    match timer.next() {
+        Want::Source(source, _) => expire(world, pass, timer, source),
+        _ => unreachable!(),
+    }
+}
+
+/// One try of a task of that actor: the call on a source that is next, else a turn of the machine. The task is told
+/// what was made, and the pass made just that. It takes one lock, or none.
+pub fn act<'m, R: Wait, G: Gate>(
+    world: &World<'_, 'm, R, G>,
+    pass: WorldPass<'m>,
+    task: &mut Task<'m>,
+    who: Actor,
+) -> Acted<'m>
+    requires goes { GoesIn world.now.machine.now world.now.table.now.desk.shared.table_id
+        world.now.desk.now.shared.table_id world.now.moment task.old pass.token }
+    requires who { who ≡ actor_of task.old }
+    requires few { turns_of task.old < 2 ^ 63 }
+    ensures { HasActed world.now.machine.now world.now.table.now.desk.shared.table_id
+        world.now.desk.now.shared.table_id world.now.moment task.old task.new pass.entry.token result.pass.token }
+{
+    match task {
+        Task::Acts(job) => act_job(world, pass, job, who),
+        Task::Fires(timer) => act_timer(world, pass, timer),
     }
 }

@@ -5,7 +5,7 @@ ghost use Rattle.world_workers.specs.Workers.{IsWorkerOf, WentOn, left_of};
 
 use crate::acts::{Acted, Tried, act};
 use crate::worker::Worker;
-use run_world::{World, WorldPass};
+use run_world::{Gate, World, WorldPass};
 use sleep_pool::{Job as Work, Turn};
 use std::sync::Wait;
 
@@ -30,7 +30,7 @@ fn taken<'m>(place: &mut Option<WorldPass<'m>>) -> WorldPass<'m>
     }
 }
 
-impl<'w, 'm, R: Wait> Work<World<'w, 'm, R>> for Worker<'m> {
+impl<'w, 'm, R: Wait, G: Gate> Work<World<'w, 'm, R, G>> for Worker<'m> {
     ghost left = { left_of };
 
     ghost goes = { λ w world now. IsWorkerOf world.machine.now world.table.now.desk.shared.table_id
@@ -38,10 +38,11 @@ impl<'w, 'm, R: Wait> Work<World<'w, 'm, R>> for Worker<'m> {
 
     ghost made = { WentOn };
 
-    fn turn(&mut self, shared: &World<'w, 'm, R>, now: u64) -> Turn {
+    fn turn(&mut self, shared: &World<'w, 'm, R, G>, now: u64) -> Turn {
         self.left -= 1;
+        shared.gate.pass(self.place);
         let pass = taken(&mut self.pass);
-        let Acted { pass, tried } = act(shared, pass, &mut self.job, self.who);
+        let Acted { pass, tried } = act(shared, pass, &mut self.task, self.who);
         self.pass = Some(pass);
         self.tried = tried;
         turn_of(tried)

@@ -1,44 +1,65 @@
 //! A worker of a burst.
 
-ghost use Rattle.std.specs.Prelude.{◌≡◌, ◌<◌, ◌+◌, ◌^◌, Some};
+ghost use Rattle.std.specs.Prelude.{◌≡◌, ◌<◌, ◌+◌, ◌^◌, Some, IsSome};
+ghost use Rattle.burst_tasks.specs.Acts.{actor_of};
+ghost use Rattle.world_workers.specs.Tries.{turns_of};
 
 use crate::acts::Tried;
+use burst_tasks::Task;
 use run_world::WorldPass;
 use sleep_model::Actor;
-use sleep_script::Job;
 
-/// A worker's own in a burst: an actor's job, and the pass by which it takes the locks of the world.
+/// A worker's own in a burst: a task, and the pass by which it takes the locks of the world.
 #[derive(Drop)]
 pub struct Worker<'m> {
     // The pass is out within a turn alone.
     pub(crate) pass: Option<WorldPass<'m>>,
-    pub(crate) job: Job<'m>,
+    pub(crate) task: Task<'m>,
+    /// Whose task it is.
     pub(crate) who: Actor,
+    /// Where the task stands among those of the burst.
+    pub(crate) place: u32,
     /// The time in ms, which stands still in a burst.
     pub(crate) moment: u64,
     /// How many turns it can still make.
     pub(crate) left: u64,
     /// What came of its last turn.
     pub(crate) tried: Tried,
-    ghost named: { who ≡ job.who },
-    ghost few: { job.turns + left < 2 ^ 63 },
+    ghost named: { who ≡ actor_of task },
+    ghost few: { turns_of task + left < 2 ^ 63 },
 }
 
+/// The most turns that a worker makes in a burst.
+const MOST_TURNS: u64 = 1000;
+
 impl<'m> Worker<'m> {
-    /// The worker of that actor's job, with that pass, in a burst at that moment in ms, for so many turns.
-    pub fn new(pass: WorldPass<'m>, job: Job<'m>, who: Actor, moment: u64, left: u64) -> Self
-        requires who { who ≡ job.who }
-        requires few { job.turns + left < 2 ^ 63 }
+    /// The worker of that actor's task, which stands at that place, with that pass, for a burst at that moment in ms.
+    pub fn new(pass: WorldPass<'m>, task: Task<'m>, who: Actor, place: u32, moment: u64) -> Self
+        requires who { who ≡ actor_of task }
+        requires few { turns_of task + 1000 < 2 ^ 63 }
         ensures pass { result.pass ≡ Some pass.entry }
-        ensures job { (result.job ≡ job.entry) × (result.left ≡ left) × (result.moment ≡ moment) }
+        ensures task { (result.task ≡ task.entry) × (result.moment ≡ moment) × (result.left ≡ 1000) }
     {
         Worker {
             pass: Some(pass),
-            job,
+            task,
             who,
+            place,
             moment,
-            left,
+            left: MOST_TURNS,
             tried: Tried::Waits,
+        }
+    }
+    /// The pass, and the task, when the burst is over.
+    pub(crate) fn into_parts(self) -> (WorldPass<'m>, Task<'m>)
+        requires { IsSome self.pass }
+        ensures pass { self.entry.pass ≡ Some result.0 }
+        ensures task { self.entry.task ≡ result.1 }
+    {
+        let Worker { pass, task, .. } = self;
+        match pass {
+            Some(pass) => (pass, task),
+            None => unreachable!(),
         }
     }
 }

@@ -1,5 +1,6 @@
 use Rattle.std.proofs.Common.{rules, ◌≡◌, ◌∙◌, List, [], ◌∷◌, ◌++◌, ap, subst}
 use Rattle.run_objects.specs.Objects.{SeatedSourceState}
+use Rattle.run_objects.proofs.Laying.{kept_more}
 use Rattle.run_world.specs.declared.object.WorldObject.{WorldObject}
 use Rattle.run_world.specs.declared.object.WorldObject.TheVariants as object
 use Rattle.run_world.specs.Held.{AreTimely}
@@ -14,6 +15,7 @@ loop-source-init c =
     let empty : c.in_ok-objects.objects.items ≡ [] = search rules in (
       record { rest = []; are = c.in_ok-push.ensures.items ∙ ap (λ (l : List WorldObject). l ++ object.Machine c.args.machine ∷ []) empty; those = tt; at = tt },
       search rules,
+      tt,
     )
 
 pub loop-source-preserved : goal.loop-source-preserved
@@ -27,4 +29,5 @@ loop-source-preserved c =
         at = at_more c.args.moment is.rest one is.at c.new.ensures.1;
       },
       (subst (λ (l : List SeatedSourceState). AreTimely c.args.moment l) c.in-Some.ensures.steps.0 c.loop-source.invariant.1).1,
+      kept_more c.loop-source.yielded c.in-Some.source c.loop-source.invariant.2 c.source-kept.ensures.kept,
     )

@@ -6,4 +6,4 @@ pub returns-clause-made : goal.returns-clause-made
 returns-clause-made g c =
     let w = c.args.shared.now in
     went_on w.machine.now w.table.now.desk.shared.table_id w.desk.now.shared.table_id w.moment c.args.self.now _ c.taken-pass.result c.act-pass.result.pass c.taken-pass.ensures refl
-    c.requires.goes.time refl c.act-pass.ensures
+    c.requires.goes.time refl _ c.act-pass.ensures

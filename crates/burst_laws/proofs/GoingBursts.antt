@@ -1,0 +1,53 @@
+-- Bursts keep what a run keeps.
+use Rattle.std.proofs.Common.{◌≡◌, ◌∙◌, ◌+◌, ℕ, suc, true, List, length, refl, sym, ap, subst, arith}
+use Rattle.sleep_model.specs.declared.entry.JournalEntry.{JournalEntry}
+use Rattle.sleep_model.specs.declared.machine.Machine.{Machine}
+use Rattle.sleep_model.specs.Fits.{is_word64}
+use Rattle.sleep_model.specs.Numbers.{time_of}
+use Rattle.sleep_state.specs.Places.{entries}
+use Rattle.run_objects.specs.Objects.{SeatedCoreState, SeatedSourceState}
+use Rattle.wakeup_source.specs.SourceStates.{SourceState}
+use Rattle.running_laws.specs.Running.{AreSources, IsGoing, of_sources}
+use Rattle.burst_tasks.specs.declared.task.Task.{Task}
+use Rattle.burst_laws.specs.Courses.{AreTasks, GoesFarther, GoesOnAt, has_task, lists_of}
+use Rattle.burst_laws.specs.Keeping.{BurstsGoOn, GoesOnWith}
+use Rattle.burst_laws.specs.Serial.{IsSerial, plain_sources, standing_of}
+use Rattle.burst_laws.proofs.GoingOn.{courses_go_on}
+use Rattle.burst_laws.proofs.GoingSwapped.{swapped}
+use Rattle.burst_laws.proofs.SerialBursts.{bursts_are_serial}
+
+-- the list of source s stands behind the machine's
+one_behind : (journal : List JournalEntry) (sources : List SourceState) (s : ℕ) → lists_of journal sources (1 + s) ≡ of_sources sources s
+one_behind journal sources s = let next : 1 + s ≡ suc s = omega arith in ap (lists_of journal sources) next
+
+module _ (m : Machine) (moment : ℕ) (machine machine_then : SeatedCoreState) (sources sources_then : List SeatedSourceState) (tasks tasks_then : List Task) where
+  -- after a burst that is serial the run goes on
+  pub serial_goes_on : IsSerial moment machine sources tasks machine_then sources_then tasks_then → is_word64 moment ≡ true → moment ≡ time_of (entries machine.core.past)
+      → AreSources m (plain_sources sources_then) → (g : GoesOnAt m (standing_of machine sources tasks))
+      → GoesOnWith m (standing_of machine sources tasks) (standing_of machine_then sources_then tasks_then) g (plain_sources sources_then)
+  serial_goes_on serial timed now are g =
+      let farther : GoesFarther m (standing_of machine sources tasks) serial.last g = courses_go_on m (length sources) moment (standing_of machine sources tasks) serial.last timed now g serial.course in
+      let on : GoesOnAt m serial.last = farther.on in
+      let then : List SourceState = plain_sources sources_then in
+      let same : (s : ℕ) → of_sources then s ≡ of_sources on.sources s =
+      λ s. sym (one_behind machine_then.core.past then s) ∙ (sym (serial.lists_are (1 + s)) ∙ on.lists_are s) in
+      record {
+        farther = record {
+          on = record {
+            sources = then;
+            jobs = on.jobs;
+            floors = on.floors;
+            going = subst (λ (xs : List JournalEntry). IsGoing m xs then on.jobs on.floors) (serial.lists_are 0) (swapped m (serial.last.lists 0) on.sources then on.jobs on.floors are same on.going);
+            lists_are = one_behind machine_then.core.past then;
+            tasks_are = subst (AreTasks m on.jobs on.floors) serial.tasks_are on.tasks_are;
+          };
+          same = λ who. ap (λ (ts : List Task). has_task ts who) (sym serial.tasks_are) ∙ farther.same who;
+          others = farther.others;
+        };
+        sources_are = refl;
+      }
+
+-- so after each burst, as it is serial
+pub bursts_go_on : BurstsGoOn
+bursts_go_on m moment machine machine_then sources sources_then tasks tasks_then burst now are g =
+    serial_goes_on m moment machine machine_then sources sources_then tasks tasks_then (bursts_are_serial moment machine machine_then sources sources_then tasks tasks_then burst) burst.timed now are g

@@ -1,0 +1,5 @@
+use Rattle.burst_laws.proofs.laws.bursts_are_serial.Goals as goal
+use Rattle.burst_laws.proofs.SerialBursts.{bursts_are_serial}
+
+pub returns : goal.returns
+returns c = bursts_are_serial

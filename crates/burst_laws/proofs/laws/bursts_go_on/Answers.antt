@@ -1,0 +1,5 @@
+use Rattle.burst_laws.proofs.laws.bursts_go_on.Goals as goal
+use Rattle.burst_laws.proofs.GoingBursts.{bursts_go_on}
+
+pub returns : goal.returns
+returns c = bursts_go_on

@@ -1,0 +1,5 @@
+use Rattle.burst_laws.proofs.laws.courses_go_on.Goals as goal
+use Rattle.burst_laws.proofs.GoingOn.{courses_go_on}
+
+pub returns : goal.returns
+returns c = courses_go_on

@@ -1,0 +1,27 @@
+-- A burst keeps what a run keeps.
+use Rattle.std.specs.Prelude.{◌≡◌, ℕ, List}
+use Rattle.sleep_model.specs.declared.machine.Machine.{Machine}
+use Rattle.sleep_model.specs.Numbers.{time_of}
+use Rattle.sleep_state.specs.Places.{entries}
+use Rattle.run_objects.specs.Objects.{SeatedCoreState, SeatedSourceState}
+use Rattle.wakeup_source.specs.SourceStates.{SourceState}
+use Rattle.running_laws.specs.Running.{AreSources}
+use Rattle.burst_tasks.specs.declared.task.Task.{Task}
+use Rattle.burst_tasks.specs.Bursts.{IsBurst}
+use Rattle.burst_laws.specs.Courses.{GoesFarther, GoesOnAt, Standing}
+use Rattle.burst_laws.specs.Serial.{plain_sources, standing_of}
+
+-- the run goes on at a later standing with these very sources
+pub record GoesOnWith (m : Machine) (first last : Standing) (g : GoesOnAt m first) (sources : List SourceState) : Type 0 where
+  pub farther : GoesFarther m first last g
+  pub sources_are : farther.on.sources ≡ sources
+
+-- a run goes on after a burst at its time, where the sources that came back are between calls
+abbrev pub BurstsGoOn : Type 0
+BurstsGoOn =
+    (m : Machine) (moment : ℕ) (machine machine_then : SeatedCoreState) (sources sources_then : List SeatedSourceState)
+    (tasks tasks_then : List Task) → IsBurst moment machine sources tasks machine_then sources_then tasks_then
+    → moment ≡ time_of (entries machine.core.past) → AreSources m (plain_sources sources_then)
+    → (g : GoesOnAt m (standing_of machine sources tasks))
+    → GoesOnWith m (standing_of machine sources tasks) (standing_of machine_then sources_then tasks_then) g
+    (plain_sources sources_then)

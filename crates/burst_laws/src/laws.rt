@@ -1,0 +1,22 @@
+//! What holds of each burst, whichever way its workers took turns.
+
+ghost use Rattle.burst_laws.specs.Courses.{CoursesGoOn};
+ghost use Rattle.burst_laws.specs.Keeping.{BurstsGoOn};
+ghost use Rattle.burst_laws.specs.Serial.{BurstsAreSerial};
+
+/// The acts of a burst have an order in which each finds the machine and the sources as those before it left them, and
+/// behind the last stand the tasks, the machine and the sources that came back.
+pub fn bursts_are_serial()
+    ensures { BurstsAreSerial }
+{}
+
+/// From a standing at which a run goes on, acts one after another come to one at which it goes on: the tasks are of
+/// the same actors, and whoever has none knows what it knew.
+pub fn courses_go_on()
+    ensures { CoursesGoOn }
+{}
+
+/// A run goes on after a burst at its time, with the machine, the sources and the tasks that came back.
+pub fn bursts_go_on()
+    ensures { BurstsGoOn }
+{}

@@ -1,0 +1,38 @@
+//! A task of a burst.
+
+use sleep_model::{Stamp, Want};
+use sleep_script::{Job, TimerJob};
+
+/// What one worker does in a burst.
+#[derive(Drop)]
+pub enum Task<'m> {
+    /// The job of a script, of autosleep's work or of a device.
+    Acts(Job<'m>),
+    /// The timer of a wakeup source.
+    Fires(TimerJob),
+}
+
+impl<'m> Task<'m> {
+    ghost use Rattle.std.specs.Prelude.{◌≡◌};
+    ghost use Rattle.burst_tasks.specs.Acts.{Wants, known_by};
+
+    /// What it does next: a call on a source, else a turn of the machine.
+    pub fn next(&self) -> Want
+        ensures { Wants self.now result }
+    {
+        match self {
+            Task::Acts(job) => job.next(),
+            Task::Fires(timer) => timer.next(),
+        }
+    }
+
+    /// The stamp that it last knew.
+    pub fn floor(&self) -> Stamp
+        ensures { result ≡ known_by self.now }
+    {
+        match self {
+            Task::Acts(job) => job.floor(),
+            Task::Fires(timer) => timer.floor(),
+        }
+    }
+}

@@ -1,7 +1,0 @@
-use Rattle.world_workers.proofs.Acting.{acted_still}
-use Rattle.world_workers.proofs.acts.act.Goals as goal
-
-pub returns-in-Nothing : goal.returns-in-Nothing
-returns-in-Nothing g c =
-    let w = c.args.world.now in
-    acted_still w.machine.now w.table.now.desk.shared.table_id w.desk.now.shared.table_id w.moment c.args.job.now c.args.pass.token c.requires.goes

@@ -1,0 +1,8 @@
+use Rattle.burst_tasks.specs.declared.task.Task.TheVariants as task
+use Rattle.world_workers.proofs.Acting.{acted_still}
+use Rattle.world_workers.proofs.acts.act_job.Goals as goal
+
+pub returns-in-Nothing : goal.returns-in-Nothing
+returns-in-Nothing g c =
+    let w = c.args.world.now in
+    acted_still w.machine.now w.table.now.desk.shared.table_id w.desk.now.shared.table_id w.moment (task.Acts c.args.job.now) c.args.pass.token c.requires.goes

@@ -1,0 +1,10 @@
+use Rattle.std.proofs.Common.{ℕ}
+use Rattle.sleep_model.specs.declared.machine.Machine.{Machine}
+use Rattle.atomic_table.specs.Seated.{TableId}
+use Rattle.world_workers.specs.Workers.{AreParts, AreWorkersOf}
+use Rattle.world_workers.proofs.crew.taken_apart.Given as goal
+
+abbrev pub invariant-loop-worker : goal.invariant-loop-worker
+invariant-loop-worker l =
+    AreParts l.yielded l.passes.items l.tasks.items
+    × ((m : Machine) × (table : TableId) × (locks : TableId) × (moment : ℕ) × AreWorkersOf m table locks moment l.worker-iterator.rest.items)

@@ -1,0 +1,75 @@
+//! What goes into a burst, and comes out of it.
+
+use crate::acts::Tried;
+use burst_tasks::Task;
+use event_word::EventTable;
+use run_objects::{SeatedCore, SeatedSource};
+use sleep_model::{Actor, Machine};
+
+/// What is the same in each burst of a run.
+#[derive(Drop)]
+pub struct BurstPlan<'w, 'm, G> {
+    /// Who is told of the turns.
+    pub gate: &'w G,
+    /// The event word.
+    pub table: &'w EventTable,
+    /// The machine that is run.
+    pub machine: &'m Machine,
+    /// Whose task stands at each place.
+    pub actors: &'w [Actor],
+    /// How many workers there are.
+    pub workers: u8,
+}
+
+/// What goes into a burst, and comes out of it.
+#[derive(Drop)]
+pub struct BurstParts<'m> {
+    pub core: SeatedCore<'m>,
+    /// The wakeup sources in the order of their numbers, `autosleep` last.
+    pub sources: Vec<SeatedSource>,
+    pub tasks: Vec<Task<'m>>,
+}
+
+/// Why a task came to no end of its own.
+#[derive(Clone, Copy, Debug, Drop, PartialEq, Eq)]
+pub enum Stop {
+    /// There was no memory for the task at that place.
+    Mem {
+        task: u32,
+    },
+    /// The history of the source has no place left for a call of the task at that place.
+    Full {
+        task: u32,
+        source: u32,
+    },
+}
+
+/// What a burst came to.
+#[derive(Drop)]
+pub struct Burst<'m> {
+    pub parts: BurstParts<'m>,
+    /// How many turns did something.
+    pub did: u64,
+    /// Why a task stopped, if one did: want of memory before a full source, and the least of those. No clause speaks of it.
+    pub stop: Option<Stop>,
+}
+
+/// Why the task at that place stopped, if it did.
+pub(crate) fn stop_of(tried: Tried, task: u32) -> Option<Stop> {
+    match tried {
+        Tried::Full(source) => Some(Stop::Full { task, source }),
+        Tried::Mem => Some(Stop::Mem { task }),
+        Tried::Made | Tried::Waits | Tried::Gone => None,
+    }
+}
+
+/// Which of two counts: want of memory before a full source, and the lesser source.
+pub(crate) fn graver(one: Option<Stop>, other: Option<Stop>) -> Option<Stop> {
+    match (one, other) {
+        (None, _) | (Some(Stop::Full { .. }), Some(Stop::Mem { .. })) => other,
+        (Some(Stop::Full { source, .. }), Some(Stop::Full { source: less, .. })) if less < source => {
+            other
+        }
+        _ => one,
+    }
+}
