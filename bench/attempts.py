@@ -16,41 +16,11 @@ carry over from one computer to another, times do not. Tables:
   give-up    attempts that an event ends, more devices
 """
 
-import json
-import os
-import pathlib
-import subprocess
-import sys
-import tempfile
-
+from clock import program, timed
 from machine import machine
 
-ROOT = pathlib.Path(__file__).resolve().parent.parent
-PROGRAM = ROOT / "crates" / "sleep_main" / "out" / "sleep_main"
-RUNS = 5
 # As many attempts as a file may ask for, so that the start of the process weighs little.
 MOST = [(10, 1666), (100, 666), (1000, 95)]
-
-
-def processor_time(program, path, wanted=0):
-    """The processor time of one run in seconds, and what it wrote; its status has to be that."""
-    with open(path, "rb") as file, tempfile.TemporaryFile() as out:
-        done = subprocess.Popen([program, "run", "--workers", "1"], stdin=file, stdout=out, stderr=subprocess.DEVNULL)
-        _, status, used = os.wait4(done.pid, 0)
-        done.returncode = os.waitstatus_to_exitcode(status)
-        if done.returncode != wanted:
-            sys.exit(f"status {done.returncode}")
-        out.seek(0)
-        return used.ru_utime + used.ru_stime, out.read()
-
-
-def timed(program, tree, wanted=0):
-    """The best time of some runs in seconds, and the entries of the log."""
-    with tempfile.NamedTemporaryFile("w", suffix=".json") as file:
-        json.dump(tree, file)
-        file.flush()
-        runs = [processor_time(program, file.name, wanted) for _ in range(RUNS)]
-    return min(seconds for seconds, _ in runs), sum(line[:1].isdigit() for line in runs[0][1].split(b"\n"))
 
 
 def table(program, title, machines):
@@ -75,12 +45,12 @@ def both(devices, attempts, links=0):
 
 
 def main():
-    program = sys.argv[1] if len(sys.argv) > 1 else PROGRAM
-    table(program, "tree", [row for devices, attempts in MOST for row in both(devices, attempts)])
-    table(program, "links", both(1000, 95, links=4000))
-    table(program, "attempts", [(f"{times} attempts", machine(10, times)) for times in (16, 160, 1600)])
-    table(program, "events", [(f"{times} events", machine(10, times, "event")) for times in (200, 2_000, 19_999)])
-    table(program, "give-up", [(f"{devices} devices", machine(devices, times, "give-up")) for devices, times in MOST])
+    measured = program()
+    table(measured, "tree", [row for devices, attempts in MOST for row in both(devices, attempts)])
+    table(measured, "links", both(1000, 95, links=4000))
+    table(measured, "attempts", [(f"{times} attempts", machine(10, times)) for times in (16, 160, 1600)])
+    table(measured, "events", [(f"{times} events", machine(10, times, "event")) for times in (200, 2_000, 19_999)])
+    table(measured, "give-up", [(f"{devices} devices", machine(devices, times, "give-up")) for devices, times in MOST])
 
 
 if __name__ == "__main__":

@@ -16,9 +16,7 @@ how it compares with the row before. One link costs at most a walk over what han
 pass over the order: so the time for each may stay as it is, and not grow with the links.
 """
 
-import sys
-
-from attempts import PROGRAM, timed
+from clock import program, timed
 
 DEVICES = 1000
 
@@ -61,14 +59,14 @@ def links_of(built):
 
 
 def main():
-    program = sys.argv[1] if len(sys.argv) > 1 else PROGRAM
+    measured = program()
     print(f"{'machine':>8} {'links':>6} {'us/link':>8} {'ratio':>6}")
     for name, make in (("chain", chain), ("wide", wide), ("script", script)):
-        base, _ = timed(program, make(0))
+        base, _ = timed(measured, make(0))
         before = None
         for count in (1000, 2000, 4000):
             built = make(count)
-            seconds, _ = timed(program, built)
+            seconds, _ = timed(measured, built)
             each = max(seconds - base, 0.0) / links_of(built) * 1e6
             print(f"{name:>8} {links_of(built):>6} {each:>8.2f} {f'{each / before:.2f}' if before else '-':>6}")
             before = each

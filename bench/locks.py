@@ -1,10 +1,17 @@
 #!/usr/bin/env python3
-"""Times the command locks on 1,000,000 lines against a program that reads each line and writes it.
+"""Times the command locks on 1,000,000 lines against the reading of these lines.
 
 usage: locks.py [PROGRAM]
 
-For each kind of lines: the processor time of the program and of a copier in Python that reads and writes the same lines
-one by one, each the best of some runs, and their ratio, which may be 3 at most. Rows:
+For each kind of lines it prints the processor time of three things, each the best of some runs, with standard output
+thrown away:
+
+  locks   the program over the lines: it reads them, tries their forms, carries them out and writes the answers
+  read    the program over the same lines with one of no form behind them: it reads them and tries all their forms, then
+          refuses them, so it carries none out and writes nothing
+  copied  a program in Python that reads the same lines one by one and writes them
+
+and how many times as long as each of the other two the first takes. Kinds of lines:
 
   mixed     locks with and without timeouts, unlocks and waits, of 100 names by chance
   in turn   a lock and an unlock of each of 100 names in turn
@@ -13,16 +20,12 @@ one by one, each the best of some runs, and their ratio, which may be 3 at most.
   active    the names that are active, again and again
 """
 
-import os
 import random
-import subprocess
 import sys
-import tempfile
 
-from attempts import PROGRAM
+from clock import best, program
 
 LINES = 1_000_000
-RUNS = 5
 COPIER = "import sys\nout = sys.stdout.buffer\nfor line in sys.stdin.buffer:\n    out.write(line)\n"
 
 
@@ -48,28 +51,14 @@ def rows():
     yield "active", names[:2] + [b"active"] * (LINES - 2)
 
 
-def best(words, file):
-    """The best processor time of some runs, in seconds."""
-    seconds = []
-    for _ in range(RUNS):
-        file.seek(0)
-        done = subprocess.Popen(words, stdin=file, stdout=subprocess.DEVNULL)
-        _, status, used = os.wait4(done.pid, 0)
-        done.returncode = os.waitstatus_to_exitcode(status)
-        if done.returncode != 0:
-            sys.exit(f"status {done.returncode}")
-        seconds.append(used.ru_utime + used.ru_stime)
-    return min(seconds)
-
-
 def main():
-    program = sys.argv[1] if len(sys.argv) > 1 else PROGRAM
-    print(f"{'lines':>9} {'locks, s':>9} {'copied, s':>10} {'ratio':>6}")
+    words = [program(), "locks"]
+    print(f"{'lines':>9} {'locks, s':>9} {'read, s':>9} {'times':>6} {'copied, s':>10} {'times':>6}")
     for name, lines in rows():
-        with tempfile.TemporaryFile() as file:
-            file.write(b"\n".join(lines) + b"\n")
-            told, copied = best([program, "locks"], file), best([sys.executable, "-I", "-c", COPIER], file)
-        print(f"{name:>9} {told:>9.3f} {copied:>10.3f} {told / copied:>6.2f}")
+        data = b"\n".join(lines) + b"\n"
+        told, read = best(words, data), best(words, data + b"none\n", 3)
+        copied = best([sys.executable, "-I", "-c", COPIER], data)
+        print(f"{name:>9} {told:>9.3f} {read:>9.3f} {told / read:>6.1f} {copied:>10.3f} {told / copied:>6.2f}")
 
 
 if __name__ == "__main__":

@@ -11,46 +11,21 @@ the reading does, so it may be 2 at most.
 """
 
 import json
-import os
-import subprocess
-import sys
-import tempfile
 
-from attempts import PROGRAM, processor_time
+from clock import best, log_of, program
 from machine import machine
 
-RUNS = 5
 ENTRIES = 2_000_000
 
 
-def best(program, data, wanted):
-    """The best processor time of some runs over an input, in seconds; their status has to be that."""
-    seconds = []
-    with tempfile.TemporaryFile() as file:
-        file.write(data)
-        for _ in range(RUNS):
-            file.seek(0)
-            done = subprocess.Popen([program, "stats"], stdin=file, stdout=subprocess.DEVNULL, stderr=subprocess.DEVNULL)
-            _, status, used = os.wait4(done.pid, 0)
-            done.returncode = os.waitstatus_to_exitcode(status)
-            if done.returncode != wanted:
-                sys.exit(f"status {done.returncode}")
-            seconds.append(used.ru_utime + used.ru_stime)
-    return min(seconds)
-
-
 def main():
-    program = sys.argv[1] if len(sys.argv) > 1 else PROGRAM
-    tree = machine(1000, 95, links=4000)
-    with tempfile.NamedTemporaryFile("w", suffix=".json") as file:
-        json.dump(tree, file)
-        file.flush()
-        _, log = processor_time(program, file.name)
+    measured, tree = program(), machine(1000, 95, links=4000)
+    log = log_of(measured, tree)
     lines = log.splitlines(keepends=True)
     entries = [line for line in lines if line[:1].isdigit()]
     end = lines[len(entries):]
     data = json.dumps(tree).encode() + b"\n" + b"".join((entries * 2)[:ENTRIES] + end)
-    told, read = best(program, data, 0), best(program, data + b"more\n", 3)
+    told, read = best([measured, "stats"], data), best([measured, "stats"], data + b"more\n", 3)
     print(f"{ENTRIES} entries: read {read:.3f} s, read and told {told:.3f} s, ratio {told / read:.2f}")
 
 

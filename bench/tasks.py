@@ -17,9 +17,7 @@ so that "as fast as an attempt's entries" reads 1. Rows:
   posts         a task raises one mark 100,000 times, beside 254 that wait for another, which it raises at its end
 """
 
-import sys
-
-from attempts import PROGRAM, timed
+from clock import program, timed
 from machine import machine
 
 
@@ -59,7 +57,7 @@ def refused(tree):
 
 
 def main():
-    program = sys.argv[1] if len(sys.argv) > 1 else PROGRAM
+    measured = program()
     hard = {"op": "event", "source": "lid", "hard": True, "times": 14999}
     timed_events = [{"op": "event", "source": "lid", "ms": 5}, {"op": "sleep", "ms": 10}] * 14999
     rows = [
@@ -74,8 +72,8 @@ def main():
     print(f"{'machine':>14} {'entries':>9} {'ns/entry':>9} {'ratio':>6}")
     first = None
     for name, built in rows:
-        seconds, entries = timed(program, built)
-        reading, _ = timed(program, refused(built), wanted=3)
+        seconds, entries = timed(measured, built)
+        reading, _ = timed(measured, refused(built), wanted=3)
         each = max(seconds - reading, 0.0) / entries * 1e9
         first = first or each
         print(f"{name:>14} {entries:>9} {each:>9.0f} {each / first:>6.2f}")

@@ -1,10 +1,11 @@
 #!/usr/bin/env python3
-"""Writes docs/DEFINITIONS.md from the comment lines of the crates' specs/.
+"""Writes docs/DEFINITIONS.md and docs/DEFINITIONS_ASIDE.md from the comment lines of the crates' specs/.
 
 usage: tools/definitions.py
 
-The page has what a reader has to trust, in reading order, and behind it the definitions that the program's clauses come
-to. Ends with status 1, and says which, where a definition has no comment line.
+The first page has what a reader has to trust, in reading order, and behind it the definitions that the program's clauses
+come to. The second has those of the crates on which no program stands. Ends with status 1, and says which, where a
+definition has no comment line.
 """
 
 import pathlib
@@ -28,7 +29,14 @@ the kernel has none. `tools/definitions.py` writes this page from the comment li
 Whoever believes these, with the definitions that they cite, knows what the headline says. They stand here in
 reading order, from "the program wrote a legal log" down to the rule that decides an entry. The sections behind have
 every definition that the headline's clause comes to. Definitions of invariants, which no promise names, are in the
-crates' `specs/` and not here.
+crates' `specs/` and not here. Those of crates on which no program stands have [a page of their own](DEFINITIONS_ASIDE.md).
+"""
+
+ASIDE_HEAD = """# Definitions aside
+
+No program stands on these crates yet, or none ever will, so nobody has to trust their definitions to believe what the
+program promises. [PROMISES](PROMISES.md#the-parts) says what each crate proves. The tables are as on
+[the page of the program's definitions](DEFINITIONS.md), and `tools/definitions.py` writes both.
 """
 
 # What to read, in order: a question, and the definitions that answer it, each with its crate and module.
@@ -45,6 +53,9 @@ READING = [
     ("What does every legal log keep?", [("sleep_model", "Laws", ["Laws", "LawsAt", "DependentsFirst", "SuppliersFirst", "Restored", "Owed", "TakenOnce", "NotOwedAlready", "EntersDown", "UndisturbedEnters", "AnswersFailure", "FoundPending", "InOrder", "GuardedSleep"])]),
     ("How is a log written?", [("sleep_model", "Text", ["text", "entry_line", "body"])]),
 ]
+
+# The rules of a log, each by itself, in reading order.
+RULES = "Questions Numbers Attempts Reads Walk Skip Runtime Owed Freezer Path Answers Restored Steps Enabled Source Links All Entry Verdict Law".split()
 
 # A section: its crate, its title, what of the kernel it is about, and its modules.
 SECTIONS = [
@@ -69,7 +80,8 @@ SECTIONS = [
     ("sleep_model", "What is due", "own", ["Due"]),
     ("sleep_model", "Legal logs", "own", ["Legal"]),
     ("sleep_model", "The laws of sleep", "`drivers/base/power/main.c`, `kernel/power/suspend.c`", ["Laws"]),
-    ("sleep_laws", "What the laws are proved of", "own", ["Laws", "Ends"]),
+    ("sleep_laws", "What the laws are proved of", "own", ["Laws", "Linked", "Ends"]),
+    ("sleep_model", "The rules of a log, each by itself", "`kernel/power/suspend.c`, `drivers/base/power/main.c`", [f"Rules/{rule}" for rule in RULES]),
     ("sleep_model", "The one log of separate histories", "own", ["Merge"]),
     ("sleep_model", "Which logs can be written, and how many places a source needs", "own", ["Fits", "Places"]),
     ("sleep_model", "The text of a log", "own", ["NameBytes", "Text"]),
@@ -80,12 +92,32 @@ SECTIONS = [
     ("command_line", "The words of the command line", "own", ["Words"]),
     ("log_text", "The grammar of a log, and its first bad line", "own", ["Grammar"]),
     ("sleep_run", "A whole run", "own", ["Runs"]),
+    ("wake_locks", "Named locks", "`kernel/power/wakelock.c`", ["Standings", "Texts", "Locks", "Writes", "Expiries", "Counted"]),
+    ("lock_lines", "The command `locks`", "`kernel/power/wakelock.c`", ["Lines", "Verbs", "Steps", "Answers", "Told", "Command"]),
+    ("sleep_stats", "What a log counts, and its longest chain", "`include/linux/suspend.h`, `drivers/base/power/main.c`", ["Counting", "Linked", "Chains"]),
+    ("log_commands", "The command `stats`", "`kernel/power/main.c`", ["Input", "Taking", "Telling", "Stats"]),
+    ("program_ending", "Statuses and their texts", "own", ["Endings", "Telling"]),
     ("sleep_main", "How the program ends", "own", ["Words", "Endings", "Counting"]),
 ]
 
-DEFINITION = re.compile(r"(?:abbrev pub|unfoldable pub|pub record|pub data) (\w+)")
+# The same of the crates on which no program stands.
+ASIDE = [
+    ("idle_loop", "Suspend-to-idle", "`kernel/power/suspend.c`", ["IdleLogs", "Laws", "Gates"]),
+    ("idle_merge", "The idler's journal and the hard events", "`kernel/power/suspend.c`", ["Merging", "Books"]),
+    ("check_order", "The checker's order of devices", "`drivers/base/core.c`", ["Visited"]),
+    ("check_account", "What the checker keeps of the entries before", "`kernel/power/suspend.c`, `drivers/base/power/wakeup.c`", ["Accounts"]),
+    ("sleep_pool", "Jobs that are lent to workers", "own", ["Turns"]),
+    ("turn_lock", "Locks in one table", "own", ["Books", "Passes"]),
+    ("run_laws", "What the passes of a burst made", "own", ["Passes"]),
+    ("run_world", "The world of a burst", "own", ["Objects", "Roots", "Told", "Calling"]),
+    ("world_workers", "A worker of a burst, and what goes into it", "own", ["Tries", "Workers", "Bursts"]),
+    ("burst_tasks", "The tasks of a burst, and what it came to", "own", ["Acts", "Bursts"]),
+    ("burst_laws", "A burst as acts in an order", "own", ["Courses", "Serial", "Keeping"]),
+    ("device_tree", "Devices by name", "`drivers/base/core.c`, `drivers/base/power/runtime.c`", ["Refusal", "Requests"]),
+]
+
+DEFINITION = re.compile(r" *(?:abbrev pub|unfoldable pub|pub record|pub data) (\w+)")
 TOGETHER = re.compile(r"  pub (\w+) :")
-MODULE = re.compile(r"pub mod (\w+)")
 CITED = re.compile(r" \(((?:own: )?[^()]*(?:\.c|\.h|_|own|struct )[^()]*)\)")
 
 
@@ -110,15 +142,16 @@ def definitions(path):
     """The names of a module's definitions, and the comment line of each."""
     comment, together = None, False
     for line in path.read_text().split("\n"):
-        # (definitions that call one another stand indented under one line)
+        # (definitions that call one another, and those of one list of types, stand indented under one line)
         together = line == "abbrev mutual" or together and line[:1] in ("", " ")
         found = (TOGETHER if together else DEFINITION).match(line)
         if found:
             if comment is None:
                 sys.exit(f"{path}: {found.group(1)} has no comment line")
             yield found.group(1), comment
-        said = line.lstrip() if together else line
-        comment = said[3:] if said.startswith("-- ") and not said.startswith("-- ----") else None
+        said = line.lstrip()
+        is_comment = said.startswith("-- ") and not said.startswith("-- ----")
+        comment = (f"{comment} {said[3:]}" if comment else said[3:]) if is_comment else None
 
 
 def section(crate, title, kernel, modules):
@@ -132,12 +165,6 @@ def section(crate, title, kernel, modules):
     yield "|---|---|" + ("---|" if wide else "")
     for name, comment in rows:
         yield f"| `{name}` | {sentence(comment)} |" + (f" {kernel_of(comment)} |" if wide else "")
-
-
-def modules_of(crate):
-    """The modules of a crate's specs."""
-    lib = ROOT / "crates" / crate / "specs" / "Lib.antt"
-    return MODULE.findall(lib.read_text()) if lib.exists() else []
 
 
 def reading():
@@ -154,11 +181,23 @@ def reading():
                 question = ""
 
 
+def page(lines, sections):
+    """The text of a page: these lines, and the sections behind them."""
+    behind = [line for one in sections for line in section(*one)]
+    return "\n".join([*lines, *behind]) + "\n"
+
+
+def pages():
+    """The pages, each with its file."""
+    yield ROOT / "docs" / "DEFINITIONS.md", page([HEAD.rstrip("\n"), *reading()], SECTIONS)
+    yield ROOT / "docs" / "DEFINITIONS_ASIDE.md", page([ASIDE_HEAD.rstrip("\n")], ASIDE)
+
+
 def main():
-    lines = [HEAD.rstrip("\n"), *reading()]
-    for crate, title, kernel, modules in SECTIONS:
-        lines += section(crate, title, kernel, [module for module in modules if module in modules_of(crate)])
-    (ROOT / "docs" / "DEFINITIONS.md").write_text("\n".join(lines) + "\n")
+    if len(sys.argv) > 1:
+        sys.exit(__doc__)
+    for path, text in pages():
+        path.write_text(text)
 
 
 if __name__ == "__main__":

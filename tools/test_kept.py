@@ -16,52 +16,66 @@ from try_kept import Trial, entries_of, first_broken
 WORKED = pathlib.Path(__file__).resolve().parent / "worked"
 SEED, MACHINES = 5, 60
 
-# A worked log, one of its lines from 1, what stands there in a broken copy (None: nothing), and the rules broken there.
-BROKEN = [
-    ("link_added", 2, "0 0/0/0 task:w link a b 0", [2]),
-    ("event_stops_a_device", 31, "5 0/1/0 task:w done suspend EBUSY", [4]),
-    ("event_stops_a_device", 31, "0 0/2/0 task:w done suspend EBUSY", [4]),
-    ("event_stops_a_device", 43, "0 0/1/0 task:w attempt 3 plain", [7]),
-    ("event_stops_a_device", 43, "0 0/1/0 task:w attempt 2 guarded 0", [7]),
-    ("event_stops_a_device", 42, "0 0/1/0 task:w over 2 EBUSY", [7]),
-    ("event_stops_a_device", 1, "0 0/0/0 task:w over 0 EBUSY", [7, 15, 17]),
-    ("event_stops_a_device", 2, "0 0/0/0 task:w save 0 EINVAL", [8]),
-    ("autosleep", 8, "0 0/1/0 task:w save 0 ok", [8]),
-    ("autosleep", 9, "0 0/1/0 auto read 0", [8]),
-    ("autosleep", 3, "0 1/0/0 task:w autosleep EINVAL", [8]),
-    ("event_stops_a_device", 23, "0 0/0/0 task:w begin suspend disk", [9]),
-    ("event_stops_a_device", 17, "0 0/0/0 task:w prepare disk 1", [9]),
-    ("event_stops_a_device", 25, "0 0/0/0 task:w end suspend net EIO", [9]),
-    ("event_stops_a_device", 23, "0 0/0/0 task:w begin late net", [9, 14]),
-    ("callback_reports", 13, "0 0/0/0 task:w end suspend nic 0", [9, 17]),
-    ("callback_reports", 13, "0 0/0/0 task:w awake lan", [9, 17]),
-    ("event_stops_a_device", 29, "0 0/1/0 task:w begin suspend disk", [9, 10]),
-    ("event_stops_a_device", 29, "0 0/1/0 task:w skip suspend disk direct", [10]),
-    ("runtime_requests", 18, "0 0/0/0 task:n runtime d suspended 0", [11]),
-    ("event_stops_a_device", 33, "0 0/1/0 task:w begin resume disk", [9, 12]),
-    ("autosleep", 14, None, [13]),
-    ("autosleep", 14, "0 0/1/0 task:w slept", [13, 17]),
-    ("freeze_times_out", 7, "20000 0/0/0 task:w froze user EBUSY timeout 2 b", [13]),
-    ("freeze_times_out", 5, "0 0/0/0 task:w froze user 0", [13, 14]),
-    ("event_stops_a_device", 32, "0 0/1/0 task:w platform end", [14]),
-    ("event_stops_a_device", 15, "0 0/0/0 task:w platform begin EIO", [14]),
-    ("event_stops_a_device", 32, "0 0/1/0 task:w post a", [14, 17]),
-    ("autosleep", 27, "0 0/1/0 auto enter EBUSY", [14]),
-    ("event_stops_a_device", 31, "0 0/1/0 task:w done suspend 0", [15]),
-    ("autosleep", 39, "1000 0/1/0 auto over 1 0", [14, 16]),
-    ("autosleep", 42, "1000 0/1/0 auto sleep_d 1400", [17]),
-    ("autosleep", 7, "0 0/1/0 auto again", [17]),
-    ("asynchronous_child", 11, "0 0/0/0 task:w begin suspend c", [17]),
-    ("autosleep", 29, "1000 0/1/0 auto wake event", [18]),
-    ("event_stops_a_device", 32, "0 0/1/0 task:w wake alarm", [14, 18]),
-    ("event_stops_a_device", 32, "0 0/1/0 task:w frozen", [13, 14, 17]),
-    ("autosleep", 11, "0 0/1/0 auto frozen", [13, 17]),
-    ("autosleep", 43, "1300 0/1/0 time jump", [18]),
-    ("autosleep", 27, None, [18]),
-    ("event_stops_a_device", 27, "0 0/0/0 irq:k hard lid", [17, 22]),
-    ("event_stops_a_device", 27, "0 0/0/0 task:w start lid", [17]),
-    ("event_stops_a_device", 26, None, [22]),
-]
+# Worked logs, with broken copies of each: a line, from 1, what stands there in the copy (None: nothing), and the rules broken there.
+BROKEN = {
+    "link_added": [
+        (2, "0 0/0/0 task:w link a b 0", [2]),
+    ],
+    "event_stops_a_device": [
+        (31, "5 0/1/0 task:w done suspend EBUSY", [4]),
+        (31, "0 0/2/0 task:w done suspend EBUSY", [4]),
+        (43, "0 0/1/0 task:w attempt 3 plain", [7]),
+        (43, "0 0/1/0 task:w attempt 2 guarded 0", [7]),
+        (42, "0 0/1/0 task:w over 2 EBUSY", [7]),
+        (1, "0 0/0/0 task:w over 0 EBUSY", [7, 15, 17]),
+        (2, "0 0/0/0 task:w save 0 EINVAL", [8]),
+        (23, "0 0/0/0 task:w begin suspend disk", [9]),
+        (17, "0 0/0/0 task:w prepare disk 1", [9]),
+        (25, "0 0/0/0 task:w end suspend net EIO", [9]),
+        (23, "0 0/0/0 task:w begin late net", [9, 14]),
+        (29, "0 0/1/0 task:w begin suspend disk", [9, 10]),
+        (29, "0 0/1/0 task:w skip suspend disk direct", [10]),
+        (33, "0 0/1/0 task:w begin resume disk", [9, 12]),
+        (32, "0 0/1/0 task:w platform end", [14]),
+        (15, "0 0/0/0 task:w platform begin EIO", [14]),
+        (32, "0 0/1/0 task:w post a", [14, 17]),
+        (31, "0 0/1/0 task:w done suspend 0", [15]),
+        (32, "0 0/1/0 task:w wake alarm", [14, 18]),
+        (32, "0 0/1/0 task:w frozen", [13, 14, 17]),
+        (27, "0 0/0/0 irq:k hard lid", [17, 22]),
+        (27, "0 0/0/0 task:w start lid", [17]),
+        (26, None, [22]),
+    ],
+    "autosleep": [
+        (8, "0 0/1/0 task:w save 0 ok", [8]),
+        (9, "0 0/1/0 auto read 0", [8]),
+        (3, "0 1/0/0 task:w autosleep EINVAL", [8]),
+        (14, None, [13]),
+        (14, "0 0/1/0 task:w slept", [13, 17]),
+        (27, "0 0/1/0 auto enter EBUSY", [14]),
+        (39, "1000 0/1/0 auto over 1 0", [14, 16]),
+        (42, "1000 0/1/0 auto sleep_d 1400", [17]),
+        (7, "0 0/1/0 auto again", [17]),
+        (29, "1000 0/1/0 auto wake event", [18]),
+        (11, "0 0/1/0 auto frozen", [13, 17]),
+        (43, "1300 0/1/0 time jump", [18]),
+        (27, None, [18]),
+    ],
+    "callback_reports": [
+        (13, "0 0/0/0 task:w end suspend nic 0", [9, 17]),
+        (13, "0 0/0/0 task:w awake lan", [9, 17]),
+    ],
+    "runtime_requests": [
+        (18, "0 0/0/0 task:n runtime d suspended 0", [11]),
+    ],
+    "freeze_times_out": [
+        (7, "20000 0/0/0 task:w froze user EBUSY timeout 2 b", [13]),
+        (5, "0 0/0/0 task:w froze user 0", [13, 14]),
+    ],
+    "asynchronous_child": [
+        (11, "0 0/0/0 task:w begin suspend c", [17]),
+    ],
+}
 
 
 def worked(name):
@@ -78,10 +92,11 @@ def try_worked():
 
 
 def try_broken():
-    for name, line, said, rules in BROKEN:
+    for name, copies in BROKEN.items():
         tree, lines = worked(name)
-        copy = lines[: line - 1] + ([] if said is None else [said]) + lines[line:]
-        assert first_broken(tree, copy) == (line - 1, rules), (name, line, said, first_broken(tree, copy))
+        for line, said, rules in copies:
+            copy = lines[: line - 1] + ([] if said is None else [said]) + lines[line:]
+            assert first_broken(tree, copy) == (line - 1, rules), (name, line, said, first_broken(tree, copy))
 
 
 def try_random():

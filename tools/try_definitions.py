@@ -13,16 +13,15 @@ machines take about a minute, once its libraries are checked. Ends with status 1
 
 import json
 import pathlib
-import re
-import subprocess
 import sys
 
+import laws
 import worked
+from limits import AUTO_CYCLES
 from second.maker import Maker
 from second.merged import Interleaved
 from second.run import Run
 
-ROOT = pathlib.Path(__file__).resolve().parent.parent
 LEAST, MOST = 12, 100  # How many entries a log has.
 A_MODULE = 25  # Logs in a module of specs/.
 
@@ -37,7 +36,7 @@ def call_places(given):
 def most_attempts(tree):
     """How many attempts may be begun."""
     made = [(step["op"], step.get("times", 1) * a.get("repeat", 1)) for a in tree["actors"] for step in a["script"]]
-    cycles = tree.get("auto_cycles", 16) if any(op == "autosleep" for op, _ in made) else 0
+    cycles = tree.get("auto_cycles", AUTO_CYCLES) if any(op == "autosleep" for op, _ in made) else 0
     return sum(times for op, times in made if op == "state") + cycles
 
 
@@ -140,8 +139,8 @@ def write_crate(crate, logs, merged):
         worked.write_module(module, "Random machines and their logs.", texts, crate, STAMPED if merged else "")
     (crate / "specs" / "Lib.antt").write_text("".join(f"pub mod {name}\n" for name in [*KEPT, *modules]))
     endings = ["_machine", "", "_entries", *(["_stamped"] if merged else [])]
-    laws = [LAWS_HEAD, *worked.ghost_uses(logs, *endings), *map(merged_law if merged else law, logs)]
-    (crate / "src" / "lib.rt").write_text("".join(laws))
+    texts = [LAWS_HEAD, *worked.ghost_uses(logs, *endings), *map(merged_law if merged else law, logs)]
+    (crate / "src" / "lib.rt").write_text("".join(texts))
 
 
 def main():
@@ -150,22 +149,18 @@ def main():
         sys.exit(__doc__)
     seed, machines, folder = int(words[0]), int(words[1]), pathlib.Path(words[2]).resolve()
     merged = "--interleaved" in sys.argv
-    if not folder.exists():
-        subprocess.run(["git", "clone", "--quiet", ROOT, folder], check=True)
-    crate = folder / "crates" / "log_trials"
+    crate = laws.crate_in(folder, "log_trials")
     logs = logs_of(seed, machines, Interleaved if merged else Run)
     write_crate(crate, logs, merged)
-    ran = subprocess.run(["rt", "check"], cwd=crate, capture_output=True, text=True)
-    said = ran.stdout + ran.stderr
-    open_laws = sorted(set(re.findall(r"log_trials::(machine_\d+)_is_made: (?!proved)", said)))
+    open_laws, said = laws.open_laws(crate, r"(machine_\d+)_is_made")
     for log in logs:
         if log.name in open_laws:
             print(f"{log.name}: {log.says}\n{log.text}")
     entries = sum(len(log.lines) for log in logs)
     print(f"{len(logs)} machines, {entries} entries: {len(open_laws)} laws open")
-    if ran.returncode and not open_laws:
+    if said and not open_laws:
         print(said)
-    sys.exit(ran.returncode != 0)
+    sys.exit(said is not None)
 
 
 if __name__ == "__main__":

@@ -13,10 +13,9 @@ where a law stays open, and names it.
 import json
 import pathlib
 import random
-import re
-import subprocess
 import sys
 
+import laws
 import worked
 from second.maker import Maker
 from second.merged import Interleaved
@@ -24,7 +23,6 @@ from second.place import Entry
 from second.run import Run
 from try_kept import broken_copies, entries_of, first_broken
 
-ROOT = pathlib.Path(__file__).resolve().parent.parent
 LEAST, MOST = 8, 70  # How many entries a log has.
 A_MODULE = 25  # Logs in a module of specs/.
 KEPT = 2  # How many lines of a log that break no rule are asked for.
@@ -100,22 +98,18 @@ def main():
     if len(sys.argv) != 4:
         sys.exit(__doc__)
     seed, machines, folder = int(sys.argv[1]), int(sys.argv[2]), pathlib.Path(sys.argv[3]).resolve()
-    if not folder.exists():
-        subprocess.run(["git", "clone", "--quiet", ROOT, folder], check=True)
-    crate = folder / "crates" / "rule_trials"
+    crate = laws.crate_in(folder, "rule_trials")
     found = judged(seed, machines)
     write_crate(crate, found)
-    ran = subprocess.run(["rt", "check"], cwd=crate, capture_output=True, text=True)
-    said = ran.stdout + ran.stderr
-    still_open = sorted(set(re.findall(r"rule_trials::(line_\d+)_is_judged: (?!proved)", said)))
+    still_open, said = laws.open_laws(crate, r"(line_\d+)_is_judged")
     for one in found:
         if one.name in still_open:
             print(f"{one.name}: {one.rules}", *one.lines[-4:], sep="\n  ")
     broken = sum(bool(one.rules) for one in found)
     print(f"{len(found)} lines, {broken} of them broken: {len(still_open)} laws open")
-    if ran.returncode and not still_open:
+    if said and not still_open:
         print(said)
-    sys.exit(ran.returncode != 0)
+    sys.exit(said is not None)
 
 
 if __name__ == "__main__":

@@ -13,7 +13,8 @@ import random
 import subprocess
 import sys
 
-from second.locks import MOST_INPUT, run
+from limits import MOST_INPUT
+from second.locks import run
 
 # ---- worked rows: an input, its status and its output
 

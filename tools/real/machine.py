@@ -3,11 +3,11 @@
 import collections
 import json
 
+from limits import MOST, MOST_CPUS, MOST_OF_ONE, MOST_SEEN
+
 from .names import Finder, Names, Row
 from .tree import Refused
 
-MOST = {"devices": 1000, "links": 4000, "sources": 255, "answers": 10_000, "reports": 16, "cpus": 64}
-MOST_SEEN = 100_000  # Attempts times the devices and 50.
 ERRORS = {-5: "EIO", -11: "EAGAIN", -16: "EBUSY", -19: "ENODEV", -22: "EINVAL"}
 DOWN = ("prepare", "suspend", "late", "noirq")
 SILENT = ("prepare", "complete")  # In these phases a callback of a machine file reports nothing.
@@ -162,7 +162,7 @@ class Builder:
     def build(self, has_writer):
         """The machine file as a tree of JSON, and the rows and sources of its table of names."""
         if len(self.things) > MOST["devices"]:
-            raise Refused(f"{len(self.things)} devices, of which a machine file has at most 1000: ask for a branch with --branch")
+            raise Refused(f"{len(self.things)} devices, of which a machine file has at most {MOST['devices']}: ask for a branch with --branch")
         names = Names()
         for thing in self.things:
             thing.name = names.give(thing.real)
@@ -187,7 +187,7 @@ class Builder:
     def cpus(self):
         stopped = {cpu for attempt in (self.trace.attempts if self.trace else []) for cpu in attempt.cpus}
         found = self.tree.cpus if self.tree else None
-        return min(found or len(stopped) + 1, MOST["cpus"])
+        return min(found or len(stopped) + 1, MOST_CPUS)
 
     def name_sources(self):
         """Ours for each real name of a source: those of the tree, then those that the trace alone tells."""
@@ -258,7 +258,7 @@ class Builder:
         for place, call in enumerate(attempt.calls):
             if not call.is_start and call.callback is None:
                 continue  # (what it ends is an event of some length, or none of the file)
-            fits = self.is_placed(call) and len(found[call.callback]) < MOST["reports"]
+            fits = self.is_placed(call) and len(found[call.callback]) < MOST_OF_ONE
             if fits:
                 found[call.callback].append(self.report(call, attempt.calls[place + 1:]))
             elif call.is_start:

@@ -4,58 +4,26 @@ The jobs of the run are the judge. At each line the job of its actor takes a tur
 and what it writes has to be that line. After a line that is none of theirs nothing more is asked.
 """
 
-from .run import Run
+from .machine import STEPS
+from .steps import Stepwise
 
-STEPS = ("start", "finish", "hard")
 
-
-class Follower(Run):
+class Follower(Stepwise):
     """A machine under way, whose turns a log gives."""
 
     def __init__(self, tree):
         super().__init__(tree)
-        self.said, self.owed = [], {}
-        beside = [d for d in self.names if self.devices[d].get("async")]
-        labels = [task.label for task in self.tasks] + ["auto"] + [f"dev:{d}" for d in beside]
-        labels += [f"timer:{source.name}" for source in self.sources]
-        self.labelled = dict(zip(labels, self.jobs))
+        self.said = []
+        self.labelled = dict(zip(self.labels, self.jobs))
 
     def put(self, who, body):
-        self.said.append(f"{self.time} {self.inpr}/{self.count}/{self.hard} {who} {body}")
-
-    # ---- calls, a step at a time
-
-    def owner(self, source):
-        return next((who for who, (held, _) in self.owed.items() if held is source), None)
-
-    def hard_step(self, who, source):
-        self.put(who, f"hard {source.name}")
-        self.hard += 1
+        self.said.append(self.entry(who, body))
 
     def call(self, who, given):
-        source, made = self.named[given["source"]], given.get("call") or given["op"]
-        if self.owner(source) is not None:
-            return
-        active, length, hard = source.since is not None, given.get("ms", 0), given.get("hard", False)
-        steps = [lambda: self.begin_event(who, source)] if made in ("awake", "event") and not active else []
-        if made == "event":
-            self.put(who, f"event {source.name} {length} {'hard' if hard else 'soft'}")
-            steps += [lambda: self.hard_step(who, source)] if hard else []
-        else:
-            self.put(who, f"{made} {source.name}")
-        if made == "event" and length > 0:
-            source.expiry = max(source.expiry or 0, self.time + length)
-        elif made == "awake":
-            source.expiry = None
-        if (made == "event" and length == 0) or (made in ("relax", "expire") and active):
-            steps.append(lambda: self.end_event(who, source))
-        if steps:
-            self.owed[who] = (source, steps)
-
-    def timer(self, source):
-        turns = super().timer(source)
-        while True:
-            yield self.owner(source) is None and next(turns)
+        """The note of a call: none where another call is under way on the source."""
+        source = self.named[given["source"]]
+        if self.owner(source) is None:
+            self.make_call(who, given, source)
 
     # ---- a line
 
@@ -64,8 +32,7 @@ class Follower(Run):
 
     def jump(self, line):
         time = int(line.split(" ")[0])
-        over = all(task.exited for task in self.tasks) and self.maker is None
-        if not self.is_idle() or over or min(self.times(), default=None) != time:
+        if not self.is_idle() or self.is_over() or min(self.times(), default=None) != time:
             return False
         self.time = time
         self.put("time", "jump")
@@ -78,12 +45,10 @@ class Follower(Run):
         if (who, verb) == ("time", "jump"):
             return self.jump(line)
         if verb in STEPS:
-            held, steps = self.owed.get(who, (None, []))
+            held, _ = self.owed.get(who, (None, []))
             if held is None or held.name != rest[0]:
                 return False
-            steps.pop(0)()
-            if not steps:
-                del self.owed[who]
+            self.step(who)
         elif who in self.owed or who not in self.labelled:
             return False
         else:

@@ -6,10 +6,8 @@ happened on it. The rules say what every line of the command `locks` answers; no
 
 import re
 
-from second.limits import LONGEST_MS, MOST_ENTRIES
+from limits import LONGEST_MS, MOST_ENTRIES, MOST_INPUT, MOST_LOCKS
 
-MOST_LOCKS = 100
-MOST_INPUT = 1 << 24
 NAME = rb"[a-z0-9_.-]{1,32}"
 LOCK = re.compile(NAME + rb"( +[0-9]{1,20})?\n?", re.ASCII)
 FORMS = re.compile(rb"(lock|unlock) .*|after [1-9][0-9]*|active|inactive", re.ASCII | re.DOTALL)
@@ -124,7 +122,7 @@ def is_line(line):
 def run(given, places=MOST_ENTRIES):
     """What the command answers to an input: its status, its output, and what it says on standard error."""
     if len(given) > MOST_INPUT:
-        return 3, b"", b"locks: longer than 16777216 bytes\n"
+        return 3, b"", b"locks: longer than %d bytes\n" % MOST_INPUT
     lines = lines_of(given)
     for number, line in enumerate(lines, 1):
         if not is_line(line):

@@ -4,12 +4,10 @@ It keeps what the rules ask of the entries before: the word, the saved count, th
 stands in each pair of phases, where each script is, what each source owes, and which calls each actor has left.
 """
 
-from .limits import NAP_MS, VISIBLE
+from limits import NAP_MS
 
-DOWN = {"suspend": "resume", "late": "early", "noirq": "resume_noirq"}
-UP = {up: down for down, up in DOWN.items()}
-STEPS = ("start", "finish", "hard")
-NOTES = ("awake", "relax", "event", "expire")
+from .machine import DOWN, NOTES, STEPS, UP, Machine
+
 BEHIND_DOWN = {"suspend": ("platform", "prepare"), "late": ("downs", "noirq"), "noirq": ("platform", "prepare_late")}
 BEHIND_UP = {"resume_noirq": ("ups", "early"), "early": ("undo", "finish"), "resume": ("completes",)}
 BEHIND_DO = {"begin": ("prepares",), "prepare": ("downs", "late"), "prepare_late": ("cpus",)}
@@ -106,81 +104,32 @@ class SourceAt:
             self.since = self.expiry = None
 
 
-class Place:
+class Place(Machine):
     """What stands behind the entries so far."""
 
     def __init__(self, tree):
-        self.tree = tree
-        self.time, self.inpr, self.count, self.hard = 0, 0, 0, 0
-        self.attempts, self.maker, self.stage, self.force, self.forgotten = 0, None, None, None, 0
+        super().__init__(tree)
+        self.maker, self.stage, self.force, self.forgotten = None, None, None, 0
         self.holder, self.on, self.work, self.queued, self.runs = None, False, ("resting",), False, 0
         self.failed = self.phase_failed = self.own_error = self.callback = None
         self.freeze_since = self.sleep = None
         self.entered = False
         self.told, self.cpus_off, self.stopped, self.owes, self.irqs_off = set(), set(), set(), set(), False
-        self.devices = tree.get("devices", [])
-        self.names = [d["name"] for d in self.devices]
-        self.given = {d["name"]: d for d in self.devices}
         self.stands = {p: dict.fromkeys(self.names, "unprepared") for p in DOWN}
         self.asks_direct, self.off_direct, self.off_late = set(), False, False
-        self.suspended = {d["name"] for d in self.devices if d.get("runtime") == "suspended"}
+        self.suspended = {d for d, given in self.devices.items() if given.get("runtime") == "suspended"}
         self.marks = {}
         self.seats = {("irq:" if g["kind"] == "irq" else "task:") + g["name"]: Seat(g) for g in tree.get("actors", [])}
         self.sources = {name: SourceAt() for name in [*tree.get("sources", []), "autosleep"]}
-        self.set_links(tree.get("links", []))
-        self.answers = {(a["what"], a["name"], a.get("phase"), a.get("attempt")): a for a in tree.get("answers", [])}
         self.left = {who: self.calls(seat, 0) for who, seat in self.seats.items()}
         self.turns = dict.fromkeys(self.seats, 0)
         self.last = {}
 
-    # ---- links
-
-    def set_links(self, links):
-        self.order, self.links = list(self.names), {}
-        for link in links:
-            self.add_link(link["supplier"], link["consumer"], link.get("state", "active") == "active")
-
-    def add_link(self, supplier, consumer, active):
-        self.links[supplier, consumer] = active
-        moved = self.moved(consumer)
-        last = [d for at, d in enumerate(moved) if d not in moved[at + 1 :]]
-        self.order = [d for d in self.order if d not in last] + last
-
-    def children(self, d):
-        return [name for name in self.names if self.given[name].get("parent") == d]
-
-    def moved(self, d):
-        found = [d]
-        for below in self.children(d) + [to for of, to in self.links if of == d]:
-            found += self.moved(below)
-        return found
-
-    def below(self, d):
-        return self.children(d) + [to for (of, to), active in self.links.items() if of == d and active]
-
-    def above(self, d):
-        parent = self.given[d].get("parent")
-        return ([] if parent is None else [parent]) + [of for (of, to), active in self.links.items() if to == d and active]
-
     # ---- plain questions
-
-    def answer(self, what, name, phase=None):
-        own = self.answers.get((what, name, phase, self.attempts))
-        found = own or self.answers.get((what, name, phase, None)) or {}
-        return str(found.get("ret", 0)), found.get("reports", [])
-
-    def visible(self):
-        return self.count % VISIBLE
 
     def pending(self):
         moved = self.force is not None and (self.visible() != self.force or self.inpr > 0)
         return moved or self.hard > self.forgotten
-
-    def position(self):
-        return self.inpr + 2 * self.count + self.hard
-
-    def is_async(self, d):
-        return self.given[d].get("async", False)
 
     def call_order(self):
         return [x["name"] for x in sorted(self.tree.get("notifiers", []), key=lambda x: -x.get("priority", 0))]

@@ -3,12 +3,12 @@
 import json
 import re
 
-from .limits import LONGEST_MS, MOST_LINKS, MOST_REPORTS, MOST_SEEN, MOST_STEPS, MOST_TIMES, WORD
+from limits import ALARM_MS, AUTO_CYCLES, LONGEST_MS, MOST, MOST_CPUS, MOST_LINKS, MOST_OF_ONE, MOST_REPORTS, MOST_SEEN
+from limits import MOST_STEPS, MOST_TIMES, WORD
 
 MEMBERS = "version alarm_ms cpus auto_cycles devices links syscore notifiers sources actors answers".split()
-LISTS = MEMBERS[4:]
-RANGES = {"alarm_ms": (1, LONGEST_MS), "cpus": (1, 64), "auto_cycles": (1, 1000)}
-MOST = dict(zip(LISTS, (1000, 4000, 32, 32, 255, 256, 10_000)))
+LISTS = list(MOST)
+RANGES = {"alarm_ms": (1, LONGEST_MS), "cpus": (1, MOST_CPUS), "auto_cycles": (1, 1000)}
 NAME = re.compile(r"[a-z0-9_.\-]{1,32}\Z")
 PHASES = "prepare suspend late noirq resume_noirq early resume".split()
 ERRORS = "EINTR EIO EAGAIN EACCES EBUSY ENODEV EINVAL".split()
@@ -213,7 +213,7 @@ def answer_rules(file):
     yield 20, first_not("answers", answers, there)
     allowed = lambda answer: [0, "EIO", "EBUSY", "ENODEV", "EINVAL", 1 if is_prepare(answer) else "EAGAIN"]
     yield 21, first_not("answers", answers, lambda answer, _: answer.get("ret", 0) in allowed(answer))
-    most = lambda answer: 16 if is_device(answer) and not is_prepare(answer) else 0
+    most = lambda answer: MOST_OF_ONE if is_device(answer) and not is_prepare(answer) else 0
     yield 22, first_not("answers", answers, lambda answer, _: len(answer.get("reports", [])) <= most(answer))
     key = lambda answer: [answer.get(member) for member in ("what", "name", "phase", "attempt")]
     yield 23, first_not("answers", [key(answer) for answer in answers], lambda found, before: found not in before)
@@ -223,7 +223,7 @@ def amount_rules(file):
     steps = lambda *ops: sum(
         actor.get("repeat", 1) * found.get("times", 1) for _, actor, found in operations_of(file) if found["op"] in ops
     )
-    attempts = steps("state") + (file.get("auto_cycles", 16) if steps("autosleep") else 0)
+    attempts = steps("state") + (file.get("auto_cycles", AUTO_CYCLES) if steps("autosleep") else 0)
     too_long = steps(*OPERATIONS) > MOST_STEPS or attempts * (len(file.get("devices", [])) + 50) > MOST_SEEN
     too_linked = len(file.get("links", [])) + steps("link") > MOST_LINKS
     reports = sum(len(answer.get("reports", [])) for answer in file.get("answers", []))
@@ -261,7 +261,7 @@ def without_defaults(file):
     }
     parts = {member: [kept[member](item) for item in file[member]] for member in kept if member in file}
     empty = {member: [] for member in LISTS}
-    return without(file | parts | {"version": 2}, alarm_ms=1000, cpus=1, auto_cycles=16, **empty)
+    return without(file | parts | {"version": 2}, alarm_ms=ALARM_MS, cpus=1, auto_cycles=AUTO_CYCLES, **empty)
 
 
 def compact(value, sort_keys=False):

@@ -3,8 +3,10 @@
 Written from crates/sleep_model/specs/Rules, a function a definition; each has the number that the checker names it by.
 """
 
-from .limits import FREEZE_MS, MOST_ENTRIES, NAP_MS
-from .place import DOWN, UP, Entry, Place, is_good, is_mem
+from limits import ALARM_MS, AUTO_CYCLES, FREEZE_MS, MOST_ENTRIES, NAP_MS
+
+from .machine import DOWN, UP
+from .place import Entry, Place, is_good, is_mem
 
 LINKS, NUMBERS, ATTEMPTS, READS, WALK, SKIP, RUNTIME = 2, 4, 7, 8, 9, 10, 11
 OWED, FREEZER, PATH, ANSWERS, RESTORED, STEPS, ENABLED, SOURCE = 12, 13, 14, 15, 16, 17, 18, 22
@@ -138,7 +140,7 @@ class Kept(Place):
     def is_direct(self, p, d):
         if p != "suspend":
             return self.stands["suspend"][d] == "direct"
-        calm = d in self.asks_direct and d in self.suspended and not self.given[d].get("wakeup", False)
+        calm = d in self.asks_direct and d in self.suspended and not self.devices[d].get("wakeup", False)
         return calm and all(self.stands["suspend"][x] == "direct" for x in self.below(d))
 
     def turn_of(self, p, d):
@@ -336,7 +338,7 @@ class Kept(Place):
     # ---- each actor's steps
 
     def is_in_callback(self, who):
-        if who.startswith("dev:") and who[4:] in self.given:
+        if who.startswith("dev:") and who[4:] in self.devices:
             return self.work_of(who[4:])[0] == "inside"
         return who == self.maker and self.callback is not None
 
@@ -411,7 +413,7 @@ class Kept(Place):
             begun = at[1] is not None
             return (w == ["slept"] and at[1] <= self.time) if begun else w == ["sleep_d", str(self.time + NAP_MS)]
         if at[0] == "resting":
-            return verb == "run" and self.queued and self.runs < self.tree.get("auto_cycles", 16)
+            return verb == "run" and self.queued and self.runs < self.tree.get("auto_cycles", AUTO_CYCLES)
         rules = {
             "reading": verb == "read" and w[1] not in ("wait", "EINTR"),
             "saving": verb in ("saved", "unsaved"),
@@ -422,7 +424,7 @@ class Kept(Place):
         return rules[at[0]]
 
     def is_device_step(self, d, w):
-        work = self.work_of(d) if d in self.given else ("idle",)
+        work = self.work_of(d) if d in self.devices else ("idle",)
         verbs = {"scheduled": ("begin", "skip"), "inside": ("end",)}.get(work[0], ())
         return w[0] in verbs and w[1:3] == [work[1], d]
 
@@ -435,7 +437,7 @@ class Kept(Place):
             return True
         if e.verb == "wake":
             event = self.sleep is not None and self.position() > self.sleep[0]
-            alarm = self.sleep is not None and self.time >= self.sleep[1] + self.tree.get("alarm_ms", 1000)
+            alarm = self.sleep is not None and self.time >= self.sleep[1] + self.tree.get("alarm_ms", ALARM_MS)
             if e.words[1] != ("event" if event else "alarm" if alarm else None):
                 return False
         if self.is_maker(e):
@@ -462,7 +464,7 @@ class Kept(Place):
         if self.freeze_since is not None:
             yield self.freeze_since + FREEZE_MS
         if self.sleep is not None:
-            yield self.sleep[1] + self.tree.get("alarm_ms", 1000)
+            yield self.sleep[1] + self.tree.get("alarm_ms", ALARM_MS)
 
     def somebody(self):
         """Somebody can make an entry: one of those that it could make keeps all rules."""

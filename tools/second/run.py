@@ -5,89 +5,40 @@ counters that change, and a coroutine for each job, whose `yield` ends a turn an
 something. The file has to be one that is accepted.
 """
 
-from .limits import FREEZE_MS, MOST_ENTRIES, NAP_MS, VISIBLE
+from limits import ALARM_MS, AUTO_CYCLES, FREEZE_MS, MOST_ENTRIES, NAP_MS
+
+from .machine import DOWN, UP, Machine
 from .things import Phase, Source, SourceFull, Task
 
-DOWN = {"suspend": "resume", "late": "early", "noirq": "resume_noirq"}
-UP = {up: down for down, up in DOWN.items()}
 TESTED = ("suspend", "late")  # Phases whose callbacks are preceded by a test for wakeup.
 
 
-class Run:
+class Run(Machine):
     """A machine under way."""
 
     def __init__(self, tree):
-        self.tree = tree
+        super().__init__(tree)
         self.lines = []
-        self.time = self.inpr = self.count = self.hard = 0
         self.check, self.saved_count, self.seen_hard = False, 0, 0
         self.lock, self.on, self.queued, self.works = None, False, False, 0
-        self.attempts, self.maker, self.asleep, self.deadline = 0, None, None, None
+        self.maker, self.asleep, self.deadline = None, None, None
         self.nap = None
         self.marks = {}
         self.sources = [Source(name) for name in [*tree.get("sources", []), "autosleep"]]
         self.named = {source.name: source for source in self.sources}
         self.tasks = [Task(given) for given in tree.get("actors", [])]
-        self.set_devices(tree.get("devices", []), tree.get("links", []))
-        self.set_answers(tree.get("answers", []))
-        self.phase = None
-        jobs = [self.script(task) for task in self.tasks] + [self.autosleep_work()]
-        jobs += [self.device_job(d) for d in self.names if self.devices[d].get("async")]
-        self.jobs = jobs + [self.timer(source) for source in self.sources]
-
-    # ---- devices
-
-    def set_devices(self, devices, links):
-        self.names = [d["name"] for d in devices]
-        self.devices = {d["name"]: d for d in devices}
-        self.suspended = {d["name"]: d.get("runtime") == "suspended" for d in devices}
+        self.suspended = {d: given.get("runtime") == "suspended" for d, given in self.devices.items()}
         self.off_direct, self.off_late = set(), set()
         self.prepared, self.down = {}, {phase: set() for phase in DOWN}
-        self.order = list(self.names)
-        self.links = {}  # Whether the link of a supplier and a consumer is active, the oldest first.
-        for link in links:
-            self.add_link(link["supplier"], link["consumer"], link.get("state", "active") == "active")
-
-    def add_link(self, supplier, consumer, active):
-        self.links[supplier, consumer] = active
-        moved = self.moved(consumer)
-        last = [d for at, d in enumerate(moved) if d not in moved[at + 1 :]]
-        self.order = [d for d in self.order if d not in last] + last
-
-    def children(self, d):
-        return [name for name in self.names if self.devices[name].get("parent") == d]
-
-    def below(self, d):
-        """The devices that d waits for as it goes down: dormant links do not count."""
-        return self.children(d) + [to for (of, to), active in self.links.items() if of == d and active]
-
-    def above(self, d):
-        parent = self.devices[d].get("parent")
-        suppliers = [of for (of, to), active in self.links.items() if to == d and active]
-        return suppliers if parent is None else [parent, *suppliers]
-
-    def moved(self, d):
-        """The device and all that hang below it, as they go to the tail: children first, then consumers."""
-        found = [d]
-        for below in self.children(d) + [to for of, to in self.links if of == d]:
-            found += self.moved(below)
-        return found
-
-    def set_answers(self, answers):
-        self.answers = {(a["what"], a["name"], a.get("phase"), a.get("attempt")): a for a in answers}
-
-    def answer(self, what, name, phase=None):
-        own = self.answers.get((what, name, phase, self.attempts))
-        found = own or self.answers.get((what, name, phase, None)) or {}
-        return str(found.get("ret", 0)), found.get("reports", [])
+        self.phase = None
+        jobs = [self.script(task) for task in self.tasks] + [self.autosleep_work()]
+        jobs += [self.device_job(d) for d in self.names if self.is_async(d)]
+        self.jobs = jobs + [self.timer(source) for source in self.sources]
 
     # ---- entries
 
     def put(self, who, body):
-        self.lines.append(f"{self.time} {self.inpr}/{self.count}/{self.hard} {who} {body}")
-
-    def position(self):
-        return self.inpr + 2 * self.count + self.hard
+        self.lines.append(self.entry(who, body))
 
     # ---- sources
 
@@ -147,9 +98,6 @@ class Run:
             yield due
 
     # ---- the saved count
-
-    def visible(self):
-        return self.count % VISIBLE
 
     def save(self, count):
         self.check = self.visible() == count and self.inpr == 0
@@ -370,7 +318,7 @@ class Run:
     def autosleep_work(self):
         while True:
             yield from self.auto_ready()
-            while not self.queued or self.works >= self.tree.get("auto_cycles", 16):
+            while not self.queued or self.works >= self.tree.get("auto_cycles", AUTO_CYCLES):
                 yield False
                 yield from self.auto_ready()
             self.queued, self.works = False, self.works + 1
@@ -588,7 +536,7 @@ class Run:
             yield from self.told(who, "enter EBUSY")
             return "EBUSY"
         self.put(who, "enter")
-        self.asleep = (self.position(), self.time + self.tree.get("alarm_ms", 1000))
+        self.asleep = (self.position(), self.time + self.tree.get("alarm_ms", ALARM_MS))
         yield True
         while self.position() == self.asleep[0] and self.time < self.asleep[1]:
             yield False
@@ -660,14 +608,14 @@ class Run:
             self.down[phase.name].add(d)
         else:
             phase.error = result
-            if not self.devices[d].get("async", False):
+            if not self.is_async(d):
                 phase.own_error = result
         yield True
 
     def take_down(self, who, d):
         """One device's way down, once all below it is over."""
         phase = self.phase
-        if phase.error != "0" and self.devices[d].get("async", False):
+        if phase.error != "0" and self.is_async(d):
             self.skip(who, d, "error")
             yield True
         elif phase.name in TESTED and self.pending():
@@ -687,7 +635,7 @@ class Run:
         if name == "suspend":
             self.left_alone = set()
         for d in reversed(self.order):
-            is_async = self.devices[d].get("async", False)
+            is_async = self.is_async(d)
             while not is_async and phase.error == "0" and self.waits_below(d):
                 yield False
             if phase.error != "0":
@@ -711,11 +659,11 @@ class Run:
         phase = self.phase = Phase(name)
         phase.members = [d for d in self.order if d in self.down[UP[name]]]
         for d in phase.members:
-            if self.devices[d].get("async", False):
+            if self.is_async(d):
                 phase.scheduled.add(d)
                 yield from self.told(who, f"schedule {name} {d}")
         for d in phase.members:
-            if not self.devices[d].get("async", False):
+            if not self.is_async(d):
                 while self.waits_above(d):
                     yield False
                 yield from self.callback(who, d)
@@ -757,15 +705,18 @@ class Run:
         if self.asleep is not None:
             yield self.asleep[1]
 
+    def is_over(self):
+        """Whether each script has exited and no attempt is open."""
+        return all(task.exited for task in self.tasks) and self.maker is None
+
     def run(self):
         """The log's text, and whether it is stuck."""
         while True:
             did = [next(job) for job in self.jobs]
             if any(did):
                 continue
-            over = all(task.exited for task in self.tasks) and self.maker is None
             pending = list(self.times())
-            if over or not pending:
+            if self.is_over() or not pending:
                 break
             self.time = min(pending)
             self.put("time", "jump")

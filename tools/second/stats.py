@@ -4,7 +4,7 @@ A chain is a list of devices, each right below the one before: its child, or its
 the log's end. A device's level is the length of the longest chain that ends with it.
 """
 
-from .limits import MOST_LINKS
+from limits import MOST_LINKS
 
 COUNTS = "success fail failed_freeze failed_prepare failed_suspend failed_suspend_late failed_suspend_noirq".split()
 COUNTS += "failed_resume failed_resume_early failed_resume_noirq".split()

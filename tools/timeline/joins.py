@@ -3,7 +3,7 @@
 import bisect
 import collections
 
-from second.limits import VISIBLE
+from limits import VISIBLE
 
 from . import reading
 

@@ -37,6 +37,7 @@ pub record Advanced : Type 0 where
   pub locks : List LockState
   pub full : Option LockState
 
+-- the locks where expiries end, and a lock whose full source ended them
 abbrev pub stopped : List LockState → Option LockState → Advanced
 stopped locks full = record { locks = locks; full = full }
 
