@@ -1,18 +1,19 @@
 -- The machine and its sources that come back from a world may go into another.
-use Rattle.std.proofs.Common.{◌≡◌, ◌∙◌, ◌+◌, ℕ, suc, List, ◌∷◌, length, Option, Some, None, refl, sym, ap, subst, arith, length-map}
+use Rattle.std.proofs.Common.{◌≡◌, ◌∙◌, ◌+◌, ℕ, suc, List, length, Some, None, sym, ap, subst, arith}
+use Rattle.std.proofs.lemmas.List.{length-map}
 use mathlib.Core.Option.{some}
 use lib.ListN.{get_elem?}
 use Rattle.sleep_model.specs.declared.machine.Machine.{Machine}
 use Rattle.atomic_table.specs.Seated.{TableId}
-use Rattle.event_word.specs.Seats.{Token, sources_of}
+use Rattle.event_word.specs.Seats.{Token}
 use Rattle.turn_lock.specs.declared.view.Made.{Made}
 use Rattle.run_laws.specs.Passes.{Noted}
-use Rattle.run_objects.specs.Objects.{AreKept, SeatedCoreState, SeatedSourceState, seats_of}
+use Rattle.run_objects.specs.Objects.{AreKept, SeatedCoreState, SeatedSourceState}
 use Rattle.run_world.specs.declared.object.WorldObject.{WorldObject}
 use Rattle.run_world.specs.declared.object.WorldObject.TheVariants as object
 use Rattle.run_world.specs.Held.{IsClosedWorld}
 use Rattle.run_world.specs.Roots.{WorldRoot, machine_root, source_root}
-use Rattle.run_world.specs.Objects.{AreObjects, root_of}
+use Rattle.run_world.specs.Objects.{AreObjects}
 use Rattle.burst_tasks.specs.declared.task.Task.{Task}
 use Rattle.world_workers.specs.Bursts.{AreReady, AreTasksIn}
 use Rattle.world_workers.proofs.Opening.{kept_at, seat_at, that_at, those_count}

@@ -1,5 +1,5 @@
 -- The workers of a burst, as they go into it and come out.
-use Rattle.std.proofs.Common.{◌≡◌, ◌∙◌, ◌≤◌, ◌<◌, ◌+◌, ℕ, zero, suc, true, List, [], ◌∷◌, ◌++◌, length, map, Option, Some, refl, sym, ap, subst, arith, slice_index_or}
+use Rattle.std.proofs.Common.{◌≡◌, ◌∙◌, ◌≤◌, ◌<◌, ◌+◌, ℕ, zero, suc, List, [], ◌∷◌, ◌++◌, length, map, Some, refl, sym, ap, subst, arith, slice_index_or, length-append}
 use mathlib.Core.Option.{some, none}
 use lib.ListN.{get_elem?}
 use Rattle.sleep_model.specs.declared.entry.Actor.{Actor}
@@ -17,13 +17,21 @@ use Rattle.burst_tasks.specs.declared.task.Task.{Task}
 use Rattle.burst_tasks.specs.Acts.{Does, Plays, actor_of, all_gains}
 use Rattle.burst_tasks.specs.Bursts.{AllPlayed}
 use Rattle.world_workers.specs.declared.worker.Worker.{Worker}
-use Rattle.world_workers.specs.Tries.{GoesIn, HasMade, IsTaskIn}
+use Rattle.world_workers.specs.Tries.{HasMade, IsTaskIn}
 use Rattle.world_workers.specs.Bursts.{AreTasksIn}
 use Rattle.world_workers.specs.Workers.{AreFresh, AreParts, AreWorkersOf, HaveGone, IsWorkerOf, Moment, Since, WentOn}
 use Rattle.world_workers.proofs.Acting.{append_none}
 
 abbrev WorldPass : Type 0
 WorldPass = Pass WorldObject Noted
+
+pub append_nil : {A : Type 0} (l : List A) → l ++ [] ≡ l
+append_nil [] = refl
+append_nil {A} (x ∷ l) = ap (λ (k : List A). x ∷ k) (append_nil l)
+
+pub no_length : {A : Type 0} (l : List A) → length l ≡ 0 → l ≡ []
+no_length [] h = refl
+no_length (x ∷ l) h = absurd (omega (arith, h))
 
 pass_same : (p q : WorldPass) → Some p ≡ Some q → p ≡ q
 pass_same p q e = cc
@@ -62,6 +70,70 @@ pub actor_there : (before after : List Task) (t : Task) (none_there : Actor) →
 actor_there [] after t none_there = refl
 actor_there (u ∷ before) after t none_there = actor_there before after t none_there
 
+-- ---- while passes are given to tasks
+
+module _ (passes lent left : List WorldPass) (tasks yielded rest : List Task) (workers : List Worker) (passes_are : passes ≡ lent ++ left) (counted : length passes ≡ length tasks)
+    (tasks_are : tasks ≡ yielded ++ rest) (parts : AreParts workers lent yielded) where
+  -- there are more tasks than workers
+  pub fewer : (t : Task) (more : List Task) → rest ≡ t ∷ more → length workers < length tasks
+  fewer t more is =
+      let n = parts_count workers lent yielded parts in
+      let all = ap (λ (l : List Task). length l) tasks_are in
+      let behind : length rest ≡ 1 + length more = ap (λ (l : List Task). length l) is ∙ omega arith in
+      omega (arith, n.0, all, length-append yielded rest, behind)
+
+  -- so a pass is left
+  pub one_left : (t : Task) (more : List Task) → rest ≡ t ∷ more → length left ≡ 0 → ⊥
+  one_left t more is none_left =
+      let n = parts_count workers lent yielded parts in
+      let less = fewer t more is in
+      let all = ap (λ (l : List WorldPass). length l) passes_are in
+      absurd (omega (arith, n.1, less, all, counted, none_left, length-append lent left))
+
+  -- the actor at that place is the task's
+  pub its_actor : (t : Task) (more : List Task) → rest ≡ t ∷ more → (actors : List Actor) → actors ≡ map actor_of tasks → (place : ℕ) → place ≡ length workers
+      → (d : Actor) → slice_index_or actors place d ≡ actor_of t
+  its_actor t more is actors actors_are place place_is d =
+      let n = parts_count workers lent yielded parts in
+      let whole : tasks ≡ yielded ++ t ∷ more = tasks_are ∙ ap (λ (l : List Task). yielded ++ l) is in
+      ap (λ (l : List Actor). slice_index_or l place d) (actors_are ∙ ap (λ (l : List Task). map actor_of l) whole)
+      ∙ ap (λ (k : ℕ). slice_index_or (map actor_of (yielded ++ t ∷ more)) k d) (place_is ∙ sym n.0) ∙ actor_there yielded more t d
+
+  -- all are lent where no task is left
+  pub all_lent : rest ≡ [] → AreParts workers passes tasks
+  all_lent none_left =
+      let n = parts_count workers lent yielded parts in
+      let whole : tasks ≡ yielded = tasks_are ∙ ap (λ (l : List Task). yielded ++ l) none_left ∙ append_nil yielded in
+      let many = ap (λ (l : List Task). length l) whole in
+      let all = ap (λ (l : List WorldPass). length l) passes_are in
+      let left_none : left ≡ [] = no_length left (omega (arith, n.0, n.1, many, all, counted, length-append lent left)) in
+      subst (λ (l : List Task). AreParts workers passes l) (sym whole)
+      (subst (λ (l : List WorldPass). AreParts workers l yielded) (sym (passes_are ∙ ap (λ (l : List WorldPass). lent ++ l) left_none ∙ append_nil lent)) parts)
+
+-- ---- passes that come back
+
+-- each pass that is brought back is the one that was lent
+abbrev pub AreSame : List WorldPass → List WorldPass → Type 0
+AreSame [] [] = Unit {0}
+AreSame [] (q ∷ backs) = ⊥
+AreSame (p ∷ passes) [] = ⊥
+AreSame (p ∷ passes) (q ∷ backs) = ((number_of q.token ≡ number_of p.token) × (first_of q.token ≡ first_of p.token)) × AreSame passes backs
+
+same_count : (passes backs : List WorldPass) → AreSame passes backs → length (tokens backs) ≡ length (tokens passes)
+same_count [] [] are = refl
+same_count [] (q ∷ backs) are = absurd are
+same_count (p ∷ passes) [] are = absurd are
+same_count (p ∷ passes) (q ∷ backs) are = ap (λ (n : ℕ). suc n) (same_count passes backs are.1)
+
+same_at : (passes backs : List WorldPass) → AreSame passes backs → (k : ℕ) (q : Token WorldObject Noted) → get_elem? (tokens backs) k ≡ some q
+    → (p : Token WorldObject Noted) × (get_elem? (tokens passes) k ≡ some p) × (number_of q ≡ number_of p) × (first_of q ≡ first_of p)
+same_at passes [] are k q at = absurd (let e : none ≡ some q = at in cc)
+same_at [] (b ∷ backs) are k q at = absurd are
+same_at (p ∷ passes) (b ∷ backs) are zero q at =
+    let same = token_same b.token q at in
+    (p.token, refl, sym (ap number_of same) ∙ are.0.0, sym (ap first_of same) ∙ are.0.1)
+same_at (p ∷ passes) (b ∷ backs) are (suc k) q at = same_at passes backs are.1 k q at
+
 -- ---- workers go with the world
 
 module _ (m : Machine) (table locks : TableId) (moment : ℕ) where
@@ -80,7 +152,7 @@ module _ (m : Machine) (table locks : TableId) (moment : ℕ) where
   each_left (w ∷ workers) are (suc k) d inside = each_left workers are.1 k d (omega (arith, inside))
 
   -- passes of the world that made nothing yet
-  pub AreLent : List WorldPass → Type 0
+  abbrev pub AreLent : List WorldPass → Type 0
   AreLent [] = Unit {0}
   AreLent (p ∷ passes) = (IsWorldPass m table locks moment p.token × (made_of p.token ≡ [])) × AreLent passes
 
@@ -137,28 +209,6 @@ module _ (m : Machine) (table locks : TableId) (moment : ℕ) where
       let same : go.0.pass ≡ p = pass_same go.0.pass p (sym go.0.has ∙ are.0.0) in
       subst (IsWorldPass m table locks moment) (ap (λ (x : WorldPass). x.token) same ∙ token_same p.token q at) go.0.goes.pass
   pass_back (w ∷ workers) (p ∷ passes) (t ∷ tasks) are go (suc k) q at = pass_back workers passes tasks are.1 go.1 k q at
-
-  -- each pass that is brought back is the one that was lent
-  pub AreSame : List WorldPass → List WorldPass → Type 0
-  AreSame [] [] = Unit {0}
-  AreSame [] (q ∷ backs) = ⊥
-  AreSame (p ∷ passes) [] = ⊥
-  AreSame (p ∷ passes) (q ∷ backs) = ((number_of q.token ≡ number_of p.token) × (first_of q.token ≡ first_of p.token)) × AreSame passes backs
-
-  same_count : (passes backs : List WorldPass) → AreSame passes backs → length (tokens backs) ≡ length (tokens passes)
-  same_count [] [] are = refl
-  same_count [] (q ∷ backs) are = absurd are
-  same_count (p ∷ passes) [] are = absurd are
-  same_count (p ∷ passes) (q ∷ backs) are = ap (λ (n : ℕ). suc n) (same_count passes backs are.1)
-
-  same_at : (passes backs : List WorldPass) → AreSame passes backs → (k : ℕ) (q : Token WorldObject Noted) → get_elem? (tokens backs) k ≡ some q
-      → (p : Token WorldObject Noted) × (get_elem? (tokens passes) k ≡ some p) × (number_of q ≡ number_of p) × (first_of q ≡ first_of p)
-  same_at passes [] are k q at = absurd (let e : none ≡ some q = at in cc)
-  same_at [] (b ∷ backs) are k q at = absurd are
-  same_at (p ∷ passes) (b ∷ backs) are zero q at =
-      let same = token_same b.token q at in
-      (p.token, refl, sym (ap number_of same) ∙ are.0.0, sym (ap first_of same) ∙ are.0.1)
-  same_at (p ∷ passes) (b ∷ backs) are (suc k) q at = same_at passes backs are.1 k q at
 
   -- so they are all passes of the table
   pub all_back : (own : Token WorldObject Noted) (passes backs : List WorldPass) (workers : List Worker) (tasks : List Task) → own.table_id ≡ locks → AreNew own (tokens passes) → AreSame passes backs

@@ -3,3 +3,4 @@ pub mod Going
 pub mod Crews
 pub mod Opening
 pub mod Closing
+pub mod Bursting

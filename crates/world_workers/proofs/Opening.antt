@@ -1,20 +1,19 @@
 -- The machine and its sources are objects of a world as they go into it, and may go into another as they come back.
-use Rattle.std.proofs.Common.{◌≡◌, ◌∙◌, ◌≤◌, ◌<◌, ◌+◌, ℕ, zero, suc, List, [], ◌∷◌, ◌++◌, length, map, Some, None, refl, sym, ap, subst, arith, length-map}
+use Rattle.std.proofs.Common.{◌≡◌, ◌∙◌, ◌+◌, ℕ, zero, suc, List, [], ◌∷◌, length, Some, None, refl, sym, ap, subst, arith}
+use Rattle.std.proofs.lemmas.List.{length-map}
 use mathlib.Core.Option.{some, none}
 use lib.ListN.{get_elem?}
 use Rattle.sleep_model.specs.declared.machine.Machine.{Machine}
 use Rattle.atomic_table.specs.Seated.{TableId}
-use Rattle.event_word.specs.Seats.{AreAll as AreAllSeats, Token, number_of, sources_of}
-use Rattle.turn_lock.specs.declared.view.Made.{Made}
-use Rattle.run_laws.specs.Passes.{Noted}
+use Rattle.event_word.specs.Seats.{Token, sources_of}
 use Rattle.run_objects.specs.Objects.{AreKept, IsSeatedSource, SeatedCoreState, SeatedSourceState, seats_of}
 use Rattle.run_world.specs.declared.object.WorldObject.{WorldObject}
 use Rattle.run_world.specs.declared.object.WorldObject.TheVariants as object
-use Rattle.run_world.specs.Held.{AreAll, AreAt, AreThose, IsClosedWorld}
-use Rattle.run_world.specs.Roots.{WorldRoot, machine_root, source_root}
+use Rattle.run_world.specs.Held.{AreAll, AreAt, AreThose}
+use Rattle.run_world.specs.Roots.{machine_root, source_root}
 use Rattle.run_world.specs.Objects.{AreObjects, root_of}
 use Rattle.burst_tasks.specs.declared.task.Task.{Task}
-use Rattle.world_workers.specs.Bursts.{AreReady, AreTasksIn}
+use Rattle.world_workers.specs.Bursts.{AreReady}
 
 -- ---- lists
 

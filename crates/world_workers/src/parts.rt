@@ -34,14 +34,9 @@ pub struct BurstParts<'m> {
 #[derive(Clone, Copy, Debug, Drop, PartialEq, Eq)]
 pub enum Stop {
     /// There was no memory for the task at that place.
-    Mem {
-        task: u32,
-    },
+    Mem { task: u32 },
     /// The history of the source has no place left for a call of the task at that place.
-    Full {
-        task: u32,
-        source: u32,
-    },
+    Full { task: u32, source: u32 },
 }
 
 /// What a burst came to.
@@ -67,9 +62,8 @@ pub(crate) fn stop_of(tried: Tried, task: u32) -> Option<Stop> {
 pub(crate) fn graver(one: Option<Stop>, other: Option<Stop>) -> Option<Stop> {
     match (one, other) {
         (None, _) | (Some(Stop::Full { .. }), Some(Stop::Mem { .. })) => other,
-        (Some(Stop::Full { source, .. }), Some(Stop::Full { source: less, .. })) if less < source => {
-            other
-        }
+        (Some(Stop::Full { source, .. }), Some(Stop::Full { source: less, .. })) if less < source =>
+            { other }
         _ => one,
     }
 }

@@ -10,5 +10,7 @@ abbrev pub invariant-loop-task : goal.invariant-loop-task
 invariant-loop-task l =
     ((lent : List (Pass WorldObject Noted)) × (l.fn.passes.items ≡ lent ++ l.left.rest.items) × AreParts l.workers.items lent l.yielded)
     × AreFresh l.fn.moment l.workers.items
+    × (l.left.rest.len ≡ length l.left.rest.items)
     × (l.fn.tasks.items ≡ l.yielded ++ l.task-iterator.rest.items)
+    × (l.task-iterator.rest.len ≡ length l.task-iterator.rest.items)
     × HaveTurns l.task-iterator.rest.items
