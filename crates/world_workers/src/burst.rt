@@ -48,9 +48,9 @@ fn run_workers<'m, R: Threads + Sync + Wait, G: Gate + Sync>(
     burst(rt, workers, &world, moment, plan.workers)
 }
 
-/// One burst: the machine and its sources go under locks, each task to a worker, and what all of them come to is told
-/// of them as they come back. Time stands still in it. Nobody is asked twice who has nothing to do: that the burst is
-/// over says nothing of who could go on. `Mem` where there is no memory; all that went in is lost then.
+/// One burst: the machine and its sources go under locks, each task goes to a worker, and all come back with what the
+/// workers made. Time stands still in it. That it is over says nothing of who could go on. `Mem` where there is no memory;
+/// all that went in is lost then.
 pub fn make_burst<'m, R: Threads + Sync + Wait, G: Gate + Sync>(
     rt: &R,
     alloc: Global,
@@ -86,6 +86,7 @@ pub fn make_burst<'m, R: Threads + Sync + Wait, G: Gate + Sync>(
         passes,
         tasks,
         stop,
+        busiest,
     } = taken_apart(alloc, workers)?;
     let (core, sources) = close_world(alloc, locks, passes)?;
     Ok(Burst {
@@ -95,6 +96,7 @@ pub fn make_burst<'m, R: Threads + Sync + Wait, G: Gate + Sync>(
             tasks,
         },
         did,
+        beside: did.saturating_sub(busiest),
         stop,
     })
 }

@@ -48,6 +48,8 @@ pub(crate) struct Brought<'m> {
     pub(crate) passes: Vec<WorldPass<'m>>,
     pub(crate) tasks: Vec<Task<'m>>,
     pub(crate) stop: Option<Stop>,
+    /// How many turns of the busiest task did something.
+    pub(crate) busiest: u64,
 }
 
 /// The passes and the tasks of the workers, in their order, and why one stopped, if one did.
@@ -58,8 +60,10 @@ pub(crate) fn taken_apart<'m>(alloc: Global, workers: Vec<Worker<'m>>) -> Result
     let mut passes = Vec::with_capacity(alloc, workers.len())?;
     let mut tasks = Vec::with_capacity(alloc, workers.len())?;
     let mut stop = None;
+    let mut busiest = 0;
     for worker in workers {
         stop = graver(stop, stop_of(worker.tried, worker.place));
+        busiest = worker.pause.made.max(busiest);
         let (pass, task) = worker.into_parts();
         passes.push(pass)?;
         tasks.push(task)?;
@@ -68,5 +72,6 @@ pub(crate) fn taken_apart<'m>(alloc: Global, workers: Vec<Worker<'m>>) -> Result
         passes,
         tasks,
         stop,
+        busiest,
     })
 }

@@ -7,6 +7,7 @@ mod acts;
 mod burst;
 mod crew;
 mod parts;
+mod pause;
 mod turns;
 mod worker;
 

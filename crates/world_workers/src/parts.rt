@@ -45,6 +45,8 @@ pub struct Burst<'m> {
     pub parts: BurstParts<'m>,
     /// How many turns did something.
     pub did: u64,
+    /// How many of them were not the busiest task's. No clause speaks of it.
+    pub beside: u64,
     /// Why a task stopped, if one did: want of memory before a full source, and the least of those. No clause speaks of it.
     pub stop: Option<Stop>,
 }

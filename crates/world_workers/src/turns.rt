@@ -41,10 +41,14 @@ impl<'w, 'm, R: Wait, G: Gate> Work<World<'w, 'm, R, G>> for Worker<'m> {
     fn turn(&mut self, shared: &World<'w, 'm, R, G>, now: u64) -> Turn {
         self.left -= 1;
         shared.gate.pass(self.place);
+        if self.pause.rests() {
+            return Turn::NotYet;
+        }
         let pass = taken(&mut self.pass);
         let Acted { pass, tried } = act(shared, pass, &mut self.task, self.who);
         self.pass = Some(pass);
         self.tried = tried;
+        self.pause.note(tried);
         turn_of(tried)
     }
 

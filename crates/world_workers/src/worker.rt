@@ -5,6 +5,7 @@ ghost use Rattle.burst_tasks.specs.Acts.{actor_of};
 ghost use Rattle.world_workers.specs.Tries.{turns_of};
 
 use crate::acts::Tried;
+use crate::pause::Pause;
 use burst_tasks::Task;
 use run_world::WorldPass;
 use sleep_model::Actor;
@@ -25,6 +26,8 @@ pub struct Worker<'m> {
     pub(crate) left: u64,
     /// What came of its last turn.
     pub(crate) tried: Tried,
+    /// For how long it tries nothing.
+    pub(crate) pause: Pause,
     ghost named: { who ≡ actor_of task },
     ghost few: { turns_of task + left < 2 ^ 63 },
 }
@@ -48,8 +51,10 @@ impl<'m> Worker<'m> {
             moment,
             left: MOST_TURNS,
             tried: Tried::Waits,
+            pause: Pause::new(),
         }
     }
+
     /// The pass, and the task, when the burst is over.
     pub(crate) fn into_parts(self) -> (WorldPass<'m>, Task<'m>)
         requires { IsSome self.pass }

@@ -1,0 +1,176 @@
+ghost use Rattle.std.specs.Prelude.{◌≡◌, ◌≤◌, ◌+◌, [], ◌∷◌, length, map, IfOk, reverse};
+ghost use Rattle.sleep_model.specs.Accepted.{IsAccepted};
+ghost use Rattle.sleep_model.specs.Numbers.{time_of};
+ghost use Rattle.sleep_model.specs.Order.{parents_of};
+ghost use Rattle.sleep_state.specs.Places.{entries};
+ghost use Rattle.run_world.specs.Held.{AreTimely};
+ghost use Rattle.burst_tasks.specs.Acts.{actor_of};
+ghost use Rattle.world_workers.specs.Bursts.{AreReady, AreTasksIn, HaveTurns};
+
+use answer_book::AnswerBook;
+use burst_tasks::Task;
+use device_links::Links;
+use event_word::EventTable;
+use machine_file::{ReadMachine, read_machine};
+use run_objects::{SeatedCore, seated_sources};
+use run_world::OpenGate;
+use sleep_base::Mem;
+use sleep_core::Core;
+use sleep_model::{Actor, Machine};
+use sleep_script::{Job, TimerJob};
+use std::alloc::Global;
+use std::sync::Wait;
+use std::test::Fail;
+use std::thread::Threads;
+use world_workers::{BurstParts, BurstPlan, make_burst};
+
+/// A task that puts the machine to sleep.
+const ATTEMPT: &str =
+    r#"{"version":1,"actors":[{"name":"w","kind":"user","script":[{"op":"read"},{"op":"save"},{"op":"state","text":"mem"}]}]}"#;
+
+/// An interrupt that makes two calls on a source.
+const LID: &str =
+    r#"{"version":1,"sources":["lid"],"actors":[{"name":"k","kind":"irq","script":[{"op":"awake","source":"lid"},{"op":"relax","source":"lid"}]}]}"#;
+
+/// Whose tasks there are, where a machine has no source of its own.
+const FEW: [Actor; 3] = [Actor::Script(0), Actor::Auto, Actor::Timer(0)];
+
+/// Whose tasks there are, where it has one.
+const MORE: [Actor; 4] = [
+    Actor::Script(0),
+    Actor::Auto,
+    Actor::Timer(0),
+    Actor::Timer(1),
+];
+
+/// The tasks of a machine of one script and no source, before anything was done.
+fn few_tasks<'m>(
+    alloc: Global,
+    machine: &'m Machine,
+    book: &'m AnswerBook<'m>,
+) -> Result<Vec<Task<'m>>, Mem>
+    requires accepted { IsAccepted machine.now }
+    requires book { book.now ≡ machine.now.answers }
+    requires one { length machine.now.actors ≡ 1 }
+    ensures in_all { IfOk result (λ tasks. AreTasksIn machine.now tasks.items) }
+    ensures turns { IfOk result (λ tasks. HaveTurns tasks.items) }
+    ensures actors { IfOk result (λ tasks. map actor_of tasks.items ≡ FEW) }
+    ensures count { IfOk result (λ tasks. length tasks.items ≡ 3) }
+{
+    let script = Job::of_script(alloc, machine, book, 0)?;
+    let tasks = vec![in alloc;
+        Task::Acts(script),
+        Task::Acts(Job::of_auto(machine, book)),
+        Task::Fires(TimerJob::new(0)),
+    ]?;
+    Ok(tasks)
+}
+
+/// The tasks of a machine of one script and one source, before anything was done.
+fn more_tasks<'m>(
+    alloc: Global,
+    machine: &'m Machine,
+    book: &'m AnswerBook<'m>,
+) -> Result<Vec<Task<'m>>, Mem>
+    requires accepted { IsAccepted machine.now }
+    requires book { book.now ≡ machine.now.answers }
+    requires one { (length machine.now.actors ≡ 1) × (length machine.now.sources ≡ 1) }
+    ensures in_all { IfOk result (λ tasks. AreTasksIn machine.now tasks.items) }
+    ensures turns { IfOk result (λ tasks. HaveTurns tasks.items) }
+    ensures actors { IfOk result (λ tasks. map actor_of tasks.items ≡ MORE) }
+    ensures count { IfOk result (λ tasks. length tasks.items ≡ 4) }
+{
+    let script = Job::of_script(alloc, machine, book, 0)?;
+    let tasks = vec![in alloc;
+        Task::Acts(script),
+        Task::Acts(Job::of_auto(machine, book)),
+        Task::Fires(TimerJob::new(0)),
+        Task::Fires(TimerJob::new(1)),
+    ]?;
+    Ok(tasks)
+}
+
+/// What goes into a machine's first burst with these tasks, and the table of its seats.
+fn first_parts<'m>(
+    alloc: Global,
+    machine: &'m Machine,
+    links: Links,
+    tasks: Vec<Task<'m>>,
+) -> Result<(EventTable, BurstParts<'m>), Mem>
+    requires accepted { IsAccepted machine.now }
+    requires links { links ≡ record { parents = parents_of machine.now.devices; links = reverse machine.now.links } }
+    requires tasks { AreTasksIn machine.now tasks.items }
+    ensures ready { IfOk result (λ made. AreReady machine.now made.0.desk.shared.table_id made.1.core made.1.sources.items made.1.tasks.items) }
+    ensures timely { IfOk result (λ made. AreTimely (time_of (entries made.1.core.core.past)) made.1.sources.items) }
+    ensures tasks { IfOk result (λ made. made.1.tasks.items ≡ tasks.entry.items) }
+{
+    let (table, sources, look) = seated_sources(alloc, machine.sources.len() as u32 + 1)?;
+    let core = SeatedCore::new(Core::new(alloc, machine, links)?, look);
+    let parts = BurstParts {
+        core,
+        sources,
+        tasks,
+    };
+    Ok((table, parts))
+}
+
+/// How many turns of two workers did something in a machine's first burst.
+fn first_burst<R: Threads + Sync + Wait>(
+    rt: &R,
+    alloc: Global,
+    machine: &Machine,
+    links: Links,
+    tasks: Vec<Task<'_>>,
+    actors: &[Actor],
+) -> Result<u64, Mem>
+    requires accepted { IsAccepted machine.now }
+    requires links { links ≡ record { parents = parents_of machine.now.devices; links = reverse machine.now.links } }
+    requires tasks { AreTasksIn machine.now tasks.items }
+    requires turns { HaveTurns tasks.items }
+    requires actors { actors.now ≡ map actor_of tasks.items }
+    requires count { (1 ≤ length tasks.items) × (length tasks.items ≤ 2000) }
+{
+    let (table, parts) = first_parts(alloc, machine, links, tasks)?;
+    let plan = BurstPlan {
+        gate: &OpenGate,
+        table: &table,
+        machine,
+        actors,
+        workers: 2,
+    };
+    Ok(make_burst(rt, alloc, &plan, parts)?.did)
+}
+
+/// A task makes its whole attempt up to the sleep: seventeen entries.
+#[test]
+fn an_attempt_in_a_burst(rt: HostRuntime) -> Result<(), Fail> {
+    let alloc = rt.alloc();
+    let Ok(ReadMachine { machine, links }) = read_machine(alloc, ATTEMPT.as_bytes()) else {
+        return Err("no machine".into());
+    };
+    if machine.actors.len() != 1 {
+        return Err("another machine".into());
+    }
+    let book = AnswerBook::new(alloc, machine.answers.as_slice())?;
+    let tasks = few_tasks(alloc, &machine, &book)?;
+    let did = first_burst(&rt, alloc, &machine, links, tasks, &FEW)?;
+    assert_eq!(rt; did, 17);
+    Ok(())
+}
+
+/// An interrupt makes its two calls, and its exit.
+#[test]
+fn two_calls_in_a_burst(rt: HostRuntime) -> Result<(), Fail> {
+    let alloc = rt.alloc();
+    let Ok(ReadMachine { machine, links }) = read_machine(alloc, LID.as_bytes()) else {
+        return Err("no machine".into());
+    };
+    if machine.actors.len() != 1 || machine.sources.len() != 1 {
+        return Err("another machine".into());
+    }
+    let book = AnswerBook::new(alloc, machine.answers.as_slice())?;
+    let tasks = more_tasks(alloc, &machine, &book)?;
+    let did = first_burst(&rt, alloc, &machine, links, tasks, &MORE)?;
+    assert_eq!(rt; did, 3);
+    Ok(())
+}

@@ -1,0 +1,53 @@
+//! How a task that has nothing to do spares the locks.
+
+use crate::acts::Tried;
+
+/// The longest pause, in rounds.
+const LONGEST: u32 = 255;
+
+/// A task whose tries come to nothing takes no lock for a while, twice as long each time. None of this is part of what
+/// is promised: whoever was left out in a burst is asked in the caller's own round behind it.
+#[derive(Drop)]
+pub(crate) struct Pause {
+    /// How many rounds it still takes no lock.
+    left: u32,
+    /// How long the last pause was.
+    length: u32,
+    /// In how many rounds it made entries.
+    pub(crate) made: u64,
+}
+
+impl Pause {
+    /// None at first.
+    pub(crate) fn new() -> Self {
+        Pause {
+            left: 0,
+            length: 0,
+            made: 0,
+        }
+    }
+
+    /// Whether it takes no lock in this round.
+    pub(crate) fn rests(&mut self) -> bool {
+        if self.left == 0 {
+            return false;
+        }
+        self.left -= 1;
+        true
+    }
+
+    /// What came of a try.
+    pub(crate) fn note(&mut self, tried: Tried) {
+        match tried {
+            Tried::Made => {
+                self.length = 0;
+                self.made = self.made.saturating_add(1);
+            }
+            Tried::Waits => {
+                self.length = 2 * self.length.min(LONGEST / 2) + 1;
+                self.left = self.length;
+            }
+            Tried::Gone | Tried::Full(_) | Tried::Mem => {}
+        }
+    }
+}
