@@ -1,53 +1,46 @@
--- The account follows the entries one by one.
-use Rattle.std.proofs.Common.{◌≡◌, ◌≤◌, ◌+◌, ℕ, suc, List, [], ◌∷◌, length, Option, Some, None, refl, arith}
+-- Each script has its place with the freezer.
+use Rattle.std.proofs.Common.{◌≡◌, ℕ, suc, List, [], ◌∷◌, length, map, refl, ap, arith}
+use Rattle.std.proofs.lemmas.List.{length-set}
 use Rattle.sleep_model.specs.declared.entry.Actor.{Actor}
-use Rattle.sleep_model.specs.declared.entry.Entry.{Entry}
+use Rattle.sleep_model.specs.declared.entry.Actor.TheVariants as actor
+use Rattle.sleep_model.specs.declared.entry.Group.{Group}
 use Rattle.sleep_model.specs.declared.entry.Kind.{Kind}
 use Rattle.sleep_model.specs.declared.entry.Kind.TheVariants as kind
-use Rattle.sleep_model.specs.declared.word.EventNow.{EventNow}
-use Rattle.sleep_model.specs.declared.word.WordKind as word
-use Rattle.sleep_model.specs.declared.word.WordKind.TheVariants as step
-use Rattle.sleep_model.specs.Numbers.{numbers, after_step, word_step}
-use Rattle.sleep_model.specs.Parts.{journal}
-use Rattle.sleep_model.specs.Path.{attempts}
-use Rattle.check_account.specs.Accounts.{account_after, account_of, AccountFollows, AccountFits}
+use Rattle.sleep_model.specs.declared.entry.Thaw.{Thaw}
+use Rattle.sleep_model.specs.declared.machine.Script.{Script}
+use Rattle.sleep_model.specs.declared.place.Freezing.{Freezing}
+use Rattle.sleep_model.specs.Freezer.{unasked, all_asked, all_let_go, put_frozen, freezings, freezings_after}
+use Rattle.check_account.specs.Accounts.{AllFollow, EachIsPlaced}
 
-by_kind : (past : List Entry) (time : ℕ) (now : EventNow) (who : Actor) (k : Kind)
-    → account_after (record { time = time; now = now; actor = who; kind = k }) (account_of past) ≡ account_of (record { time = time; now = now; actor = who; kind = k } ∷ past)
-by_kind past time now who (kind.Awake s) = refl
-by_kind past time now who _ = refl
+pub follow : AllFollow
+follow m past e = record { attempt = refl; tasks = refl; devices = refl }
 
-pub follows : AccountFollows
-follows past e = by_kind past e.time e.now e.actor e.kind
+asked_len : (g : Group) (who : Actor) (i : ℕ) (ss : List Script) (fs : List Freezing) → length fs ≡ length ss → length (all_asked g who i ss fs) ≡ length ss
+asked_len g who i [] [] all = refl
+asked_len g who i [] (f ∷ fs) all = refl
+asked_len g who i (s ∷ ss) [] all = all
+asked_len g who i (s ∷ ss) (f ∷ fs) all = omega (arith, asked_len g who (suc i) ss fs (omega arith))
 
--- ---- room
+let_go_len : (those : Thaw) (ss : List Script) (fs : List Freezing) → length fs ≡ length ss → length (all_let_go those ss fs) ≡ length ss
+let_go_len those [] [] all = refl
+let_go_len those [] (f ∷ fs) all = refl
+let_go_len those (s ∷ ss) [] all = all
+let_go_len those (s ∷ ss) (f ∷ fs) all = omega (arith, let_go_len those ss fs (omega arith))
 
--- each number is at most that (own)
-record AreFew (n : ℕ) (now : EventNow) : Type 0 where
-  pub inpr : now.inpr ≤ n
-  pub count : now.count ≤ n
-  pub hard : now.hard ≤ n
+frozen_len : (n : ℕ) (who : Actor) (fs : List Freezing) → length fs ≡ n → length (put_frozen who fs) ≡ n
+frozen_len n (actor.Script i) fs all = grind (arith, length-set)
+frozen_len n _ fs all = all
 
-by_step : (n : ℕ) (now : EventNow) → AreFew n now → (s : Option word.WordKind) → AreFew (suc n) (after_step s now)
-by_step n now h None = record { inpr = omega (arith, h.inpr); count = omega (arith, h.count); hard = omega (arith, h.hard) }
-by_step n now h (Some step.Start) = record { inpr = omega (arith, h.inpr); count = omega (arith, h.count); hard = omega (arith, h.hard) }
-by_step n now h (Some step.Finish) = record { inpr = omega (arith, h.inpr); count = omega (arith, h.count); hard = omega (arith, h.hard) }
-by_step n now h (Some step.Hard) = record { inpr = omega (arith, h.inpr); count = omega (arith, h.count); hard = omega (arith, h.hard) }
+one_len : (ss : List Script) (who : Actor) (k : Kind) (fs : List Freezing) → length fs ≡ length ss → length (freezings_after ss who k fs) ≡ length ss
+one_len ss who (kind.Freeze g) fs all = asked_len g who 0 ss fs all
+one_len ss who (kind.Thaw those) fs all = let_go_len those ss fs all
+one_len ss who kind.Frozen fs all = frozen_len (length ss) who fs all
+one_len ss who _ fs all = all
 
-few : (past : List Entry) → AreFew (length past) (numbers past)
-few [] = record { inpr = omega arith; count = omega arith; hard = omega arith }
-few (e ∷ past) = by_step (length past) (numbers past) (few past) (word_step e.kind)
+none_len : (ss : List Script) → length (map (λ (s : Script). unasked) ss) ≡ length ss
+none_len [] = refl
+none_len (s ∷ ss) = ap suc (none_len ss)
 
-more : (past : List Entry) (time : ℕ) (now : EventNow) (who : Actor) (k : Kind) → attempts (journal (record { time = time; now = now; actor = who; kind = k } ∷ past)) ≤ attempts (journal past) + 1
-more past time now who (kind.Awake s) = omega arith
-more past time now who _ = omega arith
-
-few_attempts : (past : List Entry) → attempts (journal past) ≤ length past
-few_attempts [] = omega arith
-few_attempts (e ∷ past) = let a = few_attempts past in let b = more past e.time e.now e.actor e.kind in omega (arith, a, b)
-
-pub fits : AccountFits
-fits past l =
-    let w = few past in
-    let a = few_attempts past in
-    record { inpr = omega (arith, w.inpr); count = omega (arith, w.count); hard = omega (arith, w.hard); attempts = omega (arith, a) }
+pub placed : EachIsPlaced
+placed ss [] = none_len ss
+placed ss (e ∷ past) = one_len ss e.actor e.kind (freezings ss past) (placed ss past)

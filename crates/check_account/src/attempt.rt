@@ -1,21 +1,23 @@
 //! The open attempt.
 
-ghost use Rattle.std.specs.Prelude.{◌≡◌, ◌<◌, ◌+◌, ◌^◌};
+ghost use Rattle.std.specs.Prelude.{◌≡◌, IfOk};
 ghost use Rattle.sleep_model.specs.Attempt.{busy_error, failed_after, freeze_error, freeze_since_after, sleep_after};
+ghost use Rattle.sleep_model.specs.Laws.{entered_after};
 ghost use Rattle.sleep_model.specs.Path.{attempts_after, maker_after};
 ghost use Rattle.sleep_model.specs.Walk.{or_else};
 
-use sleep_base::Errno;
+use crate::counts::one_more;
+use sleep_base::{Errno, Mem};
 use sleep_model::{Actor, FrozeEnd, Kind, Sleep};
 
-/// How many attempts were begun after an entry (`kernel/power/suspend.c`, `pm_suspend`).
-pub(crate) fn attempts_after(kind: Kind, before: u32) -> u32
-    requires { before + 1 < 2 ^ 32 }
-    ensures { result ≡ attempts_after kind before }
+/// How many attempts were begun after an entry (`kernel/power/suspend.c`, `pm_suspend`). `Mem` where the counter has
+/// no room.
+pub(crate) fn attempts_after(kind: Kind, before: u32) -> Result<u32, Mem>
+    ensures { IfOk result (λ n. n ≡ attempts_after kind before) }
 {
     match kind {
-        Kind::Attempt { .. } => before + 1,
-        _ => before,
+        Kind::Attempt { .. } => one_more(before),
+        _ => Ok(before),
     }
 }
 
@@ -71,6 +73,17 @@ pub(crate) fn failed_after(kind: Kind, before: Option<Errno>) -> Option<Errno>
         Kind::SyscoreCheck(r) => or_else(r, before),
         Kind::SyscoreSuspend(_, r) => or_else(r, before),
         Kind::Enter { busy } => or_else(busy_error(busy), before),
+        _ => before,
+    }
+}
+
+/// Whether the open attempt has entered sleep, after an entry (`suspend_enter`).
+pub(crate) fn entered_after(kind: Kind, before: bool) -> bool
+    ensures { result ≡ entered_after kind before }
+{
+    match kind {
+        Kind::Attempt { .. } => false,
+        Kind::Enter { busy } => !busy || before,
         _ => before,
     }
 }

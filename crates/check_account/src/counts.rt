@@ -1,42 +1,48 @@
 //! The event word, and the saved count.
 
-ghost use Rattle.std.specs.Prelude.{◌≡◌, ◌<◌, ◌+◌, ◌^◌, if◌then◌else◌, None};
+ghost use Rattle.std.specs.Prelude.{◌≡◌, ◌+◌, if◌then◌else◌, None, IfOk};
 ghost use Rattle.sleep_model.specs.Numbers.{after_step, time_after, word_step};
 ghost use Rattle.sleep_model.specs.Guard.{count_part, force_after, forgotten_after, has_changed, count_pending};
 
-use sleep_base::Errno;
+use sleep_base::{Errno, Mem};
 use sleep_model::{EventNow, FrozeEnd, Group, Kind, SkipCause};
 
+/// One more. `Mem` where a counter has no room for it, which no log that fits into memory comes to.
+pub(crate) fn one_more(count: u32) -> Result<u32, Mem>
+    ensures { IfOk result (λ n. n ≡ count + 1) }
+{
+    match count.checked_add(1) {
+        Some(n) => Ok(n),
+        None => Err(Mem),
+    }
+}
+
 /// The word after an entry: a start begins an event, a finish registers it, a hard step counts a hard one
-/// (`drivers/base/power/wakeup.c`, `wakeup_source_activate`, `wakeup_source_deactivate`).
-pub(crate) fn word_after(kind: Kind, word: EventNow) -> EventNow
-    requires inpr { word.inpr + 1 < 2 ^ 32 }
-    requires count { word.count + 1 < 2 ^ 32 }
-    requires hard { word.hard + 1 < 2 ^ 32 }
-    ensures { result ≡ after_step (word_step kind) word }
+/// (`drivers/base/power/wakeup.c`, `wakeup_source_activate`, `wakeup_source_deactivate`). `Mem` where a counter
+/// has no room.
+pub fn word_after(kind: Kind, word: EventNow) -> Result<EventNow, Mem>
+    ensures { IfOk result (λ w. w ≡ after_step (word_step kind) word) }
 {
     match kind {
-        Kind::Start(_) => EventNow {
-            inpr: word.inpr + 1,
-            count: word.count,
-            hard: word.hard,
-        },
-        Kind::Finish(_) => EventNow {
+        Kind::Start(_) => Ok(EventNow {
+            inpr: one_more(word.inpr)?,
+            ..word
+        }),
+        Kind::Finish(_) => Ok(EventNow {
             inpr: word.inpr.saturating_sub(1),
-            count: word.count + 1,
-            hard: word.hard,
-        },
-        Kind::Hard(_) => EventNow {
-            inpr: word.inpr,
-            count: word.count,
-            hard: word.hard + 1,
-        },
-        _ => word,
+            count: one_more(word.count)?,
+            ..word
+        }),
+        Kind::Hard(_) => Ok(EventNow {
+            hard: one_more(word.hard)?,
+            ..word
+        }),
+        _ => Ok(word),
     }
 }
 
 /// The time, in ms, after an entry: a jump sets it.
-pub(crate) fn time_after(kind: Kind, at: u64, before: u64) -> u64
+pub fn time_after(kind: Kind, at: u64, before: u64) -> u64
     ensures { result ≡ time_after kind at before }
 {
     match kind {

@@ -1,14 +1,15 @@
 //! Laws of the account.
 
-ghost use Rattle.check_account.specs.Accounts.{AccountFits, AccountFollows};
+ghost use Rattle.check_account.specs.Accounts.{AllFollow, EachIsPlaced};
 
-/// For every list of entries, an entry moves the account of those before it to that of them all.
-#[tactic(auto, using(crate::proofs::Following::follows))]
-pub fn account_follows()
-    ensures { AccountFollows }
+/// For every machine and every journal, an entry moves what the entries before it left to what they all leave.
+#[tactic(auto, using(crate::proofs::Following::follow))]
+pub fn accounts_follow()
+    ensures { AllFollow }
 {}
 
-/// The account of fewer than 2^32 - 1 entries has room for one more.
-pub fn account_fits()
-    ensures { AccountFits }
+/// Behind every journal each script has its place with the freezer.
+#[tactic(auto, using(crate::proofs::Following::placed))]
+pub fn each_is_placed()
+    ensures { EachIsPlaced }
 {}

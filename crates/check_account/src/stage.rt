@@ -1,7 +1,7 @@
 //! The stage of the open attempt: which row of its table is under way.
 
 ghost use Rattle.std.specs.Prelude.{◌≡◌};
-ghost use Rattle.sleep_model.specs.Table.{after_done, behind_down, behind_freeze, behind_platform_down, behind_platform_up, behind_thaw, behind_up, by_case, by_error, by_froze, failed_freeze, failed_phase, failed_platform_down, stage_after};
+ghost use Rattle.sleep_model.specs.Table.{after_done, behind, behind_down, behind_freeze, behind_platform_down, behind_platform_up, behind_thaw, behind_up, by_case, by_error, by_froze, failed_freeze, failed_phase, failed_platform_down, stage_after};
 
 use sleep_base::Errno;
 use sleep_model::{FrozeEnd, Group, Kind, Phase, PlatDo, PlatUndo, Stage, Thaw};
@@ -175,4 +175,31 @@ pub(crate) fn stage_after(kind: Kind, before: Option<Stage>) -> Option<Stage>
         Kind::Over { .. } => return None,
         _ => return before,
     })
+}
+
+/// The stage behind a stage, where nothing fails (`enter_state`, `suspend_devices_and_enter`, `suspend_enter`).
+pub fn behind(stage: Stage) -> Stage
+    ensures { result ≡ behind stage }
+{
+    match stage {
+        Stage::Notifies => Stage::Freezes(Group::User),
+        Stage::Freezes(group) => behind_freeze(group),
+        Stage::PlatformDown(step) => behind_platform_down(step),
+        Stage::Prepares => Stage::Downs(Phase::Suspend),
+        Stage::Downs(phase) => behind_down(phase),
+        Stage::StopsCpus => Stage::StopsIrqs,
+        Stage::StopsIrqs => Stage::Checks,
+        Stage::Checks => Stage::StopsSyscore,
+        Stage::StopsSyscore => Stage::Enters,
+        Stage::Enters => Stage::StartsSyscore,
+        Stage::StartsSyscore => Stage::StartsIrqs,
+        Stage::StartsIrqs => Stage::StartsCpus,
+        Stage::StartsCpus => Stage::PlatformUp(PlatUndo::Wake),
+        Stage::PlatformUp(step) => behind_platform_up(step),
+        Stage::Ups(phase) => behind_up(phase),
+        Stage::Completes => Stage::PlatformUp(PlatUndo::End),
+        Stage::Clears => Stage::Thaws(Thaw::All),
+        Stage::Thaws(those) => behind_thaw(those),
+        Stage::Posts | Stage::Ends => Stage::Ends,
+    }
 }

@@ -1,0 +1,6 @@
+use Rattle.std.proofs.Common.{◌≡◌}
+use Rattle.check_account.specs.Fronts.{asked_front}
+use Rattle.check_account.proofs.freezings.ask_all.Given as goal
+
+abbrev pub invariant-loop-i : goal.invariant-loop-i
+invariant-loop-i l = l.freezings.items ≡ asked_front l.i l.group l.who 0 l.scripts l.fn.freezings.items

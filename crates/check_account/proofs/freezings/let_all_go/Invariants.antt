@@ -1,0 +1,6 @@
+use Rattle.std.proofs.Common.{◌≡◌}
+use Rattle.check_account.specs.Fronts.{front_let_go}
+use Rattle.check_account.proofs.freezings.let_all_go.Given as goal
+
+abbrev pub invariant-loop-i : goal.invariant-loop-i
+invariant-loop-i l = l.freezings.items ≡ front_let_go l.i l.those l.scripts l.fn.freezings.items

@@ -1,0 +1,118 @@
+use crate::board::Board;
+use crate::flags::{
+    Flags, first_statuses, move_asks, move_cpus, move_notified, move_statuses, move_stopped,
+};
+use crate::stands::device_of;
+use phase_table::Phase;
+use sleep_base::Mem;
+use sleep_model::{Kind, Machine, Stand};
+use std::alloc::Global;
+use std::marker::Model;
+
+/// What the entries of the journal leave of devices, notifiers, processors and the core's parts.
+#[derive(Drop)]
+pub struct DeviceAccount {
+    board: Board,
+    asks_direct: Flags,
+    statuses: Flags,
+    notified: Flags,
+    cpus_off: Flags,
+    stopped: Flags,
+}
+
+impl Model for DeviceAccount {
+    ghost use Rattle.check_account.specs.Accounts.{DeviceState};
+
+    ghost Value = { DeviceState };
+
+    ghost view = { λ a. record {
+      board = a.board;
+      asks_direct = a.asks_direct;
+      statuses = a.statuses;
+      notified = a.notified;
+      cpus_off = a.cpus_off;
+      stopped = a.stopped;
+    } };
+}
+
+impl DeviceAccount {
+    ghost use Rattle.std.specs.Prelude.{◌≡◌, [], IfOk};
+    ghost use Rattle.sleep_model.specs.Stands.{stand_at};
+    ghost use Rattle.check_account.specs.Accounts.{devices_after, devices_of};
+    ghost use Rattle.check_account.specs.Boards.{stands_on};
+
+    /// Before the first entry. `Mem` if there is no memory for it.
+    pub fn new(alloc: Global, machine: &Machine) -> Result<Self, Mem>
+        ensures { IfOk result (λ a. a ≡ devices_of machine.now []) }
+    {
+        Ok(DeviceAccount {
+            board: Board::new(alloc, machine.devices.len())?,
+            asks_direct: Flags::new(alloc, machine.devices.len())?,
+            statuses: first_statuses(alloc, machine.devices.as_slice())?,
+            notified: Flags::new(alloc, machine.notifiers.len())?,
+            cpus_off: Flags::new(alloc, machine.cpus as usize)?,
+            stopped: Flags::new(alloc, machine.syscore.len())?,
+        })
+    }
+
+    /// Passes one more entry of the journal.
+    pub fn pass(&mut self, kind: Kind)
+        ensures { self.new ≡ devices_after kind self.old }
+    {
+        self.board.pass(kind, device_of(kind));
+        move_asks(&mut self.asks_direct, kind);
+        move_statuses(&mut self.statuses, kind);
+        move_notified(&mut self.notified, kind);
+        move_cpus(&mut self.cpus_off, kind);
+        move_stopped(&mut self.stopped, kind);
+    }
+
+    /// Where each device stands in a phase and its mirror (`struct dev_pm_info`).
+    pub fn stands(&self, phase: Phase) -> &[Stand]
+        ensures { result.now ≡ stands_on self.now.board phase }
+    {
+        self.board.stands(phase)
+    }
+
+    /// Where a device stands in a phase and its mirror.
+    pub fn stand(&self, phase: Phase, device: u32) -> Stand
+        ensures { result ≡ stand_at (stands_on self.now.board phase) device }
+    {
+        self.board.stand(phase, device)
+    }
+
+    /// Which devices answered 1 to their last prepare (`power.direct_complete`).
+    pub fn asks_direct(&self) -> &Flags
+        ensures { result.now ≡ self.now.asks_direct }
+    {
+        &self.asks_direct
+    }
+
+    /// Which devices are runtime suspended (`power.runtime_status`).
+    pub fn statuses(&self) -> &Flags
+        ensures { result.now ≡ self.now.statuses }
+    {
+        &self.statuses
+    }
+
+    /// Which notifiers are owed their post (`PM_POST_SUSPEND`).
+    pub fn notified(&self) -> &Flags
+        ensures { result.now ≡ self.now.notified }
+    {
+        &self.notified
+    }
+
+    /// Which processors are off (`frozen_cpus`).
+    pub fn cpus_off(&self) -> &Flags
+        ensures { result.now ≡ self.now.cpus_off }
+    {
+        &self.cpus_off
+    }
+
+    /// Which of the core's parts are suspended (`syscore_ops_list`).
+    pub fn stopped(&self) -> &Flags
+        ensures { result.now ≡ self.now.stopped }
+    {
+        &self.stopped
+    }
+}

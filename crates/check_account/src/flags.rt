@@ -1,0 +1,133 @@
+//! Flags of devices, notifiers, processors and the core's parts.
+
+ghost use Rattle.std.specs.Prelude.{◌≡◌, map, IfOk};
+ghost use Rattle.sleep_model.specs.Devices.{is_one, asks_direct_after};
+ghost use Rattle.sleep_model.specs.Notifiers.{notified_after, cpus_off_after, stopped_after};
+ghost use Rattle.sleep_model.specs.Runtime.{starts_suspended, statuses_after};
+
+use sleep_base::Mem;
+use sleep_model::{Device, DeviceFlags, Kind};
+use std::alloc::Global;
+use std::marker::Model;
+
+/// Flags by number. Contracts see the list.
+#[derive(Drop)]
+pub struct Flags {
+    flags: Vec<bool>,
+}
+
+impl Model for Flags {
+    ghost use Rattle.std.specs.Prelude.{Bool, List};
+
+    ghost Value = { List Bool };
+
+    ghost view = { λ f. f.flags.items };
+}
+
+impl Flags {
+    ghost use Rattle.std.specs.Prelude.{◌≡◌, false, replicate, slice_set, IfOk};
+    ghost use Rattle.sleep_model.specs.Walk.{is_so};
+
+    /// So many flags, none of which is set. `Mem` if there is no memory for them.
+    pub(crate) fn new(alloc: Global, count: usize) -> Result<Self, Mem>
+        ensures { IfOk result (λ f. f ≡ replicate count false) }
+    {
+        Ok(Flags {
+            flags: vec![in alloc; false; count]?,
+        })
+    }
+
+    /// All of them.
+    pub fn as_slice(&self) -> &[bool]
+        ensures { result.now ≡ self.now }
+    {
+        self.flags.as_slice()
+    }
+
+    /// Whether that flag is set; not where there is none.
+    pub fn is_set(&self, number: u32) -> bool
+        ensures { result ≡ is_so self.now number }
+    {
+        if (number as usize) < self.flags.len() {
+            self.flags[number as usize]
+        } else {
+            false
+        }
+    }
+
+    // Sets that flag so, where there is one.
+    fn set(&mut self, number: u32, to: bool)
+        ensures { self.new ≡ slice_set self.old number to }
+    {
+        if (number as usize) < self.flags.len() {
+            self.flags[number as usize] = to;
+        }
+    }
+}
+
+/// Which devices are runtime suspended at first. `Mem` if there is no memory for the flags.
+pub(crate) fn first_statuses(alloc: Global, devices: &[Device]) -> Result<Flags, Mem>
+    ensures { IfOk result (λ f. f ≡ map starts_suspended devices.now) }
+{
+    let mut statuses = Vec::with_capacity(alloc, devices.len())?;
+    for device in devices {
+        statuses.push(device.flags.has(DeviceFlags::RUNTIME_SUSPENDED))?;
+    }
+    Ok(Flags { flags: statuses })
+}
+
+/// A prepare tells whether its device may be direct-complete (`device_prepare`).
+pub(crate) fn move_asks(asks: &mut Flags, kind: Kind)
+    ensures { asks.new ≡ asks_direct_after kind asks.old }
+{
+    if let Kind::Prepare { device, r } = kind {
+        asks.set(device, r == 1);
+    }
+}
+
+/// A request that is answered 0 sets its device's status (`__pm_runtime_set_status`).
+pub(crate) fn move_statuses(statuses: &mut Flags, kind: Kind)
+    ensures { statuses.new ≡ statuses_after kind statuses.old }
+{
+    if let Kind::RuntimeAsk {
+        device,
+        to_suspended,
+        r: None,
+    } = kind
+    {
+        statuses.set(device, to_suspended);
+    }
+}
+
+/// A notifier that answered 0 is owed its post (`pm_notifier_call_chain`).
+pub(crate) fn move_notified(notified: &mut Flags, kind: Kind)
+    ensures { notified.new ≡ notified_after kind notified.old }
+{
+    match kind {
+        Kind::NotifyPrepare(x, None) => notified.set(x, true),
+        Kind::NotifyPost(x) => notified.set(x, false),
+        _ => {}
+    }
+}
+
+/// A processor is stopped or started (`kernel/cpu.c`, `freeze_secondary_cpus`).
+pub(crate) fn move_cpus(off: &mut Flags, kind: Kind)
+    ensures { off.new ≡ cpus_off_after kind off.old }
+{
+    match kind {
+        Kind::CpuOff(k) => off.set(k, true),
+        Kind::CpuOn(k) => off.set(k, false),
+        _ => {}
+    }
+}
+
+/// A part of the core is suspended or resumed (`syscore_suspend`, `syscore_resume`).
+pub(crate) fn move_stopped(stopped: &mut Flags, kind: Kind)
+    ensures { stopped.new ≡ stopped_after kind stopped.old }
+{
+    match kind {
+        Kind::SyscoreSuspend(x, None) => stopped.set(x, true),
+        Kind::SyscoreResume(x) => stopped.set(x, false),
+        _ => {}
+    }
+}

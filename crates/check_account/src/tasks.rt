@@ -1,0 +1,168 @@
+use crate::autosleep::{holder_after, on_after, queued_after, runs_after, work_after};
+use crate::freezings::{move_freezings, none_asked, unasked};
+use crate::seats::{first_seat, move_marks, move_seat};
+use sleep_base::Mem;
+use sleep_model::{Actor, Entry, Freezing, Machine, Script, Seat, Work};
+use std::alloc::Global;
+use std::marker::Model;
+
+/// What the entries of the journal leave of the tasks: where each script stands, what the freezer has come to with it,
+/// the marks, and autosleep with its work.
+#[derive(Drop)]
+pub struct TaskAccount {
+    freezings: Vec<Freezing>,
+    seats: Vec<Seat>,
+    raised: Vec<u32>,
+    holder: Option<Actor>,
+    on: bool,
+    work: Work,
+    queued: bool,
+    runs: u32,
+}
+
+impl Model for TaskAccount {
+    ghost use Rattle.check_account.specs.Accounts.{TaskState};
+
+    ghost Value = { TaskState };
+
+    ghost view = { λ a. record {
+      freezings = a.freezings.items;
+      seats = a.seats.items;
+      raised = a.raised.items;
+      holder = a.holder;
+      on = a.on;
+      work = a.work;
+      queued = a.queued;
+      runs = a.runs;
+    } };
+}
+
+impl TaskAccount {
+    ghost use Rattle.std.specs.Prelude.{◌≡◌, ◌<◌, ◌^◌, [], length, IfOk, OnOk};
+    ghost use Rattle.sleep_model.specs.Freezer.{freezing_at};
+    ghost use Rattle.sleep_model.specs.Marks.{mark_at};
+    ghost use Rattle.sleep_model.specs.Seats.{all_exited, seat_at};
+    ghost use Rattle.check_account.specs.Accounts.{tasks_after, tasks_of};
+
+    /// Before the first entry. `Mem` if there is no memory for it.
+    pub fn new(alloc: Global, machine: &Machine) -> Result<Self, Mem>
+        ensures { IfOk result (λ a. a ≡ tasks_of machine.now []) }
+    {
+        Ok(TaskAccount {
+            freezings: none_asked(alloc, machine.actors.as_slice())?,
+            seats: vec![in alloc; first_seat(); machine.actors.len()]?,
+            raised: vec![in alloc; 0; machine.marks.len()]?,
+            holder: None,
+            on: false,
+            work: Work::Resting,
+            queued: false,
+            runs: 0,
+        })
+    }
+
+    /// Passes one more entry of the journal, among the tasks of these scripts. `Mem` where a counter has no room.
+    pub fn pass(&mut self, scripts: &[Script], e: Entry) -> Result<(), Mem>
+        requires all { length self.old.freezings ≡ length scripts.now }
+        requires few { length scripts.now < 2 ^ 32 }
+        ensures { OnOk result (self.new ≡ tasks_after scripts.now e self.old) }
+    {
+        self.runs = runs_after(e.kind, self.runs)?;
+        move_seat(&mut self.seats, e.actor, e.kind)?;
+        move_marks(&mut self.raised, e.kind)?;
+        move_freezings(&mut self.freezings, scripts, e.actor, e.kind);
+        self.queued = queued_after(e.kind, self.on, self.queued);
+        self.work = work_after(e.actor, e.kind, self.work);
+        self.holder = holder_after(e.kind, e.actor, self.holder);
+        self.on = on_after(e.kind, self.on);
+        Ok(())
+    }
+
+    /// What the freezer has come to with a script (`freezing`, `frozen`).
+    pub fn freezing(&self, script: u32) -> Freezing
+        ensures { result ≡ freezing_at self.now.freezings script }
+    {
+        if (script as usize) < self.freezings.len() {
+            self.freezings[script as usize]
+        } else {
+            unasked()
+        }
+    }
+
+    /// What the freezer has come to with each script.
+    pub fn freezings(&self) -> &[Freezing]
+        ensures { result.now ≡ self.now.freezings }
+    {
+        &self.freezings
+    }
+
+    /// Where a script stands.
+    pub fn seat(&self, script: u32) -> Seat
+        ensures { result ≡ seat_at self.now.seats script }
+    {
+        if (script as usize) < self.seats.len() {
+            self.seats[script as usize]
+        } else {
+            first_seat()
+        }
+    }
+
+    /// Where each script stands.
+    pub fn seats(&self) -> &[Seat]
+        ensures { result.now ≡ self.now.seats }
+    {
+        &self.seats
+    }
+
+    /// Whether every script has made its exit (`do_exit`).
+    pub fn all_exited(&self) -> bool
+        ensures { result ≡ all_exited self.now.seats }
+    {
+        self.seats.iter().all(|seat| seat.exited)
+    }
+
+    /// How often a mark was raised and not yet taken.
+    pub fn raised(&self, mark: u32) -> u32
+        ensures { result ≡ mark_at self.now.raised mark }
+    {
+        if (mark as usize) < self.raised.len() {
+            self.raised[mark as usize]
+        } else {
+            0
+        }
+    }
+
+    /// Who holds the autosleep lock (`pm_autosleep_lock`).
+    pub fn holder(&self) -> Option<Actor>
+        ensures { result ≡ self.now.holder }
+    {
+        self.holder
+    }
+
+    /// Whether autosleep is on (`pm_autosleep_state`).
+    pub fn is_on(&self) -> bool
+        ensures { result ≡ self.now.on }
+    {
+        self.on
+    }
+
+    /// Where the autosleep work stands (`try_to_suspend`).
+    pub fn work(&self) -> Work
+        ensures { result ≡ self.now.work }
+    {
+        self.work
+    }
+
+    /// Whether the work is queued (`queue_up_suspend_work`).
+    pub fn is_queued(&self) -> bool
+        ensures { result ≡ self.now.queued }
+    {
+        self.queued
+    }
+
+    /// How often the work has run.
+    pub fn runs(&self) -> u32
+        ensures { result ≡ self.now.runs }
+    {
+        self.runs
+    }
+}

@@ -1,0 +1,4 @@
+pub mod CallerFields
+pub mod Calling
+pub mod Places
+pub mod PlanFields

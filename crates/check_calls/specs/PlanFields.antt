@@ -1,0 +1,23 @@
+-- What the fields of the plans are.
+use Rattle.std.specs.Prelude.{◌≡◌, ℕ, length, map}
+use Rattle.sleep_model.specs.declared.machine.Machine.{Machine}
+use Rattle.sleep_model.specs.declared.machine.Script.{Script}
+use Rattle.script_plan.specs.CallPlans.{ScriptCalls}
+use Rattle.check_calls.specs.declared.plans.Plans.TheInside.{Inside}
+
+-- a script, where autosleep has that source (own)
+abbrev pub with_source : ℕ → Script → ScriptCalls
+with_source source s = record { source = source; script = s }
+
+-- plans are seen as their machine (own)
+abbrev pub planned : Inside → Machine
+planned p = p.machine.now
+
+-- the operations and the calls are those of its scripts (own)
+pub record ArePlans (p : Inside) : Type 0 where
+  pub operations : p.operations.items ≡ p.machine.now.actors
+  pub calls : p.calls.items ≡ map (with_source (length p.machine.now.sources)) p.machine.now.actors
+
+-- the fields are the plans of the machine's scripts (own)
+abbrev pub keeps : Inside → Type 0
+keeps p = ArePlans p

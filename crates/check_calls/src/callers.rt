@@ -1,0 +1,254 @@
+ghost use Rattle.std.specs.Prelude.{◌≡◌, ◌++◌, [], map, slice_index_or, slice_set, ◌+◌, IfOk, OnOk};
+ghost use Rattle.sleep_model.specs.Calls.{calls_behind, calls_of_turn, ends_turn, report_calls};
+ghost use Rattle.script_plan.specs.CallPlans.{noted};
+
+use crate::answers::answered_reports;
+use crate::calls::{Calls, noted};
+use crate::places::{place_of, places_of};
+use crate::plans::Plans;
+use sleep_base::Mem;
+use sleep_model::{Actor, Entry, Kind, Machine, Op, Report, What};
+use std::alloc::Global;
+use std::marker::Model;
+
+/// For each actor how many calls on sources it has made, how many turns of its own steps it has ended, and which calls
+/// it owes behind those before its first turn.
+#[derive(Drop)]
+pub struct Callers<'m> {
+    plans: Plans<'m>,
+    made: Vec<usize>,
+    turns: Vec<usize>,
+    later: Vec<Calls>,
+}
+
+impl<'m> Model for Callers<'m> {
+    ghost use Rattle.check_calls.specs.Calling.{CallsOf};
+
+    ghost Value = { CallsOf };
+
+    ghost use Rattle.check_calls.specs.CallerFields.{IsSmall};
+
+    ghost view = { λ c. record {
+      machine = c.plans;
+      state = record { made = c.made.items; turns = c.turns.items; later = c.later.items };
+    } };
+
+    ghost invariant = { λ c. IsSmall c.plans };
+}
+
+// The number at a place, 0 where there is none.
+fn number_at(numbers: &[usize], place: usize) -> usize
+    ensures { result ≡ slice_index_or numbers.now place 0 }
+{
+    if place < numbers.len() {
+        numbers[place]
+    } else {
+        0
+    }
+}
+
+// Another number at a place, where there is one.
+fn set_at(numbers: &mut Vec<usize>, place: usize, number: usize)
+    ensures { numbers.new.items ≡ slice_set numbers.old.items place number }
+{
+    if place < numbers.len() {
+        numbers[place] = number;
+    }
+}
+
+// Puts calls behind those at a place, where there is one.
+fn extend_at(
+    later: &mut Vec<Calls>,
+    place: usize,
+    reports: &[Report],
+    behind: &[Report],
+) -> Result<(), Mem>
+    ensures { OnOk result (later.new.items ≡ slice_set later.old.items place
+        (slice_index_or later.old.items place [] ++ map noted reports.now ++ map noted behind.now)) }
+{
+    if place < later.len() {
+        let calls = &mut later[place];
+        calls.extend(reports)?;
+        calls.extend(behind)?;
+    }
+    Ok(())
+}
+
+/// Whether an entry ends a turn of a script's own steps: a step, or the setting of autosleep.
+pub(crate) fn ends_turn(kind: Kind) -> bool
+    ensures { result ≡ ends_turn kind }
+{
+    matches!(
+        kind,
+        Kind::AutoSet(_)
+            | Kind::Read(_)
+            | Kind::ReadIntr
+            | Kind::Saved(_)
+            | Kind::SaveErr(..)
+            | Kind::StateErr(_)
+            | Kind::StateUnsaved
+            | Kind::Over { .. }
+            | Kind::AutoBad
+            | Kind::AutoDone
+            | Kind::Slept
+            | Kind::Pass
+            | Kind::Post(_)
+            | Kind::Got(_)
+            | Kind::RuntimeAsk { .. }
+            | Kind::LinkAdd { .. }
+            | Kind::LinkState { .. }
+    )
+}
+
+// What is reported in the callback that an entry begins, where so many attempts were begun.
+fn reports_of<'m>(machine: &'m Machine, kind: Kind, attempts: u32) -> &'m [Report]
+    ensures { map noted result.now ≡ report_calls machine.now attempts kind }
+{
+    match kind {
+        Kind::Begin(phase, device) => {
+            answered_reports(machine, What::Device(device, phase), attempts)
+        }
+        _ => &[],
+    }
+}
+
+// The calls before an actor's turn with that number: a script's alone has some.
+fn calls_of_turn<'a>(plans: &'a Plans<'_>, who: Actor, turn: usize) -> &'a [Report]
+    ensures { map noted result.now ≡ calls_of_turn plans.now who turn }
+{
+    match who {
+        Actor::Script(i) => plans.calls_at(i, turn),
+        _ => &[],
+    }
+}
+
+// The calls right behind a turn, if one has ended.
+fn calls_behind<'a>(plans: &'a Plans<'_>, who: Actor, ended: bool, turn: usize) -> &'a [Report]
+    ensures { map noted result.now ≡ calls_behind plans.now who ended turn }
+{
+    if ended {
+        calls_of_turn(plans, who, turn)
+    } else {
+        &[]
+    }
+}
+
+// One more. `Mem` where the counter has no room.
+fn one_further(count: usize) -> Result<usize, Mem>
+    ensures { IfOk result (λ n. n ≡ count + 1) }
+{
+    match count.checked_add(1) {
+        Some(n) => Ok(n),
+        None => Err(Mem),
+    }
+}
+
+impl<'m> Callers<'m> {
+    ghost use Rattle.std.specs.Prelude.{◌≡◌, ◌≤◌, [], length, slice_get, option_copied, IfOk, OnOk};
+    ghost use Rattle.sleep_model.specs.Accepted.{IsAccepted};
+    ghost use Rattle.sleep_model.specs.Laws.{steps_of};
+    ghost use Rattle.check_calls.specs.Calling.{callers_of, entered_by, noted_by, made_at, later_at, calls_by};
+
+    /// Before the first entry, on a machine as files spell it. `Mem` if there is no memory for it.
+    pub fn new(alloc: Global, machine: &'m Machine) -> Result<Self, Mem>
+        requires { IsAccepted machine.now }
+        ensures { IfOk result (λ c. c ≡ record { machine = machine.now; state = callers_of machine.now [] }) }
+    {
+        let places = places_of(machine);
+        let mut later = Vec::new(alloc);
+        for i in 0..places {
+            later.push(Calls::new(alloc))?;
+        }
+        Ok(Callers {
+            plans: Plans::new(alloc, machine)?,
+            made: vec![in alloc; 0; places]?,
+            turns: vec![in alloc; 0; places]?,
+            later,
+        })
+    }
+
+    /// The operation that makes a script's entries with that number, from 0. None where it has none left.
+    pub fn operation(&self, script: u32, number: usize) -> Option<&'m Op>
+        ensures { option_copied result ≡ slice_get (steps_of (slice_get self.now.machine.actors script)) number }
+    {
+        self.plans.operation(script, number)
+    }
+
+    /// Passes a note of that actor. `Mem` where a counter has no room.
+    pub fn note(&mut self, who: Actor) -> Result<(), Mem>
+        ensures { OnOk result (self.new ≡ record self.old { state = noted_by self.old.machine who self.old.state }) }
+    {
+        let place = place_of(self.plans.machine(), who);
+        let more = one_further(number_at(&self.made, place))?;
+        set_at(&mut self.made, place, more);
+        Ok(())
+    }
+
+    /// Passes an entry of the journal, behind so many attempts. `Mem` where a counter has no room, or if there is no memory
+    /// for the calls.
+    pub fn pass(&mut self, e: Entry, attempts: u32) -> Result<(), Mem>
+        ensures { OnOk result (self.new ≡ record self.old { state = entered_by self.old.machine e attempts self.old.state }) }
+    {
+        let machine = self.plans.machine();
+        let place = place_of(machine, e.actor);
+        let ended = ends_turn(e.kind);
+        let turn = one_further(number_at(&self.turns, place))?;
+        let reports = reports_of(machine, e.kind, attempts);
+        let behind = calls_behind(&self.plans, e.actor, ended, turn);
+        extend_at(&mut self.later, place, reports, behind)?;
+        if ended {
+            set_at(&mut self.turns, place, turn);
+        }
+        Ok(())
+    }
+
+    /// How many calls an actor has made.
+    pub fn made(&self, who: Actor) -> usize
+        ensures { result ≡ made_at self.now.machine self.now.state who }
+    {
+        number_at(&self.made, place_of(self.plans.machine(), who))
+    }
+
+    // The calls that an actor owes behind those before its first turn.
+    fn later(&self, who: Actor) -> &[Kind]
+        ensures { result.now ≡ later_at self.now.machine self.now.state who }
+    {
+        let place = place_of(self.plans.machine(), who);
+        if place < self.later.len() {
+            self.later[place].as_slice()
+        } else {
+            &[]
+        }
+    }
+
+    /// How many calls an actor owes in all before it may append to the journal. `Mem` where the sum has no room.
+    pub fn due(&self, who: Actor) -> Result<usize, Mem>
+        ensures { IfOk result (λ n. n ≡ length (calls_by self.now.machine self.now.state who)) }
+    {
+        let first = calls_of_turn(&self.plans, who, 0).len();
+        match first.checked_add(self.later(who).len()) {
+            Some(n) => Ok(n),
+            None => Err(Mem),
+        }
+    }
+
+    // The one with that number of the calls that an actor owes behind those before its first turn.
+    fn later_call(&self, who: Actor, number: usize) -> Option<Kind>
+        ensures { result ≡ slice_get (later_at self.now.machine self.now.state who) number }
+    {
+        self.later(who).get(number).copied()
+    }
+
+    /// The next call of an actor, if it has one to make.
+    pub fn next(&self, who: Actor) -> Option<Kind>
+        ensures { result ≡ slice_get (calls_by self.now.machine self.now.state who) (made_at self.now.machine self.now.state who) }
+    {
+        let first = calls_of_turn(&self.plans, who, 0);
+        let made = self.made(who);
+        if made < first.len() {
+            Some(noted(first[made]))
+        } else {
+            self.later_call(who, made - first.len())
+        }
+    }
+}

@@ -1,0 +1,106 @@
+//! The steps of a machine's scripts, counted once.
+
+ghost use Rattle.std.specs.Prelude.{◌≡◌, ◌≤◌, map, length, IfOk};
+ghost use Rattle.sleep_model.specs.declared.machine.Script.{Script};
+ghost use Rattle.sleep_model.specs.Places.{all_operations};
+ghost use Rattle.check_calls.specs.PlanFields.{with_source};
+
+use script_plan::{CallPlan, Plan};
+use sleep_base::Mem;
+use sleep_model::{Machine, Op, Report, Script};
+use std::alloc::Global;
+use std::marker::Model;
+
+/// The operations and the calls of each script of a machine. Contracts see the machine.
+#[derive(Drop)]
+pub struct Plans<'m> {
+    machine: &'m Machine,
+    operations: Vec<Plan<'m>>,
+    calls: Vec<CallPlan<'m>>,
+}
+
+impl<'m> Model for Plans<'m> {
+    ghost use Rattle.sleep_model.specs.declared.machine.Machine.{Machine};
+
+    ghost Value = { Machine };
+
+    ghost use Rattle.check_calls.specs.PlanFields.{planned, keeps};
+
+    ghost view = { planned };
+
+    ghost invariant = { keeps };
+}
+
+// The operations of each script.
+fn operations_of(alloc: Global, scripts: &[Script]) -> Result<Vec<Plan<'_>>, Mem>
+    requires { length (all_operations scripts.now) ≤ 200000 }
+    ensures { IfOk result (λ v. v.items ≡ scripts.now) }
+{
+    let mut plans = Vec::with_capacity(alloc, scripts.len())?;
+    for script in scripts {
+        plans.push(Plan::new(alloc, script)?)?;
+    }
+    Ok(plans)
+}
+
+// The calls of each script, where autosleep has that source.
+fn calls_of(alloc: Global, scripts: &[Script], source: u32) -> Result<Vec<CallPlan<'_>>, Mem>
+    requires { length (all_operations scripts.now) ≤ 200000 }
+    ensures { IfOk result (λ v. v.items ≡ map (with_source source) scripts.now) }
+{
+    let mut plans = Vec::with_capacity(alloc, scripts.len())?;
+    for script in scripts {
+        plans.push(CallPlan::new(alloc, script, source)?)?;
+    }
+    Ok(plans)
+}
+
+impl<'m> Plans<'m> {
+    ghost use Rattle.std.specs.Prelude.{◌≡◌, ◌<◌, ◌≤◌, ◌^◌, length, map, slice_get, option_copied, IfOk};
+    ghost use Rattle.sleep_model.specs.Places.{all_operations};
+    ghost use Rattle.sleep_model.specs.Laws.{steps_of};
+    ghost use Rattle.sleep_model.specs.Calls.{calls_at, pieces_in};
+    ghost use Rattle.script_plan.specs.CallPlans.{noted};
+
+    /// The steps of a machine's scripts, at most 200,000 in all. `Mem` if there is no memory for them.
+    pub fn new(alloc: Global, machine: &'m Machine) -> Result<Self, Mem>
+        requires steps { length (all_operations machine.now.actors) ≤ 200000 }
+        requires sources { length machine.now.sources < 2 ^ 32 }
+        ensures { IfOk result (λ p. p ≡ machine.now) }
+    {
+        let scripts = machine.actors.as_slice();
+        let source = machine.sources.len() as u32;
+        Ok(Plans {
+            machine,
+            operations: operations_of(alloc, scripts)?,
+            calls: calls_of(alloc, scripts, source)?,
+        })
+    }
+
+    /// The machine.
+    pub fn machine(&self) -> &'m Machine
+        ensures { result.now ≡ self.now }
+    {
+        self.machine
+    }
+
+    /// The operation that makes a script's entries with that number, from 0. None where it has none left, or where
+    /// there is no such script.
+    pub fn operation(&self, script: u32, number: usize) -> Option<&'m Op>
+        ensures { option_copied result ≡ slice_get (steps_of (slice_get self.now.actors script)) number }
+    {
+        let plan = self.operations.get(script as usize)?;
+        plan.operation(number)
+    }
+
+    /// The calls right before a script's turn with that number, from 0, or before its exit; none where there is no such
+    /// script.
+    pub fn calls_at(&self, script: u32, turn: usize) -> &[Report]
+        ensures { map noted result.now ≡ calls_at (pieces_in self.now script) turn }
+    {
+        match self.calls.get(script as usize) {
+            None => &[],
+            Some(plan) => plan.calls_at(turn),
+        }
+    }
+}
