@@ -5,10 +5,10 @@ usage: tools/test_explain.py
 """
 
 import json
+import os
 import pathlib
 import subprocess
 import sys
-import time
 import unittest
 
 from explain import explained
@@ -78,10 +78,10 @@ class Explanations(unittest.TestCase):
         machine["actors"] = [{"name": "w", "kind": "user", "script": [{"op": "state", "text": "mem", "times": 30}]}]
         log, _ = Run(machine).run()
         self.assertGreater(log.count("\n"), 100_000)
-        begun = time.monotonic()
+        begun = sum(os.times()[:4])  # Processor time, of children too.
         found = explained(log.encode(), json.dumps(machine).encode())
         self.assertEqual(found.count("device d0 answered EIO"), 30)
-        self.assertLess(time.monotonic() - begun, 30)
+        self.assertLess(sum(os.times()[:4]) - begun, 30)
 
 
 class Refusals(unittest.TestCase):

@@ -6,10 +6,10 @@ usage: tools/test_perfetto.py
 
 import collections
 import json
+import os
 import pathlib
 import subprocess
 import sys
-import time
 import unittest
 
 from second.maker import Maker
@@ -126,11 +126,11 @@ class Content(unittest.TestCase):
         file["actors"] = [{"name": "w", "kind": "user", "script": [{"op": "state", "text": "mem", "times": 26}]}]
         log, _ = Run(file).run()
         self.assertGreater(log.count("\n"), 100_000)
-        begun = time.monotonic()
+        begun = sum(os.times()[:4])  # Processor time, of children too.
         done = subprocess.run([sys.executable, TOOLS / "timeline.py", "--perfetto"], input=log.encode(), capture_output=True)
         self.assertEqual(done.returncode, 0)
         self.assertGreater(len(json.loads(done.stdout)["traceEvents"]), 50_000)
-        self.assertLess(time.monotonic() - begun, 30)
+        self.assertLess(sum(os.times()[:4]) - begun, 30)
 
 
 if __name__ == "__main__":

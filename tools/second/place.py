@@ -4,8 +4,6 @@ It keeps what the rules ask of the entries before: the word, the saved count, th
 stands in each pair of phases, where each script is, what each source owes, and which calls each actor has left.
 """
 
-from limits import NAP_MS
-
 from .machine import DOWN, NOTES, STEPS, UP, Machine
 
 BEHIND_DOWN = {"suspend": ("platform", "prepare"), "late": ("downs", "noirq"), "noirq": ("platform", "prepare_late")}

@@ -214,10 +214,12 @@ module _ (places to at end : ℕ) (d : LockState) (start locks later : List Lock
         subst (AreBefore to) (sym later_is)
         (put_before to (after_call call.Expire n.due.at n.due.lock) locks (omega (arith, expired_at n.due.at n.due.lock.own, next_is_due to locks n.due n.is)) h)
 
+    pub made_there : AreInOrder locks → later ≡ set locks at (after_call call.Expire end (get_or locks at d))
+    made_there h = w.1 ∙ put_there (after_call call.Expire end (get_or locks at d)) locks at (at_place locks h at d n.in_range)
+
     pub made_fewer : AreInOrder locks → due_count to later + 1 ≡ due_count to locks
     made_fewer h =
-        let place = at_place locks h at d n.in_range in
-        let is : later ≡ set locks at (after_call call.Expire end (get_or locks at d)) = w.1 ∙ put_there (after_call call.Expire end (get_or locks at d)) locks at place in
+        let is = made_there h in
         let was : is_due to (get_or locks at d).standing ≡ true = rw (n.lock_is d, n.stands) (grind (arith, nat_tests, next_is_due to locks n.due n.is)) in
         subst (λ (xs : List LockState). due_count to xs + 1 ≡ due_count to locks) (sym is) (count_less to locks at d (after_call call.Expire end (get_or locks at d)) n.in_range was refl)
 

@@ -3,5 +3,6 @@ mod Calls
 pub mod Digits
 mod Expired
 pub mod Placed
+mod Sooner
 pub mod Timely
 mod Written

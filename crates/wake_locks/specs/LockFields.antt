@@ -1,5 +1,5 @@
 -- What the fields of a lock, and of the known locks, are.
-use Rattle.std.specs.Prelude.{◌≡◌, ◌≤◌, ◌<◌, ◌++◌, ℕ, true, false, nat_le, List, length, slice_index_or, is_some, if◌then◌else◌, Option, Some, None}
+use Rattle.std.specs.Prelude.{◌≡◌, ◌≤◌, ◌<◌, ◌-◌, ◌++◌, ℕ, zero, suc, min, true, false, nat_le, List, [], ◌∷◌, length, drop, slice_index_or, is_some, if◌then◌else◌, Option, Some, None}
 use Rattle.std.specs.declared.cmp.Ordering.TheVariants.{Less, Equal, Greater}
 use Rattle.sleep_model.specs.declared.entry.Entry.{Entry}
 use Rattle.sleep_model.specs.declared.machine.SourceCall.{SourceCall}
@@ -13,9 +13,10 @@ use Rattle.wakeup_source.specs.SourceStates.{SourceState, bare, latest}
 use Rattle.wakeup_source.specs.Told.{source_call, word_after}
 use Rattle.wake_locks.specs.declared.standing.Standing.{Standing}
 use Rattle.wake_locks.specs.declared.standing.Standing.TheVariants.{Inactive, Endless, Until}
-use Rattle.wake_locks.specs.Expiries.{Due}
+use Rattle.wake_locks.specs.declared.soonest.Soonest.{Soonest}
+use Rattle.wake_locks.specs.Expiries.{Due, next_due}
 use Rattle.wake_locks.specs.Locks.{LockState, AreInOrder, by_name}
-use Rattle.wake_locks.specs.Standings.{is_due}
+use Rattle.wake_locks.specs.Standings.{is_due, end_or_never, never}
 
 -- how a source with an event in progress stands, by when that ends
 abbrev pub standing_by : Option ℕ → Standing
@@ -64,12 +65,6 @@ IsMeant (call.Event ms hard) now before = (1 ≤ ms) × (hard ≡ false)
 IsMeant call.Expire now before = is_due now before ≡ true
 IsMeant _ now before = Unit {0}
 
--- what holds of all locks
-pub record AreLocks (places : ℕ) (locks : List LockState) : Type 0 where
-  pub in_order : AreInOrder locks
-  pub few : length locks ≤ 100
-  pub places_few : places ≤ most_entries
-
 -- ---- places among the locks
 
 -- the names of the locks before that place come before this one
@@ -95,12 +90,46 @@ MatchDue locks None (Some p) = ⊥
 MatchDue locks (Some due) None = ⊥
 MatchDue locks (Some due) (Some p) = (p.0 < length locks) × ((d : LockState) → slice_index_or locks p.0 d ≡ due.lock) × (p.1 ≡ due.at) × (due.lock.standing ≡ Until due.at) × (latest due.lock.own ≤ due.at)
 
--- the earlier of two
-abbrev pub earlier_of : ℕ → ℕ → Option (ℕ × ℕ) → Option (ℕ × ℕ)
-earlier_of at end None = Some (at, end)
-earlier_of at end (Some later) = if nat_le end later.1 then Some (at, end) else Some later
+-- ---- the lock that ends first
 
--- the lock there, where it ends by that moment and not after the one that was found
-abbrev pub earlier : ℕ → ℕ → Option ℕ → Option (ℕ × ℕ) → Option (ℕ × ℕ)
-earlier to at None next = next
-earlier to at (Some end) next = if nat_le end to then earlier_of at end next else next
+-- none of the locks ends by itself before that moment
+abbrev pub NoneEndsBefore : ℕ → List LockState → Type 0
+NoneEndsBefore soonest [] = Unit {0}
+NoneEndsBefore soonest (lock ∷ locks) = (soonest ≤ end_or_never lock.standing) × NoneEndsBefore soonest locks
+
+-- none of them does, but for the one at that place
+abbrev pub NoOtherEndsBefore : ℕ → ℕ → List LockState → Type 0
+NoOtherEndsBefore others at [] = Unit {0}
+NoOtherEndsBefore others zero (lock ∷ locks) = NoneEndsBefore others locks
+NoOtherEndsBefore others (suc at) (lock ∷ locks) = (others ≤ end_or_never lock.standing) × NoOtherEndsBefore others at locks
+
+-- the lock that ends first, with one more before the others, which ends at that moment
+abbrev pub with_lock : ℕ → ℕ → Soonest → Soonest
+with_lock at end found =
+    if nat_le end found.end then record { at = at; end = end; others = found.end }
+    else record { at = found.at; end = found.end; others = min found.others end }
+
+-- its place, and its end
+abbrev pub place_and_end : Soonest → ℕ × ℕ
+place_and_end found = (found.at, found.end)
+
+-- the same, where it ends by that moment
+abbrev pub found_by : ℕ → Soonest → Option (ℕ × ℕ)
+found_by to found = if nat_le found.end to then Some (found.at, found.end) else None
+
+-- what is found of the locks from that place on: which ends first, and that no other ends before `others`
+pub record IsSoonest (locks : List LockState) (from : ℕ) (found : Soonest) : Type 0 where
+  pub within : from ≤ length locks
+  pub behind : from ≤ found.at
+  pub last : found.end ≤ never
+  pub few : found.others ≤ never
+  pub first : (to : ℕ) → to < never → MatchDue locks (next_due to (drop from locks)) (found_by to found)
+  pub least : NoneEndsBefore found.end (drop from locks)
+  pub others : NoOtherEndsBefore found.others (found.at - from) (drop from locks)
+
+-- what holds of all locks
+pub record AreLocks (places soonest : ℕ) (locks : List LockState) : Type 0 where
+  pub in_order : AreInOrder locks
+  pub few : length locks ≤ 100
+  pub places_few : places ≤ most_entries
+  pub none_sooner : NoneEndsBefore soonest locks

@@ -30,6 +30,16 @@ end_of Inactive = None
 end_of Endless = None
 end_of (Until end) = Some end
 
+-- a moment that does not come: the greatest number of 64 bits (own)
+abbrev pub never : ℕ
+never = 18446744073709551615
+
+-- when it ends by itself, or never (ws->timer_expires)
+abbrev pub end_or_never : Standing → ℕ
+end_or_never Inactive = never
+end_or_never Endless = never
+end_or_never (Until end) = end
+
 -- it ends by itself, and by that moment
 abbrev pub is_due : ℕ → Standing → Bool
 is_due by Inactive = false

@@ -4,6 +4,7 @@
 mod answer;
 mod lock;
 mod locks;
+mod soonest;
 mod standing;
 #[cfg(test)]
 mod tests;

@@ -40,7 +40,7 @@ impl<const CAP: usize> Model for Lock<CAP> {
     ghost invariant = { λ l. IsLock l.standing l.source l.events };
 }
 
-ghost use Rattle.std.specs.Prelude.{◌≡◌, ◌≤◌, ◌<◌, ◌+◌, ◌^◌, ◌↔◌, ℕ, List, true, Err, length, OnOk, OnErr, IfOk, IfSome, Some, None};
+ghost use Rattle.std.specs.Prelude.{◌≡◌, ◌≤◌, ◌<◌, ◌+◌, ◌^◌, ◌↔◌, ℕ, List, true, Err, length, OnOk, OnErr, IfOk, Some, None};
 ghost use Rattle.event_word.specs.Steps.{has_places};
 ghost use Rattle.sleep_model.specs.Sources.{makes, since, most_entries, stats_at};
 ghost use Rattle.wakeup_source.specs.declared.fault.SourceFault.TheVariants as SourceFault;
@@ -48,8 +48,8 @@ ghost use Rattle.wakeup_source.specs.SourceStates.{bare, latest};
 ghost use Rattle.wakeup_source.specs.Told.{MayCall};
 ghost use Rattle.wake_locks.specs.declared.answer.LockFault.TheVariants.{Full};
 ghost use Rattle.wake_locks.specs.Locks.{new_lock, after_call, by_name, maker, stands_so};
-ghost use Rattle.wake_locks.specs.LockFields.{IsMade, IsMeant};
-ghost use Rattle.wake_locks.specs.Standings.{end_of};
+ghost use Rattle.wake_locks.specs.LockFields.{IsBehind, IsMade, IsMeant};
+ghost use Rattle.wake_locks.specs.Standings.{end_of, end_or_never};
 ghost use Rattle.wake_locks.specs.Counted.{Agrees, counted};
 ghost use Rattle.wake_locks.specs.Writes.{IsFull};
 
@@ -130,12 +130,12 @@ impl<const CAP: usize> Lock<CAP> {
         }
     }
 
-    /// When it ends by itself, which is not before its last entry.
-    pub(crate) fn end(&self) -> Option<u64>
-        ensures end { result ≡ end_of self.now.standing }
-        ensures behind { IfSome result (λ end. latest self.now.own ≤ end) }
+    /// When it ends by itself, which is not before its last entry; never, where it does not.
+    pub(crate) fn end_or_never(&self) -> u64
+        ensures end { result ≡ end_or_never self.now.standing }
+        ensures behind { IsBehind (latest self.now.own) (end_of self.now.standing) }
     {
-        self.standing.end()
+        self.standing.end_or_never()
     }
 
     /// A call on its source. After a fault nothing has changed.

@@ -1,5 +1,6 @@
 use crate::answer::{LockAnswer, LockFault, answered};
 use crate::lock::{Lock, LockStats};
+use crate::soonest::{NEVER, Soonest};
 use crate::text::{lock_text, unlock_text};
 use sleep_base::Mem;
 use sleep_model::{ListOf, Name, SourceCall, Stats};
@@ -20,6 +21,8 @@ pub type NameList = ListOf<Name>;
 pub struct WakeLocks<const CAP: usize> {
     alloc: Global,
     locks: Vec<Lock<CAP>>,
+    /// No lock ends by itself before this moment.
+    soonest: u64,
 }
 
 impl<const CAP: usize> Model for WakeLocks<CAP> {
@@ -32,10 +35,10 @@ impl<const CAP: usize> Model for WakeLocks<CAP> {
 
     ghost view = { λ w. w.locks.items };
 
-    ghost invariant = { λ w. AreLocks CAP w.locks.items };
+    ghost invariant = { λ w. AreLocks CAP w.soonest w.locks.items };
 }
 
-ghost use Rattle.std.specs.Prelude.{◌≡◌, ◌≢◌, ◌≤◌, ◌<◌, ◌+◌, ◌^◌, List, [], Ok, Err, None, length, slice_index_or, OnOk, OnErr, IfOk, IfErr, option_map, map};
+ghost use Rattle.std.specs.Prelude.{◌≡◌, ◌≢◌, ◌≤◌, ◌<◌, ◌+◌, ◌^◌, List, [], Ok, Err, None, length, slice_index_or, OnOk, OnErr, IfOk, IfErr, IfSome, option_map, map};
 ghost use Rattle.wake_locks.specs.Counted.{AllAgree, counted};
 ghost use Rattle.sleep_model.specs.Sources.{most_entries, stats_at};
 ghost use Rattle.wake_locks.specs.declared.answer.LockAnswer.TheVariants as LockAnswer;
@@ -43,7 +46,8 @@ ghost use Rattle.wake_locks.specs.declared.answer.LockFault.TheVariants as LockF
 ghost use Rattle.wakeup_source.specs.SourceStates.{latest};
 ghost use Rattle.wake_locks.specs.declared.standing.Standing.TheVariants as Standing;
 ghost use Rattle.wake_locks.specs.Expiries.{IsAdvance, next_due};
-ghost use Rattle.wake_locks.specs.LockFields.{IsAt, IsGapFor, IsMeant, MatchDue, earlier};
+ghost use Rattle.wake_locks.specs.LockFields.{IsAt, IsGapFor, IsMeant, IsSoonest, MatchDue, NoOtherEndsBefore, place_and_end};
+ghost use Rattle.wake_locks.specs.Standings.{never};
 ghost use Rattle.wake_locks.specs.Locks.{LockState, new_lock, after_call, put, find, names_of, AreBefore, AreInOrder, IsTimely};
 ghost use Rattle.wake_locks.specs.Writes.{asked_lock, asked_unlock, on_lock, WriteEnded};
 
@@ -56,6 +60,7 @@ impl<const CAP: usize> WakeLocks<CAP> {
         WakeLocks {
             alloc,
             locks: Vec::new(alloc),
+            soonest: NEVER,
         }
     }
 
@@ -136,6 +141,8 @@ impl<const CAP: usize> WakeLocks<CAP> {
     {
         let lock = &mut self.locks[at];
         let made = lock.call(rt, call, now);
+        let end = lock.end_or_never();
+        self.soonest = self.soonest.min(end);
         answered(made)
     }
 
@@ -172,9 +179,11 @@ impl<const CAP: usize> WakeLocks<CAP> {
         ensures answer { result ≢ Err LockFault.Mem → result ≡ Ok LockAnswer.Done }
     {
         self.locks.reserve(1)?;
+        let end = lock.end_or_never();
         if self.locks.insert(at, lock).is_err() {
             unreachable!()
         }
+        self.soonest = self.soonest.min(end);
         Ok(LockAnswer::Done)
     }
 
@@ -189,27 +198,52 @@ impl<const CAP: usize> WakeLocks<CAP> {
     {
         let many = self.locks.len();
         for _ in 0..many {
-            let Some((at, end)) = self.next_due(to) else {
+            let Some(found) = self.next_due(to) else {
                 return Ok(());
             };
-            self.call_at(rt, at, SourceCall::Expire, end)?;
+            self.call_at(rt, found.at, SourceCall::Expire, found.end)?;
+            self.soonest = found.others;
         }
         Ok(())
     }
 
-    /// The lock that ends first by that moment, the first by name of those that end together: its place, and its end.
-    fn next_due(&self, to: u64) -> Option<(usize, u64)>
-        ensures found { MatchDue self.now (next_due to self.now) result }
-        ensures ordered { AreInOrder self.now }
+    /// The lock that ends first by that moment, the first by name of those that end together. No lock is looked at before
+    /// one may end.
+    fn next_due(&mut self, to: u64) -> Option<Soonest>
+        requires small { to ≤ 2 ^ 63 }
+        ensures same { self.new ≡ self.old }
+        ensures found { MatchDue self.old (next_due to self.old) (option_map place_and_end result) }
+        ensures others { IfSome result (λ found. NoOtherEndsBefore found.others found.at self.old) }
+        ensures few { IfSome result (λ found. found.others ≤ never) }
+        ensures ordered { AreInOrder self.old }
     {
-        let mut next = None;
+        if to < self.soonest {
+            return None;
+        }
+        let found = self.first_to_end();
+        if to < found.end {
+            self.soonest = found.end;
+            return None;
+        }
+        Some(found)
+    }
+
+    /// The lock that ends first.
+    fn first_to_end(&self) -> Soonest
+        ensures { IsSoonest self.now 0 result }
+    {
         let mut at = self.locks.len();
+        let mut found = Soonest {
+            at,
+            end: NEVER,
+            others: NEVER,
+        };
         while at > 0 {
             at -= 1;
             let lock = &self.locks[at];
-            next = earlier(to, at, lock.end(), next);
+            found = found.with_lock(at, lock.end_or_never());
         }
-        next
+        found
     }
 
     /// The names of the locks that are active, or of those that are not, in order (`pm_show_wakelocks`).
@@ -253,21 +287,5 @@ impl<const CAP: usize> WakeLocks<CAP> {
             }
             Err(_) => None,
         }
-    }
-}
-
-/// The earlier of an end and one that was found behind it.
-fn earlier(to: u64, at: usize, end: Option<u64>, next: Option<(usize, u64)>) -> Option<(usize, u64)>
-    ensures { result ≡ earlier to at end next }
-{
-    let Some(end) = end else {
-        return next;
-    };
-    if end > to {
-        return next;
-    }
-    match next {
-        Some((_, later)) if later < end => next,
-        _ => Some((at, end)),
     }
 }

@@ -1,6 +1,7 @@
 ghost use Rattle.std.specs.Prelude.{◌≡◌, ◌≤◌, ◌^◌};
-ghost use Rattle.wake_locks.specs.Standings.{standing_after, lasting_until, is_active, end_of};
+ghost use Rattle.wake_locks.specs.Standings.{standing_after, lasting_until, is_active, end_or_never};
 
+use crate::soonest::NEVER;
 use sleep_model::SourceCall;
 
 /// How a lock stands: whether an event is in progress on its source, and whether it ends by itself.
@@ -44,13 +45,13 @@ impl Standing {
         !matches!(self, Standing::Inactive)
     }
 
-    /// When it ends by itself, if it does.
-    pub(crate) fn end(self) -> Option<u64>
-        ensures { result ≡ end_of self }
+    /// When it ends by itself; never, where it does not.
+    pub(crate) fn end_or_never(self) -> u64
+        ensures { result ≡ end_or_never self }
     {
         match self {
-            Standing::Until(end) => Some(end),
-            Standing::Inactive | Standing::Endless => None,
+            Standing::Until(end) => end,
+            Standing::Inactive | Standing::Endless => NEVER,
         }
     }
 }

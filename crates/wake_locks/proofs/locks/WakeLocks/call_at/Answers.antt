@@ -1,7 +1,9 @@
-use Rattle.std.proofs.Common.{◌<◌, ◌∙◌, List, length, get_or, sym, subst, arith}
+use Rattle.std.proofs.Common.{◌<◌, ◌∙◌, min, List, length, get_or, set, sym, subst, arith}
 use Rattle.std.proofs.lemmas.List.{length-set}
 use Rattle.wake_locks.specs.Locks.{LockState}
+use Rattle.wake_locks.specs.Standings.{end_or_never}
 use Rattle.wake_locks.proofs.Placed.{any_of}
+use Rattle.wake_locks.proofs.Sooner.{less, set_sooner}
 use Rattle.wake_locks.proofs.Written.{Called, at_ended, at_kept}
 use Rattle.wake_locks.proofs.locks.WakeLocks.call_at.Goals as goal
 
@@ -13,10 +15,13 @@ invariant_of-self g c =
     let called : Called g.row.CAP c.args.call c.args.now (get_or items c.args.at lock) c.call-made.new.self c.call-made.result =
     subst (λ (x : LockState). Called g.row.CAP c.args.call c.args.now x c.call-made.new.self c.call-made.result) c.index_mut-lock.ensures.value
     (record { done = c.call-made.ensures.done; full = c.call-made.ensures.full; err = c.call-made.ensures.err }) in
+    let new = c.call-made.new.self in
     record {
       in_order = at_kept g.row.CAP c.args.call c.args.now c.args.at items c.call-made.new.self lock c.call-made.result c.self.invariant.in_order l called;
       few = omega (arith, length-set items c.args.at c.call-made.new.self, c.self.invariant.few);
       places_few = c.self.invariant.places_few;
+      none_sooner = less c.min-self-inside.result (min c.self.inside.soonest (end_or_never new.standing)) (set items c.args.at new) (omega (arith, c.min-self-inside.ensures, c.end_or_never-end.ensures.end))
+          (set_sooner c.self.inside.soonest c.args.at items new c.self.invariant.none_sooner);
     }
 
 pub returns : goal.returns

@@ -1,0 +1,36 @@
+ghost use Rattle.std.specs.Prelude.{◌≡◌};
+ghost use Rattle.wake_locks.specs.LockFields.{with_lock};
+
+/// The moment at which a lock ends that does not end by itself.
+pub(crate) const NEVER: u64 = u64::MAX;
+
+/// Which of some locks ends first by itself.
+#[derive(Clone, Copy, Debug, PartialEq, Eq)]
+pub(crate) struct Soonest {
+    /// Its place: of those that end together the first by name.
+    pub(crate) at: usize,
+    /// When it ends.
+    pub(crate) end: u64,
+    /// No other of them ends before this moment.
+    pub(crate) others: u64,
+}
+
+impl Soonest {
+    /// The same with one more lock, which stands before the others and ends at that moment.
+    pub(crate) fn with_lock(self, at: usize, end: u64) -> Soonest
+        ensures { result ≡ with_lock at end self }
+    {
+        if end <= self.end {
+            return Soonest {
+                at,
+                end,
+                others: self.end,
+            };
+        }
+        Soonest {
+            at: self.at,
+            end: self.end,
+            others: self.others.min(end),
+        }
+    }
+}
