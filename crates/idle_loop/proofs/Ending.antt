@@ -10,7 +10,7 @@ use Rattle.idle_loop.specs.declared.entry.IdleEntry.{IdleEntry}
 use Rattle.idle_loop.specs.declared.entry.IdleLog.{IdleLog}
 use Rattle.idle_loop.specs.declared.entry.IdleSizes.{IdleSizes}
 use Rattle.idle_loop.specs.declared.entry.WakerNow.{WakerNow}
-use Rattle.idle_loop.specs.IdleLogs.{woken, state_by, state_after, one_more, session_by, session_of, hards_of, wakes_of, since_begin, begun, IsIdleLog, IsOver, is_entered, IsIdleRun}
+use Rattle.idle_loop.specs.IdleLogs.{woken, state_by, state_after, one_more, session_by, session_of, hards_of, wakes_of, since_begin, begun, MayMake, IsIdleLog, IsOver, is_entered, IsIdleRun}
 use Rattle.idle_loop.specs.Kept.{Alone, AreSizes, IsSession, Stands, IsKept, HasNothing, waker_at, new_waker, first_alone}
 use Rattle.idle_loop.proofs.Races.{Due, due_of, awake, in_turn, loses_none, sleeps_over_none}
 use Rattle.idle_loop.proofs.Keeping.{session_none}
@@ -62,25 +62,31 @@ not_waked : (s : IdleState) → s ≡ state.Wake → IsWaked s
 not_waked s is = subst IsWaked (sym is) tt
 
 -- an idler that has entered may make nothing
+pub nothing_entered : (z : IdleSizes) (past : List IdleEntry) → IsIdleLog z past → state_after past ≡ state.Enter → (what : IdleKind) → MayMake z past z.wakers what → ⊥
+nothing_entered z past legal is Hard may = let low = may.0 in omega arith
+nothing_entered z past legal is Wake may = let low = may.0 in omega arith
+nothing_entered z past legal is Begin may = not_awake (state_after past) is (none_awake z past legal may.1)
+nothing_entered z past legal is TryOk may = not_awake (state_after past) is may.1
+nothing_entered z past legal is TryBusy may = not_awake (state_after past) is may.1
+nothing_entered z past legal is Leave may = subst IsWaked is (not_waked (state_after past) may.1)
+
 pub entered_none : (a : Alone) → IsKept a → a.gate.state ≡ state.Enter → HasNothing a
-entered_none a kept is Hard may = let low = may.0 in omega arith
-entered_none a kept is Wake may = let low = may.0 in omega arith
-entered_none a kept is Begin may = not_awake (state_after a.past) (sym kept.state ∙ is) (none_awake a.sizes a.past kept.legal may.1)
-entered_none a kept is TryOk may = not_awake (state_after a.past) (sym kept.state ∙ is) may.1
-entered_none a kept is TryBusy may = not_awake (state_after a.past) (sym kept.state ∙ is) may.1
-entered_none a kept is Leave may = subst IsWaked (sym kept.state ∙ is) (not_waked (state_after a.past) may.1)
+entered_none a kept is = nothing_entered a.sizes a.past kept.legal (sym kept.state ∙ is)
 
 closed : (a : Alone) → IsKept a → a.gate.in_session ≡ false → session_of a.past ≡ None
 closed a kept none = session_none a.gate.forgotten a.word.hard (session_of a.past) (subst (λ (b : Bool). IsSession b a.gate.forgotten a.word.hard (session_of a.past)) none kept.session)
 
 -- nor may one that is awake, where no session is open and none is left
+pub nothing_awake : (z : IdleSizes) (past : List IdleEntry) → state_after past ≡ state.Idle → session_of past ≡ None → z.sessions ≤ begun past → (what : IdleKind) → MayMake z past z.wakers what → ⊥
+nothing_awake z past is none last Hard may = let low = may.0 in omega arith
+nothing_awake z past is none last Wake may = let low = may.0 in omega arith
+nothing_awake z past is none last Begin may = let few : begun past < z.sessions = may.2 in omega arith
+nothing_awake z past is none last TryOk may = no_session (Some 0) (sym may.2 ∙ none)
+nothing_awake z past is none last TryBusy may = no_session (Some (may.2 + 1)) (sym may.3 ∙ none)
+nothing_awake z past is none last Leave may = subst IsWaked is (not_waked (state_after past) may.1)
+
 pub awake_none : (a : Alone) → IsKept a → a.gate.state ≡ state.Idle → a.gate.in_session ≡ false → a.sizes.sessions ≤ a.gate.begun → HasNothing a
-awake_none a kept is none last Hard may = let low = may.0 in omega arith
-awake_none a kept is none last Wake may = let low = may.0 in omega arith
-awake_none a kept is none last Begin may = let few : begun a.past < a.sizes.sessions = may.2 in let same : a.gate.begun ≡ begun a.past = kept.begun in omega arith
-awake_none a kept is none last TryOk may = no_session (Some 0) (sym may.2 ∙ closed a kept none)
-awake_none a kept is none last TryBusy may = no_session (Some (may.2 + 1)) (sym may.3 ∙ closed a kept none)
-awake_none a kept is none last Leave may = subst IsWaked (sym kept.state ∙ is) (not_waked (state_after a.past) may.1)
+awake_none a kept is none last = nothing_awake a.sizes a.past (sym kept.state ∙ is) (closed a kept none) (subst (λ (n : ℕ). a.sizes.sessions ≤ n) kept.begun last)
 
 legal_before : (z : IdleSizes) (later past : List IdleEntry) → IsIdleLog z (later ++ past) → IsIdleLog z past
 legal_before z [] past legal = legal
@@ -91,16 +97,19 @@ entered_is state.Idle is = absurd (false≢true is)
 entered_is state.Enter is = refl
 entered_is state.Wake is = absurd (false≢true is)
 
+-- a log that is over
+pub ended_log : (z : IdleSizes) (past : List IdleEntry) (log : IdleLog) → IsIdleLog z past → IsOver z past → reverse log.entries.items ≡ past → log.idle ≡ is_entered (state_after past) → IsIdleRun z log
+ended_log z past log legal over same idle = record {
+  legal = subst (IsIdleLog z) (sym same) legal;
+  over = subst (IsOver z) (sym same) over;
+  ended = idle ∙ ap (λ (es : List IdleEntry). is_entered (state_after es)) (sym same);
+  none_lost = λ later older parts. loses_none z older (legal_before z later older (subst (IsIdleLog z) (sym same ∙ parts) legal));
+  none_sleeps = λ who slept. subst (λ (es : List IdleEntry). since_begin who es ≡ 0) (sym same) (sleeps_over_none z past legal over (entered_is (state_after past) (sym idle ∙ slept)) who);
+}
+
 -- a run that is over
 pub ended_run : (a : Alone) (log : IdleLog) → IsKept a → IsOver a.sizes a.past → reverse log.entries.items ≡ a.past → log.idle ≡ is_entered a.gate.state → IsIdleRun a.sizes log
-ended_run a log kept over same idle = record {
-  legal = subst (IsIdleLog a.sizes) (sym same) kept.legal;
-  over = subst (IsOver a.sizes) (sym same) over;
-  ended = idle ∙ ap is_entered (kept.state ∙ ap state_after (sym same));
-  none_lost = λ later past parts. loses_none a.sizes past (legal_before a.sizes later past (subst (IsIdleLog a.sizes) (sym same ∙ parts) kept.legal));
-  none_sleeps = λ who slept. subst (λ (past : List IdleEntry). since_begin who past ≡ 0) (sym same)
-      (sleeps_over_none a.sizes a.past kept.legal over (entered_is (state_after a.past) (ap is_entered (sym kept.state) ∙ (sym idle ∙ slept))) who);
-}
+ended_run a log kept over same idle = ended_log a.sizes a.past log kept.legal over same (idle ∙ ap is_entered kept.state)
 
 first_stands : (who : ℕ) (w : WakerNow) → w ≡ new_waker → Stands who w []
 first_stands who w is = subst (λ (v : WakerNow). Stands who v []) (sym is) (refl, refl)

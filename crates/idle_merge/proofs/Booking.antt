@@ -1,6 +1,6 @@
 -- How many entries a journal of the gate has at most.
-use Rattle.std.proofs.Common.{◌≡◌, ℕ, zero, suc, ◌+◌, ◌*◌, ◌<◌, ◌≤◌, ◌≢◌, ◌==◌, not, nat_lt, Bool, true, false, if◌then◌else◌, Option, Some, None, List, [], ◌∷◌, ◌++◌, length, reverse, refl, ap, sym, subst, ◌∙◌, arith}
-use Rattle.std.proofs.lemmas.List.{reverse-append, reverse-reverse, length-reverse}
+use Rattle.std.proofs.Common.{◌≡◌, ℕ, zero, suc, ◌+◌, ◌*◌, ◌<◌, ◌≤◌, ◌≢◌, ◌==◌, not, nat_lt, Bool, true, false, if◌then◌else◌, Option, Some, None, List, [], ◌∷◌, ◌++◌, length, reverse, get_or, set, replicate, refl, ap, sym, subst, ◌∙◌, arith}
+use Rattle.std.proofs.lemmas.List.{reverse-append, reverse-reverse, length-reverse, get_or-set_same, get_or-set_other, get_or-replicate, get_or_read, length-replicate, length-set}
 use mathlib.Core.Logic.{dite}
 use native.Mathlib.Decide.{ℕ_discrete}
 use Rattle.event_word.proofs.Totals.{total, total_nil, total_same, total_moved, total_most}
@@ -16,7 +16,7 @@ use Rattle.idle_loop.proofs.Races.{own_adds, other_adds}
 use Rattle.std.proofs.lemmas.Bool.{false≢true}
 use Rattle.idle_loop.specs.Gates as gates
 use Rattle.idle_loop.specs.Gates.{Gate, left}
-use Rattle.idle_merge.specs.Books.{IsBook, Forgot, most_of}
+use Rattle.idle_merge.specs.Books.{IsBook, AreCounted, Forgot, most_of}
 use Rattle.idle_merge.specs.Merging.{SeesInOrder, SeeMore, MayEnter, IsJournal, forgot_by, forgotten}
 
 -- all wakes of a journal
@@ -207,7 +207,7 @@ less_more n a most low none = omega arith
 still_few : (z : IdleSizes) (journal : List IdleEntry) (e : IdleEntry) → is_wake e.what ≡ 0 → ((who : ℕ) → wakes_of who journal ≤ z.events) → (who : ℕ) → wakes_of who (e ∷ journal) ≤ z.events
 still_few z journal e none few who = less_more (wakes_of who journal) (if e.who == who then is_wake e.what else 0) z.events (few who) (if_none (e.who == who) (is_wake e.what) none)
 
-forgot_none : (hard : ℕ) (f : Option ℕ) → Forgot false hard f → f ≡ None
+pub forgot_none : (hard : ℕ) (f : Option ℕ) → Forgot false hard f → f ≡ None
 forgot_none hard None is = refl
 forgot_none hard (Some f) is = absurd is
 
@@ -358,3 +358,34 @@ sees_back most (e ∷ journal) sees = subst (SeeMore 0 most) (sym (reverse-appen
 -- the items of a journal in order
 pub items_in_order : (seen : ℕ) (items : List IdleEntry) → SeesInOrder seen (reverse items) → SeeMore 0 seen items
 items_in_order seen items sees = subst (SeeMore 0 seen) (reverse-reverse items) (sees_back seen (reverse items) sees)
+
+-- ---- how many wakes each waker made
+
+back_more : (items more : List IdleEntry) (e : IdleEntry) → more ≡ items ++ e ∷ [] → e ∷ reverse items ≡ reverse more
+back_more items more e grown = sym (ap (λ (es : List IdleEntry). reverse es) grown ∙ reverse-append items (e ∷ []))
+
+pub counted_none : (z : IdleSizes) (n : ℕ) (items : List IdleEntry) → n ≡ z.wakers → items ≡ [] → AreCounted z (replicate n 0) (reverse items)
+counted_none z n items is none = subst (λ (es : List IdleEntry). AreCounted z (replicate n 0) (reverse es)) (sym none)
+    (record { count = length-replicate n 0 ∙ is; each = λ who low. get_or-replicate n who 0 0 (subst (λ (k : ℕ). who < k) (sym is) low) })
+
+-- another entry than a wake leaves the counts
+pub counted_soft : (z : IdleSizes) (woke : List ℕ) (items more : List IdleEntry) (e : IdleEntry) → is_wake e.what ≡ 0 → more ≡ items ++ e ∷ [] → AreCounted z woke (reverse items) → AreCounted z woke (reverse more)
+counted_soft z woke items more e soft grown are = subst (AreCounted z woke) (back_more items more e grown)
+    (record { count = are.count; each = λ who low. are.each who low ∙ sym (none_add (wakes_of who (reverse items)) (if e.who == who then is_wake e.what else 0) (if_none (e.who == who) (is_wake e.what) soft)) })
+
+-- a wake counts for its waker
+pub counted_wake : (z : IdleSizes) (woke : List ℕ) (x : ℕ) (items more : List IdleEntry) (e : IdleEntry) → e.what ≡ Wake → e.who < z.wakers → x ≡ get_or woke e.who x → more ≡ items ++ e ∷ []
+    → AreCounted z woke (reverse items) → AreCounted z (set woke e.who (x + 1)) (reverse more)
+counted_wake z woke x items more e wake low read grown are =
+    let inside : e.who < length woke = subst (λ (n : ℕ). e.who < n) (sym are.count) low in
+    let one : is_wake e.what ≡ 1 = ap is_wake wake in
+    subst (AreCounted z (set woke e.who (x + 1))) (back_more items more e grown) (record {
+      count = length-set woke e.who (x + 1) ∙ are.count;
+      each = λ who lower. dite (ℕ_discrete e.who who)
+          (λ (same : e.who ≡ who).
+          let at : get_or (set woke e.who (x + 1)) who 0 ≡ x + 1 = ap (λ (k : ℕ). get_or (set woke e.who (x + 1)) k 0) (sym same) ∙ get_or-set_same woke e.who (x + 1) 0 inside in
+          let was : x ≡ wakes_of who (reverse items) = get_or_read woke e.who x inside read 0 ∙ (ap (λ (k : ℕ). get_or woke k 0) same ∙ are.each who lower) in
+          at ∙ (ap (λ (n : ℕ). n + 1) was ∙ ap (λ (n : ℕ). wakes_of who (reverse items) + n) (sym (own_adds e.who who (is_wake e.what) same ∙ one))))
+          (λ (other : e.who ≢ who). get_or-set_other woke e.who who (x + 1) 0 (λ same. other (sym same)) ∙ (are.each who lower
+          ∙ sym (none_add (wakes_of who (reverse items)) (if e.who == who then is_wake e.what else 0) (other_adds e.who who (is_wake e.what) other))));
+    })

@@ -20,7 +20,7 @@ Agrees count (Some f) None = ⊥
 Agrees count (Some f) (Some n) = f + n ≡ count
 
 -- what the merge so far says
-record Merged (makers : List ℕ) (journal log : List IdleEntry) : Type 0 where
+pub record Merged (makers : List ℕ) (journal log : List IdleEntry) : Type 0 where
   pub hard : hards log ≡ length makers
   pub state : state_after log ≡ state_after journal
   pub session : Agrees (length makers) (forgotten journal) (session_of log)
@@ -113,7 +113,7 @@ merged_entry z e makers journal log may at m =
     }
 
 -- the merge of a journal says what the journal and the hard events say
-merged : (z : IdleSizes) (makers : List ℕ) (journal log : List IdleEntry) → IsJournal z journal → Merges makers journal log → Merged makers journal log
+pub merged : (z : IdleSizes) (makers : List ℕ) (journal log : List IdleEntry) → IsJournal z journal → Merges makers journal log → Merged makers journal log
 merged z makers journal log is Nothing = record { hard = refl; state = refl; session = tt; begun = refl; made = λ k. refl; woke = λ k. refl; saw = tt }
 merged z makers journal log is (NextHard who hs js rest m) = merged_hard who hs js rest (merged z hs js rest is m)
 merged z makers journal log is (NextEntry e hs js rest at m) = merged_entry z e hs js rest is.0 at (merged z hs js rest is.1 m)
@@ -137,7 +137,7 @@ saw_more count [] e saw low = (low, tt)
 saw_more count (f ∷ newer) e saw low = (saw.0, saw_more count newer e saw.1 low)
 
 -- the session that the log tells, where the journal tells what it forgot
-open_none : (count : ℕ) (f n : Option ℕ) → Agrees count f n → f ≡ None → n ≡ None
+pub open_none : (count : ℕ) (f n : Option ℕ) → Agrees count f n → f ≡ None → n ≡ None
 open_none count None None is same = refl
 open_none count None (Some n) is same = absurd is
 open_none count (Some f) n is same = absurd (is_none (Some f) same)

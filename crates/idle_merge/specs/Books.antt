@@ -1,5 +1,5 @@
 -- The idler's gate with its journal (kernel/power/suspend.c, s2idle_state, s2idle_lock).
-use Rattle.std.specs.Prelude.{◌≡◌, ◌≤◌, ◌+◌, ◌*◌, ℕ, Bool, true, false, List, [], ◌∷◌, Option, Some, None}
+use Rattle.std.specs.Prelude.{◌≡◌, ◌<◌, ◌≤◌, ◌+◌, ◌*◌, ℕ, Bool, true, false, List, [], ◌∷◌, Option, Some, None, length, slice_index_or}
 use Rattle.idle_loop.specs.declared.entry.IdleState.TheVariants as state
 use Rattle.idle_loop.specs.declared.entry.IdleEntry.{IdleEntry}
 use Rattle.idle_loop.specs.declared.entry.IdleSizes.{IdleSizes}
@@ -38,3 +38,8 @@ pub record IsBook (z : IdleSizes) (gate : Gate) (journal : List IdleEntry) : Typ
   pub state : gate.state ≡ state_after journal
   pub session : Forgot gate.in_session gate.forgotten (forgotten journal)
   pub begun : (gate.begun ≡ begun journal) × (begun journal ≤ z.sessions)
+
+-- each waker's wakes are counted (own)
+pub record AreCounted (z : IdleSizes) (woke : List ℕ) (journal : List IdleEntry) : Type 0 where
+  pub count : length woke ≡ z.wakers
+  pub each : (who : ℕ) → who < z.wakers → slice_index_or woke who 0 ≡ wakes_of who journal

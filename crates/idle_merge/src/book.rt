@@ -13,19 +13,21 @@ pub struct IdleBook<const BITS: u32> {
     gate: IdleGate<BITS>,
     /// The hard number that the latest entry saw.
     seen: u32,
+    /// How many wakes each waker made.
+    woke: Vec<u32>,
     journal: Vec<IdleEntry>,
 }
 
 impl<const BITS: u32> Model for IdleBook<BITS> {
     ghost use Rattle.std.specs.Prelude.{◌≤◌, reverse, vec_capacity};
-    ghost use Rattle.idle_merge.specs.Books.{Book, IsBook, most_of};
+    ghost use Rattle.idle_merge.specs.Books.{Book, IsBook, AreCounted, most_of};
     ghost use Rattle.idle_merge.specs.Merging.{SeesInOrder};
 
     ghost Value = { Book };
 
     ghost view = { λ b. record { sizes = b.sizes; gate = b.gate; seen = b.seen; journal = reverse b.journal.items } };
 
-    ghost invariant = { λ b. IsBook b.sizes b.gate (reverse b.journal.items) × (most_of b.sizes ≤ vec_capacity b.journal) × SeesInOrder b.seen (reverse b.journal.items) };
+    ghost invariant = { λ b. IsBook b.sizes b.gate (reverse b.journal.items) × (most_of b.sizes ≤ vec_capacity b.journal) × SeesInOrder b.seen (reverse b.journal.items) × AreCounted b.sizes b.woke.items (reverse b.journal.items) };
 }
 
 impl<const BITS: u32> IdleBook<BITS> {
@@ -35,7 +37,7 @@ impl<const BITS: u32> IdleBook<BITS> {
     ghost use Rattle.idle_loop.specs.IdleLogs.{woken, wakes_of};
     ghost use Rattle.idle_loop.specs.Gates.{is_waked, left, tried};
     ghost use Rattle.idle_loop.specs.Kept.{AreSizes};
-    ghost use Rattle.idle_merge.specs.Books.{first_book};
+    ghost use Rattle.idle_merge.specs.Books.{IsBook, first_book};
     ghost use Rattle.idle_merge.specs.Merging.{IsJournal, SeeMore};
 
     /// A gate in the state Idle, with no session and an empty journal. No later call takes memory. `Mem` where there is
@@ -50,6 +52,7 @@ impl<const BITS: u32> IdleBook<BITS> {
             sizes,
             gate: IdleGate::new(),
             seen: 0,
+            woke: vec![in alloc; 0; sizes.wakers as usize]?,
             journal: Vec::with_capacity(alloc, most as usize)?,
         })
     }
@@ -107,6 +110,7 @@ impl<const BITS: u32> IdleBook<BITS> {
     {
         self.gate.wake();
         self.seen = now.hard;
+        self.woke[who as usize] += 1;
         self.journal.push_reserved(IdleEntry {
             hard: now.hard,
             who,
@@ -140,8 +144,45 @@ impl<const BITS: u32> IdleBook<BITS> {
         ensures items { reverse result.items ≡ self.entry.journal }
         ensures order { SeeMore 0 self.entry.seen result.items }
         ensures legal { IsJournal self.entry.sizes self.entry.journal }
+        ensures kept { IsBook self.entry.sizes self.entry.gate self.entry.journal }
     {
         self.journal
+    }
+
+    /// How many wakers, events and sessions there are.
+    pub fn sizes(&self) -> IdleSizes
+        ensures { result ≡ self.now.sizes }
+    {
+        self.sizes
+    }
+
+    /// The hard number that the latest entry saw.
+    pub fn seen(&self) -> u32
+        ensures { result ≡ self.now.seen }
+    {
+        self.seen
+    }
+
+    /// How many wakes a waker has made (`s2idle_wake`).
+    pub fn wakes(&self, who: u32) -> u32
+        requires { who < self.now.sizes.wakers }
+        ensures { result ≡ wakes_of who self.now.journal }
+    {
+        self.woke[who as usize]
+    }
+
+    /// Whether a session is open.
+    pub fn is_open(&self) -> bool
+        ensures { result ≡ self.now.gate.in_session }
+    {
+        self.gate.is_open()
+    }
+
+    /// How many sessions were begun.
+    pub fn begun(&self) -> u32
+        ensures { result ≡ self.now.gate.begun }
+    {
+        self.gate.begun()
     }
 
     /// Where the idler stands (`s2idle_state`).

@@ -3,7 +3,7 @@ use Rattle.idle_merge.specs.Books.{Book}
 use Rattle.std.proofs.Common.{◌≡◌, ◌<◌, false}
 use Rattle.idle_loop.specs.declared.entry.IdleKind.TheVariants.{Begin}
 use Rattle.std.proofs.Common.{vec_len, vec_capacity}
-use Rattle.idle_merge.proofs.Booking.{room_left, saw_grown, book_grown, book_begin}
+use Rattle.idle_merge.proofs.Booking.{room_left, saw_grown, counted_soft, book_grown, book_begin}
 use Rattle.idle_merge.proofs.book.IdleBook.begin.Goals as goal
 
 pub push_reserved-requires : goal.push_reserved-requires
@@ -19,4 +19,5 @@ invariant_of-self g c =
           (book_begin b.sizes b.gate (reverse b.journal.items) c.args.now.hard c.self.invariant.0 none few),
       omega (arith, c.self.invariant.1, c.push_reserved.ensures.capacity),
       saw_grown b.seen c.args.now.hard b.journal.items c.push_reserved.new.self.items (record { hard = c.args.now.hard; who = b.sizes.wakers; what = Begin }) refl order c.push_reserved.ensures.items c.self.invariant.2,
+      counted_soft b.sizes b.woke.items b.journal.items c.push_reserved.new.self.items (record { hard = c.args.now.hard; who = b.sizes.wakers; what = Begin }) refl c.push_reserved.ensures.items c.self.invariant.3,
     )

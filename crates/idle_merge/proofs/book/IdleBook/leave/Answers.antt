@@ -1,7 +1,7 @@
 use Rattle.std.proofs.Common.{◌≤◌, refl, ◌≡◌, true, false, reverse, vec_len, vec_capacity, subst, sym, ap, ◌∙◌, arith}
 use Rattle.idle_loop.specs.declared.entry.IdleKind.TheVariants.{Leave}
 use Rattle.idle_merge.specs.Books.{Book}
-use Rattle.idle_merge.proofs.Booking.{room_left, saw_grown, book_grown, book_leave}
+use Rattle.idle_merge.proofs.Booking.{room_left, saw_grown, counted_soft, book_grown, book_leave}
 use Rattle.idle_merge.proofs.book.IdleBook.leave.Goals as goal
 
 pub push_reserved-requires : goal.push_reserved-requires
@@ -15,4 +15,5 @@ invariant_of-self g c =
           (book_leave b.sizes b.gate (reverse b.journal.items) c.args.now.hard c.self.invariant.0 (sym c.leave-waked.ensures.answer ∙ c.if-waked.true)),
       omega (arith, c.self.invariant.1, c.push_reserved.ensures.capacity),
       saw_grown b.seen c.args.now.hard b.journal.items c.push_reserved.new.self.items (record { hard = c.args.now.hard; who = b.sizes.wakers; what = Leave }) refl order c.push_reserved.ensures.items c.self.invariant.2,
+      counted_soft b.sizes b.woke.items b.journal.items c.push_reserved.new.self.items (record { hard = c.args.now.hard; who = b.sizes.wakers; what = Leave }) refl c.push_reserved.ensures.items c.self.invariant.3,
     )

@@ -3,10 +3,11 @@ use Rattle.idle_loop.specs.declared.entry.IdleState.TheVariants as state
 use Rattle.idle_loop.specs.declared.entry.IdleKind.{IdleKind}
 use Rattle.idle_loop.specs.declared.entry.IdleKind.TheVariants.{TryOk, TryBusy}
 use Rattle.idle_loop.specs.declared.entry.IdleEntry.{IdleEntry}
+use Rattle.idle_loop.specs.IdleLogs.{is_wake}
 use Rattle.idle_loop.specs.Gates.{tried}
 use Rattle.idle_merge.specs.Books.{Book, Forgot}
 use Rattle.idle_merge.specs.Merging.{forgotten}
-use Rattle.idle_merge.proofs.Booking.{room_left, saw_grown, seen_forgot, book_grown, book_ok, book_busy, none_came, some_came}
+use Rattle.idle_merge.proofs.Booking.{room_left, saw_grown, counted_soft, seen_forgot, book_grown, book_ok, book_busy, none_came, some_came}
 use Rattle.idle_merge.proofs.book.IdleBook.try_enter.Goals.{then-entered, else-entered}
 use Rattle.idle_merge.proofs.book.IdleBook.try_enter.Goals as goal
 
@@ -32,4 +33,8 @@ invariant_of-self g c =
       ],
       omega (arith, c.self.invariant.1, c.push_reserved.ensures.capacity),
       saw_grown b.seen c.args.now.hard b.journal.items c.push_reserved.new.self.items (record { hard = c.args.now.hard; who = b.sizes.wakers; what = c.if-entered.push_reserved }) refl seen c.push_reserved.ensures.items c.self.invariant.2,
+      elim c.if-entered.branch [
+        | then-entered w ↦ counted_soft b.sizes b.woke.items b.journal.items c.push_reserved.new.self.items (record { hard = c.args.now.hard; who = b.sizes.wakers; what = c.if-entered.push_reserved }) (ap is_wake w.push_reserved-is) c.push_reserved.ensures.items c.self.invariant.3
+        | else-entered w ↦ counted_soft b.sizes b.woke.items b.journal.items c.push_reserved.new.self.items (record { hard = c.args.now.hard; who = b.sizes.wakers; what = c.if-entered.push_reserved }) (ap is_wake w.push_reserved-is) c.push_reserved.ensures.items c.self.invariant.3
+      ],
     )

@@ -3,7 +3,7 @@ use Rattle.idle_loop.specs.declared.entry.IdleKind.TheVariants.{Wake}
 use Rattle.idle_loop.specs.IdleLogs.{wakes_of}
 use Rattle.idle_merge.specs.Books.{Book}
 use Rattle.std.proofs.Common.{vec_len, vec_capacity}
-use Rattle.idle_merge.proofs.Booking.{room_left, saw_grown, book_grown, book_wake}
+use Rattle.idle_merge.proofs.Booking.{room_left, saw_grown, counted_wake, book_grown, book_wake}
 use Rattle.idle_merge.proofs.book.IdleBook.wake.Goals as goal
 
 pub push_reserved-requires : goal.push_reserved-requires
@@ -19,4 +19,5 @@ invariant_of-self g c =
           (book_wake b.sizes b.gate (reverse b.journal.items) c.args.now.hard c.args.who c.self.invariant.0 low few),
       omega (arith, c.self.invariant.1, c.push_reserved.ensures.capacity),
       saw_grown b.seen c.args.now.hard b.journal.items c.push_reserved.new.self.items (record { hard = c.args.now.hard; who = c.args.who; what = Wake }) refl order c.push_reserved.ensures.items c.self.invariant.2,
+      counted_wake b.sizes b.woke.items c.index_mut.result.now b.journal.items c.push_reserved.new.self.items (record { hard = c.args.now.hard; who = c.args.who; what = Wake }) refl low c.index_mut.ensures.value c.push_reserved.ensures.items c.self.invariant.3,
     )

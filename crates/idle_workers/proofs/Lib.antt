@@ -1,0 +1,11 @@
+pub mod Alternate
+pub mod Filling
+pub mod Premises
+pub mod Histories
+pub mod Stepping
+pub mod Acting
+pub mod Crewing
+pub mod Gathering
+pub mod Leaving
+pub mod Ending
+pub mod Starting
