@@ -15,6 +15,10 @@ so that "as fast as an attempt's entries" reads 1. Rows:
                 number of tasks
   one waits     the same again, beside a task that waits for a mark: each jump passes over all tasks
   posts         a task raises one mark 100,000 times, beside 254 that wait for another, which it raises at its end
+  events        a line makes 95,000 events on five sources, while another source is awake
+  readers       the same, beside 254 tasks that read the count and wait until that source is relaxed
+  a writer      a task writes to autosleep 14,986 times
+  writers       254 tasks write to autosleep 59 times each, and wait for each other's lock
 """
 
 from clock import program, timed
@@ -51,6 +55,21 @@ def posts():
     return {"version": 1, "actors": [{"name": "p", "kind": "user", "script": script}, *others]}
 
 
+def events(readers):
+    """A line that makes events while a source is awake, beside tasks that read the count."""
+    sources = ["held", *(f"s{i}" for i in range(5))]
+    made = [{"op": "event", "source": name, "times": 19000} for name in sources[1:]]
+    script = [{"op": "awake", "source": "held"}, {"op": "post", "mark": "m"}, *made, {"op": "relax", "source": "held"}]
+    others = [{"name": f"r{i}", "kind": "user", "script": [{"op": "read"}]} for i in range(readers)]
+    return {"version": 1, "sources": sources, "actors": [{"name": "k", "kind": "irq", "script": script}, *others]}
+
+
+def writers(count, times):
+    """So many tasks, each of which writes to autosleep so many times."""
+    write = {"op": "autosleep", "text": "off", "times": times}
+    return {"version": 1, "actors": [{"name": f"w{i}", "kind": "user", "script": [write]} for i in range(count)]}
+
+
 def refused(tree):
     """The same machine with an answer of nobody, which is found when all else was read."""
     return tree | {"answers": [{"what": "notifier", "name": "nobody", "ret": "EIO"}]}
@@ -68,6 +87,10 @@ def main():
         ("apart", sleepers(lambda i: 1009 + 37 * i)),
         ("one waits", waiting(sleepers(lambda i: 1009 + 37 * i))),
         ("posts", posts()),
+        ("events", events(0)),
+        ("readers", events(254)),
+        ("a writer", writers(1, 14986)),
+        ("writers", writers(254, 59)),
     ]
     print(f"{'machine':>14} {'entries':>9} {'ns/entry':>9} {'ratio':>6}")
     first = None

@@ -146,6 +146,8 @@ def sweep(runner):
 
 def main():
     words = sys.argv[1:]
+    if "--help" in words:
+        sys.exit(__doc__)
     kind = Kit if "--kit" in words else Shim
     given = [pathlib.Path(word) for word in words if word != "--kit"]
     small = [path for path in sorted((ROOT / "examples").glob("*/*.json")) if path.stat().st_size < LARGE]

@@ -1,5 +1,7 @@
 #!/usr/bin/env python3
-"""Checks README.md and docs/: links, anchors, files, crates, definitions and functions that they name.
+"""Checks README.md and docs/: links, anchors, files, crates, definitions and functions that they name. Checks that each crate
+uses only crates above it in crates.txt, and that docs/ARCHITECTURE.md has the same crates in the same order. Where a page says
+that a name is in a file, the name has to stand there.
 
 usage: tools/check_docs.py
 
@@ -18,6 +20,7 @@ LINK = re.compile(r"\]\(([^)\s]+)\)")
 CODE = re.compile(r"`([^`\n]+)`")
 FILE = re.compile(r"(?:[\w.-]+/)*[\w.-]+\.(?:rt|antt|py|md|json|log|txt|edit)$")
 WORD = re.compile(r"[a-z]+(?:_[a-z0-9]+)+$|[A-Z]\w*::\w+$|[A-Z][a-z]+(?:[A-Z][a-z]*)+$")
+WITHIN = re.compile(r"((?:`[\w:]+`(?:, | and )?)+) in `([\w./]+)`")
 
 
 def anchor(heading):
@@ -79,12 +82,54 @@ def broken_names(page, known):
                     yield number, f"no name {code}"
 
 
+def text_of(file):
+    """The text of a file, or of all files of a folder with the names of its proofs, wherever one of that name may stand."""
+    for path in (place / file for place in file_places(None)):
+        yield from (proof.stem for proof in path.glob("proofs/**/*.antt"))
+        # (a crate's folder has what was built of it, too)
+        folders = [path / part for part in ("src", "specs")] if (path / "src").exists() else [path]
+        for one in [path] if path.is_file() else [file for folder in folders for file in folder.rglob("*.*")]:
+            if one.suffix in (".rt", ".antt", ".py", ".json"):
+                yield one.read_text()
+
+
+def broken_places(page):
+    for number, line in enumerate(page.read_text().split("\n"), 1):
+        for named, file in WITHIN.findall(line):
+            text = "\n".join(text_of(file))
+            for name in CODE.findall(named) if text else []:
+                if not re.search(rf"\b{name.split('::')[-1]}\b", text):
+                    yield number, f"no {name} in {file}"
+
+
+def misplaced():
+    """The crates that use one below, and those that the table of ARCHITECTURE has elsewhere, each with its page and line."""
+    order, rows = [], []
+    for number, line in enumerate((ROOT / "crates.txt").read_text().split("\n"), 1):
+        crate, colon, used = line.partition(":")
+        if colon and not line.startswith("#"):
+            order.append(crate)
+            for other in used.split():
+                if other in CRATES and other not in order:
+                    yield "crates.txt", number, f"{crate} uses {other}, which stands below"
+    for number, line in enumerate((ROOT / "docs" / "ARCHITECTURE.md").read_text().split("\n"), 1):
+        if line.startswith("| `"):
+            rows += [(crate, number) for crate in CODE.findall(line.split("|")[1]) if crate in CRATES]
+    for crate, (other, number) in zip(order, rows):
+        if crate != other:
+            yield "docs/ARCHITECTURE.md", number, f"{other} stands where crates.txt has {crate}"
+            break
+
+
 def main():
     known, status = names(), 0
     for page in PAGES:
-        for number, what in [*broken_links(page), *broken_names(page, known)]:
+        for number, what in [*broken_links(page), *broken_names(page, known), *broken_places(page)]:
             print(f"{page.relative_to(ROOT)}:{number}: {what}")
             status = 1
+    for page, number, what in misplaced():
+        print(f"{page}:{number}: {what}")
+        status = 1
     sys.exit(status)
 
 

@@ -3,16 +3,15 @@
 
 usage: tools/definitions.py
 
-The first page has what a reader has to trust, in reading order, and behind it the definitions that the program's clauses
-come to. The second has those of the crates on which no program stands. Ends with status 1, and says which, where a
-definition has no comment line.
+The first page has what a reader has to trust, in reading order, and behind it the definitions that a promise comes to.
+The second has those of the crates on which no program stands. Ends with status 1, and says which, where a definition has no
+comment line, or where the program's clauses come to one that no section has.
 """
 
-import pathlib
 import re
 import sys
 
-ROOT = pathlib.Path(__file__).resolve().parent.parent
+from reached import ROOT, lines_of, reached
 
 HEAD = """# Definitions
 
@@ -28,8 +27,9 @@ the kernel has none. `tools/definitions.py` writes this page from the comment li
 
 Whoever believes these, with the definitions that they cite, knows what the headline says. They stand here in
 reading order, from "the program wrote a legal log" down to the rule that decides an entry. The sections behind have
-every definition that the headline's clause comes to. Definitions of invariants, which no promise names, are in the
-crates' `specs/` and not here. Those of crates on which no program stands have [a page of their own](DEFINITIONS_ASIDE.md).
+every definition that the headline's clauses come to, then those of the laws of sleep, of the rules of a log, of the merge
+and of running threads. What no promise comes to, as invariants and the steps of proofs, is in the crates' `specs/` and not
+here. Crates on which no program stands have [a page of their own](DEFINITIONS_ASIDE.md).
 """
 
 ASIDE_HEAD = """# Definitions aside
@@ -52,6 +52,8 @@ READING = [
     ("Who freezes?", [("sleep_model", "Freezer", ["freezings", "left"])]),
     ("What does every legal log keep?", [("sleep_model", "Laws", ["Laws", "LawsAt", "DependentsFirst", "SuppliersFirst", "Restored", "Owed", "TakenOnce", "NotOwedAlready", "EntersDown", "UndisturbedEnters", "AnswersFailure", "FoundPending", "InOrder", "GuardedSleep"])]),
     ("How is a log written?", [("sleep_model", "Text", ["text", "entry_line", "body"])]),
+    ("What does suspend-to-idle promise?", [("idle_loop", "IdleLogs", ["IsIdleRun", "IsIdleLog", "MayMake", "IsOver", "NoneIsLost"])]),
+    ("What do threads promise?", [("run_world", "Told", ["AfterReport", "AfterCoreTurn"]), ("burst_tasks", "Bursts", ["IsBurst"]), ("burst_laws", "Serial", ["IsSerial"]), ("burst_laws", "Keeping", ["BurstsGoOn"])]),
 ]
 
 # The rules of a log, each by itself, in reading order.
@@ -94,32 +96,67 @@ SECTIONS = [
     ("sleep_run", "A whole run", "own", ["Runs"]),
     ("wake_locks", "Named locks", "`kernel/power/wakelock.c`", ["Standings", "Texts", "Locks", "Writes", "Expiries", "Counted"]),
     ("lock_lines", "The command `locks`", "`kernel/power/wakelock.c`", ["Lines", "Verbs", "Steps", "Answers", "Told", "Command"]),
+    ("wakeup_source", "What a call adds to a source", "`drivers/base/power/wakeup.c`", ["SourceStates", "Told"]),
+    ("device_links", "Links as they stand", "`drivers/base/core.c`", ["Linked", "Kept"]),
     ("sleep_stats", "What a log counts, and its longest chain", "`include/linux/suspend.h`, `drivers/base/power/main.c`", ["Counting", "Linked", "Chains"]),
     ("log_commands", "The command `stats`", "`kernel/power/main.c`", ["Input", "Taking", "Telling", "Stats"]),
     ("program_ending", "Statuses and their texts", "own", ["Endings", "Telling"]),
-    ("sleep_main", "How the program ends", "own", ["Words", "Endings", "Counting"]),
-]
-
-# The same of the crates on which no program stands.
-ASIDE = [
-    ("idle_loop", "Suspend-to-idle", "`kernel/power/suspend.c`", ["IdleLogs", "Laws", "Gates"]),
-    ("idle_merge", "The idler's journal and the hard events", "`kernel/power/suspend.c`", ["Merging", "Books"]),
-    ("check_order", "The checker's order of devices", "`drivers/base/core.c`", ["Visited"]),
-    ("check_account", "What the checker keeps of a journal", "`kernel/power/suspend.c`, `kernel/power/process.c`, `drivers/base/power/main.c`", ["Accounts", "Boards"]),
-    ("check_sources", "What the checker keeps of wakeup sources", "`drivers/base/power/wakeup.c`", ["Kept", "Owing"]),
-    ("check_calls", "What the checker keeps of the calls on sources", "own", ["Places", "Calling"]),
+    ("idle_loop", "Suspend-to-idle", "`kernel/power/suspend.c`", ["IdleLogs", "Laws"]),
+    ("idle_merge", "The idler's journal and the hard events", "`kernel/power/suspend.c`", ["Merging"]),
+    ("idle_lines", "The command `idle`", "own", ["Lines"]),
+    ("sleep_main", "How the program ends", "own", ["Endings", "Counting"]),
     ("sleep_pool", "Jobs that are lent to workers", "own", ["Turns"]),
     ("turn_lock", "Locks in one table", "own", ["Books", "Passes"]),
     ("run_laws", "What the passes of a burst made", "own", ["Passes"]),
     ("run_world", "The world of a burst", "own", ["Objects", "Roots", "Told", "Calling"]),
-    ("world_workers", "A worker of a burst, and what goes into it", "own", ["Tries", "Workers", "Bursts"]),
     ("burst_tasks", "The tasks of a burst, and what it came to", "own", ["Acts", "Bursts"]),
+    ("world_workers", "A worker of a burst, and what goes into it", "own", ["Tries", "Workers", "Bursts"]),
     ("burst_laws", "A burst as acts in an order", "own", ["Courses", "Serial", "Keeping"]),
+]
+
+# What the two clauses of the program name.
+PROGRAM = [
+    ("sleep_main", "Endings", ["Ended", "Completes", "Says", "stream", "streams"]),
+    ("program_ending", "Endings", ["status_of", "text_of"]),
+    ("command_line", "Words", ["command_of"]),
+]
+
+# What the other promises name: the laws of sleep, the rules, the machine that is accepted, the one log, suspend-to-idle, threads.
+PROMISED = [
+    ("sleep_model", "Laws", ["Laws", "GuardedSleep"]),
+    ("sleep_laws", "Laws", ["HoldsOfAll", "HoldsAtEntries", "HoldsOfJournals"]),
+    ("sleep_laws", "Linked", ["LinksStay", "AllInOrder"]),
+    ("sleep_laws", "Ends", ["AllRestClosed", "AllEndClosed"]),
+    ("sleep_model", "Rules/Entry", ["OneForLists", "OneForEntries", "LegalIsKept", "LegalIsKeptThroughout"]),
+    ("sleep_model", "Rules/Law", ["OneForAll", "OneForScripts", "OneForWork", "OneForDevices", "OneForMakers", "OwedFollows"]),
+    ("sleep_model", "Rules/Verdict", ["GoodHasNone", "FirstBadIsOne"]),
+    ("sleep_model", "Accepted", ["IsAccepted"]),
+    ("sleep_model", "Merge", ["merge", "rises", "IsFit"]),
+    ("machine_file", "Spelling", ["AllReadBack"]),
+    ("lock_lines", "Told", ["AgreeAfter"]),
+    ("idle_loop", "Laws", ["LosesNone", "SleepsOverNone"]),
+    ("idle_merge", "Merging", ["Merges", "MergesToLegal"]),
+    ("sleep_pool", "Turns", ["AllWent", "Went", "FirstsWent", "PartsEnded", "part_size"]),
+    ("turn_lock", "Passes", ["Holds", "gained", "made_of", "number_of", "had_by"]),
+    ("run_laws", "Passes", ["LogSaysWho"]),
+    ("run_world", "Told", ["AfterReport", "AfterCoreTurn"]),
+    ("run_world", "Objects", ["IsWorldPass"]),
+    ("burst_tasks", "Bursts", ["IsBurst"]),
+    ("world_workers", "Bursts", ["HaveGone", "AreReady"]),
+    ("burst_laws", "Courses", ["CoursesGoOn"]),
+    ("burst_laws", "Serial", ["BurstsAreSerial"]),
+    ("burst_laws", "Keeping", ["BurstsGoOn"]),
+]
+
+# The same of the crates on which no program stands; each of their definitions is listed.
+ASIDE = [
+    ("check_order", "The checker's order of devices", "`drivers/base/core.c`", ["Visited"]),
+    ("check_account", "What the checker keeps of a journal", "`kernel/power/suspend.c`, `kernel/power/process.c`, `drivers/base/power/main.c`", ["Accounts", "Boards"]),
+    ("check_sources", "What the checker keeps of wakeup sources", "`drivers/base/power/wakeup.c`", ["Kept", "Owing"]),
+    ("check_calls", "What the checker keeps of the calls on sources", "own", ["Places", "Calling"]),
     ("device_tree", "Devices by name", "`drivers/base/core.c`, `drivers/base/power/runtime.c`", ["Refusal", "Requests"]),
 ]
 
-DEFINITION = re.compile(r" *(?:abbrev pub|unfoldable pub|pub record|pub data) (\w+)")
-TOGETHER = re.compile(r"  pub (\w+) :")
 CITED = re.compile(r" \(((?:own: )?[^()]*(?:\.c|\.h|_|own|struct )[^()]*)\)")
 
 
@@ -142,24 +179,36 @@ def kernel_of(comment):
 
 def definitions(path):
     """The names of a module's definitions, and the comment line of each."""
-    comment, together = None, False
-    for line in path.read_text().split("\n"):
-        # (definitions that call one another, and those of one list of types, stand indented under one line)
-        together = line == "abbrev mutual" or together and line[:1] in ("", " ")
-        found = (TOGETHER if together else DEFINITION).match(line)
-        if found:
+    comment = None
+    for line, name in lines_of(path):
+        if name:
             if comment is None:
-                sys.exit(f"{path}: {found.group(1)} has no comment line")
-            yield found.group(1), comment
+                sys.exit(f"{path}: {name} has no comment line")
+            yield name, comment
         said = line.lstrip()
         is_comment = said.startswith("-- ") and not said.startswith("-- ----")
         comment = (f"{comment} {said[3:]}" if comment else said[3:]) if is_comment else None
 
 
-def section(crate, title, kernel, modules):
-    """The lines of a section."""
+def each_of(rows):
+    """The definitions of such rows, each as its crate, its module and its name."""
+    return [(crate, module, name) for crate, module, names in rows for name in names]
+
+
+def unlisted():
+    """The definitions that the program's clauses come to and that no section has."""
+    listed = {(crate, module) for crate, _, _, modules in SECTIONS for module in modules}
+    return sorted(one for one in reached(each_of(PROGRAM)) if one[:2] not in listed)
+
+
+def section(crate, title, kernel, modules, shown):
+    """The lines of a section; of its definitions it has those that are shown, all where that is None."""
+    rows = []
+    for module in modules:
+        for name, comment in definitions(ROOT / "crates" / crate / "specs" / f"{module}.antt"):
+            if shown is None or (crate, module, name) in shown:
+                rows.append((name, comment))
     names = ", ".join(f"`{module}`" for module in modules)
-    rows = [row for module in modules for row in definitions(ROOT / "crates" / crate / "specs" / f"{module}.antt")]
     wide = kernel != "own" and any(CITED.search(comment) for _, comment in rows)
     yield f"\n## {title}\n"
     yield f"`crates/{crate}/specs`: {names}. Kernel: {kernel}.\n"
@@ -183,16 +232,20 @@ def reading():
                 question = ""
 
 
-def page(lines, sections):
+def page(lines, sections, shown):
     """The text of a page: these lines, and the sections behind them."""
-    behind = [line for one in sections for line in section(*one)]
+    behind = [line for one in sections for line in section(*one, shown)]
     return "\n".join([*lines, *behind]) + "\n"
 
 
 def pages():
     """The pages, each with its file."""
-    yield ROOT / "docs" / "DEFINITIONS.md", page([HEAD.rstrip("\n"), *reading()], SECTIONS)
-    yield ROOT / "docs" / "DEFINITIONS_ASIDE.md", page([ASIDE_HEAD.rstrip("\n")], ASIDE)
+    for crate, module, name in unlisted():
+        sys.exit(f"{crate}/specs/{module}.antt: {name} is on no page")
+    trusted = [(crate, module, names) for _, answers in READING for crate, module, names in answers]
+    shown = reached(each_of([*PROGRAM, *PROMISED, *trusted]))
+    yield ROOT / "docs" / "DEFINITIONS.md", page([HEAD.rstrip("\n"), *reading()], SECTIONS, shown)
+    yield ROOT / "docs" / "DEFINITIONS_ASIDE.md", page([ASIDE_HEAD.rstrip("\n")], ASIDE, None)
 
 
 def main():

@@ -22,3 +22,7 @@ MOST_SEEN = 100_000  # Attempts times the devices and 50.
 
 MOST_INPUT = 1 << 24  # The bytes of a machine file, and of the lines of named locks.
 MOST_LOCKS = 100  # The names that are known to them.
+
+# The errors that a log may name, each with Linux's number; a file's answers may name five of them.
+ERRORS = {"EINTR": 4, "EIO": 5, "EAGAIN": 11, "EACCES": 13, "EBUSY": 16, "ENODEV": 19, "EINVAL": 22}
+ANSWERED = ["EIO", "EAGAIN", "EBUSY", "ENODEV", "EINVAL"]

@@ -12,7 +12,7 @@ has not, what callbacks answered, which devices were direct-complete, and which 
 has to be there.
 
   --to FILE        writes the machine file there, and beside it, with the ending .names, the table of the names in it
-                   and the real ones; a name is 32 bytes of a to z, 0 to 9, '_', '.' and '-'
+                   and the real ones; a name has at most 32 small letters, digits, '_', '.' and '-'
   --links LIST     a file with a line a device link, 'SUPPLIER CONSUMER' or 'SUPPLIER CONSUMER dormant', by device
                    name or by path below /sys/devices; for machines without /sys/class/devlink
   --branch DEVICE  keeps this device, all below it, and all that these need; a file has at most 1000 devices

@@ -16,6 +16,8 @@ from second.things import SourceFull
 
 
 def main():
+    if len(sys.argv) > 2 or not all(word.isdigit() for word in sys.argv[1:]):
+        sys.exit(__doc__)
     tree = json.load(sys.stdin)
     run = Interleaved(tree, int(sys.argv[1])) if len(sys.argv) > 1 else Run(tree)
     try:

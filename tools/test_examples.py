@@ -3,7 +3,8 @@
 
 usage: tools/test_examples.py
 
-The logs are those of tools/run_second.py. The files of a real machine are made anew of its trace.
+The logs are those of tools/run_second.py, and those that are kept beside a machine, which have to be logs of it. The files of
+a real machine are made anew of its trace.
 """
 
 import json
@@ -14,13 +15,14 @@ import sys
 import tempfile
 import unittest
 
+from second.follow import Follower
 from second.rules import first_broken
 from second.run import Run
 
 ROOT = pathlib.Path(__file__).resolve().parent.parent
 EXAMPLES, SAMPLES = ROOT / "examples", ROOT / "tools" / "real" / "samples"
 PAGE = (ROOT / "docs" / "EXAMPLES.md").read_text()
-TOLD = re.findall(r"^`(\w+/[\w-]+\.json)`:[^`]*(?:`[^`\n]+`[^`]*)*?```\n(.*?)```", PAGE, re.M | re.S)
+TOLD = re.findall(r"^`(\w+/[\w-]+\.(?:json|log))`:[^`]*(?:`[^`\n]+`[^`]*)*?```\n(.*?)```", PAGE, re.M | re.S)
 REFUSED = {"order/parent-too-late.json": (9, "devices[0]"), "order/link-closes-a-cycle.json": (12, "links[1]")}
 LINKS = "--links", SAMPLES / "s3.links"
 MADE = {
@@ -29,18 +31,31 @@ MADE = {
 }
 
 
+def log_of(path):
+    """The log that is kept, or that of the machine's run by one worker."""
+    return path.read_text() if path.suffix == ".log" else Run(json.loads(path.read_text())).run()[0]
+
+
 class Examples(unittest.TestCase):
     def test_all_are_told(self):
-        files = {str(path.relative_to(EXAMPLES)) for path in EXAMPLES.rglob("*.json")}
+        files = {str(path.relative_to(EXAMPLES)) for path in EXAMPLES.rglob("*.*")}
         self.assertEqual(files, {file for file, _ in TOLD} | set(REFUSED))
 
     def test_lines(self):
         for file, told in TOLD:
             with self.subTest(file):
-                log = iter(Run(json.loads((EXAMPLES / file).read_text())).run()[0].split("\n"))
+                log = iter(log_of(EXAMPLES / file).split("\n"))
                 lines = told.strip().split("\n")
                 self.assertEqual(len(lines), 3)
                 self.assertEqual([line for line in lines if line not in log], [])
+
+    def test_kept_logs(self):
+        logs = sorted(EXAMPLES.rglob("*.log"))
+        self.assertEqual(len({path.read_text() for path in logs}), len(logs))
+        for path in logs:
+            machine = next(file for file in path.parent.glob("*.json") if path.stem.startswith(file.stem))
+            follower = Follower(json.loads(machine.read_text()))
+            self.assertTrue(follower.accepts(path.read_text()), follower.why)
 
     def test_refused(self):
         for path in EXAMPLES.rglob("*.json"):

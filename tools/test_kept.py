@@ -9,9 +9,10 @@ import pathlib
 import random
 import sys
 
+from second.copies import entries_of
 from second.maker import Maker
 from second.run import Run
-from try_kept import Trial, entries_of, first_broken
+from second.trial import Trial, first_broken
 
 WORKED = pathlib.Path(__file__).resolve().parent / "worked"
 SEED, MACHINES = 5, 60

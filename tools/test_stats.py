@@ -9,7 +9,7 @@ import sys
 
 from second.run import Run
 from second.stats import BadLinks, Chains
-from try_stats import WORKED, Logs, expected, longest_by_all, told
+from second.stats_logs import WORKED, Logs, expected, longest_by_all, told
 
 TWO = {"version": 1, "devices": [{"name": "a"}, {"name": "b"}]}
 SEED, LOGS = 7, 300

@@ -15,6 +15,7 @@ import re
 import subprocess
 import sys
 import unittest
+import xml.dom.minidom
 
 from second.maker import Maker
 from second.merged import Interleaved
@@ -333,6 +334,17 @@ class Refusals(unittest.TestCase):
     def run_it(self, *words, given=b""):
         done = subprocess.run([sys.executable, TOOLS / "timeline.py", *words], input=given, capture_output=True)
         return done.returncode, done.stdout.decode(), done.stderr.decode()
+
+    def test_a_picture_alone(self):
+        log = TOOLS.parent / "examples" / "workers" / "two-lines-stopped.log"
+        status, drawn, told = self.run_it("--svg", "1", log)
+        self.assertEqual((status, told), (0, ""))
+        titles = xml.dom.minidom.parseString(drawn).getElementsByTagName("title")
+        said = {line for title in titles for line in title.firstChild.data.split("\n")}
+        lines = log.read_text().split("\n")
+        first, last = (next(at for at, line in enumerate(lines) if f" {verb} 1 " in line) for verb in ("attempt", "over"))
+        self.assertEqual([line for line in lines[first : last + 1] if line not in said], [])
+        self.assertEqual(self.run_it("--svg", "9", log), (1, "", f"{log}: no attempt 9\n"))
 
     def test_the_command(self):
         log = WORKED[0].read_bytes()

@@ -17,11 +17,12 @@ import sys
 
 import laws
 import worked
+from second.copies import broken_copies, entries_of
 from second.maker import Maker
 from second.merged import Interleaved
 from second.place import Entry
 from second.run import Run
-from try_kept import broken_copies, entries_of, first_broken
+from second.trial import first_broken
 
 LEAST, MOST = 8, 70  # How many entries a log has.
 A_MODULE = 25  # Logs in a module of specs/.

@@ -19,7 +19,7 @@ RULES = {
     4: "This member is no number in its range, or no list.",
     5: "This element lacks a member that it must have, has one that it may not have, or has one of another type, range or word.",
     6: "This list is longer than a machine may have.",
-    7: "A name has 1 to 32 bytes of a to z, 0 to 9, '_', '.' and '-'; this one is spelled otherwise.",
+    7: "This is no name: at most 32 small letters, digits, '_', '.' and '-', and at least one of them.",
     8: "A device before this one has the same name.",
     9: "The parent of this device is no device that stands before it in the list.",
     10: "The supplier or the consumer of this link is no device of the file.",

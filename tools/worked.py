@@ -19,6 +19,7 @@ import sys
 
 import worked_refuted
 import worked_rows
+from limits import ERRORS
 
 ROOT = pathlib.Path(__file__).resolve().parent.parent
 CRATE = ROOT / "crates" / "log_trials"
@@ -146,8 +147,6 @@ USES = [
     ("phase", "use Rattle.phase_table.specs.declared.phase.Phase.TheVariants as phase"),
 ]
 PRELUDE = ["◌++◌", "true", "false", "List", "[]", "◌∷◌", "codes", "pos", "negsuc", "Some", "None"]
-ERRORS = ["EINTR", "EIO", "EAGAIN", "EACCES", "EBUSY", "ENODEV", "EINVAL"]
-NUMBERS = {"EINTR": 4, "EIO": 5, "EAGAIN": 11, "EACCES": 13, "EBUSY": 16, "ENODEV": 19, "EINVAL": 22}
 TERMS = "entry word device link dormant notifier script once times answer report bare stats unused log_of stuck_log waiting".split()
 
 PHASES = {
@@ -213,7 +212,7 @@ def answered(word):
 
 def number_of(word):
     """0, 1 or an error's name as a number, below 0 for an error."""
-    return whole(int(word) if word in ("0", "1") else -NUMBERS[word])
+    return whole(int(word) if word in ("0", "1") else -ERRORS[word])
 
 
 # ---- machines

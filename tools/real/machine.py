@@ -3,12 +3,12 @@
 import collections
 import json
 
-from limits import MOST, MOST_CPUS, MOST_OF_ONE, MOST_SEEN
+from limits import ANSWERED, ERRORS, MOST, MOST_CPUS, MOST_OF_ONE, MOST_SEEN
 
 from .names import Finder, Names, Row
 from .tree import Refused
 
-ERRORS = {-5: "EIO", -11: "EAGAIN", -16: "EBUSY", -19: "ENODEV", -22: "EINVAL"}
+NAMES = {-ERRORS[name]: name for name in ANSWERED}
 DOWN = ("prepare", "suspend", "late", "noirq")
 SILENT = ("prepare", "complete")  # In these phases a callback of a machine file reports nothing.
 LISTS = ("devices", "links", "sources", "actors", "answers")
@@ -248,9 +248,9 @@ class Builder:
         if callback.phase == "complete" or callback.phase == "prepare" and callback.error == -11:
             self.notes.append(f"{where}: left out")
             return None
-        if callback.error not in ERRORS:
+        if callback.error not in NAMES:
             self.notes.append(f"{where}: written as EIO")
-        return ERRORS.get(callback.error, "EIO")
+        return NAMES.get(callback.error, "EIO")
 
     def reports(self, attempt):
         """The reports of each callback of an attempt."""

@@ -14,6 +14,7 @@ class Follower(Stepwise):
     def __init__(self, tree):
         super().__init__(tree)
         self.said = []
+        self.why = None  # Why a whole log is none of this machine's.
         self.labelled = dict(zip(self.labels, self.jobs))
 
     def put(self, who, body):
@@ -54,3 +55,25 @@ class Follower(Stepwise):
         else:
             next(self.labelled[who])
         return self.said == [line]
+
+    # ---- a whole log
+
+    def accepts(self, log):
+        """Whether the text is a whole log of this machine, by any number of workers; else `why` says why not."""
+        entries = [line for line in log.splitlines() if line[:1].isdigit()]
+        for at, line in enumerate(entries, 1):
+            if not self.allows(line):
+                self.why = f"line {at} is not what its actor makes next, which is {self.said}"
+                return False
+        if not self.is_idle():
+            self.why = "at the end somebody can go on"
+        elif not self.is_over() and list(self.times()):
+            self.why = "at the end a time is pending"
+        self.lines = entries
+        if self.why is None and log != self.end()[0]:
+            self.why = "the statistics or the end are not those of the lines"
+        return self.why is None
+
+    def is_stuck(self):
+        """Whether the log that was accepted says that somebody is stuck."""
+        return self.end()[1]

@@ -2,9 +2,10 @@
 
 import random
 
+from limits import ANSWERED
+
 KINDS = ["user", "user", "user", "kthread", "nofreeze", "irq", "irq"]
 LENGTHS = [10, 20, 50, 100, 1000, 20000]  # Few, so that moments fall together.
-ERRORS = ["EIO", "EAGAIN", "EBUSY", "ENODEV", "EINVAL"]
 CALLBACKS = ["suspend", "late", "noirq", "resume_noirq", "early", "resume"]
 ONLY_USER = ["read", "save", "state", "autosleep"]
 OF_DEVICES = ["runtime", "link", "link", "link_state"]
@@ -120,12 +121,12 @@ class Maker:
         if "runtime" in device and self.often(0.8):
             yield {"what": "device", "name": name, "phase": "prepare", "ret": 1}
         elif self.often(0.1):
-            error = self.pick([error for error in ERRORS if error != "EAGAIN"])
+            error = self.pick([error for error in ANSWERED if error != "EAGAIN"])
             yield {"what": "device", "name": name, "phase": "prepare", "ret": error, "attempt": 1}
         for phase in CALLBACKS:
             if self.often(0.1):
                 given = {"what": "device", "name": name, "phase": phase}
-                given |= self.maybe(0.6, "ret", lambda: self.pick(ERRORS))
+                given |= self.maybe(0.6, "ret", lambda: self.pick(ANSWERED))
                 if sources and self.often(0.6):
                     calls = [self.call(self.pick(sources)) for _ in range(self.dice.randint(1, 3))]
                     given["reports"] = [{"call": call, **members} for call, members in calls]
@@ -139,7 +140,7 @@ class Maker:
         things += [("platform", name, 0.06) for name in ("begin", "prepare", "prepare_late")]
         for what, name, chance in things:
             if self.often(chance):
-                yield {"what": what, "name": name, "ret": self.pick(ERRORS)} | self.maybe(0.4, "attempt", lambda: 1)
+                yield {"what": what, "name": name, "ret": self.pick(ANSWERED)} | self.maybe(0.4, "attempt", lambda: 1)
 
     def machine(self):
         tree = {"version": 2} | self.maybe(0.5, "alarm_ms", lambda: self.pick([10, 50, 100, 1000]))

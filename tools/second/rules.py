@@ -3,7 +3,7 @@
 import json
 import re
 
-from limits import ALARM_MS, AUTO_CYCLES, LONGEST_MS, MOST, MOST_CPUS, MOST_LINKS, MOST_OF_ONE, MOST_REPORTS, MOST_SEEN
+from limits import ALARM_MS, AUTO_CYCLES, ERRORS, LONGEST_MS, MOST, MOST_CPUS, MOST_LINKS, MOST_OF_ONE, MOST_REPORTS, MOST_SEEN
 from limits import MOST_STEPS, MOST_TIMES, WORD
 
 MEMBERS = "version alarm_ms cpus auto_cycles devices links syscore notifiers sources actors answers".split()
@@ -11,7 +11,6 @@ LISTS = list(MOST)
 RANGES = {"alarm_ms": (1, LONGEST_MS), "cpus": (1, MOST_CPUS), "auto_cycles": (1, 1000)}
 NAME = re.compile(r"[a-z0-9_.\-]{1,32}\Z")
 PHASES = "prepare suspend late noirq resume_noirq early resume".split()
-ERRORS = "EINTR EIO EAGAIN EACCES EBUSY ENODEV EINVAL".split()
 PLATFORM = ["begin", "prepare", "prepare_late"]
 
 

@@ -11,6 +11,7 @@ WIDTH = 1600  # For so many pixels the widths of columns are chosen.
 STRETCH = 1.6  # A narrow picture is stretched so far at most.
 STAGE, STEP, CALLBACK = 17, 13, 14  # Widths of an attempt's entry, of another's, and at most of a callback's.
 MARGIN, RIGHT = 12, 120
+NAMES = 170  # How wide the names of lanes stand beside a picture.
 THIN = 0.001  # No box is narrower, in percent, since one without a width is not shown.
 REPEAT = 800  # After so many pixels down the names of phases are said again.
 LETTER = 5.6  # How wide a letter is.
@@ -226,17 +227,28 @@ class Picture:
 
     # ---- what is drawn
 
-    def draw(self):
+    def drawn_lanes(self):
         self.draw_lanes()
         self.draw_stages()
         self.draw_spans()
         self.draw_entries()
         self.draw_joins()
-        inside = "\n".join(self.back + self.middle + self.between + self.front)
+        return "\n".join(self.back + self.middle + self.between + self.front)
+
+    def alone(self, style):
+        """The picture as one element in that style, with its names at the left."""
+        wide, high = NAMES + int(self.columns.total), self.lanes.bottom
+        names, lanes = "".join(self.names()), self.drawn_lanes()
+        return (f'<svg xmlns="http://www.w3.org/2000/svg" viewBox="0 0 {wide} {high}" font-family="DejaVu Sans, Verdana, sans-serif">\n'
+                f'{style}<rect width="100%" height="100%" fill="#fff"/>\n<svg width="{NAMES}" height="{high}">{names}</svg>\n'
+                f'<svg x="{NAMES}" width="{wide - NAMES}" height="{high}">\n{lanes}\n</svg>\n</svg>\n')
+
+    def draw(self):
+        inside = self.drawn_lanes()
         style = f"--base:{int(self.columns.total)}px;height:{self.lanes.bottom}px"
         dense = " dense" * self.columns.is_dense + " fine" * self.columns.is_fine + " crowded" * self.columns.is_crowded
         small = " small" * self.lanes.is_small
-        return (f'<svg class="names{small}" width="170" height="{self.lanes.bottom}">{"".join(self.names())}</svg>'
+        return (f'<svg class="names{small}" width="{NAMES}" height="{self.lanes.bottom}">{"".join(self.names())}</svg>'
                 f'<div class="scroll{dense}"><svg class="lanes" style="{style}">\n{inside}\n</svg></div>')
 
     def names(self):

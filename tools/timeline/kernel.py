@@ -2,10 +2,11 @@
 
 import collections
 
+from limits import ERRORS
+
 from .joins import Tests
 from .story import error_of
 
-NUMBERS = {"EIO": 5, "EINTR": 4, "EAGAIN": 11, "EACCES": 13, "EBUSY": 16, "ENODEV": 19, "EINVAL": 22}
 HEADS = ("name\t", "active_count", "event_count", "wakeup_count", "expire_count", "active_since", "total_time", "max_time",
          "last_change", "prevent_suspend_time")
 # The counters of suspend_stats by phases; the names of steps, of which the kernel has none for late and early.
@@ -111,7 +112,7 @@ class Failures:
         if kind == "over":
             self.counts["success" if entry["answer"] == "0" else "fail"] += 1
             if entry["answer"] != "0":
-                self.errors = [-NUMBERS[entry["answer"]], *self.errors][:KEPT]
+                self.errors = [-ERRORS[entry["answer"]], *self.errors][:KEPT]
         elif kind == "froze_error":
             self.fail("freeze")
         elif kind == "end" and entry["answer"] != "0":
@@ -202,7 +203,7 @@ class Messages:
         error, device = error_of(entry), entry["device"]
         if not error:
             return
-        number = -NUMBERS[error]
+        number = -ERRORS[error]
         if entry.kind == "prepare":
             self.tell(entry, f"{device}: PM: device_prepare(): callback+0x0/0x0 returns {number}",
                       f"{device}: PM: not prepared for power transition: code {number}")

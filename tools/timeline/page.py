@@ -163,6 +163,20 @@ def legend():
             f"<small>In boxes without room for words: {'; '.join(SHORT)}.</small></details>\n")
 
 
+def picture_of(number):
+    """What draws the picture of that attempt of a log alone, as SVG; of a log without it, None."""
+
+    def drawn(story):
+        shown = [] if story is None else [picture for picture in pictures(story) if picture.section.attempt]
+        of = next((picture for picture in shown if picture.section.attempt.number == number), None)
+        if of is None:
+            return None
+        style = f"<style>\n{(HERE / 'page.css').read_text()}</style>\n"
+        return of.alone(style + (HERE / "patterns.svg").read_text())
+
+    return drawn
+
+
 def page(story):
     """The page of a log; of an empty one, where nothing is told."""
     style, script = (HERE / "page.css").read_text(), (HERE / "page.js").read_text()

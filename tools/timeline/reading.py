@@ -5,9 +5,11 @@ What is no log is refused by the number of the first line that shows it.
 
 import re
 
+from limits import ERRORS
+
 NUMBER = "0|[1-9][0-9]{0,19}"
 NAME = "[a-z0-9_.-]{1,32}"
-ERROR = "EINTR|EIO|EAGAIN|EACCES|EBUSY|ENODEV|EINVAL"
+ERROR = "|".join(ERRORS)
 FIELDS = {
     "answer": f"0|{ERROR}",
     "prepared": f"0|1|{ERROR}",

@@ -1,5 +1,5 @@
 //! A burst is serial: its acts have an order in which each finds the machine and the sources as those before it left
-//! them, and so a burst keeps what a run keeps (own: Linux keeps no such log). No program stands on it yet.
+//! them, and so a burst keeps what a run keeps (own: Linux keeps no such log).
 #![tactic(auto)]
 
 mod laws;

@@ -15,7 +15,7 @@ use Rattle.clap.proofs.OnLiterals.{clap_on_literals}
 use Rattle.clap.proofs.WalkLemmas.{both}
 use Rattle.command_line.specs.declared.command.Command.{Command}
 use Rattle.command_line.specs.declared.command.Command.TheVariants.{Gen, Soak, Locks, Stats}
-use Rattle.command_line.specs.Words.{alone_of, command_in, command_of, run_of, seeded_of, workers_of}
+use Rattle.command_line.specs.Words.{alone_of, command_in, parsed_of, run_of, seeded_of, workers_of}
 use Rattle.command_line.specs.Parses.{alone_read, are_few, command_read, is_end_of_options, run_read, seeded_read, whole_app}
 use Rattle.command_line.proofs.Turns.{word_is, IsLong, IsPlain}
 use Rattle.command_line.proofs.Named.{minus_devices, other_text, same_text}
@@ -236,24 +236,24 @@ module _ {S : Type 0} (f : S → Text) where
       let count : length (name ∷ words) - 1 ≡ length words = omega arith in
       ap (λ l. are_few (map f l)) (sym (ap (λ k. take k words) count ∙ take_all (length words) words (omega arith))) ∙ e
 
-  pub nothing_asked : (words : List S) → 1 ≤ length words → are_few (map f (take (length words - 1) (drop 1 words))) ≡ false → command_of (map f words) ≡ None
+  pub nothing_asked : (words : List S) → 1 ≤ length words → are_few (map f (take (length words - 1) (drop 1 words))) ≡ false → parsed_of (map f words) ≡ None
   nothing_asked [] some few = absurd (omega arith)
   nothing_asked (name ∷ words) some few = others_none (map f words) (after_name name words false few)
 
   pub read_asked : (words : List S) → 1 ≤ length words → are_few (map f (take (length words - 1) (drop 1 words))) ≡ true → fault_of whole_app (map f words) ≡ []
-      → command_read (subcommand_of whole_app (map f words)) ≡ command_of (map f words)
+      → command_read (subcommand_of whole_app (map f words)) ≡ parsed_of (map f words)
   read_asked [] some few none = absurd (omega arith)
   read_asked (name ∷ words) some few none =
-      subst (λ k. Agrees k (command_read (subcommand_of whole_app (map f (name ∷ words)))) (command_of (map f (name ∷ words)))) none (words_agree (f name) (map f words) (after_name name words true few))
+      subst (λ k. Agrees k (command_read (subcommand_of whole_app (map f (name ∷ words)))) (parsed_of (map f (name ∷ words)))) none (words_agree (f name) (map f words) (after_name name words true few))
 
   pub refused_asked : (words : List S) (e : Error) → 1 ≤ length words → are_few (map f (take (length words - 1) (drop 1 words))) ≡ true → HasKind (fault_of whole_app (map f words)) e
-      → (kind_of e ≡ OutOfMemory → ⊥) → command_of (map f words) ≡ None
+      → (kind_of e ≡ OutOfMemory → ⊥) → parsed_of (map f words) ≡ None
   refused_asked [] e some few kinds other = absurd (omega arith)
   refused_asked (name ∷ words) e some few kinds other =
       go (fault_of whole_app (map f (name ∷ words))) (words_agree (f name) (map f words) (after_name name words true few)) kinds
     where
-      go : (k : Kinds) → Agrees k (command_read (subcommand_of whole_app (map f (name ∷ words)))) (command_of (map f (name ∷ words))) → HasKind k e
-          → command_of (map f (name ∷ words)) ≡ None
+      go : (k : Kinds) → Agrees k (command_read (subcommand_of whole_app (map f (name ∷ words)))) (parsed_of (map f (name ∷ words))) → HasKind k e
+          → parsed_of (map f (name ∷ words)) ≡ None
       go [] agrees (inl memory) = absurd (other memory)
       go [] agrees (inr none) = absurd none
       go (k ∷ ks) agrees has = agrees

@@ -6,3 +6,4 @@ pub mod Numbers
 pub mod Readings
 pub mod Commands
 pub mod Ranges
+pub mod IdleWords

@@ -4,8 +4,8 @@ use Rattle.std.specs.Prelude.{IfSome, nat_le, option_and_then, bytes_eq, take, d
 use Rattle.std.specs.List.{list_all}
 use Rattle.clap.proofs.WalkLemmas.{both}
 use Rattle.command_line.specs.declared.command.Command.{Command}
-use Rattle.command_line.specs.declared.command.Command.TheVariants.{Run, Gen, Soak, Locks, Stats}
-use Rattle.command_line.specs.Words.{IsInRange, alone_of, command_of, has_no_zero_before, is_digit, number_in, run_of, seeded_of, value_of, workers_of, workers_prefix}
+use Rattle.command_line.specs.declared.command.Command.TheVariants.{Run, Gen, Soak, Locks, Stats, Idle}
+use Rattle.command_line.specs.Words.{IsInRange, alone_of, command_in, command_of, idle_of, idle_sized, workers_behind, workers_number, has_no_zero_before, is_digit, number_in, run_of, seeded_of, value_of, workers_of, workers_prefix}
 
 if_so : (b : Bool) (n : ℕ) (P : ℕ → Type 0) → (b ≡ true → P n) → IfSome (cond b (Some n) None) P
 if_so true n P h = h refl
@@ -55,17 +55,56 @@ alone_range : (what : Command) → IsInRange what → (words : List (List ℕ)) 
 alone_range what h [] = h
 alone_range what h (word ∷ words) = tt
 
+number_word : (word : List ℕ) → IfSome (workers_number word) (λ n. (1 ≤ n) × (n ≤ 64))
+number_word word = so (bytes_eq (take (length workers_prefix) word) workers_prefix)
+  where
+    so : (b : Bool) → IfSome (cond b (number_in 1 64 (drop (length workers_prefix) word)) None) (λ n. (1 ≤ n) × (n ≤ 64))
+    so true = number_range 1 64 (drop (length workers_prefix) word)
+    so false = tt
+
+behind_range : (words : List (List ℕ)) → IfSome (workers_behind words) (λ n. (1 ≤ n) × (n ≤ 64))
+behind_range [] = (leb-true 1 4 refl, leb-true 4 64 refl)
+behind_range (word ∷ []) = number_word word
+behind_range (word ∷ n ∷ []) = so (bytes_eq word (codes "--workers"))
+  where
+    so : (b : Bool) → IfSome (cond b (number_in 1 64 n) None) (λ n. (1 ≤ n) × (n ≤ 64))
+    so true = number_range 1 64 n
+    so false = tt
+behind_range (word ∷ n ∷ more ∷ words) = tt
+
+sized_range : (wakers events sessions : Option ℕ) (n : ℕ) → (1 ≤ n) × (n ≤ 64) → IfSome wakers (λ w. (1 ≤ w) × (w ≤ 16)) → IfSome events (λ e. (1 ≤ e) × (e ≤ 1000)) → IfSome sessions (λ s. (1 ≤ s) × (s ≤ 1000))
+    → IfSome (option_and_then (λ w. option_and_then (λ e. option_map (λ s. Idle w e s n) sessions) events) wakers) IsInRange
+sized_range None events sessions n h a b c = tt
+sized_range (Some w) None sessions n h a b c = tt
+sized_range (Some w) (Some e) None n h a b c = tt
+sized_range (Some w) (Some e) (Some s) n h a b c = (a, b, c, h)
+
+idle_range : (words : List (List ℕ)) → IfSome (idle_of words) IsInRange
+idle_range [] = tt
+idle_range (w ∷ []) = tt
+idle_range (w ∷ e ∷ []) = tt
+idle_range (w ∷ e ∷ s ∷ words) = go (workers_behind words) (behind_range words)
+  where
+    go : (o : Option ℕ) → IfSome o (λ n. (1 ≤ n) × (n ≤ 64)) → IfSome (option_and_then (λ n. idle_sized w e s n) o) IsInRange
+    go None h = tt
+    go (Some n) h = sized_range (number_in 1 16 w) (number_in 1 1000 e) (number_in 1 1000 s) n h (number_range 1 16 w) (number_range 1 1000 e) (number_range 1 1000 s)
+
 -- what words ask for is in range
 in_range : (words : List (List ℕ)) → IfSome (command_of words) IsInRange
 in_range [] = tt
 in_range (name ∷ []) = tt
 in_range (name ∷ word ∷ words) =
-    either (bytes_eq word (codes "run")) _ _ (run_range words)
+    either (bytes_eq word (codes "idle")) _ _ (idle_range words)
+    (either (bytes_eq word (codes "run")) _ _ (run_range words)
     (either (bytes_eq word (codes "gen")) _ _ (seeded_range Gen (λ s d l m. (l, m)) words)
     (either (bytes_eq word (codes "soak")) _ _ (seeded_range Soak (λ s d l m. (l, m)) words)
     (either (bytes_eq word (codes "locks")) _ _ (alone_range Locks tt words)
-    (either (bytes_eq word (codes "stats")) _ None (alone_range Stats tt words) tt))))
+    (either (bytes_eq word (codes "stats")) _ None (alone_range Stats tt words) tt)))))
 
 -- so is what was read of them
 pub asked_in_range : (words : List (List ℕ)) (o : Option Command) → o ≡ command_of words → IfSome o IsInRange
 asked_in_range words o e = subst (λ (o : Option Command). IfSome o IsInRange) (sym e) (in_range words)
+
+-- so is what the words after idle ask for
+pub idle_in_range : (words : List (List ℕ)) (o : Option Command) → o ≡ idle_of words → IfSome o IsInRange
+idle_in_range words o e = subst (λ (o : Option Command). IfSome o IsInRange) (sym e) (idle_range words)

@@ -2,7 +2,7 @@
 use Rattle.std.specs.Prelude.{ℕ, ◌≤◌, ◌+◌, ◌-◌, ◌*◌, ◌^◌, List, [], ◌∷◌, length, codes, Bool, true, false, ◌&&◌, take, drop, bytes_eq, nat_le, nat_lt, fold, Option, Some, None, option_map, option_and_then, if◌then◌else◌}
 use Rattle.std.specs.List.{list_all}
 use Rattle.command_line.specs.declared.command.Command.{Command}
-use Rattle.command_line.specs.declared.command.Command.TheVariants.{Run, Gen, Soak, Locks, Stats}
+use Rattle.command_line.specs.declared.command.Command.TheVariants.{Run, Gen, Soak, Locks, Stats, Idle}
 
 -- a digit
 abbrev pub is_digit : ℕ → Bool
@@ -56,7 +56,7 @@ abbrev pub alone_of : Command → List (List ℕ) → Option Command
 alone_of what [] = Some what
 alone_of what _ = None
 
--- the words after the program's name
+-- the words after the program's name, of a form that the parser is told
 abbrev pub command_in : List (List ℕ) → Option Command
 command_in [] = None
 command_in (word ∷ words) =
@@ -64,10 +64,39 @@ command_in (word ∷ words) =
     else if bytes_eq word (codes "soak") then seeded_of Soak words else if bytes_eq word (codes "locks") then alone_of Locks words
     else if bytes_eq word (codes "stats") then alone_of Stats words else None
 
+-- what these words ask for, of a form that the parser is told; the first is the program's name
+abbrev pub parsed_of : List (List ℕ) → Option Command
+parsed_of [] = None
+parsed_of (name ∷ words) = command_in words
+
+-- how many workers one word asks for
+abbrev pub workers_number : List ℕ → Option ℕ
+workers_number word =
+    if bytes_eq (take (length workers_prefix) word) workers_prefix then number_in 1 64 (drop (length workers_prefix) word)
+    else None
+
+-- how many workers the words behind the sizes ask for
+abbrev pub workers_behind : List (List ℕ) → Option ℕ
+workers_behind [] = Some 4
+workers_behind (word ∷ []) = workers_number word
+workers_behind (word ∷ n ∷ []) = if bytes_eq word (codes "--workers") then number_in 1 64 n else None
+workers_behind _ = None
+
+-- a run of the sizes that three words spell
+abbrev pub idle_sized : List ℕ → List ℕ → List ℕ → ℕ → Option Command
+idle_sized wakers events sessions workers =
+    option_and_then (λ w. option_and_then (λ e. option_map (λ s. Idle w e s workers) (number_in 1 1000 sessions)) (number_in 1 1000 events)) (number_in 1 16 wakers)
+
+-- the words after idle
+abbrev pub idle_of : List (List ℕ) → Option Command
+idle_of (wakers ∷ events ∷ sessions ∷ words) = option_and_then (λ n. idle_sized wakers events sessions n) (workers_behind words)
+idle_of _ = None
+
 -- what these words ask for, where they are of a form; the first is the program's name
 abbrev pub command_of : List (List ℕ) → Option Command
 command_of [] = None
-command_of (name ∷ words) = command_in words
+command_of (name ∷ []) = None
+command_of (name ∷ word ∷ words) = if bytes_eq word (codes "idle") then idle_of words else command_in (word ∷ words)
 
 -- the numbers that a command carries are in their ranges
 abbrev pub IsInRange : Command → Type 0
@@ -76,3 +105,5 @@ IsInRange (Gen seed devices) = (1 ≤ devices) × (devices ≤ 1000)
 IsInRange (Soak seed devices) = (1 ≤ devices) × (devices ≤ 1000)
 IsInRange Locks = Unit {0}
 IsInRange Stats = Unit {0}
+IsInRange (Idle wakers events sessions workers) =
+    ((1 ≤ wakers) × (wakers ≤ 16)) × ((1 ≤ events) × (events ≤ 1000)) × ((1 ≤ sessions) × (sessions ≤ 1000)) × ((1 ≤ workers) × (workers ≤ 64))

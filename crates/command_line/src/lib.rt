@@ -2,6 +2,7 @@
 #![tactic(auto)]
 
 mod command;
+mod idle;
 mod number;
 #[cfg(test)]
 mod tests;

@@ -220,6 +220,33 @@ fn words_of_a_form(rt: HostRuntime) -> Result<(), Fail> {
         ),
         ("sleep locks", Command::Locks),
         ("sleep stats", Command::Stats),
+        (
+            "sleep idle 8 100 50",
+            Command::Idle {
+                wakers: 8,
+                events: 100,
+                sessions: 50,
+                workers: 4,
+            },
+        ),
+        (
+            "sleep idle 16 1000 1 --workers 64",
+            Command::Idle {
+                wakers: 16,
+                events: 1_000,
+                sessions: 1,
+                workers: 64,
+            },
+        ),
+        (
+            "sleep idle 1 1 1000 --workers=1",
+            Command::Idle {
+                wakers: 1,
+                events: 1,
+                sessions: 1_000,
+                workers: 1,
+            },
+        ),
         ("-- run", Command::Run { workers: 4 }),
         (" run", Command::Run { workers: 4 }),
     ] {

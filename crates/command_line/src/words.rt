@@ -2,10 +2,11 @@ ghost use Rattle.std.specs.Prelude.{◌≡◌, ℕ, [], ◌∷◌, IfOk, IfErr, 
 ghost use Rattle.std.specs.List.{list_any};
 ghost use Rattle.clap.specs.Words.{FailsBy, app_of, fault_of, found_of, rows_of, shape_of, subcommand_of, subcommand_rows_of};
 ghost use Rattle.command_line.specs.declared.command.Command.TheVariants.{Gen, Soak};
-ghost use Rattle.command_line.specs.Words.{IsInRange, command_of, seeded_of, workers_of};
+ghost use Rattle.command_line.specs.Words.{IsInRange, command_of, parsed_of, seeded_of, workers_of};
 ghost use Rattle.command_line.specs.Parses.{are_few, is_end_of_options, run_app, seeded_app, whole_app, run_read, seeded_read, command_read};
 
 use crate::command::Command;
+use crate::idle::idle_in;
 use crate::number::number_in;
 use clap::error::ErrorKind;
 use clap::{Arg, ArgMatches, Error};
@@ -45,7 +46,7 @@ fn seeded_command<'a>(alloc: Global, name: &'a str) -> Result<clap::Command<'a>,
         .arg(Arg::new(alloc, "devices").required(true))
 }
 
-/// The five commands. A call for help is an error like any other.
+/// The commands that the parser is told. A call for help is an error like any other.
 fn whole_command<'a>(alloc: Global) -> Result<clap::Command<'a>, AllocError>
     ensures { IfOk result (λ c. app_of c ≡ whole_app) }
 {
@@ -120,11 +121,9 @@ fn command_read(matches: &ArgMatches) -> Option<Command>
     }
 }
 
-/// What the words of the command line ask for; the first is the program's name. `None` where they are of no form, as
-/// where they call for help. An error is want of memory.
-pub fn command_of(alloc: Global, words: &[String]) -> Result<Option<Command>, Mem>
-    ensures asks { IfOk result (λ c. c ≡ command_of (map string_bytes words.now)) }
-    ensures range { IfOk result (λ c. IfSome c IsInRange) }
+/// What the words of the command line ask for, where they are of a form that the parser is told.
+fn parsed(alloc: Global, words: &[String]) -> Result<Option<Command>, Mem>
+    ensures { IfOk result (λ c. c ≡ parsed_of (map string_bytes words.now)) }
 {
     let [_, rest @ ..] = words else {
         return Ok(None);
@@ -139,4 +138,19 @@ pub fn command_of(alloc: Global, words: &[String]) -> Result<Option<Command>, Me
             _ => Ok(None),
         },
     }
+}
+
+/// What the words of the command line ask for; the first is the program's name. `None` where they are of no form, as
+/// where they call for help. An error is want of memory.
+pub fn command_of(alloc: Global, words: &[String]) -> Result<Option<Command>, Mem>
+    ensures asks { IfOk result (λ c. c ≡ command_of (map string_bytes words.now)) }
+    ensures range { IfOk result (λ c. IfSome c IsInRange) }
+{
+    let [_, name, rest @ ..] = words else {
+        return parsed(alloc, words);
+    };
+    if name.as_str() == "idle" {
+        return Ok(idle_in(rest));
+    }
+    parsed(alloc, words)
 }

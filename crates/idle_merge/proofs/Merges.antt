@@ -1,7 +1,5 @@
 -- The merge of a gate's journal and the hard events is a legal log.
-use Rattle.std.proofs.Common.{◌≡◌, ℕ, zero, suc, ◌+◌, ◌<◌, ◌≤◌, ◌≢◌, ◌==◌, ◌++◌, Bool, true, false, if◌then◌else◌, eq-eqb, ne_eqb, Option, Some, None, List, [], ◌∷◌, length, append_assoc, refl, ap, sym, subst, ◌∙◌, arith}
-use Rattle.idle_loop.specs.declared.entry.IdleState.{IdleState}
-use Rattle.idle_loop.specs.declared.entry.IdleState.TheVariants as state
+use Rattle.std.proofs.Common.{◌≡◌, ℕ, zero, suc, ◌+◌, ◌<◌, ◌≤◌, ◌≢◌, ◌==◌, ◌++◌, Bool, true, false, if◌then◌else◌, Option, Some, None, List, [], ◌∷◌, length, append_assoc, refl, ap, sym, subst, ◌∙◌, arith}
 use Rattle.idle_loop.specs.declared.entry.IdleKind.{IdleKind}
 use Rattle.idle_loop.specs.declared.entry.IdleKind.TheVariants.{Hard, Begin, Wake, TryOk, TryBusy, Leave}
 use Rattle.idle_loop.specs.declared.entry.IdleEntry.{IdleEntry}

@@ -40,7 +40,7 @@ refusal_text (BadLockLine n) = line (codes "locks: line " ++ decimal n)
 abbrev pub text_of : Ending → List ℕ
 text_of Done = []
 text_of Stuck = []
-text_of NoForm = line (codes "usage: run [--workers N] or gen SEED DEVICES or soak SEED DEVICES or locks or stats")
+text_of NoForm = line (codes "usage: run [--workers N] or gen SEED DEVICES or soak SEED DEVICES or locks or stats or idle WAKERS EVENTS SESSIONS [--workers N]")
 text_of ReadFault = line (codes "read fault")
 text_of WriteFault = line (codes "write fault")
 text_of (Refused refusal) = refusal_text refusal

@@ -46,7 +46,7 @@ impl Ending {
         match self {
             Ending::Done | Ending::Stuck => "",
             Ending::NoForm =>
-                "usage: run [--workers N] or gen SEED DEVICES or soak SEED DEVICES or locks or stats\n",
+                "usage: run [--workers N] or gen SEED DEVICES or soak SEED DEVICES or locks or stats or idle WAKERS EVENTS SESSIONS [--workers N]\n",
             Ending::ReadFault => "read fault\n",
             Ending::WriteFault => "write fault\n",
             Ending::Refused(refusal) => refusal.head(),

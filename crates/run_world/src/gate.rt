@@ -1,8 +1,8 @@
-//! Who is told of the turns in a burst.
+//! Who sees the turns in a burst.
 
 use sleep_model::Actor;
 
-/// What is told of the turns in a burst (own: Linux has its scheduler). A test waits in it, to bring turns into an order;
+/// What sees the turns in a burst (own: Linux has its scheduler). A test waits in it, to bring turns into an order;
 /// each clause holds for every gate.
 pub trait Gate {
     /// The job at that place has its turn next. Its worker holds no lock.

@@ -1,6 +1,6 @@
 //! The world that the workers of a run share (own: Linux shares its variables bare): the machine and each wakeup
 //! source, each under a lock of its own, so that a report on a source waits for no turn of the machine. A call
-//! takes one lock, and its pass knows what it made there. No program stands on it yet.
+//! takes one lock, and its pass knows what it made there.
 #![tactic(auto)]
 
 mod closing;

@@ -8,16 +8,17 @@ use Rattle.machine_file.specs.Tree.{tree}
 use Rattle.machine_file.specs.Whole.{machine_in}
 use Rattle.sleep_run.specs.Runs.{IsFull}
 use Rattle.command_line.specs.declared.command.Command.{Command}
-use Rattle.command_line.specs.declared.command.Command.TheVariants.{Run, Gen, Soak, Locks, Stats}
+use Rattle.command_line.specs.declared.command.Command.TheVariants.{Run, Gen, Soak, Locks, Stats, Idle}
 use Rattle.program_ending.specs.declared.ending.Ending.{Ending}
 use Rattle.program_ending.specs.declared.ending.Ending.TheVariants.{Done, Stuck, NoForm, ReadFault, WriteFault, Refused, NoMemory}
 use Rattle.program_ending.specs.declared.refusal.Refusal.{Refusal}
 use Rattle.program_ending.specs.declared.refusal.Refusal.TheVariants.{Broken, SourceFull, LongInput, BadLockLine, LongLocks}
 use Rattle.program_ending.specs.Endings.{status_of}
+use Rattle.idle_loop.specs.declared.entry.IdleSizes.{IdleSizes}
 use Rattle.lock_lines.specs.Command.{IsLocksOf, RefusesLocks}
 use Rattle.log_commands.specs.Stats.{IsStatsOf, RefusesStats}
 use Rattle.log_commands.proofs.Fitting.{no_machine, none_refused, one_machine}
-use Rattle.sleep_main.specs.Endings.{Stream, Streams, NoFault, NoFaults, Completes, Ended, RunEnded, GenEnded, SoakEnded, IsInput, IsOneOf, IsRefusal, FillsNone, LocksEnded, RefusesInput, RefusesRun, StatsEnded, TellEnded}
+use Rattle.sleep_main.specs.Endings.{Stream, Streams, NoFault, NoFaults, Completes, Ended, RunEnded, GenEnded, SoakEnded, IdleEnded, IsInput, IsOneOf, IsRefusal, FillsNone, LocksEnded, RefusesInput, RefusesRun, StatsEnded, TellEnded}
 
 -- a count that rose is no count that stayed
 rose_not : (before now : ℕ) → Rose before now → NoFault before now → ⊥
@@ -102,6 +103,15 @@ soak_completes seed devices old new ReadFault h none = absurd h.3
 soak_completes seed devices old new (Refused refusal) h none = absurd h.3
 soak_completes seed devices old new NoMemory h none = inr (inr refl)
 
+idle_completes : (z : IdleSizes) (old new : Stream) (ending : Ending) → IdleEnded z old new ending → NoFault old.faults new.faults → IsOneOf Done Done (status_of ending)
+idle_completes z old new Done h none = inl refl
+idle_completes z old new Stuck h none = absurd (true≢false (sym h.2.0))
+idle_completes z old new WriteFault h none = absurd (rose_not old.faults new.faults h.2.0 none)
+idle_completes z old new NoForm h none = absurd h.2
+idle_completes z old new ReadFault h none = absurd h.2
+idle_completes z old new (Refused refusal) h none = absurd h.2
+idle_completes z old new NoMemory h none = inr (inr refl)
+
 refused_completes : (ending : Ending) → IsRefusal ending → IsOneOf NoForm NoForm (status_of ending)
 refused_completes NoForm h = inl refl
 refused_completes NoMemory h = inr (inr refl)
@@ -118,3 +128,4 @@ completes (Some (Gen seed devices)) old new ending h = gen_completes seed device
 completes (Some (Soak seed devices)) old new ending h = soak_completes seed devices old.output new.output ending h.1
 completes (Some Locks) old new ending h = locks_completes old new ending h
 completes (Some Stats) old new ending h = stats_completes old new ending h
+completes (Some (Idle wakers events sessions workers)) old new ending h = idle_completes (record { wakers = wakers; events = events; sessions = sessions }) old.output new.output ending h.1

@@ -8,7 +8,7 @@ use Rattle.sleep_model.specs.Order.{parents_of}
 use Rattle.sleep_model.specs.Places.{places}
 use Rattle.device_links.specs.Passes.{CanStand}
 use Rattle.command_line.specs.declared.command.Command.{Command}
-use Rattle.command_line.specs.declared.command.Command.TheVariants.{Run, Gen, Soak, Locks, Stats}
+use Rattle.command_line.specs.declared.command.Command.TheVariants.{Run, Gen, Soak, Locks, Stats, Idle}
 use Rattle.machine_file.specs.Spelling.{spelling}
 use Rattle.sleep_script.specs.Generated.{generated}
 use Rattle.sleep_run.specs.Runs.{IsFull, IsRun}
@@ -75,3 +75,4 @@ undone (Some (Gen seed devices)) now = (refl, refl)
 undone (Some (Soak seed devices)) now = (refl, refl)
 undone (Some Locks) now = refl
 undone (Some Stats) now = refl
+undone (Some (Idle wakers events sessions workers)) now = (refl, refl)

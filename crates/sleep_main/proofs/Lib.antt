@@ -1,4 +1,5 @@
 pub mod Completing
 mod Filling
 mod Generating
+mod Idling
 pub mod Telling

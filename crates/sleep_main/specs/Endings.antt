@@ -12,7 +12,7 @@ use Rattle.sleep_model.specs.Legal.{IsFinishedLog, IsStuckLog}
 use Rattle.sleep_model.specs.Order.{parents_of}
 use Rattle.sleep_model.specs.Text.{text, source}
 use Rattle.command_line.specs.declared.command.Command.{Command}
-use Rattle.command_line.specs.declared.command.Command.TheVariants.{Run, Gen, Soak, Locks, Stats}
+use Rattle.command_line.specs.declared.command.Command.TheVariants.{Run, Gen, Soak, Locks, Stats, Idle}
 use Rattle.machine_file.specs.Spelling.{spelling}
 use Rattle.machine_file.specs.Whole.{machine_in, broken_at, broken_in}
 use Rattle.sleep_script.specs.Generated.{generated}
@@ -25,6 +25,8 @@ use Rattle.program_ending.specs.declared.refusal.Refusal.{Refusal}
 use Rattle.program_ending.specs.declared.refusal.Refusal.TheVariants.{LongMachine, Broken, SourceFull, LongInput, LongLocks}
 use Rattle.program_ending.specs.Endings.{status_of}
 use Rattle.program_ending.specs.Telling.{Refuses}
+use Rattle.idle_loop.specs.declared.entry.IdleSizes.{IdleSizes}
+use Rattle.idle_lines.specs.Lines.{IsIdleText}
 use Rattle.lock_lines.specs.Command.{IsLocksOf, RefusesLocks}
 use Rattle.log_commands.specs.Input.{IsLogIn}
 use Rattle.log_commands.specs.Stats.{IsStatsOf, RefusesStats}
@@ -192,6 +194,13 @@ SoakEnded seed devices old new NoMemory = new ≡ old
 SoakEnded seed devices old new ending =
     (said : List ℕ) × (stuck : Bool) × IsLineOf seed devices said stuck × Writes old new said stuck ending
 
+-- ---- idle
+
+-- what an ending of idle means: the text of the log of a whole run of these sizes was written, or a front of it, or memory ran out
+abbrev pub IdleEnded : IdleSizes → Stream → Stream → Ending → Type 0
+IdleEnded z old new NoMemory = new ≡ old
+IdleEnded z old new ending = (said : List ℕ) × IsIdleText z said × Writes old new said false ending
+
 -- ---- commands that tell of an input
 
 -- the whole input was bytes of which a text is told, and that was written, or a front of it
@@ -239,6 +248,8 @@ Ended (Some (Run workers)) old new ending = RunEnded old new ending
 Ended (Some (Gen seed devices)) old new ending = KeepsInput old new × GenEnded seed devices old.output new.output ending
 Ended (Some Locks) old new ending = LocksEnded old new ending
 Ended (Some Stats) old new ending = StatsEnded old new ending
+Ended (Some (Idle wakers events sessions workers)) old new ending =
+    KeepsInput old new × IdleEnded (record { wakers = wakers; events = events; sessions = sessions }) old.output new.output ending
 Ended (Some (Soak seed devices)) old new ending = KeepsInput old new × SoakEnded seed devices old.output new.output ending
 
 -- the text was said on a stream, or a front of it where its count of faults rose
@@ -265,7 +276,7 @@ NoFaults old new = NoFault old.input.faults new.input.faults × NoFault old.outp
 abbrev pub IsInput : ℕ → Streams → List ℕ → Type 0
 IsInput most now bytes = (now.input.bytes ≡ Some bytes) × (length bytes ≤ most)
 
--- completeness, where no fault is counted: an input that spells a machine none of whose sources can be filled gives a log, of a run that is finished or stuck; gen writes its file, soak its line, locks the answers to lines that are not refused, and stats what is told of a machine and a log that fits it, no link of which is refused; or memory ran out
+-- completeness, where no fault is counted: an input that spells a machine none of whose sources can be filled gives a log, of a run that is finished or stuck; gen writes its file, soak its line, idle the text of its log, locks the answers to lines that are not refused, and stats what is told of a machine and a log that fits it, no link of which is refused; or memory ran out
 abbrev pub Completes : Option Command → Streams → Streams → ℕ → Type 0
 Completes None old new status = IsOneOf NoForm NoForm status
 Completes (Some (Run workers)) old new status =
@@ -273,6 +284,7 @@ Completes (Some (Run workers)) old new status =
     → IsOneOf Done Stuck status
 Completes (Some (Gen seed devices)) old new status = NoFault old.output.faults new.output.faults → IsOneOf Done Done status
 Completes (Some (Soak seed devices)) old new status = NoFault old.output.faults new.output.faults → IsOneOf Done Stuck status
+Completes (Some (Idle wakers events sessions workers)) old new status = NoFault old.output.faults new.output.faults → IsOneOf Done Done status
 Completes (Some Locks) old new status =
     (bytes said : List ℕ) → IsInput 16777216 old bytes → IsLocksOf bytes said → NoFaults old new → IsOneOf Done Done status
 Completes (Some Stats) old new status =

@@ -17,10 +17,11 @@ use machine_file::write_machine;
 use program_ending::Ending;
 use sleep_base::{ByteSink, Mem};
 use sleep_model::{Device, Log, Machine};
-use sleep_run::{RunFault, run_machine};
+use sleep_run::{OpenGate, RunFault, run_machine};
 use sleep_script::generate;
 use std::alloc::Global;
 use std::sync::Wait;
+use std::thread::Threads;
 
 /// The file of the generated machine of a seed with so many devices. `Mem` if there is no memory for it.
 fn file_of(alloc: Global, seed: u64, devices: u32) -> Result<Vec<u8>, Mem>
@@ -67,13 +68,13 @@ fn links_of(alloc: Global, machine: &Machine) -> Result<Links, Mem>
 }
 
 /// The log of a run of a machine that a file may spell, and that fills no source.
-fn log_of<R: Wait>(rt: &R, alloc: Global, machine: &Machine) -> Result<Log, Mem>
+fn log_of<R: Threads + Wait + Sync>(rt: &R, alloc: Global, machine: &Machine) -> Result<Log, Mem>
     requires accepted { IsAccepted machine.now }
     requires roomy { (s : ℕ) → places machine.now s ≤ 16 }
     ensures { IfOk result (IsRun machine.now) }
 {
     let links = links_of(alloc, machine)?;
-    match run_machine(rt, alloc, machine, links) {
+    match run_machine(rt, alloc, machine, links, 1, &OpenGate) {
         Ok(run) => Ok(run.log),
         Err(RunFault::SourceFull(_)) => unreachable!(),
         Err(RunFault::Mem) => Err(Mem),
@@ -81,7 +82,12 @@ fn log_of<R: Wait>(rt: &R, alloc: Global, machine: &Machine) -> Result<Log, Mem>
 }
 
 /// The line of the numbers of the log of the generated machine of a seed with so many devices.
-fn line_of<R: Wait>(rt: &R, alloc: Global, seed: u64, devices: u32) -> Result<Said, Mem>
+fn line_of<R: Threads + Wait + Sync>(
+    rt: &R,
+    alloc: Global,
+    seed: u64,
+    devices: u32,
+) -> Result<Said, Mem>
     requires some { 1 ≤ devices }
     requires few { devices ≤ 1000 }
     ensures { IfOk result (λ said. IsLineOf seed devices said.text.items said.stuck) }
@@ -94,7 +100,7 @@ fn line_of<R: Wait>(rt: &R, alloc: Global, seed: u64, devices: u32) -> Result<Sa
 }
 
 /// Runs the generated machine of a seed with so many devices, and writes the numbers of its log.
-pub fn soak_generated<R: Wait, K: ByteSink>(
+pub fn soak_generated<R: Threads + Wait + Sync, K: ByteSink>(
     rt: &R,
     alloc: Global,
     seed: u64,

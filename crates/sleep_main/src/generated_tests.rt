@@ -4,9 +4,10 @@ use std::alloc::Global;
 use std::process::Abort;
 use std::sync::Wait;
 use std::test::Fail;
+use std::thread::Threads;
 
 /// Runs the program with these words over an input, of which nothing is read.
-fn answered<R: Wait + Abort>(
+fn answered<R: Threads + Wait + Sync + Abort>(
     rt: &R,
     alloc: Global,
     words: &[&str],

@@ -3,6 +3,7 @@ use std::alloc::Global;
 use std::process::Abort;
 use std::sync::Wait;
 use std::test::Fail;
+use std::thread::Threads;
 
 const LINES: &str = "\
 lock wifi
@@ -33,7 +34,12 @@ source wifi 1 2 1 0 3 3 3
 ";
 
 /// What the program answers to these lines, of which it reads so many copies.
-fn locks_of<R: Wait>(rt: &R, alloc: Global, lines: &[u8], copies: u32) -> Result<Outcome, Fail> {
+fn locks_of<R: Threads + Wait + Sync>(
+    rt: &R,
+    alloc: Global,
+    lines: &[u8],
+    copies: u32,
+) -> Result<Outcome, Fail> {
     let mut input = Vec::new(alloc);
     for _ in 0..copies {
         input.extend_from_slice(lines)?;

@@ -6,6 +6,8 @@ mod counts;
 mod generated;
 #[cfg(test)]
 mod generated_tests;
+#[cfg(test)]
+mod idle_tests;
 mod input;
 #[cfg(test)]
 mod locks_tests;
@@ -18,9 +20,12 @@ mod stats_tests;
 mod tests;
 mod told;
 mod top;
+#[cfg(test)]
+mod workers_tests;
 
 use program_ending::Ending;
 use sleep_base::{StdSink, StdSource};
+use sleep_run::OpenGate;
 use std::alloc::{AllocError, Global};
 use std::env;
 use std::io::ErrorKind;
@@ -42,7 +47,9 @@ fn main(rt: HostRuntime) -> ExitCode {
     let mut out = StdSink::output(&rt);
     let mut err = StdSink::error(&rt);
     let status = match words_of(&rt, alloc) {
-        Ok(words) => run_words(&rt, alloc, &words, &mut input, &mut out, &mut err),
+        Ok(words) => run_words(
+            &rt, alloc, &words, &mut input, &mut out, &mut err, &OpenGate,
+        ),
         Err(_) => {
             say(&mut err, &Ending::NoMemory);
             Ending::NoMemory.status()

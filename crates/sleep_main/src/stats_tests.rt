@@ -4,9 +4,10 @@ use std::alloc::Global;
 use std::process::Abort;
 use std::sync::Wait;
 use std::test::Fail;
+use std::thread::Threads;
 
 // Writes the statistics of an input.
-fn stats_of<R: Wait>(rt: &R, alloc: Global, input: &str) -> Result<Outcome, Fail> {
+fn stats_of<R: Threads + Wait + Sync>(rt: &R, alloc: Global, input: &str) -> Result<Outcome, Fail> {
     given(
         rt,
         alloc,
@@ -17,7 +18,7 @@ fn stats_of<R: Wait>(rt: &R, alloc: Global, input: &str) -> Result<Outcome, Fail
 }
 
 // The program refuses an input with this text.
-fn assert_refused<R: Wait + Abort>(
+fn assert_refused<R: Threads + Wait + Sync + Abort>(
     rt: &R,
     alloc: Global,
     input: &str,
@@ -73,7 +74,11 @@ fn a_long_first_line_is_refused(rt: HostRuntime) -> Result<(), Fail> {
 const TWO: &str = "{\"version\":1,\"devices\":[{\"name\":\"a\"},{\"name\":\"b\"}]}\n";
 
 // The statistics of a log of two devices whose entries are these lines.
-fn two_devices<R: Wait>(rt: &R, alloc: Global, lines: &str) -> Result<Outcome, Fail> {
+fn two_devices<R: Threads + Wait + Sync>(
+    rt: &R,
+    alloc: Global,
+    lines: &str,
+) -> Result<Outcome, Fail> {
     let mut input = String::from_str(alloc, TWO)?;
     input.push_str(lines)?;
     input.push_str("source autosleep 0 0 0 0 0 0 0\nfinished\n")?;

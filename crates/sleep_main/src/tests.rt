@@ -4,17 +4,19 @@ use crate::rows::{
 };
 use crate::top::run_words;
 use sleep_base::{MemSink, MemSource};
+use sleep_run::{Gate, OpenGate};
 use std::alloc::{AllocError, Global};
 use std::process::Abort;
 use std::sync::Wait;
 use std::test::Fail;
+use std::thread::Threads;
 
 /// The words that ask for a run.
 const RUN: [&str; 4] = ["sleep", "run", "--workers", "1"];
 
 /// What is said of words of no form.
 const USAGE: &str =
-    "usage: run [--workers N] or gen SEED DEVICES or soak SEED DEVICES or locks or stats\n";
+    "usage: run [--workers N] or gen SEED DEVICES or soak SEED DEVICES or locks or stats or idle WAKERS EVENTS SESSIONS [--workers N]\n";
 
 /// The most bytes that a machine file has.
 const MOST_BYTES: usize = 16_777_216;
@@ -55,12 +57,24 @@ fn texts(alloc: Global, words: &[&str]) -> Result<Vec<String>, AllocError> {
 }
 
 /// Runs the program over memory.
-pub(crate) fn given<R: Wait>(
+pub(crate) fn given<R: Threads + Wait + Sync>(
     rt: &R,
     alloc: Global,
     words: &[&str],
     input: Vec<u8>,
     streams: &Streams<'_>,
+) -> Result<Outcome, Fail> {
+    given_with(rt, alloc, words, input, streams, &OpenGate)
+}
+
+/// Runs the program over memory, with a gate for its workers.
+pub(crate) fn given_with<R: Threads + Wait + Sync, G: Gate + Sync>(
+    rt: &R,
+    alloc: Global,
+    words: &[&str],
+    input: Vec<u8>,
+    streams: &Streams<'_>,
+    gate: &G,
 ) -> Result<Outcome, Fail> {
     let words = texts(alloc, words)?;
     let read_fails = streams.read_fails.to_vec(alloc)?;
@@ -69,7 +83,7 @@ pub(crate) fn given<R: Wait>(
     let mut out = MemSink::new(alloc, 1 << 23, streams.write_chunk.max(1), write_fails)?;
     let error_fails = streams.error_fails.to_vec(alloc)?;
     let mut err = MemSink::new(alloc, 4096, 4096, error_fails)?;
-    let status = run_words(rt, alloc, &words, &mut source, &mut out, &mut err);
+    let status = run_words(rt, alloc, &words, &mut source, &mut out, &mut err, gate);
     Ok(Outcome {
         status,
         out: out.bytes().to_vec(alloc)?,
@@ -79,7 +93,7 @@ pub(crate) fn given<R: Wait>(
 }
 
 /// Runs the program over a machine file, and compares all that it answers.
-fn expect<R: Wait + Abort>(
+fn expect<R: Threads + Wait + Sync + Abort>(
     rt: &R,
     alloc: Global,
     machine: &str,
@@ -97,7 +111,7 @@ fn expect<R: Wait + Abort>(
 }
 
 /// Runs the program over each of these machine files, whose status and log are given.
-fn expect_each<R: Wait + Abort>(
+fn expect_each<R: Threads + Wait + Sync + Abort>(
     rt: &R,
     alloc: Global,
     machines: &[(&str, u8, &str)],
@@ -211,12 +225,10 @@ fn diamonds_keep_their_order(rt: HostRuntime) -> Result<(), Fail> {
 /// Words of no form: nothing is read.
 #[test]
 fn other_words_are_refused(rt: HostRuntime) -> Result<(), Fail> {
-    let forms: [&[&str]; 14] = [
+    let forms: [&[&str]; 12] = [
         &[],
         &["sleep"],
-        &["sleep", "run"],
         &["sleep", "run", "--workers", "0"],
-        &["sleep", "run", "--workers", "2"],
         &["sleep", "run", "--workers", "04"],
         &["sleep", "run", "--workers", "65"],
         &["sleep", "run", "--workers", "1", "1"],
@@ -234,7 +246,11 @@ fn other_words_are_refused(rt: HostRuntime) -> Result<(), Fail> {
 }
 
 /// Runs the program with words of no form over a machine file, of which nothing is read.
-fn refuse<R: Wait + Abort>(rt: &R, alloc: Global, words: &[&str]) -> Result<(), Fail> {
+fn refuse<R: Threads + Wait + Sync + Abort>(
+    rt: &R,
+    alloc: Global,
+    words: &[&str],
+) -> Result<(), Fail> {
     let bytes = attempts::PARENT_AND_CHILD.as_bytes().to_vec(alloc)?;
     let count = bytes.len();
     let given = given(rt, alloc, words, bytes, &GOOD)?;

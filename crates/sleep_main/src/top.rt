@@ -1,26 +1,27 @@
 ghost use Rattle.std.specs.Prelude.{◌≡◌, ◌≤◌, ◌++◌, IfOk, IfSome, codes, length, map, string_bytes};
 ghost use Rattle.sleep_base.specs.Whole.{WriteAll};
-ghost use Rattle.command_line.specs.Words.{IsInRange};
+ghost use Rattle.command_line.specs.Words.{IsInRange, command_of};
 ghost use Rattle.program_ending.specs.declared.ending.Ending.{Ending};
 ghost use Rattle.program_ending.specs.Endings.{status_of, text_of};
 ghost use Rattle.sleep_main.specs.Endings.{GivesRun, IsEndingOf, IsFullNamed, RunEnded, WritesLog, Ended, Completes, Says, stream, streams};
-ghost use Rattle.sleep_main.specs.Words.{asked, is_done};
 ghost use Rattle.sleep_run.specs.Runs.{Fails};
 
 use crate::generated::{soak_generated, write_generated};
 use crate::input::{MOST_MACHINE, read_input};
 use crate::said::is_stuck;
-use crate::told::{tell_locks, tell_stats};
+use crate::told::{tell_idle, tell_locks, tell_stats};
 use command_line::{Command, command_of};
+use idle_loop::IdleSizes;
 use itoa::Buffer;
 use log_text::LogText;
 use machine_file::{MachineFault, ReadMachine, read_machine};
 use program_ending::{Ending, Refusal};
-use sleep_base::{ByteSink, ByteSource, Failed, Mem, write_all};
+use sleep_base::{ByteSink, ByteSource, Failed, write_all};
 use sleep_model::{Log, Machine, Name};
-use sleep_run::{RunFault, run_machine};
+use sleep_run::{Gate, RunFault, run_machine};
 use std::alloc::Global;
 use std::sync::Wait;
+use std::thread::Threads;
 
 /// The name of the source of autosleep.
 fn autosleep() -> Name
@@ -61,10 +62,17 @@ pub struct Ran {
     pub log: Log,
 }
 
-/// The machine that the bytes spell with the log of its run, or how the program ends without one: `Broken` where
+/// The machine that the bytes spell with the log of its run by this number of workers, or how the program ends without one: `Broken` where
 /// they break a rule and so spell none, `SourceFull` where a source's history has no place for a call, `NoMemory` where there is no memory.
 #[tactic(auto, using(crate::proofs::Filling::ended_fault))]
-fn run_of_bytes<R: Wait>(rt: &R, alloc: Global, bytes: &[u8]) -> Result<Ran, Ending>
+fn run_of_bytes<R: Threads + Wait + Sync, G: Gate + Sync>(
+    rt: &R,
+    alloc: Global,
+    bytes: &[u8],
+    workers: u8,
+    gate: &G,
+) -> Result<Ran, Ending>
+    requires { 1 ≤ workers }
     ensures { GivesRun bytes.now result }
 {
     let ReadMachine { machine, links } = match read_machine(alloc, bytes) {
@@ -74,7 +82,7 @@ fn run_of_bytes<R: Wait>(rt: &R, alloc: Global, bytes: &[u8]) -> Result<Ran, End
         }
         Err(MachineFault::Mem) => return Err(Ending::NoMemory),
     };
-    match run_machine(rt, alloc, &machine, links) {
+    match run_machine(rt, alloc, &machine, links, workers, gate) {
         Ok(run) => Ok(Ran {
             machine,
             log: run.log,
@@ -99,14 +107,17 @@ fn write_log<K: ByteSink>(alloc: Global, out: &mut K, ran: &Ran) -> Ending
     }
 }
 
-/// Reads a machine file, runs the machine, and writes its log.
+/// Reads a machine file, runs the machine by this number of workers, and writes its log.
 #[tactic(auto, using(crate::proofs::Filling::ended_without, crate::proofs::Filling::ended_with))]
-fn run_file<R: Wait, S: ByteSource, K: ByteSink>(
+fn run_file<R: Threads + Wait + Sync, S: ByteSource, K: ByteSink, G: Gate + Sync>(
     rt: &R,
     alloc: Global,
+    workers: u8,
     input: &mut S,
     out: &mut K,
+    gate: &G,
 ) -> Ending
+    requires { 1 ≤ workers }
     ensures { RunEnded
         (streams (stream (S.left input.old) (S.faults input.old)) (stream (K.written out.old) (K.faults out.old)))
         (streams (stream (S.left input.new) (S.faults input.new)) (stream (K.written out.new) (K.faults out.new)))
@@ -116,40 +127,21 @@ fn run_file<R: Wait, S: ByteSource, K: ByteSink>(
         Ok(bytes) => bytes,
         Err(ending) => return ending,
     };
-    match run_of_bytes(rt, alloc, &bytes) {
+    match run_of_bytes(rt, alloc, &bytes, workers, gate) {
         Ok(ran) => write_log(alloc, out, &ran),
         Err(ending) => ending,
     }
 }
 
-/// Whether the program does it: as yet a run has one worker.
-fn is_done(command: Command) -> bool
-    ensures { result ≡ is_done command }
-{
-    match command {
-        Command::Run { workers } => workers == 1,
-        Command::Gen { .. } | Command::Soak { .. } | Command::Locks | Command::Stats => true,
-    }
-}
-
-/// What the words ask for; `None` where they are of no form. An error is want of memory.
-fn asked(alloc: Global, words: &[String]) -> Result<Option<Command>, Mem>
-    ensures asks { IfOk result (λ c. c ≡ asked (map string_bytes words.now)) }
-    ensures range { IfOk result (λ c. IfSome c IsInRange) }
-{
-    match command_of(alloc, words)? {
-        Some(command) => Ok(is_done(command).then_some(command)),
-        None => Ok(None),
-    }
-}
-
 /// Does what a command says, and answers how it ended.
-fn do_command<R: Wait, S: ByteSource, K: ByteSink>(
+#[tactic(auto, using(crate::proofs::Idling::idle_sizes))]
+fn do_command<R: Threads + Wait + Sync, S: ByteSource, K: ByteSink, G: Gate + Sync>(
     rt: &R,
     alloc: Global,
     command: Command,
     input: &mut S,
     out: &mut K,
+    gate: &G,
 ) -> Ending
     requires { IsInRange command }
     ensures { Ended (Some command)
@@ -158,29 +150,43 @@ fn do_command<R: Wait, S: ByteSource, K: ByteSink>(
         result }
 {
     match command {
-        Command::Run { .. } => run_file(rt, alloc, input, out),
+        Command::Run { workers } => run_file(rt, alloc, workers as u8, input, out, gate),
         Command::Gen { seed, devices } => write_generated(alloc, seed, devices, out),
         Command::Soak { seed, devices } => soak_generated(rt, alloc, seed, devices, out),
         Command::Locks => tell_locks(rt, alloc, input, out),
         Command::Stats => tell_stats(alloc, input, out),
+        Command::Idle {
+            wakers,
+            events,
+            sessions,
+            workers,
+        } => {
+            let sizes = IdleSizes {
+                wakers,
+                events,
+                sessions,
+            };
+            tell_idle(rt, alloc, sizes, workers, out)
+        }
     }
 }
 
 /// Does what the words say, and answers how it ended.
-fn do_words<R: Wait, S: ByteSource, K: ByteSink>(
+fn do_words<R: Threads + Wait + Sync, S: ByteSource, K: ByteSink, G: Gate + Sync>(
     rt: &R,
     alloc: Global,
     words: &[String],
     input: &mut S,
     out: &mut K,
+    gate: &G,
 ) -> Ending
-    ensures { Ended (asked (map string_bytes words.now))
+    ensures { Ended (command_of (map string_bytes words.now))
         (streams (stream (S.left input.old) (S.faults input.old)) (stream (K.written out.old) (K.faults out.old)))
         (streams (stream (S.left input.new) (S.faults input.new)) (stream (K.written out.new) (K.faults out.new)))
         result }
 {
-    match asked(alloc, words) {
-        Ok(Some(command)) => do_command(rt, alloc, command, input, out),
+    match command_of(alloc, words) {
+        Ok(Some(command)) => do_command(rt, alloc, command, input, out, gate),
         Ok(None) => Ending::NoForm,
         Err(_) => Ending::NoMemory,
     }
@@ -249,13 +255,15 @@ pub fn say<K: ByteSink>(err: &mut K, ending: &Ending)
 
 /// The whole program. The first word is its name, and those behind it say what it does:
 ///
-/// - `run --workers 1`, also in one word as `--workers=1`: reads a machine file from `input`, runs the machine, and
-///   writes its log to `out`.
+/// - `run`, or `run --workers N`, also in one word as `--workers=N`: reads a machine file from `input`, runs the machine
+///   by N workers, 1 to 64 and else 4, and writes its log to `out`; `gate` sees the workers' turns.
 /// - `gen SEED DEVICES`: writes the file of the generated machine of a seed of 64 bits with 1 to 1,000 devices.
 /// - `soak SEED DEVICES`: runs that machine, and writes the line of its log's numbers.
 /// - `locks`: reads lines that lock and unlock names, and writes their answers and the statistics of each name.
 /// - `stats`: reads a machine file of one line and a log of it behind that, and writes what the log counts, its last
 ///   failures, the longest chain of devices at its end, and each device's level.
+/// - `idle WAKERS EVENTS SESSIONS`, with the option of `run` behind it: runs 1 to 16 wakers of 1 to 1,000 events each against
+///   the idler of 1 to 1,000 sessions, and writes the log of suspend-to-idle.
 ///
 /// The answer is the status, and `err` is told what it means:
 ///
@@ -269,29 +277,30 @@ pub fn say<K: ByteSink>(err: &mut K, ending: &Ending)
 /// - 8: there was no memory.
 ///
 /// At 2, 3, 4, 7 and 8 nothing is written to `out`. Where no fault is counted, an input that spells a machine none
-/// of whose sources can be filled gives 0, 6 or 8, `gen` gives 0 or 8, `soak` 0, 6 or 8, `locks` 0 or 8 of lines that are
+/// of whose sources can be filled gives 0, 6 or 8, `gen` and `idle` give 0 or 8, `soak` 0, 6 or 8, `locks` 0 or 8 of lines that are
 /// of a form and fill no source, and `stats` 0 or 8 of a machine and a log that fits it, no link of which is refused.
-/// `gen` and `soak` leave `input` unread.
-pub fn run_words<R: Wait, S: ByteSource, K: ByteSink>(
+/// `gen`, `soak` and `idle` leave `input` unread.
+pub fn run_words<R: Threads + Wait + Sync, S: ByteSource, K: ByteSink, G: Gate + Sync>(
     rt: &R,
     alloc: Global,
     words: &[String],
     input: &mut S,
     out: &mut K,
     err: &mut K,
+    gate: &G,
 ) -> u8
     ensures ended { (ending : Ending) × (result ≡ status_of ending)
-        × Ended (asked (map string_bytes words.now))
+        × Ended (command_of (map string_bytes words.now))
         (streams (stream (S.left input.old) (S.faults input.old)) (stream (K.written out.old) (K.faults out.old)))
         (streams (stream (S.left input.new) (S.faults input.new)) (stream (K.written out.new) (K.faults out.new)))
         ending
         × Says (K.written err.old) (K.written err.new) (K.faults err.old) (K.faults err.new) (text_of ending) }
-    ensures complete { Completes (asked (map string_bytes words.now))
+    ensures complete { Completes (command_of (map string_bytes words.now))
         (streams (stream (S.left input.old) (S.faults input.old)) (stream (K.written out.old) (K.faults out.old)))
         (streams (stream (S.left input.new) (S.faults input.new)) (stream (K.written out.new) (K.faults out.new)))
         result }
 {
-    let ending = do_words(rt, alloc, words, input, out);
+    let ending = do_words(rt, alloc, words, input, out, gate);
     say(err, &ending);
     ending.status()
 }

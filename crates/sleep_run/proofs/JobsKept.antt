@@ -15,7 +15,7 @@ use Rattle.sleep_run.specs.JobsOf.{AreAllJobs, JobsState, job_at, HasJob, with_j
 
 -- ---- lists
 
-any_default : {A : Type 0} (xs : List A) (i : ℕ) (d e : A) → i < length xs → slice_index_or xs i d ≡ slice_index_or xs i e
+pub any_default : {A : Type 0} (xs : List A) (i : ℕ) (d e : A) → i < length xs → slice_index_or xs i d ≡ slice_index_or xs i e
 any_default [] i d e l = absurd (omega arith)
 any_default (y ∷ ys) zero d e l = refl
 any_default (y ∷ ys) (suc i) d e l = any_default ys i d e (omega (arith, l))

@@ -17,7 +17,7 @@ one_at_most : (b : Bool) → one_if b ≤ 1
 one_at_most true = omega arith
 one_at_most false = omega arith
 
-owing_few : (xs : List JobState) → owing_of xs ≤ length xs
+pub owing_few : (xs : List JobState) → owing_of xs ≤ length xs
 owing_few [] = omega arith
 owing_few (x ∷ xs) = omega (arith, one_at_most (owes x), owing_few xs)
 

@@ -1,7 +1,9 @@
+pub mod BurstsOf
 pub mod JobsFields
 pub mod JobsOf
 pub mod Refused
 pub mod RunFields
 pub mod Runs
+pub mod TasksOf
 pub mod Tries
 pub mod Waits

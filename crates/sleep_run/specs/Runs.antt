@@ -1,5 +1,5 @@
 -- A run of a machine, as far as it has come.
-use Rattle.std.specs.Prelude.{◌≡◌, ◌≤◌, ◌<◌, ◌+◌, ◌⊎◌, Bool, true, false, ℕ, List, [], ◌∷◌, length, reverse, None, Result, Ok, Err}
+use Rattle.std.specs.Prelude.{◌≡◌, ◌≤◌, ◌<◌, ◌+◌, ◌⊎◌, Bool, true, false, ℕ, List, [], ◌∷◌, length, reverse, Option, Some, None, Result, Ok, Err}
 use Rattle.std.specs.List.{list_any}
 use Rattle.sleep_model.specs.declared.entry.Actor.{Actor}
 use Rattle.sleep_model.specs.declared.entry.JournalEntry.{JournalEntry}
@@ -128,6 +128,12 @@ AfterAll run (Ok GoesOn) = ⊥
 AfterAll run (Ok (Finished word)) = IsSeen run word × (is_over run word ≡ true)
 AfterAll run (Ok (Stuck word)) = IsSeen run word × IsHalted run word
 AfterAll run (Err fault) = IsRefused run fault
+
+-- after rounds of the caller's own the run goes on, or is over
+abbrev pub AfterGoing : RunState → Result (Option Rest) RunFault → Type 0
+AfterGoing run (Ok None) = Unit {0}
+AfterGoing run (Ok (Some rest)) = AfterAll run (Ok rest)
+AfterGoing run (Err fault) = IsRefused run fault
 
 -- the run is over, and ends so, by a word that was looked at last
 abbrev pub EndsSo : RunState → LogEnd → Type 0

@@ -17,9 +17,9 @@ use std::marker::Model;
 /// The jobs of the scripts, the autosleep work and the devices, by number.
 #[derive(Drop)]
 pub(crate) struct Jobs<'m> {
-    scripts: Vec<Job<'m>>,
-    auto: Job<'m>,
-    devices: Vec<Job<'m>>,
+    pub(crate) scripts: Vec<Job<'m>>,
+    pub(crate) auto: Job<'m>,
+    pub(crate) devices: Vec<Job<'m>>,
     /// How many of them have a call on a source to make.
     owing: u32,
 }
@@ -70,8 +70,8 @@ fn device_jobs<'m>(
     Ok(jobs)
 }
 
-/// How many of these scripts have a call on a source to make.
-fn owing_scripts(jobs: &[Job<'_>]) -> u32
+/// How many of these have a call on a source to make.
+fn owing_among(jobs: &[Job<'_>]) -> u32
     requires { length jobs.now < 2 ^ 30 }
     ensures is { result ≡ owing_of jobs.now }
 {
@@ -112,7 +112,24 @@ impl<'m> Jobs<'m> {
         requires none { owing_of devices.items ≡ 0 }
         ensures { result ≡ record { scripts = scripts.entry.items; auto = auto.entry; devices = devices.entry.items } }
     {
-        let owing = owing_scripts(scripts.as_slice());
+        let owing = owing_among(scripts.as_slice());
+        Jobs {
+            scripts,
+            auto,
+            devices,
+            owing,
+        }
+    }
+
+    /// These jobs, and how many of them have a call to make.
+    pub(crate) fn counted(scripts: Vec<Job<'m>>, auto: Job<'m>, devices: Vec<Job<'m>>) -> Self
+        requires scripts { length scripts.items < 2 ^ 30 }
+        requires devices { length devices.items < 2 ^ 30 }
+        ensures { result ≡ record { scripts = scripts.entry.items; auto = auto.entry; devices = devices.entry.items } }
+    {
+        let scripts_owing = owing_among(scripts.as_slice());
+        let devices_owing = owing_among(devices.as_slice());
+        let owing = more_owing(auto.owes(), scripts_owing + devices_owing);
         Jobs {
             scripts,
             auto,

@@ -1,6 +1,6 @@
 //! Rounds over the actors, and a whole run.
 
-ghost use Rattle.std.specs.Prelude.{◌≡◌, true, reverse, IfOk, IfErr};
+ghost use Rattle.std.specs.Prelude.{◌≡◌, ◌≤◌, true, reverse, IfOk, IfErr};
 ghost use Rattle.sleep_model.specs.Accepted.{IsAccepted};
 ghost use Rattle.sleep_model.specs.Order.{parents_of};
 ghost use Rattle.sleep_run.specs.Runs.{Fails, IsRun};
@@ -9,14 +9,16 @@ use crate::rest::Rest;
 use crate::run::{Run, RunEnd, RunFault, Tried};
 use answer_book::AnswerBook;
 use device_links::Links;
-use sleep_model::{Actor, Log, Machine, Want};
+use run_world::Gate;
+use sleep_model::{Actor, Log, Machine, Want, Why};
 use std::alloc::Global;
 use std::sync::Wait;
+use std::thread::Threads;
 
 impl<'m> Run<'m> {
     ghost use Rattle.std.specs.Prelude.{◌≡◌, ◌≤◌, ◌<◌, length, IfSome, IfOk, IfErr};
     ghost use Rattle.sleep_core.specs.Cores.{IsActor};
-    ghost use Rattle.sleep_run.specs.Runs.{Fails, IsRefused, IsRun, AfterTry, AfterAll};
+    ghost use Rattle.sleep_run.specs.Runs.{Fails, IsRefused, IsRun, IsSame, AfterTry, AfterAll};
     ghost use Rattle.sleep_run.specs.Tries.{AfterAsking};
 
     /// An actor's try in a round: its next call on a source, else its turn. What the core answers to a turn.
@@ -29,10 +31,30 @@ impl<'m> Run<'m> {
         match self.jobs.next(who) {
             Want::Source(source, call) => {
                 self.call(rt, who, source, call)?;
+                self.wake_readers(rt);
                 Ok(Tried::Made)
             }
             Want::Core => self.turn(rt, who),
             Want::Nothing => Ok(Tried::Gone),
+        }
+    }
+
+    /// An actor that was woken for the autosleep lock has had its try.
+    fn pass_lock(&mut self, who: Actor, tried: &Tried)
+        ensures { self.new ≡ self.old }
+    {
+        let scripts = self.machine.actors.len() as u32;
+        let is_held = matches!(tried, Tried::Waits(Why::LockHeld));
+        self.waiters.had_lock_turn(who, is_held, scripts);
+    }
+
+    /// Wakes the readers of the count, where no event is in progress.
+    #[inline(always)]
+    fn wake_readers<R: Wait>(&mut self, rt: &R)
+        ensures { IsSame self.old self.new }
+    {
+        if self.waiters.has_readers() && self.look(rt).inpr == 0 {
+            self.waiters.wake_readers();
         }
     }
 
@@ -43,7 +65,11 @@ impl<'m> Run<'m> {
         ensures machine { self.new.machine ≡ self.old.machine }
         ensures after { AfterTry self.old self.new result }
     {
-        match self.ask(rt, who)? {
+        let tried = self.ask(rt, who)?;
+        if self.waiters.has_lock_turn(who) {
+            self.pass_lock(who, &tried);
+        }
+        match tried {
             Tried::Made => Ok(true),
             Tried::Waits(why) => {
                 self.waiters.waits(who, why);
@@ -123,6 +149,7 @@ impl<'m> Run<'m> {
     {
         if self.has_expired(source) {
             self.expire(rt, source)?;
+            self.wake_readers(rt);
             Ok(true)
         } else {
             Ok(false)
@@ -158,7 +185,7 @@ impl<'m> Run<'m> {
     /// One round: each actor that may have something to do gets one try, the scripts first, then the autosleep
     /// work, the devices and the timers. Whether entries were made.
     #[inline(always)]
-    fn round<R: Wait>(&mut self, rt: &R) -> Result<bool, RunFault>
+    pub(crate) fn round<R: Wait>(&mut self, rt: &R) -> Result<bool, RunFault>
         ensures machine { self.new.machine ≡ self.old.machine }
         ensures after { AfterTry self.old self.new result }
     {
@@ -171,7 +198,7 @@ impl<'m> Run<'m> {
     }
 
     /// Rounds, for as long as each makes entries. Whether the last one did.
-    fn rounds<R: Wait>(&mut self, rt: &R) -> Result<bool, RunFault>
+    pub(crate) fn rounds<R: Wait>(&mut self, rt: &R) -> Result<bool, RunFault>
         ensures machine { self.new.machine ≡ self.old.machine }
         ensures fault { IfErr result (IsRefused self.new) }
     {
@@ -210,24 +237,47 @@ impl<'m> Run<'m> {
             Err(fault) => Err(self.into_fault(rt, alloc, fault)?),
         }
     }
+
+    /// The log of the whole run: one worker makes all rounds, several make bursts between rounds.
+    fn to_end<R: Threads + Wait + Sync, G: Gate + Sync>(
+        self,
+        rt: &R,
+        alloc: Global,
+        workers: u8,
+        gate: &G,
+    ) -> Result<Log, RunFault>
+        requires { 1 ≤ workers }
+        ensures ok { IfOk result (λ log. IsRun self.entry.machine log) }
+        ensures fault { IfErr result (Fails self.entry.machine) }
+    {
+        if workers == 1 {
+            self.finish(rt, alloc)
+        } else {
+            self.finish_by(rt, alloc, workers, gate)
+        }
+    }
 }
 
-/// Runs a machine to its end with one worker, on the caller's thread. `SourceFull` where the history of a source,
-/// which has 60,000 places, has fewer than four left for a call: only where the machine's calls may need so
-/// many. `Mem` where there is no memory.
-pub fn run_machine<R: Wait>(
+/// Runs a machine to its end by 1 to 64 workers: with one, rounds on the caller's thread; with more, bursts
+/// on threads with rounds of the caller's own between them, and `gate` sees the workers' turns. `SourceFull` where
+/// the history of a source, which has 60,000 places, has fewer than four left for a call: only where the machine's calls
+/// may need that many places. `Mem` where there is no memory.
+pub fn run_machine<R: Threads + Wait + Sync, G: Gate + Sync>(
     rt: &R,
     alloc: Global,
     machine: &Machine,
     links: Links,
+    workers: u8,
+    gate: &G,
 ) -> Result<RunEnd, RunFault>
     requires accepted { IsAccepted machine.now }
     requires links { links ≡ record { parents = parents_of machine.now.devices; links = reverse machine.now.links } }
+    requires workers { 1 ≤ workers }
     ensures ok { IfOk result (λ end. IsRun machine.now end.log) }
     ensures fault { IfErr result (Fails machine.now) }
 {
     let book = AnswerBook::new(alloc, machine.answers.as_slice())?;
     let run = Run::new(alloc, machine, &book, links)?;
-    let log = run.finish(rt, alloc)?;
+    let log = run.to_end(rt, alloc, workers, gate)?;
     Ok(RunEnd { log })
 }

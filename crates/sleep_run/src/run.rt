@@ -310,9 +310,9 @@ impl<'m> Run<'m> {
         }
     }
 
-    /// Wakes those that may have something to do by an entry.
+    /// Wakes those that may have something to do by an actor's entry.
     #[inline(always)]
-    fn wake_after(&mut self, kind: Kind)
+    fn wake_after(&mut self, who: Actor, kind: Kind)
         ensures { self.new ≡ self.old }
     {
         match kind {
@@ -323,7 +323,10 @@ impl<'m> Run<'m> {
                 self.wake_after_end(phase, device);
             }
             Kind::Post(mark) => self.waiters.wake_for_mark(mark),
-            Kind::Over { .. } | Kind::AutoDone | Kind::AutoOff => self.waiters.wake_for_lock(),
+            Kind::Over { .. } | Kind::AutoDone | Kind::AutoOff => {
+                let scripts = self.machine.actors.len() as u32;
+                self.waiters.wake_for_lock(who, scripts);
+            }
             Kind::Freeze(_) | Kind::Thaw(_) | Kind::Wake { .. } => self.waiters.wake_scripts(),
             Kind::Frozen | Kind::Exit => self.waiters.wake_for_word(),
             _ => {}
@@ -356,7 +359,7 @@ impl<'m> Run<'m> {
                 kinds_are_ranged(kind);
                 self.floor = stamp;
                 self.jobs.told_turn(who, stamp, kind, attempt);
-                self.wake_after(kind);
+                self.wake_after(who, kind);
                 Ok(Tried::Made)
             }
             CoreTurn::NotYet(why) => Ok(Tried::Waits(why)),

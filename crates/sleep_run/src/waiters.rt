@@ -12,8 +12,9 @@ use std::alloc::Global;
 #[derive(Drop)]
 pub(crate) struct Waiters {
     scripts: Asks,
-    /// Scripts that wait for events to end, for a wakeup, for the machine to wake, or as makers of an attempt
-    /// for tasks.
+    /// Scripts that read the count, and wait until no event is in progress.
+    readers: Asks,
+    /// Scripts that wait for a wakeup, for the machine to wake, or as makers of an attempt for tasks.
     for_word: Asks,
     /// The device that the maker of an attempt waits for.
     awaited: Option<u32>,
@@ -23,6 +24,8 @@ pub(crate) struct Waiters {
     /// Those of them that wait for each mark.
     by_mark: Vec<Asks>,
     for_lock: Asks,
+    /// The one of them that was woken last, and whose try is to come.
+    next_for_lock: Option<u32>,
     /// Scripts that sleep.
     asleep: Asks,
     frozen: Asks,
@@ -72,12 +75,14 @@ impl Waiters {
         }
         Ok(Waiters {
             scripts: all,
+            readers: Asks::new(alloc, scripts)?,
             for_word: Asks::new(alloc, scripts)?,
             awaited: None,
             maker: None,
             for_mark: Asks::new(alloc, scripts)?,
             by_mark: none_by_mark(alloc, scripts, marks)?,
             for_lock: Asks::new(alloc, scripts)?,
+            next_for_lock: None,
             asleep: Asks::new(alloc, scripts)?,
             frozen: Asks::new(alloc, scripts)?,
             auto: true,
@@ -149,6 +154,7 @@ impl Waiters {
         self.scripts.remove(script);
         match why {
             Why::Mark(mark) => self.waits_for_mark(script, mark),
+            Why::InProgress => self.readers.insert(script),
             Why::LockHeld => self.for_lock.insert(script),
             Why::Until(_) => self.asleep.insert(script),
             Why::Frozen => self.frozen.insert(script),
@@ -222,6 +228,17 @@ impl Waiters {
         self.auto = true;
     }
 
+    /// Whether a reader of the count waits.
+    #[inline(always)]
+    pub(crate) fn has_readers(&self) -> bool {
+        !self.readers.is_empty()
+    }
+
+    /// Wakes the readers of the count, since no event is in progress.
+    pub(crate) fn wake_readers(&mut self) {
+        self.scripts.take(&mut self.readers);
+    }
+
     /// Wakes those that wait for that mark, which was raised.
     #[inline(never)]
     pub(crate) fn wake_for_mark(&mut self, mark: u32) {
@@ -230,18 +247,61 @@ impl Waiters {
         }
     }
 
-    /// Wakes those that wait for the autosleep lock, which was let go, and the work, which may be queued.
+    /// An actor has let the autosleep lock go: wakes the next of the scripts, of which there are `many`, that wait for the
+    /// lock, and the work, which may be queued.
     #[inline(never)]
-    pub(crate) fn wake_for_lock(&mut self) {
-        self.scripts.take(&mut self.for_lock);
+    pub(crate) fn wake_for_lock(&mut self, who: Actor, many: u32) {
         self.auto = true;
+        match who {
+            Actor::Script(script) => self.pass_lock(script, many),
+            _ => self.wake_next_for_lock(0, many),
+        }
+    }
+
+    /// Wakes the next behind a script that waits for the lock, the first one behind the last.
+    fn pass_lock(&mut self, script: u32, many: u32) {
+        self.wake_next_for_lock(script.saturating_add(1), many);
+        if self.next_for_lock.is_none() {
+            self.wake_next_for_lock(0, many);
+        }
+    }
+
+    /// Wakes the first from a number on that waits for the lock.
+    fn wake_next_for_lock(&mut self, from: u32, many: u32) {
+        self.next_for_lock = self.for_lock.next(from, many);
+        if let Some(script) = self.next_for_lock {
+            self.for_lock.remove(script);
+            self.scripts.insert(script);
+        }
+    }
+
+    /// Whether that actor was woken for the lock, and this is its try.
+    #[inline(always)]
+    pub(crate) fn has_lock_turn(&self, who: Actor) -> bool {
+        match (who, self.next_for_lock) {
+            (Actor::Script(script), Some(next)) => script == next,
+            _ => false,
+        }
+    }
+
+    /// The script that was woken for the lock has had its try. Where the lock was free, the next one is woken.
+    #[inline(never)]
+    pub(crate) fn had_lock_turn(&mut self, who: Actor, is_held: bool, many: u32) {
+        self.next_for_lock = None;
+        if let Actor::Script(script) = who
+            && !is_held
+        {
+            self.pass_lock(script, many);
+        }
     }
 
     /// Wakes the scripts that wait, but for those that sleep or are frozen.
     fn wake_but_sleepers(&mut self) {
         self.wake_for_word();
+        self.wake_readers();
         self.scripts.take(&mut self.for_mark);
-        self.wake_for_lock();
+        self.scripts.take(&mut self.for_lock);
+        self.next_for_lock = None;
         self.wake_any_maker();
     }
 

@@ -251,7 +251,7 @@ fn act_timer<'m, R: Wait, G: Gate>(
     }
 }
 
-/// One try of a task of that actor: the call on a source that is next, else a turn of the machine. The task is told
+/// One try of a task of that actor: the call on a source that is next, else a turn of the machine. The task notes
 /// what was made, and the pass made just that. It takes one lock, or none.
 pub fn act<'m, R: Wait, G: Gate>(
     world: &World<'_, 'm, R, G>,

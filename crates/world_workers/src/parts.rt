@@ -9,7 +9,7 @@ use sleep_model::{Actor, Machine};
 /// What is the same in each burst of a run.
 #[derive(Drop)]
 pub struct BurstPlan<'w, 'm, G> {
-    /// Who is told of the turns.
+    /// Who sees the turns.
     pub gate: &'w G,
     /// The event word.
     pub table: &'w EventTable,

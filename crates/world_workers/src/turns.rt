@@ -9,7 +9,7 @@ use run_world::{Gate, World, WorldPass};
 use sleep_pool::{Job as Work, Turn};
 use std::sync::Wait;
 
-/// What the pool is told of a try.
+/// The answer to the pool for a try.
 fn turn_of(tried: Tried) -> Turn {
     match tried {
         Tried::Made => Turn::Did,

@@ -1,4 +1,4 @@
-use Rattle.std.proofs.Common.{ℕ, ◌+◌, List, [], get_or, take, length, reverse, sym, subst}
+use Rattle.std.proofs.Common.{◌+◌, List, get_or, take, length, reverse, sym, subst}
 use Rattle.std.proofs.lemmas.List.{get_or_default}
 use Rattle.idle_loop.specs.declared.entry.IdleEntry.{IdleEntry}
 use Rattle.idle_loop.specs.declared.entry.IdleKind.TheVariants.{Hard}

@@ -1,5 +1,3 @@
-use Rattle.std.proofs.Common.{reverse, take, drop, length}
-use Rattle.idle_merge.specs.Merging.{Merges, SeeMore}
 use Rattle.idle_merge.proofs.Placing.{IsPlaced}
 use Rattle.idle_merge.proofs.merge.merge_idle.Given as goal
 

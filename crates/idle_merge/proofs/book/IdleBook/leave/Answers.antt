@@ -1,4 +1,4 @@
-use Rattle.std.proofs.Common.{◌≤◌, refl, ◌≡◌, true, false, reverse, vec_len, vec_capacity, subst, sym, ap, ◌∙◌, arith}
+use Rattle.std.proofs.Common.{◌≤◌, refl, reverse, vec_len, vec_capacity, subst, sym, ◌∙◌, arith}
 use Rattle.idle_loop.specs.declared.entry.IdleKind.TheVariants.{Leave}
 use Rattle.idle_merge.specs.Books.{Book}
 use Rattle.idle_merge.proofs.Booking.{room_left, saw_grown, counted_soft, book_grown, book_leave}

@@ -1,8 +1,7 @@
-use Rattle.std.proofs.Common.{refl, ◌≡◌, ◌≤◌, ◌<◌, ◌++◌, ◌∷◌, [], true, reverse, vec_len, vec_capacity, ap, subst, sym, ◌∙◌, arith}
+use Rattle.std.proofs.Common.{refl, ◌≡◌, ◌≤◌, ◌++◌, ◌∷◌, [], true, reverse, vec_len, vec_capacity, ap, subst, sym, ◌∙◌, arith}
 use Rattle.idle_loop.specs.declared.entry.IdleState.TheVariants as state
 use Rattle.idle_loop.specs.declared.entry.IdleKind.{IdleKind}
 use Rattle.idle_loop.specs.declared.entry.IdleKind.TheVariants.{TryOk, TryBusy}
-use Rattle.idle_loop.specs.declared.entry.IdleEntry.{IdleEntry}
 use Rattle.idle_loop.specs.IdleLogs.{is_wake}
 use Rattle.idle_loop.specs.Gates.{tried}
 use Rattle.idle_merge.specs.Books.{Book, Forgot}

@@ -1,0 +1,23 @@
+use Rattle.std.proofs.Common.{◌<◌, ◌∙◌, ℕ, length, sym, ap, subst}
+use Rattle.sleep_run.specs.TasksOf.{AreJobsOf, highest, jobs_in}
+use Rattle.sleep_run.proofs.Away.{back_few, back_jobs, back_running, back_there}
+use Rattle.sleep_run.proofs.bursts.Away.come_back.Goals as goal
+
+pub of_tasks-requires-clause-few : goal.of_tasks-requires-clause-few
+of_tasks-requires-clause-few c = back_few _ _ _ _ _ _ c.requires
+
+pub of_tasks-requires-clause-there : goal.of_tasks-requires-clause-there
+of_tasks-requires-clause-there c =
+    subst (λ (n : ℕ). n < length (jobs_in c.args.parts.tasks.items)) (sym c.len.ensures) (back_there _ _ _ _ _ _ c.requires)
+
+pub invariant_of-result : goal.invariant_of-result
+invariant_of-result c =
+    let are = subst (λ (n : ℕ). AreJobsOf (jobs_in c.args.parts.tasks.items) n c.in_ok-jobs.jobs) c.len.ensures c.in_ok-jobs.ensures in
+    let top = c.highest_of-floor.ensures ∙ ap (highest c.args.self.floor) c.deref.ensures.value in
+    record {
+      machine_is = c.requires.machine_is;
+      running = back_running _ _ _ _ _ _ c.requires c.in_ok-jobs.jobs are c.highest_of-floor.result top;
+      all_jobs = back_jobs _ _ _ _ _ _ c.requires c.in_ok-jobs.jobs are;
+      table = c.requires.table_is;
+      seats = c.requires.seats;
+    }

@@ -1,0 +1,314 @@
+//! Bursts: the actors' turns on worker threads, between the caller's own rounds.
+
+ghost use Rattle.std.specs.Prelude.{◌≡◌, ◌≤◌, IfOk};
+ghost use Rattle.sleep_run.specs.declared.run.RunFault.TheVariants as fault;
+
+use crate::jobs::Jobs;
+use crate::pace::Pace;
+use crate::rest::Rest;
+use crate::run::{Run, RunFault};
+use crate::tasks::{actors_of, highest_of};
+use crate::waiters::Waiters;
+use event_word::EventTable;
+use run_world::Gate;
+use sleep_base::Mem;
+use sleep_model::{Log, Machine, Stamp};
+use std::alloc::Global;
+use std::sync::Wait;
+use std::thread::Threads;
+use wakeup_source::MOST_ENTRIES;
+use world_workers::{Burst, BurstParts, BurstPlan, Stop, make_burst};
+
+/// The most entries of a journal at which a burst is begun, far above what memory holds.
+const MOST_JOURNAL: usize = 1 << 62;
+
+/// What stays of a run while its core, its sources and its jobs are in a burst.
+#[derive(Drop)]
+struct Away<'m> {
+    machine: &'m Machine,
+    table: EventTable,
+    floor: Stamp,
+    waiters: Waiters,
+}
+
+/// A run after a burst.
+#[derive(Drop)]
+struct AfterBurst<'m> {
+    run: Run<'m>,
+    /// How many turns did something, but for those of the busiest task.
+    beside: u64,
+    /// How many tasks there were.
+    tasks: usize,
+    /// The least source at which a worker stopped, since it had no place left.
+    full: Option<u32>,
+}
+
+/// The source at which a worker stopped, if one did; `Mem` where a worker stopped for want of memory.
+fn full_at(stop: Option<Stop>) -> Result<Option<u32>, Mem> {
+    match stop {
+        Some(Stop::Mem { .. }) => Err(Mem),
+        Some(Stop::Full { source, .. }) => Ok(Some(source)),
+        None => Ok(None),
+    }
+}
+
+impl<'m> Away<'m> {
+    ghost use Rattle.std.specs.Prelude.{◌≡◌, ◌≤◌, IfOk};
+    ghost use Rattle.sleep_run.specs.BurstsOf.{IsAway, IsBack};
+
+    /// The burst of these parts.
+    fn make<R: Threads + Wait + Sync, G: Gate + Sync>(
+        &self,
+        rt: &R,
+        alloc: Global,
+        parts: BurstParts<'m>,
+        workers: u8,
+        gate: &G,
+    ) -> Result<Burst<'m>, Mem>
+        requires away { IsAway self.now.machine.now self.now.table.desk.shared.table_id self.now.floor
+            parts.core parts.sources.items parts.tasks.items }
+        requires workers { 1 ≤ workers }
+        ensures { IfOk result (λ made. IsBack self.now.machine.now self.now.table.desk.shared.table_id self.now.floor
+            made.parts.core made.parts.sources.items made.parts.tasks.items) }
+    {
+        let actors = actors_of(
+            alloc,
+            self.machine.actors.len() as u32,
+            self.machine.devices.len() as u32,
+            self.machine.sources.len() as u32 + 1,
+        )?;
+        let plan = BurstPlan {
+            gate,
+            table: &self.table,
+            machine: self.machine,
+            actors: &actors,
+            workers,
+        };
+        make_burst(rt, alloc, &plan, parts)
+    }
+
+    /// The run again, with what came back from a burst. Everybody is to be asked.
+    fn come_back(self, alloc: Global, parts: BurstParts<'m>) -> Result<Run<'m>, Mem>
+        requires { IsBack self.machine.now self.table.desk.shared.table_id self.floor
+            parts.core parts.sources.items parts.tasks.items }
+        ensures { IfOk result (λ run. run.machine ≡ self.entry.machine.now) }
+    {
+        let Away {
+            machine,
+            table,
+            floor,
+            mut waiters,
+        } = self;
+        let BurstParts {
+            core,
+            sources,
+            tasks,
+        } = parts;
+        let floor = highest_of(&tasks, floor);
+        let jobs = Jobs::of_tasks(alloc, tasks, machine.actors.len())?;
+        waiters.wake_all();
+        Ok(Run {
+            machine,
+            table,
+            seated: core,
+            sources,
+            jobs,
+            floor,
+            waiters,
+        })
+    }
+}
+
+impl<'m> Run<'m> {
+    ghost use Rattle.std.specs.Prelude.{◌≡◌, ◌≤◌, ◌<◌, ◌+◌, ◌^◌, length, IfOk, IfErr, IfSome};
+    ghost use Rattle.std.specs.Bool.{OnTrue};
+    ghost use Rattle.sleep_run.specs.BurstsOf.{IsAway};
+    ghost use Rattle.sleep_run.specs.Runs.{AfterGoing, Fails, IsRefused, IsRun};
+
+    /// Whether the journal is so short that no job comes to the end of its numbers in a burst.
+    fn is_short(&self) -> bool
+        ensures { OnTrue result (length self.now.journal + 1000 < 2 ^ 63) }
+    {
+        self.core().len() <= MOST_JOURNAL
+    }
+
+    /// The parts that go into a burst, and what stays. `Mem` where there is no memory.
+    fn leave(self, alloc: Global) -> Result<(Away<'m>, BurstParts<'m>), Mem>
+        requires { length self.journal + 1000 < 2 ^ 63 }
+        ensures machine { IfOk result (λ parts. parts.0.machine.now ≡ self.entry.machine) }
+        ensures away { IfOk result (λ parts. IsAway parts.0.machine.now parts.0.table.desk.shared.table_id parts.0.floor
+            parts.1.core parts.1.sources.items parts.1.tasks.items) }
+    {
+        let Run {
+            machine,
+            table,
+            seated: core,
+            sources,
+            jobs,
+            floor,
+            waiters,
+        } = self;
+        let tasks = jobs.into_tasks(alloc, sources.len() as u32, floor)?;
+        let away = Away {
+            machine,
+            table,
+            floor,
+            waiters,
+        };
+        let parts = BurstParts {
+            core,
+            sources,
+            tasks,
+        };
+        Ok((away, parts))
+    }
+
+    /// A burst by this number of workers: each actor of the machine, and each source's timer, makes turns as long as it can.
+    /// `Mem` where there is no memory, for the burst or for one of them.
+    fn burst<R: Threads + Wait + Sync, G: Gate + Sync>(
+        self,
+        rt: &R,
+        alloc: Global,
+        workers: u8,
+        gate: &G,
+    ) -> Result<AfterBurst<'m>, Mem>
+        requires { 1 ≤ workers }
+        ensures { IfOk result (λ after. after.run.machine ≡ self.entry.machine) }
+    {
+        if !self.is_short() {
+            return Err(Mem);
+        }
+        let (away, parts) = self.leave(alloc)?;
+        let tasks = parts.tasks.len();
+        let Burst {
+            parts,
+            beside,
+            stop,
+            ..
+        } = away.make(rt, alloc, parts, workers, gate)?;
+        let full = full_at(stop)?;
+        let run = away.come_back(alloc, parts)?;
+        Ok(AfterBurst {
+            run,
+            beside,
+            tasks,
+            full,
+        })
+    }
+
+    /// Whether that source has fewer than the four places that a call may need.
+    fn is_full(&self, source: u32) -> bool
+        ensures { OnTrue result (IsRefused self.now (fault.SourceFull source)) }
+    {
+        match self.sources.get(source as usize) {
+            Some(one) => MOST_ENTRIES < one.source().history().len() + 4,
+            None => false,
+        }
+    }
+
+    /// Why the run gives nothing, where a worker stopped at that source and the source is full.
+    fn refused(&self, full: Option<u32>) -> Option<RunFault>
+        ensures { IfSome result (IsRefused self.now) }
+    {
+        match full {
+            Some(source) if self.is_full(source) => Some(RunFault::SourceFull(source)),
+            _ => None,
+        }
+    }
+
+    /// A burst, and whether it filled a source.
+    fn after_burst<R: Threads + Wait + Sync, G: Gate + Sync>(
+        self,
+        rt: &R,
+        alloc: Global,
+        workers: u8,
+        gate: &G,
+        pace: &mut Pace,
+    ) -> Result<(Run<'m>, Option<RunFault>), Mem>
+        requires { 1 ≤ workers }
+        ensures machine { IfOk result (λ after. after.0.machine ≡ self.entry.machine) }
+        ensures refused { IfOk result (λ after. IfSome after.1 (IsRefused after.0)) }
+    {
+        let AfterBurst {
+            run,
+            beside,
+            tasks,
+            full,
+        } = self.burst(rt, alloc, workers, gate)?;
+        pace.note(beside, tasks);
+        let refused = run.refused(full);
+        Ok((run, refused))
+    }
+
+    /// Rounds of the caller's own, one behind a burst, else as many as make entries; where the last one made none, time
+    /// jumps or the run is over. How the run is over, if it is.
+    fn go_on<R: Wait>(&mut self, rt: &R, once: bool) -> Result<Option<Rest>, RunFault>
+        ensures machine { self.new.machine ≡ self.old.machine }
+        ensures after { AfterGoing self.new result }
+    {
+        let made = if once {
+            self.round(rt)?
+        } else {
+            self.rounds(rt)?
+        };
+        if made {
+            return Ok(None);
+        }
+        match self.rest(rt)? {
+            Rest::GoesOn => Ok(None),
+            end => Ok(Some(end)),
+        }
+    }
+
+    /// A burst where the pace wants one, and rounds of the caller's own. The run as it then stands, and what came of it;
+    /// `Mem` where there is no memory for the burst.
+    fn stretch<R: Threads + Wait + Sync, G: Gate + Sync>(
+        self,
+        rt: &R,
+        alloc: Global,
+        workers: u8,
+        gate: &G,
+        pace: &mut Pace,
+    ) -> Result<(Run<'m>, Result<Option<Rest>, RunFault>), Mem>
+        requires { 1 ≤ workers }
+        ensures machine { IfOk result (λ after. after.0.machine ≡ self.entry.machine) }
+        ensures after { IfOk result (λ after. AfterGoing after.0 after.1) }
+    {
+        if !pace.wants_burst() {
+            let mut run = self;
+            let came = run.go_on(rt, false);
+            return Ok((run, came));
+        }
+        let (mut run, refused) = self.after_burst(rt, alloc, workers, gate, pace)?;
+        if let Some(fault) = refused {
+            return Ok((run, Err(fault)));
+        }
+        let came = run.go_on(rt, true);
+        Ok((run, came))
+    }
+
+    /// Bursts with rounds of the caller's own and jumps of time between them, to the end, and the log of all.
+    pub(crate) fn finish_by<R: Threads + Wait + Sync, G: Gate + Sync>(
+        self,
+        rt: &R,
+        alloc: Global,
+        workers: u8,
+        gate: &G,
+    ) -> Result<Log, RunFault>
+        requires { 1 ≤ workers }
+        ensures ok { IfOk result (λ log. IsRun self.entry.machine log) }
+        ensures fault { IfErr result (Fails self.entry.machine) }
+    {
+        let mut run = self;
+        let mut pace = Pace::new();
+        for _ in rt.forever() {
+            let (after, came) = run.stretch(rt, alloc, workers, gate, &mut pace)?;
+            match came {
+                Ok(None) => run = after,
+                Ok(Some(end)) => return Ok(after.into_log(alloc, end)?),
+                Err(fault) => return Err(after.into_fault(rt, alloc, fault)?),
+            }
+        }
+        unreachable!()
+    }
+}
