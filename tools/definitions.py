@@ -4,7 +4,7 @@
 usage: tools/definitions.py
 
 The first page has what a reader has to trust, in reading order, and behind it the definitions that a promise comes to.
-The second has those of the crates on which no program stands. Ends with status 1, and says which, where a definition has no
+The second has those of the checker's account, and of a library on which no program stands. Ends with status 1, and says which, where a definition has no
 comment line, or where the program's clauses come to one that no section has.
 """
 
@@ -29,13 +29,13 @@ Whoever believes these, with the definitions that they cite, knows what the head
 reading order, from "the program wrote a legal log" down to the rule that decides an entry. The sections behind have
 every definition that the headline's clauses come to, then those of the laws of sleep, of the rules of a log, of the merge
 and of running threads. What no promise comes to, as invariants and the steps of proofs, is in the crates' `specs/` and not
-here. Crates on which no program stands have [a page of their own](DEFINITIONS_ASIDE.md).
+here. The checker's account and a library have [a page of their own](DEFINITIONS_ASIDE.md).
 """
 
 ASIDE_HEAD = """# Definitions aside
 
-No program stands on these crates yet, or none ever will, so nobody has to trust their definitions to believe what the
-program promises. [PROMISES](PROMISES.md#the-parts) says what each crate proves. The tables are as on
+No clause of the program comes to these, so nobody has to trust them to believe what the program promises. The first sections
+are of the checker's account, by which `check` judges a log; no program stands on the crate of the last. The tables are as on
 [the page of the program's definitions](DEFINITIONS.md), and `tools/definitions.py` writes both.
 """
 
@@ -51,6 +51,7 @@ READING = [
     ("What counts as a wakeup?", [("sleep_model", "Numbers", ["numbers"]), ("sleep_model", "Guard", ["in_force", "pending", "forgotten"]), ("sleep_model", "Sources", ["makes", "SourceStep", "expiry"])]),
     ("Who freezes?", [("sleep_model", "Freezer", ["freezings", "left"])]),
     ("What does every legal log keep?", [("sleep_model", "Laws", ["Laws", "LawsAt", "DependentsFirst", "SuppliersFirst", "Restored", "Owed", "TakenOnce", "NotOwedAlready", "EntersDown", "UndisturbedEnters", "AnswersFailure", "FoundPending", "InOrder", "GuardedSleep"])]),
+    ("When does `check` say legal, and of which line does it speak else?", [("log_commands", "Judging", ["IsJudged", "IsVerdictOf"]), ("log_check", "Verdicts", ["IsVerdict"]), ("sleep_model", "Rules/Verdict", ["IsGood", "IsFirstBad"])]),
     ("How is a log written?", [("sleep_model", "Text", ["text", "entry_line", "body"])]),
     ("What does suspend-to-idle promise?", [("idle_loop", "IdleLogs", ["IsIdleRun", "IsIdleLog", "MayMake", "IsOver", "NoneIsLost"])]),
     ("What do threads promise?", [("run_world", "Told", ["AfterReport", "AfterCoreTurn"]), ("burst_tasks", "Bursts", ["IsBurst"]), ("burst_laws", "Serial", ["IsSerial"]), ("burst_laws", "Keeping", ["BurstsGoOn"])]),
@@ -100,6 +101,8 @@ SECTIONS = [
     ("device_links", "Links as they stand", "`drivers/base/core.c`", ["Linked", "Kept"]),
     ("sleep_stats", "What a log counts, and its longest chain", "`include/linux/suspend.h`, `drivers/base/power/main.c`", ["Counting", "Linked", "Chains"]),
     ("log_commands", "The command `stats`", "`kernel/power/main.c`", ["Input", "Taking", "Telling", "Stats"]),
+    ("log_check", "The verdict on a log", "own", ["Verdicts"]),
+    ("log_commands", "The command `check`", "own", ["Judging"]),
     ("program_ending", "Statuses and their texts", "own", ["Endings", "Telling"]),
     ("idle_loop", "Suspend-to-idle", "`kernel/power/suspend.c`", ["IdleLogs", "Laws"]),
     ("idle_merge", "The idler's journal and the hard events", "`kernel/power/suspend.c`", ["Merging"]),
@@ -148,7 +151,7 @@ PROMISED = [
     ("burst_laws", "Keeping", ["BurstsGoOn"]),
 ]
 
-# The same of the crates on which no program stands; each of their definitions is listed.
+# The same of crates to whose definitions no clause of the program comes; each of them is listed.
 ASIDE = [
     ("check_order", "The checker's order of devices", "`drivers/base/core.c`", ["Visited"]),
     ("check_account", "What the checker keeps of a journal", "`kernel/power/suspend.c`, `kernel/power/process.c`, `drivers/base/power/main.c`", ["Accounts", "Boards"]),

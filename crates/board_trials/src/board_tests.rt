@@ -4,212 +4,208 @@ use async_board::{
 };
 use device_links::Links;
 use sleep_base::{Errno, Mem};
-use sleep_model::{Kind, Phase, SkipCause, Stand};
+use sleep_model::{Kind, Link, Phase, SkipCause, Stand};
 use std::alloc::Global;
 use std::process::Abort;
 use std::test::Fail;
 
-/// Three devices without parents, of which the first needs the others and the second the third, by
-/// links.
-fn three(rt: &impl Abort, alloc: Global) -> Result<Links, Mem> {
-    let mut links = Links::new(alloc, &[None, None, None])?;
-    link_three(rt, &mut links);
-    Ok(links)
+/// A device that a board tells, in suspend where it is of a phase.
+enum Told {
+    Prepared,
+    Completed,
+    Down,
+    DownLate,
+    WaitsDown,
+    ToSchedule,
+    Up,
+    WaitsUp,
+    WaitsBelow(u32),
+    WaitsAbove(u32),
 }
 
-fn link_three(rt: &impl Abort, links: &mut Links) {
-    for (supplier, consumer) in [(0, 1), (0, 2), (1, 2)] {
-        assert!(rt; links.add(supplier, consumer).is_ok());
+/// A step of a trial: an entry that the board notes, the device that it tells then, whether one of three devices waits for
+/// none below it and for none above, where one stands, whether one is asynchronous and all below it direct-complete, a link
+/// that is set, or one that is refused.
+enum Step {
+    Notes(Kind),
+    Tells(Told, Option<u32>),
+    IsFree(u32, bool, bool),
+    Stands(Phase, u32, Stand),
+    IsLeft(u32, bool, bool),
+    Sets(u32, u32, bool),
+    Refuses(u32, u32),
+}
+
+/// The device that a board tells.
+fn answer(board: &Board, what: &Told) -> Option<u32> {
+    match what {
+        Told::Prepared => board.next_prepared(),
+        Told::Completed => board.next_completed(),
+        Told::Down => board.next_down(Phase::Suspend),
+        Told::DownLate => board.next_down(Phase::Late),
+        Told::WaitsDown => board.waits_down(Phase::Suspend),
+        Told::ToSchedule => board.next_to_schedule(Phase::Suspend),
+        Told::Up => board.next_up(Phase::Suspend),
+        Told::WaitsUp => board.waits_up(Phase::Suspend),
+        Told::WaitsBelow(device) => board.waits_below(Phase::Suspend, *device),
+        Told::WaitsAbove(device) => board.waits_above(Phase::Suspend, *device),
     }
 }
 
-/// A board over those three, which of them are asynchronous.
-fn board_of(rt: &impl Abort, alloc: Global, asynchronous: [bool; 3]) -> Result<Board, Mem> {
-    let asynchronous = Vec::from_array(alloc, asynchronous)?;
-    let links = three(rt, alloc)?;
-    Board::wired(alloc, links, asynchronous)
+/// Whether a device waits for none below it and for none above, as said.
+fn is_free(board: &Board, device: u32, below: bool, above: bool) -> bool {
+    board.is_free_below(Phase::Suspend, device) == below
+        && board.is_free_above(Phase::Suspend, device) == above
 }
 
-/// Notes each of these entries.
-fn note_all(board: &mut Board, kinds: &[Kind]) {
-    for kind in kinds {
-        board.note(*kind);
+/// Takes a step, and tells whether it came as it says.
+fn is_so(board: &mut Board, step: &Step) -> bool {
+    match step {
+        Step::Notes(kind) => {
+            board.note(*kind);
+            true
+        }
+        Step::Tells(what, device) => answer(board, what) == *device,
+        Step::IsFree(device, below, above) => is_free(board, *device, *below, *above),
+        Step::Stands(phase, device, stand) => board.stand(*phase, *device) == *stand,
+        Step::IsLeft(device, asynchronous, direct) => {
+            board.is_asynchronous(*device) == *asynchronous
+                && board.all_direct_complete(*device) == *direct
+        }
+        Step::Sets(supplier, consumer, active) => board
+            .set_link(*supplier, *consumer, *active)
+            .is_ok(),
+        Step::Refuses(supplier, consumer) => board.add_link(*supplier, *consumer).is_err(),
     }
 }
 
-/// Asserts whether each of three waits for devices below and above it.
-fn expect_open(rt: &impl Abort, board: &Board, below: [usize; 3], above: [usize; 3]) {
-    assert!(rt; board.links().order().len() == 3);
-    for device in 0..3u32 {
-        let number = device as usize;
-        assert_eq!(rt;
-            board.is_free_below(Phase::Suspend, device),
-            below[number] == 0
-        );
-        assert_eq!(rt;
-            board.is_free_above(Phase::Suspend, device),
-            above[number] == 0
-        );
-    }
-}
-
-fn expect_device(rt: &impl Abort, found: Option<u32>, wanted: Option<u32>) {
-    assert_eq!(rt; found, wanted);
-}
-
-const PREPARED: [Kind; 3] = [
-    Kind::Prepare { device: 0, r: 0 },
-    Kind::Prepare { device: 1, r: 0 },
-    Kind::Prepare { device: 2, r: 0 },
+// The first of three devices needs the others, and the second the third.
+const LINKS: [Link; 3] = [
+    Link {
+        supplier: 0,
+        consumer: 1,
+        active: true,
+    },
+    Link {
+        supplier: 0,
+        consumer: 2,
+        active: true,
+    },
+    Link {
+        supplier: 1,
+        consumer: 2,
+        active: true,
+    },
 ];
+
+/// Three devices without parents, with those links.
+fn three(alloc: Global) -> Result<Links, Mem> {
+    match Links::with_links(alloc, &[None, None, None], &LINKS)? {
+        Some(links) => Ok(links),
+        None => Err(Mem),
+    }
+}
+
+/// Takes each step on a board over those three, of which the second is asynchronous, and asserts that it came as it says.
+fn follow(rt: &impl Abort, alloc: Global, steps: &[Step]) -> Result<(), Mem> {
+    let asynchronous = vec![in alloc; false, true, false]?;
+    let mut board = Board::wired(alloc, three(alloc)?, asynchronous)?;
+    for (number, step) in steps.iter().enumerate() {
+        assert!(rt; is_so(&mut board, step), "step {number}");
+    }
+    Ok(())
+}
 
 /// A device waits for those below it until each is through, and on the way up for those above it
 /// that went down, but for none that failed.
-#[test]
-fn a_device_waits_for_its_needs(rt: HostRuntime) -> Result<(), Fail> {
-    let mut board = board_of(&rt, rt.alloc(), [true, true, true])?;
-    expect_waits(&rt, &mut board);
-    Ok(())
-}
-
-fn expect_waits(rt: &impl Abort, board: &mut Board) {
-    expect_waits_below(rt, board);
-    expect_waits_above(rt, board);
-}
-
-const LAST_IS_DOWN: [Kind; 2] = [
-    Kind::Begin(Phase::Suspend, 2),
-    Kind::End(Phase::Suspend, 2, None),
+const NEEDS: [Step; 22] = [
+    Step::Notes(Kind::Prepare { device: 0, r: 0 }),
+    Step::Notes(Kind::Prepare { device: 1, r: 0 }),
+    Step::Notes(Kind::Prepare { device: 2, r: 0 }),
+    Step::IsFree(0, false, true),
+    Step::IsFree(1, false, true),
+    Step::IsFree(2, true, true),
+    Step::Tells(Told::WaitsBelow(0), Some(1)),
+    Step::Tells(Told::WaitsBelow(2), None),
+    Step::Notes(Kind::Begin(Phase::Suspend, 2)),
+    Step::Notes(Kind::End(Phase::Suspend, 2, None)),
+    Step::IsFree(0, false, true),
+    Step::IsFree(1, true, true),
+    Step::Notes(Kind::Begin(Phase::Suspend, 1)),
+    Step::Notes(Kind::End(Phase::Suspend, 1, Some(Errno::EIO))),
+    Step::IsFree(0, true, true),
+    Step::Notes(Kind::Begin(Phase::Suspend, 0)),
+    Step::Notes(Kind::End(Phase::Suspend, 0, None)),
+    Step::IsFree(0, true, true),
+    Step::IsFree(1, true, false),
+    Step::IsFree(2, true, false),
+    Step::Tells(Told::WaitsAbove(0), None),
+    Step::Tells(Told::WaitsAbove(2), Some(0)),
 ];
-
-const SECOND_FAILS: [Kind; 4] = [
-    Kind::Begin(Phase::Suspend, 1),
-    Kind::End(Phase::Suspend, 1, Some(Errno::EIO)),
-    Kind::Begin(Phase::Suspend, 0),
-    Kind::End(Phase::Suspend, 0, None),
-];
-
-fn expect_waits_below(rt: &impl Abort, board: &mut Board) {
-    note_all(board, &PREPARED);
-    expect_open(rt, board, [2, 1, 0], [0, 0, 0]);
-    expect_device(rt, board.waits_below(Phase::Suspend, 0), Some(1));
-    expect_device(rt, board.waits_below(Phase::Suspend, 2), None);
-    note_all(board, &LAST_IS_DOWN);
-    expect_open(rt, board, [1, 0, 0], [0, 0, 0]);
-}
-
-fn expect_waits_above(rt: &impl Abort, board: &mut Board) {
-    note_all(board, &SECOND_FAILS);
-    expect_open(rt, board, [0, 0, 0], [0, 1, 1]);
-    expect_device(rt, board.waits_above(Phase::Suspend, 0), None);
-    expect_device(rt, board.waits_above(Phase::Suspend, 2), Some(0));
-}
 
 /// Prepare goes forward through the order, complete back, and so do the walks down and up.
+const WALKS: [Step; 30] = [
+    Step::Tells(Told::Prepared, Some(0)),
+    Step::Tells(Told::Completed, None),
+    Step::Notes(Kind::Prepare { device: 0, r: 0 }),
+    Step::Notes(Kind::Prepare { device: 1, r: 0 }),
+    Step::Notes(Kind::Prepare { device: 2, r: 0 }),
+    Step::Tells(Told::Prepared, None),
+    Step::Tells(Told::Completed, Some(2)),
+    Step::Tells(Told::Down, Some(2)),
+    Step::Tells(Told::DownLate, Some(2)),
+    Step::Notes(Kind::Skip(Phase::Suspend, 2, SkipCause::Direct)),
+    Step::Notes(Kind::Schedule(Phase::Suspend, 1)),
+    Step::Tells(Told::Down, Some(0)),
+    Step::Tells(Told::WaitsDown, Some(1)),
+    Step::IsLeft(1, true, true),
+    Step::IsLeft(0, false, false),
+    Step::Notes(Kind::Begin(Phase::Suspend, 1)),
+    Step::Notes(Kind::End(Phase::Suspend, 1, None)),
+    Step::Notes(Kind::Begin(Phase::Suspend, 0)),
+    Step::Notes(Kind::End(Phase::Suspend, 0, None)),
+    Step::Tells(Told::Down, None),
+    Step::Tells(Told::WaitsDown, None),
+    Step::Tells(Told::ToSchedule, Some(1)),
+    Step::Tells(Told::Up, Some(0)),
+    Step::Tells(Told::WaitsUp, Some(0)),
+    Step::Notes(Kind::Schedule(Phase::Resume, 1)),
+    Step::Tells(Told::ToSchedule, None),
+    Step::Stands(Phase::Suspend, 1, Stand::Rescheduled),
+    Step::Stands(Phase::Late, 1, Stand::Prepared),
+    Step::Notes(Kind::Complete(2)),
+    Step::Tells(Told::Completed, Some(1)),
+];
+
+/// A link that is set leaves no device prepared, whether one was or not; one that is refused changes nothing.
+const ANEW: [Step; 14] = [
+    Step::Sets(1, 2, false),
+    Step::IsFree(0, false, true),
+    Step::IsFree(1, true, true),
+    Step::Notes(Kind::Prepare { device: 0, r: 0 }),
+    Step::Notes(Kind::Begin(Phase::Suspend, 0)),
+    Step::Notes(Kind::End(Phase::Suspend, 0, None)),
+    Step::IsFree(1, true, false),
+    Step::IsFree(2, true, false),
+    Step::Sets(1, 2, true),
+    Step::IsFree(0, false, true),
+    Step::IsFree(1, false, true),
+    Step::Tells(Told::Completed, None),
+    Step::Refuses(2, 0),
+    Step::Tells(Told::Prepared, Some(0)),
+];
+
+/// Boards tell what each list of steps says.
 #[test]
-fn walks_follow_the_order(rt: HostRuntime) -> Result<(), Fail> {
-    let mut board = board_of(&rt, rt.alloc(), [false, true, false])?;
-    expect_walks(&rt, &mut board);
-    Ok(())
-}
-
-fn expect_walks(rt: &impl Abort, board: &mut Board) {
-    expect_device(rt, board.next_prepared(), Some(0));
-    expect_device(rt, board.next_completed(), None);
-    note_all(board, &PREPARED);
-    expect_prepared(rt, board);
-    note_all(board, &FIRST_STEPS);
-    expect_walk_down(rt, board);
-    note_all(board, &LAST_STEPS);
-    expect_walk_up(rt, board);
-    note_all(board, &[Kind::Schedule(Phase::Resume, 1)]);
-    expect_rescheduled(rt, board);
-    note_all(board, &[Kind::Complete(2)]);
-    expect_device(rt, board.next_completed(), Some(1));
-}
-
-const FIRST_STEPS: [Kind; 2] = [
-    Kind::Skip(Phase::Suspend, 2, SkipCause::Direct),
-    Kind::Schedule(Phase::Suspend, 1),
-];
-
-const LAST_STEPS: [Kind; 4] = [
-    Kind::Begin(Phase::Suspend, 1),
-    Kind::End(Phase::Suspend, 1, None),
-    Kind::Begin(Phase::Suspend, 0),
-    Kind::End(Phase::Suspend, 0, None),
-];
-
-fn expect_prepared(rt: &impl Abort, board: &Board) {
-    expect_device(rt, board.next_prepared(), None);
-    expect_device(rt, board.next_completed(), Some(2));
-    expect_device(rt, board.next_down(Phase::Suspend), Some(2));
-    expect_device(rt, board.next_down(Phase::Late), Some(2));
-}
-
-fn expect_walk_down(rt: &impl Abort, board: &Board) {
-    expect_device(rt, board.next_down(Phase::Suspend), Some(0));
-    expect_device(rt, board.waits_down(Phase::Suspend), Some(1));
-    assert!(rt; board.all_direct_complete(1) && !board.all_direct_complete(0));
-    assert!(rt; board.is_asynchronous(1) && !board.is_asynchronous(0));
-}
-
-fn expect_walk_up(rt: &impl Abort, board: &Board) {
-    expect_device(rt, board.next_down(Phase::Suspend), None);
-    expect_device(rt, board.waits_down(Phase::Suspend), None);
-    expect_device(rt, board.next_to_schedule(Phase::Suspend), Some(1));
-    expect_device(rt, board.next_up(Phase::Suspend), Some(0));
-    expect_device(rt, board.waits_up(Phase::Suspend), Some(0));
-}
-
-fn expect_rescheduled(rt: &impl Abort, board: &Board) {
-    expect_device(rt, board.next_to_schedule(Phase::Suspend), None);
-    assert!(rt; matches!(board.stand(Phase::Suspend, 1), Stand::Rescheduled));
-    assert!(rt; matches!(board.stand(Phase::Late, 1), Stand::Prepared));
-}
-
-/// A link that is set, and one that is added, leave no device prepared, whether one was or not.
-#[test]
-fn a_changed_link_begins_anew(rt: HostRuntime) -> Result<(), Fail> {
-    Ok(change_links(&rt, rt.alloc())?)
-}
-
-fn change_links(rt: &impl Abort, alloc: Global) -> Result<(), Mem> {
-    let mut board = board_of(rt, alloc, [true, true, true])?;
-    expect_changes(rt, &mut board)
-}
-
-fn expect_changes(rt: &impl Abort, board: &mut Board) -> Result<(), Mem> {
-    expect_fewer_below(rt, board)?;
-    expect_anew(rt, board)
-}
-
-const FIRST_IS_DOWN: [Kind; 3] = [
-    Kind::Prepare { device: 0, r: 0 },
-    Kind::Begin(Phase::Suspend, 0),
-    Kind::End(Phase::Suspend, 0, None),
-];
-
-fn expect_fewer_below(rt: &impl Abort, board: &mut Board) -> Result<(), Mem> {
-    board.set_link(1, 2, false)?;
-    expect_open(rt, board, [2, 0, 0], [0, 0, 0]);
-    note_all(board, &FIRST_IS_DOWN);
-    expect_open(rt, board, [2, 0, 0], [0, 1, 1]);
-    Ok(())
-}
-
-fn expect_anew(rt: &impl Abort, board: &mut Board) -> Result<(), Mem> {
-    board.set_link(1, 2, true)?;
-    expect_open(rt, board, [2, 1, 0], [0, 0, 0]);
-    expect_device(rt, board.next_completed(), None);
-    assert!(rt; board.add_link(2, 0).is_err());
-    expect_device(rt, board.next_prepared(), Some(0));
-    Ok(())
+fn boards_tell_who_is_next(rt: HostRuntime) -> Result<(), Fail> {
+    follow(&rt, rt.alloc(), &NEEDS)?;
+    follow(&rt, rt.alloc(), &WALKS)?;
+    Ok(follow(&rt, rt.alloc(), &ANEW)?)
 }
 
 /// Tests of a stand.
 #[test]
-fn stands_are_told_apart(rt: HostRuntime) -> Result<(), Fail> {
+fn stands_are_told_apart(rt: HostRuntime) {
     let failed = Stand::Failed;
     assert!(rt; is_prepared(failed) && is_taken(failed) && !is_not_down(failed));
     assert!(rt; is_ready(Stand::Prepared) && !is_taken(Stand::Prepared));
@@ -219,5 +215,4 @@ fn stands_are_told_apart(rt: HostRuntime) -> Result<(), Fail> {
             && is_direct_complete(Stand::Direct)
     );
     board_tells();
-    Ok(())
 }

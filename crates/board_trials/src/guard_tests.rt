@@ -8,66 +8,69 @@ fn word(inpr: u32, count: u32, hard: u32) -> EventNow {
 /// Sixteen events after a save of 0 are not seen by 4 bits; by 5 they are, and the test drops the count.
 #[test]
 fn events_wrap_round_the_visible_count(rt: HostRuntime) {
+    let (none, sixteen) = (word(0, 0, 0), word(0, 16, 0));
     let mut few = Guard::<4>::new();
-    assert!(rt; few.save(word(0, 0, 0), 0));
-    assert!(rt; !few.pending(word(0, 16, 0)));
-    assert_eq!(rt; few.in_force(), Some(0));
+    assert!(rt; few.save(none, 0) && !few.pending(sixteen) && few.in_force() == Some(0));
     let mut more = Guard::<5>::new();
-    assert!(rt; more.save(word(0, 0, 0), 0));
-    assert!(rt; more.is_pending(word(0, 16, 0)));
-    assert!(rt; more.pending(word(0, 16, 0)));
-    assert!(rt; !more.pending(word(0, 16, 0)));
-    assert_eq!(rt; more.in_force(), None);
+    assert!(rt; more.save(none, 0) && more.is_pending(sixteen) && more.pending(sixteen));
+    assert!(rt; !more.pending(sixteen) && more.in_force().is_none());
 }
 
-/// A save is of the visible count, while no event is in progress; one that fails drops the count.
+/// A guard that has saved 3.
+fn saved() -> Guard<24> {
+    let mut guard = Guard::<24>::new();
+    let _saved = guard.save(word(0, 3, 0), 3);
+    guard
+}
+
+// Saves at a word, of a number, and whether they are taken: of the visible count, while no event is in progress.
+const SAVES: [(u32, u32, u32, u32, bool); 4] = [
+    (0, 16_777_217, 0, 1, true),
+    (0, 16_777_217, 0, 16_777_217, false),
+    (1, 3, 0, 3, false),
+    (0, 3, 9, 3, true),
+];
+
+// Entries, which store, drop, test and keep the count, and the one that is left in force.
+const ENTRIES: [(Kind, Option<u32>); 8] = [
+    (Kind::Saved(4), Some(4)),
+    (Kind::AutoSaved(4), Some(4)),
+    (Kind::AutoUnsaved(4), None),
+    (Kind::Clear, None),
+    (Kind::CpuBusy(1), None),
+    (Kind::Enter { busy: true }, None),
+    (Kind::Enter { busy: false }, Some(3)),
+    (Kind::Jump, Some(3)),
+];
+
+/// A save that fails drops the count, and entries move it.
 #[test]
-fn a_save_is_of_the_visible_count(rt: HostRuntime) {
-    for (now, c, saved) in [
-        (word(0, 16777217, 0), 1, true),
-        (word(0, 16777217, 0), 16777217, false),
-        (word(1, 3, 0), 3, false),
-        (word(0, 3, 9), 3, true),
-    ] {
-        let mut guard = Guard::<24>::new();
-        assert!(rt; guard.save(word(0, 7, 0), 7));
-        assert_eq!(rt; guard.save(now, c), saved);
-        assert_eq!(rt; guard.in_force(), if saved { Some(c) } else { None });
+fn the_count_in_force_moves(rt: HostRuntime) {
+    for (number, (inpr, count, hard, c, is_saved)) in SAVES.iter().enumerate() {
+        let mut guard = saved();
+        assert!(rt;
+            guard.save(word(*inpr, *count, *hard), *c) == *is_saved,
+            "save {number}"
+        );
+        assert!(rt; guard.in_force().is_some() == *is_saved, "save {number}");
+    }
+    for (number, (kind, left)) in ENTRIES.iter().enumerate() {
+        let mut guard = saved();
+        guard.note(*kind, word(0, 5, 0));
+        assert!(rt; guard.in_force() == *left, "entry {number}");
+        guard.finish();
+        assert!(rt; guard.in_force().is_none(), "entry {number}");
     }
 }
 
 /// Hard events are pending until they are forgotten, a count in force or not.
 #[test]
 fn hard_events_are_pending_until_forgotten(rt: HostRuntime) {
+    let (one, two) = (word(0, 0, 1), word(0, 0, 2));
     let mut guard = Guard::<24>::new();
-    assert!(rt; guard.pending(word(0, 0, 1)));
-    guard.clear_hard(word(0, 0, 1));
-    assert!(rt; !guard.pending(word(0, 0, 1)));
-    assert!(rt; guard.pending(word(0, 0, 2)));
-    guard.note(Kind::Freeze(Group::User), word(0, 0, 2));
-    assert!(rt; !guard.pending(word(0, 0, 2)));
-    assert_eq!(rt; guard.visible(word(0, 16777217, 0)), 1);
-}
-
-/// Entries store, drop, test and keep the count.
-#[test]
-fn entries_move_the_count(rt: HostRuntime) {
-    let now = word(0, 5, 0);
-    for (kind, left) in [
-        (Kind::Saved(4), Some(4)),
-        (Kind::AutoSaved(4), Some(4)),
-        (Kind::AutoUnsaved(4), None),
-        (Kind::Clear, None),
-        (Kind::CpuBusy(1), None),
-        (Kind::Enter { busy: true }, None),
-        (Kind::Enter { busy: false }, Some(3)),
-        (Kind::Jump, Some(3)),
-    ] {
-        let mut guard = Guard::<24>::new();
-        assert!(rt; guard.save(word(0, 3, 0), 3));
-        guard.note(kind, now);
-        assert_eq!(rt; guard.in_force(), left);
-        guard.finish();
-        assert_eq!(rt; guard.in_force(), None);
-    }
+    assert!(rt; guard.pending(one));
+    guard.clear_hard(one);
+    assert!(rt; !guard.pending(one) && guard.pending(two));
+    guard.note(Kind::Freeze(Group::User), two);
+    assert!(rt; !guard.pending(two) && guard.visible(word(0, 16_777_217, 0)) == 1);
 }

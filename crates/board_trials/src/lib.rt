@@ -8,7 +8,7 @@ mod at_once_tests;
 #[cfg(test)]
 mod board_tests;
 #[cfg(test)]
-mod down_tests;
+mod definition_tests;
 #[cfg(test)]
 mod freezer_tests;
 #[cfg(test)]
@@ -16,9 +16,9 @@ mod guard_tests;
 #[cfg(test)]
 mod link_tests;
 #[cfg(test)]
-mod platform_tests;
+mod phase_tests;
 #[cfg(test)]
-mod prepare_tests;
+mod platform_tests;
 #[cfg(test)]
 mod row_tests;
 #[cfg(test)]
@@ -27,5 +27,3 @@ mod state_tests;
 mod syscore_tests;
 #[cfg(test)]
 mod tree_tests;
-#[cfg(test)]
-mod up_tests;

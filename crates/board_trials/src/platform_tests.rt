@@ -2,19 +2,25 @@ use platform_steps::Platform;
 use sleep_base::Errno;
 use sleep_model::{Kind, ListOf, Machine, Name, Notifier, PlatDo, PlatPart, PlatUndo};
 use std::alloc::Global;
+use std::process::Abort;
 use std::test::Fail;
 
-/// A machine of notifiers with these priorities and so many processors.
-fn machine(alloc: Global, priorities: &[i32], cpus: u32) -> Result<Machine, Fail> {
+/// Notifiers with these priorities.
+fn notifiers(alloc: Global, priorities: &[i32]) -> Result<Vec<Notifier>, Fail> {
+    let name = Name::of_bytes(b"n").ok_or("a name")?;
     let mut notifiers = Vec::new(alloc);
     for priority in priorities {
-        let name = Name::of_bytes(b"n").ok_or("a name")?;
         notifiers.push(Notifier {
             name,
             priority: *priority,
         })?;
     }
-    Ok(Machine {
+    Ok(notifiers)
+}
+
+/// A machine of these notifiers and so many processors.
+fn machine(alloc: Global, notifiers: Vec<Notifier>, cpus: u32) -> Machine {
+    Machine {
         alarm_ms: 1,
         cpus,
         auto_cycles: 1,
@@ -26,66 +32,137 @@ fn machine(alloc: Global, priorities: &[i32], cpus: u32) -> Result<Machine, Fail
         marks: ListOf::of_vec(Vec::new(alloc)),
         actors: ListOf::of_vec(Vec::new(alloc)),
         answers: ListOf::of_vec(Vec::new(alloc)),
-    })
+    }
 }
 
-/// Notifiers are told by falling priority, equal ones in their order; those that answered 0 are
-/// told of the end in the same order.
-#[test]
-fn notifiers_by_falling_priority(rt: HostRuntime) -> Result<(), Fail> {
-    let machine = machine(rt.alloc(), &[0, 5, -3, 5, 0], 1)?;
-    assert!(rt; machine.notifiers.len() < 9);
-    let mut platform = Platform::new(rt.alloc(), &machine)?;
-    for x in [1, 3, 0] {
-        assert_eq!(rt; platform.next_called(), Some(x));
-        platform.turn(PlatPart::NotifyPrepare(x), None, false);
+/// What comes next: a notifier is told of the beginning or of the end, a processor is stopped or started.
+enum Next {
+    Called(Option<u32>),
+    Posted(Option<u32>),
+    Off(Option<u32>),
+    On(Option<u32>),
+}
+
+/// A step of a trial: a turn with its answer, where a wakeup may be pending, and the entry that it makes; or what comes next.
+enum Step {
+    Turns(PlatPart, Option<Errno>, bool, Kind),
+    Is(Next),
+}
+
+/// Whether that comes next.
+fn is_next(platform: &Platform, next: &Next) -> bool {
+    match next {
+        Next::Called(number) => platform.next_called() == *number,
+        Next::Posted(number) => platform.next_posted() == *number,
+        Next::Off(number) => platform.next_cpu_off() == *number,
+        Next::On(number) => platform.next_cpu_on() == *number,
     }
-    assert_eq!(rt; platform.next_called(), Some(4));
-    platform.turn(PlatPart::NotifyPrepare(4), Some(Errno::EIO), false);
-    for x in [1, 3, 0] {
-        assert_eq!(rt; platform.next_posted(), Some(x));
-        platform.turn(PlatPart::NotifyPost(x), None, false);
+}
+
+/// Takes a step, and tells whether it came as it says.
+fn is_so(platform: &mut Platform, step: &Step) -> bool {
+    match step {
+        Step::Turns(part, r, pending, kind) => platform.turn(*part, *r, *pending) == *kind,
+        Step::Is(next) => is_next(platform, next),
     }
-    assert_eq!(rt; platform.next_posted(), None);
+}
+
+/// Takes each step on the platform of a machine of few notifiers, and asserts that it came as it says.
+fn follow(rt: &impl Abort, alloc: Global, machine: &Machine, steps: &[Step]) -> Result<(), Fail> {
+    if machine.notifiers.len() > 9 {
+        return Err("few notifiers".into());
+    }
+    let mut platform = Platform::new(alloc, machine)?;
+    for (number, step) in steps.iter().enumerate() {
+        assert!(rt; is_so(&mut platform, step), "step {number}");
+    }
     Ok(())
 }
 
-/// The other processors are stopped rising, and those that are off are started rising; where a
-/// wakeup is pending none is stopped.
-#[test]
-fn processors_rise(rt: HostRuntime) -> Result<(), Fail> {
-    let machine = machine(rt.alloc(), &[], 4)?;
-    assert!(rt; machine.notifiers.len() < 9);
-    let mut platform = Platform::new(rt.alloc(), &machine)?;
-    assert_eq!(rt; platform.next_called(), None);
-    assert_eq!(rt; platform.next_cpu_on(), None);
-    for k in [1, 2] {
-        assert_eq!(rt; platform.next_cpu_off(), Some(k));
-        platform.turn(PlatPart::CpuOff(k), None, false);
-    }
-    let busy = platform.turn(PlatPart::CpuOff(3), None, true);
-    assert!(rt; matches!(busy, Kind::CpuBusy(3)));
-    assert_eq!(rt; platform.next_cpu_off(), Some(3));
-    platform.note(Kind::CpuOff(3));
-    assert_eq!(rt; platform.next_cpu_off(), None);
-    for k in [1, 2, 3] {
-        assert_eq!(rt; platform.next_cpu_on(), Some(k));
-        platform.turn(PlatPart::CpuOn(k), None, true);
-    }
-    assert_eq!(rt; platform.next_cpu_on(), None);
-    Ok(())
-}
+// Notifiers are told by falling priority, equal ones in their order; those that answered 0 are told of the end in the same
+// order.
+const OF_NOTIFIERS: [Step; 15] = [
+    Step::Is(Next::Called(Some(1))),
+    Step::Turns(
+        PlatPart::NotifyPrepare(1),
+        None,
+        false,
+        Kind::NotifyPrepare(1, None),
+    ),
+    Step::Is(Next::Called(Some(3))),
+    Step::Turns(
+        PlatPart::NotifyPrepare(3),
+        None,
+        false,
+        Kind::NotifyPrepare(3, None),
+    ),
+    Step::Is(Next::Called(Some(0))),
+    Step::Turns(
+        PlatPart::NotifyPrepare(0),
+        None,
+        false,
+        Kind::NotifyPrepare(0, None),
+    ),
+    Step::Is(Next::Called(Some(4))),
+    Step::Turns(
+        PlatPart::NotifyPrepare(4),
+        Some(Errno::EIO),
+        false,
+        Kind::NotifyPrepare(4, Some(Errno::EIO)),
+    ),
+    Step::Is(Next::Posted(Some(1))),
+    Step::Turns(PlatPart::NotifyPost(1), None, false, Kind::NotifyPost(1)),
+    Step::Is(Next::Posted(Some(3))),
+    Step::Turns(PlatPart::NotifyPost(3), None, false, Kind::NotifyPost(3)),
+    Step::Is(Next::Posted(Some(0))),
+    Step::Turns(PlatPart::NotifyPost(0), None, false, Kind::NotifyPost(0)),
+    Step::Is(Next::Posted(None)),
+];
 
-/// The platform's steps say what they were asked and what it answered.
+// The other processors are stopped rising, and those that are off are started rising; where a wakeup is pending none is stopped.
+const OF_PROCESSORS: [Step; 17] = [
+    Step::Is(Next::Called(None)),
+    Step::Is(Next::On(None)),
+    Step::Is(Next::Off(Some(1))),
+    Step::Turns(PlatPart::CpuOff(1), None, false, Kind::CpuOff(1)),
+    Step::Is(Next::Off(Some(2))),
+    Step::Turns(PlatPart::CpuOff(2), None, false, Kind::CpuOff(2)),
+    Step::Turns(PlatPart::CpuOff(3), None, true, Kind::CpuBusy(3)),
+    Step::Is(Next::Off(Some(3))),
+    Step::Turns(PlatPart::CpuOff(3), None, false, Kind::CpuOff(3)),
+    Step::Is(Next::Off(None)),
+    Step::Is(Next::On(Some(1))),
+    Step::Turns(PlatPart::CpuOn(1), None, true, Kind::CpuOn(1)),
+    Step::Is(Next::On(Some(2))),
+    Step::Turns(PlatPart::CpuOn(2), None, true, Kind::CpuOn(2)),
+    Step::Is(Next::On(Some(3))),
+    Step::Turns(PlatPart::CpuOn(3), None, true, Kind::CpuOn(3)),
+    Step::Is(Next::On(None)),
+];
+
+// The platform's steps say what they were asked and what it answered.
+const OF_PLATFORM: [Step; 2] = [
+    Step::Turns(
+        PlatPart::Do(PlatDo::Prepare),
+        Some(Errno::EIO),
+        true,
+        Kind::PlatformDo(PlatDo::Prepare, Some(Errno::EIO)),
+    ),
+    Step::Turns(
+        PlatPart::Undo(PlatUndo::Recover),
+        None,
+        false,
+        Kind::PlatformUndo(PlatUndo::Recover),
+    ),
+];
+
+/// Notifiers, processors and the platform go as each list of steps says.
 #[test]
-fn the_platform_answers(rt: HostRuntime) -> Result<(), Fail> {
-    let machine = machine(rt.alloc(), &[], 1)?;
-    assert!(rt; machine.notifiers.len() < 9);
-    let mut platform = Platform::new(rt.alloc(), &machine)?;
-    assert_eq!(rt; platform.next_cpu_off(), None);
-    let asked = platform.turn(PlatPart::Do(PlatDo::Prepare), Some(Errno::EIO), true);
-    assert!(rt; matches!(asked, Kind::PlatformDo(PlatDo::Prepare, Some(Errno::EIO))));
-    let told = platform.turn(PlatPart::Undo(PlatUndo::Recover), None, false);
-    assert!(rt; matches!(told, Kind::PlatformUndo(PlatUndo::Recover)));
-    Ok(())
+fn the_platform_goes_by_its_steps(rt: HostRuntime) -> Result<(), Fail> {
+    let alloc = rt.alloc();
+    let told = machine(alloc, notifiers(alloc, &[0, 5, -3, 5, 0])?, 1);
+    follow(&rt, alloc, &told, &OF_NOTIFIERS)?;
+    let bare = machine(alloc, Vec::new(alloc), 4);
+    follow(&rt, alloc, &bare, &OF_PROCESSORS)?;
+    follow(&rt, alloc, &bare, &OF_PLATFORM)
 }

@@ -120,150 +120,147 @@ fn begun() -> Path {
     path
 }
 
-/// Asserts that steps lead each to its stage, and that the machine sleeps where it is entered.
-fn expect_steps(rt: &impl Abort, path: &mut Path, steps: &[(Kind, Stage)]) {
-    for (kind, stage) in steps {
-        expect_step(rt, path, *kind, *stage);
-    }
-}
-
+/// Asserts that each step leads to its stage, and that the machine sleeps where it is entered.
 #[tactic(auto, using(sleep_state::proofs::Counting::attempts_few))]
-fn expect_step(rt: &impl Abort, path: &mut Path, kind: Kind, stage: Stage) {
-    assert!(rt; path.attempts() < 9);
-    path.note(kind, TASK, 7, 50);
-    assert!(rt; path.stage() == Some(stage));
-    let sleeps = path.sleep().is_some();
-    assert_eq!(rt; sleeps, stage == Stage::Enters);
+fn expect_steps(rt: &impl Abort, path: &mut Path, steps: &[(Kind, Stage)]) {
+    for (number, (kind, stage)) in steps.iter().enumerate() {
+        assert!(rt; path.attempts() < 9);
+        path.note(*kind, TASK, 7, 50);
+        assert!(rt; path.stage() == Some(*stage), "step {number}");
+        assert!(rt;
+            path.sleep().is_some() == (*stage == Stage::Enters),
+            "step {number}"
+        );
+    }
 }
 
 /// An attempt that nothing disturbs passes each stage once, sleeps from its entering to its wake,
-/// and ends with no error.
+/// and ends with no error. A step that fails leads back from where it stands, and its error is the attempt's.
 #[test]
-fn an_attempt_passes_its_stages(rt: HostRuntime) -> Result<(), Fail> {
+fn an_attempt_passes_its_stages(rt: HostRuntime) {
     let mut path = begun();
     assert!(rt; path.stage() == Some(Stage::Notifies));
     expect_steps(&rt, &mut path, &CALM);
-    assert_eq!(rt; path.maker(), Some(TASK));
-    assert_eq!(rt; path.failed(), None);
-    expect_end(&rt, &mut path);
-    Ok(())
-}
-
-/// Asserts that an attempt that is over has no maker and no stage.
-fn expect_end(rt: &impl Abort, path: &mut Path) {
-    assert!(rt; path.attempts() < 9);
-    path.note(Kind::Over { n: 1, r: None }, TASK, 7, 50);
-    assert_eq!(rt; path.maker(), None);
-    assert!(rt; path.stage().is_none());
-}
-
-/// A step that fails leads back from where it stands, and its error is the attempt's.
-#[test]
-fn a_failure_leads_back(rt: HostRuntime) -> Result<(), Fail> {
-    expect_failures(&rt, &FAILED);
-    Ok(())
-}
-
-fn expect_failures(rt: &impl Abort, steps: &[(Kind, Stage)]) {
-    for (kind, stage) in steps {
-        expect_failure(rt, *kind, *stage);
+    assert!(rt; path.maker() == Some(TASK) && path.failed().is_none());
+    for (number, step) in FAILED.iter().enumerate() {
+        let mut path = begun();
+        expect_steps(&rt, &mut path, &[*step]);
+        assert!(rt; path.failed().is_some(), "step {number}");
     }
 }
 
-#[tactic(auto, using(sleep_state::proofs::Counting::attempts_few))]
-fn expect_failure(rt: &impl Abort, kind: Kind, stage: Stage) {
+/// A freeze goes on from its begin to its end. An attempt that is over has no maker and no stage.
+#[test]
+fn a_freeze_has_its_time(rt: HostRuntime) {
     let mut path = begun();
-    assert!(rt; path.attempts() < 9);
-    path.note(kind, TASK, 0, 0);
-    assert!(rt; path.stage() == Some(stage));
-    assert!(rt; path.failed().is_some());
-}
-
-/// A freeze goes on from its begin to its end.
-#[test]
-fn a_freeze_has_its_time(rt: HostRuntime) -> Result<(), Fail> {
-    let mut path = Path::new();
     path.note(Kind::Freeze(Group::User), TASK, 0, 30);
-    assert_eq!(rt; path.freeze_since(), Some(30));
+    assert!(rt; path.freeze_since() == Some(30));
     path.note(Kind::Froze(Group::User, FrozeEnd::AllFrozen), TASK, 0, 40);
-    assert_eq!(rt; path.freeze_since(), None);
-    Ok(())
+    assert!(rt; path.freeze_since().is_none());
+    path.note(Kind::Over { n: 1, r: None }, TASK, 7, 50);
+    assert!(rt; path.maker().is_none() && path.stage().is_none());
 }
 
-/// Two devices, of which the second is runtime suspended at first.
-fn two_devices(alloc: Global) -> Result<Vec<Device>, Fail> {
-    let name = Name::of_bytes(b"d").ok_or("a name")?;
-    let mut devices = Vec::new(alloc);
-    for flags in [DeviceFlags::WAKEUP, DeviceFlags::RUNTIME_SUSPENDED] {
-        let parent = None;
-        devices.push(Device {
-            name,
-            parent,
-            flags,
-        })?;
+/// What is kept of two devices: whether the maker is in a callback, the phase's error, that of a synchronous device, what the
+/// second answered to prepare, the status of one, and what disables runtime PM.
+enum Kept {
+    Callback(bool),
+    Failed(Option<Errno>),
+    Own(Option<Errno>),
+    AsksDirect(u32, bool),
+    Suspended(u32, bool),
+    ByDirect(bool),
+    ByLate(bool),
+}
+
+/// A step of a trial: an entry that is noted, or what is kept then.
+enum Step {
+    Notes(Actor, Kind),
+    Keeps(Kept),
+}
+
+/// Whether that is kept.
+fn is_kept(devices: &Devices, kept: &Kept) -> bool {
+    match kept {
+        Kept::Callback(is_open) => devices.callback().is_some() == *is_open,
+        Kept::Failed(error) => devices.failed() == *error,
+        Kept::Own(error) => devices.own_error() == *error,
+        Kept::AsksDirect(device, asks) => devices.asks_direct().is_set(*device) == *asks,
+        Kept::Suspended(device, is_suspended) => devices.statuses().is_set(*device)
+            == *is_suspended,
+        Kept::ByDirect(disables) => devices.disabled_by_direct() == *disables,
+        Kept::ByLate(disables) => devices.disabled_by_late() == *disables,
     }
-    Ok(devices)
 }
 
-/// What is kept of those two at first.
-fn kept_of_two(alloc: Global) -> Result<Devices, Fail> {
-    let listed = two_devices(alloc)?;
-    Ok(Devices::new(alloc, listed.as_slice())?)
+/// Takes a step, and tells whether it came as it says.
+fn is_so(devices: &mut Devices, step: &Step) -> bool {
+    match step {
+        Step::Notes(who, kind) => {
+            devices.note(*kind, *who);
+            true
+        }
+        Step::Keeps(kept) => is_kept(devices, kept),
+    }
 }
+
+/// What is kept of two devices at first, of which the second is runtime suspended.
+fn kept_of_two(alloc: Global) -> Result<Devices, Fail> {
+    let name = Name::of_bytes(b"d").ok_or("a name")?;
+    let (parent, flags) = (None, DeviceFlags::WAKEUP);
+    let first = Device {
+        name,
+        parent,
+        flags,
+    };
+    let second = Device {
+        flags: DeviceFlags::RUNTIME_SUSPENDED,
+        ..first
+    };
+    Ok(Devices::new(alloc, &[first, second])?)
+}
+
+const OF_DEVICES: [Step; 22] = [
+    Step::Keeps(Kept::Suspended(0, false)),
+    Step::Keeps(Kept::Suspended(1, true)),
+    Step::Notes(TASK, Kind::Prepare { device: 1, r: 1 }),
+    Step::Keeps(Kept::AsksDirect(0, false)),
+    Step::Keeps(Kept::AsksDirect(1, true)),
+    Step::Notes(TASK, Kind::Begin(Phase::Late, 0)),
+    Step::Keeps(Kept::Callback(true)),
+    Step::Keeps(Kept::ByLate(true)),
+    Step::Notes(TASK, Kind::End(Phase::Late, 0, Some(Errno::EIO))),
+    Step::Keeps(Kept::Callback(false)),
+    Step::Notes(Actor::Dev(1), Kind::End(Phase::Late, 1, Some(Errno::EBUSY))),
+    Step::Keeps(Kept::Failed(Some(Errno::EBUSY))),
+    Step::Keeps(Kept::Own(Some(Errno::EIO))),
+    Step::Notes(TASK, Kind::Done(Phase::Late, Some(Errno::EIO))),
+    Step::Keeps(Kept::Failed(None)),
+    Step::Notes(TASK, Kind::End(Phase::Early, 0, Some(Errno::EIO))),
+    Step::Keeps(Kept::Failed(None)),
+    Step::Notes(TASK, Kind::Skip(Phase::Suspend, 1, SkipCause::Direct)),
+    Step::Keeps(Kept::ByDirect(true)),
+    Step::Keeps(Kept::Suspended(1, true)),
+    Step::Notes(
+        TASK,
+        Kind::RuntimeAsk {
+            device: 1,
+            to_suspended: false,
+            r: None,
+        },
+    ),
+    Step::Keeps(Kept::Suspended(1, false)),
+];
 
 /// Devices keep their answers to prepare and their runtime statuses; a callback's error on the way
 /// down stands to the end of its phase, and one on the way up does not.
 #[test]
 fn devices_keep_what_they_answer(rt: HostRuntime) -> Result<(), Fail> {
     let mut devices = kept_of_two(rt.alloc())?;
-    assert!(rt; !devices.statuses().is_set(0) && devices.statuses().is_set(1));
-    expect_asks_direct(&rt, &mut devices);
-    expect_callback(&rt, &mut devices);
-    expect_errors(&rt, &mut devices);
-    expect_asked(&rt, &mut devices);
+    for (number, step) in OF_DEVICES.iter().enumerate() {
+        assert!(rt; is_so(&mut devices, step), "step {number}");
+    }
     Ok(())
-}
-
-fn expect_asks_direct(rt: &impl Abort, devices: &mut Devices) {
-    devices.note(Kind::Prepare { device: 1, r: 1 }, TASK);
-    assert!(rt; !devices.asks_direct().is_set(0) && devices.asks_direct().is_set(1));
-}
-
-fn expect_callback(rt: &impl Abort, devices: &mut Devices) {
-    devices.note(Kind::Begin(Phase::Late, 0), TASK);
-    assert!(rt; devices.callback().is_some() && devices.disabled_by_late());
-    devices.note(Kind::End(Phase::Late, 0, Some(Errno::EIO)), TASK);
-    assert!(rt; devices.callback().is_none());
-}
-
-fn expect_error(rt: &impl Abort, found: Option<Errno>, wanted: Option<Errno>) {
-    assert_eq!(rt; found, wanted);
-}
-
-fn expect_errors(rt: &impl Abort, devices: &mut Devices) {
-    let own = Actor::Dev(1);
-    devices.note(Kind::End(Phase::Late, 1, Some(Errno::EBUSY)), own);
-    expect_error(rt, devices.failed(), Some(Errno::EBUSY));
-    expect_error(rt, devices.own_error(), Some(Errno::EIO));
-    devices.note(Kind::Done(Phase::Late, Some(Errno::EIO)), TASK);
-    expect_error(rt, devices.failed(), None);
-    devices.note(Kind::End(Phase::Early, 0, Some(Errno::EIO)), TASK);
-    expect_error(rt, devices.failed(), None);
-}
-
-fn expect_asked(rt: &impl Abort, devices: &mut Devices) {
-    devices.note(Kind::Skip(Phase::Suspend, 1, SkipCause::Direct), TASK);
-    assert!(rt; devices.disabled_by_direct());
-    let r = None;
-    let to_suspended = false;
-    let device = 1;
-    let ask = Kind::RuntimeAsk {
-        device,
-        to_suspended,
-        r,
-    };
-    devices.note(ask, TASK);
-    assert!(rt; !devices.statuses().is_set(1));
 }
 
 /// A script's own entries move its place; a post raises a mark, and a wait that ends lowers it.
@@ -273,51 +270,37 @@ fn a_script_moves_on(rt: HostRuntime) -> Result<(), Fail> {
     tasks.note(TASK, Kind::ReadWait);
     assert!(rt; tasks.seat(0).waits);
     tasks.note(TASK, Kind::Read(3));
-    expect_read(&rt, &tasks);
+    assert!(rt; tasks.seat(0).done == 1 && tasks.seat(0).last_read == Some(3));
     tasks.note(TASK, Kind::Post(0));
-    expect_raised(&rt, &tasks, 1);
+    assert!(rt; tasks.raised(0) == 1);
     tasks.note(TASK, Kind::Got(0));
-    expect_raised(&rt, &tasks, 0);
-    expect_turns(&rt, &tasks);
-    assert!(rt; !tasks.all_exited());
+    assert!(rt; tasks.raised(0) == 0 && tasks.seat(0).turns == 3 && !tasks.all_exited());
     tasks.note(TASK, Kind::Exit);
     assert!(rt; tasks.all_exited());
     Ok(())
-}
-
-fn expect_read(rt: &impl Abort, tasks: &Tasks) {
-    let seat = tasks.seat(0);
-    assert_eq!(rt; (seat.done, seat.last_read), (1, Some(3)));
-}
-
-fn expect_raised(rt: &impl Abort, tasks: &Tasks, raised: u32) {
-    assert_eq!(rt; tasks.raised(0), raised);
-}
-
-fn expect_turns(rt: &impl Abort, tasks: &Tasks) {
-    assert_eq!(rt; tasks.seat(0).turns, 3);
-}
-
-/// Asserts the least end of sleeps, and whether all are still at a time.
-fn expect_sleep(rt: &impl Abort, tasks: &Tasks, time: u64, end: Option<u64>, still: bool) {
-    assert_eq!(rt; (tasks.least_end(), tasks.are_still(time)), (end, still));
-}
-
-fn expect_slept(rt: &impl Abort, found: Option<u32>, wanted: Option<u32>) {
-    assert_eq!(rt; found, wanted);
 }
 
 /// A script that sleeps is still up to its moment, which is the least of all, and is found once that has come.
 #[test]
 fn the_least_end_of_sleeps_is_known(rt: HostRuntime) -> Result<(), Fail> {
     let mut tasks = Tasks::new(rt.alloc(), 1, 0)?;
-    expect_sleep(&rt, &tasks, 3, None, false);
+    assert!(rt; is_sleep(&tasks, 3, None, false));
     tasks.note(TASK, Kind::Sleep(7));
-    expect_sleep(&rt, &tasks, 3, Some(7), true);
-    expect_slept(&rt, tasks.next_slept(None, 3), None);
-    expect_slept(&rt, tasks.next_slept(None, 7), Some(0));
-    expect_slept(&rt, tasks.next_slept(Some(0), 7), None);
+    assert!(rt; is_sleep(&tasks, 3, Some(7), true));
+    assert!(rt; is_found(&tasks));
     tasks.note(TASK, Kind::Slept);
-    expect_sleep(&rt, &tasks, 8, None, false);
+    assert!(rt; is_sleep(&tasks, 8, None, false));
     Ok(())
+}
+
+/// Whether sleeps have that least end, and all are still at a time.
+fn is_sleep(tasks: &Tasks, time: u64, end: Option<u64>, still: bool) -> bool {
+    tasks.least_end() == end && tasks.are_still(time) == still
+}
+
+/// Whether the only sleep is found at its end, 7 ms, and not before.
+fn is_found(tasks: &Tasks) -> bool {
+    tasks.next_slept(None, 3).is_none()
+        && tasks.next_slept(None, 7) == Some(0)
+        && tasks.next_slept(Some(0), 7).is_none()
 }

@@ -1,54 +1,76 @@
-use sleep_base::Errno;
+use sleep_base::{Errno, Mem};
 use sleep_model::Kind;
+use std::alloc::Global;
+use std::process::Abort;
 use std::test::Fail;
 use syscore_ops::Syscore;
 
-fn suspended(kind: Kind) -> Option<u32> {
-    match kind {
-        Kind::SyscoreSuspend(x, _) => Some(x),
-        _ => None,
-    }
+/// A step of a trial: a part is suspended with that answer, one is resumed or none is left, an entry is noted, or which part
+/// comes next on the way down and on the way up.
+enum Step {
+    Suspends(u32, Option<Errno>),
+    Resumes(Option<Kind>),
+    Notes(Kind),
+    Next(Option<u32>),
+    NextUp(Option<u32>),
 }
 
-fn resumed(kind: Option<Kind>) -> Option<u32> {
-    match kind {
-        Some(Kind::SyscoreResume(x)) => Some(x),
-        _ => None,
-    }
+/// Whether the next part is that one, which is suspended with that answer.
+fn suspends(core: &mut Syscore, part: u32, r: Option<Errno>) -> bool {
+    core.next().is_some() && core.suspend_turn(r) == Kind::SyscoreSuspend(part, r)
 }
 
-/// Parts are suspended backward; after one that failed, those that were are resumed forward.
-#[test]
-fn backward_and_forward(rt: HostRuntime) -> Result<(), Fail> {
-    let mut core = Syscore::new(rt.alloc(), 3)?;
-    for part in [2, 1] {
-        if core.next().is_some() {
-            assert_eq!(rt; suspended(core.suspend_turn(None)), Some(part));
+/// Takes a step, and tells whether it came as it says.
+fn is_so(core: &mut Syscore, step: &Step) -> bool {
+    match step {
+        Step::Suspends(part, r) => suspends(core, *part, *r),
+        Step::Resumes(kind) => core.resume_turn() == *kind,
+        Step::Notes(kind) => {
+            core.note(*kind);
+            true
         }
+        Step::Next(part) => core.next() == *part,
+        Step::NextUp(part) => core.next_started() == *part,
     }
-    assert_eq!(rt; core.next(), Some(0));
-    if core.next().is_some() {
-        assert_eq!(rt; suspended(core.suspend_turn(Some(Errno::EIO))), Some(0));
+}
+
+/// Takes each step on so many parts, and asserts that it came as it says.
+fn follow(rt: &impl Abort, alloc: Global, parts: u32, steps: &[Step]) -> Result<(), Mem> {
+    let mut core = Syscore::new(alloc, parts)?;
+    for (number, step) in steps.iter().enumerate() {
+        assert!(rt; is_so(&mut core, step), "step {number}");
     }
-    assert_eq!(rt; core.next_started(), Some(1));
-    for part in [Some(1), Some(2), None] {
-        assert_eq!(rt; resumed(core.resume_turn()), part);
-    }
-    assert_eq!(rt; core.next(), Some(2));
     Ok(())
 }
 
-/// Entries of others change nothing, and where all are suspended there is no next.
+// Parts are suspended backward; after one that failed, those that were are resumed forward.
+const BACK_AND_FORTH: [Step; 9] = [
+    Step::Suspends(2, None),
+    Step::Suspends(1, None),
+    Step::Next(Some(0)),
+    Step::Suspends(0, Some(Errno::EIO)),
+    Step::NextUp(Some(1)),
+    Step::Resumes(Some(Kind::SyscoreResume(1))),
+    Step::Resumes(Some(Kind::SyscoreResume(2))),
+    Step::Resumes(None),
+    Step::Next(Some(2)),
+];
+
+// Entries of others change nothing, and where all are suspended there is no next.
+const NOTED: [Step; 8] = [
+    Step::Notes(Kind::SyscoreSuspend(0, None)),
+    Step::Notes(Kind::Clear),
+    Step::Notes(Kind::SyscoreSuspend(7, None)),
+    Step::Next(Some(1)),
+    Step::Notes(Kind::SyscoreSuspend(1, None)),
+    Step::Next(None),
+    Step::Notes(Kind::SyscoreResume(0)),
+    Step::Next(Some(0)),
+];
+
+/// Parts go down and up as each list of steps says.
 #[test]
-fn entries_are_noted(rt: HostRuntime) -> Result<(), Fail> {
-    let mut core = Syscore::new(rt.alloc(), 2)?;
-    core.note(Kind::SyscoreSuspend(0, None));
-    core.note(Kind::Clear);
-    core.note(Kind::SyscoreSuspend(7, None));
-    assert_eq!(rt; core.next(), Some(1));
-    core.note(Kind::SyscoreSuspend(1, None));
-    assert_eq!(rt; core.next(), None);
-    core.note(Kind::SyscoreResume(0));
-    assert_eq!(rt; core.next(), Some(0));
-    Ok(())
+fn parts_go_down_and_up(rt: HostRuntime) -> Result<(), Fail> {
+    follow(&rt, rt.alloc(), 3, &BACK_AND_FORTH)?;
+    Ok(follow(&rt, rt.alloc(), 2, &NOTED)?)
 }

@@ -2,126 +2,126 @@ use bitflags::Flags;
 use device_tree::{Tree, TreeFault, request};
 use sleep_base::Errno;
 use sleep_model::{Device, DeviceFlags, Name, Runtime};
-use std::alloc::Global;
 use std::process::Abort;
 use std::test::Fail;
 
-fn device(rt: &impl Abort, name: &str, parent: Option<u32>) -> Device {
-    Device {
-        name: Name::of_bytes(name.as_bytes()).expect(rt, "a name"),
+/// A name of that text.
+fn name(rt: &impl Abort, text: &[u8]) -> Name {
+    Name::of_bytes(text).expect(rt, "a name")
+}
+
+/// Registers a device.
+fn register(
+    rt: &impl Abort,
+    tree: &mut Tree,
+    text: &[u8],
+    parent: Option<u32>,
+) -> Result<u32, TreeFault> {
+    tree.register(Device {
+        name: name(rt, text),
         parent,
         flags: DeviceFlags::from_bits_retain(0),
+    })
+}
+
+/// Registers devices, and asserts what each is answered.
+fn register_all(
+    rt: &impl Abort,
+    tree: &mut Tree,
+    rows: &[(&str, Option<u32>, Result<u32, TreeFault>)],
+) {
+    for (text, parent, answer) in rows {
+        let found = register(rt, tree, text.as_bytes(), *parent);
+        assert!(rt; found == *answer, "at {text}");
     }
 }
 
-/// The devices a bus, a child of it, and one beside: each has its number, its parent and its
-/// children, and is found by its name.
+/// The devices a bus, two children of it, and one beside: each has its number, its parent and its
+/// children, and is found by its name. A name that is taken is refused, and then a parent that is not there.
 #[test]
 fn devices_are_found(rt: HostRuntime) {
     let mut tree = Tree::new(rt.alloc());
-    for (number, (name, parent)) in [
-        ("bus", None),
-        ("usb", Some(0)),
-        ("clk", None),
-        ("cam", Some(0)),
+    let rows = [
+        ("bus", Some(0), Err(TreeFault::NoParent)),
+        ("bus", None, Ok(0)),
+        ("bus", None, Err(TreeFault::NameTaken)),
+        ("bus", Some(7), Err(TreeFault::NameTaken)),
+        ("usb", Some(1), Err(TreeFault::NoParent)),
+        ("usb", Some(0), Ok(1)),
+        ("clk", None, Ok(2)),
+        ("cam", Some(0), Ok(3)),
+    ];
+    register_all(&rt, &mut tree, &rows);
+    expect_found(&rt, &tree);
+    assert!(rt; tree.into_devices().len() == 4);
+}
+
+fn expect_found(rt: &impl Abort, tree: &Tree) {
+    assert!(rt; tree.len() == 4);
+    assert!(rt; tree.find(&name(rt, b"cam")) == Some(3));
+    assert!(rt; tree.find(&name(rt, b"gpio")).is_none());
+    assert!(rt; tree.parent(1) == Some(0) && tree.parent(2).is_none() && tree.parent(4).is_none());
+    assert!(rt; tree.children(0) == [1u32, 3].as_slice());
+    assert!(rt; tree.children(1).is_empty() && tree.children(4).is_empty());
+}
+
+/// A text for each number below a thousand.
+fn text_of(number: u32) -> [u8; 3] {
+    [
+        b'a' + (number / 100 % 10) as u8,
+        b'a' + (number / 10 % 10) as u8,
+        b'a' + (number % 10) as u8,
     ]
-    .into_iter()
-    .enumerate()
-    {
-        assert_eq!(rt; tree.register(device(&rt, name, parent)), Ok(number as u32));
-    }
-    assert_eq!(rt; tree.len(), 4);
-    assert_eq!(rt; tree.find(&device(&rt, "cam", None).name), Some(3));
-    assert_eq!(rt; tree.find(&device(&rt, "gpio", None).name), None);
-    assert_eq!(rt; tree.parent(1), Some(0));
-    assert_eq!(rt; tree.parent(2), None);
-    assert_eq!(rt; tree.parent(4), None);
-    assert_eq!(rt; tree.children(0), [1u32, 3].as_slice());
-    assert!(rt; tree.children(1).is_empty());
-    assert!(rt; tree.children(4).is_empty());
-    assert_eq!(rt; tree.into_devices().len(), 4);
 }
 
-/// Each refusal, and that an earlier one goes before a later one; the tree stays as it was.
-#[test]
-fn devices_are_refused(rt: HostRuntime) {
-    let mut tree = Tree::new(rt.alloc());
-    assert_eq!(rt;
-        tree.register(device(&rt, "bus", Some(0))),
-        Err(TreeFault::NoParent)
-    );
-    assert_eq!(rt; tree.register(device(&rt, "bus", None)), Ok(0));
-    for (name, parent, fault) in [
-        ("bus", None, TreeFault::NameTaken),
-        ("bus", Some(7), TreeFault::NameTaken),
-        ("usb", Some(1), TreeFault::NoParent),
-    ] {
-        assert_eq!(rt; tree.register(device(&rt, name, parent)), Err(fault));
-        assert_eq!(rt; tree.len(), 1);
-    }
-}
-
-fn fill(alloc: Global, rt: &impl Abort, tree: &mut Tree) -> Result<(), Fail> {
+/// A thousand devices, each below the one before.
+fn fill(rt: &impl Abort, tree: &mut Tree) {
     for number in 0..1000u32 {
-        let name = format!(in alloc; "d{number}")?;
-        let parent = number.checked_sub(1);
-        assert_eq!(rt;
-            tree.register(device(rt, name.as_str(), parent)),
-            Ok(number)
-        );
+        let found = register(rt, tree, &text_of(number), number.checked_sub(1));
+        assert!(rt; found == Ok(number), "device {number}");
     }
-    Ok(())
 }
 
 /// A thousand devices stand, and no more, whatever the next one is.
 #[test]
-fn a_thousand_devices_stand(rt: HostRuntime) -> Result<(), Fail> {
+fn a_thousand_devices_stand(rt: HostRuntime) {
     let mut tree = Tree::new(rt.alloc());
-    fill(rt.alloc(), &rt, &mut tree)?;
-    for (name, parent) in [("d7", Some(0)), ("other", Some(1000)), ("other", None)] {
-        assert_eq!(rt;
-            tree.register(device(&rt, name, parent)),
-            Err(TreeFault::TooMany)
-        );
-    }
-    assert_eq!(rt; tree.len(), 1000);
-    assert_eq!(rt; tree.children(998), [999u32].as_slice());
-    Ok(())
+    fill(&rt, &mut tree);
+    let rows = [
+        ("aah", Some(0), Err(TreeFault::TooMany)),
+        ("other", Some(1000), Err(TreeFault::TooMany)),
+        ("other", None, Err(TreeFault::TooMany)),
+    ];
+    register_all(&rt, &mut tree, &rows);
+    assert!(rt; tree.len() == 1000 && tree.children(998) == [999u32].as_slice());
 }
+
+// Whether a device is prepared, whether runtime PM is disabled by direct-complete and by late, whether it is to be
+// suspended, and the answer.
+const REQUESTS: [(bool, bool, bool, bool, Result<(), Errno>); 8] = [
+    (false, false, false, true, Ok(())),
+    (false, false, false, false, Ok(())),
+    (true, false, false, true, Err(Errno::EAGAIN)),
+    (true, false, false, false, Ok(())),
+    (true, true, false, true, Err(Errno::EACCES)),
+    (true, true, false, false, Err(Errno::EACCES)),
+    (true, false, true, true, Err(Errno::EACCES)),
+    (true, false, true, false, Err(Errno::EACCES)),
+];
 
 /// A request is refused where runtime PM is disabled, and where a prepared device is to be
 /// suspended; else it sets the status.
 #[test]
 fn requests_are_answered(rt: HostRuntime) {
-    for (prepared, off_direct, off_late, to_suspended, answer) in [
-        (false, false, false, true, Ok(())),
-        (false, false, false, false, Ok(())),
-        (true, false, false, true, Err(Errno::EAGAIN)),
-        (true, false, false, false, Ok(())),
-        (true, true, false, true, Err(Errno::EACCES)),
-        (true, true, false, false, Err(Errno::EACCES)),
-        (true, false, true, true, Err(Errno::EACCES)),
-        (true, false, true, false, Err(Errno::EACCES)),
-    ] {
-        let before = Runtime {
+    for (prepared, off_direct, off_late, to_suspended, answer) in REQUESTS {
+        let mut r = Runtime {
             suspended: !to_suspended,
             prepared,
             off_direct,
             off_late,
         };
-        let mut r = before;
-        assert_eq!(rt; request(&mut r, to_suspended), answer);
-        let suspended = if answer.is_ok() {
-            to_suspended
-        } else {
-            before.suspended
-        };
-        assert_eq!(rt;
-            r,
-            Runtime {
-                suspended,
-                ..before
-            }
-        );
+        assert!(rt; request(&mut r, to_suspended) == answer);
+        assert!(rt; r.suspended == (to_suspended == answer.is_ok()));
+        assert!(rt; r.prepared == prepared && r.off_direct == off_direct && r.off_late == off_late);
     }
 }

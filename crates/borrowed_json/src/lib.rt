@@ -12,6 +12,3 @@ mod read;
 pub use json::{Scratch, Value};
 pub use look::{as_array, as_bool, as_i64, as_object, as_str, as_u64, get};
 pub use read::read_value;
-
-#[cfg(test)]
-mod tests;

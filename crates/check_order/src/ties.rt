@@ -58,6 +58,13 @@ impl DeviceTies {
         )
     }
 
+    /// The devices and the links are as the reader of machines takes them.
+    pub fn are_ties(&self)
+        ensures { AreTies self.now }
+    {
+        let _links = &self.links;
+    }
+
     /// The order of devices: as they were registered, moved by the links in turn, dormant ones too
     /// (`drivers/base/power/main.c`, `dpm_list`).
     pub fn order(&self) -> &[u32]

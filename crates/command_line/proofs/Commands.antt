@@ -22,9 +22,10 @@ more : (old sub new : Command) (a s : App) → app_of old ≡ a → app_of sub �
 more old sub new a s old_is sub_is plain adds =
     adds.shape (no_globals sub (ap (λ (x : App). x.top.is_plain) sub_is ∙ plain)) ∙ ap₂ with_subcommand old_is (ap (λ (x : App). x.top) sub_is)
 
-pub whole_is : (none one two three four run gen soak locks stats all : Command) → app_of none ≡ on_top without_help (new_app (codes "sleep")) → app_of run ≡ run_app → app_of gen ≡ seeded_app (codes "gen")
-    → app_of soak ≡ seeded_app (codes "soak") → app_of locks ≡ alone_app (codes "locks") → app_of stats ≡ alone_app (codes "stats")
-    → AddsSubcommand none run one → AddsSubcommand one gen two → AddsSubcommand two soak three → AddsSubcommand three locks four → AddsSubcommand four stats all → app_of all ≡ whole_app
-whole_is none one two three four run gen soak locks stats all none_is run_is gen_is soak_is locks_is stats_is first second third fourth fifth =
+pub whole_is : (none one two three four five run gen soak locks stats check all : Command) → app_of none ≡ on_top without_help (new_app (codes "sleep")) → app_of run ≡ run_app → app_of gen ≡ seeded_app (codes "gen")
+    → app_of soak ≡ seeded_app (codes "soak") → app_of locks ≡ alone_app (codes "locks") → app_of stats ≡ alone_app (codes "stats") → app_of check ≡ alone_app (codes "check")
+    → AddsSubcommand none run one → AddsSubcommand one gen two → AddsSubcommand two soak three → AddsSubcommand three locks four → AddsSubcommand four stats five → AddsSubcommand five check all → app_of all ≡ whole_app
+whole_is none one two three four five run gen soak locks stats check all none_is run_is gen_is soak_is locks_is stats_is check_is first second third fourth fifth sixth =
     let middle = more two soak three _ _ (more one gen two _ _ (more none run one _ _ none_is run_is refl first) gen_is refl second) soak_is refl third in
-    more four stats all _ _ (more three locks four _ _ middle locks_is refl fourth) stats_is refl fifth
+    let later = more four stats five _ _ (more three locks four _ _ middle locks_is refl fourth) stats_is refl fifth in
+    more five check all _ _ later check_is refl sixth

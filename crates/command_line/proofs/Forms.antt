@@ -14,7 +14,7 @@ use Rattle.clap.specs.Values.{kind_of}
 use Rattle.clap.proofs.OnLiterals.{clap_on_literals}
 use Rattle.clap.proofs.WalkLemmas.{both}
 use Rattle.command_line.specs.declared.command.Command.{Command}
-use Rattle.command_line.specs.declared.command.Command.TheVariants.{Gen, Soak, Locks, Stats}
+use Rattle.command_line.specs.declared.command.Command.TheVariants.{Gen, Soak, Check, Locks, Stats}
 use Rattle.command_line.specs.Words.{alone_of, command_in, parsed_of, run_of, seeded_of, workers_of}
 use Rattle.command_line.specs.Parses.{alone_read, are_few, command_read, is_end_of_options, run_read, seeded_read, whole_app}
 use Rattle.command_line.proofs.Turns.{word_is, IsLong, IsPlain}
@@ -90,6 +90,13 @@ stats_words name (x ∷ []) few ends = lifted (alone_leaf (codes "stats")) (alon
 stats_words name (x ∷ y ∷ []) few ends = lifted (alone_leaf (codes "stats")) (alone_read Stats) None (x ∷ y ∷ []) (alone_more (codes "stats") Stats x (y ∷ []) (neither (is_end_of_options x) (is_end_of_options y || false) ends).0)
 stats_words name (x ∷ y ∷ z ∷ rest) few ends = absurd (not_few x y z rest few)
 
+check_words : (name : Text) (words : List Text) → nat_le (length words) 2 ≡ true → Ends words → WordsAgree name (codes "check" ∷ words)
+unfolding clap_on_literals
+check_words name [] few ends = lifted (alone_leaf (codes "check")) (alone_read Check) (alone_of Check []) [] (alone_none (codes "check") Check)
+check_words name (x ∷ []) few ends = lifted (alone_leaf (codes "check")) (alone_read Check) None (x ∷ []) (alone_more (codes "check") Check x [] (neither (is_end_of_options x) false ends).0)
+check_words name (x ∷ y ∷ []) few ends = lifted (alone_leaf (codes "check")) (alone_read Check) None (x ∷ y ∷ []) (alone_more (codes "check") Check x (y ∷ []) (neither (is_end_of_options x) (is_end_of_options y || false) ends).0)
+check_words name (x ∷ y ∷ z ∷ rest) few ends = absurd (not_few x y z rest few)
+
 -- where the first word's turn fails, the level does
 level_fails : (s : Shape) (names : Names) (h : Held) (word : Text) (words : List Text) (has : Bool) (under : Kinds) (k : ErrorKind) (ks : Kinds)
     → turn_fault s names (walk_from h) word ≡ k ∷ ks → level_fault s names h (word ∷ words) has under ≡ k ∷ ks
@@ -103,11 +110,11 @@ level_fails s names h word words has under k ks e =
 abbrev top : App
 top = built whole_app
 
--- a first word that names none of the five
+-- a first word that names none of the six
 module _ (name word : Text) (words : List Text) (no_run : bytes_eq word (codes "run") ≡ false) (no_gen : bytes_eq word (codes "gen") ≡ false)
-    (no_soak : bytes_eq word (codes "soak") ≡ false) (no_locks : bytes_eq word (codes "locks") ≡ false) (no_stats : bytes_eq word (codes "stats") ≡ false) (end : is_end_of_options word ≡ false) where
+    (no_soak : bytes_eq word (codes "soak") ≡ false) (no_locks : bytes_eq word (codes "locks") ≡ false) (no_stats : bytes_eq word (codes "stats") ≡ false) (no_check : bytes_eq word (codes "check") ≡ false) (end : is_end_of_options word ≡ false) where
   unnamed : subcommand_met (names_of top) idle word ≡ None
-  unnamed = rw (other_text word (codes "run") no_run, other_text word (codes "gen") no_gen, other_text word (codes "soak") no_soak, other_text word (codes "locks") no_locks, other_text word (codes "stats") no_stats) refl
+  unnamed = rw (other_text word (codes "run") no_run, other_text word (codes "gen") no_gen, other_text word (codes "soak") no_soak, other_text word (codes "locks") no_locks, other_text word (codes "stats") no_stats, other_text word (codes "check") no_check) refl
 
   first_fails : (k : ErrorKind) × (ks : Kinds) × (turn_fault top.top (names_of top) (walk_from nothing_held) word ≡ k ∷ ks)
   unfolding clap_on_literals
@@ -120,7 +127,7 @@ module _ (name word : Text) (words : List Text) (no_run : bytes_eq word (codes "
       go (inr (inr h)) = (UnknownArgument, InvalidSubcommand ∷ [], h.0)
 
   no_command : command_in (word ∷ words) ≡ None
-  no_command = rw (no_run, no_gen, no_soak, no_locks, no_stats) refl
+  no_command = rw (no_run, no_gen, no_soak, no_locks, no_stats, no_check) refl
 
   whole_fails : (k : ErrorKind) (ks : Kinds) → turn_fault top.top (names_of top) (walk_from nothing_held) word ≡ k ∷ ks → fault_of whole_app (name ∷ word ∷ words) ≡ k ∷ ks
   whole_fails k ks e = level_fails top.top (names_of top) nothing_held word words (is_some (entered top (stop_after top.top.rules (names_of top) (word ∷ words))))
@@ -151,9 +158,13 @@ words_agree name (word ∷ words) few = run (bytes_eq word (codes "run")) refl
     parts : (is_end_of_options word ≡ false) × Ends words
     parts = neither (is_end_of_options word) (list_any is_end_of_options words) ends
 
+    check : bytes_eq word (codes "run") ≡ false → bytes_eq word (codes "gen") ≡ false → bytes_eq word (codes "soak") ≡ false → bytes_eq word (codes "locks") ≡ false → bytes_eq word (codes "stats") ≡ false → (b : Bool) → bytes_eq word (codes "check") ≡ b → WordsAgree name (word ∷ words)
+    check r g s l t true e = subst (λ w. WordsAgree name (w ∷ words)) (sym (same_text word (codes "check") e)) (check_words name words one parts.1)
+    check r g s l t false e = other_words name word words r g s l t e parts.0
+
     stats : bytes_eq word (codes "run") ≡ false → bytes_eq word (codes "gen") ≡ false → bytes_eq word (codes "soak") ≡ false → bytes_eq word (codes "locks") ≡ false → (b : Bool) → bytes_eq word (codes "stats") ≡ b → WordsAgree name (word ∷ words)
     stats r g s l true e = subst (λ w. WordsAgree name (w ∷ words)) (sym (same_text word (codes "stats") e)) (stats_words name words one parts.1)
-    stats r g s l false e = other_words name word words r g s l e parts.0
+    stats r g s l false e = check r g s l e (bytes_eq word (codes "check")) refl
 
     locks : bytes_eq word (codes "run") ≡ false → bytes_eq word (codes "gen") ≡ false → bytes_eq word (codes "soak") ≡ false → (b : Bool) → bytes_eq word (codes "locks") ≡ b → WordsAgree name (word ∷ words)
     locks r g s true e = subst (λ w. WordsAgree name (w ∷ words)) (sym (same_text word (codes "locks") e)) (locks_words name words one parts.1)
@@ -173,20 +184,21 @@ words_agree name (word ∷ words) few = run (bytes_eq word (codes "run")) refl
 
 -- ---- words of no form
 
-choose : (a b c d e : Bool) (p q r s t : Option Command) → p ≡ None → q ≡ None → r ≡ None → s ≡ None → t ≡ None → cond a p (cond b q (cond c r (cond d s (cond e t None)))) ≡ None
-choose true b c d e p q r s t one two three four five = one
-choose false true c d e p q r s t one two three four five = two
-choose false false true d e p q r s t one two three four five = three
-choose false false false true e p q r s t one two three four five = four
-choose false false false false true p q r s t one two three four five = five
-choose false false false false false p q r s t one two three four five = refl
+choose : (a b c d e f : Bool) (p q r s t u : Option Command) → p ≡ None → q ≡ None → r ≡ None → s ≡ None → t ≡ None → u ≡ None → cond a p (cond b q (cond c r (cond d s (cond e t (cond f u None))))) ≡ None
+choose true b c d e f p q r s t u one two three four five six = one
+choose false true c d e f p q r s t u one two three four five six = two
+choose false false true d e f p q r s t u one two three four five six = three
+choose false false false true e f p q r s t u one two three four five six = four
+choose false false false false true f p q r s t u one two three four five six = five
+choose false false false false false true p q r s t u one two three four five six = six
+choose false false false false false false p q r s t u one two three four five six = refl
 
 -- whatever the first word is, these after it make no form
 unformed : (word : Text) (words : List Text) → run_of words ≡ None → ((make : ℕ → ℕ → Command) → seeded_of make words ≡ None) → ((what : Command) → alone_of what words ≡ None) → command_in (word ∷ words) ≡ None
 unformed word words run seeded alone =
-    choose (bytes_eq word (codes "run")) (bytes_eq word (codes "gen")) (bytes_eq word (codes "soak")) (bytes_eq word (codes "locks")) (bytes_eq word (codes "stats"))
-    (run_of words) (seeded_of Gen words) (seeded_of Soak words) (alone_of Locks words) (alone_of Stats words)
-    run (seeded Gen) (seeded Soak) (alone Locks) (alone Stats)
+    choose (bytes_eq word (codes "run")) (bytes_eq word (codes "gen")) (bytes_eq word (codes "soak")) (bytes_eq word (codes "locks")) (bytes_eq word (codes "stats")) (bytes_eq word (codes "check"))
+    (run_of words) (seeded_of Gen words) (seeded_of Soak words) (alone_of Locks words) (alone_of Stats words) (alone_of Check words)
+    run (seeded Gen) (seeded Soak) (alone Locks) (alone Stats) (alone Check)
 
 end_is : (word : Text) → is_end_of_options word ≡ true → word ≡ codes "--"
 end_is word e = same_text word (codes "--") e

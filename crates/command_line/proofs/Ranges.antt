@@ -4,7 +4,7 @@ use Rattle.std.specs.Prelude.{IfSome, nat_le, option_and_then, bytes_eq, take, d
 use Rattle.std.specs.List.{list_all}
 use Rattle.clap.proofs.WalkLemmas.{both}
 use Rattle.command_line.specs.declared.command.Command.{Command}
-use Rattle.command_line.specs.declared.command.Command.TheVariants.{Run, Gen, Soak, Locks, Stats, Idle}
+use Rattle.command_line.specs.declared.command.Command.TheVariants.{Run, Gen, Soak, Check, Locks, Stats, Idle}
 use Rattle.command_line.specs.Words.{IsInRange, alone_of, command_in, command_of, idle_of, idle_sized, workers_behind, workers_number, has_no_zero_before, is_digit, number_in, run_of, seeded_of, value_of, workers_of, workers_prefix}
 
 if_so : (b : Bool) (n : ℕ) (P : ℕ → Type 0) → (b ≡ true → P n) → IfSome (cond b (Some n) None) P
@@ -99,7 +99,8 @@ in_range (name ∷ word ∷ words) =
     (either (bytes_eq word (codes "gen")) _ _ (seeded_range Gen (λ s d l m. (l, m)) words)
     (either (bytes_eq word (codes "soak")) _ _ (seeded_range Soak (λ s d l m. (l, m)) words)
     (either (bytes_eq word (codes "locks")) _ _ (alone_range Locks tt words)
-    (either (bytes_eq word (codes "stats")) _ None (alone_range Stats tt words) tt)))))
+    (either (bytes_eq word (codes "stats")) _ _ (alone_range Stats tt words)
+    (either (bytes_eq word (codes "check")) _ None (alone_range Check tt words) tt))))))
 
 -- so is what was read of them
 pub asked_in_range : (words : List (List ℕ)) (o : Option Command) → o ≡ command_of words → IfSome o IsInRange

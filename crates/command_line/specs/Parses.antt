@@ -5,7 +5,7 @@ use Rattle.std.specs.Option.{option_map_or}
 use Rattle.clap.specs.Simple.{on_top}
 use Rattle.clap.specs.Words.{App, Row, Rule, Shape, first_of, new_app, new_rule, with_rule, with_subcommand}
 use Rattle.command_line.specs.declared.command.Command.{Command}
-use Rattle.command_line.specs.declared.command.Command.TheVariants.{Run, Gen, Soak, Locks, Stats}
+use Rattle.command_line.specs.declared.command.Command.TheVariants.{Run, Gen, Soak, Check, Locks, Stats}
 use Rattle.command_line.specs.Words.{workers_of, seeded_of}
 
 -- the word that ends a command line's options
@@ -40,11 +40,11 @@ without_help s = record s { disable_help_flag = true; disable_help_subcommand = 
 abbrev pub alone_app : List ℕ → App
 alone_app name = new_app name
 
--- the five commands
+-- the six commands
 abbrev pub whole_app : App
 whole_app =
-    with_subcommand (with_subcommand (with_subcommand (with_subcommand (with_subcommand (on_top without_help (new_app (codes "sleep"))) run_app.top)
-    (seeded_app (codes "gen")).top) (seeded_app (codes "soak")).top) (alone_app (codes "locks")).top) (alone_app (codes "stats")).top
+    with_subcommand (with_subcommand (with_subcommand (with_subcommand (with_subcommand (with_subcommand (on_top without_help (new_app (codes "sleep"))) run_app.top)
+    (seeded_app (codes "gen")).top) (seeded_app (codes "soak")).top) (alone_app (codes "locks")).top) (alone_app (codes "stats")).top) (alone_app (codes "check")).top
 
 -- what the matches of run ask for
 abbrev pub run_read : List Row → Option Command
@@ -65,4 +65,5 @@ command_read None = None
 command_read (Some p) =
     if bytes_eq p.0 (codes "run") then run_read p.1 else if bytes_eq p.0 (codes "gen") then seeded_read Gen p.1
     else if bytes_eq p.0 (codes "soak") then seeded_read Soak p.1 else if bytes_eq p.0 (codes "locks") then alone_read Locks p.1
-    else if bytes_eq p.0 (codes "stats") then alone_read Stats p.1 else None
+    else if bytes_eq p.0 (codes "stats") then alone_read Stats p.1 else if bytes_eq p.0 (codes "check") then alone_read Check p.1
+    else None

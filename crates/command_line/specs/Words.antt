@@ -2,7 +2,7 @@
 use Rattle.std.specs.Prelude.{ℕ, ◌≤◌, ◌+◌, ◌-◌, ◌*◌, ◌^◌, List, [], ◌∷◌, length, codes, Bool, true, false, ◌&&◌, take, drop, bytes_eq, nat_le, nat_lt, fold, Option, Some, None, option_map, option_and_then, if◌then◌else◌}
 use Rattle.std.specs.List.{list_all}
 use Rattle.command_line.specs.declared.command.Command.{Command}
-use Rattle.command_line.specs.declared.command.Command.TheVariants.{Run, Gen, Soak, Locks, Stats, Idle}
+use Rattle.command_line.specs.declared.command.Command.TheVariants.{Run, Gen, Soak, Check, Locks, Stats, Idle}
 
 -- a digit
 abbrev pub is_digit : ℕ → Bool
@@ -62,7 +62,8 @@ command_in [] = None
 command_in (word ∷ words) =
     if bytes_eq word (codes "run") then run_of words else if bytes_eq word (codes "gen") then seeded_of Gen words
     else if bytes_eq word (codes "soak") then seeded_of Soak words else if bytes_eq word (codes "locks") then alone_of Locks words
-    else if bytes_eq word (codes "stats") then alone_of Stats words else None
+    else if bytes_eq word (codes "stats") then alone_of Stats words else if bytes_eq word (codes "check") then alone_of Check words
+    else None
 
 -- what these words ask for, of a form that the parser is told; the first is the program's name
 abbrev pub parsed_of : List (List ℕ) → Option Command
@@ -103,6 +104,7 @@ abbrev pub IsInRange : Command → Type 0
 IsInRange (Run workers) = (1 ≤ workers) × (workers ≤ 64)
 IsInRange (Gen seed devices) = (1 ≤ devices) × (devices ≤ 1000)
 IsInRange (Soak seed devices) = (1 ≤ devices) × (devices ≤ 1000)
+IsInRange Check = Unit {0}
 IsInRange Locks = Unit {0}
 IsInRange Stats = Unit {0}
 IsInRange (Idle wakers events sessions workers) =

@@ -15,6 +15,8 @@ pub enum Command {
         seed: u64,
         devices: u32,
     },
+    /// To read a machine and a log of it, and to write whether the log is legal.
+    Check,
     /// To read lines that lock and unlock names, and to write their answers.
     Locks,
     /// To read a machine and a log of it, and to write the log's statistics.

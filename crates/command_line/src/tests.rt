@@ -48,7 +48,7 @@ const NUMBERS: [&str; 31] = [
 ];
 
 /// Words that are too few, too many, or none of the forms'.
-const WORDS: [&str; 59] = [
+const WORDS: [&str; 64] = [
     "sleep",
     "",
     "sleep ",
@@ -104,6 +104,11 @@ const WORDS: [&str; 59] = [
     "sleep stat",
     "sleep Stats",
     "sleep stats ",
+    "sleep check 1",
+    "sleep check -1",
+    "sleep check stats",
+    "sleep Check",
+    "sleep check ",
     "sleep läuft",
     "sleep -é",
     "sleep --é",
@@ -111,7 +116,7 @@ const WORDS: [&str; 59] = [
 ];
 
 /// `--`, wherever it stands after the name.
-const ENDS: [&str; 12] = [
+const ENDS: [&str; 13] = [
     "sleep --",
     "sleep -- run",
     "sleep run --",
@@ -124,10 +129,11 @@ const ENDS: [&str; 12] = [
     "sleep gen 1 1 --",
     "sleep locks --",
     "sleep stats --",
+    "sleep check --",
 ];
 
 /// Calls for help and for the version, in each spelling and place.
-const HELP: [&str; 26] = [
+const HELP: [&str; 28] = [
     "sleep help",
     "sleep help run",
     "sleep help gen soak",
@@ -154,6 +160,8 @@ const HELP: [&str; 26] = [
     "sleep stats help",
     "sleep stats --help",
     "sleep stats -h",
+    "sleep check help",
+    "sleep check --help",
 ];
 
 /// The first of these lines that asks for something.
@@ -220,6 +228,7 @@ fn words_of_a_form(rt: HostRuntime) -> Result<(), Fail> {
         ),
         ("sleep locks", Command::Locks),
         ("sleep stats", Command::Stats),
+        ("sleep check", Command::Check),
         (
             "sleep idle 8 100 50",
             Command::Idle {

@@ -57,7 +57,8 @@ fn whole_command<'a>(alloc: Global) -> Result<clap::Command<'a>, AllocError>
         .subcommand(seeded_command(alloc, "gen")?)?
         .subcommand(seeded_command(alloc, "soak")?)?
         .subcommand(clap::Command::new(alloc, "locks"))?
-        .subcommand(clap::Command::new(alloc, "stats"))
+        .subcommand(clap::Command::new(alloc, "stats"))?
+        .subcommand(clap::Command::new(alloc, "check"))
 }
 
 /// The matches of the words.
@@ -117,6 +118,7 @@ fn command_read(matches: &ArgMatches) -> Option<Command>
         "soak" => seeded_read(inner).map(|(seed, devices)| Command::Soak { seed, devices }),
         "locks" => Some(Command::Locks),
         "stats" => Some(Command::Stats),
+        "check" => Some(Command::Check),
         _ => None,
     }
 }

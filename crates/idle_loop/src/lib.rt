@@ -12,6 +12,3 @@ pub use entry::{IdleEntry, IdleKind, IdleLog, IdleSizes, IdleState, WakerNow};
 pub use gate::IdleGate;
 pub use laws::{no_hard_event_sleeps, no_wakeup_is_lost};
 pub use run::run_idle_alone;
-
-#[cfg(test)]
-mod tests;

@@ -9,6 +9,3 @@ mod merge;
 pub use book::IdleBook;
 pub use laws::journal_and_hard_events_merge;
 pub use merge::merge_idle;
-
-#[cfg(test)]
-mod tests;

@@ -12,6 +12,3 @@ mod steps;
 mod worker;
 
 pub use run::run_idle;
-
-#[cfg(test)]
-mod tests;

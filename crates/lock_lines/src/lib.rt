@@ -6,8 +6,6 @@ mod board;
 mod command;
 mod cut;
 mod fault;
-#[cfg(test)]
-mod tests;
 mod text;
 mod verb;
 

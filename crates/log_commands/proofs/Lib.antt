@@ -1,4 +1,5 @@
 pub mod Fitting
+pub mod Judging
 pub mod Rows
 pub mod Standing
 pub mod Trying

@@ -19,7 +19,7 @@ use Rattle.device_links.specs.Passes.{CanStand}
 use Rattle.machine_file.specs.Reading.{links_among}
 use Rattle.sleep_stats.specs.Linked.{added_by, added_links}
 use Rattle.program_ending.specs.declared.ending.Ending.{Ending}
-use Rattle.program_ending.specs.declared.ending.Ending.TheVariants.{Done, Stuck, NoForm, ReadFault, WriteFault, Refused, NoMemory}
+use Rattle.program_ending.specs.declared.ending.Ending.TheVariants.{Done, Stuck, Illegal, NoForm, ReadFault, WriteFault, Refused, NoMemory}
 use Rattle.program_ending.specs.Telling.{Refuses}
 use Rattle.log_commands.specs.Input.{IsBadInput, IsLogIn}
 use Rattle.log_commands.specs.Stats.{IsBadLink, IsGoodTold, IsStatsOf, IsToldOf, RefusesStats}
@@ -64,6 +64,7 @@ module _ (m : Machine) (l : Linked) (is : l ≡ links_among m) (log : Log) where
   one_bad NoMemory h = tt
   one_bad Done h = h
   one_bad Stuck h = h
+  one_bad Illegal h = h
   one_bad NoForm h = h
   one_bad ReadFault h = h
   one_bad WriteFault h = h
@@ -96,6 +97,7 @@ stats_refused bytes m log (Err (Refused refusal)) read h = inr (record { machine
 stats_refused bytes m log (Err NoMemory) read h = tt
 stats_refused bytes m log (Err Done) read h = h
 stats_refused bytes m log (Err Stuck) read h = h
+stats_refused bytes m log (Err Illegal) read h = h
 stats_refused bytes m log (Err NoForm) read h = h
 stats_refused bytes m log (Err ReadFault) read h = h
 stats_refused bytes m log (Err WriteFault) read h = h
@@ -106,6 +108,7 @@ stats_unread bytes (Refused refusal) h = inl h
 stats_unread bytes NoMemory h = tt
 stats_unread bytes Done h = h
 stats_unread bytes Stuck h = h
+stats_unread bytes Illegal h = h
 stats_unread bytes NoForm h = h
 stats_unread bytes ReadFault h = h
 stats_unread bytes WriteFault h = h

@@ -1,4 +1,5 @@
 pub mod Input
+pub mod Judging
 pub mod Stats
 pub mod Taking
 pub mod Telling

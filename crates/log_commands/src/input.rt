@@ -41,7 +41,7 @@ fn line_length(bytes: &[u8]) -> usize
 }
 
 /// The bytes before the first newline, and those behind it; without one, all and none.
-fn cut_line(bytes: &[u8]) -> (&[u8], &[u8])
+pub(crate) fn cut_line(bytes: &[u8]) -> (&[u8], &[u8])
     ensures file { result.0.now ≡ file_in bytes.now }
     ensures text { result.1.now ≡ text_in bytes.now }
 {
@@ -53,7 +53,7 @@ fn cut_line(bytes: &[u8]) -> (&[u8], &[u8])
 }
 
 /// The machine that these bytes spell, with its links.
-fn machine_of(alloc: Global, bytes: &[u8]) -> Result<ReadMachine, Ending>
+pub(crate) fn machine_of(alloc: Global, bytes: &[u8]) -> Result<ReadMachine, Ending>
     ensures spells { IfOk result (λ r. machine_in bytes.now ≡ Some r.machine) }
     ensures few { OnOk result (length bytes.now ≤ 16777216) }
     ensures links { IfOk result (λ r. r.links ≡ links_among r.machine) }

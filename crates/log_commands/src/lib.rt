@@ -7,6 +7,8 @@ mod stats;
 mod telling;
 #[cfg(test)]
 mod tests;
+mod verdict;
 
 pub use input::{LogInput, read_log_input};
 pub use stats::stats_of;
+pub use verdict::{Judged, judge};

@@ -26,7 +26,7 @@ fn put_words(text: &mut Vec<u8>, word: &str, other: &str) -> Result<(), Mem>
 }
 
 /// Puts a word and a number behind a text.
-fn put_count(text: &mut Vec<u8>, word: &str, number: usize) -> Result<(), Mem>
+pub(crate) fn put_count(text: &mut Vec<u8>, word: &str, number: usize) -> Result<(), Mem>
     ensures { OnOk result (text.new.items ≡ text.old.items ++ counted word.now number) }
 {
     let mut digits = Buffer::new();
@@ -34,7 +34,7 @@ fn put_count(text: &mut Vec<u8>, word: &str, number: usize) -> Result<(), Mem>
 }
 
 /// Puts a word and a number behind a text, in a line.
-fn put_row(text: &mut Vec<u8>, word: &str, number: u32) -> Result<(), Mem>
+pub(crate) fn put_row(text: &mut Vec<u8>, word: &str, number: u32) -> Result<(), Mem>
     ensures { OnOk result (text.new.items ≡ text.old.items ++ count_row word.now number) }
 {
     put_count(text, word, number as usize)?;

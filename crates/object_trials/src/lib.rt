@@ -1,4 +1,5 @@
-//! The objects of a run, sent to threads, called, looked through and closed: no program stands on it.
+//! The objects of a run, sent to threads and called: no program stands on it. Tests of `sleep_main` run whole machines through
+//! their other calls.
 #![tactic(auto)]
 
 #[cfg(test)]

@@ -3,7 +3,7 @@ use Rattle.std.proofs.Common.{◌≡◌, ◌++◌, ◌∙◌, ℕ, List, [], ref
 use Rattle.std.proofs.lemmas.List.{append-nil}
 use Rattle.std.specs.Prelude.{◌∷◌, codes, decimal, string_bytes}
 use Rattle.program_ending.specs.declared.ending.Ending.{Ending}
-use Rattle.program_ending.specs.declared.ending.Ending.TheVariants.{Done, Stuck, NoForm, ReadFault, WriteFault, Refused, NoMemory}
+use Rattle.program_ending.specs.declared.ending.Ending.TheVariants.{Done, Stuck, Illegal, NoForm, ReadFault, WriteFault, Refused, NoMemory}
 use Rattle.program_ending.specs.declared.refusal.Refusal.TheVariants.{LongMachine, Broken, SourceFull, LongInput, BadLine, TooManyLinks, LinkCycle, LongLocks, BadLockLine}
 use Rattle.program_ending.specs.Endings.{text_of, head_of, number_of, colon_of, name_of, tail_of}
 
@@ -24,6 +24,7 @@ text_parts (Refused LongLocks) = plain (codes "locks: longer than 16777216 bytes
 text_parts (Refused (BadLockLine n)) = ap (λ bs. bs ++ 10 ∷ []) (append-nil (codes "locks: line " ++ decimal n))
 text_parts Done = refl
 text_parts Stuck = refl
+text_parts Illegal = refl
 text_parts NoForm = append-nil _ ∙ (append-nil _ ∙ append-nil _)
 text_parts ReadFault = append-nil _ ∙ (append-nil _ ∙ append-nil _)
 text_parts WriteFault = append-nil _ ∙ (append-nil _ ∙ append-nil _)

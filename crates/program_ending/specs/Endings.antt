@@ -1,7 +1,7 @@
 -- How the program ends: its status, and what it says on standard error (own).
 use Rattle.std.specs.Prelude.{ℕ, List, [], ◌∷◌, ◌++◌, codes, decimal, string_bytes}
 use Rattle.program_ending.specs.declared.ending.Ending.{Ending}
-use Rattle.program_ending.specs.declared.ending.Ending.TheVariants.{Done, Stuck, NoForm, ReadFault, WriteFault, Refused, NoMemory}
+use Rattle.program_ending.specs.declared.ending.Ending.TheVariants.{Done, Stuck, Illegal, NoForm, ReadFault, WriteFault, Refused, NoMemory}
 use Rattle.program_ending.specs.declared.refusal.Refusal.{Refusal}
 use Rattle.program_ending.specs.declared.refusal.Refusal.TheVariants.{LongMachine, Broken, SourceFull, LongInput, BadLine, TooManyLinks, LinkCycle, LongLocks, BadLockLine}
 
@@ -13,6 +13,7 @@ refusal_status refusal = 3
 -- the program's status
 abbrev pub status_of : Ending → ℕ
 status_of Done = 0
+status_of Illegal = 1
 status_of NoForm = 2
 status_of ReadFault = 4
 status_of WriteFault = 5
@@ -40,7 +41,8 @@ refusal_text (BadLockLine n) = line (codes "locks: line " ++ decimal n)
 abbrev pub text_of : Ending → List ℕ
 text_of Done = []
 text_of Stuck = []
-text_of NoForm = line (codes "usage: run [--workers N] or gen SEED DEVICES or soak SEED DEVICES or locks or stats or idle WAKERS EVENTS SESSIONS [--workers N]")
+text_of Illegal = []
+text_of NoForm = line (codes "usage: run [--workers N] or gen SEED DEVICES or soak SEED DEVICES or check or idle WAKERS EVENTS SESSIONS [--workers N] or locks or stats")
 text_of ReadFault = line (codes "read fault")
 text_of WriteFault = line (codes "write fault")
 text_of (Refused refusal) = refusal_text refusal

@@ -11,6 +11,8 @@ pub enum Ending {
     Done,
     /// The text was written, of a run in which nobody went on.
     Stuck,
+    /// The text was written, of a log that is not legal and finished.
+    Illegal,
     /// The words are of no form.
     NoForm,
     /// A read failed.
@@ -30,6 +32,7 @@ impl Ending {
     {
         match self {
             Ending::Done => 0,
+            Ending::Illegal => 1,
             Ending::NoForm => 2,
             Ending::ReadFault => 4,
             Ending::WriteFault => 5,
@@ -44,9 +47,9 @@ impl Ending {
         ensures { result.now ≡ head_of self.now }
     {
         match self {
-            Ending::Done | Ending::Stuck => "",
+            Ending::Done | Ending::Stuck | Ending::Illegal => "",
             Ending::NoForm =>
-                "usage: run [--workers N] or gen SEED DEVICES or soak SEED DEVICES or locks or stats or idle WAKERS EVENTS SESSIONS [--workers N]\n",
+                "usage: run [--workers N] or gen SEED DEVICES or soak SEED DEVICES or check or idle WAKERS EVENTS SESSIONS [--workers N] or locks or stats\n",
             Ending::ReadFault => "read fault\n",
             Ending::WriteFault => "write fault\n",
             Ending::Refused(refusal) => refusal.head(),

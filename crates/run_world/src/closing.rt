@@ -24,10 +24,7 @@ fn machine_of<'m>(object: WorldObject<'m>) -> SeatedCore<'m>
     ensures kept { IsSeatedCore result }
 {
     match object {
-        WorldObject::Machine(machine) => {
-            let _kept = machine.core();
-            machine
-        }
+        WorldObject::Machine(placed) => placed.into_core(),
         WorldObject::Source(_) => unreachable!(),
     }
 }

@@ -8,6 +8,7 @@ mod gate;
 mod note;
 mod object;
 mod opening;
+mod placed;
 mod timed;
 mod world;
 
@@ -16,5 +17,6 @@ pub use gate::{Gate, OpenGate};
 pub use note::WorldNote;
 pub use object::WorldObject;
 pub use opening::world_objects;
+pub use placed::PlacedCore;
 pub use timed::TimedSource;
 pub use world::{CoreReply, Reported, World, WorldDesk, WorldPass};

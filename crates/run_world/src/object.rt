@@ -2,17 +2,15 @@
 
 ghost use Rattle.std.specs.Prelude.{◌≡◌, ◌+◌, None, Some};
 ghost use Rattle.sleep_model.specs.declared.machine.Machine.{Machine};
-ghost use Rattle.event_word.specs.Seats.{sources_of};
 ghost use Rattle.sleep_core.specs.Cores.{IsActor};
 ghost use Rattle.turn_lock.specs.Passes.{HasGrown, gained};
-ghost use Rattle.run_world.specs.Calling.{AfterMachineTurn};
 ghost use Rattle.run_world.specs.Objects.{notes_of, root_of};
 ghost use Rattle.run_world.specs.Told.{AfterCoreTurn, AfterReport};
 
 use crate::note::WorldNote;
+use crate::placed::PlacedCore;
 use crate::timed::TimedSource;
 use event_word::EventTable;
-use run_objects::SeatedCore;
 use sleep_core::{CoreFault, CoreTurn};
 use sleep_model::{Actor, SourceCall, Stamp};
 use std::sync::Wait;
@@ -24,35 +22,9 @@ use wakeup_source::{CallBy, SourceFault};
 #[derive(Drop)]
 pub enum WorldObject<'m> {
     /// The machine. It is object 0.
-    Machine(SeatedCore<'m>),
+    Machine(PlacedCore<'m>),
     /// A wakeup source. Source s is object 1 + s.
     Source(TimedSource),
-}
-
-/// A turn of the machine; None where the calls are not those that are due.
-fn turn_of<R: Wait>(
-    machine: &mut SeatedCore<'_>,
-    rt: &R,
-    table: &EventTable,
-    who: Actor,
-    calls: u32,
-    floor: Stamp,
-) -> Result<Option<CoreTurn>, CoreFault>
-    requires actor { IsActor machine.old.core.machine who }
-    requires table { machine.old.seat.table_id ≡ table.now.desk.shared.table_id }
-    ensures after { AfterMachineTurn machine.old.core machine.new.core who calls floor result }
-    ensures table { machine.new.seat.table_id ≡ machine.old.seat.table_id }
-    ensures sources { sources_of machine.new.seat ≡ sources_of machine.old.seat }
-    ensures machine { machine.new.core.machine ≡ machine.old.core.machine }
-{
-    if machine.core().calls_due(who) != u64::from(calls) {
-        return Ok(None);
-    }
-    let time = machine.core().time();
-    match machine.turn(rt, table, who, calls, floor, time) {
-        Ok(turn) => Ok(Some(turn)),
-        Err(fault) => Err(fault),
-    }
 }
 
 impl<'m> Booked for WorldObject<'m> {
@@ -109,7 +81,7 @@ impl<'m> WorldObject<'m> {
             → AfterCoreTurn m who calls floor result (gained root_of notes_of 0 (notes_of self.old) self.new) }
     {
         match self {
-            WorldObject::Machine(machine) => turn_of(machine, rt, table, who, calls, floor),
+            WorldObject::Machine(machine) => machine.turn(rt, table, who, calls, floor),
             WorldObject::Source(_) => unreachable!(),
         }
     }

@@ -12,6 +12,3 @@ pub use memory::{MemSink, MemSource};
 pub use outside::{ByteSink, ByteSource, Failed, Mem};
 pub use standard::{StdSink, StdSource, Stream};
 pub use whole::{ReadStop, read_all, write_all};
-
-#[cfg(test)]
-mod tests;

@@ -1,5 +1,5 @@
 -- Where nothing fails, an accepted machine gives its log.
-use Rattle.std.proofs.Common.{◌≡◌, ◌≤◌, ◌++◌, ◌∙◌, inl, inr, ℕ, List, length, Option, true≢false, Some, None, refl, sym, ap, subst, arith}
+use Rattle.std.proofs.Common.{◌≡◌, ◌≤◌, ◌++◌, ◌∙◌, inl, inr, ℕ, Bool, true, false, List, length, Option, true≢false, Some, None, refl, sym, ap, subst, arith}
 use Rattle.std.proofs.lemmas.List.{length-append, append-nil}
 use Rattle.std.specs.Io.KnownBytes.{Consumes, IsAtEnd}
 use Rattle.sleep_base.specs.Faults.{Rose}
@@ -8,17 +8,20 @@ use Rattle.machine_file.specs.Tree.{tree}
 use Rattle.machine_file.specs.Whole.{machine_in}
 use Rattle.sleep_run.specs.Runs.{IsFull}
 use Rattle.command_line.specs.declared.command.Command.{Command}
-use Rattle.command_line.specs.declared.command.Command.TheVariants.{Run, Gen, Soak, Locks, Stats, Idle}
+use Rattle.command_line.specs.declared.command.Command.TheVariants.{Run, Gen, Soak, Check, Locks, Stats, Idle}
 use Rattle.program_ending.specs.declared.ending.Ending.{Ending}
-use Rattle.program_ending.specs.declared.ending.Ending.TheVariants.{Done, Stuck, NoForm, ReadFault, WriteFault, Refused, NoMemory}
+use Rattle.program_ending.specs.declared.ending.Ending.TheVariants.{Done, Stuck, Illegal, NoForm, ReadFault, WriteFault, Refused, NoMemory}
 use Rattle.program_ending.specs.declared.refusal.Refusal.{Refusal}
 use Rattle.program_ending.specs.declared.refusal.Refusal.TheVariants.{Broken, SourceFull, LongInput, BadLockLine, LongLocks}
 use Rattle.program_ending.specs.Endings.{status_of}
 use Rattle.idle_loop.specs.declared.entry.IdleSizes.{IdleSizes}
 use Rattle.lock_lines.specs.Command.{IsLocksOf, RefusesLocks}
+use Rattle.log_commands.specs.Input.{file_in, text_in}
+use Rattle.log_commands.specs.Judging.{IsJudged, RefusesCheck}
 use Rattle.log_commands.specs.Stats.{IsStatsOf, RefusesStats}
 use Rattle.log_commands.proofs.Fitting.{no_machine, none_refused, one_machine}
-use Rattle.sleep_main.specs.Endings.{Stream, Streams, NoFault, NoFaults, Completes, Ended, RunEnded, GenEnded, SoakEnded, IdleEnded, IsInput, IsOneOf, IsRefusal, FillsNone, LocksEnded, RefusesInput, RefusesRun, StatsEnded, TellEnded}
+use Rattle.log_commands.proofs.Judging.{machine_stands, told_bad, told_good}
+use Rattle.sleep_main.specs.Endings.{Stream, Streams, NoFault, NoFaults, CheckEnded, Completes, Ended, RunEnded, GenEnded, SoakEnded, IdleEnded, IsInput, IsOneOf, IsRefusal, FillsNone, LocksEnded, RefusesInput, RefusesRun, StatsEnded, TellEnded, WroteVerdict}
 
 -- a count that rose is no count that stayed
 rose_not : (before now : ℕ) → Rose before now → NoFault before now → ⊥
@@ -52,6 +55,7 @@ no_refusal bytes m spells none refusal h = absurd h
 run_completes : (workers : ℕ) (old new : Streams) (ending : Ending) → RunEnded old new ending → Completes (Some (Run workers)) old new (status_of ending)
 run_completes workers old new Done h = λ bytes is m spells none faults. inl refl
 run_completes workers old new Stuck h = λ bytes is m spells none faults. inr (inl refl)
+run_completes workers old new Illegal h = λ bytes is m spells none faults. absurd h
 run_completes workers old new NoForm h = λ bytes is m spells none faults. absurd h
 run_completes workers old new (Refused refusal) h = λ bytes is m spells none faults.
     absurd (no_refusal bytes m spells none refusal (refused_whole 16777216 _ RefusesRun old new bytes refusal is h.0))
@@ -64,6 +68,7 @@ tell_completes : (most : ℕ) (long : Refusal) (Gives : List ℕ → List ℕ �
     → (bytes : List ℕ) → IsInput most old bytes → ((refusal : Refusal) → Why bytes refusal → ⊥) → NoFaults old new → IsOneOf Done Done (status_of ending)
 tell_completes most long Gives Why old new Done h bytes is none faults = inl refl
 tell_completes most long Gives Why old new Stuck h bytes is none faults = absurd h
+tell_completes most long Gives Why old new Illegal h bytes is none faults = absurd h
 tell_completes most long Gives Why old new NoForm h bytes is none faults = absurd h
 tell_completes most long Gives Why old new (Refused refusal) h bytes is none faults = absurd (none refusal (refused_whole most long Why old new bytes refusal is h.0))
 tell_completes most long Gives Why old new ReadFault h bytes is none faults = absurd (rose_not old.input.faults new.input.faults h.0 faults.0)
@@ -84,11 +89,30 @@ stats_completes : (old new : Streams) (ending : Ending) → StatsEnded old new e
 stats_completes old new ending h = λ bytes is m log read good faults.
     tell_completes 268435456 LongInput IsStatsOf RefusesStats old new ending h bytes is (none_refused bytes m log read good) faults
 
+-- the verdict that was written is on the bytes that the input is
+judged_as : (old new : Streams) (bytes : List ℕ) (ending : Ending) (good : Bool) → IsInput 268435456 old bytes → (h : WroteVerdict old new ending) → h.2 ≡ good → IsJudged bytes h.1 good
+judged_as old new bytes ending good is h e =
+    subst (λ (b : Bool). IsJudged bytes h.1 b) e
+    (subst (λ (bs : List ℕ). IsJudged bs h.1 h.2) (whole old.input.bytes new.input.bytes bytes h.0 is.0 h.3.taken h.3.at_end) h.4)
+
+-- a machine with the text of a good log, or with another text
+check_completes : (old new : Streams) (ending : Ending) → CheckEnded old new ending → Completes (Some Check) old new (status_of ending)
+check_completes old new Done h = λ bytes is m few spells faults. (λ good. inl refl, λ bad. absurd (bad (told_good bytes h.1 m spells (judged_as old new bytes Done true is h h.5.0))))
+check_completes old new Illegal h = λ bytes is m few spells faults. (λ good. absurd (told_bad bytes h.1 m spells (judged_as old new bytes Illegal false is h h.5.0) good), λ bad. inl refl)
+check_completes old new Stuck h = λ bytes is m few spells faults. absurd h
+check_completes old new NoForm h = λ bytes is m few spells faults. absurd h
+check_completes old new (Refused refusal) h = λ bytes is m few spells faults.
+    absurd (machine_stands bytes m few spells refusal (refused_whole 268435456 LongInput RefusesCheck old new bytes refusal is h.0))
+check_completes old new ReadFault h = λ bytes is m few spells faults. absurd (rose_not old.input.faults new.input.faults h.0 faults.0)
+check_completes old new WriteFault h = λ bytes is m few spells faults. absurd (rose_not old.output.faults new.output.faults h.5.0 faults.1)
+check_completes old new NoMemory h = λ bytes is m few spells faults. (λ good. inr (inr refl), λ bad. inr (inr refl))
+
 -- gen tells of no run that is stuck
 gen_completes : (seed devices : ℕ) (old new : Stream) (ending : Ending) → GenEnded seed devices old new ending → NoFault old.faults new.faults → IsOneOf Done Done (status_of ending)
 gen_completes seed devices old new Done h none = inl refl
 gen_completes seed devices old new Stuck h none = absurd (true≢false (sym h.0))
 gen_completes seed devices old new WriteFault h none = absurd (rose_not old.faults new.faults h.0 none)
+gen_completes seed devices old new Illegal h none = absurd h
 gen_completes seed devices old new NoForm h none = absurd h
 gen_completes seed devices old new ReadFault h none = absurd h
 gen_completes seed devices old new (Refused refusal) h none = absurd h
@@ -98,6 +122,7 @@ soak_completes : (seed devices : ℕ) (old new : Stream) (ending : Ending) → S
 soak_completes seed devices old new Done h none = inl refl
 soak_completes seed devices old new Stuck h none = inr (inl refl)
 soak_completes seed devices old new WriteFault h none = absurd (rose_not old.faults new.faults h.3.0 none)
+soak_completes seed devices old new Illegal h none = absurd h.3
 soak_completes seed devices old new NoForm h none = absurd h.3
 soak_completes seed devices old new ReadFault h none = absurd h.3
 soak_completes seed devices old new (Refused refusal) h none = absurd h.3
@@ -107,6 +132,7 @@ idle_completes : (z : IdleSizes) (old new : Stream) (ending : Ending) → IdleEn
 idle_completes z old new Done h none = inl refl
 idle_completes z old new Stuck h none = absurd (true≢false (sym h.2.0))
 idle_completes z old new WriteFault h none = absurd (rose_not old.faults new.faults h.2.0 none)
+idle_completes z old new Illegal h none = absurd h.2
 idle_completes z old new NoForm h none = absurd h.2
 idle_completes z old new ReadFault h none = absurd h.2
 idle_completes z old new (Refused refusal) h none = absurd h.2
@@ -117,6 +143,7 @@ refused_completes NoForm h = inl refl
 refused_completes NoMemory h = inr (inr refl)
 refused_completes Done h = absurd h
 refused_completes Stuck h = absurd h
+refused_completes Illegal h = absurd h
 refused_completes ReadFault h = absurd h
 refused_completes WriteFault h = absurd h
 refused_completes (Refused refusal) h = absurd h
@@ -126,6 +153,7 @@ completes None old new ending h = refused_completes ending h.0
 completes (Some (Run workers)) old new ending h = run_completes workers old new ending h
 completes (Some (Gen seed devices)) old new ending h = gen_completes seed devices old.output new.output ending h.1
 completes (Some (Soak seed devices)) old new ending h = soak_completes seed devices old.output new.output ending h.1
+completes (Some Check) old new ending h = check_completes old new ending h
 completes (Some Locks) old new ending h = locks_completes old new ending h
 completes (Some Stats) old new ending h = stats_completes old new ending h
 completes (Some (Idle wakers events sessions workers)) old new ending h = idle_completes (record { wakers = wakers; events = events; sessions = sessions }) old.output new.output ending h.1

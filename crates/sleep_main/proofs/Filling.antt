@@ -7,7 +7,7 @@ use Rattle.sleep_run.specs.declared.run.RunFault.{RunFault}
 use Rattle.sleep_run.specs.declared.run.RunFault.TheVariants as fault
 use Rattle.sleep_run.specs.Runs.{Fails, IsFull}
 use Rattle.program_ending.specs.declared.ending.Ending.{Ending}
-use Rattle.program_ending.specs.declared.ending.Ending.TheVariants.{Done, Stuck, NoForm, ReadFault, WriteFault, Refused, NoMemory}
+use Rattle.program_ending.specs.declared.ending.Ending.TheVariants.{Done, Stuck, Illegal, NoForm, ReadFault, WriteFault, Refused, NoMemory}
 use Rattle.program_ending.specs.declared.refusal.Refusal.TheVariants.{SourceFull}
 use Rattle.program_ending.specs.Telling.{Refuses}
 use Rattle.sleep_main.specs.declared.top.Ran.{Ran}
@@ -30,6 +30,7 @@ ended_without old new bytes (Refused refusal) read out h = (inr (bytes, read, h)
 ended_without old new bytes NoMemory read out h = out
 ended_without old new bytes Done read out h = absurd h
 ended_without old new bytes Stuck read out h = absurd h
+ended_without old new bytes Illegal read out h = absurd h
 ended_without old new bytes NoForm read out h = absurd h
 ended_without old new bytes ReadFault read out h = absurd h
 ended_without old new bytes WriteFault read out h = absurd h
@@ -44,6 +45,7 @@ ended_with old new bytes ran Done read is h = (text ran.machine ran.log, is_stuc
 ended_with old new bytes ran Stuck read is h = (text ran.machine ran.log, is_stuck ran.log.end, (bytes, read, log_of bytes ran is), h)
 ended_with old new bytes ran WriteFault read is h = (text ran.machine ran.log, is_stuck ran.log.end, (bytes, read, log_of bytes ran is), h)
 ended_with old new bytes ran NoMemory read is h = h
+ended_with old new bytes ran Illegal read is h = absurd h
 ended_with old new bytes ran NoForm read is h = absurd h
 ended_with old new bytes ran ReadFault read is h = absurd h
 ended_with old new bytes ran (Refused refusal) read is h = absurd h

@@ -8,13 +8,13 @@ use Rattle.sleep_model.specs.Order.{parents_of}
 use Rattle.sleep_model.specs.Places.{places}
 use Rattle.device_links.specs.Passes.{CanStand}
 use Rattle.command_line.specs.declared.command.Command.{Command}
-use Rattle.command_line.specs.declared.command.Command.TheVariants.{Run, Gen, Soak, Locks, Stats, Idle}
+use Rattle.command_line.specs.declared.command.Command.TheVariants.{Run, Gen, Soak, Check, Locks, Stats, Idle}
 use Rattle.machine_file.specs.Spelling.{spelling}
 use Rattle.sleep_script.specs.Generated.{generated}
 use Rattle.sleep_run.specs.Runs.{IsFull, IsRun}
 use Rattle.sleep_main.specs.declared.counts.Counts.{Counts}
 use Rattle.program_ending.specs.declared.ending.Ending.{Ending}
-use Rattle.program_ending.specs.declared.ending.Ending.TheVariants.{Done, Stuck, NoForm, ReadFault, WriteFault, Refused, NoMemory}
+use Rattle.program_ending.specs.declared.ending.Ending.TheVariants.{Done, Stuck, Illegal, NoForm, ReadFault, WriteFault, Refused, NoMemory}
 use Rattle.sleep_main.specs.Counting.{count_line, counts_of}
 use Rattle.sleep_main.specs.Endings.{Stream, Streams, Ended, EndsAs, GenEnded, IsLineOf, SoakEnded, Writes, is_stuck}
 
@@ -51,6 +51,7 @@ gen_ended seed devices old new said ending is h = by ending (subst (λ text. Wri
     by : (ending : Ending) → Writes old new (spelling (generated seed devices)) false ending → GenEnded seed devices old new ending
     by Done h = h
     by Stuck h = h
+    by Illegal h = h
     by NoForm h = h
     by ReadFault h = h
     by WriteFault h = h
@@ -61,6 +62,7 @@ gen_ended seed devices old new said ending is h = by ending (subst (λ text. Wri
 pub soak_ended : (seed devices : ℕ) (old new : Stream) (said : List ℕ) (stuck : Bool) (ending : Ending) → IsLineOf seed devices said stuck → Writes old new said stuck ending → SoakEnded seed devices old new ending
 soak_ended seed devices old new said stuck Done line h = (said, stuck, line, h)
 soak_ended seed devices old new said stuck Stuck line h = (said, stuck, line, h)
+soak_ended seed devices old new said stuck Illegal line h = (said, stuck, line, h)
 soak_ended seed devices old new said stuck NoForm line h = (said, stuck, line, h)
 soak_ended seed devices old new said stuck ReadFault line h = (said, stuck, line, h)
 soak_ended seed devices old new said stuck WriteFault line h = (said, stuck, line, h)
@@ -73,6 +75,7 @@ undone None now = (tt, refl, refl)
 undone (Some (Run workers)) now = refl
 undone (Some (Gen seed devices)) now = (refl, refl)
 undone (Some (Soak seed devices)) now = (refl, refl)
+undone (Some Check) now = refl
 undone (Some Locks) now = refl
 undone (Some Stats) now = refl
 undone (Some (Idle wakers events sessions workers)) now = (refl, refl)

@@ -6,7 +6,7 @@ use Rattle.idle_loop.specs.declared.entry.IdleSizes.{IdleSizes}
 use Rattle.idle_loop.specs.Kept.{AreSizes}
 use Rattle.idle_lines.specs.Lines.{IsIdleText}
 use Rattle.program_ending.specs.declared.ending.Ending.{Ending}
-use Rattle.program_ending.specs.declared.ending.Ending.TheVariants.{Done, Stuck, NoForm, ReadFault, WriteFault, Refused, NoMemory}
+use Rattle.program_ending.specs.declared.ending.Ending.TheVariants.{Done, Stuck, Illegal, NoForm, ReadFault, WriteFault, Refused, NoMemory}
 use Rattle.sleep_main.specs.Endings.{IdleEnded, Stream, Writes}
 
 -- want of memory, before anything was written
@@ -17,6 +17,7 @@ idle_none z now ending is = subst (IdleEnded z now now) (sym is) refl
 pub idle_written : (z : IdleSizes) (old new : Stream) (said : List ℕ) (ending : Ending) → IsIdleText z said → Writes old new said false ending → IdleEnded z old new ending
 idle_written z old new said Done is h = (said, is, h)
 idle_written z old new said Stuck is h = (said, is, h)
+idle_written z old new said Illegal is h = (said, is, h)
 idle_written z old new said NoForm is h = (said, is, h)
 idle_written z old new said ReadFault is h = (said, is, h)
 idle_written z old new said WriteFault is h = (said, is, h)

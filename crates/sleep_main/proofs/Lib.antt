@@ -1,3 +1,4 @@
+mod Checking
 pub mod Completing
 mod Filling
 mod Generating

@@ -3,7 +3,7 @@ use Rattle.std.proofs.Common.{inl, inr, ℕ, List, false, true≢false, sym, sub
 use Rattle.std.specs.Prelude.{Vec, Result, Ok, Err}
 use Rattle.std.specs.declared.alloc.Global.{Global}
 use Rattle.program_ending.specs.declared.ending.Ending.{Ending}
-use Rattle.program_ending.specs.declared.ending.Ending.TheVariants.{Done, Stuck, NoForm, ReadFault, WriteFault, Refused, NoMemory}
+use Rattle.program_ending.specs.declared.ending.Ending.TheVariants.{Done, Stuck, Illegal, NoForm, ReadFault, WriteFault, Refused, NoMemory}
 use Rattle.program_ending.specs.declared.refusal.Refusal.{Refusal}
 use Rattle.program_ending.specs.Telling.{Refuses}
 use Rattle.sleep_main.specs.Endings.{Streams, KeepsOut, ReadWhole, ReadsInput, TellEnded, Writes, WritesTold}
@@ -16,6 +16,7 @@ module _ (most : ℕ) (long : Refusal) (Gives : List ℕ → List ℕ → Type 0
   told_unread NoMemory h out = out
   told_unread Done h out = absurd h
   told_unread Stuck h out = absurd h
+  told_unread Illegal h out = absurd h
   told_unread NoForm h out = absurd h
   told_unread WriteFault h out = absurd h
 
@@ -23,6 +24,7 @@ module _ (most : ℕ) (long : Refusal) (Gives : List ℕ → List ℕ → Type 0
   written bytes said Done read gives h = (bytes, said, read, gives, h)
   written bytes said WriteFault read gives h = (bytes, said, read, gives, h)
   written bytes said Stuck read gives h = absurd (true≢false (sym h.0))
+  written bytes said Illegal read gives h = absurd h
   written bytes said NoForm read gives h = absurd h
   written bytes said ReadFault read gives h = absurd h
   written bytes said (Refused refusal) read gives h = absurd h
@@ -33,6 +35,7 @@ module _ (most : ℕ) (long : Refusal) (Gives : List ℕ → List ℕ → Type 0
   refused bytes NoMemory read h out = out
   refused bytes Done read h out = absurd h
   refused bytes Stuck read h out = absurd h
+  refused bytes Illegal read h out = absurd h
   refused bytes NoForm read h out = absurd h
   refused bytes ReadFault read h out = absurd h
   refused bytes WriteFault read h out = absurd h

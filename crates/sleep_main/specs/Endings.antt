@@ -12,7 +12,7 @@ use Rattle.sleep_model.specs.Legal.{IsFinishedLog, IsStuckLog}
 use Rattle.sleep_model.specs.Order.{parents_of}
 use Rattle.sleep_model.specs.Text.{text, source}
 use Rattle.command_line.specs.declared.command.Command.{Command}
-use Rattle.command_line.specs.declared.command.Command.TheVariants.{Run, Gen, Soak, Locks, Stats, Idle}
+use Rattle.command_line.specs.declared.command.Command.TheVariants.{Run, Gen, Soak, Check, Locks, Stats, Idle}
 use Rattle.machine_file.specs.Spelling.{spelling}
 use Rattle.machine_file.specs.Whole.{machine_in, broken_at, broken_in}
 use Rattle.sleep_script.specs.Generated.{generated}
@@ -20,7 +20,7 @@ use Rattle.sleep_run.specs.declared.run.RunFault.{RunFault}
 use Rattle.sleep_run.specs.declared.run.RunFault.TheVariants as fault
 use Rattle.sleep_run.specs.Runs.{IsRun, IsFull}
 use Rattle.program_ending.specs.declared.ending.Ending.{Ending}
-use Rattle.program_ending.specs.declared.ending.Ending.TheVariants.{Done, Stuck, NoForm, ReadFault, WriteFault, Refused, NoMemory}
+use Rattle.program_ending.specs.declared.ending.Ending.TheVariants.{Done, Stuck, Illegal, NoForm, ReadFault, WriteFault, Refused, NoMemory}
 use Rattle.program_ending.specs.declared.refusal.Refusal.{Refusal}
 use Rattle.program_ending.specs.declared.refusal.Refusal.TheVariants.{LongMachine, Broken, SourceFull, LongInput, LongLocks}
 use Rattle.program_ending.specs.Endings.{status_of}
@@ -28,7 +28,9 @@ use Rattle.program_ending.specs.Telling.{Refuses}
 use Rattle.idle_loop.specs.declared.entry.IdleSizes.{IdleSizes}
 use Rattle.idle_lines.specs.Lines.{IsIdleText}
 use Rattle.lock_lines.specs.Command.{IsLocksOf, RefusesLocks}
-use Rattle.log_commands.specs.Input.{IsLogIn}
+use Rattle.log_commands.specs.Input.{IsLogIn, file_in, text_in}
+use Rattle.log_commands.specs.declared.verdict.Judged.{Judged}
+use Rattle.log_commands.specs.Judging.{IsGoodText, IsJudged, RefusesCheck}
 use Rattle.log_commands.specs.Stats.{IsStatsOf, RefusesStats}
 use Rattle.log_commands.specs.Taking.{refusal_of}
 use Rattle.sleep_main.specs.Counting.{count_line, counts_of}
@@ -170,6 +172,7 @@ RunEnded old new (Refused refusal) = RefusesInput 16777216 LongMachine RefusesRu
 -- a read failed
 RunEnded old new ReadFault = Rose old.input.faults new.input.faults × KeepsOut old new
 RunEnded old new NoMemory = KeepsOut old new
+RunEnded old new Illegal = ⊥
 RunEnded old new NoForm = ⊥
 
 -- ---- gen
@@ -223,7 +226,39 @@ TellEnded most long Gives Why old new (Refused refusal) = RefusesInput most long
 TellEnded most long Gives Why old new ReadFault = Rose old.input.faults new.input.faults × KeepsOut old new
 TellEnded most long Gives Why old new NoMemory = KeepsOut old new
 TellEnded most long Gives Why old new Stuck = ⊥
+TellEnded most long Gives Why old new Illegal = ⊥
 TellEnded most long Gives Why old new NoForm = ⊥
+
+-- what is told of a log, good or not, was written whole; where a write failed, a front of it
+abbrev pub WritesJudged : Stream → Stream → List ℕ → Bool → Ending → Type 0
+WritesJudged old new said good Done = (good ≡ true) × Appends old.bytes new.bytes said
+WritesJudged old new said good Illegal = (good ≡ false) × Appends old.bytes new.bytes said
+WritesJudged old new said good WriteFault = Writes old new said false WriteFault
+WritesJudged old new said good _ = ⊥
+
+-- what is told of a log was written, or a front of it, or nothing
+abbrev pub WritesVerdict : Result Judged Ending → Stream → Stream → Ending → Type 0
+WritesVerdict (Ok judged) old new ending = WritesJudged old new judged.text.items judged.good ending
+WritesVerdict (Err other) old new ending = (ending ≡ other) × (new ≡ old)
+
+-- the whole input was a machine and a text, and what is told of that as a log of it was written, or a front of it
+abbrev pub WroteVerdict : Streams → Streams → Ending → Type 0
+WroteVerdict old new ending =
+    (bytes said : List ℕ) × (good : Bool) × ReadWhole 268435456 old.input new.input bytes × IsJudged bytes said good
+    × WritesJudged old.output new.output said good ending
+
+-- what an ending of check means: done where the log is legal and finished, and else illegal
+abbrev pub CheckEnded : Streams → Streams → Ending → Type 0
+CheckEnded old new Done = WroteVerdict old new Done
+CheckEnded old new Illegal = WroteVerdict old new Illegal
+CheckEnded old new WriteFault = WroteVerdict old new WriteFault
+-- more bytes came, or the machine's file is refused so
+CheckEnded old new (Refused refusal) = RefusesInput 268435456 LongInput RefusesCheck old.input new.input refusal × KeepsOut old new
+-- a read failed
+CheckEnded old new ReadFault = Rose old.input.faults new.input.faults × KeepsOut old new
+CheckEnded old new NoMemory = KeepsOut old new
+CheckEnded old new Stuck = ⊥
+CheckEnded old new NoForm = ⊥
 
 -- what an ending of stats means
 abbrev pub StatsEnded : Streams → Streams → Ending → Type 0
@@ -246,6 +281,7 @@ abbrev pub Ended : Option Command → Streams → Streams → Ending → Type 0
 Ended None old new ending = IsRefusal ending × KeepsInput old new × KeepsOut old new
 Ended (Some (Run workers)) old new ending = RunEnded old new ending
 Ended (Some (Gen seed devices)) old new ending = KeepsInput old new × GenEnded seed devices old.output new.output ending
+Ended (Some Check) old new ending = CheckEnded old new ending
 Ended (Some Locks) old new ending = LocksEnded old new ending
 Ended (Some Stats) old new ending = StatsEnded old new ending
 Ended (Some (Idle wakers events sessions workers)) old new ending =
@@ -276,7 +312,7 @@ NoFaults old new = NoFault old.input.faults new.input.faults × NoFault old.outp
 abbrev pub IsInput : ℕ → Streams → List ℕ → Type 0
 IsInput most now bytes = (now.input.bytes ≡ Some bytes) × (length bytes ≤ most)
 
--- completeness, where no fault is counted: an input that spells a machine none of whose sources can be filled gives a log, of a run that is finished or stuck; gen writes its file, soak its line, idle the text of its log, locks the answers to lines that are not refused, and stats what is told of a machine and a log that fits it, no link of which is refused; or memory ran out
+-- completeness, where no fault is counted: an input that spells a machine none of whose sources can be filled gives a log, of a run that is finished or stuck; gen writes its file, soak its line, idle the text of its log, check whether the text behind a machine is that of a log that is legal and finished, locks the answers to lines that are not refused, and stats what is told of a machine and a log that fits it, no link of which is refused; or memory ran out
 abbrev pub Completes : Option Command → Streams → Streams → ℕ → Type 0
 Completes None old new status = IsOneOf NoForm NoForm status
 Completes (Some (Run workers)) old new status =
@@ -285,6 +321,9 @@ Completes (Some (Run workers)) old new status =
 Completes (Some (Gen seed devices)) old new status = NoFault old.output.faults new.output.faults → IsOneOf Done Done status
 Completes (Some (Soak seed devices)) old new status = NoFault old.output.faults new.output.faults → IsOneOf Done Stuck status
 Completes (Some (Idle wakers events sessions workers)) old new status = NoFault old.output.faults new.output.faults → IsOneOf Done Done status
+Completes (Some Check) old new status =
+    (bytes : List ℕ) → IsInput 268435456 old bytes → (m : Machine) → length (file_in bytes) ≤ 16777216 → machine_in (file_in bytes) ≡ Some m → NoFaults old new
+    → (IsGoodText m (text_in bytes) → IsOneOf Done Done status) × ((IsGoodText m (text_in bytes) → ⊥) → IsOneOf Illegal Illegal status)
 Completes (Some Locks) old new status =
     (bytes said : List ℕ) → IsInput 16777216 old bytes → IsLocksOf bytes said → NoFaults old new → IsOneOf Done Done status
 Completes (Some Stats) old new status =

@@ -23,7 +23,7 @@ use std::alloc::Global;
 use std::sync::Wait;
 use std::thread::Threads;
 
-/// The file of the generated machine of a seed with so many devices. `Mem` if there is no memory for it.
+/// The file of the generated machine of a seed with this number of devices. `Mem` if there is no memory for it.
 fn file_of(alloc: Global, seed: u64, devices: u32) -> Result<Vec<u8>, Mem>
     requires some { 1 ≤ devices }
     requires few { devices ≤ 1000 }
@@ -33,7 +33,7 @@ fn file_of(alloc: Global, seed: u64, devices: u32) -> Result<Vec<u8>, Mem>
     write_machine(alloc, &machine)
 }
 
-/// Writes the file of the generated machine of a seed with so many devices.
+/// Writes the file of the generated machine of a seed with this number of devices.
 pub fn write_generated<K: ByteSink>(alloc: Global, seed: u64, devices: u32, out: &mut K) -> Ending
     requires some { 1 ≤ devices }
     requires few { devices ≤ 1000 }
@@ -75,13 +75,13 @@ fn log_of<R: Threads + Wait + Sync>(rt: &R, alloc: Global, machine: &Machine) ->
 {
     let links = links_of(alloc, machine)?;
     match run_machine(rt, alloc, machine, links, 1, &OpenGate) {
-        Ok(run) => Ok(run.log),
+        Ok(run) => run.log.into_log(alloc),
         Err(RunFault::SourceFull(_)) => unreachable!(),
         Err(RunFault::Mem) => Err(Mem),
     }
 }
 
-/// The line of the numbers of the log of the generated machine of a seed with so many devices.
+/// The line of the numbers of the log of the generated machine of a seed with this number of devices.
 fn line_of<R: Threads + Wait + Sync>(
     rt: &R,
     alloc: Global,
@@ -99,7 +99,7 @@ fn line_of<R: Threads + Wait + Sync>(
     Ok(Said { text, stuck })
 }
 
-/// Runs the generated machine of a seed with so many devices, and writes the numbers of its log.
+/// Runs the generated machine of a seed with this number of devices, and writes the numbers of its log.
 pub fn soak_generated<R: Threads + Wait + Sync, K: ByteSink>(
     rt: &R,
     alloc: Global,

@@ -11,7 +11,7 @@ pub const MOST_MACHINE: u32 = 16_777_216;
 /// The most bytes that a machine and its log have together.
 pub const MOST_LOG_INPUT: u32 = 268_435_456;
 
-/// Reads the whole input. `Refused` as that says where more bytes come than so many, `ReadFault` at the first read that
+/// Reads the whole input. `Refused` with `long` where more than `most` bytes come, `ReadFault` at the first read that
 /// fails, `NoMemory` for want of memory.
 pub fn read_input<S: ByteSource>(
     alloc: Global,

@@ -33,7 +33,7 @@ source gps 1 1 1 0 2 2 2
 source wifi 1 2 1 0 3 3 3
 ";
 
-/// What the program answers to these lines, of which it reads so many copies.
+/// What the program answers to copies of these lines.
 fn locks_of<R: Threads + Wait + Sync>(
     rt: &R,
     alloc: Global,

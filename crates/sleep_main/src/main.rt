@@ -2,6 +2,8 @@
 //! that are made of a seed, and runs them.
 #![tactic(auto)]
 
+#[cfg(test)]
+mod check_tests;
 mod counts;
 mod generated;
 #[cfg(test)]

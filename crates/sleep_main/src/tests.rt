@@ -16,7 +16,7 @@ const RUN: [&str; 4] = ["sleep", "run", "--workers", "1"];
 
 /// What is said of words of no form.
 const USAGE: &str =
-    "usage: run [--workers N] or gen SEED DEVICES or soak SEED DEVICES or locks or stats or idle WAKERS EVENTS SESSIONS [--workers N]\n";
+    "usage: run [--workers N] or gen SEED DEVICES or soak SEED DEVICES or check or idle WAKERS EVENTS SESSIONS [--workers N] or locks or stats\n";
 
 /// The most bytes that a machine file has.
 const MOST_BYTES: usize = 16_777_216;

@@ -2,21 +2,21 @@
 
 ghost use Rattle.std.specs.Prelude.{◌≡◌, ◌≤◌};
 ghost use Rattle.idle_loop.specs.Kept.{AreSizes};
-ghost use Rattle.sleep_main.specs.Endings.{IdleEnded, LocksEnded, StatsEnded, WritesTold, stream, streams};
+ghost use Rattle.sleep_main.specs.Endings.{CheckEnded, IdleEnded, LocksEnded, StatsEnded, WritesJudged, WritesTold, WritesVerdict, stream, streams};
 
 use crate::input::{MOST_LOG_INPUT, read_input};
 use crate::said::{Said, write_said};
 use idle_lines::idle_of;
 use idle_loop::IdleSizes;
 use lock_lines::{MOST_BYTES, locks_of};
-use log_commands::stats_of;
+use log_commands::{Judged, judge, stats_of};
 use program_ending::{Ending, Refusal};
-use sleep_base::{ByteSink, ByteSource};
+use sleep_base::{ByteSink, ByteSource, write_all};
 use std::alloc::Global;
 use std::sync::Wait;
 use std::thread::Threads;
 
-/// Writes what is told, or answers how the program ends without it.
+/// Writes the text, or answers how the program ends without one.
 fn write_told<K: ByteSink>(out: &mut K, told: Result<Vec<u8>, Ending>) -> Ending
     ensures { WritesTold told (stream (K.written out.old) (K.faults out.old)) (stream (K.written out.new) (K.faults out.new)) result }
 {
@@ -35,6 +35,41 @@ pub fn tell_stats<S: ByteSource, K: ByteSink>(alloc: Global, input: &mut S, out:
 {
     match read_input(alloc, input, MOST_LOG_INPUT, Refusal::LongInput) {
         Ok(bytes) => write_told(out, stats_of(alloc, &bytes)),
+        Err(ending) => ending,
+    }
+}
+
+/// Writes the verdict on a log, good or not.
+fn write_judged<K: ByteSink>(out: &mut K, judged: &Judged) -> Ending
+    ensures { WritesJudged (stream (K.written out.old) (K.faults out.old)) (stream (K.written out.new) (K.faults out.new))
+        judged.now.text.items judged.now.good result }
+{
+    match write_all(out, &judged.text) {
+        Ok(()) if judged.good => Ending::Done,
+        Ok(()) => Ending::Illegal,
+        Err(_) => Ending::WriteFault,
+    }
+}
+
+/// Writes the verdict on a log, or answers how the program ends without one.
+fn write_verdict<K: ByteSink>(out: &mut K, judged: Result<Judged, Ending>) -> Ending
+    ensures { WritesVerdict judged (stream (K.written out.old) (K.faults out.old)) (stream (K.written out.new) (K.faults out.new)) result }
+{
+    match judged {
+        Ok(judged) => write_judged(out, &judged),
+        Err(ending) => ending,
+    }
+}
+
+/// Reads a machine and its log, and writes whether the log is legal and finished.
+pub fn tell_check<S: ByteSource, K: ByteSink>(alloc: Global, input: &mut S, out: &mut K) -> Ending
+    ensures { CheckEnded
+        (streams (stream (S.left input.old) (S.faults input.old)) (stream (K.written out.old) (K.faults out.old)))
+        (streams (stream (S.left input.new) (S.faults input.new)) (stream (K.written out.new) (K.faults out.new)))
+        result }
+{
+    match read_input(alloc, input, MOST_LOG_INPUT, Refusal::LongInput) {
+        Ok(bytes) => write_verdict(out, judge(alloc, &bytes)),
         Err(ending) => ending,
     }
 }

@@ -9,7 +9,8 @@ ghost use Rattle.sleep_run.specs.Runs.{Fails};
 use crate::generated::{soak_generated, write_generated};
 use crate::input::{MOST_MACHINE, read_input};
 use crate::said::is_stuck;
-use crate::told::{tell_idle, tell_locks, tell_stats};
+use crate::told::{tell_check, tell_idle, tell_locks, tell_stats};
+use apart_log::{ApartLog, SlicedText};
 use command_line::{Command, command_of};
 use idle_loop::IdleSizes;
 use itoa::Buffer;
@@ -17,7 +18,7 @@ use log_text::LogText;
 use machine_file::{MachineFault, ReadMachine, read_machine};
 use program_ending::{Ending, Refusal};
 use sleep_base::{ByteSink, ByteSource, Failed, write_all};
-use sleep_model::{Log, Machine, Name};
+use sleep_model::{Machine, Name};
 use sleep_run::{Gate, RunFault, run_machine};
 use std::alloc::Global;
 use std::sync::Wait;
@@ -59,7 +60,7 @@ fn without_log(machine: &Machine, fault: RunFault) -> Ending
 #[derive(Drop)]
 pub struct Ran {
     pub machine: Machine,
-    pub log: Log,
+    pub log: ApartLog,
 }
 
 /// The machine that the bytes spell with the log of its run by this number of workers, or how the program ends without one: `Broken` where
@@ -93,17 +94,62 @@ fn run_of_bytes<R: Threads + Wait + Sync, G: Gate + Sync>(
 
 /// Writes the log of a run as its text is put together: `Done`, or `Stuck` where the run was stuck. `NoMemory` before
 /// anything was written, `WriteFault` at the first write that fails: a front of the text was written.
-fn write_log<K: ByteSink>(alloc: Global, out: &mut K, ran: &Ran) -> Ending
-    ensures { WritesLog ran.now (stream (K.written out.old) (K.faults out.old)) (stream (K.written out.new) (K.faults out.new)) result }
+fn write_whole<K: ByteSink>(alloc: Global, out: &mut K, ran: Ran) -> Ending
+    ensures { WritesLog ran (stream (K.written out.old) (K.faults out.old)) (stream (K.written out.new) (K.faults out.new)) result }
 {
-    let text = match LogText::new(alloc, &ran.machine, &ran.log) {
+    let Ran { machine, log } = ran;
+    let log = match log.into_log(alloc) {
+        Ok(log) => log,
+        Err(_) => return Ending::NoMemory,
+    };
+    let text = match LogText::new(alloc, &machine, &log) {
         Ok(text) => text,
         Err(_) => return Ending::NoMemory,
     };
     match text.write_to(out) {
-        Ok(()) if is_stuck(&ran.log.end) => Ending::Stuck,
+        Ok(()) if is_stuck(&log.end) => Ending::Stuck,
         Ok(()) => Ending::Done,
         Err(_) => Ending::WriteFault,
+    }
+}
+
+/// Writes the log of a run, whose text is made in slices on threads, one for each worker. Ends as `write_whole`.
+fn write_slices<R: Threads + Sync, K: ByteSink>(
+    rt: &R,
+    alloc: Global,
+    out: &mut K,
+    ran: Ran,
+    workers: u8,
+) -> Ending
+    ensures { WritesLog ran (stream (K.written out.old) (K.faults out.old)) (stream (K.written out.new) (K.faults out.new)) result }
+{
+    let Ran { machine, log } = ran;
+    let stuck = is_stuck(log.end());
+    let text = match SlicedText::new(rt, alloc, &machine, log, workers) {
+        Ok(text) => text,
+        Err(_) => return Ending::NoMemory,
+    };
+    match text.write_to(out) {
+        Ok(()) if stuck => Ending::Stuck,
+        Ok(()) => Ending::Done,
+        Err(_) => Ending::WriteFault,
+    }
+}
+
+/// Writes the log of a run by this number of workers, who make its text in slices where that is worth their threads.
+fn write_log<R: Threads + Sync, K: ByteSink>(
+    rt: &R,
+    alloc: Global,
+    out: &mut K,
+    ran: Ran,
+    workers: u8,
+) -> Ending
+    ensures { WritesLog ran (stream (K.written out.old) (K.faults out.old)) (stream (K.written out.new) (K.faults out.new)) result }
+{
+    if workers > 1 && ran.log.is_worth_slices() {
+        write_slices(rt, alloc, out, ran, workers)
+    } else {
+        write_whole(alloc, out, ran)
     }
 }
 
@@ -128,7 +174,7 @@ fn run_file<R: Threads + Wait + Sync, S: ByteSource, K: ByteSink, G: Gate + Sync
         Err(ending) => return ending,
     };
     match run_of_bytes(rt, alloc, &bytes, workers, gate) {
-        Ok(ran) => write_log(alloc, out, &ran),
+        Ok(ran) => write_log(rt, alloc, out, ran, workers),
         Err(ending) => ending,
     }
 }
@@ -153,6 +199,7 @@ fn do_command<R: Threads + Wait + Sync, S: ByteSource, K: ByteSink, G: Gate + Sy
         Command::Run { workers } => run_file(rt, alloc, workers as u8, input, out, gate),
         Command::Gen { seed, devices } => write_generated(alloc, seed, devices, out),
         Command::Soak { seed, devices } => soak_generated(rt, alloc, seed, devices, out),
+        Command::Check => tell_check(alloc, input, out),
         Command::Locks => tell_locks(rt, alloc, input, out),
         Command::Stats => tell_stats(alloc, input, out),
         Command::Idle {
@@ -259,26 +306,31 @@ pub fn say<K: ByteSink>(err: &mut K, ending: &Ending)
 ///   by N workers, 1 to 64 and else 4, and writes its log to `out`; `gate` sees the workers' turns.
 /// - `gen SEED DEVICES`: writes the file of the generated machine of a seed of 64 bits with 1 to 1,000 devices.
 /// - `soak SEED DEVICES`: runs that machine, and writes the line of its log's numbers.
+/// - `check`: reads a machine file of one line and a log of it behind that, and writes whether the log is legal and finished,
+///   else its first bad line and the number of the rule that this breaks.
 /// - `locks`: reads lines that lock and unlock names, and writes their answers and the statistics of each name.
 /// - `stats`: reads a machine file of one line and a log of it behind that, and writes what the log counts, its last
 ///   failures, the longest chain of devices at its end, and each device's level.
 /// - `idle WAKERS EVENTS SESSIONS`, with the option of `run` behind it: runs 1 to 16 wakers of 1 to 1,000 events each against
 ///   the idler of 1 to 1,000 sessions, and writes the log of suspend-to-idle.
 ///
-/// The answer is the status, and `err` is told what it means:
+/// The answer is the status, and `err` says what it means:
 ///
 /// - 0: the text was written; of a run, one in which nothing was left to do. 6: of a run in which nobody went on.
+/// - 1: the text was written, of a log that `check` read and that is not legal, or not finished, or of lines that are no log's.
 /// - 2: the words are others; nothing is read or written. Other words may give 8 instead, and nothing else.
 /// - 3: the input is longer than 16,777,216 bytes, or it breaks a rule of the format; `err` has the first rule with its
-///   place. To `locks` a line is of no form, and `err` has its number. To `stats` the machine or the log is such, and `err` says which, or with `log: links` or `log: cycle` that a
-///   link of the log is refused. Such an input may give 4 or 8 instead, and nothing else.
+///   place. To `locks` a line is of no form, and `err` has its number. To `check` the machine is such. To `stats` the machine or the
+///   log is such, and `err` says which, or with `log: links` or `log: cycle` that a link of the log is refused. Such an input may give
+///   4 or 8 instead, and nothing else.
 /// - 4: a read failed. 5: a write failed, after a front of the text.
 /// - 7: the history of a wakeup source has no place left for a call, in a run or by a line of `locks`.
 /// - 8: there was no memory.
 ///
 /// At 2, 3, 4, 7 and 8 nothing is written to `out`. Where no fault is counted, an input that spells a machine none
-/// of whose sources can be filled gives 0, 6 or 8, `gen` and `idle` give 0 or 8, `soak` 0, 6 or 8, `locks` 0 or 8 of lines that are
-/// of a form and fill no source, and `stats` 0 or 8 of a machine and a log that fits it, no link of which is refused.
+/// of whose sources can be filled gives 0, 6 or 8, `gen` and `idle` give 0 or 8, `soak` 0, 6 or 8, `check` 0 or 8 of a machine and
+/// the text of a log that is legal and finished, and 1 or 8 of a machine and any other text, `locks` 0 or 8 of lines that are of a
+/// form and fill no source, and `stats` 0 or 8 of a machine and a log that fits it, no link of which is refused.
 /// `gen`, `soak` and `idle` leave `input` unread.
 pub fn run_words<R: Threads + Wait + Sync, S: ByteSource, K: ByteSink, G: Gate + Sync>(
     rt: &R,

@@ -3,7 +3,7 @@
 use crate::rows::attempts::{SMALLEST_ATTEMPT, SMALLEST_ATTEMPT_LOG};
 use crate::tests::{GOOD, given_with};
 use sleep_model::Actor;
-use sleep_run::Gate;
+use sleep_run::{Gate, OpenGate};
 use std::alloc::Global;
 use std::process::Abort;
 use std::sync::Wait;
@@ -17,6 +17,10 @@ const LOOKS: u32 = 10_000_000;
 /// A task, and an interrupt that makes two calls on a source.
 const TASK_AND_INTERRUPT: &str =
     r#"{"version":1,"sources":["lid"],"actors":[{"name":"w","kind":"user","script":[{"op":"post","mark":"a"}]},{"name":"k","kind":"irq","script":[{"op":"awake","source":"lid"},{"op":"relax","source":"lid"}]}]}"#;
+
+/// An interrupt that makes enough events to make the log worth its slices.
+const MANY_EVENTS: &str =
+    r#"{"version":1,"sources":["lid"],"actors":[{"name":"k","kind":"irq","script":[{"op":"event","source":"lid","times":6000}]}]}"#;
 
 /// Waits until the flag is set. Whether it was.
 fn is_set_soon(flag: &AtomicBool) -> bool {
@@ -200,4 +204,19 @@ fn one_worker_makes_no_burst(rt: HostRuntime) -> Result<(), Fail> {
 fn more_workers_than_jobs(rt: HostRuntime) -> Result<(), Fail> {
     let words = ["sleep", "run", "--workers", "64"];
     meet(&rt, rt.alloc(), &words, [false, false, false], (32, 2))
+}
+
+/// The log of one interrupt is the same for each number of workers, also where its text is made in slices.
+#[test]
+fn slices_are_one_log(rt: HostRuntime) -> Result<(), Fail> {
+    let alone = ["sleep", "run", "--workers", "1"];
+    let file = MANY_EVENTS.as_bytes().to_vec(rt.alloc())?;
+    let one = given_with(&rt, rt.alloc(), &alone, file, &GOOD, &OpenGate)?;
+    let many = ["sleep", "run", "--workers", "3"];
+    let file = MANY_EVENTS.as_bytes().to_vec(rt.alloc())?;
+    let sliced = given_with(&rt, rt.alloc(), &many, file, &GOOD, &OpenGate)?;
+    let lines = sliced.out.iter().filter(|byte| **byte == b'\n').count();
+    assert_eq!(rt; lines, 6_000 * 3 + 4);
+    assert!(rt; one.out.as_slice() == sliced.out.as_slice());
+    Ok(())
 }

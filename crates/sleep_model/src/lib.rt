@@ -11,8 +11,6 @@ mod machine;
 mod name;
 mod numbered;
 mod place;
-#[cfg(test)]
-mod tests;
 mod word;
 mod words;
 

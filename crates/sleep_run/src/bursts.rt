@@ -9,10 +9,11 @@ use crate::rest::Rest;
 use crate::run::{Run, RunFault};
 use crate::tasks::{actors_of, highest_of};
 use crate::waiters::Waiters;
+use apart_log::ApartLog;
 use event_word::EventTable;
 use run_world::Gate;
 use sleep_base::Mem;
-use sleep_model::{Log, Machine, Stamp};
+use sleep_model::{Machine, Stamp};
 use std::alloc::Global;
 use std::sync::Wait;
 use std::thread::Threads;
@@ -294,7 +295,7 @@ impl<'m> Run<'m> {
         alloc: Global,
         workers: u8,
         gate: &G,
-    ) -> Result<Log, RunFault>
+    ) -> Result<ApartLog, RunFault>
         requires { 1 ≤ workers }
         ensures ok { IfOk result (λ log. IsRun self.entry.machine log) }
         ensures fault { IfErr result (Fails self.entry.machine) }

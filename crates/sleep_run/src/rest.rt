@@ -9,14 +9,12 @@ ghost use Rattle.wakeup_source.specs.SourceStates.{bare, latest};
 
 use crate::run::{Run, RunFault, wait_unless};
 use crate::waiters::Waiters;
+use apart_log::ApartLog;
 use fit_laws::{moments_are_ranged, stats_are_ranged};
-use log_merge::merge_journal;
 use run_objects::{SeatedSource, close_table};
 use sleep_base::Mem;
 use sleep_core::Core;
-use sleep_model::{
-    Actor, Due, EntryList, EventNow, Journal, ListOf, Log, LogEnd, SourceList, Stats, Waiting,
-};
+use sleep_model::{Actor, Due, EventNow, Journal, ListOf, LogEnd, SourceList, Stats, Waiting};
 use std::alloc::{AllocError, Global};
 use std::sync::Wait;
 
@@ -61,17 +59,6 @@ fn push_waiting(those: &mut Vec<Waiting>, script: u32, due: Due) -> Result<(), A
         })?;
     }
     Ok(())
-}
-
-/// The log of these entries.
-fn log_of(entries: EntryList, stats: Vec<Stats>, end: LogEnd) -> Log
-    ensures { result ≡ record { entries = entries; stats = stats.items; end = end } }
-{
-    Log {
-        entries,
-        stats: ListOf::of_vec(stats),
-        end,
-    }
 }
 
 /// Wakes the scripts whose sleeps have come to their ends.
@@ -291,20 +278,19 @@ impl<'m> Run<'m> {
         Ok(kept)
     }
 
-    /// The log of a run that is over and ended so: its journal and its sources' histories are merged.
-    fn merged(self, alloc: Global, end: LogEnd, stats: Vec<Stats>) -> Result<Log, Mem>
+    /// The log of a run that is over and ended so: that of its journal and its sources' histories.
+    fn merged(self, alloc: Global, end: LogEnd, stats: Vec<Stats>) -> Result<ApartLog, Mem>
         requires end { EndsSo self end }
         requires stats { stats.items ≡ all_stats self.sources (time_of (entries self.journal)) }
         requires ranged { list_all fits_stats stats.items ≡ true }
         ensures { IfOk result (λ log. IsRun self.entry.machine log) }
     {
         let (journal, histories) = self.closed(alloc)?;
-        let entries = merge_journal(alloc, journal, &histories)?;
-        Ok(log_of(entries, stats, end))
+        Ok(ApartLog::new(journal, histories, stats, end))
     }
 
     /// The log of a run that is over.
-    pub(crate) fn into_log(self, alloc: Global, rest: Rest) -> Result<Log, Mem>
+    pub(crate) fn into_log(self, alloc: Global, rest: Rest) -> Result<ApartLog, Mem>
         requires { AfterAll self (Ok rest) }
         ensures { IfOk result (λ log. IsRun self.entry.machine log) }
     {

@@ -8,9 +8,10 @@ ghost use Rattle.sleep_run.specs.Runs.{Fails, IsRun};
 use crate::rest::Rest;
 use crate::run::{Run, RunEnd, RunFault, Tried};
 use answer_book::AnswerBook;
+use apart_log::ApartLog;
 use device_links::Links;
 use run_world::Gate;
-use sleep_model::{Actor, Log, Machine, Want, Why};
+use sleep_model::{Actor, Machine, Want, Why};
 use std::alloc::Global;
 use std::sync::Wait;
 use std::thread::Threads;
@@ -228,7 +229,7 @@ impl<'m> Run<'m> {
     }
 
     /// All rounds, and the log of them.
-    fn finish<R: Wait>(mut self, rt: &R, alloc: Global) -> Result<Log, RunFault>
+    fn finish<R: Wait>(mut self, rt: &R, alloc: Global) -> Result<ApartLog, RunFault>
         ensures ok { IfOk result (λ log. IsRun self.entry.machine log) }
         ensures fault { IfErr result (Fails self.entry.machine) }
     {
@@ -245,7 +246,7 @@ impl<'m> Run<'m> {
         alloc: Global,
         workers: u8,
         gate: &G,
-    ) -> Result<Log, RunFault>
+    ) -> Result<ApartLog, RunFault>
         requires { 1 ≤ workers }
         ensures ok { IfOk result (λ log. IsRun self.entry.machine log) }
         ensures fault { IfErr result (Fails self.entry.machine) }

@@ -8,13 +8,14 @@ ghost use Rattle.sleep_run.specs.Refused.{run_fault};
 use crate::jobs::Jobs;
 use crate::waiters::Waiters;
 use answer_book::AnswerBook;
+use apart_log::ApartLog;
 use device_links::Links;
 use event_word::EventTable;
 use fit_laws::{calls_are_ranged, kinds_are_ranged, moments_are_ranged};
 use run_objects::{SeatedCore, SeatedSource, seated_sources};
 use sleep_base::Mem;
 use sleep_core::{Core, CoreFault, CoreTurn};
-use sleep_model::{Actor, EventNow, Kind, Log, Machine, Phase, SourceCall, Stamp, Why};
+use sleep_model::{Actor, EventNow, Kind, Machine, Phase, SourceCall, Stamp, Why};
 use std::alloc::{AllocError, Global};
 use std::marker::Model;
 use std::sync::Wait;
@@ -24,7 +25,7 @@ use wakeup_source::{CallBy, SourceFault};
 /// What a whole run gives.
 #[derive(Drop)]
 pub struct RunEnd {
-    pub log: Log,
+    pub log: ApartLog,
 }
 
 /// Why a run gives nothing.

@@ -6,8 +6,6 @@ mod chain;
 mod counts;
 mod levels;
 mod linked;
-#[cfg(test)]
-mod tests;
 
 pub use certificate::certified;
 pub use chain::{Chain, longest};

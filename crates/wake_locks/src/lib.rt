@@ -6,8 +6,6 @@ mod lock;
 mod locks;
 mod soonest;
 mod standing;
-#[cfg(test)]
-mod tests;
 mod text;
 
 pub use answer::{LockAnswer, LockFault};

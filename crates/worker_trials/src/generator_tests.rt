@@ -1,152 +1,102 @@
-use sleep_model::{Device, DeviceFlags, Link, Machine, Name, Op, Script, TaskKind};
+use sleep_base::Mem;
+use sleep_model::{DeviceFlags, Link, Machine, Op, Script, Step, TaskKind};
 use sleep_script::generate;
 use std::alloc::Global;
-use std::process::Abort;
 use std::test::Fail;
 
-/// The parents of a machine's devices.
-fn parents(alloc: Global, machine: &Machine) -> Result<Vec<Option<u32>>, Fail> {
-    let mut parents = Vec::new(alloc);
-    for device in machine.devices.as_slice() {
-        parents.push(device.parent)?;
-    }
-    Ok(parents)
-}
-
-/// The numbers of the devices that are async.
-fn asyncs(alloc: Global, machine: &Machine) -> Result<Vec<usize>, Fail> {
-    let mut asyncs = Vec::new(alloc);
-    for (number, device) in machine.devices.as_slice().iter().enumerate() {
-        if device.flags == DeviceFlags::ASYNC {
-            asyncs.push(number)?;
+/// Whether the devices have these parents, and are async as said.
+fn are_devices(machine: &Machine, devices: &[(Option<u32>, bool)]) -> bool {
+    for (device, (parent, is_async)) in machine.devices.as_slice().iter().zip(devices) {
+        if device.parent != *parent || (device.flags == DeviceFlags::ASYNC) != *is_async {
+            return false;
         }
     }
-    Ok(asyncs)
+    machine.devices.len() == devices.len()
 }
 
-/// How many devices depend on no other.
-fn roots(machine: &Machine) -> u64 {
-    let mut roots = 0u64;
-    for device in machine.devices.as_slice() {
-        roots = roots.saturating_add(u64::from(device.parent.is_none()));
-    }
-    roots
+/// A pause in ms, and the event behind it: its source, and its length in ms.
+type Drawn = (u32, u32, u32);
+
+/// Whether a step is that pause.
+fn is_pause(step: Option<&Step>, drawn: &Drawn) -> bool {
+    matches!(step, Some(Step { op: Op::Sleep { ms }, .. }) if *ms == drawn.0)
 }
 
-/// What a script draws: each pause in ms, and each event's source and length in ms.
-fn line_numbers(alloc: Global, script: &Script) -> Result<Vec<u32>, Fail> {
-    let mut numbers = Vec::new(alloc);
-    for step in script.steps.as_slice() {
-        match step.op {
-            Op::Sleep { ms } => numbers.push(ms)?,
-            Op::Event {
-                source,
-                ms,
-                hard: false,
-            } => numbers.extend_from_slice(&[source, ms])?,
-            _ => return Err("another operation".into()),
+/// Whether a step is that event.
+fn is_event(step: Option<&Step>, drawn: &Drawn) -> bool {
+    matches!(step, Some(Step { op: Op::Event { source, ms, hard: false }, .. }) if (*source, *ms) == (drawn.1, drawn.2))
+}
+
+/// Whether a script draws these pauses and events.
+fn draws(script: &Script, drawn: &[Drawn]) -> bool {
+    let steps = script.steps.as_slice();
+    for (k, drawn) in drawn.iter().enumerate() {
+        if !is_pause(steps.get(2 * k), drawn) || !is_event(steps.get(2 * k + 1), drawn) {
+            return false;
         }
     }
-    Ok(numbers)
+    steps.len() == 2 * drawn.len()
 }
 
-/// A machine with one device, as the example of a generated file has it.
-#[test]
-fn one_device_is_generated(rt: HostRuntime) -> Result<(), Fail> {
-    let alloc = rt.alloc();
-    let machine = generate(alloc, 0, 1)?;
-    assert_eq!(rt; asyncs(alloc, &machine)?.len(), 0);
-    assert_one_device(&rt, &machine);
-    let [sleeper, line] = machine.actors.as_slice() else {
-        return Err("two actors".into());
-    };
-    assert_sleeper(&rt, sleeper);
-    assert_line(&rt, line);
-    assert_numbers(
-        &rt,
-        alloc,
-        line,
-        &[289, 2, 0, 677, 0, 0, 904, 1, 0, 428, 2, 0],
-    )
+/// Whether the tasks are one that sleeps and an interrupt line that draws these.
+fn have_tasks(machine: &Machine, drawn: &[Drawn]) -> bool {
+    match machine.actors.as_slice() {
+        [sleeper, line] => is_sleeper(sleeper) && is_line(line) && draws(line, drawn),
+        _ => false,
+    }
 }
 
-/// One device that depends on none, and no link.
-fn assert_one_device(rt: &impl Abort, machine: &Machine) {
-    assert!(rt; matches!(machine.devices.as_slice(), [Device { parent: None, .. }]));
-    assert_eq!(rt; machine.links.len(), 0);
+fn is_sleeper(sleeper: &Script) -> bool {
+    sleeper.name.bytes() == b"sleeper".as_slice()
+        && matches!(sleeper.kind, TaskKind::User)
+        && sleeper.repeat == 4
+        && sleeper.steps.len() == 3
 }
 
-/// The task that sleeps.
-fn assert_sleeper(rt: &impl Abort, sleeper: &Script) {
-    assert_eq!(rt; sleeper.name.bytes(), b"sleeper".as_slice());
-    assert!(rt; matches!(sleeper.kind, TaskKind::User));
-    assert_eq!(rt; sleeper.repeat, 4);
-    assert_eq!(rt; sleeper.steps.len(), 3);
+fn is_line(line: &Script) -> bool {
+    line.name.bytes() == b"line".as_slice() && matches!(line.kind, TaskKind::Irq)
 }
 
-/// The interrupt line.
-fn assert_line(rt: &impl Abort, line: &Script) {
-    assert_eq!(rt; line.name.bytes(), b"line".as_slice());
-    assert!(rt; matches!(line.kind, TaskKind::Irq));
+/// Whether names are their letter and their number: of the first device and the last of twelve, and of the third source.
+fn are_numbered(machine: &Machine) -> bool {
+    match (machine.devices.as_slice(), machine.sources.as_slice()) {
+        ([first, .., last], [_, _, source]) => {
+            first.name.bytes() == b"d0".as_slice()
+                && last.name.bytes() == b"d11".as_slice()
+                && source.bytes() == b"s2".as_slice()
+        }
+        _ => false,
+    }
 }
 
-/// A script draws these numbers.
-fn assert_numbers(
-    rt: &impl Abort,
-    alloc: Global,
-    line: &Script,
-    numbers: &[u32],
-) -> Result<(), Fail> {
-    assert_eq!(rt; line_numbers(alloc, line)?.as_slice(), numbers);
-    Ok(())
-}
+// What the line of a machine with one device draws.
+const ONE: [Drawn; 4] = [(289, 2, 0), (677, 0, 0), (904, 1, 0), (428, 2, 0)];
 
-/// Names of devices and sources are their letter and their number.
-#[test]
-fn things_are_named_by_number(rt: HostRuntime) -> Result<(), Fail> {
-    let machine = generate(rt.alloc(), 0, 12)?;
-    assert_names(&rt, machine.devices.as_slice(), machine.sources.as_slice())
-}
-
-/// The names of the first device and of the last one, and of the third source.
-fn assert_names(rt: &impl Abort, devices: &[Device], sources: &[Name]) -> Result<(), Fail> {
-    let [first, .., last] = devices else {
-        return Err("two devices".into());
-    };
-    assert_eq!(rt; first.name.bytes(), b"d0".as_slice());
-    assert_eq!(rt; last.name.bytes(), b"d11".as_slice());
-    let [_, _, source] = sources else {
-        return Err("three sources".into());
-    };
-    assert_eq!(rt; source.bytes(), b"s2".as_slice());
-    Ok(())
-}
-
-/// What the devices of a small machine depend on.
-const PARENTS: [Option<u32>; 20] = [
-    None,
-    None,
-    Some(1),
-    Some(0),
-    Some(3),
-    Some(2),
-    Some(4),
-    Some(5),
-    Some(1),
-    Some(0),
-    None,
-    None,
-    Some(6),
-    None,
-    Some(12),
-    Some(8),
-    Some(6),
-    Some(13),
-    Some(9),
-    Some(14),
+// What each device of a small machine depends on, and whether it is async.
+const DEVICES: [(Option<u32>, bool); 20] = [
+    (None, true),
+    (None, true),
+    (Some(1), false),
+    (Some(0), true),
+    (Some(3), true),
+    (Some(2), false),
+    (Some(4), true),
+    (Some(5), true),
+    (Some(1), false),
+    (Some(0), false),
+    (None, true),
+    (None, false),
+    (Some(6), false),
+    (None, true),
+    (Some(12), false),
+    (Some(8), false),
+    (Some(6), true),
+    (Some(13), true),
+    (Some(9), false),
+    (Some(14), true),
 ];
 
-/// Its links.
+// Its links.
 const LINKS: [Link; 2] = [
     Link {
         supplier: 3,
@@ -160,45 +110,62 @@ const LINKS: [Link; 2] = [
     },
 ];
 
-/// A small machine whole. Its numbers come from a program of thirty lines in another language, which
-/// was written from the words of the generator's description alone.
-#[test]
-fn twenty_devices_are_generated(rt: HostRuntime) -> Result<(), Fail> {
-    let alloc = rt.alloc();
-    let machine = generate(alloc, 7, 20)?;
-    assert_twenty(&rt, alloc, &machine)?;
-    assert_eq!(rt; machine.links.as_slice(), LINKS.as_slice());
-    let [_, line] = machine.actors.as_slice() else {
-        return Err("two actors".into());
-    };
-    assert_numbers(
-        &rt,
-        alloc,
-        line,
-        &[927, 0, 50, 703, 1, 50, 497, 2, 0, 309, 0, 0],
+// What its line draws.
+const TWENTY: [Drawn; 4] = [(927, 0, 50), (703, 1, 50), (497, 2, 0), (309, 0, 0)];
+
+/// Whether a machine with one device is as the example of a generated file has it.
+fn is_one(alloc: Global) -> Result<bool, Mem> {
+    let machine = generate(alloc, 0, 1)?;
+    Ok(
+        are_devices(&machine, &[(None, false)])
+            && machine.links.len() == 0
+            && have_tasks(&machine, &ONE),
     )
 }
 
-/// What its devices depend on, and which are async.
-fn assert_twenty(rt: &impl Abort, alloc: Global, machine: &Machine) -> Result<(), Fail> {
-    assert_eq!(rt; parents(alloc, machine)?.as_slice(), PARENTS.as_slice());
-    let asynchronous = [0, 1, 3, 4, 6, 7, 10, 13, 16, 17, 19];
-    assert_eq!(rt; asyncs(alloc, machine)?.as_slice(), asynchronous.as_slice());
+/// Whether a small machine is whole.
+fn is_twenty(alloc: Global) -> Result<bool, Mem> {
+    let machine = generate(alloc, 7, 20)?;
+    let are_linked = machine.links.as_slice() == LINKS.as_slice();
+    Ok(are_linked && are_devices(&machine, &DEVICES) && have_tasks(&machine, &TWENTY))
+}
+
+/// Whether the names of a third machine are their letter and their number.
+fn is_numbered(alloc: Global) -> Result<bool, Mem> {
+    let machine = generate(alloc, 0, 12)?;
+    Ok(are_numbered(&machine))
+}
+
+/// A machine with one device, a small machine whole, and the names of a third. The numbers come from a program of thirty lines
+/// in another language, which was written from the words of the generator's description alone.
+#[test]
+fn small_machines_are_generated(rt: HostRuntime) -> Result<(), Fail> {
+    assert!(rt; is_one(rt.alloc())? && is_twenty(rt.alloc())? && is_numbered(rt.alloc())?);
     Ok(())
 }
 
+/// How many devices depend on no other, and how many are async.
+fn roots_and_async(machine: &Machine) -> (u32, u32) {
+    let (mut roots, mut asynchronous) = (0u32, 0u32);
+    for device in machine.devices.as_slice() {
+        roots = roots.saturating_add(u32::from(device.parent.is_none()));
+        asynchronous = asynchronous.saturating_add(u32::from(device.flags == DeviceFlags::ASYNC));
+    }
+    (roots, asynchronous)
+}
+
 /// How many devices, roots, async devices and links the machine of a seed has.
-type Counts = (usize, u64, usize, usize);
+type Counts = (usize, u32, u32, usize);
 
 fn counts(alloc: Global, seed: u64, devices: u32) -> Result<Counts, Fail> {
     if devices < 1 || devices > 1000 {
         return Err("1 to 1,000 devices".into());
     }
     let machine = generate(alloc, seed, devices)?;
-    let asynchronous = asyncs(alloc, &machine)?.len();
+    let (roots, asynchronous) = roots_and_async(&machine);
     Ok((
         machine.devices.len(),
-        roots(&machine),
+        roots,
         asynchronous,
         machine.links.len(),
     ))

@@ -1,13 +1,11 @@
-ghost use Rattle.std.specs.Prelude.{◌≡◌, ◌<◌, ◌≤◌, ◌++◌, [], Some, IfOk, length, drop};
+ghost use Rattle.std.specs.Prelude.{◌≡◌, ◌<◌, ◌++◌, [], length, drop};
 ghost use Rattle.turn_lock.specs.Books.{placed};
-ghost use Rattle.turn_lock.specs.Passes.{IsPass, IsPassOf, Holds, first_of, had_by, made_of, number_of};
+ghost use Rattle.turn_lock.specs.Passes.{IsPass, Holds, first_of, had_by, made_of, number_of};
 
-use crate::lock_tests::{Journal, objects};
-use sleep_base::Mem;
+use crate::lock_tests::Journal;
 use std::alloc::Global;
 use std::sync::Wait;
-use std::test::Fail;
-use turn_lock::{Desk, Held, LockTable, Made, Pass, close_locks, give, take};
+use turn_lock::{Desk, Held, Made, Pass, give, take};
 
 /// A pass that holds nothing, beside its list.
 #[derive(Drop)]
@@ -90,63 +88,4 @@ impl Busy {
         let pass = give(desk, held);
         Worker { pass, made }
     }
-}
-
-/// A table of two empty objects, and its two passes.
-fn two(alloc: Global) -> Result<(LockTable<Journal>, Worker, Worker), Mem>
-    ensures objects { IfOk result (λ made. length (first_of made.0.own) ≡ 2) }
-    ensures table { IfOk result (λ made. (made.0.own.me.0.next ≡ 2) × (made.0.own.me.0.known ≡ [])) }
-    ensures first { IfOk result (λ made. IsPassOf made.0.own made.1.pass.token × (number_of made.1.pass.token ≡ Some 0)) }
-    ensures second { IfOk result (λ made. IsPassOf made.0.own made.2.pass.token × (number_of made.2.pass.token ≡ Some 1)) }
-{
-    let (locks, mut passes) = LockTable::new(alloc, objects(alloc, 2)?, 2)?;
-    let Some(second) = passes.pop() else {
-        return Err(Mem);
-    };
-    let Some(first) = passes.pop() else {
-        return Err(Mem);
-    };
-    Ok((locks, Worker::new(alloc, first), Worker::new(alloc, second)))
-}
-
-/// Closes a table of two passes.
-fn close_two(
-    alloc: Global,
-    locks: LockTable<Journal>,
-    first: Pass<Journal>,
-    second: Pass<Journal>,
-) -> Result<Vec<Journal>, Mem>
-    requires table { (locks.own.me.0.next ≡ 2) × (locks.own.me.0.known ≡ []) }
-    requires first { IsPassOf locks.own first.token × (number_of first.token ≡ Some 0) }
-    requires second { IsPassOf locks.own second.token × (number_of second.token ≡ Some 1) }
-{
-    let mut passes = Vec::with_capacity(alloc, 2)?;
-    passes.push(first)?;
-    passes.push(second)?;
-    close_locks(alloc, locks, passes)
-}
-
-/// Whether a list has these entries, each an object, a place and a number.
-fn has(made: &Vec<Made<u32>>, want: &[(u64, u64, u32)]) -> bool {
-    made.len() == want.len()
-        && made.iter().zip(want).all(|(m, &(object, place, entry))| {
-            m.object == object && m.place == place && m.entry == entry
-        })
-}
-
-/// A pass that gives an object back as it was lists nothing of it; one that added to it lists each entry at its place.
-#[test]
-fn a_pass_lists_what_it_added(rt: HostRuntime) -> Result<(), Fail> {
-    let (locks, first, second) = two(rt.alloc())?;
-    let desk = &locks.desk;
-    let first = first.take(&rt, desk, 0).note(7).give(desk);
-    let second = second.take(&rt, desk, 0).give(desk);
-    let second = second.take(&rt, desk, 1).note(8).note(9).give(desk);
-    assert!(rt; has(&first.made, &[(0, 0, 7)]));
-    assert!(rt; has(&second.made, &[(1, 0, 8), (1, 1, 9)]));
-    let values = close_two(rt.alloc(), locks, first.pass, second.pass)?;
-    assert_eq!(rt; values.len(), 2);
-    assert_eq!(rt; values[0].notes.as_slice(), [7].as_slice());
-    assert_eq!(rt; values[1].notes.as_slice(), [8, 9].as_slice());
-    Ok(())
 }

@@ -8,7 +8,7 @@ use std::sync::{Barrier, Wait};
 use std::test::Fail;
 use std::thread;
 use std::thread::Threads;
-use turn_lock::{Booked, Desk, LockTable, Pass, close_locks, give, take};
+use turn_lock::{Booked, Desk, LockTable, Pass, give, take};
 
 /// An object of the tests: numbers, one behind another.
 #[derive(Drop)]
@@ -55,15 +55,6 @@ pub(crate) fn objects(alloc: Global, count: usize) -> Result<Vec<Journal>, Alloc
     Ok(values)
 }
 
-/// The values come back, as many as they were.
-#[test]
-fn a_table_is_closed(rt: HostRuntime) -> Result<(), Fail> {
-    let (locks, passes) = LockTable::new(rt.alloc(), objects(rt.alloc(), 3)?, 2)?;
-    let values = close_locks(rt.alloc(), locks, passes)?;
-    assert_eq!(rt; values.len(), 3);
-    Ok(())
-}
-
 /// Takes one of two objects, and waits with it for another worker that holds the other one.
 fn meet<R: Wait>(
     rt: &R,
@@ -104,6 +95,6 @@ fn meeting<R: Threads + Wait + Sync>(
 #[test]
 fn two_workers_overlap(rt: HostRuntime) -> Result<(), Fail> {
     let (locks, passes) = LockTable::new(rt.alloc(), objects(rt.alloc(), 2)?, 2)?;
-    assert_eq!(rt; meeting(&rt, &locks, passes)?, 2);
+    assert!(rt; meeting(&rt, &locks, passes)? == 2);
     Ok(())
 }

@@ -93,16 +93,26 @@ fn strike_list(values: &mut Vec<Journal>, list: &Vec<Made<u32>>) -> bool {
     stood
 }
 
-/// Whether each entry of the lists stands at its place, and each entry of the values is in one list, once.
+/// Whether all entries of an object were struck out.
+fn is_struck(journal: &Journal) -> bool {
+    for number in &journal.notes {
+        if *number != STRUCK {
+            return false;
+        }
+    }
+    true
+}
+
+/// Whether each entry of the lists stands at its place, and each entry of the two values is in one list, once.
 fn each_once(values: &mut Vec<Journal>, lists: &Vec<Vec<Made<u32>>>) -> bool {
     let mut stood = true;
     for list in lists {
         stood = strike_list(values, list) && stood;
     }
-    stood
-        && values
-            .iter()
-            .all(|journal| journal.notes.iter().all(|&x| x == STRUCK))
+    match values.as_slice() {
+        [first, second] => stood && is_struck(first) && is_struck(second),
+        _ => false,
+    }
 }
 
 /// How many numbers each of two objects has after all turns of all workers, where each is in one list, once.
@@ -125,14 +135,10 @@ fn counted<R: Threads + Wait + Sync>(
     Ok(once.then_some((first.notes.len(), second.notes.len())))
 }
 
+/// Four workers lose nothing, nor do sixteen.
 #[test]
-fn four_workers_lose_nothing(rt: HostRuntime) -> Result<(), Fail> {
-    assert_eq!(rt; counted(&rt, rt.alloc(), 4, 2500)?, Some((5000, 5000)));
-    Ok(())
-}
-
-#[test]
-fn sixteen_workers_lose_nothing(rt: HostRuntime) -> Result<(), Fail> {
-    assert_eq!(rt; counted(&rt, rt.alloc(), 16, 625)?, Some((5008, 4992)));
+fn many_workers_lose_nothing(rt: HostRuntime) -> Result<(), Fail> {
+    assert!(rt; counted(&rt, rt.alloc(), 4, 2500)? == Some((5000, 5000)));
+    assert!(rt; counted(&rt, rt.alloc(), 16, 625)? == Some((5008, 4992)));
     Ok(())
 }

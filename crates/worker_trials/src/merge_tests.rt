@@ -1,5 +1,5 @@
 use log_merge::{LogReader, merge, merge_journal, rises};
-use sleep_base::Errno;
+use sleep_base::{Errno, Mem};
 use sleep_model::{
     Actor, Entry, EntryList, EventNow, Journal, JournalEntry, Kind, ListOf, SourceEntry,
     SourceList, Stamp,
@@ -25,17 +25,12 @@ fn entry(time: u64, actor: Actor, kind: Kind) -> Entry {
     }
 }
 
-/// An entry of the journal, by a task.
-fn of_task(time: u64, pos: u64, tick: u64, kind: Kind) -> JournalEntry {
-    JournalEntry {
-        stamp: Stamp { pos, tick },
-        entry: entry(time, TASK, kind),
-    }
-}
-
 /// A mark that the task raises.
 fn post(time: u64, pos: u64, tick: u64) -> JournalEntry {
-    of_task(time, pos, tick, Kind::Post(0))
+    JournalEntry {
+        stamp: Stamp { pos, tick },
+        entry: entry(time, TASK, Kind::Post(0)),
+    }
 }
 
 /// An entry of a source.
@@ -58,127 +53,156 @@ pub(crate) fn merged(
     Ok(merge(alloc, journal, histories)?)
 }
 
-/// Whether a log has the entries of these times, in this order.
-fn has_times(log: &EntryList, times: &[u64]) -> bool {
+/// Whether a log has entries of so many times, one after another.
+pub(crate) fn is_in_order(log: &EntryList, count: u64) -> bool {
     let mut reader = log.reader();
-    for time in times {
+    for time in 0..count {
         match reader.next() {
-            Some(entry) if entry.time == *time => {}
+            Some(entry) if entry.time == time => {}
             _ => return false,
         }
     }
-    log.len() == times.len() && reader.next().is_none()
+    reader.next().is_none()
 }
+
+/// An entry of a trial, whose time is its place in the one log: its list, 0 for the journal and a number for each history,
+/// its position and its tick, its actor, and what it says.
+struct Row(usize, u64, (u64, u64), Actor, Kind);
+
+/// The journal of the rows.
+fn journal_of(alloc: Global, rows: &[Row]) -> Result<Vec<JournalEntry>, Mem> {
+    let mut journal = Vec::new(alloc);
+    for Row(list, time, (pos, tick), actor, kind) in rows {
+        if *list == 0 {
+            let stamp = Stamp {
+                pos: *pos,
+                tick: *tick,
+            };
+            let entry = entry(*time, *actor, *kind);
+            journal.push(JournalEntry { stamp, entry })?;
+        }
+    }
+    Ok(journal)
+}
+
+/// A history of the rows.
+fn history_of(alloc: Global, rows: &[Row], number: usize) -> Result<SourceList, Mem> {
+    let mut history = Vec::new(alloc);
+    for Row(list, time, (pos, tick), actor, kind) in rows {
+        if *list == number {
+            history.push(made(*time, *pos, *tick, *actor, *kind))?;
+        }
+    }
+    Ok(ListOf::of_vec(history))
+}
+
+/// Seven histories of the rows, which may be empty.
+fn histories_of(alloc: Global, rows: &[Row]) -> Result<Vec<SourceList>, Mem> {
+    let mut histories = Vec::new(alloc);
+    for number in 1..8usize {
+        histories.push(history_of(alloc, rows, number)?)?;
+    }
+    Ok(histories)
+}
+
+/// Whether rows stand one after another in the one log.
+fn stand_in_order(alloc: Global, rows: &[Row]) -> Result<bool, Fail> {
+    let journal = journal_of(alloc, rows)?;
+    let histories = histories_of(alloc, rows)?;
+    let log = merged(alloc, &journal, &histories)?;
+    Ok(is_in_order(&log, rows.len() as u64))
+}
+
+const OTHER: Actor = Actor::Script(1);
+
+const AWAKE: Kind = Kind::Awake(0);
+
+const POST: Kind = Kind::Post(0);
 
 /// A look stands before a step of its position, whoever made it, and the entries behind the step after it.
-#[test]
-fn looks_stand_before_the_step(rt: HostRuntime) -> Result<(), Fail> {
-    let start = made(3, 0, 1, Actor::Script(1), Kind::Start(0));
-    let note = made(2, 0, 2, Actor::Script(1), Kind::Awake(0));
-    let history: SourceList = ListOf::of_vec(Vec::from_array(rt.alloc(), [note, start])?);
-    let histories = Vec::from_array(rt.alloc(), [history])?;
-    let journal = [post(0, 0, 1), post(1, 0, 2), post(4, 1, 3)];
-    let log = merged(rt.alloc(), &journal, &histories)?;
-    assert!(rt; has_times(&log, &[0, 1, 2, 3, 4]));
-    Ok(())
-}
+const LOOKS: [Row; 5] = [
+    Row(0, 0, (0, 1), TASK, POST),
+    Row(0, 1, (0, 2), TASK, POST),
+    Row(1, 2, (0, 2), OTHER, AWAKE),
+    Row(1, 3, (0, 1), OTHER, Kind::Start(0)),
+    Row(0, 4, (1, 3), TASK, POST),
+];
 
 /// What another does to a source between a task's read and its save stands between them.
+const BETWEEN: [Row; 5] = [
+    Row(0, 0, (0, 1), TASK, Kind::Read(0)),
+    Row(1, 1, (0, 2), OTHER, AWAKE),
+    Row(1, 2, (0, 3), OTHER, Kind::Start(0)),
+    Row(1, 3, (1, 4), OTHER, Kind::Finish(0)),
+    Row(0, 4, (2, 5), TASK, Kind::SaveErr(0, Errno::EINVAL)),
+];
+
+/// Entries of one position stand by their ticks, then by their actors: scripts, the autosleep work,
+/// devices, timers.
+const TIES: [Row; 8] = [
+    Row(7, 0, (3, 4), Actor::Timer(9), AWAKE),
+    Row(0, 1, (3, 5), TASK, POST),
+    Row(6, 2, (3, 5), Actor::Script(7), AWAKE),
+    Row(5, 3, (3, 5), Actor::Auto, AWAKE),
+    Row(4, 4, (3, 5), Actor::Dev(1), AWAKE),
+    Row(3, 5, (3, 5), Actor::Dev(2), AWAKE),
+    Row(2, 6, (3, 5), Actor::Timer(0), AWAKE),
+    Row(1, 7, (3, 5), Actor::Time, AWAKE),
+];
+
+/// Where nothing tells two entries apart, the journal's stands first, and then histories and their entries
+/// keep their order.
+const EQUAL: [Row; 7] = [
+    Row(0, 0, (2, 2), TASK, POST),
+    Row(1, 1, (2, 2), TASK, AWAKE),
+    Row(1, 2, (2, 2), TASK, Kind::Relax(0)),
+    Row(2, 3, (2, 2), TASK, AWAKE),
+    Row(2, 4, (2, 2), TASK, Kind::Relax(0)),
+    Row(3, 5, (2, 2), TASK, AWAKE),
+    Row(3, 6, (2, 2), TASK, Kind::Relax(0)),
+];
+
+/// Histories without a journal: the last entry of each is kept.
+const SOURCES: [Row; 2] = [
+    Row(2, 0, (8, 1), TASK, AWAKE),
+    Row(1, 1, (9, 1), TASK, AWAKE),
+];
+
+/// A journal without histories.
+const JOURNAL: [Row; 2] = [Row(0, 0, (0, 1), TASK, POST), Row(0, 1, (4, 2), TASK, POST)];
+
+/// The lists of each trial merge to its rows in their order.
 #[test]
-fn an_event_stands_between_a_read_and_a_save(rt: HostRuntime) -> Result<(), Fail> {
-    let other = Actor::Script(1);
-    let event = Kind::Event {
-        source: 0,
-        ms: 0,
-        hard: false,
-    };
-    let note = made(1, 0, 2, other, event);
-    let start = made(2, 0, 3, other, Kind::Start(0));
-    let finish = made(3, 1, 4, other, Kind::Finish(0));
-    let history: SourceList = ListOf::of_vec(Vec::from_array(rt.alloc(), [note, start, finish])?);
-    let histories = Vec::from_array(rt.alloc(), [history])?;
-    let read = of_task(0, 0, 1, Kind::Read(0));
-    let save = of_task(4, 2, 5, Kind::SaveErr(0, Errno::EINVAL));
-    let log = merged(rt.alloc(), &[read, save], &histories)?;
-    assert!(rt; has_times(&log, &[0, 1, 2, 3, 4]));
+fn entries_stand_in_order(rt: HostRuntime) -> Result<(), Fail> {
+    let alloc = rt.alloc();
+    assert!(rt; stand_in_order(alloc, &LOOKS)? && stand_in_order(alloc, &BETWEEN)?);
+    assert!(rt; stand_in_order(alloc, &TIES)? && stand_in_order(alloc, &EQUAL)?);
+    assert!(rt; stand_in_order(alloc, &SOURCES)? && stand_in_order(alloc, &JOURNAL)?);
+    assert!(rt; stand_in_order(alloc, &[])?);
     Ok(())
 }
 
-/// So it stands where the journal is kept as it is, and behind its last entry too.
+/// The history beside a journal that is kept.
+const AROUND: [Row; 3] = [
+    Row(1, 1, (0, 2), OTHER, AWAKE),
+    Row(1, 2, (0, 3), OTHER, Kind::Start(0)),
+    Row(1, 4, (3, 6), OTHER, Kind::Relax(0)),
+];
+
+/// A journal as it is kept is merged as its entries are: what another did stands between two posts and behind them.
 #[test]
 fn a_journal_is_merged_as_it_is_kept(rt: HostRuntime) -> Result<(), Fail> {
-    let other = Actor::Script(1);
-    let note = made(1, 0, 2, other, Kind::Awake(0));
-    let start = made(2, 0, 3, other, Kind::Start(0));
-    let relax = made(4, 3, 6, other, Kind::Relax(0));
-    let history: SourceList = ListOf::of_vec(Vec::from_array(rt.alloc(), [note, start, relax])?);
-    let histories = Vec::from_array(rt.alloc(), [history])?;
-    let read = of_task(0, 0, 1, Kind::Read(0));
-    let save = of_task(3, 2, 5, Kind::SaveErr(0, Errno::EINVAL));
-    if !rises(&[read, save]) {
+    let (first, last) = (post(0, 0, 1), post(3, 2, 5));
+    if !rises(&[first, last]) {
         return Err("a journal that does not rise".into());
     }
     let mut journal = Journal::new(rt.alloc());
     journal.reserve(2)?;
-    journal.put(read);
-    journal.put(save);
+    journal.put(first);
+    journal.put(last);
+    let histories = histories_of(rt.alloc(), &AROUND)?;
     let log = merge_journal(rt.alloc(), journal, &histories)?;
-    assert!(rt; has_times(&log, &[0, 1, 2, 3, 4]));
-    Ok(())
-}
-
-/// Entries of one position stand by their ticks, then by their actors: scripts, the autosleep work,
-/// devices, timers.
-#[test]
-fn ties_stand_by_tick_then_by_actor(rt: HostRuntime) -> Result<(), Fail> {
-    let mut histories = Vec::new(rt.alloc());
-    for (time, tick, actor) in [
-        (7, 5, Actor::Time),
-        (6, 5, Actor::Timer(0)),
-        (5, 5, Actor::Dev(2)),
-        (4, 5, Actor::Dev(1)),
-        (3, 5, Actor::Auto),
-        (2, 5, Actor::Script(7)),
-        (0, 4, Actor::Timer(9)),
-    ] {
-        let alone = made(time, 3, tick, actor, Kind::Awake(0));
-        histories.push(ListOf::of_vec(Vec::from_array(rt.alloc(), [alone])?))?;
-    }
-    let log = merged(rt.alloc(), &[post(1, 3, 5)], &histories)?;
-    assert!(rt; has_times(&log, &[0, 1, 2, 3, 4, 5, 6, 7]));
-    Ok(())
-}
-
-/// Where nothing tells two entries apart, the journal's stands first, and then histories and their entries
-/// keep their order.
-#[test]
-fn equal_entries_keep_their_order(rt: HostRuntime) -> Result<(), Fail> {
-    let mut histories = Vec::new(rt.alloc());
-    for time in [1, 3, 5] {
-        let first = made(time, 2, 2, TASK, Kind::Awake(0));
-        let second = made(time + 1, 2, 2, TASK, Kind::Relax(0));
-        histories.push(ListOf::of_vec(Vec::from_array(rt.alloc(), [first, second])?))?;
-    }
-    let log = merged(rt.alloc(), &[post(0, 2, 2)], &histories)?;
-    assert!(rt; has_times(&log, &[0, 1, 2, 3, 4, 5, 6]));
-    Ok(())
-}
-
-/// A journal without histories, histories without a journal, and neither: the last entry of each is kept.
-#[test]
-fn a_list_may_be_empty(rt: HostRuntime) -> Result<(), Fail> {
-    let nothing = Vec::new(rt.alloc());
-    let none = merged(rt.alloc(), &[], &nothing)?;
-    assert!(rt; has_times(&none, &[]));
-    let journal = merged(rt.alloc(), &[post(0, 0, 1), post(1, 4, 2)], &nothing)?;
-    assert!(rt; has_times(&journal, &[0, 1]));
-    let mut histories = Vec::new(rt.alloc());
-    for pos in [9, 8] {
-        let alone = made(pos, pos, 1, TASK, Kind::Awake(0));
-        histories.push(ListOf::of_vec(Vec::from_array(rt.alloc(), [alone])?))?;
-    }
-    let sources = merged(rt.alloc(), &[], &histories)?;
-    assert!(rt; has_times(&sources, &[8, 9]));
+    assert!(rt; is_in_order(&log, 5));
     Ok(())
 }
 
@@ -211,9 +235,8 @@ fn assert_runs(rt: &impl Abort, reader: &mut LogReader<'_>) {
 fn a_journal_rises(rt: HostRuntime) {
     let mut step = post(1, 0, 2);
     step.entry.kind = Kind::Start(0);
+    let first = post(0, 0, 1);
     assert!(rt; rises(&[]) && rises(&[post(0, 7, 7)]));
-    assert!(rt; rises(&[post(0, 0, 1), step, post(2, 1, 3)]));
-    assert!(rt; !rises(&[post(0, 0, 1), step, post(2, 0, 3)]));
-    assert!(rt; !rises(&[post(0, 0, 1), post(1, 0, 1)]));
-    assert!(rt; !rises(&[post(0, 1, 1), post(1, 0, 2)]));
+    assert!(rt; rises(&[first, step, post(2, 1, 3)]) && !rises(&[first, step, post(2, 0, 3)]));
+    assert!(rt; !rises(&[first, post(1, 0, 1)]) && !rises(&[post(0, 1, 1), post(1, 0, 2)]));
 }

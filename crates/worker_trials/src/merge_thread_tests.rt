@@ -1,5 +1,5 @@
-use crate::merge_tests::{made, merged};
-use sleep_model::{Actor, EntryList, Kind, ListOf, SourceEntry, SourceList};
+use crate::merge_tests::{is_in_order, made, merged};
+use sleep_model::{Actor, EntryList, EntryReader, Kind, ListOf, SourceEntry, SourceList};
 use std::alloc::{AllocError, Global};
 use std::sync::atomic::{AtomicU64, Ordering};
 use std::sync::{Barrier, Wait};
@@ -47,28 +47,21 @@ fn burst<R: Threads + Sync>(
 }
 
 /// Whether the one log of ten thousand steps has each position once, in order.
-fn is_in_order(log: &EntryList) -> bool {
-    let mut reader = log.reader();
-    for time in 0..10_000 {
-        match reader.next() {
-            Some(entry) if entry.time == time => {}
-            _ => return false,
-        }
-    }
-    log.len() == 10_000 && reader.next().is_none()
+fn is_merged<R: Threads + Sync>(
+    rt: &R,
+    alloc: Global,
+    workers: usize,
+    steps: u64,
+) -> Result<bool, Fail> {
+    let made = burst(rt, alloc, workers, steps)?;
+    Ok(is_in_order(&log_of(alloc, made)?, 10_000))
 }
 
+/// Four workers, and sixteen.
 #[test]
-fn the_steps_of_four_workers_stand_by_position(rt: HostRuntime) -> Result<(), Fail> {
-    let made = burst(&rt, rt.alloc(), 4, 2500)?;
-    assert!(rt; is_in_order(&log_of(rt.alloc(), made)?));
-    Ok(())
-}
-
-#[test]
-fn the_steps_of_sixteen_workers_stand_by_position(rt: HostRuntime) -> Result<(), Fail> {
-    let made = burst(&rt, rt.alloc(), 16, 625)?;
-    assert!(rt; is_in_order(&log_of(rt.alloc(), made)?));
+fn the_steps_of_many_workers_stand_by_position(rt: HostRuntime) -> Result<(), Fail> {
+    assert!(rt; is_merged(&rt, rt.alloc(), 4, 2500)?);
+    assert!(rt; is_merged(&rt, rt.alloc(), 16, 625)?);
     Ok(())
 }
 
@@ -92,22 +85,32 @@ fn meet<R: Wait>(
     entries
 }
 
+/// The histories of two workers that meet.
+fn met<R: Threads + Wait + Sync>(
+    rt: &R,
+    alloc: Global,
+) -> Result<Vec<Vec<SourceEntry>>, AllocError> {
+    let next = AtomicU64::new(0);
+    let both = Barrier::new(2);
+    let one = |i: usize| meet(rt, alloc, &next, &both, i);
+    thread::map_indices(rt, alloc, 2, &one)
+}
+
+/// Whether the first two entries of a log are of two actors.
+fn are_of_two(reader: &mut EntryReader<'_>) -> bool {
+    match (reader.next(), reader.next()) {
+        (Some(first), Some(second)) => first.actor != second.actor,
+        _ => false,
+    }
+}
+
 /// Two workers overlap: in the one log the first steps of both stand before the second ones.
 #[test]
 fn two_workers_overlap(rt: HostRuntime) -> Result<(), Fail> {
-    let next = AtomicU64::new(0);
-    let both = Barrier::new(2);
-    let alloc = rt.alloc();
-    let one = |i: usize| meet(&rt, alloc, &next, &both, i);
-    let made = thread::map_indices(&rt, alloc, 2, &one)?;
-    let log = log_of(alloc, made)?;
-    assert_eq!(rt; log.len(), 4);
+    let log = log_of(rt.alloc(), met(&rt, rt.alloc())?)?;
     let mut reader = log.reader();
-    let firsts = (reader.next(), reader.next());
-    let seconds = (reader.next(), reader.next());
-    let ((Some(a), Some(b)), (Some(c), Some(d))) = (firsts, seconds) else {
-        return Err("four steps were made".into());
-    };
-    assert!(rt; a.actor != b.actor && c.actor != d.actor);
+    assert!(rt; are_of_two(&mut reader));
+    assert!(rt; are_of_two(&mut reader));
+    assert!(rt; reader.next().is_none());
     Ok(())
 }

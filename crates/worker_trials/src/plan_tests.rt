@@ -4,6 +4,7 @@ ghost use Rattle.sleep_model.specs.Scripts.{operations};
 use script_plan::Plan;
 use sleep_model::{ListOf, Name, Op, Script, Step, TaskKind, Text};
 use std::alloc::Global;
+use std::process::Abort;
 use std::test::Fail;
 
 /// These bytes as a text.
@@ -19,34 +20,45 @@ fn script(alloc: Global, autosleep: &[u8]) -> Result<Script, Fail>
     ensures { IfOk result (λ s. length (operations s) ≡ 14) }
 {
     let (source, ms, hard) = (0, 50, false);
-    let mut steps = Vec::new(alloc);
-    steps.push(Step {
-        op: Op::Awake { source },
-        times: 2,
-    })?;
-    steps.push(Step {
-        op: Op::Autosleep {
-            text: text(alloc, autosleep)?,
-        },
-        times: 1,
-    })?;
-    steps.push(Step {
-        op: Op::State {
-            text: text(alloc, b"mem")?,
-            if_saved: false,
-        },
-        times: 3,
-    })?;
-    steps.push(Step {
-        op: Op::Event { source, ms, hard },
-        times: 1,
-    })?;
+    let name = Name::of_bytes(b"w").ok_or("a name")?;
+    let autosleep = text(alloc, autosleep)?;
+    let state = text(alloc, b"mem")?;
+    let steps = vec![in alloc;
+        step(Op::Awake { source }, 2),
+        step(Op::Autosleep { text: autosleep }, 1),
+        step(
+            Op::State {
+                text: state,
+                if_saved: false
+            },
+            3
+        ),
+        step(Op::Event { source, ms, hard }, 1),
+    ]?;
     Ok(Script {
-        name: Name::of_bytes(b"w").ok_or("a name")?,
+        name,
         kind: TaskKind::User,
         repeat: 2,
         steps: ListOf::of_vec(steps),
     })
+}
+
+/// So many times that operation.
+fn step(op: Op, times: u32) -> Step
+    ensures { result ≡ record { op = op; times = times } }
+{
+    Step { op, times }
+}
+
+/// Asserts how many calls stand before each turn of a script.
+fn expect_calls(rt: &impl Abort, alloc: Global, script: &Script, calls: &[u32]) -> Result<(), Fail>
+    requires { length (operations script.now) ≡ 14 }
+{
+    let plan = Plan::new(alloc, script)?;
+    for (turn, wanted) in calls.iter().enumerate() {
+        assert!(rt; plan.calls_before(turn) == *wanted, "turn {turn}");
+    }
+    Ok(())
 }
 
 /// Each turn comes after the calls that stand before it: those of the script, and those round a
@@ -55,40 +67,29 @@ fn script(alloc: Global, autosleep: &[u8]) -> Result<Script, Fail>
 fn turns_come_after_calls(rt: HostRuntime) -> Result<(), Fail> {
     let alloc = rt.alloc();
     let good = script(alloc, b"off")?;
-    let plan = Plan::new(alloc, &good)?;
-    for (turn, calls) in [3, 4, 4, 4, 4, 8, 9, 9, 9, 9, 10].iter().enumerate() {
-        assert_eq!(rt; plan.calls_before(turn), *calls, "turn {turn}");
-    }
+    expect_calls(&rt, alloc, &good, &[3, 4, 4, 4, 4, 8, 9, 9, 9, 9, 10])?;
     let bad = script(alloc, b"on")?;
-    let plan = Plan::new(alloc, &bad)?;
-    for (turn, calls) in [2, 2, 2, 2, 5, 5, 5, 5, 6, 6].iter().enumerate() {
-        assert_eq!(rt; plan.calls_before(turn), *calls, "turn {turn}");
-    }
-    Ok(())
+    expect_calls(&rt, alloc, &bad, &[2, 2, 2, 2, 5, 5, 5, 5, 6, 6])
 }
 
 /// The operations that make entries come in the order of the script, each as often as it says.
 #[test]
 fn operations_come_in_order(rt: HostRuntime) -> Result<(), Fail> {
-    let alloc = rt.alloc();
-    let script = script(alloc, b"mem")?;
-    let plan = Plan::new(alloc, &script)?;
-    for (number, is_autosleep) in [true, false, false, false, true, false, false, false]
-        .iter()
-        .enumerate()
-    {
-        let op = plan.operation(number).ok_or("an operation")?;
-        assert_eq!(rt;
-            matches!(op, Op::Autosleep { .. }),
-            *is_autosleep,
-            "at {number}"
-        );
-        assert_eq!(rt;
-            matches!(op, Op::State { .. }),
-            !*is_autosleep,
-            "at {number}"
-        );
+    let script = script(rt.alloc(), b"mem")?;
+    let plan = Plan::new(rt.alloc(), &script)?;
+    for number in 0..9usize {
+        assert!(rt; is_in_order(&plan, number), "at {number}");
     }
-    assert!(rt; plan.operation(8).is_none());
     Ok(())
+}
+
+/// Whether the operation of that number is autosleep's where it is the first of a round of four, else the state's, and the
+/// ninth is none.
+fn is_in_order(plan: &Plan<'_>, number: usize) -> bool {
+    match plan.operation(number) {
+        Some(Op::Autosleep { .. }) => number % 4 == 0,
+        Some(Op::State { .. }) => number % 4 != 0,
+        Some(_) => false,
+        None => number == 8,
+    }
 }

@@ -3,6 +3,7 @@ ghost use Rattle.sleep_model.specs.Places.{all_operations};
 ghost use Rattle.sleep_model.specs.Scripts.{operations};
 
 use answer_book::AnswerBook;
+use sleep_base::Mem;
 use sleep_model::{
     Answer, Kind, ListOf, Machine, Name, Op, Phase, Report, Script, SourceCall, Stamp, State, Step,
     TaskKind, Text, Want, What,
@@ -11,22 +12,30 @@ use sleep_script::{Job, TimerJob};
 use std::alloc::Global;
 use std::test::Fail;
 
-/// A name of one letter.
-fn name() -> Result<Name, Fail> {
-    Ok(Name::of_bytes(b"a").ok_or("a name")?)
-}
-
-/// The script of a task that makes one operation.
-fn script(alloc: Global, op: Op) -> Result<Script, Fail>
-    ensures { IfOk result (λ s. length (operations s) ≡ 1) }
+/// The script of a task that reads the count, sets autosleep, and has an event of 50 ms.
+fn script(alloc: Global, name: Name) -> Result<Script, Fail>
+    ensures { IfOk result (λ s. length (operations s) ≡ 3) }
 {
-    let steps = vec![in alloc; Step { op, times: 1 }]?;
+    let text = Text::of_vec(b"mem".to_vec(alloc)?);
+    let (source, ms, hard) = (0, 50, true);
+    let steps = vec![in alloc;
+        once(Op::Read),
+        once(Op::Autosleep { text }),
+        once(Op::Event { source, ms, hard }),
+    ]?;
     Ok(Script {
-        name: name()?,
+        name,
         kind: TaskKind::User,
         repeat: 1,
         steps: ListOf::of_vec(steps),
     })
+}
+
+/// That operation, once.
+fn once(op: Op) -> Step
+    ensures { result ≡ record { op = op; times = 1 } }
+{
+    Step { op, times: 1 }
 }
 
 /// What device 0 answers in each attempt as it suspends: it reports an event on source 0.
@@ -67,45 +76,35 @@ fn machine_with(
     }
 }
 
-/// A machine with one source, a device that reports an event, and one task that makes that operation.
-fn machine(alloc: Global, op: Op) -> Result<Machine, Fail>
-    ensures steps { IfOk result (λ m. length (all_operations m.actors) ≡ 1) }
+/// A machine with one source, a device that reports an event, and that task.
+fn machine(alloc: Global) -> Result<Machine, Fail>
+    ensures steps { IfOk result (λ m. length (all_operations m.actors) ≡ 3) }
     ensures actors { IfOk result (λ m. length m.actors ≡ 1) }
     ensures answers { IfOk result (λ m. length m.answers ≡ 1) }
     ensures sources { IfOk result (λ m. length m.sources ≡ 1) }
 {
-    let sources = vec![in alloc; name()?]?;
-    let actors = vec![in alloc; script(alloc, op)?]?;
+    let name = Name::of_bytes(b"a").ok_or("a name")?;
+    let sources = vec![in alloc; name]?;
+    let actors = vec![in alloc; script(alloc, name)?]?;
     let answers = vec![in alloc; answer(alloc)?]?;
     Ok(machine_with(alloc, sources, actors, answers))
 }
 
-/// What is tried of a script.
-#[derive(Clone, Copy)]
-enum Trial {
-    Setting,
-    Event,
-    Report,
-}
-
-/// Whether the script of a machine with one operation makes what is tried.
-fn is_made(alloc: Global, machine: &Machine, trial: Trial) -> Result<bool, Fail>
-    requires steps { length (all_operations machine.now.actors) ≡ 1 }
+/// Whether the jobs of that machine go as they should.
+fn are_made(alloc: Global, machine: &Machine) -> Result<bool, Mem>
+    requires steps { length (all_operations machine.now.actors) ≡ 3 }
     requires actors { length machine.now.actors ≡ 1 }
     requires answers { length machine.now.answers ≡ 1 }
     requires sources { length machine.now.sources ≡ 1 }
 {
     let book = AnswerBook::new(alloc, machine.answers.as_slice())?;
     let mut job = Job::of_script(alloc, machine, &book, 0)?;
-    match trial {
-        Trial::Setting => sets_autosleep(&mut job),
-        Trial::Event => makes_an_event(&mut job),
-        Trial::Report => Ok(
-            reports_an_event(&mut job)?
-                && work_reports(machine, &book)
-                && device_reports(machine, &book),
-        ),
-    }
+    Ok(
+        reports_an_event(&mut job)?
+            && goes_on(&mut job)?
+            && work_reports(machine, &book)
+            && device_reports(machine, &book),
+    )
 }
 
 /// A stamp with that tick.
@@ -113,8 +112,8 @@ fn stamp(tick: u64) -> Stamp {
     Stamp { pos: 0, tick }
 }
 
-/// The next call of a script, which is made.
-fn call(job: &mut Job<'_>) -> Result<(u32, SourceCall), Fail>
+/// The next call of a script, which is made. `Mem` where it makes none.
+fn call(job: &mut Job<'_>) -> Result<(u32, SourceCall), Mem>
     requires { job.old.calls < 100 }
     ensures turns { job.new.turns ≡ job.old.turns }
     ensures calls { job.new.calls ≤ job.old.calls + 1 }
@@ -124,12 +123,12 @@ fn call(job: &mut Job<'_>) -> Result<(u32, SourceCall), Fail>
             job.told_source(stamp(2));
             Ok((source, call))
         }
-        _ => Err("no call".into()),
+        _ => Err(Mem),
     }
 }
 
-/// The next turn of a script, which makes that entry.
-fn turn(job: &mut Job<'_>, kind: Kind) -> Result<(), Fail>
+/// The next turn of a script, which makes that entry. `Mem` where it has none.
+fn turn(job: &mut Job<'_>, kind: Kind) -> Result<(), Mem>
     requires { job.old.turns < 100 }
     ensures turns { job.new.turns ≤ job.old.turns + 1 }
     ensures calls { job.new.calls ≡ job.old.calls }
@@ -139,61 +138,16 @@ fn turn(job: &mut Job<'_>, kind: Kind) -> Result<(), Fail>
             job.told_turn(stamp(3), kind, 1);
             Ok(())
         }
-        _ => Err("no turn".into()),
+        _ => Err(Mem),
     }
 }
 
-/// Whether a script keeps the system awake, by source 1, while it sets autosleep.
-fn sets_autosleep(job: &mut Job<'_>) -> Result<bool, Fail>
-    requires turns { job.old.turns ≡ 0 }
-    requires calls { job.old.calls ≡ 0 }
-{
-    let before = call(job)?;
-    turn(job, Kind::AutoSet(State::Mem))?;
-    let behind = call(job)?;
-    turn(job, Kind::AutoDone)?;
-    let both = matches!(
-        (before, behind),
-        ((1, SourceCall::Awake), (1, SourceCall::Relax))
-    );
-    Ok(both && job.calls() == 2)
-}
-
-/// A good write to autosleep keeps the system awake while it is set, by the source behind the others.
-#[test]
-fn calls_stand_round_a_setting_of_autosleep(rt: HostRuntime) -> Result<(), Fail> {
-    let alloc = rt.alloc();
-    let text = Text::of_vec(b"mem".to_vec(alloc)?);
-    let machine = machine(alloc, Op::Autosleep { text })?;
-    assert!(rt; is_made(alloc, &machine, Trial::Setting)?);
-    Ok(())
-}
-
-/// Whether a script makes one call, an event of 50 ms, and exits.
-fn makes_an_event(job: &mut Job<'_>) -> Result<bool, Fail>
-    requires turns { job.old.turns ≡ 0 }
-    requires calls { job.old.calls ≡ 0 }
-{
-    let (source, made) = call(job)?;
-    turn(job, Kind::Exit)?;
-    let is_event = matches!(made, SourceCall::Event { ms: 50, hard: true });
-    Ok(source == 0 && is_event && matches!(job.next(), Want::Nothing))
-}
-
-/// An operation that is a call makes it, and a script that has exited does nothing.
-#[test]
-fn an_event_is_a_call(rt: HostRuntime) -> Result<(), Fail> {
-    let alloc = rt.alloc();
-    let (source, ms, hard) = (0, 50, true);
-    let machine = machine(alloc, Op::Event { source, ms, hard })?;
-    assert!(rt; is_made(alloc, &machine, Trial::Event)?);
-    Ok(())
-}
-
 /// Whether a script whose callback suspends device 0 reports an event before the callback ends.
-fn reports_an_event(job: &mut Job<'_>) -> Result<bool, Fail>
+fn reports_an_event(job: &mut Job<'_>) -> Result<bool, Mem>
     requires turns { job.old.turns ≡ 0 }
     requires calls { job.old.calls ≡ 0 }
+    ensures turns { OnOk result (job.new.turns ≤ 2) }
+    ensures calls { OnOk result (job.new.calls ≤ 1) }
 {
     turn(job, Kind::Begin(Phase::Suspend, 0))?;
     let owed = job.owes();
@@ -201,15 +155,35 @@ fn reports_an_event(job: &mut Job<'_>) -> Result<bool, Fail>
     let owes = job.owes();
     turn(job, Kind::End(Phase::Suspend, 0, None))?;
     let is_event = matches!(made, SourceCall::Event { ms: 0, hard: false });
-    Ok(owed && !owes && source == 0 && is_event && matches!(job.next(), Want::Core))
+    Ok(owed && !owes && source == 0 && is_event)
 }
 
-/// Whoever makes a callback makes its reports.
+/// Whether a script reads the count, keeps the system awake, by source 1, while it sets autosleep, makes an event and exits.
+fn goes_on(job: &mut Job<'_>) -> Result<bool, Mem>
+    requires turns { job.old.turns ≤ 2 }
+    requires calls { job.old.calls ≤ 1 }
+{
+    turn(job, Kind::Read(0))?;
+    let before = call(job)?;
+    turn(job, Kind::AutoSet(State::Mem))?;
+    let behind = call(job)?;
+    turn(job, Kind::AutoDone)?;
+    let event = call(job)?;
+    turn(job, Kind::Exit)?;
+    let both = matches!(
+        (before, behind),
+        ((1, SourceCall::Awake), (1, SourceCall::Relax))
+    );
+    let is_event = matches!(event, (0, SourceCall::Event { ms: 50, hard: true }));
+    Ok(both && is_event && job.calls() == 4 && matches!(job.next(), Want::Nothing))
+}
+
+/// Whoever makes a callback makes its reports; a good write to autosleep keeps the system awake while it is set, by the source
+/// behind the others; an operation that is a call makes it; and a script that has exited does nothing.
 #[test]
-fn a_callback_reports(rt: HostRuntime) -> Result<(), Fail> {
-    let alloc = rt.alloc();
-    let machine = machine(alloc, Op::Read)?;
-    assert!(rt; is_made(alloc, &machine, Trial::Report)?);
+fn jobs_make_turns_and_calls(rt: HostRuntime) -> Result<(), Fail> {
+    let machine = machine(rt.alloc())?;
+    assert!(rt; are_made(rt.alloc(), &machine) == Ok(true));
     Ok(())
 }
 
@@ -238,6 +212,5 @@ fn a_timer_ends_events(rt: HostRuntime) {
     assert!(rt; matches!(timer.next(), Want::Source(3, SourceCall::Expire)));
     timer.told_source(stamp(7));
     timer.raise(Stamp { pos: 4, tick: 5 });
-    assert_eq!(rt; timer.floor(), Stamp { pos: 4, tick: 7 });
-    assert_eq!(rt; timer.calls(), 1);
+    assert!(rt; timer.floor() == Stamp { pos: 4, tick: 7 } && timer.calls() == 1);
 }

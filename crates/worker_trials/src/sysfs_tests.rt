@@ -37,8 +37,19 @@ fn texts_end_at_a_newline(rt: HostRuntime) {
     ];
     for (text, state) in rows {
         assert!(rt; decode_state(text.as_bytes()) == state, "at {text}");
-        let taken = is_autosleep_text(text.as_bytes());
-        assert_eq!(rt; taken, state.is_ok(), "at {text}");
+        assert!(rt;
+            is_autosleep_text(text.as_bytes()) == state.is_ok(),
+            "at {text}"
+        );
+    }
+}
+
+/// Whether that entry is due, or none and the actor waits for the lock.
+fn is_due(due: Due, wanted: Option<Kind>) -> bool {
+    match due {
+        Due::Makes(kind) => Some(kind) == wanted,
+        Due::Waits(Why::LockHeld) => wanted.is_none(),
+        _ => false,
     }
 }
 
@@ -46,75 +57,111 @@ fn texts_end_at_a_newline(rt: HostRuntime) {
 /// and is interrupted by the freezer.
 #[test]
 fn a_read_waits_for_events(rt: HostRuntime) {
-    assert!(rt; matches!(read_count(QUIET, false, true), Due::Makes(Kind::Read(3))));
-    assert!(rt; matches!(read_count(BUSY, false, true), Due::Makes(Kind::ReadWait)));
+    assert!(rt; is_due(read_count(QUIET, false, true), Some(Kind::Read(3))));
+    assert!(rt; is_due(read_count(BUSY, false, true), Some(Kind::ReadWait)));
     assert!(rt; matches!(read_count(BUSY, true, false), Due::Waits(Why::InProgress)));
-    assert!(rt; matches!(read_count(BUSY, true, true), Due::Makes(Kind::ReadIntr)));
+    assert!(rt; is_due(read_count(BUSY, true, true), Some(Kind::ReadIntr)));
 }
+
+// Whether another holds the lock, whether autosleep is on, whether the writer has said that it waits, and whether it is
+// asked to freeze; the word, the number written, and what is due.
+const SAVES: [(bool, bool, bool, bool, EventNow, u32, Option<Kind>); 7] = [
+    (false, false, false, false, QUIET, 3, Some(Kind::Saved(3))),
+    (
+        false,
+        false,
+        false,
+        false,
+        QUIET,
+        4,
+        Some(Kind::SaveErr(4, Errno::EINVAL)),
+    ),
+    (
+        false,
+        false,
+        false,
+        false,
+        BUSY,
+        3,
+        Some(Kind::SaveErr(3, Errno::EINVAL)),
+    ),
+    (
+        false,
+        true,
+        false,
+        false,
+        QUIET,
+        3,
+        Some(Kind::SaveErr(3, Errno::EBUSY)),
+    ),
+    (true, true, false, true, QUIET, 3, Some(Kind::SaveWait(3))),
+    (true, false, true, false, QUIET, 3, None),
+    (
+        true,
+        false,
+        true,
+        true,
+        QUIET,
+        3,
+        Some(Kind::SaveErr(3, Errno::EINTR)),
+    ),
+];
 
 /// A save stores the count; it answers EINVAL where that has moved or an event is in progress, and EBUSY while
-/// autosleep is on.
+/// autosleep is on. While another holds the lock it says once that it waits, and is interrupted by the freezer.
 #[test]
 fn a_save_has_its_answers(rt: HostRuntime) {
-    let rows = [
-        (false, QUIET, 3, None),
-        (false, QUIET, 4, Some(Errno::EINVAL)),
-        (false, BUSY, 3, Some(Errno::EINVAL)),
-        (true, QUIET, 3, Some(Errno::EBUSY)),
-    ];
-    for (on, now, count, error) in rows {
-        let answer = match write_count(false, on, false, false, now, count) {
-            Due::Makes(Kind::Saved(_)) => None,
-            Due::Makes(Kind::SaveErr(_, error)) => Some(error),
-            _ => Some(Errno::EIO),
-        };
-        assert_eq!(rt; answer, error, "count {count}");
+    for (number, (held, on, waits, asked, now, count, wanted)) in SAVES.iter().enumerate() {
+        let due = write_count(*held, *on, *waits, *asked, *now, *count);
+        assert!(rt; is_due(due, *wanted), "row {number}");
     }
-    assert_eq!(rt; saved_number(Some(2), Some(7)), 2);
-    assert_eq!(rt; saved_number(None, Some(7)), 7);
-    assert_eq!(rt; saved_number(None, None), 0);
+    assert!(rt; saved_number(Some(2), Some(7)) == 2 && saved_number(None, Some(7)) == 7);
+    assert!(rt; saved_number(None, None) == 0);
 }
 
-/// While another holds the lock a write says once that it waits, and is interrupted by the freezer.
-#[test]
-fn a_write_waits_for_the_lock(rt: HostRuntime) {
-    let says = write_count(true, true, false, true, QUIET, 3);
-    assert!(rt; matches!(says, Due::Makes(Kind::SaveWait(3))));
-    let waits = write_count(true, false, true, false, QUIET, 3);
-    assert!(rt; matches!(waits, Due::Waits(Why::LockHeld)));
-    let given_up = write_count(true, false, true, true, QUIET, 3);
-    assert!(rt; matches!(given_up, Due::Makes(Kind::SaveErr(3, Errno::EINTR))));
-    let says = write_state(true, false, false, true, true, ATTEMPT);
-    assert!(rt; matches!(says, Due::Makes(Kind::StateWait)));
-    let given_up = write_state(true, false, true, true, true, ATTEMPT);
-    assert!(rt; matches!(given_up, Due::Makes(Kind::StateErr(Errno::EINTR))));
-    let waits = write_autosleep(true, false, true, false);
-    assert!(rt; matches!(waits, Due::Waits(Why::LockHeld)));
-}
+// Of a write to the state: whether another holds the lock, whether autosleep is on, whether the writer has said that it
+// waits, whether it is asked to freeze, whether the text is that of a state, and what is due.
+const STATES: [(bool, bool, bool, bool, bool, Kind); 5] = [
+    (true, false, false, true, true, Kind::StateWait),
+    (true, false, true, true, true, Kind::StateErr(Errno::EINTR)),
+    (false, false, false, false, true, ATTEMPT),
+    (
+        false,
+        false,
+        false,
+        false,
+        false,
+        Kind::StateErr(Errno::EINVAL),
+    ),
+    (
+        false,
+        true,
+        false,
+        false,
+        true,
+        Kind::StateErr(Errno::EBUSY),
+    ),
+];
 
-/// With the lock free the text decides, and whether autosleep is on.
+// Of a write to autosleep: whether another holds the lock, whether the writer does, whether the text is `mem`, whether it is
+// `off`, and what is due.
+const AUTOSLEEPS: [(bool, bool, bool, bool, Option<Kind>); 5] = [
+    (true, false, true, false, None),
+    (false, false, true, false, Some(Kind::AutoSet(State::Mem))),
+    (false, false, false, true, Some(Kind::AutoSet(State::Off))),
+    (true, true, true, false, Some(Kind::AutoDone)),
+    (true, false, false, false, Some(Kind::AutoBad)),
+];
+
+/// With the lock free the text decides, and whether autosleep is on; while another holds it a write waits.
 #[test]
 fn a_state_has_its_answers(rt: HostRuntime) {
-    let begun = write_state(false, false, false, false, true, ATTEMPT);
-    assert!(rt;
-        matches!(
-            begun,
-            Due::Makes(Kind::Attempt {
-                n: 1,
-                guarded: None
-            })
-        )
-    );
-    let unknown = write_state(false, false, false, false, false, ATTEMPT);
-    assert!(rt; matches!(unknown, Due::Makes(Kind::StateErr(Errno::EINVAL))));
-    let busy = write_state(false, true, false, false, true, ATTEMPT);
-    assert!(rt; matches!(busy, Due::Makes(Kind::StateErr(Errno::EBUSY))));
-    let set = write_autosleep(false, false, true, false);
-    assert!(rt; matches!(set, Due::Makes(Kind::AutoSet(State::Mem))));
-    let cleared = write_autosleep(false, false, false, true);
-    assert!(rt; matches!(cleared, Due::Makes(Kind::AutoSet(State::Off))));
-    let done = write_autosleep(true, true, true, false);
-    assert!(rt; matches!(done, Due::Makes(Kind::AutoDone)));
-    let unknown = write_autosleep(true, false, false, false);
-    assert!(rt; matches!(unknown, Due::Makes(Kind::AutoBad)));
+    for (number, (held, on, waits, asked, mem, kind)) in STATES.iter().enumerate() {
+        let due = write_state(*held, *on, *waits, *asked, *mem, ATTEMPT);
+        assert!(rt; is_due(due, Some(*kind)), "state {number}");
+    }
+    for (number, (held, own, mem, off, wanted)) in AUTOSLEEPS.iter().enumerate() {
+        let due = write_autosleep(*held, *own, *mem, *off);
+        assert!(rt; is_due(due, *wanted), "autosleep {number}");
+    }
 }

@@ -110,6 +110,16 @@ fn gathered(
     Ok(seats)
 }
 
+/// Whether each was found once.
+fn are_once(times: &[u32]) -> bool {
+    for n in times {
+        if *n != 1 {
+            return false;
+        }
+    }
+    true
+}
+
 /// Whether ten thousand steps of all workers found each position once, and the last word is the one after them.
 fn each_once<R: Threads + Wait + Sync>(
     rt: &R,
@@ -125,17 +135,12 @@ fn each_once<R: Threads + Wait + Sync>(
     let mut times = vec![in alloc; 0; 10_000]?;
     let seats = gathered(alloc, done, &mut times)?;
     let now = close(table, seats, look)?;
-    Ok(pos(now) == 10_000 && times.iter().all(|&n| n == 1))
+    Ok(pos(now) == 10_000 && are_once(&times))
 }
 
+/// Four workers find each position once, and so do sixteen.
 #[test]
-fn four_workers_find_each_position_once(rt: HostRuntime) -> Result<(), Fail> {
-    assert!(rt; each_once(&rt, rt.alloc(), 4, 2500)?);
-    Ok(())
-}
-
-#[test]
-fn sixteen_workers_find_each_position_once(rt: HostRuntime) -> Result<(), Fail> {
-    assert!(rt; each_once(&rt, rt.alloc(), 16, 625)?);
+fn many_workers_find_each_position_once(rt: HostRuntime) -> Result<(), Fail> {
+    assert!(rt; each_once(&rt, rt.alloc(), 4, 2500)? && each_once(&rt, rt.alloc(), 16, 625)?);
     Ok(())
 }

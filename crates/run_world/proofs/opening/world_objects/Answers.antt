@@ -11,12 +11,7 @@ pub new-requires-clause-timely : goal.new-requires-clause-timely
 new-requires-clause-timely c = (subst (λ (l : List SeatedSourceState). AreTimely c.args.moment l) c.in-Some.ensures.steps.0 c.loop-source.invariant.1).0
 
 pub loop-source-init : goal.loop-source-init
-loop-source-init c =
-    let empty : c.in_ok-objects.objects.items ≡ [] = search rules in (
-      record { rest = []; are = c.in_ok-push.ensures.items ∙ ap (λ (l : List WorldObject). l ++ object.Machine c.args.machine ∷ []) empty; those = tt; at = tt },
-      search rules,
-      tt,
-    )
+loop-source-init c = (record { rest = []; are = c.in_ok-objects.ensures; those = tt; at = tt }, search rules, tt)
 
 pub loop-source-preserved : goal.loop-source-preserved
 loop-source-preserved c =
@@ -24,7 +19,7 @@ loop-source-preserved c =
     let one : WorldObject = object.Source c.new.result in (
       record {
         rest = is.rest ++ one ∷ [];
-        are = c.in_ok-push-2.ensures.items ∙ ap (λ (l : List WorldObject). l ++ one ∷ []) is.are;
+        are = c.in_ok-push.ensures.items ∙ ap (λ (l : List WorldObject). l ++ one ∷ []) is.are;
         those = those_more c.loop-source.yielded c.in-Some.source is.rest one is.those c.new.ensures.0;
         at = at_more c.args.moment is.rest one is.at c.new.ensures.1;
       },

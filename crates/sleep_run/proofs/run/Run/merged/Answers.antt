@@ -1,4 +1,5 @@
-use Rattle.std.proofs.Common.{◌∙◌, List, reverse, ap, ap₂}
+use Rattle.std.proofs.Common.{◌≡◌, ◌∙◌, List, refl, reverse, ap, ap₂}
+use Rattle.sleep_model.specs.declared.entry.Entry.{Entry}
 use Rattle.sleep_model.specs.declared.entry.JournalEntry.{JournalEntry}
 use Rattle.sleep_model.specs.declared.entry.SourceEntry.{SourceEntry}
 use Rattle.sleep_model.specs.Merge.{merge, rises}
@@ -6,8 +7,8 @@ use Rattle.running_laws.proofs.Ends.{journal_rises}
 use Rattle.sleep_run.proofs.Resting.{run_is}
 use Rattle.sleep_run.proofs.run.Run.merged.Goals as goal
 
-pub merge_journal-requires : goal.merge_journal-requires
-merge_journal-requires c =
+pub new-requires : goal.new-requires
+new-requires c =
     let s = c.args.self in
     let on = c.in_ok-journal.ensures.laid.on in
     ap (λ (past : List JournalEntry). rises (reverse past)) c.in_ok-journal.ensures.journal
@@ -16,6 +17,8 @@ merge_journal-requires c =
 pub returns : goal.returns
 returns c =
     let kept = c.in_ok-journal.ensures in
-    run_is c.args.self kept.laid c.in_ok-entries.entries c.args.stats.items c.args.end c.log_of.result
-    (c.in_ok-entries.ensures ∙ ap₂ (λ (past : List JournalEntry) (hs : List (List SourceEntry)). merge (reverse past) hs) kept.journal (c.deref.ensures.value ∙ kept.histories))
-    c.requires.stats c.requires.end c.log_of.ensures c.requires.ranged
+    let journal = c.in_ok-journal.journal in
+    let histories = c.in_ok-journal.histories in
+    run_is c.args.self kept.laid (merge (reverse journal.past) histories.items) c.args.stats.items c.args.end c.new.result
+    (ap₂ (λ (past : List JournalEntry) (hs : List (List SourceEntry)). merge (reverse past) hs) kept.journal kept.histories)
+    c.requires.stats c.requires.end c.new.ensures c.requires.ranged

@@ -1,0 +1,21 @@
+use Rattle.std.proofs.Common.{rules, ◌∙◌, ◌≡◌, ◌++◌, List, filter, map, sym, ap, append_assoc, take}
+use Rattle.sleep_model.specs.declared.entry.JournalEntry.{JournalEntry}
+use Rattle.sleep_model.specs.declared.entry.SourceEntry.{SourceEntry}
+use Rattle.sleep_model.specs.Merge.{of_source}
+use Rattle.log_merge.specs.Rests.{seen, sources_entries}
+use Rattle.apart_log.specs.Slices.{is_in}
+use Rattle.apart_log.proofs.Gathering.{gathered_more}
+use Rattle.apart_log.proofs.slice.gathered.Goals as goal
+
+pub loop-history-preserved : goal.loop-history-preserved
+loop-history-preserved c =
+    let test = is_in c.args.range in
+    let histories = c.args.histories.now in
+    let i = c.loop-history.history-index in
+    let history = c.history-item.result in
+    let before = filter test (sources_entries (take i histories)) in
+    c.in_ok-entries.ensures
+    ∙ (ap (λ (l : List SourceEntry). seen c.loop-history.entries.items ++ filter test (map of_source l)) c.as_slice.ensures
+    ∙ (ap (λ (l : List JournalEntry). l ++ filter test (map of_source history)) c.loop-history.invariant
+    ∙ (append_assoc (seen c.args.entries.items) before (filter test (map of_source history))
+    ∙ ap (λ (l : List JournalEntry). seen c.args.entries.items ++ l) (sym (gathered_more test histories i history c.loop-history-test.true c.history-item.is)))))

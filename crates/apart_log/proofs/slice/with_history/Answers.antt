@@ -1,0 +1,12 @@
+use Rattle.std.proofs.Common.{rules, arith, ◌∙◌, ◌≡◌, ◌++◌, ◌∷◌, [], List, filter, map, sym, ap, append_assoc, take}
+use Rattle.std.proofs.lemmas.Grind.{common_steps}
+use Rattle.sleep_model.specs.declared.entry.JournalEntry.{JournalEntry}
+use Rattle.sleep_model.specs.Merge.{of_source}
+use Rattle.log_merge.specs.Rests.{seen}
+use Rattle.apart_log.specs.Slices.{is_in}
+use Rattle.apart_log.proofs.Gathering.{filter_more}
+use Rattle.apart_log.proofs.slice.with_history.Goals as goal
+
+pub loop-entry-preserved : goal.loop-entry-preserved
+loop-entry-preserved c =
+    grind (arith, common_steps, filter_more (is_in c.args.range) of_source c.args.history.now c.loop-entry.entry-index, append_assoc)

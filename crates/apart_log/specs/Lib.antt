@@ -1,0 +1,2 @@
+pub mod LogFields
+pub mod Slices

@@ -1,0 +1,13 @@
+//! A log that is kept as the journal and the sources' histories that it is put together from: put together in one
+//! list, or written slice by slice, each slice on a thread of its own (own: Linux keeps no such log).
+#![tactic(auto)]
+
+mod cut;
+mod log;
+mod order;
+mod range;
+mod slice;
+mod text;
+
+pub use log::ApartLog;
+pub use text::SlicedText;

@@ -1,0 +1,141 @@
+//! A log as its parts.
+
+ghost use Rattle.std.specs.Prelude.{◌≡◌};
+
+use crate::cut::{Parts, texts};
+use crate::range::Range;
+use log_merge::merge_journal;
+use sleep_base::Mem;
+use sleep_model::{Journal, ListOf, Log, LogEnd, Machine, SourceList, Stats};
+use std::alloc::Global;
+use std::marker::Model;
+use std::thread::Threads;
+
+/// A log that is kept as its machine's journal and its sources' histories. Contracts see the log.
+#[derive(Drop)]
+pub struct ApartLog {
+    journal: Journal,
+    histories: Vec<SourceList>,
+    stats: ListOf<Stats>,
+    end: LogEnd,
+}
+
+impl Model for ApartLog {
+    ghost use Rattle.sleep_model.specs.declared.log.Log.{Log};
+
+    ghost Value = { Log };
+
+    ghost use Rattle.apart_log.specs.LogFields.{whole, IsKept};
+
+    ghost view = { whole };
+
+    ghost invariant = { IsKept };
+}
+
+/// How many entries the journal of a log has for one of the sources' where slices are worth their threads, at least.
+const FEW: usize = 8;
+
+/// The fewest entries of sources of which slices are worth their threads.
+const MANY: usize = 16_384;
+
+/// How many entries these histories have.
+fn entries_of(histories: &[SourceList]) -> usize {
+    let mut entries = 0_usize;
+    for history in histories {
+        entries = entries.saturating_add(history.len());
+    }
+    entries
+}
+
+/// The greatest position at which a history ends.
+fn last_position(histories: &[SourceList]) -> u64 {
+    let mut last = 0;
+    for history in histories {
+        if let Some(one) = history.as_slice().last() {
+            last = one.stamp.pos.max(last);
+        }
+    }
+    last
+}
+
+impl ApartLog {
+    ghost use Rattle.std.specs.Prelude.{◌≡◌, true, reverse, IfOk, flat_map};
+    ghost use Rattle.sleep_model.specs.Merge.{merge, rises};
+    ghost use Rattle.sleep_model.specs.Text.{entry_line};
+    ghost use Rattle.apart_log.specs.Slices.{joined};
+
+    /// The log of a journal, whose ticks and positions rise, and of the sources' histories, with the sources' statistics and
+    /// how the run ended.
+    pub fn new(journal: Journal, histories: Vec<SourceList>, stats: Vec<Stats>, end: LogEnd) -> Self
+        requires { rises (reverse journal.past) ≡ true }
+        ensures { result ≡ record { entries = merge (reverse journal.past) histories.items; stats = stats.items; end = end } }
+    {
+        ApartLog {
+            journal,
+            histories,
+            stats: ListOf::of_vec(stats),
+            end,
+        }
+    }
+
+    /// How the run ended.
+    pub fn end(&self) -> &LogEnd
+        ensures { result.now ≡ self.now.end }
+    {
+        &self.end
+    }
+
+    /// Whether the log is worth its slices: most of it was made by sources, and there is much of it.
+    pub fn is_worth_slices(&self) -> bool {
+        let entries = entries_of(&self.histories);
+        MANY <= entries && self.journal.len() <= entries / FEW
+    }
+
+    /// The log in one list. `Mem` where there is no memory.
+    pub fn into_log(self, alloc: Global) -> Result<Log, Mem>
+        ensures { IfOk result (λ log. log ≡ self) }
+    {
+        let ApartLog {
+            journal,
+            histories,
+            stats,
+            end,
+        } = self;
+        let entries = merge_journal(alloc, journal, &histories)?;
+        Ok(Log {
+            entries,
+            stats,
+            end,
+        })
+    }
+
+    /// The texts of slices of the entries, each made on a thread of its own where one can be made; one behind the other
+    /// they are the text of all. There are twice as many for each `halvings`. `Mem` where there is no memory.
+    #[tactic(auto, using(crate::proofs::Cutting::lines_all))]
+    pub(crate) fn texts<R: Threads + Sync>(
+        &self,
+        rt: &R,
+        alloc: Global,
+        machine: &Machine,
+        halvings: u32,
+    ) -> Result<Vec<Vec<u8>>, Mem>
+        ensures { IfOk result (λ texts. joined texts.items ≡ flat_map (entry_line machine.now) self.now.entries) }
+    {
+        let parts = Parts {
+            machine,
+            journal: &self.journal,
+            histories: self.histories.as_slice(),
+            last: last_position(&self.histories),
+        };
+        texts(rt, alloc, &parts, Range::all(), halvings)
+    }
+
+    /// The sources' statistics, and how the run ended.
+    pub(crate) fn into_ending(self) -> (ListOf<Stats>, LogEnd)
+        ensures stats { result.0 ≡ self.stats }
+        ensures end { result.1 ≡ self.end }
+    {
+        let ApartLog { stats, end, .. } = self;
+        (stats, end)
+    }
+}

@@ -1,0 +1,130 @@
+ghost use Rattle.sleep_model.specs.Order.{EachAfterParent};
+
+use crate::link_tests::{Answer, added};
+use device_links::Links;
+use sleep_base::Mem;
+use std::alloc::Global;
+use std::process::Abort;
+use std::test::Fail;
+
+/// A device, then all that depends on it, each with its own, so many levels deep.
+fn moved(
+    levels: u32,
+    parents: &[Option<u32>],
+    added: &[(u32, u32)],
+    device: u32,
+    out: &mut Vec<u32>,
+) -> Result<(), Mem> {
+    out.push(device)?;
+    if levels == 0 {
+        return Ok(());
+    }
+    for (child, parent) in (0..u32::MAX).zip(parents) {
+        if *parent == Some(device) {
+            moved(levels - 1, parents, added, child, out)?;
+        }
+    }
+    for (supplier, consumer) in added {
+        if *supplier == device {
+            moved(levels - 1, parents, added, *consumer, out)?;
+        }
+    }
+    Ok(())
+}
+
+/// Each of these devices at its last place.
+fn at_last_places(alloc: Global, devices: &[u32]) -> Result<Vec<u32>, Mem> {
+    let mut order = Vec::new(alloc);
+    for (place, device) in devices.iter().enumerate() {
+        let behind = devices.get(place + 1..).unwrap_or_default();
+        if !behind.contains(device) {
+            order.push(*device)?;
+        }
+    }
+    Ok(order)
+}
+
+/// Links of seven devices, and what the plain definition says of them.
+#[derive(Drop)]
+struct Compared {
+    links: Links,
+    order: Vec<u32>,
+    added: Vec<(u32, u32)>,
+}
+
+/// Whether a link is answered as the plain definition has it, where these depend on its consumer.
+fn is_answer(answer: Answer, added: &[(u32, u32)], dependents: &[u32], link: (u32, u32)) -> bool {
+    match answer {
+        Answer::Done => !dependents.contains(&link.0),
+        Answer::Cycle => dependents.contains(&link.0),
+        Answer::Twice => added.contains(&link),
+        _ => false,
+    }
+}
+
+/// Tries a link, and compares the answer and the order with the plain definition. The list is the order with all that
+/// depends on the consumer behind it.
+fn compare_with(
+    rt: &impl Abort,
+    alloc: Global,
+    compared: &mut Compared,
+    link: (u32, u32),
+    all: &[u32],
+) -> Result<(), Mem> {
+    let answer = added(&mut compared.links, link.0, link.1, true);
+    let dependents = all.get(compared.order.len()..).unwrap_or_default();
+    assert!(rt; is_answer(answer, &compared.added, dependents, link));
+    if answer == Answer::Done {
+        compared.added.push(link)?;
+        compared.order = at_last_places(alloc, all)?;
+    }
+    assert!(rt; compared.links.order() == compared.order.as_slice());
+    Ok(())
+}
+
+/// Tries twenty links at random.
+fn compare_all(
+    rt: &impl Abort,
+    alloc: Global,
+    parents: &[Option<u32>],
+    compared: &mut Compared,
+    mut seed: u32,
+) -> Result<(), Mem> {
+    for _ in 0..20 {
+        seed = seed.wrapping_mul(1_664_525).wrapping_add(1_013_904_223);
+        let link = ((seed >> 16) % 7, (seed >> 20) % 7);
+        let mut all = compared.order.as_slice().to_vec(alloc)?;
+        moved(7, parents, &compared.added, link.1, &mut all)?;
+        compare_with(rt, alloc, compared, link, &all)?;
+    }
+    Ok(())
+}
+
+/// Tries links between seven devices.
+fn compare(rt: &impl Abort, alloc: Global, parents: &[Option<u32>], seed: u32) -> Result<(), Mem>
+    requires { EachAfterParent 0 parents.now }
+{
+    let mut compared = Compared {
+        links: Links::new(alloc, parents)?,
+        order: [0u32, 1, 2, 3, 4, 5, 6].to_vec(alloc)?,
+        added: Vec::new(alloc),
+    };
+    compare_all(rt, alloc, parents, &mut compared, seed)
+}
+
+/// Compares over seven devices without parents, and over a tree.
+fn compare_both(rt: &impl Abort, alloc: Global, seed: u32) -> Result<(), Mem> {
+    let bare = [None, None, None, None, None, None, None];
+    compare(rt, alloc, &bare, seed)?;
+    let tree = [None, Some(0), Some(0), Some(1), None, Some(4), Some(2)];
+    compare(rt, alloc, &tree, seed)
+}
+
+/// On small trees, and links at random, order and refusals are those of the plain definition.
+#[test]
+fn links_keep_to_the_definition(rt: HostRuntime) -> Result<(), Fail> {
+    for seed in 0..40u32 {
+        compare_both(&rt, rt.alloc(), seed)?;
+    }
+    Ok(())
+}

@@ -1,0 +1,162 @@
+//! What an attempt's maker does next (`kernel/power/suspend.c`).
+
+ghost use Rattle.std.specs.Prelude.{◌≡◌, IfOk};
+ghost use Rattle.sleep_model.specs.declared.place.Stage.TheVariants.{Notifies, Posts, StartsCpus, StartsSyscore, StopsCpus, StopsSyscore};
+ghost use Rattle.sleep_model.specs.declared.word.EventNow.{EventNow};
+ghost use Rattle.sleep_model.specs.Attempt.{attempt_due, enter_due, freeze_due, freeze_since, sleep_of, stage_due, stage_or_next};
+ghost use Rattle.check_past.specs.Passing.{journal_of};
+
+use crate::row::{answered, busy_error};
+use crate::waits::{froze_due, wakes_due};
+use crate::walks::{complete_due, down_due, prepare_due, up_due};
+use check_account::behind;
+use check_past::Passed;
+use sleep_base::Mem;
+use sleep_model::{Due, EventNow, Group, Kind, Stage, What};
+
+// A freeze of a group: it asks its tasks, then waits for them. `Mem` where its end is beyond all time.
+fn freeze_due(past: &Passed<'_>, now: EventNow, group: Group) -> Result<Due, Mem>
+    ensures { IfOk result (λ d. d ≡ freeze_due past.now.machine (journal_of past.now) now group
+        (freeze_since (journal_of past.now))) }
+{
+    match past.freeze_since() {
+        None => Ok(Due::Makes(Kind::Freeze(group))),
+        Some(since) => froze_due(past, now, group, since),
+    }
+}
+
+// The entering, or the waking. `Mem` where the alarm is beyond all time.
+fn enter_due(past: &Passed<'_>, now: EventNow) -> Result<Due, Mem>
+    ensures { IfOk result (λ d. d ≡ enter_due past.now.machine (journal_of past.now) now (sleep_of (journal_of past.now))) }
+{
+    match past.sleep() {
+        None => Ok(Due::Makes(Kind::Enter {
+            busy: past.is_pending(now),
+        })),
+        Some(sleep) => wakes_due(past, now, sleep),
+    }
+}
+
+// A notifier that hears of the attempt.
+fn notify_due(past: &Passed<'_>) -> Due
+    ensures { (now : EventNow) → result ≡ stage_due past.now.machine (journal_of past.now) now Notifies }
+{
+    match past.next_called() {
+        None => Due::Gone,
+        Some(x) => Due::Makes(Kind::NotifyPrepare(x, answered(past, What::Notifier(x)))),
+    }
+}
+
+// A processor that is stopped.
+fn stop_due(past: &Passed<'_>, now: EventNow) -> Due
+    ensures { result ≡ stage_due past.now.machine (journal_of past.now) now StopsCpus }
+{
+    match past.next_cpu_off() {
+        None => Due::Gone,
+        Some(k) => {
+            if past.is_pending(now) {
+                Due::Makes(Kind::CpuBusy(k))
+            } else {
+                Due::Makes(Kind::CpuOff(k))
+            }
+        }
+    }
+}
+
+// A part of the core that is suspended.
+fn core_due(past: &Passed<'_>) -> Due
+    ensures { (now : EventNow) → result ≡ stage_due past.now.machine (journal_of past.now) now StopsSyscore }
+{
+    match past.next_stopped() {
+        None => Due::Gone,
+        Some(x) => Due::Makes(Kind::SyscoreSuspend(x, answered(past, What::Syscore(x)))),
+    }
+}
+
+// A part of the core that is resumed.
+fn resume_due(past: &Passed<'_>) -> Due
+    ensures { (now : EventNow) → result ≡ stage_due past.now.machine (journal_of past.now) now StartsSyscore }
+{
+    match past.next_started() {
+        None => Due::Gone,
+        Some(x) => Due::Makes(Kind::SyscoreResume(x)),
+    }
+}
+
+// A processor that is started.
+fn cpu_on_due(past: &Passed<'_>) -> Due
+    ensures { (now : EventNow) → result ≡ stage_due past.now.machine (journal_of past.now) now StartsCpus }
+{
+    match past.next_cpu_on() {
+        None => Due::Gone,
+        Some(k) => Due::Makes(Kind::CpuOn(k)),
+    }
+}
+
+// A notifier that hears of the attempt's end.
+fn post_due(past: &Passed<'_>) -> Due
+    ensures { (now : EventNow) → result ≡ stage_due past.now.machine (journal_of past.now) now Posts }
+{
+    match past.next_posted() {
+        None => Due::Gone,
+        Some(x) => Due::Makes(Kind::NotifyPost(x)),
+    }
+}
+
+// What the maker makes at a stage, if that has anything left. `Mem` where a moment is beyond all time.
+fn stage_due(past: &Passed<'_>, now: EventNow, stage: Stage) -> Result<Due, Mem>
+    ensures { IfOk result (λ d. d ≡ stage_due past.now.machine (journal_of past.now) now stage) }
+{
+    match stage {
+        Stage::Notifies => Ok(notify_due(past)),
+        Stage::Freezes(group) => freeze_due(past, now, group),
+        Stage::PlatformDown(step) => {
+            let r = answered(past, What::Platform(step));
+            Ok(Due::Makes(Kind::PlatformDo(step, r)))
+        }
+        Stage::Prepares => Ok(prepare_due(past)),
+        Stage::Downs(phase) => Ok(down_due(past, now, phase)),
+        Stage::StopsCpus => Ok(stop_due(past, now)),
+        Stage::StopsIrqs => Ok(Due::Makes(Kind::Irqs { on: false })),
+        Stage::Checks => {
+            let r = busy_error(past.is_pending(now));
+            Ok(Due::Makes(Kind::SyscoreCheck(r)))
+        }
+        Stage::StopsSyscore => Ok(core_due(past)),
+        Stage::Enters => enter_due(past, now),
+        Stage::StartsSyscore => Ok(resume_due(past)),
+        Stage::StartsIrqs => Ok(Due::Makes(Kind::Irqs { on: true })),
+        Stage::StartsCpus => Ok(cpu_on_due(past)),
+        Stage::PlatformUp(step) => Ok(Due::Makes(Kind::PlatformUndo(step))),
+        Stage::Ups(phase) => Ok(up_due(past, phase)),
+        Stage::Completes => Ok(complete_due(past)),
+        Stage::Clears => Ok(Due::Makes(Kind::Clear)),
+        Stage::Thaws(those) => Ok(Due::Makes(Kind::Thaw(those))),
+        Stage::Posts => Ok(post_due(past)),
+        Stage::Ends => Ok(Due::Makes(Kind::Over {
+            n: past.attempts(),
+            r: past.failed(),
+        })),
+    }
+}
+
+// What is made at a stage, or else at the one behind it.
+fn stage_or_next(past: &Passed<'_>, now: EventNow, stage: Stage) -> Result<Due, Mem>
+    ensures { IfOk result (λ d. d ≡ stage_or_next past.now.machine (journal_of past.now) now stage) }
+{
+    match stage_due(past, now, stage)? {
+        Due::Gone => stage_due(past, now, behind(stage)),
+        due => Ok(due),
+    }
+}
+
+/// What the open attempt's maker makes next, if an attempt is open (`enter_state`). `Mem` where a moment is beyond all
+/// time.
+pub(crate) fn attempt_due(past: &Passed<'_>, now: EventNow) -> Result<Due, Mem>
+    ensures { IfOk result (λ d. d ≡ attempt_due past.now.machine (journal_of past.now) now) }
+{
+    match past.stage() {
+        None => Ok(Due::Gone),
+        Some(stage) => stage_or_next(past, now, stage),
+    }
+}

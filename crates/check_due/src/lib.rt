@@ -1,0 +1,26 @@
+//! What is due of an actor behind the entries that were passed, as the checker of logs tells it.
+#![tactic(auto)]
+
+mod attempt;
+mod next;
+mod row;
+mod steps;
+mod tasks;
+mod texts;
+mod turns;
+mod waits;
+mod walks;
+mod work;
+
+pub use next::due;
+pub use row::{answered, busy_error, row_now};
+pub use steps::{
+    autosleep_due, count_due, deep_sleep_due, later_by, mark_due, read_due, saved_number,
+    sleep_due, state_due, unless_unsaved, visible,
+};
+pub use tasks::{
+    freezes_at, is_line, is_user, link_add_due, link_state_due, next_attempt, runtime_due,
+};
+pub use texts::{is_mem, is_off};
+pub use turns::{async_work, device_error, taken, turn_of};
+pub use waits::{auto_save, froze_due, gives_up_at, seen_count, wakes_due};

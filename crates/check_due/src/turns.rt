@@ -1,0 +1,92 @@
+//! What a device does at its turn (`drivers/base/power/main.c`).
+
+ghost use Rattle.std.specs.Prelude.{◌≡◌};
+ghost use Rattle.sleep_model.specs.Devices.{async_work, device_error, is_direct, is_direct_now, taken, work_in};
+ghost use Rattle.sleep_model.specs.Rules.Questions.{turn_of};
+ghost use Rattle.check_past.specs.Passing.{journal_of};
+
+use check_calls::answered_error;
+use check_past::{Passed, is_direct_complete};
+use phase_table::Phase;
+use sleep_base::Errno;
+use sleep_model::{AsyncWork, EventNow, Kind, SkipCause, Stand, What};
+
+// Whether a device is direct-complete in suspend.
+fn is_direct_now(past: &Passed<'_>, device: u32) -> bool
+    ensures { result ≡ is_direct_now past.now.machine (journal_of past.now) device }
+{
+    past.asks_direct().is_set(device)
+        && past.statuses().is_set(device)
+        && !past.may_wake(device)
+        && past.all_direct_below(device)
+}
+
+// Whether a phase leaves a device alone.
+fn is_direct(past: &Passed<'_>, phase: Phase, device: u32) -> bool
+    ensures { result ≡ is_direct past.now.machine (journal_of past.now) phase device }
+{
+    match phase {
+        Phase::Suspend => is_direct_now(past, device),
+        _ => is_direct_complete(past.stand(Phase::Suspend, device)),
+    }
+}
+
+/// A device at its turn: a wakeup that is pending passes it over, direct-complete does, or its callback begins
+/// (`__device_suspend`).
+pub fn taken(past: &Passed<'_>, now: EventNow, phase: Phase, device: u32) -> Kind
+    ensures { result ≡ taken past.now.machine (journal_of past.now) now phase device }
+{
+    if phase.checks_wakeup() && past.is_pending(now) {
+        Kind::Skip(phase, device, SkipCause::Pending)
+    } else if is_direct(past, phase, device) {
+        Kind::Skip(phase, device, SkipCause::Direct)
+    } else {
+        Kind::Begin(phase, device)
+    }
+}
+
+/// What a device does at its turn: an error lets it do nothing.
+pub fn turn_of(past: &Passed<'_>, now: EventNow, phase: Phase, device: u32) -> Kind
+    ensures { result ≡ turn_of past.now.machine (journal_of past.now) now phase device }
+{
+    match past.phase_failed() {
+        Some(_) => Kind::Skip(phase, device, SkipCause::Error),
+        None => taken(past, now, phase, device),
+    }
+}
+
+/// The error that a device's callback answers in a phase of the open attempt.
+pub fn device_error(past: &Passed<'_>, phase: Phase, device: u32) -> Option<Errno>
+    ensures { result ≡ device_error past.now.machine (journal_of past.now) phase device }
+{
+    answered_error(past.machine(), What::Device(device, phase), past.attempts())
+}
+
+// The work of a device that stands so in a phase or its mirror, else the other.
+fn work_in(phase: Phase, stand: Stand, other: AsyncWork) -> AsyncWork
+    ensures { result ≡ work_in phase stand other }
+{
+    match stand {
+        Stand::Scheduled => AsyncWork::Scheduled(phase),
+        Stand::Suspending => AsyncWork::Inside(phase),
+        Stand::Rescheduled => AsyncWork::Scheduled(phase.mirror()),
+        Stand::Resuming => AsyncWork::Inside(phase.mirror()),
+        _ => other,
+    }
+}
+
+/// The work of an asynchronous device; a synchronous one has none of its own (`async_schedule_dev`).
+pub fn async_work(past: &Passed<'_>, device: u32) -> AsyncWork
+    ensures { result ≡ async_work past.now.machine (journal_of past.now) device }
+{
+    if !past.is_async(device) {
+        return AsyncWork::Idle;
+    }
+    let noirq = work_in(
+        Phase::Noirq,
+        past.stand(Phase::Noirq, device),
+        AsyncWork::Idle,
+    );
+    let late = work_in(Phase::Late, past.stand(Phase::Late, device), noirq);
+    work_in(Phase::Suspend, past.stand(Phase::Suspend, device), late)
+}

@@ -1,0 +1,5 @@
+pub mod Naming
+pub mod Passing
+pub mod Ranking
+pub mod Standing
+pub mod Telling

@@ -1,0 +1,19 @@
+-- What the fields of the passed entries are.
+use Rattle.std.specs.Prelude.{◌≡◌}
+use Rattle.sleep_model.specs.Notifiers.{call_order}
+use Rattle.check_past.specs.declared.passed.Passed.TheInside.{Inside}
+use Rattle.check_past.specs.Passing.{Passage, Holds, IsPassage, past_of}
+
+-- they are seen as the machine, the entries and how many were passed (own)
+abbrev pub passage : Inside → Passage
+passage p = record { machine = p.machine.now; entries = p.entries.now; passed = p.passed }
+
+-- the fields are what the passed entries leave (own)
+pub record IsKept (p : Inside) : Type 0 where
+  pub holds : Holds p.machine.now (past_of (passage p)) p.word p.time p.journal p.sources p.calls
+  pub call_order : p.call_order.items ≡ call_order p.machine.now
+  pub passage : IsPassage (passage p)
+
+-- the fields are what the passed entries leave (own)
+abbrev pub keeps : Inside → Type 0
+keeps p = IsKept p

@@ -1,0 +1,56 @@
+-- The entries of a log that were passed, and what is kept of them.
+use Rattle.std.specs.Prelude.{◌≡◌, ◌≤◌, ℕ, ◌+◌, true, List, length, reverse, take}
+use Rattle.std.specs.List.{list_all}
+use Rattle.sleep_model.specs.declared.entry.Entry.{Entry}
+use Rattle.sleep_model.specs.declared.machine.Machine.{Machine}
+use Rattle.sleep_model.specs.declared.word.EventNow.{EventNow}
+use Rattle.sleep_model.specs.Accepted.{IsAccepted}
+use Rattle.sleep_model.specs.Fits.{fits_entry}
+use Rattle.sleep_model.specs.Numbers.{after_step, numbers, time_after, time_of, word_step}
+use Rattle.sleep_model.specs.Parts.{is_kept, journal, part_of}
+use Rattle.check_calls.specs.Calling.{CallsOf, callers_after, callers_of}
+use Rattle.check_past.specs.declared.journal.JournalParts.{JournalParts}
+use Rattle.check_past.specs.declared.kept.Kept.{Kept}
+use Rattle.check_past.specs.Parts.{journal_if, state_of}
+use Rattle.check_sources.specs.declared.source.Source.{Source}
+use Rattle.check_sources.specs.Kept.{sources, sources_after}
+
+-- a machine, the entries of a log, the oldest first, and how many of them were passed (own)
+pub record Passage : Type 0 where
+  pub machine : Machine
+  pub entries : List Entry
+  pub passed : ℕ
+
+-- the entries that were passed, the newest first (own)
+abbrev pub past_of : Passage → List Entry
+past_of p = reverse (take p.passed p.entries)
+
+-- those of the journal (own)
+abbrev pub journal_of : Passage → List Entry
+journal_of p = journal (past_of p)
+
+-- what is kept is what these entries leave (own)
+pub record Holds (m : Machine) (past : List Entry) (now : EventNow) (moment : ℕ) (parts : JournalParts) (kept : List Source) (made : CallsOf) : Type 0 where
+  pub word : now ≡ numbers past
+  pub time : moment ≡ time_of past
+  pub state : parts ≡ state_of m (journal past)
+  pub sources : kept ≡ sources (length m.sources + 1) past
+  pub calls : made ≡ record { machine = m; state = callers_of m past }
+
+-- what is kept after one more entry (own)
+abbrev pub kept_after : Machine → Entry → Kept → Kept
+kept_after m e k = record {
+  word = after_step (word_step e.kind) k.word;
+  time = time_after e.kind e.time k.time;
+  journal = journal_if (is_kept (part_of e.kind)) m e k.journal;
+  sources = sources_after e k.sources;
+  calls = record k.calls {
+    state = callers_after k.calls.machine e k.journal.attempt.attempts (part_of e.kind) k.calls.state;
+  };
+}
+
+-- a machine as files spell it, entries that name what it has, of which no more were passed than there are (own)
+pub record IsPassage (p : Passage) : Type 0 where
+  pub accepted : IsAccepted p.machine
+  pub fits : list_all (fits_entry p.machine) p.entries ≡ true
+  pub within : p.passed ≤ length p.entries

@@ -1,0 +1,130 @@
+//! What the passed entries leave of devices, notifiers, processors and the core's parts.
+
+use crate::passed::Passed;
+use check_account::Flags;
+use phase_table::Phase;
+use sleep_base::Mem;
+use sleep_model::{DeviceFlags, Stand};
+
+impl<'m> Passed<'m> {
+    ghost use Rattle.std.specs.Prelude.{◌≡◌, ◌<◌, length, IfOk};
+    ghost use Rattle.sleep_model.specs.Links.{is_dependent, is_linked};
+    ghost use Rattle.sleep_model.specs.Devices.{is_async_device, may_wake_device, stand_in, asks_direct};
+    ghost use Rattle.sleep_model.specs.Notifiers.{cpus_off, stopped, told};
+    ghost use Rattle.sleep_model.specs.Order.{above, below, links_at, order, parents_of};
+    ghost use Rattle.sleep_model.specs.Runtime.{statuses};
+    ghost use Rattle.sleep_model.specs.Stands.{stands};
+    ghost use Rattle.check_past.specs.Passing.{journal_of};
+
+    /// Where a device stands in a phase and its mirror (`struct dev_pm_info`).
+    #[tactic(auto, using(crate::proofs::Standing::stands_are))]
+    pub fn stand(&self, phase: Phase, device: u32) -> Stand
+        ensures { result ≡ stand_in self.now.machine (journal_of self.now) phase device }
+    {
+        self.journal.devices.stand(phase, device)
+    }
+
+    /// Where each device stands in a phase and its mirror.
+    #[tactic(auto, using(crate::proofs::Standing::stands_are))]
+    pub fn stands(&self, phase: Phase) -> &[Stand]
+        ensures { result.now ≡ stands (length self.now.machine.devices) phase (journal_of self.now) }
+    {
+        self.journal.devices.stands(phase)
+    }
+
+    /// Which devices answered 1 to their last prepare (`power.direct_complete`).
+    pub fn asks_direct(&self) -> &Flags
+        ensures { result.now ≡ asks_direct (length self.now.machine.devices) (journal_of self.now) }
+    {
+        self.journal.devices.asks_direct()
+    }
+
+    /// Which devices are runtime suspended (`power.runtime_status`).
+    pub fn statuses(&self) -> &Flags
+        ensures { result.now ≡ statuses self.now.machine.devices (journal_of self.now) }
+    {
+        self.journal.devices.statuses()
+    }
+
+    /// Which notifiers are owed their post (`PM_POST_SUSPEND`).
+    pub fn told(&self) -> &Flags
+        ensures { result.now ≡ told self.now.machine (journal_of self.now) }
+    {
+        self.journal.devices.notified()
+    }
+
+    /// Which processors are off (`frozen_cpus`).
+    pub fn cpus_off(&self) -> &Flags
+        ensures { result.now ≡ cpus_off self.now.machine.cpus (journal_of self.now) }
+    {
+        self.journal.devices.cpus_off()
+    }
+
+    /// Which of the core's parts are suspended (`syscore_ops_list`).
+    pub fn stopped(&self) -> &Flags
+        ensures { result.now ≡ stopped (length self.now.machine.syscore) (journal_of self.now) }
+    {
+        self.journal.devices.stopped()
+    }
+
+    /// The devices in their order (`dpm_list`).
+    pub fn order(&self) -> &[u32]
+        ensures { result.now ≡ order self.now.machine (journal_of self.now) }
+    {
+        self.journal.ties.order()
+    }
+
+    /// What must sleep before a device does (`dpm_wait_for_subordinate`).
+    pub fn below(&self, device: u32) -> &[u32]
+        ensures { result.now ≡ below self.now.machine (journal_of self.now) device }
+    {
+        self.journal.ties.below(device)
+    }
+
+    /// What must be awake before a device is (`dpm_wait_for_superior`).
+    pub fn above(&self, device: u32) -> &[u32]
+        ensures { result.now ≡ above self.now.machine (journal_of self.now) device }
+    {
+        self.journal.ties.above(device)
+    }
+
+    /// Whether a link between these two stands, active or dormant.
+    pub fn is_linked(&self, supplier: u32, consumer: u32) -> bool
+        ensures { result ≡ is_linked (links_at self.now.machine (journal_of self.now)) supplier consumer }
+    {
+        self.journal.ties.is_linked(supplier, consumer)
+    }
+
+    /// Whether a walk down from the consumer, over children and all links, meets the supplier (`device_is_dependent`).
+    /// `Mem` if there is no memory for the walk.
+    pub fn is_dependent(&self, consumer: u32, supplier: u32) -> Result<bool, Mem>
+        requires consumer { consumer < length self.now.machine.devices }
+        requires supplier { supplier < length self.now.machine.devices }
+        ensures { IfOk result (λ b. b ≡ is_dependent (parents_of self.now.machine.devices)
+            (links_at self.now.machine (journal_of self.now)) consumer supplier) }
+    {
+        self.journal.ties.is_dependent(consumer, supplier)
+    }
+
+    /// Whether a device is asynchronous (`power.async_suspend`).
+    #[tactic(auto, using(crate::proofs::Standing::flag_is))]
+    pub fn is_async(&self, device: u32) -> bool
+        ensures { result ≡ is_async_device self.now.machine device }
+    {
+        match self.machine.devices.as_slice().get(device as usize) {
+            None => false,
+            Some(device) => device.flags.has(DeviceFlags::ASYNC),
+        }
+    }
+
+    /// Whether a device may wake the machine (`device_may_wakeup`).
+    #[tactic(auto, using(crate::proofs::Standing::flag_is))]
+    pub fn may_wake(&self, device: u32) -> bool
+        ensures { result ≡ may_wake_device self.now.machine device }
+    {
+        match self.machine.devices.as_slice().get(device as usize) {
+            None => false,
+            Some(device) => device.flags.has(DeviceFlags::WAKEUP),
+        }
+    }
+}

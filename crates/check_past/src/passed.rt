@@ -1,0 +1,143 @@
+ghost use Rattle.std.specs.Prelude.{◌≡◌, ◌+◌, IfOk};
+
+use crate::journal::JournalParts;
+use crate::kept::Kept;
+use crate::order::call_order;
+use check_calls::Callers;
+use check_sources::SourceAccounts;
+use sleep_base::Mem;
+use sleep_model::{Entry, EntryList, EventNow, Machine};
+use std::alloc::Global;
+use std::marker::Model;
+
+/// The entries of a log that were passed, the first ones, and what they leave: each call answers at once what a definition
+/// reads from them. Contracts see the machine, the entries, and how many were passed.
+#[derive(Drop)]
+pub struct Passed<'m> {
+    pub(crate) machine: &'m Machine,
+    pub(crate) entries: &'m EntryList,
+    pub(crate) passed: usize,
+    // The notifiers in the order in which they are called.
+    pub(crate) call_order: Vec<u32>,
+    pub(crate) word: EventNow,
+    pub(crate) time: u64,
+    pub(crate) journal: JournalParts,
+    pub(crate) sources: SourceAccounts,
+    pub(crate) calls: Callers<'m>,
+}
+
+impl<'m> Model for Passed<'m> {
+    ghost use Rattle.check_past.specs.Passing.{Passage};
+
+    ghost Value = { Passage };
+
+    ghost use Rattle.check_past.specs.PassedFields.{passage, keeps};
+
+    ghost view = { passage };
+
+    ghost invariant = { keeps };
+}
+
+// One more. `Mem` where the counter has no room.
+fn one_further(count: usize) -> Result<usize, Mem>
+    ensures { IfOk result (λ n. n ≡ count + 1) }
+{
+    match count.checked_add(1) {
+        Some(n) => Ok(n),
+        None => Err(Mem),
+    }
+}
+
+impl<'m> Passed<'m> {
+    ghost use Rattle.std.specs.Prelude.{◌≡◌, ◌+◌, true, Some, slice_get, IfOk};
+    ghost use Rattle.std.specs.List.{list_all};
+    ghost use Rattle.sleep_model.specs.Accepted.{IsAccepted};
+    ghost use Rattle.sleep_model.specs.Fits.{fits_entry};
+    ghost use Rattle.check_order.specs.Kept.{AreTies};
+    ghost use Rattle.check_past.specs.Parts.{MayAdd, state_of};
+    ghost use Rattle.check_past.specs.Passing.{journal_of, past_of};
+
+    /// Before the first of these entries, on a machine as files spell it. `Mem` if there is no memory for it.
+    pub fn new(alloc: Global, machine: &'m Machine, entries: &'m EntryList) -> Result<Self, Mem>
+        requires accepted { IsAccepted machine.now }
+        requires fits { list_all (fits_entry machine.now) entries.now ≡ true }
+        ensures { IfOk result (λ p. p ≡ record { machine = machine.now; entries = entries.now; passed = 0 }) }
+    {
+        Ok(Passed {
+            machine,
+            entries,
+            passed: 0,
+            call_order: call_order(alloc, machine.notifiers.as_slice())?,
+            word: EventNow {
+                inpr: 0,
+                count: 0,
+                hard: 0,
+            },
+            time: 0,
+            journal: JournalParts::new(alloc, machine)?,
+            sources: SourceAccounts::new(alloc, machine.sources.len() + 1)?,
+            calls: Callers::new(alloc, machine)?,
+        })
+    }
+
+    /// Passes the next entry, which adds no link that may not stand. `Mem` where a counter has no room, or if there is no
+    /// memory for what it leaves.
+    pub fn pass(self, e: Entry) -> Result<Self, Mem>
+        requires next { slice_get self.entries self.passed ≡ Some e }
+        requires link { MayAdd (state_of self.machine (journal_of self)).ties e.kind }
+        ensures { IfOk result (λ p. p ≡ record self.entry { passed = self.entry.passed + 1 }) }
+    {
+        let Passed {
+            machine,
+            entries,
+            passed,
+            call_order,
+            word,
+            time,
+            journal,
+            sources,
+            calls,
+        } = self;
+        let kept = Kept {
+            word,
+            time,
+            journal,
+            sources,
+            calls,
+        };
+        let passed = one_further(passed)?;
+        let after = kept.pass(machine, e)?;
+        Ok(Passed {
+            machine,
+            entries,
+            passed,
+            call_order,
+            word: after.word,
+            time: after.time,
+            journal: after.journal,
+            sources: after.sources,
+            calls: after.calls,
+        })
+    }
+
+    /// The machine is one as files spell it.
+    pub fn is_accepted(&self)
+        ensures { IsAccepted self.now.machine }
+    {
+        let _machine = &self.machine;
+    }
+
+    /// The entries that were passed name what the machine has.
+    pub fn all_fit(&self)
+        ensures { list_all (fits_entry self.now.machine) (past_of self.now) ≡ true }
+    {
+        let _entries = &self.entries;
+    }
+
+    /// The links that stand are links as the reader of machines takes them.
+    pub fn are_ties(&self)
+        ensures { AreTies (state_of self.now.machine (journal_of self.now)).ties }
+    {
+        self.journal.ties.are_ties()
+    }
+}

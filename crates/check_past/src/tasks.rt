@@ -1,0 +1,160 @@
+//! What the passed entries leave of the tasks: where they stand, what the freezer has come to with them, the marks, and
+//! autosleep with its work.
+
+ghost use Rattle.std.specs.Prelude.{◌≡◌, ◌<◌, ◌^◌, length};
+ghost use Rattle.sleep_model.specs.Freezer.{keeps_waiting, left_from};
+ghost use Rattle.check_past.specs.Asked.{left_is};
+
+use crate::passed::Passed;
+use check_account::is_in;
+use sleep_model::{Actor, Freezing, Group, Op, Script, Seat, TaskKind, Work};
+
+// Whether a task keeps the freeze of its group waiting.
+fn keeps_waiting(group: Group, kind: TaskKind, freezing: Freezing, seat: Seat) -> bool
+    ensures { result ≡ keeps_waiting group kind freezing seat }
+{
+    is_in(group, kind) && freezing.asked && !freezing.frozen && !seat.exited
+}
+
+/// The tasks that a freeze still waits for: how many, and the first of them.
+#[derive(Clone, Copy)]
+pub struct Left {
+    pub count: u32,
+    pub first: Option<u32>,
+}
+
+// The tasks that a freeze of the group waits for, among these.
+fn left_among(group: Group, scripts: &[Script], freezings: &[Freezing], seats: &[Seat]) -> Left
+    requires few { length scripts.now < 2 ^ 31 }
+    requires freezings { length freezings.now ≡ length scripts.now }
+    requires seats { length seats.now ≡ length scripts.now }
+    ensures { result ≡ left_is (left_from group 0 scripts.now freezings.now seats.now) }
+{
+    let mut left = Left {
+        count: 0,
+        first: None,
+    };
+    for i in (0..scripts.len()).rev() {
+        if keeps_waiting(group, scripts[i].kind, freezings[i], seats[i]) {
+            left = Left {
+                count: left.count + 1,
+                first: Some(i as u32),
+            };
+        }
+    }
+    left
+}
+
+impl<'m> Passed<'m> {
+    ghost use Rattle.std.specs.Prelude.{◌≡◌, length, option_copied, IfSome};
+    ghost use Rattle.sleep_model.specs.Accepted.{IsOp};
+    ghost use Rattle.sleep_model.specs.Autosleep.{may_run, work};
+    ghost use Rattle.sleep_model.specs.Due.{all_gone, is_over};
+    ghost use Rattle.sleep_model.specs.Freezer.{freezing, freezings, left};
+    ghost use Rattle.sleep_model.specs.Lock.{holder, is_on};
+    ghost use Rattle.sleep_model.specs.Marks.{mark_at, raised};
+    ghost use Rattle.sleep_model.specs.Rules.Questions.{op_of, seat_of};
+    ghost use Rattle.check_past.specs.Asked.{left_is};
+    ghost use Rattle.check_past.specs.Passing.{journal_of};
+
+    /// What the freezer has come to with a script (`freezing`, `frozen`).
+    pub fn freezing(&self, script: u32) -> Freezing
+        ensures { result ≡ freezing self.now.machine script (journal_of self.now) }
+    {
+        self.journal.tasks.freezing(script)
+    }
+
+    /// What the freezer has come to with each script.
+    pub fn freezings(&self) -> &[Freezing]
+        ensures { result.now ≡ freezings self.now.machine.actors (journal_of self.now) }
+    {
+        self.journal.tasks.freezings()
+    }
+
+    /// Where a script stands.
+    pub fn seat(&self, script: u32) -> Seat
+        ensures { result ≡ seat_of self.now.machine (journal_of self.now) script }
+    {
+        self.journal.tasks.seat(script)
+    }
+
+    // The operation of a script that is under way, if one is left.
+    fn under_way(&self, script: u32) -> Option<&'m Op>
+        ensures { option_copied result ≡ op_of self.now.machine (journal_of self.now) script }
+    {
+        let done = self.seat(script).done;
+        self.calls.operation(script, done)
+    }
+
+    /// The operation of a script that is under way, if one is left; it names what the machine has.
+    pub fn operation(&self, script: u32) -> Option<&'m Op>
+        ensures told { option_copied result ≡ op_of self.now.machine (journal_of self.now) script }
+        ensures named { IfSome (option_copied result) (λ op. IsOp self.now.machine op) }
+    {
+        self.is_accepted();
+        self.under_way(script)
+    }
+
+    /// Whether every script has made its exit (`do_exit`).
+    pub fn all_gone(&self) -> bool
+        ensures { result ≡ all_gone self.now.machine (journal_of self.now) }
+    {
+        self.journal.tasks.all_exited()
+    }
+
+    /// Whether every script has made its exit, and no attempt is open.
+    pub fn is_over(&self) -> bool
+        ensures { result ≡ is_over self.now.machine (journal_of self.now) }
+    {
+        self.all_gone() && self.maker().is_none()
+    }
+
+    /// The tasks that a freeze of the group still waits for (`try_to_freeze_tasks`).
+    #[tactic(auto, using(check_account::proofs::Following::placed, crate::proofs::Standing::seats_len))]
+    pub fn left(&self, group: Group) -> Left
+        ensures { result ≡ left_is (left self.now.machine group (journal_of self.now)) }
+    {
+        let tasks = &self.journal.tasks;
+        left_among(
+            group,
+            self.machine.actors.as_slice(),
+            tasks.freezings(),
+            tasks.seats(),
+        )
+    }
+
+    /// How often a mark was raised and not yet taken.
+    pub fn raised(&self, mark: u32) -> u32
+        ensures { result ≡ mark_at (raised (length self.now.machine.marks) (journal_of self.now)) mark }
+    {
+        self.journal.tasks.raised(mark)
+    }
+
+    /// Who holds the autosleep lock (`pm_autosleep_lock`).
+    pub fn holder(&self) -> Option<Actor>
+        ensures { result ≡ holder (journal_of self.now) }
+    {
+        self.journal.tasks.holder()
+    }
+
+    /// Whether autosleep is on (`pm_autosleep_state`).
+    pub fn is_on(&self) -> bool
+        ensures { result ≡ is_on (journal_of self.now) }
+    {
+        self.journal.tasks.is_on()
+    }
+
+    /// Where the autosleep work stands (`try_to_suspend`).
+    pub fn work(&self) -> Work
+        ensures { result ≡ work (journal_of self.now) }
+    {
+        self.journal.tasks.work()
+    }
+
+    /// Whether the autosleep work may run (`queue_up_suspend_work`).
+    pub fn may_run(&self) -> bool
+        ensures { result ≡ may_run self.now.machine (journal_of self.now) }
+    {
+        self.journal.tasks.is_queued() && self.journal.tasks.runs() < self.machine.auto_cycles
+    }
+}

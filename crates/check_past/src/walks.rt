@@ -1,0 +1,380 @@
+//! Who is next among devices, notifiers, processors and the core's parts.
+
+ghost use Rattle.std.specs.Prelude.{◌≡◌, ◌-◌, ◌&&◌, not, map, reverse};
+ghost use Rattle.std.specs.List.{find, list_all, range_with_len};
+ghost use Rattle.sleep_model.specs.Runtime.{is_async};
+ghost use Rattle.sleep_model.specs.Walk.{is_so, last_where};
+ghost use Rattle.sleep_model.specs.Stands.{stand_at, is_direct_complete, is_down_in, is_going_down, is_not_down, is_not_up, is_prepared, is_ready, is_unprepared};
+
+use crate::passed::Passed;
+use check_account::Flags;
+use phase_table::Phase;
+use sleep_model::{Device, DeviceFlags, Stand};
+
+/// Not prepared (`power.is_prepared`).
+pub fn is_unprepared(stand: Stand) -> bool
+    ensures { result ≡ is_unprepared stand }
+{
+    matches!(stand, Stand::Unprepared)
+}
+
+/// Prepared (`power.is_prepared`).
+pub fn is_prepared(stand: Stand) -> bool
+    ensures { result ≡ is_prepared stand }
+{
+    !matches!(stand, Stand::Unprepared)
+}
+
+/// Prepared, and not yet taken by the phase on the way down (`dpm_prepared_list`).
+pub fn is_ready(stand: Stand) -> bool
+    ensures { result ≡ is_ready stand }
+{
+    matches!(stand, Stand::Prepared)
+}
+
+/// Not through with the phase on the way down (`power.completion`).
+pub fn is_not_down(stand: Stand) -> bool
+    ensures { result ≡ is_not_down stand }
+{
+    matches!(
+        stand,
+        Stand::Unprepared | Stand::Prepared | Stand::Scheduled | Stand::Suspending
+    )
+}
+
+/// Scheduled on the way down, and not through (`async_schedule_dev`).
+pub fn is_going_down(stand: Stand) -> bool
+    ensures { result ≡ is_going_down stand }
+{
+    matches!(stand, Stand::Scheduled | Stand::Suspending)
+}
+
+/// Its callback on the way down answered 0 (`power.is_suspended`).
+pub fn is_down_in(stand: Stand) -> bool
+    ensures { result ≡ is_down_in stand }
+{
+    matches!(stand, Stand::Suspended)
+}
+
+/// Direct-complete (`power.direct_complete`).
+pub fn is_direct_complete(stand: Stand) -> bool
+    ensures { result ≡ is_direct_complete stand }
+{
+    matches!(stand, Stand::Direct)
+}
+
+/// Not yet up (`power.completion`).
+pub fn is_not_up(stand: Stand) -> bool
+    ensures { result ≡ is_not_up stand }
+{
+    matches!(
+        stand,
+        Stand::Suspended | Stand::Rescheduled | Stand::Resuming
+    )
+}
+
+// Where a device stands among others; unprepared where there is no such device.
+fn stand_at(stands: &[Stand], device: u32) -> Stand
+    ensures { result ≡ stand_at stands.now device }
+{
+    if (device as usize) < stands.len() {
+        stands[device as usize]
+    } else {
+        Stand::Unprepared
+    }
+}
+
+// Whether a device is asynchronous (`power.async_suspend`).
+#[tactic(auto, using(crate::proofs::Standing::flag_is))]
+fn is_async(devices: &[Device], device: u32) -> bool
+    ensures { result ≡ is_so (map is_async devices.now) device }
+{
+    match devices.get(device as usize) {
+        None => false,
+        Some(device) => device.flags.has(DeviceFlags::ASYNC),
+    }
+}
+
+// The first that is not prepared.
+fn first_unprepared(order: &[u32], stands: &[Stand]) -> Option<u32>
+    ensures { result ≡ find (λ d. is_unprepared (stand_at stands.now d)) order.now }
+{
+    order
+        .iter()
+        .copied()
+        .find(|d| is_unprepared(stand_at(stands, *d)))
+}
+
+// The last that is prepared.
+fn last_prepared(order: &[u32], stands: &[Stand]) -> Option<u32>
+    ensures { result ≡ find (λ d. is_prepared (stand_at stands.now d)) (reverse order.now) }
+{
+    order
+        .iter()
+        .rev()
+        .copied()
+        .find(|d| is_prepared(stand_at(stands, *d)))
+}
+
+// The last that is prepared and not yet taken.
+fn last_ready(order: &[u32], stands: &[Stand]) -> Option<u32>
+    ensures { result ≡ find (λ d. is_ready (stand_at stands.now d)) (reverse order.now) }
+{
+    order
+        .iter()
+        .rev()
+        .copied()
+        .find(|d| is_ready(stand_at(stands, *d)))
+}
+
+// The first that is scheduled on the way down, and not through.
+fn first_going_down(order: &[u32], stands: &[Stand]) -> Option<u32>
+    ensures { result ≡ find (λ d. is_going_down (stand_at stands.now d)) order.now }
+{
+    order
+        .iter()
+        .copied()
+        .find(|d| is_going_down(stand_at(stands, *d)))
+}
+
+// The first that is not through with the way down.
+fn first_not_down(order: &[u32], stands: &[Stand]) -> Option<u32>
+    ensures { result ≡ find (λ d. is_not_down (stand_at stands.now d)) order.now }
+{
+    order
+        .iter()
+        .copied()
+        .find(|d| is_not_down(stand_at(stands, *d)))
+}
+
+// The first that is not yet up.
+fn first_not_up(order: &[u32], stands: &[Stand]) -> Option<u32>
+    ensures { result ≡ find (λ d. is_not_up (stand_at stands.now d)) order.now }
+{
+    order
+        .iter()
+        .copied()
+        .find(|d| is_not_up(stand_at(stands, *d)))
+}
+
+// The first that is down and asynchronous.
+fn first_down_beside(order: &[u32], stands: &[Stand], devices: &[Device]) -> Option<u32>
+    ensures { result ≡ find (λ d. is_down_in (stand_at stands.now d) && is_so (map is_async devices.now) d) order.now }
+{
+    order.iter().copied().find(|d| is_down_in(stand_at(stands, *d)) && is_async(devices, *d))
+}
+
+// The first that is down and synchronous.
+fn first_down_alone(order: &[u32], stands: &[Stand], devices: &[Device]) -> Option<u32>
+    ensures { result ≡ find (λ d. is_down_in (stand_at stands.now d) && not (is_so (map is_async devices.now) d)) order.now }
+{
+    order.iter().copied().find(|d| is_down_in(stand_at(stands, *d)) && !is_async(devices, *d))
+}
+
+// Whether all of these are direct-complete.
+fn are_direct(devices: &[u32], stands: &[Stand]) -> bool
+    ensures { result ≡ list_all (λ d. is_direct_complete (stand_at stands.now d)) devices.now }
+{
+    devices
+        .iter()
+        .all(|d| is_direct_complete(stand_at(stands, *d)))
+}
+
+// The first of these numbers whose flag is not set.
+fn first_unset(flags: &Flags, order: &[u32]) -> Option<u32>
+    ensures { result ≡ find (λ x. not (is_so flags.now x)) order.now }
+{
+    order.iter().copied().find(|x| !flags.is_set(*x))
+}
+
+// The first of these numbers whose flag is set.
+fn first_set(flags: &Flags, order: &[u32]) -> Option<u32>
+    ensures { result ≡ find (λ x. is_so flags.now x) order.now }
+{
+    order.iter().copied().find(|x| flags.is_set(*x))
+}
+
+// The first processor behind the first that is not off.
+fn first_on(off: &Flags, cpus: u32) -> Option<u32>
+    ensures { result ≡ find (λ k. not (is_so off.now k)) (range_with_len 1 (cpus - 1)) }
+{
+    (1..cpus).find(|k| !off.is_set(*k))
+}
+
+// The first processor behind the first that is off.
+fn first_off(off: &Flags, cpus: u32) -> Option<u32>
+    ensures { result ≡ find (λ k. is_so off.now k) (range_with_len 1 (cpus - 1)) }
+{
+    (1..cpus).find(|k| off.is_set(*k))
+}
+
+// The first of these flags that is set.
+fn first_stopped(flags: &Flags, count: u32) -> Option<u32>
+    ensures { result ≡ find (λ x. is_so flags.now x) (range_with_len 0 count) }
+{
+    (0..count).find(|x| flags.is_set(*x))
+}
+
+// The last of the first `count` flags that is not set.
+fn last_unset(flags: &Flags, count: u32) -> Option<u32>
+    ensures { result ≡ last_where (λ x. not (is_so flags.now x)) (range_with_len 0 count) }
+{
+    for x in (0..count).rev() {
+        if !flags.is_set(x) {
+            return Some(x);
+        }
+    }
+    None
+}
+
+impl<'m> Passed<'m> {
+    ghost use Rattle.std.specs.Prelude.{◌≡◌};
+    ghost use Rattle.std.specs.List.{list_all};
+    ghost use Rattle.sleep_model.specs.Devices.{next_completed, next_down, next_prepared, next_to_schedule, next_up, stand_in, waits_above, waits_below, waits_down, waits_up};
+    ghost use Rattle.sleep_model.specs.Notifiers.{call_order, next_called, next_cpu_off, next_cpu_on, next_posted, next_started, next_stopped};
+    ghost use Rattle.sleep_model.specs.Order.{below};
+    ghost use Rattle.sleep_model.specs.Stands.{is_direct_complete};
+    ghost use Rattle.phase_table.specs.declared.phase.Phase.TheVariants as phase;
+    ghost use Rattle.check_past.specs.Passing.{journal_of};
+
+    // The notifiers in the order in which they are called.
+    fn call_order(&self) -> &[u32]
+        ensures { result.now ≡ call_order self.now.machine }
+    {
+        &self.call_order
+    }
+
+    /// The device that is prepared next (`dpm_prepare`).
+    #[tactic(auto, using(sleep_model::proofs::Searches::find_is_first))]
+    pub fn next_prepared(&self) -> Option<u32>
+        ensures { result ≡ next_prepared self.now.machine (journal_of self.now) }
+    {
+        first_unprepared(self.order(), self.stands(Phase::Suspend))
+    }
+
+    /// The device that is completed next (`dpm_complete`).
+    #[tactic(auto, using(sleep_model::proofs::Searches::find_is_last))]
+    pub fn next_completed(&self) -> Option<u32>
+        ensures { result ≡ next_completed self.now.machine (journal_of self.now) }
+    {
+        last_prepared(self.order(), self.stands(Phase::Suspend))
+    }
+
+    /// The device that the walk down takes next (`dpm_suspend`).
+    #[tactic(auto, using(sleep_model::proofs::Searches::find_is_last))]
+    pub fn next_down(&self, phase: Phase) -> Option<u32>
+        ensures { result ≡ next_down self.now.machine (journal_of self.now) phase }
+    {
+        last_ready(self.order(), self.stands(phase))
+    }
+
+    /// The first device that is scheduled and not through (`async_synchronize_full`).
+    #[tactic(auto, using(sleep_model::proofs::Searches::find_is_first))]
+    pub fn waits_down(&self, phase: Phase) -> Option<u32>
+        ensures { result ≡ waits_down self.now.machine (journal_of self.now) phase }
+    {
+        first_going_down(self.order(), self.stands(phase))
+    }
+
+    /// The first device below one that is not through with a phase (`dpm_wait_for_subordinate`).
+    #[tactic(auto, using(sleep_model::proofs::Searches::find_is_first))]
+    pub fn waits_below(&self, phase: Phase, device: u32) -> Option<u32>
+        ensures { result ≡ waits_below self.now.machine (journal_of self.now) phase device }
+    {
+        first_not_down(self.below(device), self.stands(phase))
+    }
+
+    /// The first device above one that is not yet up (`dpm_wait_for_superior`).
+    #[tactic(auto, using(sleep_model::proofs::Searches::find_is_first))]
+    pub fn waits_above(&self, phase: Phase, device: u32) -> Option<u32>
+        ensures { result ≡ waits_above self.now.machine (journal_of self.now) phase device }
+    {
+        first_not_up(self.above(device), self.stands(phase))
+    }
+
+    /// The first asynchronous device that is down and not yet scheduled (`dpm_resume`).
+    #[tactic(auto, using(sleep_model::proofs::Searches::find_is_first))]
+    pub fn next_to_schedule(&self, phase: Phase) -> Option<u32>
+        ensures { result ≡ next_to_schedule self.now.machine (journal_of self.now) phase }
+    {
+        first_down_beside(
+            self.order(),
+            self.stands(phase),
+            self.machine.devices.as_slice(),
+        )
+    }
+
+    /// The first synchronous device that is down (`dpm_resume`).
+    #[tactic(auto, using(sleep_model::proofs::Searches::find_is_first))]
+    pub fn next_up(&self, phase: Phase) -> Option<u32>
+        ensures { result ≡ next_up self.now.machine (journal_of self.now) phase }
+    {
+        first_down_alone(
+            self.order(),
+            self.stands(phase),
+            self.machine.devices.as_slice(),
+        )
+    }
+
+    /// The first device that is not yet up (`async_synchronize_full`).
+    #[tactic(auto, using(sleep_model::proofs::Searches::find_is_first))]
+    pub fn waits_up(&self, phase: Phase) -> Option<u32>
+        ensures { result ≡ waits_up self.now.machine (journal_of self.now) phase }
+    {
+        first_not_up(self.order(), self.stands(phase))
+    }
+
+    /// Whether all devices below one are direct-complete.
+    pub fn all_direct_below(&self, device: u32) -> bool
+        ensures { result ≡ list_all (λ e. is_direct_complete (stand_in self.now.machine (journal_of self.now) phase.Suspend e)) (below self.now.machine (journal_of self.now) device) }
+    {
+        are_direct(self.below(device), self.stands(Phase::Suspend))
+    }
+
+    /// The notifier that is to be told of the attempt (`PM_SUSPEND_PREPARE`).
+    #[tactic(auto, using(sleep_model::proofs::Searches::find_is_first))]
+    pub fn next_called(&self) -> Option<u32>
+        ensures { result ≡ next_called self.now.machine (journal_of self.now) }
+    {
+        first_unset(self.told(), self.call_order())
+    }
+
+    /// The notifier that is to be told of its end (`PM_POST_SUSPEND`).
+    #[tactic(auto, using(sleep_model::proofs::Searches::find_is_first))]
+    pub fn next_posted(&self) -> Option<u32>
+        ensures { result ≡ next_posted self.now.machine (journal_of self.now) }
+    {
+        first_set(self.told(), self.call_order())
+    }
+
+    /// The processor that is stopped next (`freeze_secondary_cpus`).
+    #[tactic(auto, using(sleep_model::proofs::Searches::find_is_first))]
+    pub fn next_cpu_off(&self) -> Option<u32>
+        ensures { result ≡ next_cpu_off self.now.machine (journal_of self.now) }
+    {
+        first_on(self.cpus_off(), self.machine.cpus)
+    }
+
+    /// The processor that is started next (`thaw_secondary_cpus`).
+    #[tactic(auto, using(sleep_model::proofs::Searches::find_is_first))]
+    pub fn next_cpu_on(&self) -> Option<u32>
+        ensures { result ≡ next_cpu_on self.now.machine (journal_of self.now) }
+    {
+        first_off(self.cpus_off(), self.machine.cpus)
+    }
+
+    /// The part of the core that is resumed next (`syscore_resume`).
+    #[tactic(auto, using(sleep_model::proofs::Searches::find_is_first))]
+    pub fn next_started(&self) -> Option<u32>
+        ensures { result ≡ next_started self.now.machine (journal_of self.now) }
+    {
+        first_stopped(self.stopped(), self.machine.syscore.len() as u32)
+    }
+
+    /// The part of the core that is suspended next (`syscore_suspend`).
+    pub fn next_stopped(&self) -> Option<u32>
+        ensures { result ≡ next_stopped self.now.machine (journal_of self.now) }
+    {
+        last_unset(self.stopped(), self.machine.syscore.len() as u32)
+    }
+}

@@ -1,0 +1,110 @@
+-- The rules by rising number.
+use Rattle.std.proofs.Common.{◌≡◌, ◌<◌, ◌≤◌, ◌+◌, ◌-◌, ◌||◌, ◌∙◌, ℕ, zero, suc, Bool, true, false, not, IsTrue, ◌↔◌, List, refl, ap, sym, subst, arith, ⊎_elim}
+use Rattle.std.proofs.lemmas.Bool.{cases_lt}
+use Rattle.sleep_model.specs.declared.entry.Entry.{Entry}
+use Rattle.sleep_model.specs.declared.machine.Machine.{Machine}
+use Rattle.sleep_model.specs.Parts.{Part, OfJournal, Notes, Moves, OfTime, part_of}
+use Rattle.sleep_model.specs.Rules.Entry.{KeepsEntry, KeepsRule, OnJournal, Rule, Links, Numbers, Attempts, Reads, Walk, Skip, Runtime, Owed, Freezer, Path, Answers, Restored, Steps, Enabled, Source}
+use Rattle.sleep_model.specs.Rules.Verdict.{BreaksFirst, number_of}
+use Rattle.check_rules.specs.Judging.{IsBroken, KeepsBelow, is_of_journal, place_of, rule_at}
+
+-- ---- a rule of the journal alone
+
+pub on_journal : {X : Type 0} (p : Part) (b : Bool) → (IsTrue b ↔ X) → IsTrue (not (is_of_journal p) || b) ↔ OnJournal p X
+on_journal OfJournal b h = h
+on_journal (Notes s call) b h = (λ g. tt, λ g. refl)
+on_journal (Moves s step) b h = (λ g. tt, λ g. refl)
+on_journal OfTime b h = (λ g. tt, λ g. refl)
+
+-- ---- places and numbers
+
+pub at_place : (rule : Rule) → rule_at (place_of rule) ≡ rule
+at_place Links = refl
+at_place Numbers = refl
+at_place Attempts = refl
+at_place Reads = refl
+at_place Walk = refl
+at_place Skip = refl
+at_place Runtime = refl
+at_place Owed = refl
+at_place Freezer = refl
+at_place Path = refl
+at_place Answers = refl
+at_place Restored = refl
+at_place Steps = refl
+at_place Enabled = refl
+at_place Source = refl
+
+rises : (n : ℕ) → number_of (rule_at n) ≤ number_of (rule_at (suc n))
+rises zero = omega arith
+rises (suc zero) = omega arith
+rises (suc (suc zero)) = omega arith
+rises (suc (suc (suc zero))) = omega arith
+rises (suc (suc (suc (suc zero)))) = omega arith
+rises (suc (suc (suc (suc (suc zero))))) = omega arith
+rises (suc (suc (suc (suc (suc (suc zero)))))) = omega arith
+rises (suc (suc (suc (suc (suc (suc (suc zero))))))) = omega arith
+rises (suc (suc (suc (suc (suc (suc (suc (suc zero)))))))) = omega arith
+rises (suc (suc (suc (suc (suc (suc (suc (suc (suc zero))))))))) = omega arith
+rises (suc (suc (suc (suc (suc (suc (suc (suc (suc (suc zero)))))))))) = omega arith
+rises (suc (suc (suc (suc (suc (suc (suc (suc (suc (suc (suc zero))))))))))) = omega arith
+rises (suc (suc (suc (suc (suc (suc (suc (suc (suc (suc (suc (suc zero)))))))))))) = omega arith
+rises (suc (suc (suc (suc (suc (suc (suc (suc (suc (suc (suc (suc (suc zero))))))))))))) = omega arith
+rises (suc (suc (suc (suc (suc (suc (suc (suc (suc (suc (suc (suc (suc (suc n)))))))))))))) = omega arith
+
+rising : (k n : ℕ) → number_of (rule_at n) ≤ number_of (rule_at (k + n))
+rising zero n = let e : zero + n ≡ n = omega arith in rw e (omega arith)
+rising (suc k) n =
+    let e : suc k + n ≡ suc (k + n) = omega arith in
+    let below = rising k n in
+    let step = rises (k + n) in
+    rw e (omega (arith, below, step))
+
+no_lesser : (n k : ℕ) → n ≤ k → number_of (rule_at n) ≤ number_of (rule_at k)
+no_lesser n k h = let e : (k - n) + n ≡ k = omega (arith, h) in subst (λ j. number_of (rule_at n) ≤ number_of (rule_at j)) e (rising (k - n) n)
+
+-- a rule of a lesser number stands before
+before : (rule : Rule) (n : ℕ) → number_of rule < number_of (rule_at n) → place_of rule < n
+before rule n h = ⊎_elim
+    (λ below. below)
+    (λ above.
+    let least = no_lesser n (place_of rule) above in
+    let same : number_of (rule_at (place_of rule)) ≡ number_of rule = ap number_of (at_place rule) in
+    absurd (omega (arith, least, same, h)))
+    (cases_lt (place_of rule) n)
+
+-- ---- one rule more
+
+pub below_more : (m : Machine) (past : List Entry) (e : Entry) (n : ℕ) (b : Bool) (rule : Rule) → rule ≡ rule_at n → (IsTrue b ↔ KeepsRule m past e (part_of e.kind) rule) → b ≡ true → KeepsBelow m past e n → KeepsBelow m past e (n + 1)
+below_more m past e n b rule is h so below = λ other l. ⊎_elim
+    (λ less. below other less)
+    (λ above.
+    let here : place_of other ≡ n = omega (arith, l, above) in
+    let same : rule ≡ other = is ∙ ap rule_at (sym here) ∙ at_place other in
+    subst (λ (r : Rule). KeepsRule m past e (part_of e.kind) r) same (h.0 so))
+    (cases_lt (place_of other) n)
+
+pub breaks : (m : Machine) (past : List Entry) (e : Entry) (n : ℕ) (b : Bool) (rule : Rule) → rule ≡ rule_at n → (IsTrue b ↔ KeepsRule m past e (part_of e.kind) rule) → b ≡ false → KeepsBelow m past e n → BreaksFirst m past e rule
+breaks m past e n b rule is h so below = record {
+  breaks = λ keeps. let yes : b ≡ true = h.1 keeps in absurd (cc);
+  lesser = λ other l. below other (before other n (subst (λ (r : Rule). number_of other < number_of r) is l));
+}
+
+pub all_kept : (m : Machine) (past : List Entry) (e : Entry) → KeepsBelow m past e 15 → KeepsEntry m past e
+all_kept m past e h = record {
+  links = h Links (omega arith);
+  numbers = h Numbers (omega arith);
+  attempts = h Attempts (omega arith);
+  reads = h Reads (omega arith);
+  walk = h Walk (omega arith);
+  skip = h Skip (omega arith);
+  runtime = h Runtime (omega arith);
+  owed = h Owed (omega arith);
+  freezer = h Freezer (omega arith);
+  path = h Path (omega arith);
+  answers = h Answers (omega arith);
+  restored = h Restored (omega arith);
+  steps = h Steps (omega arith);
+  enabled = h Enabled (omega arith);
+  source = h Source (omega arith);
+}

@@ -1,0 +1,7 @@
+pub mod Comparing
+pub mod Counting
+pub mod Judging
+pub mod Jumping
+pub mod Owning
+pub mod Resting
+pub mod Sourcing

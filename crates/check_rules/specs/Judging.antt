@@ -1,0 +1,78 @@
+-- The least rule that an entry breaks, and its number.
+use Rattle.std.specs.Prelude.{◌≡◌, ◌<◌, ℕ, zero, suc, Bool, true, false, List, Option, Some, None}
+use Rattle.sleep_model.specs.declared.entry.Entry.{Entry}
+use Rattle.sleep_model.specs.declared.machine.Machine.{Machine}
+use Rattle.sleep_model.specs.Parts.{Part, OfJournal, part_of}
+use Rattle.sleep_model.specs.Rules.Entry as model
+use Rattle.sleep_model.specs.Rules.Entry.{KeepsEntry, KeepsRule}
+use Rattle.sleep_model.specs.Rules.Verdict.{BreaksFirst, number_of}
+use Rattle.check_rules.specs.declared.judge.Rule.{Rule}
+use Rattle.check_rules.specs.declared.judge.Rule.TheVariants as ours
+
+-- an entry of the journal (own)
+abbrev pub is_of_journal : Part → Bool
+is_of_journal OfJournal = true
+is_of_journal _ = false
+
+-- the rule that is meant (own)
+abbrev pub meant : Rule → model.Rule
+meant ours.Links = model.Links
+meant ours.Numbers = model.Numbers
+meant ours.Attempts = model.Attempts
+meant ours.Reads = model.Reads
+meant ours.Walk = model.Walk
+meant ours.Skip = model.Skip
+meant ours.Runtime = model.Runtime
+meant ours.Owed = model.Owed
+meant ours.Freezer = model.Freezer
+meant ours.Path = model.Path
+meant ours.Answers = model.Answers
+meant ours.Restored = model.Restored
+meant ours.Steps = model.Steps
+meant ours.Enabled = model.Enabled
+meant ours.Source = model.Source
+
+-- the place of a rule among all by rising number, from 0 (own)
+abbrev pub place_of : model.Rule → ℕ
+place_of model.Links = 0
+place_of model.Numbers = 1
+place_of model.Attempts = 2
+place_of model.Reads = 3
+place_of model.Walk = 4
+place_of model.Skip = 5
+place_of model.Runtime = 6
+place_of model.Owed = 7
+place_of model.Freezer = 8
+place_of model.Path = 9
+place_of model.Answers = 10
+place_of model.Restored = 11
+place_of model.Steps = 12
+place_of model.Enabled = 13
+place_of model.Source = 14
+
+-- the rule at that place (own)
+abbrev pub rule_at : ℕ → model.Rule
+rule_at zero = model.Links
+rule_at (suc zero) = model.Numbers
+rule_at (suc (suc zero)) = model.Attempts
+rule_at (suc (suc (suc zero))) = model.Reads
+rule_at (suc (suc (suc (suc zero)))) = model.Walk
+rule_at (suc (suc (suc (suc (suc zero))))) = model.Skip
+rule_at (suc (suc (suc (suc (suc (suc zero)))))) = model.Runtime
+rule_at (suc (suc (suc (suc (suc (suc (suc zero))))))) = model.Owed
+rule_at (suc (suc (suc (suc (suc (suc (suc (suc zero)))))))) = model.Freezer
+rule_at (suc (suc (suc (suc (suc (suc (suc (suc (suc zero))))))))) = model.Path
+rule_at (suc (suc (suc (suc (suc (suc (suc (suc (suc (suc zero)))))))))) = model.Answers
+rule_at (suc (suc (suc (suc (suc (suc (suc (suc (suc (suc (suc zero))))))))))) = model.Restored
+rule_at (suc (suc (suc (suc (suc (suc (suc (suc (suc (suc (suc (suc zero)))))))))))) = model.Steps
+rule_at (suc (suc (suc (suc (suc (suc (suc (suc (suc (suc (suc (suc (suc zero))))))))))))) = model.Enabled
+rule_at _ = model.Source
+
+-- an entry keeps the rules before that place (own)
+abbrev pub KeepsBelow : Machine → List Entry → Entry → ℕ → Type 0
+KeepsBelow m past e n = (rule : model.Rule) → place_of rule < n → KeepsRule m past e (part_of e.kind) rule
+
+-- it breaks none, or the rule of that number and none that has a lesser one (own)
+abbrev pub IsBroken : Machine → List Entry → Entry → Option ℕ → Type 0
+IsBroken m past e None = KeepsEntry m past e
+IsBroken m past e (Some n) = (rule : model.Rule) × ((number_of rule ≡ n) × BreaksFirst m past e rule)

@@ -1,0 +1,5 @@
+pub mod Calling
+pub mod Judging
+pub mod Owing
+pub mod Places
+pub mod Rows

@@ -1,0 +1,130 @@
+//! The rules that several kinds of entries have a part in: of the journal, of calls on sources and of their steps.
+
+ghost use Rattle.std.specs.Prelude.{◌≡◌, ◌↔◌, true, IsTrue, IfOk};
+ghost use Rattle.sleep_model.specs.Fits.{fits_entry};
+ghost use Rattle.sleep_model.specs.Parts.{part_of};
+ghost use Rattle.sleep_model.specs.Rules.Enabled.{EnabledEntry};
+ghost use Rattle.sleep_model.specs.Rules.Freezer.{FreezerEntry};
+ghost use Rattle.sleep_model.specs.Rules.Path.{PathEntry};
+ghost use Rattle.sleep_model.specs.Rules.Steps.{StepsEntry};
+ghost use Rattle.sleep_model.specs.Rules.Walk.{ReportsMade, WalkEntry};
+ghost use Rattle.check_past.specs.Passing.{past_of};
+
+use crate::calls::{is_calling, is_in_callback, is_of_call, is_own_call, is_own_turn};
+use crate::enabled::keeps_enabled;
+use crate::freezer::{is_thawed, keeps_freezer};
+use crate::jump::keeps_jump;
+use crate::path::{keeps_path, keeps_reports};
+use crate::steps::keeps_steps;
+use crate::walk::keeps_walk;
+use check_past::Passed;
+use sleep_base::Mem;
+use sleep_model::{Actor, Entry, Kind, WordKind};
+
+// Whether a callback ends once its reports are made. `Mem` where their number has no room.
+fn are_reports_made(past: &Passed<'_>, e: Entry) -> Result<bool, Mem>
+    requires { fits_entry past.now.machine e ≡ true }
+    ensures { IfOk result (λ b. IsTrue b ↔ ReportsMade past.now.machine (past_of past.now) e.actor e.kind) }
+{
+    match e.kind {
+        Kind::End(..) => is_own_turn(past, e.actor),
+        _ => Ok(true),
+    }
+}
+
+/// Whether devices are taken in order and answer what the machine answers, and a callback makes its reports in order, and
+/// nothing else (`drivers/base/power/main.c`). `Mem` where the number of reports has no room.
+pub fn walk_entry(past: &Passed<'_>, e: Entry) -> Result<bool, Mem>
+    requires { fits_entry past.now.machine e ≡ true }
+    ensures { IfOk result (λ b. IsTrue b ↔ WalkEntry past.now.machine (past_of past.now) e (part_of e.kind)) }
+{
+    match e.kind {
+        Kind::Awake(_) | Kind::Relax(_) | Kind::Event { .. } | Kind::Expire(_) => {
+            Ok(!is_in_callback(past, e.actor) || is_own_call(past, e.actor, e.kind))
+        }
+        Kind::Start(_) | Kind::Finish(_) | Kind::Hard(_) | Kind::Jump => Ok(true),
+        _ => {
+            let made = are_reports_made(past, e)?;
+            Ok(keeps_walk(past, past.word(), e.kind) && made)
+        }
+    }
+}
+
+/// Whether tasks freeze where they are asked to, frozen ones make nothing, and a freeze ends rightly (`try_to_freeze`,
+/// `try_to_freeze_tasks`). `Mem` where its end is beyond all time.
+pub fn freezer_entry(past: &Passed<'_>, e: Entry) -> Result<bool, Mem>
+    ensures { IfOk result (λ b. IsTrue b ↔ FreezerEntry past.now.machine (past_of past.now) e (part_of e.kind)) }
+{
+    match e.kind {
+        Kind::Awake(_)
+        | Kind::Relax(_)
+        | Kind::Event { .. }
+        | Kind::Expire(_)
+        | Kind::Start(_)
+        | Kind::Finish(_)
+        | Kind::Hard(_) => Ok(is_thawed(past, e.actor)),
+        Kind::Jump => Ok(true),
+        _ => {
+            let keeps = keeps_freezer(past, past.word(), e.actor, e.kind)?;
+            Ok(keeps)
+        }
+    }
+}
+
+/// Whether the open attempt's maker keeps to the table, and calls on sources from callbacks alone (`enter_state`,
+/// `dpm_run_callback`).
+pub fn path_entry(past: &Passed<'_>, e: Entry) -> bool
+    ensures { IsTrue result ↔ PathEntry past.now.machine (past_of past.now) e (part_of e.kind) }
+{
+    match e.kind {
+        Kind::Awake(_) | Kind::Relax(_) | Kind::Event { .. } | Kind::Expire(_) => {
+            keeps_reports(past, e.actor)
+        }
+        Kind::Start(_) | Kind::Finish(_) | Kind::Hard(_) => true,
+        _ => keeps_path(past, past.word(), e.actor, e.kind),
+    }
+}
+
+/// Whether an entry is its actor's next, once the calls before it are made whole; a note its actor's next call; a step of
+/// the word none of another's call; and time makes the jumps. `Mem` where a moment is beyond all time, or a number has no
+/// room.
+pub fn steps_entry(past: &Passed<'_>, e: Entry) -> Result<bool, Mem>
+    requires { fits_entry past.now.machine e ≡ true }
+    ensures { IfOk result (λ b. IsTrue b ↔ StepsEntry past.now.machine (past_of past.now) e (part_of e.kind)) }
+{
+    match e.kind {
+        Kind::Awake(_) | Kind::Relax(_) | Kind::Event { .. } | Kind::Expire(_) => {
+            Ok(is_own_call(past, e.actor, e.kind) && !is_calling(past, e.actor))
+        }
+        Kind::Start(s) => Ok(is_of_call(past, e.actor, s, WordKind::Start)),
+        Kind::Finish(s) => Ok(is_of_call(past, e.actor, s, WordKind::Finish)),
+        Kind::Hard(s) => Ok(is_of_call(past, e.actor, s, WordKind::Hard)),
+        Kind::Jump => Ok(matches!(e.actor, Actor::Time)),
+        _ => {
+            let keeps = keeps_steps(past, past.word(), e.actor, e.kind)?;
+            let turn = is_own_turn(past, e.actor)?;
+            Ok(keeps && turn && !is_calling(past, e.actor))
+        }
+    }
+}
+
+/// Whether who makes an entry may go on, and time jumps where it may (`suspend_enter`). `Mem` where a moment is beyond all
+/// time, a number has no room, or if there is no memory for a walk.
+pub fn enabled_entry(past: &Passed<'_>, e: Entry) -> Result<bool, Mem>
+    ensures { IfOk result (λ b. IsTrue b ↔ EnabledEntry past.now.machine (past_of past.now) e (part_of e.kind)) }
+{
+    match e.kind {
+        Kind::Awake(_)
+        | Kind::Relax(_)
+        | Kind::Event { .. }
+        | Kind::Expire(_)
+        | Kind::Start(_)
+        | Kind::Finish(_)
+        | Kind::Hard(_) => Ok(true),
+        Kind::Jump => keeps_jump(past, e.time),
+        _ => {
+            let keeps = keeps_enabled(past, past.word(), e.actor, e.kind)?;
+            Ok(keeps)
+        }
+    }
+}

@@ -1,0 +1,155 @@
+//! All rules of an entry, and the least that it breaks.
+
+ghost use Rattle.std.specs.Prelude.{◌≡◌, ◌↔◌, ◌||◌, not, true, IsTrue, IfOk};
+ghost use Rattle.sleep_model.specs.Fits.{fits_entry};
+ghost use Rattle.sleep_model.specs.Parts.{part_of};
+ghost use Rattle.sleep_model.specs.Rules.Entry.{KeepsRule};
+ghost use Rattle.sleep_model.specs.Rules.Verdict.{number_of};
+ghost use Rattle.check_past.specs.Passing.{past_of};
+ghost use Rattle.check_rules.specs.Judging.{IsBroken, is_of_journal, meant, rule_at};
+
+use crate::answers::{keeps_answers, keeps_links, keeps_runtime};
+use crate::entries::{enabled_entry, freezer_entry, path_entry, steps_entry, walk_entry};
+use crate::numbers::{keeps_attempts, keeps_numbers};
+use crate::owed::keeps_owed;
+use crate::reads::keeps_reads;
+use crate::restored::keeps_restored;
+use crate::skip::keeps_skip;
+use crate::source::source_entry;
+use check_past::Passed;
+use sleep_base::Mem;
+use sleep_model::{Entry, Kind};
+
+/// How many rules there are.
+const RULES: u8 = 15;
+
+/// A rule of an entry.
+#[derive(Clone, Copy)]
+pub(crate) enum Rule {
+    Links,
+    Numbers,
+    Attempts,
+    Reads,
+    Walk,
+    Skip,
+    Runtime,
+    Owed,
+    Freezer,
+    Path,
+    Answers,
+    Restored,
+    Steps,
+    Enabled,
+    Source,
+}
+
+// The rule at that place, from 0, among all by rising number.
+fn rule_at(place: u8) -> Rule
+    ensures { meant result ≡ rule_at place }
+{
+    match place {
+        0 => Rule::Links,
+        1 => Rule::Numbers,
+        2 => Rule::Attempts,
+        3 => Rule::Reads,
+        4 => Rule::Walk,
+        5 => Rule::Skip,
+        6 => Rule::Runtime,
+        7 => Rule::Owed,
+        8 => Rule::Freezer,
+        9 => Rule::Path,
+        10 => Rule::Answers,
+        11 => Rule::Restored,
+        12 => Rule::Steps,
+        13 => Rule::Enabled,
+        _ => Rule::Source,
+    }
+}
+
+// The number that a verdict gives a rule.
+fn number_of(rule: Rule) -> u8
+    ensures { result ≡ number_of (meant rule) }
+{
+    match rule {
+        Rule::Links => 2,
+        Rule::Numbers => 4,
+        Rule::Attempts => 7,
+        Rule::Reads => 8,
+        Rule::Walk => 9,
+        Rule::Skip => 10,
+        Rule::Runtime => 11,
+        Rule::Owed => 12,
+        Rule::Freezer => 13,
+        Rule::Path => 14,
+        Rule::Answers => 15,
+        Rule::Restored => 16,
+        Rule::Steps => 17,
+        Rule::Enabled => 18,
+        Rule::Source => 22,
+    }
+}
+
+/// Whether an entry of that kind is the journal's.
+fn is_of_journal(kind: Kind) -> bool
+    ensures { result ≡ is_of_journal (part_of kind) }
+{
+    !matches!(
+        kind,
+        Kind::Awake(_)
+            | Kind::Relax(_)
+            | Kind::Event { .. }
+            | Kind::Expire(_)
+            | Kind::Start(_)
+            | Kind::Finish(_)
+            | Kind::Hard(_)
+            | Kind::Jump
+    )
+}
+
+// What a rule of the journal alone says of an entry: all others keep it.
+fn in_journal(kind: Kind, keeps: bool) -> bool
+    ensures { result ≡ (not (is_of_journal (part_of kind)) || keeps) }
+{
+    !is_of_journal(kind) || keeps
+}
+
+// Whether an entry keeps a rule behind the entries that were passed. `Mem` where a moment is beyond all time, a number has
+// no room, or if there is no memory for a walk.
+fn keeps(past: &Passed<'_>, e: Entry, rule: Rule) -> Result<bool, Mem>
+    requires { fits_entry past.now.machine e ≡ true }
+    ensures { IfOk result (λ b. IsTrue b ↔ KeepsRule past.now.machine (past_of past.now) e (part_of e.kind) (meant rule)) }
+{
+    let (now, kind) = (past.word(), e.kind);
+    match rule {
+        Rule::Links => Ok(in_journal(kind, keeps_links(past, kind)?)),
+        Rule::Numbers => Ok(keeps_numbers(past, e)),
+        Rule::Attempts => Ok(in_journal(kind, keeps_attempts(past, kind))),
+        Rule::Reads => Ok(in_journal(kind, keeps_reads(past, now, e.actor, kind)?)),
+        Rule::Walk => walk_entry(past, e),
+        Rule::Skip => Ok(in_journal(kind, keeps_skip(past, now, kind))),
+        Rule::Runtime => Ok(in_journal(kind, keeps_runtime(past, kind))),
+        Rule::Owed => Ok(in_journal(kind, keeps_owed(past, kind))),
+        Rule::Freezer => freezer_entry(past, e),
+        Rule::Path => Ok(path_entry(past, e)),
+        Rule::Answers => Ok(in_journal(kind, keeps_answers(past, kind))),
+        Rule::Restored => Ok(in_journal(kind, keeps_restored(past, kind))),
+        Rule::Steps => steps_entry(past, e),
+        Rule::Enabled => enabled_entry(past, e),
+        Rule::Source => Ok(source_entry(past, e)),
+    }
+}
+
+/// The number of the least rule that an entry breaks behind the entries that were passed, if it breaks one. `Mem` where a
+/// moment is beyond all time, a number has no room, or if there is no memory for a walk.
+pub fn first_broken(past: &Passed<'_>, e: Entry) -> Result<Option<u8>, Mem>
+    requires { fits_entry past.now.machine e ≡ true }
+    ensures { IfOk result (λ n. IsBroken past.now.machine (past_of past.now) e n) }
+{
+    for place in 0..RULES {
+        let rule = rule_at(place);
+        if !keeps(past, e, rule)? {
+            return Ok(Some(number_of(rule)));
+        }
+    }
+    Ok(None)
+}

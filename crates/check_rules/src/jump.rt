@@ -1,0 +1,208 @@
+//! Who is enabled, and which times are pending: where time jumps, and where a log is finished.
+
+ghost use Rattle.std.specs.Prelude.{◌≡◌, ◌↔◌, ◌<◌, ◌+◌, ◌&&◌, not, true, IsTrue, IfOk, length, slice_get};
+ghost use Rattle.sleep_model.specs.declared.entry.Actor.TheVariants.{Dev, Script};
+ghost use Rattle.sleep_model.specs.Attempt.{freeze_since, sleep_of, sleeps_now};
+ghost use Rattle.sleep_model.specs.Fits.{fits_actor};
+ghost use Rattle.sleep_model.specs.Freezer.{freezing};
+ghost use Rattle.sleep_model.specs.Legal.{JumpStep, alarm_at, deadline_at, is_enabled, is_finished, is_idle, is_made, next_expiry, next_sleep, next_time, none_enabled, none_expires, pending_nap, pending_sleep, sooner};
+ghost use Rattle.sleep_model.specs.Numbers.{numbers, time_of};
+ghost use Rattle.sleep_model.specs.Rules.Questions.{seat_of};
+ghost use Rattle.sleep_model.specs.Sources.{history};
+ghost use Rattle.check_past.specs.Passing.{journal_of, past_of};
+
+use crate::calls::is_calling;
+use crate::same::{is_time, without};
+use check_due::{due, gives_up_at, is_line};
+use check_past::Passed;
+use sleep_base::Mem;
+use sleep_model::{Actor, Due, EventNow, Work};
+
+// Whether an entry is due.
+fn is_made(due: Due) -> bool
+    ensures { result ≡ is_made due }
+{
+    matches!(due, Due::Makes(_))
+}
+
+// Whether an actor of the machine is enabled: it is inside a call, has a call to make, or an entry of the journal is due of
+// it. `Mem` where a moment is beyond all time, a number has no room, or if there is no memory for a walk.
+fn is_enabled(past: &Passed<'_>, now: EventNow, who: Actor) -> Result<bool, Mem>
+    requires { fits_actor past.now.machine who ≡ true }
+    ensures { IfOk result (λ b. b ≡ is_enabled past.now.machine (journal_of past.now) (λ s. history s (past_of past.now)) now who) }
+{
+    let waits = past.made(who) < past.calls_due(who)?;
+    let next = due(past, who, now)?;
+    Ok(is_calling(past, who) || waits || is_made(next))
+}
+
+// Whether no script is enabled.
+fn no_script_enabled(past: &Passed<'_>, now: EventNow) -> Result<bool, Mem>
+    ensures { IfOk result (λ b. b ≡ none_enabled past.now.machine (journal_of past.now) (λ s. history s (past_of past.now)) now
+        Script (length past.now.machine.actors)) }
+{
+    let mut none = true;
+    for i in 0..past.script_count() {
+        let enabled = is_enabled(past, now, Actor::Script(i))?;
+        none = without(enabled, none);
+    }
+    Ok(none)
+}
+
+// Whether no device is enabled.
+fn no_device_enabled(past: &Passed<'_>, now: EventNow) -> Result<bool, Mem>
+    ensures { IfOk result (λ b. b ≡ none_enabled past.now.machine (journal_of past.now) (λ s. history s (past_of past.now)) now
+        Dev (length past.now.machine.devices)) }
+{
+    let mut none = true;
+    for d in 0..past.device_count() {
+        let enabled = is_enabled(past, now, Actor::Dev(d))?;
+        none = without(enabled, none);
+    }
+    Ok(none)
+}
+
+// Whether no source is to expire now.
+fn none_expires(past: &Passed<'_>, time: u64) -> bool
+    ensures { result ≡ none_expires (length past.now.machine.sources + 1) (λ s. history s (past_of past.now)) time }
+{
+    let mut none = true;
+    for s in 0..past.source_count() {
+        none = without(past.source(s).has_expired(time), none);
+    }
+    none
+}
+
+// Whether no actor is enabled.
+fn is_idle(past: &Passed<'_>, now: EventNow) -> Result<bool, Mem>
+    ensures { IfOk result (λ b. b ≡ is_idle past.now.machine (journal_of past.now) (λ s. history s (past_of past.now)) now) }
+{
+    let scripts = no_script_enabled(past, now)?;
+    let work = is_enabled(past, now, Actor::Auto)?;
+    let devices = no_device_enabled(past, now)?;
+    Ok(scripts && !work && devices && none_expires(past, past.journal_time()))
+}
+
+/// Whether nobody can make anything, every script has exited, and no attempt is open. `Mem` where a moment is beyond all
+/// time, a number has no room, or if there is no memory for a walk.
+pub fn is_finished(past: &Passed<'_>, now: EventNow) -> Result<bool, Mem>
+    ensures { IfOk result (λ b. b ≡ is_finished past.now.machine (journal_of past.now) (λ s. history s (past_of past.now)) now) }
+{
+    let idle = is_idle(past, now)?;
+    Ok(past.all_gone() && past.maker().is_none() && idle)
+}
+
+// The lesser of two moments, where there are any.
+fn sooner(one: Option<u64>, other: Option<u64>) -> Option<u64>
+    ensures { result ≡ sooner one other }
+{
+    match (one, other) {
+        (None, other) => other,
+        (Some(at), None) => Some(at),
+        (Some(at), Some(other)) => Some(at.min(other)),
+    }
+}
+
+// The least expiry of all sources.
+fn next_expiry(past: &Passed<'_>) -> Option<u64>
+    ensures { result ≡ next_expiry (length past.now.machine.sources + 1) (λ s. history s (past_of past.now)) }
+{
+    let mut next = None;
+    for s in 0..past.source_count() {
+        next = sooner(past.source(s).expiry, next);
+    }
+    next
+}
+
+// The alarm of a machine that sleeps. `Mem` where it is beyond all time.
+fn alarm_at(past: &Passed<'_>) -> Result<Option<u64>, Mem>
+    ensures { IfOk result (λ t. t ≡ alarm_at past.now.machine (sleep_of (journal_of past.now))) }
+{
+    match past.sleep() {
+        None => Ok(None),
+        Some(sleep) => match sleep.since.checked_add(past.machine().alarm_ms) {
+            None => Err(Mem),
+            Some(at) => Ok(Some(at)),
+        },
+    }
+}
+
+// The end of a freeze that is not over. `Mem` where it is beyond all time.
+fn deadline_at(past: &Passed<'_>) -> Result<Option<u64>, Mem>
+    ensures { IfOk result (λ t. t ≡ deadline_at (freeze_since (journal_of past.now))) }
+{
+    match past.freeze_since() {
+        None => Ok(None),
+        Some(since) => Ok(Some(gives_up_at(since)?)),
+    }
+}
+
+// The end of the work's nap, where it is pending.
+fn pending_nap(past: &Passed<'_>) -> Option<u64>
+    ensures { result ≡ pending_nap (journal_of past.now) }
+{
+    match past.work() {
+        Work::Napping(until) if !past.sleeps() => until,
+        _ => None,
+    }
+}
+
+// The end of script i's sleep, where it is pending.
+fn pending_sleep(past: &Passed<'_>, i: u32) -> Option<u64>
+    ensures { result ≡ pending_sleep (sleeps_now (journal_of past.now)) (freezing past.now.machine i (journal_of past.now))
+        (slice_get past.now.machine.actors i) (seat_of past.now.machine (journal_of past.now) i) }
+{
+    match past.machine().actors.as_slice().get(i as usize) {
+        None => None,
+        Some(script) => {
+            if past.freezing(i).frozen || (past.sleeps() && !is_line(script.kind)) {
+                None
+            } else {
+                past.seat(i).until
+            }
+        }
+    }
+}
+
+// The least such end among all scripts.
+fn next_sleep(past: &Passed<'_>) -> Option<u64>
+    ensures { result ≡ next_sleep past.now.machine (journal_of past.now) (length past.now.machine.actors) }
+{
+    let mut next = None;
+    for i in 0..past.script_count() {
+        next = sooner(pending_sleep(past, i), next);
+    }
+    next
+}
+
+// The least pending time. `Mem` where a moment is beyond all time.
+fn next_time(past: &Passed<'_>) -> Result<Option<u64>, Mem>
+    ensures { IfOk result (λ t. t ≡ next_time past.now.machine (journal_of past.now) (λ s. history s (past_of past.now))) }
+{
+    let alarm = alarm_at(past)?;
+    let deadline = deadline_at(past)?;
+    let tasks = sooner(pending_nap(past), next_sleep(past));
+    Ok(sooner(sooner(alarm, sooner(deadline, tasks)), next_expiry(past)))
+}
+
+// Whether time may jump: nobody is enabled, something is left to do, and it goes forward to the least pending time.
+fn may_jump(idle: bool, finished: bool, least: bool, forward: bool) -> bool
+    ensures { result ≡ (idle && (not finished && (least && forward))) }
+{
+    idle && !finished && least && forward
+}
+
+/// Whether time jumps forward to the least pending time, where nobody can make anything and something is left to do.
+/// `Mem` where a moment is beyond all time, a number has no room, or if there is no memory for a walk.
+pub fn keeps_jump(past: &Passed<'_>, time: u64) -> Result<bool, Mem>
+    ensures { IfOk result (λ b. IsTrue b ↔ ((JumpStep past.now.machine (journal_of past.now) (λ s. history s (past_of past.now))
+        (numbers (past_of past.now)) time) × (time_of (past_of past.now) < time))) }
+{
+    let now = past.word();
+    let idle = is_idle(past, now)?;
+    let finished = is_finished(past, now)?;
+    let next = next_time(past)?;
+    let least = is_time(next, time);
+    let forward = past.time() < time;
+    Ok(may_jump(idle, finished, least, forward))
+}

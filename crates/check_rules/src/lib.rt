@@ -1,0 +1,31 @@
+//! The rules of a log as code: whether an entry keeps each of them, behind the entries that were passed.
+#![tactic(auto)]
+
+mod answers;
+mod calls;
+mod enabled;
+mod entries;
+mod freezer;
+mod judge;
+mod jump;
+mod numbers;
+mod owed;
+mod path;
+mod reads;
+mod restored;
+mod same;
+mod skip;
+mod source;
+mod steps;
+mod walk;
+
+pub use answers::{keeps_answers, keeps_links, keeps_runtime};
+pub use entries::{enabled_entry, freezer_entry, path_entry, steps_entry, walk_entry};
+pub use judge::first_broken;
+pub use jump::is_finished;
+pub use numbers::{keeps_attempts, keeps_numbers};
+pub use owed::keeps_owed;
+pub use reads::keeps_reads;
+pub use restored::keeps_restored;
+pub use skip::keeps_skip;
+pub use source::source_entry;

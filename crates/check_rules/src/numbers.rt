@@ -1,0 +1,51 @@
+//! The numbers and the time of a place, and the number of an attempt.
+
+ghost use Rattle.std.specs.Prelude.{◌≡◌, ◌+◌, ◌↔◌, IsTrue};
+ghost use Rattle.sleep_model.specs.Parts.{part_of};
+ghost use Rattle.sleep_model.specs.Rules.Attempts.{KeepsAttempts};
+ghost use Rattle.sleep_model.specs.Rules.Numbers.{KeepsNumbers};
+ghost use Rattle.check_past.specs.Passing.{journal_of, past_of};
+
+use crate::same::is_same_number;
+use check_past::Passed;
+use sleep_model::{Entry, EventNow, Kind};
+
+// Whether both words are the same.
+fn is_word(now: EventNow, word: EventNow) -> bool
+    ensures { IsTrue result ↔ (now ≡ word) }
+{
+    now.inpr == word.inpr && now.count == word.count && now.hard == word.hard
+}
+
+/// Whether an entry has the numbers and the time of its place (`combined_event_count`).
+pub fn keeps_numbers(past: &Passed<'_>, e: Entry) -> bool
+    ensures { IsTrue result ↔ KeepsNumbers (past_of past.now) e (part_of e.kind) }
+{
+    match e.kind {
+        Kind::Jump => is_word(e.now, past.word()),
+        _ => is_word(e.now, past.word()) && e.time == past.time(),
+    }
+}
+
+// Whether that is the next number.
+fn is_next(n: u32, before: u32) -> bool
+    ensures { IsTrue result ↔ (n ≡ before + 1) }
+{
+    n > 0 && n - 1 == before
+}
+
+/// Whether an attempt has the next number and the count that guards it, and none is open; and its end its number
+/// (`pm_suspend`, `events_check_enabled`).
+pub fn keeps_attempts(past: &Passed<'_>, kind: Kind) -> bool
+    ensures { IsTrue result ↔ KeepsAttempts (journal_of past.now) kind }
+{
+    match kind {
+        Kind::Attempt { n, guarded } => {
+            is_next(n, past.attempts())
+                && is_same_number(guarded, past.in_force())
+                && past.maker().is_none()
+        }
+        Kind::Over { n, .. } => n == past.attempts() && past.maker().is_some(),
+        _ => true,
+    }
+}

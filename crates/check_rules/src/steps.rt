@@ -1,0 +1,262 @@
+//! Each actor's own steps, once and in order.
+
+ghost use Rattle.std.specs.Prelude.{◌≡◌, ◌↔◌, true, IsTrue, IfOk, option_copied, slice_get};
+ghost use Rattle.sleep_model.specs.Rules.Steps.{IsDeviceStep, IsLinkOf, IsLinkStateOf, IsMakerStep, IsOfAutosleep, IsOfOp, IsPostOf, IsRequestOf, IsScriptStep, IsStep, IsWorkStep, KeepsSteps, is_of_write};
+ghost use Rattle.sleep_model.specs.Rules.Questions.{op_of, seat_of};
+ghost use Rattle.sleep_model.specs.Laws.{is_exit, is_of_read, is_of_save, is_pass};
+ghost use Rattle.check_past.specs.Passing.{journal_of};
+
+use crate::same::{is_phase, is_same_number, makes};
+use check_due::{
+    async_work, deep_sleep_due, freezes_at, is_mem, is_off, is_user, later_by, mark_due,
+    seen_count, sleep_due,
+};
+use check_past::Passed;
+use sleep_base::Mem;
+use sleep_model::{Actor, AsyncWork, EventNow, Kind, Op, Seat, State, Work};
+
+// An entry of a read.
+fn is_of_read(kind: Kind) -> bool
+    ensures { result ≡ is_of_read kind }
+{
+    matches!(kind, Kind::ReadWait | Kind::Read(_) | Kind::ReadIntr)
+}
+
+// An entry of a save.
+fn is_of_save(kind: Kind) -> bool
+    ensures { result ≡ is_of_save kind }
+{
+    matches!(kind, Kind::SaveWait(_) | Kind::Saved(_) | Kind::SaveErr(..))
+}
+
+// An entry of a write to the state, up to the beginning of its attempt.
+fn is_of_write(kind: Kind) -> bool
+    ensures { result ≡ is_of_write kind }
+{
+    matches!(
+        kind,
+        Kind::StateWait | Kind::StateErr(_) | Kind::StateUnsaved | Kind::Attempt { .. }
+    )
+}
+
+// An entry of a write of that text to autosleep.
+fn is_of_autosleep(begun: bool, mem: bool, off: bool, kind: Kind) -> bool
+    ensures { IsTrue result ↔ IsOfAutosleep begun mem off kind }
+{
+    match kind {
+        Kind::AutoBad => true,
+        Kind::AutoSet(State::Mem) => !begun && mem,
+        Kind::AutoSet(State::Off) => !begun && !mem && off,
+        Kind::AutoDone => begun && (mem || off),
+        _ => false,
+    }
+}
+
+// A post to that mark.
+fn is_post_of(mark: u32, kind: Kind) -> bool
+    ensures { IsTrue result ↔ IsPostOf mark kind }
+{
+    match kind {
+        Kind::Post(other) => other == mark,
+        _ => false,
+    }
+}
+
+// A request for that status of that device.
+fn is_request_of(device: u32, to_suspended: bool, kind: Kind) -> bool
+    ensures { IsTrue result ↔ IsRequestOf device to_suspended kind }
+{
+    match kind {
+        Kind::RuntimeAsk {
+            device: d,
+            to_suspended: to,
+            ..
+        } => d == device && to == to_suspended,
+        _ => false,
+    }
+}
+
+// A new link between those two.
+fn is_link_of(supplier: u32, consumer: u32, kind: Kind) -> bool
+    ensures { IsTrue result ↔ IsLinkOf supplier consumer kind }
+{
+    match kind {
+        Kind::LinkAdd {
+            supplier: s,
+            consumer: c,
+            ..
+        } => s == supplier && c == consumer,
+        _ => false,
+    }
+}
+
+// That state of the link between those two.
+fn is_link_state_of(supplier: u32, consumer: u32, active: bool, kind: Kind) -> bool
+    ensures { IsTrue result ↔ IsLinkStateOf supplier consumer active kind }
+{
+    match kind {
+        Kind::LinkState {
+            supplier: s,
+            consumer: c,
+            active: to,
+            ..
+        } => s == supplier && c == consumer && to == active,
+        _ => false,
+    }
+}
+
+// An entry of that operation, or the exit behind the last. `Mem` where a sleep ends beyond all time.
+fn is_of_op(past: &Passed<'_>, seat: Seat, op: Option<&Op>, kind: Kind) -> Result<bool, Mem>
+    ensures { IfOk result (λ b. IsTrue b
+        ↔ IsOfOp past.now.machine (journal_of past.now) seat (option_copied op.entry) kind) }
+{
+    let Some(op) = op else {
+        return Ok(matches!(kind, Kind::Exit));
+    };
+    match op {
+        Op::Read => Ok(is_of_read(kind)),
+        Op::Save { .. } => Ok(is_of_save(kind)),
+        Op::State { .. } => Ok(is_of_write(kind)),
+        Op::Autosleep { text } => {
+            let text = text.as_slice();
+            Ok(is_of_autosleep(seat.waits, is_mem(text), is_off(text), kind))
+        }
+        Op::Sleep { ms } => Ok(makes(sleep_due(*ms, seat, past.journal_time())?, kind)),
+        Op::SleepD { ms } => Ok(makes(deep_sleep_due(*ms, seat, past.journal_time())?, kind)),
+        Op::FreezePoint => Ok(matches!(kind, Kind::Pass)),
+        Op::Post { mark } => Ok(is_post_of(*mark, kind)),
+        Op::Wait { mark } => Ok(makes(mark_due(*mark, past.raised(*mark)), kind)),
+        Op::Runtime {
+            device,
+            to_suspended,
+        } => Ok(is_request_of(*device, *to_suspended, kind)),
+        Op::Link { supplier, consumer } => Ok(is_link_of(*supplier, *consumer, kind)),
+        Op::LinkState {
+            supplier,
+            consumer,
+            active,
+        } => Ok(is_link_state_of(*supplier, *consumer, *active, kind)),
+        _ => Ok(false),
+    }
+}
+
+// An entry of the operation; or that the task freezes, at one that has a freeze point.
+fn is_step(
+    past: &Passed<'_>,
+    user: bool,
+    seat: Seat,
+    op: Option<&Op>,
+    kind: Kind,
+) -> Result<bool, Mem>
+    ensures { IfOk result (λ b. IsTrue b
+        ↔ IsStep past.now.machine (journal_of past.now) user seat (option_copied op.entry) kind) }
+{
+    match kind {
+        Kind::Frozen => Ok(freezes_at(user, seat.waits, op)),
+        _ => {
+            let keeps = is_of_op(past, seat, op, kind)?;
+            Ok(keeps)
+        }
+    }
+}
+
+// A step of script i, if it is there and has not exited.
+fn is_script_step(past: &Passed<'_>, i: u32, kind: Kind) -> Result<bool, Mem>
+    ensures { IfOk result (λ b. IsTrue b ↔ IsScriptStep past.now.machine (journal_of past.now)
+        (seat_of past.now.machine (journal_of past.now) i) (op_of past.now.machine (journal_of past.now) i)
+        (slice_get past.now.machine.actors i) kind) }
+{
+    let seat = past.seat(i);
+    match past.machine().actors.as_slice().get(i as usize) {
+        None => Ok(false),
+        Some(script) => {
+            if seat.exited {
+                return Ok(false);
+            }
+            let keeps = is_step(past, is_user(script.kind), seat, past.operation(i), kind)?;
+            Ok(keeps)
+        }
+    }
+}
+
+// An entry of autosleep's work, where it stands so. `Mem` where a nap ends beyond all time.
+fn is_work_step(past: &Passed<'_>, now: EventNow, work: Work, kind: Kind) -> Result<bool, Mem>
+    ensures { IfOk result (λ b. IsTrue b ↔ IsWorkStep past.now.machine (journal_of past.now) now work kind) }
+{
+    match (work, kind) {
+        (Work::Resting, Kind::AutoRun) => Ok(past.may_run()),
+        (Work::Reading, Kind::Read(_)) => Ok(true),
+        (Work::Saving(_), Kind::AutoSaved(_)) => Ok(true),
+        (Work::Saving(_), Kind::AutoUnsaved(_)) => Ok(true),
+        (Work::Attempting(_), Kind::Attempt { .. }) => Ok(true),
+        (Work::Attempting(_), Kind::AutoOff) => Ok(!past.is_on()),
+        (Work::Looking(_), Kind::AutoAfter(seen)) => Ok(is_same_number(seen, seen_count(now))),
+        (Work::Napping(None), Kind::SleepD(until)) => Ok(
+            until == later_by(past.journal_time(), 500)?,
+        ),
+        (Work::Napping(Some(until)), Kind::Slept) => Ok(until <= past.journal_time()),
+        (Work::Closing, Kind::AutoAgain) => Ok(past.is_on()),
+        (Work::Closing, Kind::AutoOff) => Ok(!past.is_on()),
+        _ => Ok(false),
+    }
+}
+
+// An entry of an asynchronous device whose work stands so.
+fn is_device_step(device: u32, work: AsyncWork, kind: Kind) -> bool
+    ensures { IsTrue result ↔ IsDeviceStep device work kind }
+{
+    match (work, kind) {
+        (AsyncWork::Scheduled(p), Kind::Begin(q, d)) => d == device && is_phase(q, p),
+        (AsyncWork::Scheduled(p), Kind::Skip(q, d, _)) => d == device && is_phase(q, p),
+        (AsyncWork::Inside(p), Kind::End(q, d, _)) => d == device && is_phase(q, p),
+        _ => false,
+    }
+}
+
+// An entry of an attempt, whose walk itself begins, ends and passes over synchronous devices alone.
+fn is_maker_step(past: &Passed<'_>, kind: Kind) -> bool
+    ensures { IsTrue result ↔ IsMakerStep past.now.machine kind }
+{
+    match kind {
+        Kind::Begin(_, d) | Kind::End(_, d, _) | Kind::Skip(_, d, _) => !past.is_async(d),
+        Kind::Over { .. }
+        | Kind::NotifyPrepare(..)
+        | Kind::NotifyPost(_)
+        | Kind::Freeze(_)
+        | Kind::Froze(..)
+        | Kind::Thaw(_)
+        | Kind::PlatformDo(..)
+        | Kind::PlatformUndo(_)
+        | Kind::Prepare { .. }
+        | Kind::Complete(_)
+        | Kind::Schedule(..)
+        | Kind::Done(..)
+        | Kind::CpuOff(_)
+        | Kind::CpuBusy(_)
+        | Kind::CpuOn(_)
+        | Kind::Irqs { .. }
+        | Kind::SyscoreCheck(_)
+        | Kind::SyscoreSuspend(..)
+        | Kind::SyscoreResume(_)
+        | Kind::Enter { .. }
+        | Kind::Wake { .. }
+        | Kind::Clear => true,
+        _ => false,
+    }
+}
+
+/// Whether an entry of the journal is of its actor's own steps, once and in order (`kernel/power/main.c`,
+/// `kernel/power/autosleep.c`, `drivers/base/power/main.c`). `Mem` where a sleep ends beyond all time.
+pub fn keeps_steps(past: &Passed<'_>, now: EventNow, who: Actor, kind: Kind) -> Result<bool, Mem>
+    ensures { IfOk result (λ b. IsTrue b ↔ KeepsSteps past.now.machine (journal_of past.now) now who kind) }
+{
+    if past.is_maker(who) {
+        return Ok(is_maker_step(past, kind));
+    }
+    match who {
+        Actor::Script(i) => is_script_step(past, i, kind),
+        Actor::Auto => is_work_step(past, now, past.work(), kind),
+        Actor::Dev(d) => Ok(is_device_step(d, async_work(past, d), kind)),
+        _ => Ok(false),
+    }
+}

@@ -1,0 +1,5 @@
+mod Adding
+mod Ends
+mod Entries
+mod Sources
+mod Walking

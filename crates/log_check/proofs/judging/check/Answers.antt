@@ -1,0 +1,55 @@
+use Rattle.std.proofs.Common.{◌∙◌, sym}
+use Rattle.std.proofs.lemmas.Result.{IfOk-weaker}
+use Rattle.sleep_model.specs.Woven.{unread}
+use Rattle.log_check.proofs.Entries.{all_kept, bad_entry, fits_here, here, kept_then, left_then, may_link, same_entries, same_machine, whole}
+use Rattle.log_check.proofs.judging.check.Goals as goal
+
+pub first_broken-requires : goal.first_broken-requires
+first_broken-requires c =
+    let i = c.loop-e.invariant in
+    fits_here c.args.machine.now c.args.log.now c.loop-e.past i.machine i.entries i.kept c.in-Some.e (unread c.next.new.self) (sym i.left ∙ c.in-Some.ensures) c.requires.fits
+
+pub returns-in-Some-2 : goal.returns-in-Some-2
+returns-in-Some-2 c =
+    let i = c.loop-e.invariant in
+    IfOk-weaker c.bad.result _ _ (λ v is. bad_entry c.args.machine.now c.args.log.now c.loop-e.past i.machine i.entries i.kept c.in-Some.e (unread c.next.new.self) (sym i.left ∙ c.in-Some.ensures)
+    c.in_ok-definition.field-0 c.in-Some-2.definition c.passed.result v c.in_ok-definition.ensures c.in-Some-2.is c.passed.ensures is) c.bad.ensures
+
+pub pass-requires-clause-next : goal.pass-requires-clause-next
+pass-requires-clause-next c =
+    let i = c.loop-e.invariant in
+    here c.args.machine.now c.args.log.now c.loop-e.past i.machine i.entries i.kept c.in-Some.e (unread c.next.new.self) (sym i.left ∙ c.in-Some.ensures)
+
+pub pass-requires-clause-link : goal.pass-requires-clause-link
+pass-requires-clause-link c =
+    let i = c.loop-e.invariant in
+    may_link c.args.machine.now c.args.log.now c.loop-e.past i.machine i.entries i.kept c.in-Some.e (unread c.next.new.self) (sym i.left ∙ c.in-Some.ensures)
+    c.in_ok-definition.field-0 c.in_ok-definition.ensures c.in_default-2.is c.requires.accepted c.requires.fits
+
+pub loop-e-preserved : goal.loop-e-preserved
+loop-e-preserved c =
+    let i = c.loop-e.invariant in
+    let m = c.args.machine.now in
+    let log = c.args.log.now in
+    let p = c.loop-e.past in
+    let e = c.in-Some.e in
+    let rest = unread c.next.new.self in
+    let left = sym i.left ∙ c.in-Some.ensures in
+    let o = c.in_ok-definition.field-0 in
+    let q = c.in_ok-past-2.past in
+    record {
+      machine = same_machine m log p i.machine i.entries i.kept e rest left o c.in_ok-definition.ensures c.in_default-2.is q c.in_ok-past-2.ensures;
+      entries = same_entries m log p i.machine i.entries i.kept e rest left o c.in_ok-definition.ensures c.in_default-2.is q c.in_ok-past-2.ensures;
+      kept = kept_then m log p i.machine i.entries i.kept e rest left o c.in_ok-definition.ensures c.in_default-2.is q c.in_ok-past-2.ensures;
+      left = left_then m log p i.machine i.entries i.kept e rest left o c.in_ok-definition.ensures c.in_default-2.is q c.in_ok-past-2.ensures;
+    }
+
+pub judge_end-requires-clause-all : goal.judge_end-requires-clause-all
+judge_end-requires-clause-all c =
+    let i = c.loop-e.invariant in
+    whole c.args.machine.now c.args.log.now c.loop-e.past i.machine i.entries i.kept (sym c.in_default.ensures.0 ∙ i.left)
+
+pub judge_end-requires-clause-kept : goal.judge_end-requires-clause-kept
+judge_end-requires-clause-kept c =
+    let i = c.loop-e.invariant in
+    all_kept c.args.machine.now c.args.log.now c.loop-e.past i.machine i.entries i.kept (sym c.in_default.ensures.0 ∙ i.left)
