@@ -11,7 +11,7 @@ have four processors. With files it measures these machines in place of its own.
                 are made under the sources' own locks, beside each other; each worker puts a slice of the log together
                 and makes its text
   tree, links   attempts on 10, 100 and 1,000 devices, as in attempts.py: all is done under the machine's lock, so there
-                is nothing to gain, and 1.3 is the most that many workers may cost
+                is nothing to gain; the aim is at most 1.3
   in step       as in tasks.py: many sleeps that end at once
   apart         the same, with a jump of time for nearly each sleep, where bursts are short and back off
 """
