@@ -4,7 +4,6 @@
 
 mod cut;
 mod log;
-mod order;
 mod range;
 mod slice;
 mod text;

@@ -32,7 +32,7 @@ impl Model for ApartLog {
     ghost invariant = { IsKept };
 }
 
-/// How many entries the journal of a log has for one of the sources' where slices are worth their threads, at least.
+/// How many entries of sources a log has for each one of the journal where slices are worth their threads, at least.
 const FEW: usize = 8;
 
 /// The fewest entries of sources of which slices are worth their threads.

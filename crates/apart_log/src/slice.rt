@@ -7,8 +7,8 @@ ghost use Rattle.sleep_model.specs.Text.{entry_line};
 ghost use Rattle.apart_log.specs.Slices.{is_in, slice, slice_lines};
 
 use crate::cut::Parts;
-use crate::order::compare;
 use crate::range::Range;
+use log_merge::in_order;
 use log_text::write_log;
 use sleep_base::Mem;
 use sleep_model::{
@@ -39,19 +39,6 @@ fn journal_in(alloc: Global, journal: &Journal, range: Range) -> Result<Vec<Sour
         push_in(&mut those, one, range)?;
     }
     Ok(those)
-}
-
-/// These entries, and behind them those of a list. `Mem` where there is no memory.
-fn with_all<'a>(
-    mut entries: Vec<&'a SourceEntry>,
-    list: &'a [SourceEntry],
-) -> Result<Vec<&'a SourceEntry>, Mem>
-    ensures { IfOk result (λ all. seen all.items ≡ seen entries.entry.items ++ map of_source list.now) }
-{
-    for entry in list {
-        entries.push(entry)?;
-    }
-    Ok(entries)
 }
 
 /// Puts an entry of a source behind others, where it is of that range.
@@ -97,14 +84,6 @@ fn gathered<'a>(
     Ok(entries)
 }
 
-/// Entries in the order of the one log. `Mem` where there is no memory.
-fn sorted(mut entries: Vec<&SourceEntry>) -> Result<Vec<&SourceEntry>, Mem>
-    ensures { IfOk result (λ all. seen all.items ≡ in_order (seen entries.entry.items)) }
-{
-    entries.sort_by(|a, b| compare(a, b))?;
-    Ok(entries)
-}
-
 /// These entries as a list of a log. `Mem` where there is no memory.
 fn list_of(alloc: Global, entries: &[&SourceEntry]) -> Result<EntryList, Mem>
     ensures { IfOk result (λ list. list ≡ bare (seen entries.now)) }
@@ -124,8 +103,8 @@ fn entries_in(alloc: Global, parts: &Parts<'_>, range: Range) -> Result<EntryLis
     ensures { IfOk result (λ list. list ≡ slice range (all_entries (reverse parts.now.journal.now.past) parts.now.histories.now)) }
 {
     let journal = journal_in(alloc, parts.journal, range)?;
-    let entries = with_all(Vec::new(alloc), journal.as_slice())?;
-    let entries = sorted(gathered(entries, parts.histories, range)?)?;
+    let entries = log_merge::with_history(Vec::new(alloc), journal.as_slice())?;
+    let entries = in_order(gathered(entries, parts.histories, range)?)?;
     list_of(alloc, entries.as_slice())
 }
 

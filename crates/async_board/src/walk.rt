@@ -121,7 +121,7 @@ fn counts_below(alloc: Global, links: &Links) -> Result<Vec<usize>, Mem>
     Ok(counts)
 }
 
-// Where the searches begin among so many devices, none of which is prepared. Each cursor stands at
+// Where the searches begin among n devices, none of which is prepared. Each cursor stands at
 // what it looks for from the outset, so that only a move of such a device can concern it.
 fn first_cursors(count: usize) -> Cursors
     ensures { result ≡ record { unprepared = 0; going = count; to_schedule = count; up = count; not_up = count; ready = 0; prepared = 0 } }

@@ -50,7 +50,7 @@ fn nap_due(until: Option<u64>, time: u64) -> Due
 impl Autosleep {
     ghost use Rattle.std.specs.Prelude.{◌≡◌, ◌≤◌, ◌^◌, ◌&&◌, nat_lt, if◌then◌else◌};
 
-    /// Whether the work may run, of so many times that it may in all.
+    /// Whether the work may run once more within its bound.
     fn may_run(&self, cycles: u32) -> bool
         ensures { result ≡ (self.now.queued && nat_lt self.now.runs cycles) }
     {

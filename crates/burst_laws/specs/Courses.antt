@@ -40,7 +40,7 @@ pub record Lands (gains : List (Made Noted)) (old new : ℕ → List JournalEntr
   pub grown : new object ≡ added ++ old object
   pub others : (i : ℕ) → (object == i) ≡ false → new i ≡ old i
 
--- one act of one task, in a world of so many sources
+-- one act of one task, in a world of n sources
 pub record IsAct (count moment : ℕ) (old new : Standing) : Type 0 where
   pub place : ℕ
   pub was : Task

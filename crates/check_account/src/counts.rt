@@ -51,11 +51,14 @@ pub fn time_after(kind: Kind, at: u64, before: u64) -> u64
     }
 }
 
+// One more than the greatest count that user space sees.
+const COUNTS: u32 = 16_777_216;
+
 // Whether the count of events differs from the one in force, or an event is in progress (`pm_wakeup_pending`).
 fn has_changed(now: EventNow, count: u32) -> bool
     ensures { result ≡ has_changed now count }
 {
-    now.count % 16_777_216 != count || now.inpr > 0
+    now.count % COUNTS != count || now.inpr > 0
 }
 
 /// Whether a count that is in force has changed.

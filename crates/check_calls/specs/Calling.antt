@@ -43,7 +43,7 @@ calls_by m c who = calls_of_turn m who 0 ++ later_at m c who
 abbrev pub noted_by : Machine → Actor → CallState → CallState
 noted_by m who c = record c { made = slice_set c.made (place_of m who) (made_at m c who + 1) }
 
--- an entry of the journal, behind so many attempts: the reports of the callback that it begins, and the calls up to the next turn (pm_wakeup_event in a callback)
+-- an entry of the journal, behind n attempts: the reports of the callback that it begins, and the calls up to the next turn (pm_wakeup_event in a callback)
 abbrev pub entered_by : Machine → Entry → ℕ → CallState → CallState
 entered_by m e n c = record c {
   turns = slice_set c.turns (place_of m e.actor) (one_more (ends_turn e.kind) (turns_at m c e.actor));
@@ -51,7 +51,7 @@ entered_by m e n c = record c {
       (later_at m c e.actor ++ report_calls m n e.kind ++ calls_behind m e.actor (ends_turn e.kind) (turns_at m c e.actor + 1));
 }
 
--- an entry of whatever part, behind so many attempts (own)
+-- an entry of whatever part, behind n attempts (own)
 abbrev pub callers_after : Machine → Entry → ℕ → Part → CallState → CallState
 callers_after m e n (Notes s call) c = noted_by m e.actor c
 callers_after m e n (Moves s step) c = c

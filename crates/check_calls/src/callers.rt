@@ -100,7 +100,7 @@ pub(crate) fn ends_turn(kind: Kind) -> bool
     )
 }
 
-// What is reported in the callback that an entry begins, where so many attempts were begun.
+// What the callback that an entry begins reports, where `attempts` attempts were begun.
 fn reports_of<'m>(machine: &'m Machine, kind: Kind, attempts: u32) -> &'m [Report]
     ensures { map noted result.now ≡ report_calls machine.now attempts kind }
 {
@@ -184,7 +184,7 @@ impl<'m> Callers<'m> {
         Ok(())
     }
 
-    /// Passes an entry of the journal, behind so many attempts. `Mem` where a counter has no room, or if there is no memory
+    /// Passes an entry of the journal, behind the attempts that were begun. `Mem` where a counter has no room, or if there is no memory
     /// for the calls.
     pub fn pass(&mut self, e: Entry, attempts: u32) -> Result<(), Mem>
         ensures { OnOk result (self.new ≡ record self.old { state = entered_by self.old.machine e attempts self.old.state }) }

@@ -11,7 +11,7 @@ use Rattle.sleep_model.proofs.Children.{children_push}
 use Rattle.sleep_model.proofs.FirstPlaces.{dependents_new, holding_new, holding_other}
 use Rattle.sleep_model.proofs.Acyclic.{others_same}
 use Rattle.sleep_model.proofs.Walks.{same_eq}
-use Rattle.device_rows.specs.Table.{hung}
+use Rattle.device_rows.specs.Table.{with_number}
 use Rattle.check_order.specs.Kept.{IsTableOf, AreWithin}
 
 -- a run of numbers with one more
@@ -43,7 +43,7 @@ table_same n f g rows h e = record { count = h.count; each = λ d. h.each d ∙ 
 -- ---- parents
 
 -- one more device under its parent
-table_child : (n : ℕ) (ps : List (Option ℕ)) (p : Option ℕ) (rows : List (List ℕ)) → IsTableOf n (λ d. children_from d 0 ps) rows → IfSome p (λ q. q < n) → IsTableOf n (λ d. children_from d 0 (ps ++ p ∷ [])) (hung rows p (length ps))
+table_child : (n : ℕ) (ps : List (Option ℕ)) (p : Option ℕ) (rows : List (List ℕ)) → IsTableOf n (λ d. children_from d 0 ps) rows → IfSome p (λ q. q < n) → IsTableOf n (λ d. children_from d 0 (ps ++ p ∷ [])) (with_number rows p (length ps))
 table_child n ps None rows h i = table_same n (λ d. children_from d 0 ps) (λ d. children_from d 0 (ps ++ None ∷ [])) rows h (λ d. children_push d 0 ps None ∙ append-nil (children_from d 0 ps))
 table_child n ps (Some p) rows h i =
     table_push n (λ d. children_from d 0 ps) (λ d. children_from d 0 (ps ++ Some p ∷ [])) rows h p (length ps) i
@@ -66,10 +66,10 @@ parent_within n (p ∷ ps) (suc k) m h l i = parent_within (suc n) ps k m h.1 (o
 pub parent_below : (ps : List (Option ℕ)) (k n : ℕ) → EachAfterParent 0 ps → k < length ps → n ≡ length ps → IfSome (get_or ps k None) (λ q. q < n)
 parent_below ps k n h l e = parent_within 0 ps k n h l (omega arith)
 
-pub child_next : (ps : List (Option ℕ)) (k : ℕ) (rows : List (List ℕ)) → EachAfterParent 0 ps → k < length ps → IsTableOf (length ps) (λ d. children_from d 0 (take k ps)) rows → IsTableOf (length ps) (λ d. children_from d 0 (take (k + 1) ps)) (hung rows (get_or ps k None) k)
+pub child_next : (ps : List (Option ℕ)) (k : ℕ) (rows : List (List ℕ)) → EachAfterParent 0 ps → k < length ps → IsTableOf (length ps) (λ d. children_from d 0 (take k ps)) rows → IsTableOf (length ps) (λ d. children_from d 0 (take (k + 1) ps)) (with_number rows (get_or ps k None) k)
 child_next ps k rows after l h =
-    subst (λ (qs : List (Option ℕ)). IsTableOf (length ps) (λ d. children_from d 0 qs) (hung rows (get_or ps k None) k)) (sym (take_more ps k None l))
-    (subst (λ (j : ℕ). IsTableOf (length ps) (λ d. children_from d 0 (take k ps ++ get_or ps k None ∷ [])) (hung rows (get_or ps k None) j)) (length-take-le k ps (omega arith))
+    subst (λ (qs : List (Option ℕ)). IsTableOf (length ps) (λ d. children_from d 0 qs) (with_number rows (get_or ps k None) k)) (sym (take_more ps k None l))
+    (subst (λ (j : ℕ). IsTableOf (length ps) (λ d. children_from d 0 (take k ps ++ get_or ps k None ∷ [])) (with_number rows (get_or ps k None) j)) (length-take-le k ps (omega arith))
     (table_child (length ps) (take k ps) (get_or ps k None) rows h (parent_below ps k (length ps) after l refl)))
 
 -- no row has anything

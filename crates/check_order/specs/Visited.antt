@@ -12,7 +12,7 @@ abbrev pub all_visited : (ℕ → List ℕ → List ℕ) → List ℕ → List �
 all_visited visit [] out = out
 all_visited visit (c ∷ cs) out = visit c (all_visited visit cs out)
 
--- what was visited once d was, with all that hangs below it so many levels deep: a device stands in front of what hangs below it, and none twice (device_reorder_to_tail)
+-- what was visited once d was, with all that hangs below it down to some level: a device stands in front of what hangs below it, and none twice (device_reorder_to_tail)
 abbrev pub visited : ℕ → (ℕ → List ℕ) → ℕ → List ℕ → List ℕ
 visited zero dependents_of d out = put_first d out
 visited (suc levels) dependents_of d out =

@@ -2,7 +2,7 @@
 
 ghost use Rattle.std.specs.Prelude.{◌≡◌, ◌<◌, ◌^◌, IfOk, IfSome, OnOk, length, map, option_to_list, filter, reverse};
 ghost use Rattle.sleep_model.specs.Order.{EachAfterParent, children_from, dependents, superiors};
-ghost use Rattle.device_rows.specs.Table.{hung};
+ghost use Rattle.device_rows.specs.Table.{with_number};
 ghost use Rattle.check_order.specs.Kept.{AreWithin, IsTableOf};
 
 use device_rows::Rows;
@@ -13,7 +13,7 @@ use std::alloc::Global;
 // Puts a number at the end of a row, where there is one to put it.
 fn hang(table: &mut Rows, row: Option<u32>, number: u32) -> Result<(), Mem>
     requires { IfSome row (λ r. r < length table.old.rows) }
-    ensures { OnOk result (table.new.rows ≡ hung table.old.rows row number) }
+    ensures { OnOk result (table.new.rows ≡ with_number table.old.rows row number) }
 {
     if let Some(row) = row {
         table.append(row, number)?;

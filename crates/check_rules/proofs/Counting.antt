@@ -1,6 +1,5 @@
 -- One actor or one source more.
-use Rattle.std.proofs.Common.{◌≡◌, ◌<◌, ◌≤◌, ◌+◌, ◌&&◌, ℕ, suc, Bool, true, not, List, Option, refl, arith, add-one, nat_lt, slice_get}
-use Rattle.std.proofs.lemmas.Bool.Decides.{nat_tests}
+use Rattle.std.proofs.Common.{◌≡◌, ◌+◌, ◌&&◌, ℕ, Bool, not, List, Option, refl, add-one, slice_get}
 use Rattle.sleep_model.specs.declared.entry.Actor.{Actor}
 use Rattle.sleep_model.specs.declared.entry.Entry.{Entry}
 use Rattle.sleep_model.specs.declared.machine.Machine.{Machine}
@@ -10,9 +9,6 @@ use Rattle.sleep_model.specs.Freezer.{freezing}
 use Rattle.sleep_model.specs.Legal.{is_enabled, next_expiry, next_sleep, none_enabled, none_expires, pending_sleep, sooner}
 use Rattle.sleep_model.specs.Rules.Questions.{seat_of}
 use Rattle.sleep_model.specs.Sources.{expiry, has_expired}
-
-pub is_one : (i n k : ℕ) → i < k → k ≡ n → nat_lt i n ≡ true
-is_one i n k h e = grind (arith, nat_tests)
 
 pub enabled_next : (m : Machine) (past : List Entry) (of : ℕ → List Entry) (now : EventNow) (who : ℕ → Actor) (n : ℕ) (here before : Bool)
     → here ≡ is_enabled m past of now (who n) → before ≡ none_enabled m past of now who n → (not here && before) ≡ none_enabled m past of now who (n + 1)

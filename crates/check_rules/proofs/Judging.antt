@@ -6,7 +6,7 @@ use Rattle.sleep_model.specs.declared.machine.Machine.{Machine}
 use Rattle.sleep_model.specs.Parts.{Part, OfJournal, Notes, Moves, OfTime, part_of}
 use Rattle.sleep_model.specs.Rules.Entry.{KeepsEntry, KeepsRule, OnJournal, Rule, Links, Numbers, Attempts, Reads, Walk, Skip, Runtime, Owed, Freezer, Path, Answers, Restored, Steps, Enabled, Source}
 use Rattle.sleep_model.specs.Rules.Verdict.{BreaksFirst, number_of}
-use Rattle.check_rules.specs.Judging.{IsBroken, KeepsBelow, is_of_journal, place_of, rule_at}
+use Rattle.check_rules.specs.Judging.{KeepsBelow, is_of_journal, place_of, rule_at}
 
 -- ---- a rule of the journal alone
 

@@ -1,5 +1,5 @@
 -- Lists at rest, and how long they are.
-use Rattle.std.proofs.Common.{◌≡◌, ◌&&◌, ◌∙◌, IsTrue, ◌↔◌, ℕ, suc, zero, Bool, true, false, not, List, [], ◌∷◌, length, replicate, refl, ap, sym, slice_set}
+use Rattle.std.proofs.Common.{◌≡◌, ◌&&◌, ◌∙◌, IsTrue, ◌↔◌, ℕ, suc, zero, Bool, true, false, not, List, [], ◌∷◌, length, replicate, refl, ap}
 use Rattle.std.specs.List.{list_all}
 use Rattle.std.proofs.lemmas.List.{length-set, length-replicate}
 use Rattle.phase_table.specs.declared.phase.Phase.{Phase}

@@ -124,7 +124,7 @@ fn is_of_sleep(past: &Passed<'_>, now: EventNow, kind: Kind) -> bool
     }
 }
 
-// An entry by which notifiers are told of the attempt.
+// An entry by which notifiers hear of the attempt.
 fn is_of_notifying(past: &Passed<'_>, now: EventNow, kind: Kind) -> bool
     ensures { IsTrue result ↔ IsOfRow past.now.machine (journal_of past.now) now Notifies kind }
 {

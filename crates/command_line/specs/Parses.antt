@@ -1,4 +1,4 @@
--- What the command line's parser is told, and what its matches ask for.
+-- What the command line's parser knows, and what its matches ask for.
 use Rattle.std.specs.Prelude.{ℕ, ◌&&◌, nat_le, Bool, not, true, List, [], ◌∷◌, length, codes, bytes_eq, Option, Some, None, option_and_then, if◌then◌else◌}
 use Rattle.std.specs.List.{list_any}
 use Rattle.std.specs.Option.{option_map_or}

@@ -56,7 +56,7 @@ abbrev pub alone_of : Command → List (List ℕ) → Option Command
 alone_of what [] = Some what
 alone_of what _ = None
 
--- the words after the program's name, of a form that the parser is told
+-- the words after the program's name, of a form that the parser knows
 abbrev pub command_in : List (List ℕ) → Option Command
 command_in [] = None
 command_in (word ∷ words) =
@@ -65,7 +65,7 @@ command_in (word ∷ words) =
     else if bytes_eq word (codes "stats") then alone_of Stats words else if bytes_eq word (codes "check") then alone_of Check words
     else None
 
--- what these words ask for, of a form that the parser is told; the first is the program's name
+-- what these words ask for, of a form that the parser knows; the first is the program's name
 abbrev pub parsed_of : List (List ℕ) → Option Command
 parsed_of [] = None
 parsed_of (name ∷ words) = command_in words

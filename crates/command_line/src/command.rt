@@ -1,7 +1,7 @@
 /// What the program is asked to do.
 #[derive(Clone, Copy, Debug, PartialEq, Eq)]
 pub enum Command {
-    /// To read a machine and to run it by so many workers, 1 to 64.
+    /// To read a machine and to run it by 1 to 64 workers.
     Run {
         workers: u32,
     },
@@ -21,7 +21,7 @@ pub enum Command {
     Locks,
     /// To read a machine and a log of it, and to write the log's statistics.
     Stats,
-    /// To run 1 to 16 wakers of 1 to 1,000 events each against the idler of 1 to 1,000 sessions, by so many workers, 1 to 64.
+    /// To run 1 to 16 wakers of 1 to 1,000 events each against the idler of 1 to 1,000 sessions, by 1 to 64 workers.
     Idle {
         wakers: u32,
         events: u32,

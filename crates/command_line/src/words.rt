@@ -46,7 +46,7 @@ fn seeded_command<'a>(alloc: Global, name: &'a str) -> Result<clap::Command<'a>,
         .arg(Arg::new(alloc, "devices").required(true))
 }
 
-/// The commands that the parser is told. A call for help is an error like any other.
+/// The commands that the parser knows. A call for help is an error like any other.
 fn whole_command<'a>(alloc: Global) -> Result<clap::Command<'a>, AllocError>
     ensures { IfOk result (λ c. app_of c ≡ whole_app) }
 {
@@ -123,7 +123,7 @@ fn command_read(matches: &ArgMatches) -> Option<Command>
     }
 }
 
-/// What the words of the command line ask for, where they are of a form that the parser is told.
+/// What the words of the command line ask for, where they are of a form that the parser knows.
 fn parsed(alloc: Global, words: &[String]) -> Result<Option<Command>, Mem>
     ensures { IfOk result (λ c. c ≡ parsed_of (map string_bytes words.now)) }
 {

@@ -3,7 +3,7 @@ ghost use Rattle.sleep_model.specs.Word.{position};
 use event_word::Events;
 use sleep_model::EventNow;
 
-/// An event word that moves at each look, after so many quiet ones: an event begins, the next look finds it
+/// An event word that moves at each look, after some quiet ones: an event begins, the next look finds it
 /// registered, and so on; or each look finds one more hard event.
 #[derive(Drop)]
 pub struct MovingWord {
@@ -13,7 +13,7 @@ pub struct MovingWord {
 }
 
 impl MovingWord {
-    /// A word without events, which moves after so many looks.
+    /// A word without events, which moves after `quiet` looks.
     pub fn new(quiet: u32, hard: bool) -> Self {
         let now = EventNow {
             inpr: 0,

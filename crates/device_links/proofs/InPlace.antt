@@ -1,35 +1,8 @@
 -- Lists that change in their place: the elements up to an index, and one row of a table.
-use Rattle.std.proofs.Common.{◌≡◌, ◌<◌, ◌≤◌, ◌+◌, ◌∙◌, ℕ, zero, suc, List, [], ◌∷◌, ◌++◌, length, map, take, get_or, set, refl, sym, ap, subst, arith, add-one}
+use Rattle.std.proofs.Common.{◌≡◌, ◌<◌, ◌≤◌, ◌∙◌, ℕ, List, [], ◌∷◌, ◌++◌, length, take, get_or, set, sym, ap, subst, arith}
 use Rattle.std.proofs.Math.Seq.{take-append_seam}
 use Rattle.std.proofs.lemmas.List.{get_or-set_same, set-set, set-get_or}
 use Rattle.device_rows.specs.Table.{Table, places_at}
-
--- the list with f of its first n elements
-abbrev pub mapped_up_to : {A : Type 0} → (A → A) → ℕ → List A → List A
-mapped_up_to f zero xs = xs
-mapped_up_to f (suc n) [] = []
-mapped_up_to f (suc n) (x ∷ xs) = f x ∷ mapped_up_to f n xs
-
-pub mapped_all : {A : Type 0} (f : A → A) (xs : List A) (n : ℕ) → length xs ≤ n → mapped_up_to f n xs ≡ map f xs
-mapped_all f [] zero l = refl
-mapped_all f [] (suc n) l = refl
-mapped_all f (x ∷ xs) zero l = absurd (omega arith)
-mapped_all f (x ∷ xs) (suc n) l = ap (λ ys. f x ∷ ys) (mapped_all f xs n (omega arith))
-
-next_mapped : {A : Type 0} (f : A → A) (xs : List A) (i : ℕ) (d : A) → i < length xs → set (mapped_up_to f i xs) i (f (get_or (mapped_up_to f i xs) i d)) ≡ mapped_up_to f (suc i) xs
-next_mapped f [] i d l = absurd (omega arith)
-next_mapped f (x ∷ xs) zero d l = refl
-next_mapped f (x ∷ xs) (suc i) d l = ap (λ ys. f x ∷ ys) (next_mapped f xs i d (omega arith))
-
-pub mapped_length : {A : Type 0} (f : A → A) (n : ℕ) (xs : List A) → length (mapped_up_to f n xs) ≡ length xs
-mapped_length f zero xs = refl
-mapped_length f (suc n) [] = refl
-mapped_length f (suc n) (x ∷ xs) = ap suc (mapped_length f n xs)
-
--- f of one element more
-pub mapped_more : {A : Type 0} (f : A → A) (xs now : List A) (i : ℕ) (x y d : A) → i < length xs → now ≡ mapped_up_to f i xs → x ≡ get_or now i d → y ≡ f x → set now i y ≡ mapped_up_to f (i + 1) xs
-mapped_more f xs now i x y d l e at is =
-    ap (set now i) (is ∙ ap f at) ∙ (ap (λ ys. set ys i (f (get_or ys i d))) e ∙ (next_mapped f xs i d l ∙ ap (λ n. mapped_up_to f n xs) (sym (add-one i))))
 
 -- as many elements as the first list has are that list
 pub take_whole : {A : Type 0} (xs ys : List A) (n : ℕ) → length xs ≡ n → take n (xs ++ ys) ≡ xs

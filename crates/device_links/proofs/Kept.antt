@@ -9,7 +9,7 @@ use Rattle.sleep_model.specs.Links.{AreLinks, is_dependent}
 use Rattle.sleep_model.proofs.Dependents.{among_first, among_rest}
 use Rattle.sleep_model.proofs.Acyclic.{order_ranked, links_descend, dependents_within, others_same}
 use Rattle.sleep_model.proofs.FirstPlaces.{dependents_new, holding_new, holding_other, suppliers_new, suppliers_other}
-use Rattle.device_rows.specs.Table.{Table, row_at, places_at, hung}
+use Rattle.device_rows.specs.Table.{Table, row_at, places_at, with_number}
 use Rattle.device_links.specs.Walks.{IsWalkable, AreMarks}
 use Rattle.device_links.specs.Kept.{IsTableOf, IsKept, IsWhole, HavePlaces, near_below, near_above}
 use Rattle.device_links.specs.Passes.{is_left_out}
@@ -65,7 +65,7 @@ by_marks n marks ds m (x ∷ xs) h =
 pub kept_more : (ps : List (Option ℕ)) (ls : List Link) (hangs below suppliers above : List (List ℕ)) (order : List ℕ) → IsKept ps ls hangs below suppliers above order
     → (l : Link) → IsOpen (record { parents = ps; links = ls }) l.supplier l.consumer → is_dependent ps ls l.consumer l.supplier ≡ false → (order' : List ℕ) → order' ≡ order_by ps (l ∷ ls)
     → (left_out : Bool) → left_out ≡ is_left_out ps l
-    → IsKept ps (l ∷ ls) (hung hangs (Some l.supplier) l.consumer) (cond left_out below (hung below (Some l.supplier) l.consumer)) (hung suppliers (Some l.consumer) l.supplier) (cond left_out above (hung above (Some l.consumer) l.supplier))
+    → IsKept ps (l ∷ ls) (with_number hangs (Some l.supplier) l.consumer) (cond left_out below (with_number below (Some l.supplier) l.consumer)) (with_number suppliers (Some l.consumer) l.supplier) (cond left_out above (with_number above (Some l.consumer) l.supplier))
     order'
 kept_more ps ls hangs below suppliers above order k l open' missing order' ordered' left_out is = record {
   numbered = k.numbered;
@@ -134,6 +134,6 @@ kept_as {ps} {qs} {ls} {ms} {h} {i} {b} {c} {s} {t} {a} {e} {o} {p} w1 w2 w3 w4 
     (subst (λ (x : List (List ℕ)). IsKept ps ls h b s x p) w6
     (subst (λ (x : List ℕ). IsKept ps ls h b s a x) w7 k))))))
 
-pub whole_as : {ps qs : List (Option ℕ)} {ls ms : List Link} {h : List (List ℕ)} {b : Table} {s : List (List ℕ)} {a : Table} {o : List ℕ} → ps ≡ qs → ls ≡ ms → IsWhole ps ls h b s a o → IsWhole qs ms h b s a o
-whole_as {ps} {qs} {ls} {ms} {h} {b} {s} {a} {o} w1 w2 k =
-    subst (λ (x : List (Option ℕ)). IsWhole x ms h b s a o) w1 (subst (λ (x : List Link). IsWhole ps x h b s a o) w2 k)
+pub whole_as : {ps qs : List (Option ℕ)} {ls ms : List Link} {h : List (List ℕ)} {b : Table} {s : List (List ℕ)} {a : Table} {n m : List (List ℕ)} {o : List ℕ} → ps ≡ qs → ls ≡ ms → IsWhole ps ls h b s a n m o → IsWhole qs ms h b s a n m o
+whole_as {ps} {qs} {ls} {ms} {h} {b} {s} {a} {n} {m} {o} w1 w2 k =
+    subst (λ (x : List (Option ℕ)). IsWhole x ms h b s a n m o) w1 (subst (λ (x : List Link). IsWhole ps x h b s a n m o) w2 k)

@@ -3,6 +3,7 @@ mod InPlace
 mod Kept
 mod Moving
 mod Near
+mod Numbering
 mod Refilling
 mod RowsMade
 mod Ordered

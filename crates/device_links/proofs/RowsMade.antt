@@ -8,7 +8,7 @@ use Rattle.sleep_model.specs.Order.{children_from, suppliers_of, parent_of, Each
 use Rattle.sleep_model.specs.Links.{is_linked}
 use Rattle.sleep_model.proofs.Children.{children_push}
 use Rattle.sleep_model.proofs.FirstPlaces.{list_any_among, suppliers_linked}
-use Rattle.device_rows.specs.Table.{hung}
+use Rattle.device_rows.specs.Table.{with_number}
 use Rattle.device_links.specs.Kept.{IsTableOf}
 
 -- a run of numbers with one more
@@ -36,7 +36,7 @@ pub table_same : (n : ℕ) (f g : ℕ → List ℕ) (rows : List (List ℕ)) →
 table_same n f g rows h e = record { count = h.count; each = λ d. h.each d ∙ sym (e d) }
 
 -- one row has one more, if it is not there
-pub table_unless : (n : ℕ) (f g : ℕ → List ℕ) (rows : List (List ℕ)) → IsTableOf n f rows → (known : Bool) (r x : ℕ) → r < n → g r ≡ cond known (f r) (f r ++ x ∷ []) → ((d : ℕ) → (r == d) ≡ false → g d ≡ f d) → IsTableOf n g (cond known rows (hung rows (Some r) x))
+pub table_unless : (n : ℕ) (f g : ℕ → List ℕ) (rows : List (List ℕ)) → IsTableOf n f rows → (known : Bool) (r x : ℕ) → r < n → g r ≡ cond known (f r) (f r ++ x ∷ []) → ((d : ℕ) → (r == d) ≡ false → g d ≡ f d) → IsTableOf n g (cond known rows (with_number rows (Some r) x))
 table_unless n f g rows h true r x l here other = table_same n f g rows h (λ d. by_test d (r == d) refl)
   where
     by_test : (d : ℕ) (b : Bool) → (r == d) ≡ b → g d ≡ f d
@@ -45,7 +45,7 @@ table_unless n f g rows h true r x l here other = table_same n f g rows h (λ d.
 table_unless n f g rows h false r x l here other = table_push n f g rows h r x l here other
 
 -- one more device under its parent
-pub table_child : (n : ℕ) (ps : List (Option ℕ)) (p : Option ℕ) (rows : List (List ℕ)) → IsTableOf n (λ d. children_from d 0 ps) rows → IfSome p (λ q. q < n) → IsTableOf n (λ d. children_from d 0 (ps ++ p ∷ [])) (hung rows p (length ps))
+pub table_child : (n : ℕ) (ps : List (Option ℕ)) (p : Option ℕ) (rows : List (List ℕ)) → IsTableOf n (λ d. children_from d 0 ps) rows → IfSome p (λ q. q < n) → IsTableOf n (λ d. children_from d 0 (ps ++ p ∷ [])) (with_number rows p (length ps))
 table_child n ps None rows h i = table_same n (λ d. children_from d 0 ps) (λ d. children_from d 0 (ps ++ None ∷ [])) rows h (λ d. children_push d 0 ps None ∙ append-nil (children_from d 0 ps))
 table_child n ps (Some p) rows h i =
     table_push n (λ d. children_from d 0 ps) (λ d. children_from d 0 (ps ++ Some p ∷ [])) rows h p (length ps) i

@@ -1,7 +1,7 @@
 -- What is kept of links whose state is set.
-use Rattle.std.proofs.Common.{◌≡◌, ◌<◌, ◌≤◌, ◌∙◌, ℕ, Bool, true, false, ◌==◌, ◌&&◌, List, [], ◌∷◌, ◌++◌, length, map, reverse, get_or, set, slice_get, Option, Some, None, refl, sym, ap, subst, cond, arith, length-set}
+use Rattle.std.proofs.Common.{◌≡◌, ◌<◌, ◌≤◌, ◌-◌, ◌∙◌, ℕ, Bool, true, false, ◌==◌, ◌&&◌, List, [], ◌∷◌, ◌++◌, length, map, reverse, take, get_or, set, slice_get, Option, Some, None, refl, sym, ap, subst, cond, arith, length-append, length-set}
 use Rattle.std.proofs.lemmas.Bool.{true≢false, eqb-true, eqb-false}
-use Rattle.std.proofs.lemmas.List.{append-nil, length-map, reverse-append, get_or-set_same, get_or-set_other}
+use Rattle.std.proofs.lemmas.List.{length-map, reverse-append, get_or-set_same, get_or-set_other}
 use Rattle.sleep_model.specs.declared.machine.Link.{Link}
 use Rattle.sleep_model.specs.Links.{first_places, is_linked}
 use Rattle.sleep_model.specs.Order.{is_link, with_state, active_of, children_from, consumers_of, suppliers_of, parent_of, dependents, superiors}
@@ -9,10 +9,12 @@ use Rattle.sleep_model.proofs.Changing.{same_supplier, same_consumer, suppliers_
 use Rattle.device_rows.specs.Table.{Table, places_at}
 use Rattle.device_links.specs.declared.fault.LinkFault.{LinkFault}
 use Rattle.device_links.specs.Adds.{Stand, Lacks}
-use Rattle.device_links.specs.Kept.{IsTableOf, IsKept, IsWhole, HavePlaces, near_below, near_above}
+use Rattle.device_links.specs.Kept.{IsTableOf, IsKept, IsWhole, HavePlaces, near_below, near_above, numbers_of}
 use Rattle.device_links.specs.Linked.{Linked}
 use Rattle.device_links.specs.Passes.{AreApart}
 use Rattle.device_links.proofs.Ordered.{linked_apart}
+use Rattle.device_links.proofs.InPlace.{take_whole}
+use Rattle.device_links.proofs.Numbering.{consumers_past, suppliers_past, numbered_kept, supplied_count}
 use Rattle.device_links.proofs.RowsMade.{table_same}
 
 -- the newest first, as they were
@@ -33,6 +35,27 @@ linked ps ls = record { parents = ps; links = ls }
 pub stands_then : (l : Linked) (supplier consumer : ℕ) (o : Option LinkFault) → ((x : LinkFault) → o ≡ Some x → ⊥) → Lacks l supplier consumer o → Stand l supplier consumer × (is_linked l.links supplier consumer ≡ true)
 stands_then l supplier consumer None f h = h
 stands_then l supplier consumer (Some x) f h = absurd (f x refl)
+
+-- the children stand first in the row of what depends on a device
+pub children_first : (ps : List (Option ℕ)) (ls : List Link) (d : ℕ) (row supplied : List ℕ) → row ≡ dependents ps ls d → supplied ≡ numbers_of (λ l. l.supplier == d) ls → take (length row - length supplied) row ≡ children_from d 0 ps
+children_first ps ls d row supplied e f =
+    ap (λ k. take k row) count ∙ (ap (take (length (children_from d 0 ps))) e ∙ take_whole (children_from d 0 ps) (consumers_of d ls) (length (children_from d 0 ps)) refl)
+  where
+    count : length row - length supplied ≡ length (children_from d 0 ps)
+    count =
+        let whole = ap length e in
+        let parts = length-append (children_from d 0 ps) (consumers_of d ls) in
+        let links = ap length f in
+        let many = supplied_count d ls in
+        omega (arith, whole, parts, links, many)
+
+pub supplied_few : (ps : List (Option ℕ)) (ls : List Link) (d : ℕ) (row supplied : List ℕ) → row ≡ dependents ps ls d → supplied ≡ numbers_of (λ l. l.supplier == d) ls → length supplied ≤ length row
+supplied_few ps ls d row supplied e f =
+    let whole = ap length e in
+    let parts = length-append (children_from d 0 ps) (consumers_of d ls) in
+    let links = ap length f in
+    let many = supplied_count d ls in
+    omega (arith, whole, parts, links, many)
 
 -- one row is made anew
 table_set : (n : ℕ) (f g : ℕ → List ℕ) (rows : List (List ℕ)) → IsTableOf n f rows → (r : ℕ) → r < n → ((d : ℕ) → (r == d) ≡ false → g d ≡ f d) → IsTableOf n g (set rows r (g r))
@@ -56,14 +79,6 @@ and_second false b e = absurd (true≢false (sym e))
 
 module _ (s c : ℕ) (to : Bool) where
   -- others see the same
-  one_consumer : (d : ℕ) (b : Bool) (l : Link) (ls : List Link) → (l.supplier == d) ≡ false → consumers_of d (cond b (l ∷ ls) ls) ≡ consumers_of d ls
-  one_consumer d true l ls e = ap (λ t. consumers_of d ls ++ cond t (l.consumer ∷ []) []) e ∙ append-nil (consumers_of d ls)
-  one_consumer d false l ls e = refl
-
-  one_supplier : (d : ℕ) (b : Bool) (l : Link) (ls : List Link) → (l.consumer == d) ≡ false → suppliers_of d (cond b (l ∷ ls) ls) ≡ suppliers_of d ls
-  one_supplier d true l ls e = ap (λ t. suppliers_of d ls ++ cond t (l.supplier ∷ []) []) e ∙ append-nil (suppliers_of d ls)
-  one_supplier d false l ls e = refl
-
   consumers_other : (d : ℕ) → (s == d) ≡ false → (ls : List Link) → consumers_of d (active_of (map (with_state s c to) ls)) ≡ consumers_of d (active_of ls)
   consumers_other d apart [] = refl
   consumers_other d apart (l ∷ ls) = by_test (consumers_other d apart ls) (is_link s c l) refl
@@ -80,7 +95,7 @@ module _ (s c : ℕ) (to : Bool) where
       by_test same true e =
           let is : l.supplier ≡ s = eqb-true l.supplier s (and_first (l.supplier == s) (l.consumer == c) e) in
           let other : (l.supplier == d) ≡ false = ap (λ x. x == d) is ∙ apart in
-          one_consumer d to (record l { active = to }) rest other ∙ (same ∙ sym (one_consumer d l.active l (active_of ls) other))
+          consumers_past d to (record l { active = to }) rest other ∙ (same ∙ sym (consumers_past d l.active l (active_of ls) other))
 
   suppliers_other : (d : ℕ) → (c == d) ≡ false → (ls : List Link) → suppliers_of d (active_of (map (with_state s c to) ls)) ≡ suppliers_of d (active_of ls)
   suppliers_other d apart [] = refl
@@ -98,7 +113,7 @@ module _ (s c : ℕ) (to : Bool) where
       by_test same true e =
           let is : l.consumer ≡ c = eqb-true l.consumer c (and_second (l.supplier == s) (l.consumer == c) e) in
           let other : (l.consumer == d) ≡ false = ap (λ x. x == d) is ∙ apart in
-          one_supplier d to (record l { active = to }) rest other ∙ (same ∙ sym (one_supplier d l.active l (active_of ls) other))
+          suppliers_past d to (record l { active = to }) rest other ∙ (same ∙ sym (suppliers_past d l.active l (active_of ls) other))
 
   module _ (ps : List (Option ℕ)) (ls : List Link) where
     dependents_same : (d : ℕ) → dependents ps (map (with_state s c to) ls) d ≡ dependents ps ls d
@@ -117,11 +132,11 @@ module _ (s c : ℕ) (to : Bool) where
     set_above below above h d = let e = ap length (holding_same d) in let l = h.above d in omega (arith, e, l)
 
     -- all is kept where the rows of both ends are made anew
-    pub whole_set : (hangs : List (List ℕ)) (below : Table) (suppliers : List (List ℕ)) (above : Table) (order : List ℕ) → IsWhole ps ls hangs below suppliers above order → s < length ps → c < length ps → (below' above' : Table)
+    pub whole_set : (hangs : List (List ℕ)) (below : Table) (suppliers : List (List ℕ)) (above : Table) (a b : List (List ℕ)) (order : List ℕ) → IsWhole ps ls hangs below suppliers above a b order → s < length ps → c < length ps → (below' above' : Table)
         → below'.rows ≡ set below.rows s (near_below ps (map (with_state s c to) ls) s) → ((d : ℕ) → places_at below d ≤ places_at below' d)
         → above'.rows ≡ set above.rows c (near_above ps (map (with_state s c to) ls) c) → ((d : ℕ) → places_at above d ≤ places_at above' d)
-        → IsWhole ps (map (with_state s c to) ls) hangs below' suppliers above' order
-    whole_set hangs below suppliers above order w sl cl below' above' b bp a ap' = record {
+        → IsWhole ps (map (with_state s c to) ls) hangs below' suppliers above' a b order
+    whole_set hangs below suppliers above a b order w sl cl below' above' br bp ar ap' = record {
       kept = record {
         numbered = w.kept.numbered;
         after = w.kept.after;
@@ -129,12 +144,12 @@ module _ (s c : ℕ) (to : Bool) where
         linked = links_kept (with_state s c to) (same_supplier s c to) (same_consumer s c to) ps ls w.kept.linked;
         all_dependents = table_same (length ps) (dependents ps ls) (dependents ps (map (with_state s c to) ls)) hangs w.kept.all_dependents dependents_same;
         once_below =
-            subst (IsTableOf (length ps) (near_below ps (map (with_state s c to) ls))) (sym b)
+            subst (IsTableOf (length ps) (near_below ps (map (with_state s c to) ls))) (sym br)
             (table_set (length ps) (near_below ps ls) (near_below ps (map (with_state s c to) ls)) below.rows w.kept.once_below s sl
             (λ d e. ap (λ xs. first_places (children_from d 0 ps ++ xs)) (consumers_other d e ls)));
         all_suppliers = table_same (length ps) (λ d. suppliers_of d ls) (λ d. suppliers_of d (map (with_state s c to) ls)) suppliers w.kept.all_suppliers (λ d. suppliers_kept (with_state s c to) (same_supplier s c to) (same_consumer s c to) d ls);
         once_above =
-            subst (IsTableOf (length ps) (near_above ps (map (with_state s c to) ls))) (sym a)
+            subst (IsTableOf (length ps) (near_above ps (map (with_state s c to) ls))) (sym ar)
             (table_set (length ps) (near_above ps ls) (near_above ps (map (with_state s c to) ls)) above.rows w.kept.once_above c cl
             (λ d e. ap (λ xs. first_places (parent_of (slice_get ps d) ++ xs)) (suppliers_other d e ls)));
         ordered = w.kept.ordered ∙ sym (order_kept (with_state s c to) (same_supplier s c to) (same_consumer s c to) ps ls);
@@ -143,4 +158,5 @@ module _ (s c : ℕ) (to : Bool) where
         below = λ d. let l = set_below below above w.places d in let m = bp d in omega (arith, l, m);
         above = λ d. let l = set_above below above w.places d in let m = ap' d in omega (arith, l, m);
       };
+      numbers = numbered_kept (with_state s c to) (same_supplier s c to) (same_consumer s c to) (length ps) ls a b w.numbers;
     }

@@ -103,3 +103,7 @@ tells_new n t l s c false e = record { supplier = s; consumer = c; new = sym e }
 -- the consumer of a link is a device
 pub consumer_at : (ps : List (Option ℕ)) (links : List Link) (i : ℕ) (l : Link) → i < length links → l ≡ get_or links i l → AreApart ps (reverse links) → l.consumer < length ps
 consumer_at ps links i l within at apart = (subst (AreApart ps) (newest links i l within at) (apart_all ps links (i + 1) apart)).1
+
+-- and so is its supplier
+pub supplier_at : (ps : List (Option ℕ)) (links : List Link) (i : ℕ) (l : Link) → i < length links → l ≡ get_or links i l → AreApart ps (reverse links) → l.supplier < length ps
+supplier_at ps links i l within at apart = (subst (AreApart ps) (newest links i l within at) (apart_all ps links (i + 1) apart)).0

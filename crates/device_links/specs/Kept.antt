@@ -1,5 +1,5 @@
 -- What is kept of links.
-use Rattle.std.specs.Prelude.{◌≡◌, ◌≤◌, ◌<◌, ◌^◌, ℕ, Bool, not, ◌==◌, ◌&&◌, List, [], length, slice_index_or, Option, None}
+use Rattle.std.specs.Prelude.{◌≡◌, ◌≤◌, ◌<◌, ◌^◌, ℕ, Bool, not, ◌==◌, ◌&&◌, List, [], ◌∷◌, ◌++◌, length, slice_index_or, if◌then◌else◌, Option, None}
 use Rattle.sleep_model.specs.declared.machine.Link.{Link}
 use Rattle.sleep_model.specs.Order.{EachAfterParent, is_parent, active_of, dependents, superiors, suppliers_of, order_by}
 use Rattle.sleep_model.specs.Links.{AreLinks, first_places}
@@ -9,6 +9,11 @@ use Rattle.device_rows.specs.Table.{Table, places_at}
 pub record IsTableOf (n : ℕ) (f : ℕ → List ℕ) (rows : List (List ℕ)) : Type 0 where
   pub count : length rows ≡ n
   pub each : (d : ℕ) → slice_index_or rows d [] ≡ f d
+
+-- the numbers, the oldest first, of the links that a test takes, where the newest link stands first and the oldest has number 0 (own)
+abbrev pub numbers_of : (Link → Bool) → List Link → List ℕ
+numbers_of test [] = []
+numbers_of test (l ∷ earlier) = numbers_of test earlier ++ (if test l then length earlier ∷ [] else [])
 
 -- what must sleep before d does, by the links that are active, each once (dpm_wait_for_subordinate)
 abbrev pub near_below : List (Option ℕ) → List Link → ℕ → List ℕ
@@ -31,6 +36,16 @@ pub record HavePlaces (parents : List (Option ℕ)) (links : List Link) (seen_be
   pub below : (d : ℕ) → length (dependents parents links d) ≤ places_at seen_below d
   pub above : (d : ℕ) → length (superiors parents links d) ≤ places_at seen_above d
 
+-- these are the numbers of the links that each of n devices supplies, and of those that it consumes (struct dev_links_info)
+pub record AreNumbered (n : ℕ) (links : List Link) (supplied consumed : List (List ℕ)) : Type 0 where
+  pub by_supplier : IsTableOf n (λ d. numbers_of (λ l. l.supplier == d) links) supplied
+  pub by_consumer : IsTableOf n (λ d. numbers_of (λ l. l.consumer == d) links) consumed
+
+-- a link's supplier has room for one more number, and so has its consumer (own)
+pub record HasRoom (l : Link) (supplied consumed : Table) : Type 0 where
+  pub supplier : 0 < slice_index_or supplied.room l.supplier 0
+  pub consumer : 0 < slice_index_or consumed.room l.consumer 0
+
 -- the tables and the order are those of the parents and the links
 pub record IsKept (parents : List (Option ℕ)) (links : List Link) (hangs below suppliers above : List (List ℕ)) (order : List ℕ) : Type 0 where
   pub numbered : length parents < 2 ^ 32
@@ -44,6 +59,7 @@ pub record IsKept (parents : List (Option ℕ)) (links : List Link) (hangs below
   pub ordered : order ≡ order_by parents links
 
 -- all that is kept
-pub record IsWhole (parents : List (Option ℕ)) (links : List Link) (hangs : List (List ℕ)) (below : Table) (suppliers : List (List ℕ)) (above : Table) (order : List ℕ) : Type 0 where
+pub record IsWhole (parents : List (Option ℕ)) (links : List Link) (hangs : List (List ℕ)) (below : Table) (suppliers : List (List ℕ)) (above : Table) (supplied consumed : List (List ℕ)) (order : List ℕ) : Type 0 where
   pub kept : IsKept parents links hangs below.rows suppliers above.rows order
   pub places : HavePlaces parents links below above
+  pub numbers : AreNumbered (length parents) links supplied consumed

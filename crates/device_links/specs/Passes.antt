@@ -3,7 +3,7 @@ use Rattle.std.specs.Prelude.{◌≡◌, ◌≤◌, ◌<◌, ◌+◌, ◌++◌, 
 use Rattle.sleep_model.specs.declared.machine.Link.{Link}
 use Rattle.sleep_model.specs.Order.{is_among, is_parent, dependents, suppliers_of, last_places, moved, order_by}
 use Rattle.sleep_model.specs.Links.{AreLinks, IsOrder, is_linked}
-use Rattle.device_rows.specs.Table.{Table, row_at, places_at, hung}
+use Rattle.device_rows.specs.Table.{Table, row_at, places_at, with_number}
 use Rattle.device_links.specs.declared.at_once.Tables.{Tables}
 use Rattle.device_links.specs.declared.visits.Visits.{Visits}
 use Rattle.device_links.specs.Kept.{IsTableOf, near_below, near_above, HavePlaces}
@@ -48,16 +48,16 @@ pub record AreTables (parents : List (Option ℕ)) (links : List Link) (t : Tabl
   pub once_above : IsTableOf (length parents) (near_above parents links) t.above.rows
   pub places : HavePlaces parents links t.below t.above
 
--- each table has so many rows
+-- each table has that number of rows
 pub record HaveRows (n : ℕ) (t : Tables) : Type 0 where
   pub dependents : length t.dependents.rows ≡ n
   pub below : length t.below.rows ≡ n
   pub suppliers : length t.suppliers.rows ≡ n
   pub above : length t.above.rows ≡ n
 
--- a number is put at the end of a row, or left out, and the row has places for so many
+-- a number is put at the end of a row, or left out, and the row has places for that number of them
 pub record IsNear (left_out : Bool) (row number count : ℕ) (old new : Table) : Type 0 where
-  pub rows : new.rows ≡ (if left_out then old.rows else hung old.rows (Some row) number)
+  pub rows : new.rows ≡ (if left_out then old.rows else with_number old.rows (Some row) number)
   pub kept : (d : ℕ) → places_at old d ≤ places_at new d
   pub made : count ≤ places_at new row
 
@@ -67,8 +67,8 @@ is_left_out parents l = not l.active || is_parent l.supplier (slice_index_or par
 
 -- the tables with one more link; what is left out is not put there, but has its places
 pub record IsHung (parents : List (Option ℕ)) (l : Link) (old new : Tables) : Type 0 where
-  pub dependents : new.dependents.rows ≡ hung old.dependents.rows (Some l.supplier) l.consumer
-  pub suppliers : new.suppliers.rows ≡ hung old.suppliers.rows (Some l.consumer) l.supplier
+  pub dependents : new.dependents.rows ≡ with_number old.dependents.rows (Some l.supplier) l.consumer
+  pub suppliers : new.suppliers.rows ≡ with_number old.suppliers.rows (Some l.consumer) l.supplier
   pub below : IsNear (is_left_out parents l) l.supplier l.consumer (length (row_at new.dependents l.supplier) + 2) old.below new.below
   pub above : IsNear (is_left_out parents l) l.consumer l.supplier (length (row_at new.suppliers l.consumer) + 2) old.above new.above
 

@@ -33,7 +33,7 @@ fn without_links(alloc: Global, parents: &[Option<u32>]) -> Result<Tables, Mem>
     })
 }
 
-// Whether the link is between two of so many devices, and none that stands.
+// Whether the link is between two of the first `count` devices, and none that stands.
 fn is_new(count: usize, suppliers: &Rows, link: Link) -> bool
     ensures { Tells result (IsNew count suppliers.now link) }
 {
@@ -43,7 +43,7 @@ fn is_new(count: usize, suppliers: &Rows, link: Link) -> bool
     !suppliers.row(link.consumer).contains(&link.supplier)
 }
 
-// Puts a number at the end of a row, unless it is left out, and gives the row places for so many.
+// Puts a number at the end of a row, unless it is left out, and gives the row places for `count` numbers.
 fn hang_near(
     table: &mut Rows,
     left_out: bool,

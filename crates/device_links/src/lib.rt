@@ -7,6 +7,7 @@ mod env;
 mod fault;
 mod first;
 mod links;
+mod numbers;
 mod states;
 mod tables;
 mod visits;

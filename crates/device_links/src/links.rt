@@ -1,12 +1,13 @@
 ghost use Rattle.std.specs.Prelude.{◌≡◌, ◌<◌, ◌≤◌, ℕ, OnOk, Some, length, slice_index, if◌then◌else◌};
-ghost use Rattle.device_rows.specs.Table.{hung, places_at};
+ghost use Rattle.device_rows.specs.Table.{with_number, places_at};
 ghost use Rattle.device_links.specs.Moves.{after_move};
 
 use crate::at_once::{Tables, tables_of};
 use crate::depends::comes_to;
 use crate::fault::{DevList, LinkFault};
 use crate::first::stands_first;
-use crate::states::{refill_above, refill_below, set_state};
+use crate::numbers::LinkNumbers;
+use crate::states::{children_within, refill_above, refill_below, set_state};
 use crate::tables::{children_of, is_left_out, moved_last, parents_of, places_for, registered};
 use crate::visits::order_of;
 use crate::walk::{Found, walk};
@@ -30,6 +31,8 @@ pub struct Links {
     below: Rows,
     suppliers: Rows,
     above: Rows,
+    // Where the links of each device stand, so that a link's state is set without a look at those of others.
+    numbers: LinkNumbers,
     order: Vec<u32>,
 }
 
@@ -43,7 +46,8 @@ impl Model for Links {
     ghost view = { λ l. record { parents = l.parents.items; links = reverse l.links.items } };
 
     ghost invariant = { λ l. IsWhole l.parents.items (reverse l.links.items)
-        l.dependents.rows l.below l.suppliers.rows l.above l.order.items };
+        l.dependents.rows l.below l.suppliers.rows l.above
+        l.numbers.by_supplier.rows l.numbers.by_consumer.rows l.order.items };
 }
 
 impl Links {
@@ -73,6 +77,7 @@ impl Links {
             below: children_of(alloc, parents)?,
             suppliers: Rows::with_rows(alloc, parents.len())?,
             above: parents_of(alloc, parents)?,
+            numbers: LinkNumbers::new(alloc, parents.len())?,
             order: registered(alloc, parents.len() as u32)?,
         })
     }
@@ -114,6 +119,7 @@ impl Links {
             below,
             suppliers,
             above,
+            numbers: LinkNumbers::of_links(alloc, parents, links)?,
             order,
         }))
     }
@@ -189,9 +195,27 @@ impl Links {
         if let Some(fault) = self.absence(supplier, consumer) {
             return Err(fault);
         }
-        set_state(&mut self.links, supplier, consumer, to);
-        refill_below(&mut self.below, &self.parents, &self.links, supplier);
-        refill_above(&mut self.above, &self.parents, &self.links, consumer);
+        let consumed = self.numbers.by_consumer.row(consumer);
+        if !set_state(&mut self.links, consumed, supplier, consumer, to) {
+            return Ok(());
+        }
+        let supplied = self.numbers.by_supplier.row(supplier);
+        let children = children_within(self.dependents.row(supplier), supplied);
+        refill_below(
+            &mut self.below,
+            &self.parents,
+            &self.links,
+            children,
+            supplied,
+            supplier,
+        );
+        refill_above(
+            &mut self.above,
+            &self.parents,
+            &self.links,
+            consumed,
+            consumer,
+        );
         Ok(())
     }
 
@@ -335,12 +359,14 @@ impl Links {
         self.links.reserve(1)?;
         self.dependents.make_room(link.supplier)?;
         self.suppliers.make_room(link.consumer)?;
+        self.numbers.make_room(link)?;
         make_near(&mut self.below, link.supplier, most_below)?;
         make_near(&mut self.above, link.consumer, most_above)?;
         self.dependents.push(link.supplier, link.consumer);
         self.suppliers.push(link.consumer, link.supplier);
         push_unless(&mut self.below, left_out, link.supplier, link.consumer);
         push_unless(&mut self.above, left_out, link.consumer, link.supplier);
+        self.numbers.push(link, self.links.len() as u32);
         take_order(&mut self.order, moved);
         match self.links.push(link) {
             Ok(()) => Ok(()),
@@ -358,7 +384,7 @@ fn take_order(order: &mut Vec<u32>, moved: Option<Vec<u32>>)
     }
 }
 
-// Gives a row places for so many numbers, and for one more than it has.
+// Gives a row places for `count` numbers, and for one more than it has.
 fn make_near(table: &mut Rows, row: u32, count: usize) -> Result<(), Mem>
     requires { row < length table.old.rows }
     ensures rows { table.new.rows ≡ table.old.rows }
@@ -375,7 +401,7 @@ fn make_near(table: &mut Rows, row: u32, count: usize) -> Result<(), Mem>
 fn push_unless(table: &mut Rows, left_out: bool, row: u32, number: u32)
     requires { 0 < slice_index table.old.room row }
     ensures rows { table.new.rows ≡
-        (if left_out then table.old.rows else hung table.old.rows (Some row) number) }
+        (if left_out then table.old.rows else with_number table.old.rows (Some row) number) }
     ensures places { (d : ℕ) → places_at table.old d ≤ places_at table.new d }
 {
     if !left_out {

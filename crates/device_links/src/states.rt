@@ -1,31 +1,49 @@
 //! The states of links, and the rows that show the active ones.
 
-ghost use Rattle.std.specs.Prelude.{◌≡◌, ◌<◌, ◌≤◌, ◌^◌, [], ℕ, length, map, option_to_list, reverse, slice_get, slice_set};
+ghost use Rattle.std.specs.Prelude.{◌≡◌, ◌<◌, ◌≤◌, ◌==◌, ◌-◌, [], ℕ, length, map, option_to_list, reverse, slice_get, slice_set, take};
+ghost use Rattle.std.specs.Bool.{OnFalse};
 ghost use Rattle.sleep_model.specs.Order.{children_from, dependents, superiors, parent_of, with_state};
 ghost use Rattle.device_rows.specs.Table.{row_at, places_at};
-ghost use Rattle.device_links.specs.Kept.{near_below, near_above, is_shown_below, is_shown_above};
+ghost use Rattle.device_links.specs.Kept.{near_below, near_above, is_shown_below, is_shown_above, numbers_of};
 ghost use Rattle.device_links.specs.Passes.{AreApart};
 
 use crate::tables::is_parent;
 use device_rows::Rows;
 use sleep_model::Link;
 
-/// Sets the state of the link between these two.
-pub(crate) fn set_state(links: &mut Vec<Link>, supplier: u32, consumer: u32, to: bool)
-    ensures { links.new.items ≡ map (with_state supplier consumer to) links.old.items }
+/// Sets the state of the link between these two, by the numbers of all that the consumer has, and tells whether it
+/// was another.
+pub(crate) fn set_state(
+    links: &mut Vec<Link>,
+    consumed: &[u32],
+    supplier: u32,
+    consumer: u32,
+    to: bool,
+) -> bool
+    requires { consumed.now ≡ numbers_of (λ l. l.consumer == consumer) (reverse links.old.items) }
+    ensures set { links.new.items ≡ map (with_state supplier consumer to) links.old.items }
+    ensures kept { OnFalse result (links.new.items ≡ links.old.items) }
 {
-    for link in links.iter_mut() {
-        set_one(link, supplier, consumer, to);
+    let mut changed = false;
+    for number in consumed {
+        let link = &mut links[*number as usize];
+        if set_one(link, supplier, consumer, to) {
+            changed = true;
+        }
     }
+    changed
 }
 
-// Sets the state of a link where it is between these two. The others are only read.
-fn set_one(link: &mut Link, supplier: u32, consumer: u32, to: bool)
-    ensures { link.new ≡ with_state supplier consumer to link.old }
+// Sets the state of a link where it is between these two and in another state, and tells whether it was so.
+fn set_one(link: &mut Link, supplier: u32, consumer: u32, to: bool) -> bool
+    ensures set { link.new ≡ with_state supplier consumer to link.old }
+    ensures kept { OnFalse result (link.new ≡ link.old) }
 {
-    if link.supplier == supplier && link.consumer == consumer {
-        link.active = to;
+    if link.supplier != supplier || link.consumer != consumer || link.active == to {
+        return false;
     }
+    link.active = to;
+    true
 }
 
 // Whether a link shows its consumer below that device.
@@ -44,10 +62,28 @@ fn is_shown_above(parents: &[Option<u32>], link: Link, device: u32) -> bool
     link.consumer == device && link.active && !is_parent(parents[device as usize], link.supplier)
 }
 
-/// Makes the row of what is seen below a device anew, in its places.
-pub(crate) fn refill_below(table: &mut Rows, parents: &[Option<u32>], links: &[Link], device: u32)
-    requires numbered { length parents.now < 2 ^ 32 }
+/// The children among what depends directly on a device, which stand before its consumers: it supplies as many as it
+/// has links.
+pub(crate) fn children_within<'a>(dependents: &'a [u32], supplied: &[u32]) -> &'a [u32]
+    requires { length supplied.now ≤ length dependents.now }
+    ensures { result.now ≡ take (length dependents.now - length supplied.now) dependents.now }
+{
+    &dependents[..dependents.len() - supplied.len()]
+}
+
+/// Makes the row of what is seen below a device anew, in its places, from its children and the numbers of the links
+/// that it supplies.
+pub(crate) fn refill_below(
+    table: &mut Rows,
+    parents: &[Option<u32>],
+    links: &[Link],
+    children: &[u32],
+    supplied: &[u32],
+    device: u32,
+)
     requires within { device < length table.old.rows }
+    requires children { children.now ≡ children_from device 0 parents.now }
+    requires supplied { supplied.now ≡ numbers_of (λ l. l.supplier == device) (reverse links.now) }
     requires places { length (dependents parents.now (reverse links.now) device) ≤ places_at table.old device }
     requires apart { AreApart parents.now (reverse links.now) }
     ensures rows { table.new.rows ≡
@@ -55,47 +91,60 @@ pub(crate) fn refill_below(table: &mut Rows, parents: &[Option<u32>], links: &[L
     ensures places { (d : ℕ) → places_at table.old d ≤ places_at table.new d }
 {
     table.clear(device);
-    push_children(table, parents, device);
-    push_consumers(table, parents, links, device);
+    push_children(table, children, device);
+    push_consumers(table, parents, links, supplied, device);
 }
 
 // Puts the children of a device into its row, which is empty.
-fn push_children(table: &mut Rows, parents: &[Option<u32>], device: u32)
-    requires numbered { length parents.now < 2 ^ 32 }
+fn push_children(table: &mut Rows, children: &[u32], device: u32)
     requires within { device < length table.old.rows }
     requires empty { row_at table.old device ≡ [] }
-    requires places { length (children_from device 0 parents.now) ≤ places_at table.old device }
-    ensures rows { table.new.rows ≡ slice_set table.old.rows device (children_from device 0 parents.now) }
+    requires places { length children.now ≤ places_at table.old device }
+    ensures rows { table.new.rows ≡ slice_set table.old.rows device children.now }
     ensures places { (d : ℕ) → places_at table.old d ≤ places_at table.new d }
 {
-    for (number, parent) in parents.iter().enumerate() {
-        if is_parent(*parent, device) {
-            table.push(device, number as u32);
-        }
+    for child in children {
+        table.push(device, *child);
     }
 }
 
 // Puts the consumers of a device by active links into its row, behind its children.
-fn push_consumers(table: &mut Rows, parents: &[Option<u32>], links: &[Link], device: u32)
+fn push_consumers(
+    table: &mut Rows,
+    parents: &[Option<u32>],
+    links: &[Link],
+    supplied: &[u32],
+    device: u32,
+)
     requires within { device < length table.old.rows }
     requires children { row_at table.old device ≡ children_from device 0 parents.now }
+    requires supplied { supplied.now ≡ numbers_of (λ l. l.supplier == device) (reverse links.now) }
     requires places { length (dependents parents.now (reverse links.now) device) ≤ places_at table.old device }
     requires apart { AreApart parents.now (reverse links.now) }
     ensures rows { table.new.rows ≡
         slice_set table.old.rows device (near_below parents.now (reverse links.now) device) }
     ensures places { (d : ℕ) → places_at table.old d ≤ places_at table.new d }
 {
-    for link in links {
-        if is_shown_below(parents, *link, device) {
+    for number in supplied {
+        let link = links[*number as usize];
+        if is_shown_below(parents, link, device) {
             table.push(device, link.consumer);
         }
     }
 }
 
-/// Makes the row of what is seen above a device anew, in its places.
-pub(crate) fn refill_above(table: &mut Rows, parents: &[Option<u32>], links: &[Link], device: u32)
+/// Makes the row of what is seen above a device anew, in its places, from its parent and the numbers of the links that
+/// it consumes.
+pub(crate) fn refill_above(
+    table: &mut Rows,
+    parents: &[Option<u32>],
+    links: &[Link],
+    consumed: &[u32],
+    device: u32,
+)
     requires device { device < length parents.now }
     requires within { device < length table.old.rows }
+    requires consumed { consumed.now ≡ numbers_of (λ l. l.consumer == device) (reverse links.now) }
     requires places { length (superiors parents.now (reverse links.now) device) ≤ places_at table.old device }
     requires apart { AreApart parents.now (reverse links.now) }
     ensures rows { table.new.rows ≡
@@ -104,7 +153,7 @@ pub(crate) fn refill_above(table: &mut Rows, parents: &[Option<u32>], links: &[L
 {
     table.clear(device);
     push_parent(table, parents[device as usize], device);
-    push_suppliers(table, parents, links, device);
+    push_suppliers(table, parents, links, consumed, device);
 }
 
 // Puts the parent of a device into its row, which is empty.
@@ -121,18 +170,26 @@ fn push_parent(table: &mut Rows, parent: Option<u32>, device: u32)
 }
 
 // Puts the suppliers of a device by active links into its row, behind its parent.
-fn push_suppliers(table: &mut Rows, parents: &[Option<u32>], links: &[Link], device: u32)
+fn push_suppliers(
+    table: &mut Rows,
+    parents: &[Option<u32>],
+    links: &[Link],
+    consumed: &[u32],
+    device: u32,
+)
     requires device { device < length parents.now }
     requires within { device < length table.old.rows }
     requires parent { row_at table.old device ≡ parent_of (slice_get parents.now device) }
+    requires consumed { consumed.now ≡ numbers_of (λ l. l.consumer == device) (reverse links.now) }
     requires places { length (superiors parents.now (reverse links.now) device) ≤ places_at table.old device }
     requires apart { AreApart parents.now (reverse links.now) }
     ensures rows { table.new.rows ≡
         slice_set table.old.rows device (near_above parents.now (reverse links.now) device) }
     ensures places { (d : ℕ) → places_at table.old d ≤ places_at table.new d }
 {
-    for link in links {
-        if is_shown_above(parents, *link, device) {
+    for number in consumed {
+        let link = links[*number as usize];
+        if is_shown_above(parents, link, device) {
             table.push(device, link.supplier);
         }
     }

@@ -3,7 +3,7 @@
 ghost use Rattle.std.specs.Prelude.{◌≡◌, ◌<◌, ◌≤◌, ◌+◌, ◌^◌, ◌++◌, not, false, true, ℕ, List, IfOk, IfSome, OnOk, length, filter, map, option_to_list, slice_index_or, slice_set};
 ghost use Rattle.std.specs.List.{range_with_len};
 ghost use Rattle.sleep_model.specs.Order.{EachAfterParent, children_from, is_among, is_parent};
-ghost use Rattle.device_rows.specs.Table.{hung, row_at};
+ghost use Rattle.device_rows.specs.Table.{with_number, row_at};
 ghost use Rattle.device_links.specs.Kept.{IsTableOf};
 ghost use Rattle.device_links.specs.Passes.{is_left_out};
 
@@ -15,7 +15,7 @@ use std::alloc::Global;
 /// Puts a number at the end of a row, where there is one to put it.
 pub(crate) fn dependents_of(table: &mut Rows, row: Option<u32>, number: u32) -> Result<(), Mem>
     requires { IfSome row (λ r. r < length table.old.rows) }
-    ensures { OnOk result (table.new.rows ≡ hung table.old.rows row number) }
+    ensures { OnOk result (table.new.rows ≡ with_number table.old.rows row number) }
 {
     if let Some(row) = row {
         table.append(row, number)?;

@@ -15,6 +15,6 @@ abbrev pub places_at : Table → ℕ → ℕ
 places_at t d = length (row_at t d) + slice_index_or t.room d 0
 
 -- the rows with one more number at the end of one of them, or as they are
-abbrev pub hung : List (List ℕ) → Option ℕ → ℕ → List (List ℕ)
-hung rows None x = rows
-hung rows (Some d) x = slice_set rows d (slice_index_or rows d [] ++ x ∷ [])
+abbrev pub with_number : List (List ℕ) → Option ℕ → ℕ → List (List ℕ)
+with_number rows None x = rows
+with_number rows (Some d) x = slice_set rows d (slice_index_or rows d [] ++ x ∷ [])

@@ -36,7 +36,7 @@ impl Rows {
         }
     }
 
-    /// A table of so many empty rows. `Mem` if there is no memory for it.
+    /// A table of empty rows. `Mem` if there is no memory for it.
     pub fn with_rows(alloc: Global, count: usize) -> Result<Rows, Mem>
         ensures { IfOk result (λ t. t.rows ≡ replicate count []) }
     {
@@ -108,7 +108,7 @@ impl Rows {
         Ok(())
     }
 
-    /// Gives a row places for so many numbers in all. `Mem` if there is no memory for them.
+    /// Gives a row places for that number of numbers in all. `Mem` if there is no memory for them.
     pub fn make_places(&mut self, device: u32, count: usize) -> Result<(), Mem>
         requires { device < length self.old.rows }
         ensures rows { self.new.rows ≡ self.old.rows }

@@ -8,7 +8,7 @@ use Rattle.sleep_model.specs.Order.{is_parent, children_from, parents_of, EachAf
 use Rattle.sleep_model.proofs.Children.{children_push, children_none, after_parent_push}
 use Rattle.device_tree.specs.declared.fault.TreeFault.TheVariants.{TooMany, NameTaken, NoParent}
 use Rattle.device_tree.specs.Refusal.{refusal, is_taken, is_lost}
-use Rattle.device_rows.specs.Table.{hung}
+use Rattle.device_rows.specs.Table.{with_number}
 use Rattle.device_tree.specs.Kept.{HasChildren, IsKept}
 
 -- each row has the children, and no row has none
@@ -34,13 +34,13 @@ module _ (ps : List (Option ℕ)) (rows : List (List ℕ)) (after : EachAfterPar
       by_place (inl l) = get_or_append_left rows ([] ∷ []) [] d l ∙ row_is ps rows after h d
       by_place (inr l) = past d rows l ∙ sym (children_none d 0 ps after (omega (arith, h.count)))
 
-  hung_at : (p : Option ℕ) → IfSome p (λ q. q < length ps) → (d : ℕ) → get_or (hung (rows ++ [] ∷ []) p (length ps)) d [] ≡ children_from d 0 ps ++ cond (is_parent d p) (length ps ∷ []) []
-  hung_at None i d = grown d ∙ nothing (children_from d 0 ps)
+  with_number_at : (p : Option ℕ) → IfSome p (λ q. q < length ps) → (d : ℕ) → get_or (with_number (rows ++ [] ∷ []) p (length ps)) d [] ≡ children_from d 0 ps ++ cond (is_parent d p) (length ps ∷ []) []
+  with_number_at None i d = grown d ∙ nothing (children_from d 0 ps)
     where
       nothing : (xs : List ℕ) → xs ≡ xs ++ []
       nothing [] = refl
       nothing (x ∷ xs) = ap (λ ys. x ∷ ys) (nothing xs)
-  hung_at (Some p) i d = by_test (p == d) refl
+  with_number_at (Some p) i d = by_test (p == d) refl
     where
       row : List ℕ
       row = get_or (rows ++ [] ∷ []) p [] ++ length ps ∷ []
@@ -61,14 +61,14 @@ module _ (ps : List (Option ℕ)) (rows : List (List ℕ)) (after : EachAfterPar
           let other : d ≡ p → ⊥ = grind (arith, nat_tests) in
           get_or-set_other (rows ++ [] ∷ []) p d (get_or (rows ++ [] ∷ []) p [] ++ length ps ∷ []) [] other ∙ (grown d ∙ nothing (children_from d 0 ps))
 
-  hung_length : (p : Option ℕ) → length (hung (rows ++ [] ∷ []) p (length ps)) ≡ length ps + 1
-  hung_length None = length_push rows [] ∙ ap (λ n. n + 1) h.count
-  hung_length (Some p) = length-set (rows ++ [] ∷ []) p (get_or (rows ++ [] ∷ []) p [] ++ length ps ∷ []) ∙ (length_push rows [] ∙ ap (λ n. n + 1) h.count)
+  with_number_length : (p : Option ℕ) → length (with_number (rows ++ [] ∷ []) p (length ps)) ≡ length ps + 1
+  with_number_length None = length_push rows [] ∙ ap (λ n. n + 1) h.count
+  with_number_length (Some p) = length-set (rows ++ [] ∷ []) p (get_or (rows ++ [] ∷ []) p [] ++ length ps ∷ []) ∙ (length_push rows [] ∙ ap (λ n. n + 1) h.count)
 
-  children_more : (p : Option ℕ) → IfSome p (λ q. q < length ps) → HasChildren (ps ++ p ∷ []) (hung (rows ++ [] ∷ []) p (length ps))
+  children_more : (p : Option ℕ) → IfSome p (λ q. q < length ps) → HasChildren (ps ++ p ∷ []) (with_number (rows ++ [] ∷ []) p (length ps))
   children_more p i = record {
-    count = hung_length p ∙ sym (length_push ps p);
-    children = λ d l. hung_at p i d ∙ sym (children_push d 0 ps p ∙ ap (λ k. children_from d 0 ps ++ cond (is_parent d p) (k ∷ []) []) zero_less);
+    count = with_number_length p ∙ sym (length_push ps p);
+    children = λ d l. with_number_at p i d ∙ sym (children_push d 0 ps p ∙ ap (λ k. children_from d 0 ps ++ cond (is_parent d p) (k ∷ []) []) zero_less);
   }
     where
       zero_less : 0 + length ps ≡ length ps
@@ -94,7 +94,7 @@ parent_within n None e = tt
 parent_within n (Some p) e = leb-false n p e
 
 -- the tree with the device behind the others
-pub kept_more : (ds : List Device) (names : List (List ℕ)) (rows : List (List ℕ)) (d : Device) → IsKept ds names rows → IsFree ds d → IsKept (ds ++ d ∷ []) (names ++ d.name ∷ []) (hung (rows ++ [] ∷ []) d.parent (length ds))
+pub kept_more : (ds : List Device) (names : List (List ℕ)) (rows : List (List ℕ)) (d : Device) → IsKept ds names rows → IsFree ds d → IsKept (ds ++ d ∷ []) (names ++ d.name ∷ []) (with_number (rows ++ [] ∷ []) d.parent (length ds))
 kept_more ds names rows d k f =
     let ps = parents_of ds in
     let n : length ps ≡ length ds = length-map ds (λ x. x.parent) in
@@ -108,8 +108,8 @@ kept_more ds names rows d k f =
         parents = subst (EachAfterParent 0) (sym grew) (after_parent_push 0 ps d.parent k.tree.parents (subst (λ m. IfSome d.parent (λ q. q < m)) zero_less parent'));
       };
       same_names = ap (λ ns. ns ++ d.name ∷ []) k.same_names ∙ sym (map_push (λ x. x.name) ds d);
-      children = subst (λ xs. HasChildren xs (hung (rows ++ [] ∷ []) d.parent (length ds))) (sym grew)
-          (subst (λ m. HasChildren (ps ++ d.parent ∷ []) (hung (rows ++ [] ∷ []) d.parent m)) n (children_more ps rows k.tree.parents k.children d.parent parent'));
+      children = subst (λ xs. HasChildren xs (with_number (rows ++ [] ∷ []) d.parent (length ds))) (sym grew)
+          (subst (λ m. HasChildren (ps ++ d.parent ∷ []) (with_number (rows ++ [] ∷ []) d.parent m)) n (children_more ps rows k.tree.parents k.children d.parent parent'));
     }
 
 pub kept_as : {ds es : List Device} {ns ms : List (List ℕ)} {xs ys : List (List ℕ)} → ds ≡ es → ns ≡ ms → xs ≡ ys → IsKept ds ns xs → IsKept es ms ys

@@ -1,7 +1,7 @@
 ghost use Rattle.std.specs.Prelude.{◌≡◌, ◌<◌, IfSome, OnOk, length, slice_index, vec_len, vec_capacity};
 ghost use Rattle.indexmap.specs.IndexSet.{spare};
 ghost use Rattle.device_tree.specs.Refusal.{is_lost};
-ghost use Rattle.device_rows.specs.Table.{hung};
+ghost use Rattle.device_rows.specs.Table.{with_number};
 
 use crate::fault::TreeFault;
 use device_rows::Rows;
@@ -184,7 +184,7 @@ fn make_room(
 // Puts the device at the end of its parent's children.
 fn add_child(children: &mut Rows, parent: Option<u32>, device: u32)
     requires { IfSome parent (λ p. 0 < slice_index children.old.room p) }
-    ensures { children.new.rows ≡ hung children.old.rows parent device }
+    ensures { children.new.rows ≡ with_number children.old.rows parent device }
 {
     if let Some(parent) = parent {
         children.push(parent, device);

@@ -5,6 +5,7 @@ use lib.ListN.{get_elem?}
 use Rattle.atomic_table.specs.Table.{State, Me, Step}
 use Rattle.sleep_model.specs.declared.word.EventNow.{EventNow}
 use Rattle.sleep_model.specs.declared.word.WordKind.{WordKind}
+use Rattle.sleep_model.specs.Sources.{most_entries}
 use Rattle.sleep_model.specs.Word.{position}
 use Rattle.event_word.specs.declared.view.View.{View}
 use Rattle.event_word.specs.Histories.{SourceStep, word_after, steps_of, AreBelow, AreInTurn, packed, unpacked}
@@ -32,7 +33,7 @@ pub record Kept (s : State (Unit {0}) View) : Type 0 where
   pub word : slice_index s.words 0 ≡ packed (word_after log)
   pub makers : AreBelow next log
   pub turns : AreInTurn log
-  pub short : (k : ℕ) → length (steps_of k log) ≤ 60000
+  pub short : (k : ℕ) → length (steps_of k log) ≤ most_entries
   pub each_seat : (j : ℕ) (v : View) → get_elem? s.views j ≡ some v → Knows log next boss seat_of j v
 
 -- the first view of the seat that only looks

@@ -2,7 +2,7 @@
 use Rattle.std.specs.Prelude.{◌≡◌, List, ◌∷◌, ◌++◌, Option, Some, None}
 use Rattle.sleep_model.specs.declared.word.EventNow.{EventNow}
 
--- the word is the one that is told, where one is
+-- the word is the one that the holder tells, where it tells one
 abbrev pub IsTold : Option EventNow → EventNow → Type 0
 IsTold None word = Unit {0}
 IsTold (Some told) word = word ≡ told

@@ -5,6 +5,7 @@ use lib.ListN.{get_elem?}
 use Rattle.atomic_table.specs.Seated.{TableId}
 use Rattle.atomic_table.specs.declared.shared.Seat.{Seat}
 use Rattle.sleep_model.specs.declared.word.EventNow.{EventNow}
+use Rattle.sleep_model.specs.Sources.{most_entries}
 use Rattle.event_word.specs.declared.view.View.{View}
 use Rattle.event_word.specs.Steps.{MadeStep}
 
@@ -33,7 +34,7 @@ pub record IsSource (t : Token) : Type 0 where
   pub plain : t.me.0.keeps ≡ false
   pub numbered : number_of t ≢ None
   pub empty : t.me.1 ≡ []
-  pub short : length (made_of t) ≤ 60000
+  pub short : length (made_of t) ≤ most_entries
 
 -- the seat that only looks
 pub record IsLook (t : Token) : Type 0 where

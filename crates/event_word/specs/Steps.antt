@@ -4,6 +4,7 @@ use Rattle.sleep_model.specs.declared.word.EventNow.{EventNow}
 use Rattle.sleep_model.specs.declared.word.WordKind.{WordKind}
 use Rattle.sleep_model.specs.declared.word.WordKind.TheVariants.{Start, Finish, Hard}
 use Rattle.sleep_model.specs.Numbers.{after_step}
+use Rattle.sleep_model.specs.Sources.{most_entries}
 use Rattle.event_word.specs.declared.view.MadeStep as view
 
 -- a step that was made, and the word before it
@@ -56,8 +57,8 @@ fits Start active = if active then false else true
 fits Finish active = active
 fits Hard active = true
 
--- a source that made so many steps can make these next, one after another: at most 60,000 in all (own)
+-- a source that has made this number of steps can make these next, one after another: at most 60,000 in all (own)
 abbrev pub can_make : ℕ → Bool → List WordKind → Bool
 can_make count active [] = true
 can_make count active (step ∷ rest) =
-    nat_lt count 60000 && fits step active && can_make (suc count) (active_after step active) rest
+    nat_lt count most_entries && fits step active && can_make (suc count) (active_after step active) rest

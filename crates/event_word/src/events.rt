@@ -14,10 +14,10 @@ pub trait Events {
     /// The word, if no other thread can move it.
     ghost tells: { Self → Option EventNow };
 
-    /// The words looked at, the newest first, where they are told.
+    /// The words looked at, the newest first, where the holder tells them.
     ghost looked: { Self → Option (List EventNow) };
 
-    /// The steps that this holder made, the newest first, where they are told.
+    /// The steps that this holder made, the newest first, where it tells them.
     ghost made: { Self → Option (List MadeStep) };
 
     /// Whether this holder can make these steps next, in this order.

@@ -11,7 +11,7 @@ use std::alloc::Global;
 use std::sync::Wait;
 use std::thread::Threads;
 
-/// What the command `idle` writes: the text of the log of a run by so many workers, 1 to 64. There are 1 to 16 wakers, and 1
+/// What the command `idle` writes: the text of the log of a run by 1 to 64 workers. There are 1 to 16 wakers, and 1
 /// to 1,000 events and sessions. `NoMemory` comes for want of memory.
 pub fn idle_of<R: Threads + Wait + Sync>(
     rt: &R,

@@ -53,7 +53,7 @@ pub struct IdleLog {
     pub idle: bool,
 }
 
-/// What a waker has made: so many wakes, and whether a hard event whose wake is still to be made.
+/// What a waker has made: how many wakes, and whether a hard event whose wake is still to be made.
 #[derive(Clone, Copy, Debug, PartialEq, Eq)]
 pub struct WakerNow {
     pub wakes: u32,

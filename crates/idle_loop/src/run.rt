@@ -11,7 +11,8 @@ use std::alloc::Global;
 use std::sync::Wait;
 
 /// Runs wakers and idler on the caller's thread: each round a turn of each waker, in their order, and one of the idler, up
-/// to the end. There are 1 to 16 wakers, and 1 to 1,000 events and sessions. `Mem` where there is no memory for the log.
+/// to the end. There are 1 to 16 wakers, and 1 to 1,000 events and sessions. `Mem` where there is no memory for the log. It is
+/// the plain form by which a run by one worker of several is tried; the program runs all by `run_idle` of `idle_workers`.
 #[tactic(auto, using(crate::proofs::Ending::kept_at_first))]
 pub fn run_idle_alone<R: Wait>(rt: &R, alloc: Global, sizes: IdleSizes) -> Result<IdleLog, Mem>
     requires { AreSizes sizes }

@@ -7,7 +7,7 @@ use Rattle.idle_loop.specs.declared.entry.IdleEntry.{IdleEntry}
 use Rattle.idle_loop.specs.declared.entry.IdleSizes.{IdleSizes}
 use Rattle.idle_loop.specs.IdleLogs.{IsIdleLog, state_after, begun, wakes_of}
 
--- a waker's hard event that stands behind so many (pm_system_wakeup)
+-- a waker's hard event that stands behind n of them (pm_system_wakeup)
 abbrev pub hard_entry : ℕ → ℕ → IdleEntry
 hard_entry before who = record { hard = before; who = who; what = Hard }
 
@@ -55,12 +55,12 @@ abbrev pub IsJournal : IdleSizes → List IdleEntry → Type 0
 IsJournal z [] = Unit {0}
 IsJournal z (e ∷ journal) = MayEnter z journal e.hard e.who e.what × IsJournal z journal
 
--- each of the entries saw at least so many hard events
+-- each of the entries saw at least n hard events
 abbrev pub SawLeast : ℕ → List IdleEntry → Type 0
 SawLeast hard [] = Unit {0}
 SawLeast hard (e ∷ journal) = (hard ≤ e.hard) × SawLeast hard journal
 
--- each of the entries saw at most so many hard events
+-- each of the entries saw at most n hard events
 abbrev pub SawMost : ℕ → List IdleEntry → Type 0
 SawMost hard [] = Unit {0}
 SawMost hard (e ∷ journal) = (e.hard ≤ hard) × SawMost hard journal

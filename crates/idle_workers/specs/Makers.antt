@@ -41,7 +41,7 @@ module _ {Z : Type 0} where
   AreAtPlaces ms from [] = Unit {0}
   AreAtPlaces ms from (v ∷ vs) = (v.items ≡ reverse (places from ms)) × AreAtPlaces ms (from + 1) vs
 
-  -- the lists are those of all makers of so many events (own)
+  -- the lists are those of all makers of these events (own)
   pub record AreMakers (count : ℕ) (ms : List ℕ) (lists : List (Vec ℕ Z)) : Type 0 where
     pub counted : count ≡ length ms
     pub few : length lists ≤ 16

@@ -6,7 +6,7 @@ use event_word::Events;
 use sleep_model::EventNow;
 use std::sync::Wait;
 
-/// Looks until the word counts at least so many hard events, which the first look nearly always finds.
+/// Looks until the word counts at least `least` hard events, which the first look nearly always finds.
 #[tactic(auto, using(event_word::proofs::Looking::not_grown, event_word::proofs::Looking::grew, event_word::proofs::Looking::still_grown))]
 pub(crate) fn look_for<R: Wait, E: Events>(rt: &R, events: &mut E, least: u64) -> EventNow
     ensures low { least ≤ result.hard }

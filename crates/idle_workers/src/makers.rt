@@ -16,7 +16,7 @@ fn fill(makers: &mut Vec<u32>, who: u32, places: &[u32])
     }
 }
 
-/// The makers of so many hard events, from the places of each waker's, in the order of the wakers' numbers.
+/// The makers of all hard events, from the places of each waker's, in the order of the wakers' numbers.
 pub(crate) fn makers_of(alloc: Global, count: u32, places: &Vec<Vec<u32>>) -> Result<Vec<u32>, Mem>
     requires { (ms : List ℕ) × AreMakers count ms places.now.items }
     ensures few { IfOk result (λ makers. length makers.items < 2 ^ 32) }

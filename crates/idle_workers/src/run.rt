@@ -113,7 +113,7 @@ fn to_end<R: Threads + Wait + Sync>(
     unreachable!()
 }
 
-/// Runs wakers and idler by so many workers (`kernel/power/suspend.c`, `s2idle_loop`). There are 1 to 16 wakers, and 1 to
+/// Runs wakers and idler by several workers (`kernel/power/suspend.c`, `s2idle_loop`). There are 1 to 16 wakers, and 1 to
 /// 1,000 events and sessions. `Mem` where there is no memory.
 pub fn run_idle<R: Threads + Wait + Sync>(
     rt: &R,

@@ -57,7 +57,7 @@ written asked board =
 abbrev pub arrived : ℕ → Advanced → Board → Result Board LinesFault
 arrived to made board = unless_full made.full (record { locks = made.locks; now = to; said = board.said })
 
--- after a wait of so many ms: each expiry comes at its own moment (pm_wakeup_timer_fn)
+-- after a wait of that length in ms: each expiry comes at its own moment (pm_wakeup_timer_fn)
 abbrev pub waited : ℕ → Board → Result Board LinesFault
 waited ms board = arrived (board.now + ms) (advanced most_entries (board.now + ms) board.locks) board
 

@@ -44,7 +44,7 @@ fn first_bad(bytes: &[u8]) -> Option<u32>
 /// All lines are tried before the first is carried out: `Line` is the first of no form. `Full` names the first lock
 /// on which a call is to be made though its history has fewer than four places left. `Mem` comes for want of memory.
 ///
-/// What is told of names and what is told of sources agree: a name is active exactly where its source has an event in
+/// What names show and what sources show agree: a name is active exactly where its source has an event in
 /// progress, and until when that ends.
 #[tactic(auto, using(crate::proofs::Agreeing::agreed))]
 pub fn answer_lines<R: Wait>(rt: &R, alloc: Global, bytes: &[u8]) -> Result<Vec<u8>, LinesFault>

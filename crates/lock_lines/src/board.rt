@@ -82,7 +82,7 @@ impl LockBoard {
         self.say(answer)
     }
 
-    /// Lets so many ms go by: each expiry until then comes at its own moment.
+    /// Lets a time in ms go by: each expiry until then comes at its own moment.
     fn wait<R: Wait>(&mut self, rt: &R, ms: u64) -> Result<(), LinesFault>
         requires timely { IsTimely self.old.now self.old.locks }
         requires small { self.old.now + ms ≤ 2 ^ 63 }

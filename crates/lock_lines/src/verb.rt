@@ -19,7 +19,7 @@ pub enum Verb {
     Lock,
     /// To write the text to `wake_unlock`.
     Unlock,
-    /// To let so many ms go by, 1 to 86,400,000.
+    /// To let 1 to 86,400,000 ms go by.
     After(u64),
     /// To tell the names that are active, as `wake_lock` does where it is read.
     Active,

@@ -19,7 +19,7 @@ pub data IsVerdictOf (m : Machine) (bytes : List ℕ) : Verdict → Type 0 where
   OfLog : (log : Log) (v : Verdict) → IsWritable m log → text m log ≡ bytes → IsVerdict m log v → IsVerdictOf m bytes v
   OfLine : (line : ℕ) → IsFirstBad m bytes line → IsVerdictOf m bytes (Bad line 23)
 
--- what is told of a verdict
+-- the text of a verdict
 abbrev pub verdict_text : Verdict → List ℕ
 verdict_text Good = codes "legal\n"
 verdict_text (Bad line definition) = counted (codes "illegal line ") line ++ count_row (codes " definition ") definition
@@ -29,21 +29,21 @@ abbrev pub is_good : Verdict → Bool
 is_good Good = true
 is_good (Bad line definition) = false
 
--- a text has a verdict, and that is told
+-- a text has a verdict, and this is its text
 pub record TellsVerdict (m : Machine) (bytes said : List ℕ) (good : Bool) : Type 0 where
   pub verdict : Verdict
   pub is : IsVerdictOf m bytes verdict
   pub is_text : said ≡ verdict_text verdict
   pub is_good : good ≡ is_good verdict
 
--- a machine stands in the bytes, and the verdict on the text behind it is told
+-- a machine stands in the bytes, and this is the text of the verdict on what stands behind it
 pub record IsJudged (bytes said : List ℕ) (good : Bool) : Type 0 where
   pub machine : Machine
   pub few : length (file_in bytes) ≤ 16777216
   pub spells : machine_in (file_in bytes) ≡ Some machine
   pub told : TellsVerdict machine (text_in bytes) said good
 
--- why no verdict is told: the machine's file is refused so
+-- why there is no verdict: the machine's file is refused so
 abbrev pub RefusesCheck : List ℕ → Refusal → Type 0
 RefusesCheck bytes refusal = IsBadMachine (file_in bytes) refusal
 

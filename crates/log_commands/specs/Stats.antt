@@ -12,7 +12,7 @@ use Rattle.log_commands.specs.Input.{IsBadInput, IsLogIn}
 use Rattle.log_commands.specs.Taking.{refusal_of}
 use Rattle.log_commands.specs.Telling.{stats_text}
 
--- the text is what is told of the counts of a log, and of the longest chain of devices at its end (suspend_stats_show)
+-- the text is that of the counts of a log, and of the longest chain of devices at its end (suspend_stats_show)
 pub record IsToldOf (m : Machine) (log : Log) (said : List ℕ) : Type 0 where
   pub chain : Chain
   pub longest : IsLongest (last_linked m log) chain
@@ -22,12 +22,12 @@ pub record IsToldOf (m : Machine) (log : Log) (said : List ℕ) : Type 0 where
 abbrev pub IsBadLink : Machine → Log → Refusal → Type 0
 IsBadLink m log refusal = refusal_of (parents_of m.devices) m.links log.entries ≡ Some refusal
 
--- no link of the log is refused, and the text is what is told of both
+-- no link of the log is refused, and the text is that of both
 pub record IsGoodTold (m : Machine) (log : Log) (said : List ℕ) : Type 0 where
   pub good : refusal_of (parents_of m.devices) m.links log.entries ≡ None
   pub told : IsToldOf m log said
 
--- a machine and its log stand in the bytes, no link of the log is refused, and the text is what is told of them
+-- a machine and its log stand in the bytes, no link of the log is refused, and the text is that of them
 pub record IsStatsOf (bytes said : List ℕ) : Type 0 where
   pub machine : Machine
   pub log : Log

@@ -1,4 +1,4 @@
--- What is told of a log: its counts, the last failures, the longest chain of devices, and their levels (kernel/power/main.c, suspend_stats_show).
+-- The text for a log: its counts, the last failures, the longest chain of devices, and their levels (kernel/power/main.c, suspend_stats_show).
 use Rattle.std.specs.Prelude.{ℕ, suc, List, [], ◌∷◌, ◌++◌, length, codes, decimal, Option, Some, None}
 use Rattle.std.specs.List.{flat_map}
 use Rattle.sleep_base.specs.declared.errno.Errno.{Errno}
@@ -68,7 +68,7 @@ abbrev pub levels_text : Machine → ℕ → List ℕ → List ℕ
 levels_text m d [] = []
 levels_text m d (level ∷ levels) = level_row m d level ++ levels_text m (suc d) levels
 
--- what is told of a machine, of what its log counts, and of a chain
+-- the text for a machine, for what its log counts, and for a chain
 abbrev pub stats_text : Machine → Counts → Chain → List ℕ
 stats_text m counts chain =
     counts_text counts ++ failures_text m counts ++ chain_row m chain.devices ++ levels_text m 0 chain.levels

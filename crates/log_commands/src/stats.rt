@@ -20,7 +20,7 @@ use sleep_model::{Log, Machine};
 use sleep_stats::{count, longest};
 use std::alloc::Global;
 
-/// What is told of a machine and its log. `NoMemory` for want of memory, and where the log has more entries than have
+/// The text for a machine and its log. `NoMemory` for want of memory, and where the log has more entries than have
 /// numbers.
 fn told_of(alloc: Global, machine: &Machine, log: &Log) -> Result<Vec<u8>, Ending>
     requires accepted { IsAccepted machine.now }
@@ -41,7 +41,7 @@ fn told_of(alloc: Global, machine: &Machine, log: &Log) -> Result<Vec<u8>, Endin
     }
 }
 
-/// What is told of a machine and its log, once the links that the log adds were tried behind the machine's.
+/// The text for a machine and its log, once the links that the log adds were tried behind the machine's.
 fn told_if_linked(
     alloc: Global,
     machine: &Machine,
@@ -60,7 +60,7 @@ fn told_if_linked(
     }
 }
 
-/// What is told of the machine and the log in these bytes: what the log counts of its attempts, its last failures, the
+/// The text for the machine and the log in these bytes: what the log counts of its attempts, its last failures, the
 /// longest chain of devices at its end, and each device's level.
 ///
 /// Refused in turn: the machine, the log (`read_log_input`), and a link that the log adds where 4,000 stand

@@ -1,4 +1,4 @@
-//! What is told of a log's counts and of the longest chain of devices.
+//! The text for a log's counts and for the longest chain of devices.
 
 ghost use Rattle.std.specs.Prelude.{◌≡◌, ◌<◌, ◌^◌, ◌++◌, OnOk, IfOk, length};
 ghost use Rattle.log_commands.specs.Telling.{chain_row, count_row, counted, counts_text, dev_row, errno_row, failed_dev_row, failed_errno_row, failures_text, level_row, levels_text, names_text, stats_text};
@@ -149,7 +149,7 @@ fn put_levels(text: &mut Vec<u8>, machine: &Machine, levels: &[u32]) -> Result<(
     Ok(())
 }
 
-/// What is told of a machine, of what its log counts, and of a chain. `Mem` if there is no memory for it.
+/// The text for a machine, for what its log counts, and for a chain. `Mem` if there is no memory for it.
 pub fn stats_text(
     alloc: Global,
     machine: &Machine,

@@ -13,3 +13,4 @@ pub use journal::rises;
 pub use merged::merge;
 pub use placed::merge_journal;
 pub use reader::LogReader;
+pub use sources::{in_order, with_history};

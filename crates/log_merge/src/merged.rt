@@ -19,8 +19,8 @@ fn with_run(mut entries: EntryList, run: &[JournalEntry]) -> Result<EntryList, M
     Ok(entries)
 }
 
-/// The one log of a journal, whose ticks and positions rise, and of the sources' histories.
-/// `Mem` where there is no memory.
+/// The one log of a journal, whose ticks and positions rise, and of the sources' histories, as a list. It is the plain form
+/// by which `merge_journal`, which a run uses, is tried. `Mem` where there is no memory.
 pub fn merge(
     alloc: Global,
     journal: &[JournalEntry],

@@ -26,7 +26,7 @@ fn compare(a: &SourceEntry, b: &SourceEntry) -> Ordering
 }
 
 /// These entries, and those of a history behind them. `Mem` where there is no memory.
-fn with_history<'a>(
+pub fn with_history<'a>(
     mut entries: Vec<&'a SourceEntry>,
     history: &'a [SourceEntry],
 ) -> Result<Vec<&'a SourceEntry>, Mem>
@@ -49,12 +49,19 @@ fn gathered(alloc: Global, histories: &[SourceList]) -> Result<Vec<&SourceEntry>
     Ok(entries)
 }
 
+/// Entries in the order of the one log, equal ones as they stood. `Mem` where there is no memory.
+pub fn in_order(mut entries: Vec<&SourceEntry>) -> Result<Vec<&SourceEntry>, Mem>
+    ensures { IfOk result (λ all. seen all.items ≡ in_order (seen entries.entry.items)) }
+{
+    entries.sort_by(|a, b| compare(a, b))?;
+    Ok(entries)
+}
+
 /// The entries of all sources in the order of the one log, equal ones history by history. `Mem` where
 /// there is no memory.
 pub(crate) fn sorted(alloc: Global, histories: &[SourceList]) -> Result<Vec<&SourceEntry>, Mem>
     ensures { IfOk result (λ all. seen all.items ≡ in_order (sources_entries histories.now)) }
 {
-    let mut entries = gathered(alloc, histories)?;
-    entries.sort_by(|a, b| compare(a, b))?;
-    Ok(entries)
+    let entries = gathered(alloc, histories)?;
+    in_order(entries)
 }

@@ -278,7 +278,7 @@ platform_prepare_late_fails_entries =
 abbrev pub platform_prepare_late_fails : Log
 platform_prepare_late_fails = log_of platform_prepare_late_fails_entries (unused ∷ [])
 
--- a notifier fails: the one before it is told, and nothing is frozen: its machine
+-- a notifier fails: the one before it hears of that, and nothing is frozen: its machine
 abbrev pub notifier_fails_machine : Machine
 notifier_fails_machine = record bare {
   notifiers = notifier (codes "n1") (pos 0) ∷ notifier (codes "n2") (pos 10) ∷ [];

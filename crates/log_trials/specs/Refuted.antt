@@ -159,7 +159,7 @@ never_prepared_entries =
     ∷ entry 1000 (word 0 0 0) (actor.Script 0) kind.Exit
     ∷ []
 
--- the platform is told twice that the attempt begins, and once that it ends
+-- the platform hears twice that the attempt begins, and once that it ends
 abbrev pub begun_twice_entries : List Entry
 begun_twice_entries =
     entry 0 (word 0 0 0) (actor.Script 0) (kind.Read 0)

@@ -114,7 +114,7 @@ abbrev pub advance : Machine → List Actor → Run → Run
 advance m jobs (Ended past) = Ended past
 advance m jobs (Goes past) = let next = round m jobs past in after_round m (length next == length past) next
 
--- so many rounds
+-- n rounds
 abbrev pub rounds : Machine → List Actor → ℕ → Run → Run
 rounds m jobs zero run = run
 rounds m jobs (suc n) run = rounds m jobs n (advance m jobs run)
@@ -124,6 +124,6 @@ abbrev pub ended : Run → List Entry
 ended (Ended past) = reverse past
 ended (Goes past) = []
 
--- the entries that one worker makes in at most so many rounds
+-- the entries that one worker makes in at most n rounds
 abbrev pub one_worker : Machine → ℕ → List Entry
 one_worker m most = ended (rounds m (jobs m) most (Goes []))

@@ -211,7 +211,7 @@ syscore_step_fails_text =
     codes "source autosleep 0 0 0 0 0 0 0\n" ++
     codes "finished\n"
 
--- a notifier fails: the one before it is told, and nothing is frozen: the text of its log
+-- a notifier fails: the one before it hears of that, and nothing is frozen: the text of its log
 abbrev pub notifier_fails_text : List ℕ
 notifier_fails_text =
     codes "0 0/0/0 task:w attempt 1 plain\n" ++

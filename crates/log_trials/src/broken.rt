@@ -93,13 +93,13 @@ pub fn broken_prepare_fails()
 pub fn broken_notifier_fails()
     // The notifier of the highest priority is not told.
     ensures skipped { IsLegalLog notifier_fails_machine (with_entries notifier_fails (left_out 1 notifier_fails_entries)) → ⊥ }
-    // The lower one is told first.
+    // The lower one hears first.
     ensures order { IsLegalLog notifier_fails_machine (with_entries notifier_fails (exchanged 1 notifier_fails_entries)) → ⊥ }
     // It answers 0, though the machine says otherwise.
     ensures answer { IsLegalLog notifier_fails_machine (with_entries notifier_fails (says 2 (kind.NotifyPrepare 0 None) notifier_fails_entries)) → ⊥ }
     // The one that was told is not told of the end.
     ensures post { IsLegalLog notifier_fails_machine (with_entries notifier_fails (left_out 3 notifier_fails_entries)) → ⊥ }
-    // The one that refused is told of the end.
+    // The one that refused hears of the end.
     ensures refuser { IsLegalLog notifier_fails_machine (with_entries notifier_fails (says 3 (kind.NotifyPost 0) notifier_fails_entries)) → ⊥ }
 {}
 
@@ -199,9 +199,9 @@ pub fn broken_links()
     ensures waits { IsLegalLog active_link_machine (with_entries active_link (exchanged 11 active_link_entries)) → ⊥ }
     // A link is added while an attempt is open.
     ensures inside { IsLegalLog links_in_an_attempt_machine (with_entries links_in_an_attempt (says 3 (kind.LinkAdd 1 0 None) links_in_an_attempt_entries)) → ⊥ }
-    // The state of a link is asked for while an attempt is open, and that the link is missing is told first.
+    // The state of a link is asked for while an attempt is open, and the answer is that the link is missing.
     ensures missing { IsLegalLog links_in_an_attempt_machine (with_entries links_in_an_attempt (says 5 (kind.LinkState 1 0 false (Some ENODEV)) links_in_an_attempt_entries)) → ⊥ }
-    // A link that stands is told to be missing.
+    // A link that stands is answered as missing.
     ensures stands { IsLegalLog links_without_an_attempt_machine (with_entries links_without_an_attempt (says 4 (kind.LinkState 1 0 false (Some ENODEV)) links_without_an_attempt_entries)) → ⊥ }
     // A step that sets a state is left out.
     ensures step { IsLegalLog links_without_an_attempt_machine (with_entries links_without_an_attempt (left_out 4 links_without_an_attempt_entries)) → ⊥ }

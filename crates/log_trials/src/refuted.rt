@@ -24,7 +24,7 @@ pub fn never_prepared_is_refused()
     ensures { FailsAt (λ m past k. TakenOnce m past k) parent_and_child_machine 10 never_prepared_entries }
 {}
 
-/// The platform is told twice that the attempt begins, and once that it ends.
+/// The platform hears twice that the attempt begins, and once that it ends.
 pub fn begun_twice_is_refused()
     ensures { FailsAt (λ m past k. NotOwedAlready m past k) smallest_attempt_machine 8 begun_twice_entries }
 {}

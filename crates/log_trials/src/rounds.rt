@@ -102,7 +102,7 @@ pub fn platform_prepare_late_fails_is_made()
     ensures { one_worker platform_prepare_late_fails_machine 24 ≡ platform_prepare_late_fails_entries }
 {}
 
-/// A notifier fails: the one before it is told, and nothing is frozen.
+/// A notifier fails: the one before it hears of that, and nothing is frozen.
 pub fn notifier_fails_is_made()
     ensures { one_worker notifier_fails_machine 7 ≡ notifier_fails_entries }
 {}

@@ -43,7 +43,7 @@ pub fn syscore_step_fails_is_written()
     ensures { text syscore_step_fails_machine syscore_step_fails ≡ syscore_step_fails_text }
 {}
 
-/// A notifier fails: the one before it is told, and nothing is frozen.
+/// A notifier fails: the one before it hears of that, and nothing is frozen.
 #[tactic(auto, unfolding(crate::proofs::Numerals::digits))]
 pub fn notifier_fails_is_written()
     ensures { text notifier_fails_machine notifier_fails ≡ notifier_fails_text }

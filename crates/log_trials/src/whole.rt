@@ -139,7 +139,7 @@ pub fn platform_prepare_late_fails_is_legal()
     ensures finished { IsFinishedLog platform_prepare_late_fails_machine platform_prepare_late_fails }
 {}
 
-/// A notifier fails: the one before it is told, and nothing is frozen.
+/// A notifier fails: the one before it hears of that, and nothing is frozen.
 pub fn notifier_fails_is_legal()
     ensures legal { IsLegalLog notifier_fails_machine notifier_fails }
     ensures writable { IsWritable notifier_fails_machine notifier_fails }

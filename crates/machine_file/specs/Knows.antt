@@ -18,7 +18,7 @@ pub record Knows (k : Known) (file : Data) : Type 0 where
   pub sources : texts k.sources ≡ sources_named file
   pub marks : texts k.marks ≡ whole_marks file
 
--- at most so many devices and sources as a machine may have, and no more other things
+-- no more devices and sources than a machine may have, and no more other things
 pub record AreFew (k : Known) : Type 0 where
   pub devices : length k.devices ≤ 1000
   pub syscore : length k.syscore ≤ 1000

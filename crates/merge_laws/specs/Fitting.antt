@@ -34,7 +34,7 @@ abbrev pub are_counted : ℕ → List JournalEntry → Bool
 are_counted n [] = true
 are_counted n (e ∷ steps) = (e.stamp.pos == n) && are_counted (suc n) steps
 
--- an entry that is no step carries the word that so many of these steps leave as its position says
+-- an entry that is no step carries the word that these steps leave, up to the number that its position says
 abbrev pub is_look : List JournalEntry → JournalEntry → Bool
 is_look steps e =
     is_word_step e

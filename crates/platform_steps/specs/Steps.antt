@@ -18,7 +18,7 @@ pub record Steps : Type 0 where
   pub cpus : ℕ
   pub off : List Bool
 
--- nobody is told, and no processor is off
+-- nobody has heard, and no processor is off
 abbrev pub first_steps : Machine → Steps
 first_steps m = record { order = call_order m; told = replicate (length m.notifiers) false; cpus = m.cpus; off = replicate m.cpus false }
 

@@ -32,7 +32,7 @@ impl Platform {
     ghost use Rattle.std.specs.Prelude.{◌≡◌, ◌<◌, ◌^◌, length, IfOk};
     ghost use Rattle.platform_steps.specs.Steps.{first_steps, steps_after, called_next, posted_next, stopped_next, started_next, part_entry};
 
-    /// Nobody is told yet, and no processor is off. `Mem` if there is no memory for the lists.
+    /// Nobody has heard yet, and no processor is off. `Mem` if there is no memory for the lists.
     pub fn new(alloc: Global, machine: &Machine) -> Result<Self, Mem>
         requires { length machine.now.notifiers < 2 ^ 32 }
         ensures { IfOk result (λ p. p ≡ first_steps machine.now) }

@@ -7,7 +7,7 @@ use itoa::Buffer;
 /// How the program ends.
 #[derive(Debug, Drop)]
 pub enum Ending {
-    /// The text was written: a machine file, or what is told of a run in which nothing was left to do, or of an input.
+    /// The text was written: a machine file, or that of a run in which nothing was left to do, or that for an input.
     Done,
     /// The text was written, of a run in which nobody went on.
     Stuck,

@@ -105,7 +105,7 @@ pub fn tasks_freeze()
     ensures number { HoldsAt (BreaksAlone Freezer) freeze_times_out_machine 6 (says 6 (kind.Froze group.User (froze.Timeout 2 0)) freeze_times_out_entries) }
 {}
 
-/// After a phase that failed the platform is told first.
+/// After a phase that failed the platform recovers first.
 pub fn makers_keep_to_the_table()
     ensures kept { HoldsAt (Keeps Path) event_stops_a_device_machine 31 event_stops_a_device_entries }
     // Its end comes first.

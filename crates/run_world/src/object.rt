@@ -63,7 +63,7 @@ impl<'m> WorldObject<'m> {
         }
     }
 
-    /// A turn of the machine that it is, by an actor that has made so many calls on sources; None where those are
+    /// A turn of the machine that it is, by an actor that has made `calls` calls on sources; None where those are
     /// not all that are due.
     pub(crate) fn turn<R: Wait>(
         &mut self,

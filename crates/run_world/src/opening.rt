@@ -12,7 +12,7 @@ use run_objects::{SeatedCore, SeatedSource};
 use sleep_base::Mem;
 use std::alloc::Global;
 
-/// The machine as the first of so many objects. `Mem` where there is no memory.
+/// The machine as the first of all objects. `Mem` where there is no memory.
 fn with_machine<'m>(
     alloc: Global,
     machine: SeatedCore<'m>,

@@ -78,7 +78,7 @@ impl<'m> PlacedCore<'m> {
         core
     }
 
-    /// A turn of the machine by an actor that has made so many calls on sources; None where those are not all that are
+    /// A turn of the machine by an actor that has made `calls` calls on sources; None where those are not all that are
     /// due.
     pub(crate) fn turn<R: Wait>(
         &mut self,

@@ -29,7 +29,7 @@ pub type WorldPass<'m> = Pass<WorldObject<'m>>;
 #[derive(Drop)]
 pub struct World<'w, 'm, R, G> {
     pub rt: &'w R,
-    /// Who is told of the turns.
+    /// Who hears of the turns.
     pub gate: &'w G,
     /// The machine that is run.
     pub machine: &'m Machine,
@@ -86,7 +86,7 @@ impl<'w, 'm, R: Wait, G: Gate> World<'w, 'm, R, G> {
         }
     }
 
-    /// A turn of an actor that has made so many calls on sources, under the machine's lock alone. The gate is told of
+    /// A turn of an actor that has made `calls` calls on sources, under the machine's lock alone. The gate hears of
     /// the actor once it has the lock, before it looks at anything. Time is the machine's; None where the calls are not
     /// all that are due. Else answers as `SeatedCore::turn`; what the pass then made is what it had made, and the turn's
     /// entry, which stands at the end of the journal. Any other answer than `Did` adds nothing.

@@ -47,12 +47,12 @@ calls_in (op.Event s ms hard) = 1
 calls_in (op.Autosleep text) = one_or_two false (is_mem text || is_off text)
 calls_in _ = 0
 
--- where so many calls were made before it: the calls before the turns of a write to autosleep, whose text is good or not (pm_autosleep_set_state)
+-- where n calls were made before it: the calls before the turns of a write to autosleep, whose text is good or not (pm_autosleep_set_state)
 abbrev pub turns_of_autosleep : ℕ → Bool → List ℕ
 turns_of_autosleep before true = (before + 1) ∷ (before + 2) ∷ []
 turns_of_autosleep before false = before ∷ []
 
--- where so many calls were made before it: the calls before each of an operation's turns
+-- where n calls were made before it: the calls before each of an operation's turns
 abbrev pub turns_in : ℕ → Op → List ℕ
 turns_in before (op.Awake s) = []
 turns_in before (op.Relax s) = []
@@ -60,12 +60,12 @@ turns_in before (op.Event s ms hard) = []
 turns_in before (op.Autosleep text) = turns_of_autosleep before (is_mem text || is_off text)
 turns_in before _ = before ∷ []
 
--- where so many calls were made before: the calls before each turn of these operations
+-- where n calls were made before: the calls before each turn of these operations
 abbrev pub turns_from : ℕ → List Op → List ℕ
 turns_from before [] = []
 turns_from before (op ∷ ops) = turns_in before op ++ turns_from (before + calls_in op) ops
 
--- where so many calls were made before: the calls after these operations
+-- where n calls were made before: the calls after these operations
 abbrev pub calls_after : ℕ → List Op → ℕ
 calls_after before [] = before
 calls_after before (op ∷ ops) = calls_after (before + calls_in op) ops

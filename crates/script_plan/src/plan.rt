@@ -50,7 +50,7 @@ fn calls_in(op: &Op) -> u32
     }
 }
 
-/// The calls before each of an operation's turns, where so many were made before it.
+/// The calls before each of an operation's turns, where `before` calls were made before it.
 fn push_turns(turns: &mut Vec<u32>, before: u32, op: &Op) -> Result<(), Mem>
     requires { before < 2 ^ 31 }
     ensures { OnOk result (turns.new.items ≡ turns.old.items ++ turns_in before op.now) }

@@ -83,7 +83,7 @@ impl ByteSource for MemSource {
     }
 }
 
-/// A sink in memory with room for so many bytes.
+/// A sink in memory with room for that number of bytes.
 #[derive(Drop)]
 pub struct MemSink {
     bytes: Vec<u8>,

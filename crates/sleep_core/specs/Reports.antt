@@ -13,7 +13,7 @@ pub record ReportCounts : Type 0 where
   pub auto : ℕ
   pub devices : List ℕ
 
--- so many scripts and devices, whose callbacks have reported nothing
+-- a number of scripts and one of devices, whose callbacks have reported nothing
 abbrev pub none_reported : ℕ → ℕ → ReportCounts
 none_reported scripts devices = record { scripts = replicate scripts 0; auto = 0; devices = replicate devices 0 }
 
@@ -28,7 +28,7 @@ reported_by _ counts = 0
 abbrev pub grown_at : List ℕ → ℕ → ℕ → List ℕ
 grown_at numbers at more = slice_set numbers at (slice_index numbers at + more)
 
--- the numbers after so many more reports of an actor's callback
+-- the numbers after n more reports of an actor's callback
 abbrev pub counts_after : Actor → ℕ → ReportCounts → ReportCounts
 counts_after (actor.Script i) more before = record before { scripts = grown_at before.scripts i more }
 counts_after actor.Auto more before = record before { auto = before.auto + more }

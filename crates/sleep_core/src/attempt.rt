@@ -19,7 +19,7 @@ use sleep_state::{behind, busy_error};
 use task_freezer::Round;
 
 impl<'m> Core<'m> {
-    /// The next notifier is told of the attempt.
+    /// The next notifier hears of the attempt.
     fn notify_due(&self) -> Due
         ensures { result ≡ if_left (λ x. kind.NotifyPrepare x (answered self.now.machine (entries self.now.past) (what.Notifier x)))
             (next_called self.now.machine (entries self.now.past)) }
@@ -150,7 +150,7 @@ impl<'m> Core<'m> {
         }
     }
 
-    /// The next notifier is told that the attempt is over.
+    /// The next notifier hears that the attempt is over.
     fn post_due(&self) -> Due
         ensures { result ≡ if_left kind.NotifyPost (next_posted self.now.machine (entries self.now.past)) }
     {

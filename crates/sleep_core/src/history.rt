@@ -270,7 +270,7 @@ impl<'m> History<'m> {
         Ok(())
     }
 
-    /// Sees that at least so many places are reserved. After an error nothing has changed.
+    /// Sees that at least `places` places are reserved. After an error nothing has changed.
     pub fn reserve(&mut self, places: usize) -> Result<(), AllocError>
         ensures machine { self.new.machine ≡ self.old.machine }
         ensures past { self.new.past ≡ self.old.past }

@@ -110,7 +110,7 @@ impl<'m> Core<'m> {
         }
     }
 
-    /// Whether the actor, which has made so many calls on sources, has one to make, or can make an entry that
+    /// Whether the actor, which has made `calls` calls on sources, has one to make, or can make an entry that
     /// sees this word. `time` is the time of the last jump in ms.
     pub fn enabled(&self, who: Actor, calls: u32, now: EventNow, time: u64) -> bool
         requires actor { IsActor self.now.machine who }

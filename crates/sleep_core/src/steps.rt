@@ -19,7 +19,7 @@ fn slept_due(until: Option<u64>, time: u64) -> Due
     }
 }
 
-/// A sleep that can be frozen, of so many ms, now (`schedule_timeout`).
+/// A sleep that can be frozen, of `ms` ms, now (`schedule_timeout`).
 pub(crate) fn sleep_due(ms: u32, seat: Seat, time: u64) -> Due
     requires { time ≤ 2 ^ 63 }
     ensures { result ≡ sleep_due Sleep ms seat time }
@@ -31,7 +31,7 @@ pub(crate) fn sleep_due(ms: u32, seat: Seat, time: u64) -> Due
     }
 }
 
-/// An uninterruptible sleep of so many ms, now (`schedule_timeout_uninterruptible`).
+/// An uninterruptible sleep of `ms` ms, now (`schedule_timeout_uninterruptible`).
 pub(crate) fn sleep_d_due(ms: u32, seat: Seat, time: u64) -> Due
     requires { time ≤ 2 ^ 63 }
     ensures { result ≡ sleep_due SleepD ms seat time }

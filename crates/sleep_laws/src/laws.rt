@@ -51,7 +51,7 @@ pub fn devices_are_taken_once()
     ensures { HoldsAtEntries (λ m past e. TakenOnce m past e.kind) }
 {}
 
-/// No undo is owed already where a notifier is told of an attempt, a step of the platform is asked, a
+/// No undo is owed already where a notifier hears of an attempt, a step of the platform is asked, a
 /// processor is stopped or found busy, interrupts are turned off, a part of the core is suspended, or
 /// the machine is to enter sleep (`kernel/power/suspend.c`, `platform_suspend_begin`, `suspend_enter`;
 /// `kernel/cpu.c`, `freeze_secondary_cpus`; `drivers/base/syscore.c`, `syscore_suspend`).

@@ -46,7 +46,7 @@ pub record Streams : Type 0 where
   pub input : Stream
   pub output : Stream
 
--- a stream of these bytes and so many faults
+-- a stream of these bytes, with that count of faults
 abbrev pub stream : Option (List ℕ) → ℕ → Stream
 stream bytes faults = record { bytes = bytes; faults = faults }
 
@@ -56,13 +56,13 @@ streams input output = record { input = input; output = output }
 
 -- ---- reading and writing
 
--- the whole input was read, and was these bytes, no more than so many
+-- the whole input was read, and was these bytes, within the limit
 pub record ReadWhole (most : ℕ) (old new : Stream) (bytes : List ℕ) : Type 0 where
   pub taken : Consumes old.bytes new.bytes bytes
   pub at_end : IsAtEnd new.bytes
   pub fits : length bytes ≤ most
 
--- the input is refused: it has more bytes than so many, or the whole input was bytes that are refused so
+-- the input is refused: it has more bytes than the limit, or the whole input was bytes that are refused so
 abbrev pub RefusesInput : ℕ → Refusal → (List ℕ → Refusal → Type 0) → Stream → Stream → Refusal → Type 0
 RefusesInput most long Why old new refusal =
     ((refusal ≡ long) × Took old.bytes new.bytes (λ n. most < n)) ⊎ ((bytes : List ℕ) × ReadWhole most old new bytes × Why bytes refusal)
@@ -128,7 +128,7 @@ abbrev pub IsFullNamed : Machine → ℕ → Ending → Type 0
 IsFullNamed m s (Refused (SourceFull name)) = name ≡ source m s
 IsFullNamed m s _ = ⊥
 
--- how the program ends where a run gives no log: a full source is named, and only want of memory is told as such
+-- how the program ends where a run gives no log: a full source is named, and only want of memory says want of memory
 abbrev pub IsEndingOf : Machine → RunFault → Ending → Type 0
 IsEndingOf m (fault.SourceFull s) ending = IsFullNamed m s ending
 IsEndingOf m fault.Mem ending = ending ≡ NoMemory
@@ -206,17 +206,17 @@ IdleEnded z old new ending = (said : List ℕ) × IsIdleText z said × Writes ol
 
 -- ---- commands that tell of an input
 
--- the whole input was bytes of which a text is told, and that was written, or a front of it
+-- the whole input was bytes that have a text, and that was written, or a front of it
 abbrev pub WroteTold : ℕ → (List ℕ → List ℕ → Type 0) → Streams → Streams → Ending → Type 0
 WroteTold most Gives old new ending =
     (bytes said : List ℕ) × ReadWhole most old.input new.input bytes × Gives bytes said × Writes old.output new.output said false ending
 
--- what is told was written, or a front of it, or nothing
+-- the text was written, or a front of it, or nothing
 abbrev pub WritesTold : Result (Vec ℕ Global) Ending → Stream → Stream → Ending → Type 0
 WritesTold (Ok text) old new ending = Writes old new text.items false ending
 WritesTold (Err other) old new ending = (ending ≡ other) × (new ≡ old)
 
--- what an ending means of a command that reads an input of at most so many bytes, and tells of it or refuses it
+-- what an ending means of a command that reads an input within a limit, and tells of it or refuses it
 abbrev pub TellEnded : ℕ → Refusal → (List ℕ → List ℕ → Type 0) → (List ℕ → Refusal → Type 0) → Streams → Streams → Ending → Type 0
 TellEnded most long Gives Why old new Done = WroteTold most Gives old new Done
 TellEnded most long Gives Why old new WriteFault = WroteTold most Gives old new WriteFault
@@ -229,19 +229,19 @@ TellEnded most long Gives Why old new Stuck = ⊥
 TellEnded most long Gives Why old new Illegal = ⊥
 TellEnded most long Gives Why old new NoForm = ⊥
 
--- what is told of a log, good or not, was written whole; where a write failed, a front of it
+-- the text for a log, good or not, was written whole; where a write failed, a front of it
 abbrev pub WritesJudged : Stream → Stream → List ℕ → Bool → Ending → Type 0
 WritesJudged old new said good Done = (good ≡ true) × Appends old.bytes new.bytes said
 WritesJudged old new said good Illegal = (good ≡ false) × Appends old.bytes new.bytes said
 WritesJudged old new said good WriteFault = Writes old new said false WriteFault
 WritesJudged old new said good _ = ⊥
 
--- what is told of a log was written, or a front of it, or nothing
+-- the text for a log was written, or a front of it, or nothing
 abbrev pub WritesVerdict : Result Judged Ending → Stream → Stream → Ending → Type 0
 WritesVerdict (Ok judged) old new ending = WritesJudged old new judged.text.items judged.good ending
 WritesVerdict (Err other) old new ending = (ending ≡ other) × (new ≡ old)
 
--- the whole input was a machine and a text, and what is told of that as a log of it was written, or a front of it
+-- the whole input was a machine and a text, and the verdict on that as a log of it was written, or a front of it
 abbrev pub WroteVerdict : Streams → Streams → Ending → Type 0
 WroteVerdict old new ending =
     (bytes said : List ℕ) × (good : Bool) × ReadWhole 268435456 old.input new.input bytes × IsJudged bytes said good
@@ -308,11 +308,11 @@ IsOneOf one other status = (status ≡ status_of one) ⊎ (status ≡ status_of 
 abbrev pub NoFaults : Streams → Streams → Type 0
 NoFaults old new = NoFault old.input.faults new.input.faults × NoFault old.output.faults new.output.faults
 
--- the input is these bytes, no more than so many
+-- the input is these bytes, within the limit
 abbrev pub IsInput : ℕ → Streams → List ℕ → Type 0
 IsInput most now bytes = (now.input.bytes ≡ Some bytes) × (length bytes ≤ most)
 
--- completeness, where no fault is counted: an input that spells a machine none of whose sources can be filled gives a log, of a run that is finished or stuck; gen writes its file, soak its line, idle the text of its log, check whether the text behind a machine is that of a log that is legal and finished, locks the answers to lines that are not refused, and stats what is told of a machine and a log that fits it, no link of which is refused; or memory ran out
+-- completeness, where no fault is counted: an input that spells a machine none of whose sources can be filled gives a log, of a run that is finished or stuck; gen writes its file, soak its line, idle the text of its log, check whether the text behind a machine is that of a log that is legal and finished, locks the answers to lines that are not refused, and stats the text for a machine and a log that fits it, no link of which is refused; or memory ran out
 abbrev pub Completes : Option Command → Streams → Streams → ℕ → Type 0
 Completes None old new status = IsOneOf NoForm NoForm status
 Completes (Some (Run workers)) old new status =

@@ -1,5 +1,5 @@
-//! Runs the machine of a machine file through system sleep and prints the log of every step. It also writes machines
-//! that are made of a seed, and runs them.
+//! Runs the machine of a machine file through system sleep and prints the log of every step. Its other commands write and
+//! run machines that are made of a seed, lock names, count what a log says, and run suspend-to-idle.
 #![tactic(auto)]
 
 #[cfg(test)]

@@ -82,7 +82,7 @@ note s call.Relax = kind.Relax s
 note s (call.Event ms hard) = kind.Event s ms hard
 note s call.Expire = kind.Expire s
 
--- the notes of the callback that an entry begins, where so many attempts were begun (pm_wakeup_event in a callback)
+-- the notes of the callback that an entry begins, where n attempts were begun (pm_wakeup_event in a callback)
 abbrev pub report_calls : Machine → ℕ → Kind → List Kind
 report_calls m n (kind.Begin p d) = map (λ r. note r.source r.call) (answer_reports (answer m (what.Device d p) n))
 report_calls m n _ = []

@@ -34,7 +34,7 @@ abbrev pub AreOf : List Moment → List Made → Type 0
 AreOf moments [] = Unit {0}
 AreOf moments (e ∷ made) = IsOf moments e × AreOf moments made
 
--- the entry is of that moment, so many ticks behind its first
+-- the entry is of that moment, n ticks behind its first
 pub record IsShared (moment : Moment) (e : JournalEntry) (ticks : ℕ) : Type 0 where
   pub time : moment.time ≡ e.entry.time
   pub now : moment.now ≡ e.entry.now

@@ -103,7 +103,7 @@ above m past d = superiors (parents_of m.devices) (active_of (links_at m past)) 
 
 -- ---- the order
 
--- d, then all that hangs below it, each with its own, so many levels deep, where `dependents_of` gives what hangs right below a device (device_reorder_to_tail)
+-- d, then all that hangs below it, each with its own, down to some level, where `dependents_of` gives what hangs right below a device (device_reorder_to_tail)
 abbrev pub moved : ℕ → (ℕ → List ℕ) → ℕ → List ℕ
 moved zero dependents_of d = d ∷ []
 moved (suc levels) dependents_of d = d ∷ flat_map (moved levels dependents_of) (dependents_of d)

@@ -18,7 +18,7 @@ woven n (e ∷ rest) (other ∷ others) =
     if nat_le other.before n then other.entry ∷ woven n (e ∷ rest) others
     else e.entry ∷ woven (suc n) rest (other ∷ others)
 
--- each of the others stands behind at most so many of a journal
+-- each of the others stands behind at most n entries of a journal
 abbrev pub AreWithin : ℕ → List OtherEntry → Type 0
 AreWithin n [] = Unit {0}
 AreWithin n (other ∷ others) = (other.before ≤ n) × AreWithin n others

@@ -123,7 +123,7 @@ impl Journal {
         }
     }
 
-    /// Sees that at least so many places are reserved. After an error nothing has changed.
+    /// Sees that at least `places` places are reserved. After an error nothing has changed.
     pub fn reserve(&mut self, places: usize) -> Result<(), AllocError>
         ensures past { self.new.past ≡ self.old.past }
         ensures room { self.old.room ≤ self.new.room }

@@ -58,7 +58,7 @@ pub enum Stand {
 /// `suspend_devices_and_enter` and `suspend_enter`).
 #[derive(Clone, Copy, PartialEq, Eq)]
 pub enum Stage {
-    /// Notifiers are told that the machine is to sleep (`PM_SUSPEND_PREPARE`).
+    /// Notifiers hear that the machine is to sleep (`PM_SUSPEND_PREPARE`).
     Notifies,
     /// A group of tasks is frozen (`freeze_processes`, `freeze_kernel_threads`).
     Freezes(Group),
@@ -94,7 +94,7 @@ pub enum Stage {
     Clears,
     /// Tasks are let go (`thaw_kernel_threads`, `thaw_processes`).
     Thaws(Thaw),
-    /// Notifiers are told that it is over (`PM_POST_SUSPEND`).
+    /// Notifiers hear that it is over (`PM_POST_SUSPEND`).
     Posts,
     /// The attempt is over.
     Ends,

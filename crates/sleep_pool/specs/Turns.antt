@@ -36,11 +36,11 @@ StopsAtLast turns = (before : List Turn) × (turns ≡ before ++ Stop ∷ [])
 abbrev pub part_size : ℕ → ℕ → ℕ
 part_size jobs workers = jobs / workers + min 1 (jobs % workers)
 
--- a job's turns, at most so many: it stands in their relation to what it was, has used as many as they are, and none is a Stop but the last, where it may be one
+-- a job's turns, at most n: the job is in their relation to what it was, has used up as many as they are, and none is a Stop but the last, where it may be one
 abbrev pub Went : {J : Type 0} → (J → List Turn → J → Type 0) → (J → ℕ) → Bool → ℕ → J → List Turn → J → Type 0
 Went made left stop most old turns new = made old turns new × (left old ≡ left new + length turns) × (goes_on stop turns ≡ true) × (length turns ≤ most)
 
--- each job went by turns of its own, and of all these turns so many did something
+-- each job went by turns of its own, and n of all these turns did something
 abbrev pub AllWent : {J : Type 0} → (J → List Turn → J → Type 0) → List J → List J → ℕ → Type 0
 AllWent R [] [] count = count ≡ 0
 AllWent R [] (new ∷ news) count = ⊥
@@ -57,19 +57,19 @@ FirstWent left (old ∷ olds) (new ∷ news) = left new < left old
 abbrev pub FirstsWent : {J : Type 0} → (J → ℕ) → ℕ → List J → List J → Type 0
 FirstsWent left size olds news = (part : ℕ) → FirstWent left (drop (part * size) olds) (drop (part * size) news)
 
--- a job's turns are just so many, and none is a Stop
+-- a job's turns are just n, and none is a Stop
 abbrev pub WentOn : {J : Type 0} → (J → List Turn → J → Type 0) → (J → ℕ) → ℕ → J → List Turn → J → Type 0
 WentOn made left most old turns new = Went made left false most old turns new × (length turns ≡ most)
 
--- a job's turns are just so many, none is a Stop, and the last did nothing
+-- a job's turns are just n, none is a Stop, and the last did nothing
 abbrev pub WentIdle : {J : Type 0} → (J → List Turn → J → Type 0) → (J → ℕ) → ℕ → J → List Turn → J → Type 0
 WentIdle made left most old turns new = WentOn made left most old turns new × IsIdleAtLast turns
 
--- a job's turns are just so many, and the last is a Stop
+-- a job's turns are just n, and the last is a Stop
 abbrev pub WentToStop : {J : Type 0} → (J → List Turn → J → Type 0) → (J → ℕ) → ℕ → J → List Turn → J → Type 0
 WentToStop made left most old turns new = Went made left true most old turns new × (length turns ≡ most) × StopsAtLast turns
 
--- so many rounds were made, and one that a job's Stop cut short: those before it had a turn more than those behind it
+-- n rounds were made, and one that a job's Stop cut short: those before it had a turn more than those behind it
 abbrev pub CutShort : {J : Type 0} → (J → List Turn → J → Type 0) → (J → ℕ) → ℕ → List J → List J → Type 0
 CutShort made left rounds [] news = ⊥
 CutShort made left rounds (old ∷ olds) [] = ⊥

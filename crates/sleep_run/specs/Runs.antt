@@ -67,7 +67,7 @@ pub record IsSeen (run : RunState) (word : EventNow) : Type 0 where
   pub newest : position word ≡ floor_of run.seat
   pub high : run.floor.pos ≤ position word
 
--- the calls of a machine may fill a source: its history, which has so many places, may come to where fewer than four are left for a call and its expiry (own)
+-- the calls of a machine may fill a source: its history, which has `most_entries` places, may come to where fewer than four are left for a call and its expiry (own)
 abbrev pub IsFull : Machine → ℕ → Type 0
 IsFull m s = (s ≤ length m.sources) × (most_entries < places m s + 4)
 

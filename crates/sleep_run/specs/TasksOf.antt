@@ -23,12 +23,12 @@ abbrev pub tasks_of : Stamp → ℕ → JobsState → List Task
 tasks_of floor sources jobs =
     map (acts floor) jobs.scripts ++ (acts floor jobs.auto ∷ (map (acts floor) jobs.devices ++ timers floor sources))
 
--- so many actors of a kind, from number i on
+-- n actors of a kind, from number i on
 abbrev pub numbered_from : (ℕ → Actor) → ℕ → ℕ → List Actor
 numbered_from kind i zero = []
 numbered_from kind i (suc n) = kind i ∷ numbered_from kind (suc i) n
 
--- so many actors of a kind
+-- n actors of a kind
 abbrev pub numbered : (ℕ → Actor) → ℕ → List Actor
 numbered kind n = numbered_from kind 0 n
 
@@ -43,7 +43,7 @@ jobs_in [] = []
 jobs_in (task.Acts job ∷ tasks) = job ∷ jobs_in tasks
 jobs_in (task.Fires timer ∷ tasks) = jobs_in tasks
 
--- a list of jobs is that of these, so many of them scripts'
+-- a list of jobs is that of these, the first n of them scripts'
 pub record AreJobsOf (all : List JobState) (scripts : ℕ) (jobs : JobsState) : Type 0 where
   pub count : length jobs.scripts ≡ scripts
   pub are : all ≡ jobs.scripts ++ (jobs.auto ∷ jobs.devices)

@@ -18,7 +18,7 @@ fn word_bit(number: u32) -> u64 {
     1 << (number / 64).min(63)
 }
 
-/// The first number of a word that has some, of so many.
+/// The first number of a word that has some, below `many`.
 fn first_of(at: u32, word: u64, many: u32) -> Option<u32>
     requires { at < 2 ^ 26 }
     ensures { IfSome result (λ n. n < many) }
@@ -28,7 +28,7 @@ fn first_of(at: u32, word: u64, many: u32) -> Option<u32>
 }
 
 impl Asks {
-    /// No number, of so many.
+    /// No number, with room for those below `many`.
     pub(crate) fn new(alloc: Global, many: usize) -> Result<Self, Mem> {
         let words = vec![in alloc; 0; many / 64 + 1]?;
         Ok(Asks { words, full: 0 })
@@ -93,7 +93,7 @@ impl Asks {
         other.full = 0;
     }
 
-    /// The first from a number on that is in it, of so many.
+    /// The first from a number on that is in it, below `many`.
     #[inline(always)]
     pub(crate) fn next(&self, from: u32, many: u32) -> Option<u32>
         ensures { IfSome result (λ n. n < many) }
@@ -105,7 +105,7 @@ impl Asks {
         first_of(from / 64, left, many)
     }
 
-    /// The first in the words from that one on, of so many.
+    /// The first in the words from that one on, below `many`.
     #[inline(always)]
     fn next_behind(&self, from: u32, many: u32) -> Option<u32>
         ensures { IfSome result (λ n. n < many) }
@@ -122,7 +122,7 @@ impl Asks {
         }
     }
 
-    /// The first in the words from that one on, which share a bit of the full words, of so many.
+    /// The first in the words from that one on, which share a bit of the full words, below `many`.
     #[cold]
     fn next_far(&self, from: u32, many: u32) -> Option<u32>
         ensures { IfSome result (λ n. n < many) }

@@ -49,7 +49,7 @@ fn asynchronous_of(alloc: Global, devices: &[Device]) -> Result<Asks, Mem>
     Ok(asynchronous)
 }
 
-/// Nobody waits for any of so many marks.
+/// Nobody waits for any mark.
 fn none_by_mark(alloc: Global, scripts: usize, marks: usize) -> Result<Vec<Asks>, Mem> {
     let mut by_mark = Vec::with_capacity(alloc, marks)?;
     for _ in 0..marks {
@@ -59,7 +59,7 @@ fn none_by_mark(alloc: Global, scripts: usize, marks: usize) -> Result<Vec<Asks>
 }
 
 impl Waiters {
-    /// Nobody waits: each of so many scripts is to be asked, and the work.
+    /// Nobody waits: each script is to be asked, and the work.
     pub(crate) fn new(
         alloc: Global,
         scripts: usize,
@@ -92,14 +92,14 @@ impl Waiters {
         })
     }
 
-    /// The first script from a number on that is to be asked, of so many.
+    /// The first script from a number on that is to be asked, among the first `many`.
     pub(crate) fn next_script(&self, from: u32, many: u32) -> Option<u32>
         ensures { IfSome result (λ n. n < many) }
     {
         self.scripts.next(from, many)
     }
 
-    /// The first device from a number on that is to be asked, of so many.
+    /// The first device from a number on that is to be asked, among the first `many`.
     pub(crate) fn next_device(&self, from: u32, many: u32) -> Option<u32>
         ensures { IfSome result (λ n. n < many) }
     {

@@ -23,7 +23,7 @@ abbrev pub drawn_parent : ℕ → ℕ → Option ℕ
 drawn_parent seed zero = None
 drawn_parent seed (suc i) = if draw seed (suc i) (suc i + 1) == suc i then None else Some (draw seed (suc i) (suc i + 1))
 
--- the i-th of so many devices; whether it is async is drawn after all parents (own)
+-- the i-th of n devices; whether it is async is drawn after all parents (own)
 abbrev pub drawn_device : ℕ → ℕ → ℕ → Device
 drawn_device seed devices i = record { name = codes "d" ++ decimal i; parent = drawn_parent seed i; flags = record { 0 = draw seed (devices + i) 2 } }
 
@@ -57,7 +57,7 @@ line seed k = record { name = codes "line"; kind = Irq; repeat = 1; steps = flat
 abbrev pub behind_links : ℕ → ℕ
 behind_links devices = 2 * devices + 2 * (devices / 4)
 
--- the machine of a seed and so many devices (own)
+-- the machine of a seed and a number of devices (own)
 abbrev pub generated : ℕ → ℕ → Machine
 generated seed devices = record {
   alarm_ms = 1000;

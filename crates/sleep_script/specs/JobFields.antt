@@ -35,12 +35,12 @@ state j = record {
   floor = j.floor;
 }
 
--- the book has the machine's answers, the plan the actor's calls, and so many calls are due (own)
+-- the book has the machine's answers, the plan the actor's calls, and that number of calls is due (own)
 pub record IsJob (j : Inside) : Type 0 where
   pub answers_are : j.book.now ≡ j.machine.now.answers
   pub plan_is : IsPlanOf j.plan j.machine.now j.who
   pub due_is : j.due ≡ length (map noted j.reports.now ++ drop j.made (calls_of_turn j.machine.now j.who j.turns))
 
--- the book has the machine's answers, the plan the actor's calls, and so many calls are due (own)
+-- the book has the machine's answers, the plan the actor's calls, and that number of calls is due (own)
 abbrev pub keeps : Inside → Type 0
 keeps j = IsJob j

@@ -1,4 +1,4 @@
--- What a job knows of its actor, and what it is told.
+-- What a job knows of its actor, and what it hears.
 use Rattle.std.specs.Prelude.{◌≡◌, ◌≤◌, ℕ, ◌+◌, max, min, Bool, true, false, ◌||◌, ◌&&◌, List, [], ◌∷◌, ◌++◌, drop, slice_get, Some}
 use Rattle.sleep_model.specs.declared.entry.Actor.{Actor}
 use Rattle.sleep_model.specs.declared.entry.Entry.{Entry}
@@ -124,7 +124,7 @@ abbrev pub has_exited : Actor → List Entry → Bool
 has_exited who [] = false
 has_exited who (e ∷ past) = (is_same e.actor who && is_exit e.kind) || has_exited who past
 
--- a job is that of an actor which has made so many calls, none that is not due, where that is the journal (own)
+-- a job is that of an actor which has made n calls, none that is not due, where that is the journal (own)
 pub record IsJobOf (m : Machine) (who : Actor) (journal : List Entry) (made : ℕ) (job : JobState) : Type 0 where
   pub machine_is : job.machine ≡ m
   pub actor_is : job.who ≡ who

@@ -29,7 +29,7 @@ fn name(text: &str) -> Name
     }
 }
 
-/// The parents of so many devices, each an earlier one or none.
+/// The parents of all devices, each an earlier one or none.
 fn draw_parents(alloc: Global, draws: &mut Draws, count: u32) -> Result<Vec<Option<u32>>, Mem>
     requires first { draws.old.next ≡ 1 }
     requires some { 1 ≤ count }
@@ -106,7 +106,7 @@ fn add_link(links: &mut Vec<Link>, supplier: u32, consumer: u32) -> Result<(), M
     Ok(())
 }
 
-/// Links from lesser to greater ones of so many devices; a quarter of their number is tried.
+/// Links from lesser to greater devices; a quarter of the devices' number is tried.
 fn draw_links(alloc: Global, draws: &mut Draws, devices: u32) -> Result<Vec<Link>, Mem>
     requires next { draws.old.next ≡ 2 * devices }
     requires some { 1 ≤ devices }
@@ -186,7 +186,7 @@ fn draw_line(alloc: Global, draws: &mut Draws) -> Result<Script, Mem>
     })
 }
 
-/// The machine of a seed with so many devices, 1 to 1,000: each depends on an earlier one or none,
+/// The machine of a seed with 1 to 1,000 devices: each depends on an earlier one or none,
 /// some are async, and a few links go from lesser to greater ones. A task sleeps four times, and an
 /// interrupt line makes four events on three sources. `Mem` if there is no memory for it.
 #[tactic(auto, using(crate::proofs::Generating::accepted, crate::proofs::Generating::few_places))]

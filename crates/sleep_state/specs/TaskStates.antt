@@ -13,7 +13,7 @@ pub record TaskState : Type 0 where
   pub seats : List Seat
   pub marks : List ℕ
 
--- so many scripts at their first steps, and so many marks that are not raised
+-- a number of scripts at their first steps, and one of marks that are not raised
 abbrev pub at_first : ℕ → ℕ → TaskState
 at_first scripts marks = record { seats = replicate scripts first_seat; marks = replicate marks 0 }
 

@@ -9,7 +9,7 @@ use sleep_base::Mem;
 use std::alloc::Global;
 use std::marker::Model;
 
-/// A moment or none for each of so many things, and the least of all. The nodes are a tree: node k stands above the
+/// A moment or none for each of some things, and the least of all. The nodes are a tree: node k stands above the
 /// nodes 2k and 2k + 1, and has the lesser of their moments, so that the first has the least. What the things have
 /// stands last.
 #[derive(Drop)]

@@ -12,7 +12,7 @@ use std::alloc::Global;
 use std::marker::Model;
 
 /// Where each script stands. The ends of their sleeps are kept beside, and how many of them neither sleep nor have
-/// exited, so that whether all are still is told without a look at each.
+/// exited, so that whether all are still is known without a look at each.
 #[derive(Drop)]
 pub(crate) struct Seats {
     seats: Vec<Seat>,

@@ -139,7 +139,7 @@ impl Tasks {
     ghost use Rattle.sleep_state.specs.TaskStates.{SeatIsSmall, MarksAreSmall, tasks_after, at_first};
     ghost use Rattle.sleep_state.specs.Sleepers.{end_of, AllStill};
 
-    /// So many scripts at their first steps, and so many marks. `Mem` where there is no memory.
+    /// All scripts at their first steps, and no mark raised. `Mem` where there is no memory.
     pub fn new(alloc: Global, scripts: usize, marks: usize) -> Result<Self, Mem>
         ensures { IfOk result (λ t. t ≡ at_first scripts marks) }
     {

@@ -51,7 +51,7 @@ fn are_lower(levels: &[u32], devices: &[u32], level: u32) -> bool
         .all(|device| level_at(levels, *device) < level)
 }
 
-/// Whether a device's level is 1 to so many, and greater than that of each device right above it.
+/// Whether a device's level is 1 to `most`, and greater than that of each device right above it.
 fn is_level(links: &Links, levels: &[u32], most: usize, device: u32) -> bool
     ensures { result ≡ is_level links.now levels.now most device }
 {
@@ -68,7 +68,7 @@ fn have_levels(links: &Links, levels: &[u32], most: usize, devices: &[u32]) -> b
         .all(|device| is_level(links, levels, most, *device))
 }
 
-/// Whether these are the levels of all devices, up to so many.
+/// Whether these are the levels of all devices, up to `most`.
 fn are_levels(links: &Links, levels: &[u32], most: usize) -> bool
     ensures { result ≡ are_levels links.now levels.now most }
 {

@@ -53,7 +53,7 @@ IsOfOne (kind.Freeze g) = ⊥
 IsOfOne (kind.Thaw those) = ⊥
 IsOfOne _ = Unit {0}
 
--- so many tasks of a group waited before, of which that actor was one or not; it may be one now
+-- n tasks of a group waited before, of which that actor was one or not; it may be one now
 abbrev pub IsMoved : Group → Actor → List Script → List Freezing → List Bool → ℕ → Bool → Type 0
 IsMoved g who scripts freezings gone before waited =
     length (left_by g 0 scripts freezings gone) + as_count waited ≡ before + as_count (waits_of g who scripts freezings gone)

@@ -24,9 +24,9 @@ pub fn gives_up_at(since: u64) -> u64
 pub enum Round {
     /// No task is left: the freeze ends.
     AllFrozen,
-    /// Its time is over: it gives up, with so many tasks left, of which that is the first.
+    /// Its time is over: it gives up, with that number of tasks left, of which that is the first.
     Late { left: u32, first: u32 },
-    /// It waits for so many tasks, and looks again, up to that moment.
+    /// It waits for that number of tasks, and looks again, up to that moment.
     Again { left: u32, until: u64 },
 }
 

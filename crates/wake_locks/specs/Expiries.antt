@@ -51,7 +51,7 @@ abbrev pub onward : ℕ → Option Due → List LockState → Advanced → Advan
 onward places None locks later = stopped locks None
 onward places (Some due) locks later = if nat_lt places (length due.lock.own + 4) then stopped locks (Some due.lock) else later
 
--- so many expiries at most, one after another, up to that moment
+-- at most n expiries, one after another, up to that moment
 abbrev pub expiries : ℕ → ℕ → ℕ → List LockState → Advanced
 expiries places to zero locks = stopped locks None
 expiries places to (suc n) locks =

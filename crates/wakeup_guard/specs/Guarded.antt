@@ -1,4 +1,4 @@
--- The saved count, whose visible part has so many bits, and whether a wakeup is pending (drivers/base/power/wakeup.c).
+-- The saved count, whose visible part has 1 to 24 bits, and whether a wakeup is pending (drivers/base/power/wakeup.c).
 use Rattle.std.specs.Prelude.{ℕ, Bool, false, not, ◌==◌, ◌&&◌, ◌||◌, ◌%◌, ◌^◌, nat_lt, if◌then◌else◌, Option, Some, None}
 use Rattle.sleep_model.specs.declared.word.EventNow.{EventNow}
 use Rattle.sleep_model.specs.declared.entry.Kind.{Kind}

@@ -1,5 +1,5 @@
 //! The saved count and the test for a wakeup (`drivers/base/power/wakeup.c`), over a visible count
-//! of so many bits.
+//! of 1 to 24 bits.
 #![tactic(auto)]
 
 mod guard;

@@ -33,7 +33,7 @@ after_step by step before s = record {
   source = with_step by step before s.source;
 }
 
--- these steps are made one after another, each at a word that is told where the word is told, and no position falls
+-- these steps are made one after another, each at the word that the holder tells, where it tells one, and no position falls
 abbrev pub Steps : CallBy → List WordKind → Scene → Scene → Type 0
 Steps by [] old new = new ≡ old
 Steps by (step ∷ rest) old new =

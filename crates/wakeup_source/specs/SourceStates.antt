@@ -110,7 +110,7 @@ pub record IsSettled (source : SourceState) : Type 0 where
   pub in_order : AreInOrder source.floor source.past
   pub short : length source.past ≤ most_entries
 
--- and it has so many places
+-- and it has that number of places
 pub record IsSource (cap : ℕ) (source : SourceState) : Type 0 where
   pub settled : IsSettled source
   pub places : length source.past ≤ cap

@@ -29,7 +29,7 @@ abbrev pub source_call : ℕ → SourceCall → Actor → ℕ → EventNow → L
 source_call s call who time word own =
     after_steps s who time word (makes call (since own)) (note_entry s call who time word ∷ [])
 
--- where the word is told, a call adds its entries at that word, and the word then is the one behind its steps
+-- where the holder tells the word, a call adds its entries at that word, and the word then is the one behind its steps
 abbrev pub IsToldCall : CallBy → SourceCall → Option EventNow → Option EventNow → SourceState → SourceState → Type 0
 IsToldCall by call None told old new = told ≡ None
 IsToldCall by call (Some word) told old new =

@@ -49,7 +49,7 @@ impl Book {
         }
     }
 
-    /// Sees that at least so many places are reserved. After an error nothing has changed.
+    /// Sees that at least `places` places are reserved. After an error nothing has changed.
     pub(crate) fn reserve(&mut self, places: usize) -> Result<(), AllocError>
         ensures source { self.new.source ≡ self.old.source }
         ensures ok { OnOk result (places ≤ self.new.room) }

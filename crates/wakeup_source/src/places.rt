@@ -33,7 +33,7 @@ impl Entries {
         }
     }
 
-    /// Sees that at least so many places are reserved. After an error nothing has changed.
+    /// Sees that at least `places` places are reserved. After an error nothing has changed.
     pub(crate) fn reserve(&mut self, places: usize) -> Result<(), AllocError>
         ensures past { self.new.past ≡ self.old.past }
         ensures ok { OnOk result (places ≤ self.new.room) }

@@ -51,7 +51,7 @@ pub record Since (s : Moment) (w : Worker) : Type 0 where
 abbrev pub WentOn : Worker → List Turn → Worker → Type 0
 WentOn old turns new = (s : Moment) → Since s old → Since s new
 
--- each worker went on by turns of its own, and of all these turns so many did something
+-- each worker went on by turns of its own, and n of all these turns did something
 abbrev pub HaveGone : List Worker → List Worker → ℕ → Type 0
 HaveGone olds news did = AllWent (Went WentOn left_of true 1000) olds news did
 

@@ -58,7 +58,7 @@ impl LineWriter {
     ghost use Rattle.std.specs.Prelude.{◌≡◌, ◌++◌, ◌∷◌, [], OnOk, IfOk};
     ghost use Rattle.std.specs.Str.{bytes_eq};
 
-    /// A writer that has written nothing, with room for so many bytes.
+    /// A writer that has written nothing, with room for that number of bytes.
     pub fn with_room(alloc: Global, room: usize) -> Result<Self, Mem>
         ensures { IfOk result (λ w. w ≡ []) }
     {

@@ -58,7 +58,7 @@ pub(crate) enum OperationTest {
 
 /// Picks one column of the table of operations. A row has, in turn: its word, its name, the first version
 /// of the file that has it, who may make it, its members, the form of these, what an operation of it
-/// spells, and how that is written. The last three speak of what the column is told of.
+/// spells, and how that is written. The last three speak of the names that the column brings along.
 macro_rules! by_operation {
     (@named $text:expr; $($word:ident $name:literal $version:literal $makers:ident $members:tt $form:block $spelled:block [$op:pat] $written:block)*) => {{
         $(if is_same($text, $name) {

@@ -28,7 +28,7 @@ pub(crate) struct Ends<'v> {
     pub(crate) consumer: &'v str,
 }
 
-// Whether the parent, where one is named, is one of the first so many devices.
+// Whether the parent, where one is named, stands among the first `count` devices.
 fn has_parent_before(device: &Value<'_>, names: &KeyIndex<&str>, count: usize) -> bool
     ensures { result ≡ is_none_or (λ p. list_any (bytes_eq p) (take count (texts names.now)))
         (word_at (codes "parent") (view device.now)) }

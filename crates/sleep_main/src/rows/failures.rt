@@ -242,7 +242,7 @@ source autosleep 0 0 0 0 0 0 0
 finished
 ";
 
-/// A notifier fails: the one before it is told, and nothing is frozen.
+/// A notifier fails: the one before it hears of that, and nothing is frozen.
 pub(crate) const NOTIFIER_FAILS: &str =
     r#"{"version":1,"notifiers":[{"name":"n1"},{"name":"n2","priority":10}],"answers":[{"what":"notifier","name":"n1","ret":"EIO"}],"actors":[{"name":"w","kind":"user","script":[{"op":"state","text":"mem"}]}]}"#;
 

@@ -1,6 +1,6 @@
 //! Machines with their logs, and the statistics of these: worked apart from the program.
 
-/// A machine's file with its log, and what is told of it.
+/// A machine's file with its log, and its statistics.
 pub(crate) const STATS: [(&str, &str); 2] = [
     (FAILED_NOIRQ, FAILED_NOIRQ_STATS),
     (TWO_LINKS, TWO_LINKS_STATS),
@@ -70,7 +70,7 @@ source autosleep 0 0 0 0 0 0 0
 finished
 "#;
 
-/// What is told of it.
+/// Its statistics.
 pub(crate) const FAILED_NOIRQ_STATS: &str = "\
 success 0
 fail 1
@@ -196,7 +196,7 @@ source autosleep 0 0 0 0 0 0 0
 finished
 "#;
 
-/// What is told of it.
+/// Its statistics.
 pub(crate) const TWO_LINKS_STATS: &str = "\
 success 1
 fail 0

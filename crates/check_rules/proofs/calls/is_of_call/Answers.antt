@@ -1,4 +1,4 @@
-use Rattle.std.proofs.Common.{◌≡◌, Bool, IsTrue, ◌↔◌, subst, sym}
+use Rattle.std.proofs.Common.{Bool, IsTrue, ◌↔◌, subst, sym}
 use Rattle.sleep_model.specs.Rules.Steps.{IsOfCall}
 use Rattle.check_past.specs.Passing.{past_of}
 use Rattle.check_rules.proofs.Sourcing.{of_call}

@@ -1,7 +1,6 @@
 use Rattle.std.proofs.Common.{take}
-use Rattle.sleep_model.specs.Order.{children_from}
 use Rattle.device_links.proofs.InPlace.{IsRefilled}
 use Rattle.device_links.proofs.states.push_children.Given as goal
 
-abbrev pub invariant-loop-number : goal.invariant-loop-number
-invariant-loop-number l = IsRefilled l.fn.table l.device (children_from l.device 0 (take l.number l.parents)) l.table
+abbrev pub invariant-loop-child : goal.invariant-loop-child
+invariant-loop-child l = IsRefilled l.fn.table l.device (take l.child-index l.children) l.table

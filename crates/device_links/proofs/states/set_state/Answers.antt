@@ -1,24 +1,49 @@
-use Rattle.std.proofs.Common.{◌≡◌, ◌<◌, ◌≤◌, ◌∙◌, length, drop, get_or, refl, sym, ap, arith}
+use Rattle.std.proofs.Common.{◌≡◌, ◌<◌, ◌∙◌, ◌==◌, length, take, get_or, set, sym, ap, arith}
+use Rattle.std.proofs.lemmas.Bool.{true≢false}
+use Rattle.std.proofs.lemmas.List.{get_or_default, take_all, set-get_or}
 use Rattle.sleep_model.specs.Order.{with_state}
-use Rattle.device_links.proofs.InPlace.{mapped_all, mapped_length, mapped_more, take_whole}
+use Rattle.device_links.proofs.Numbering.{changed, changed_length, changed_more, changed_all, number_within, state_past}
 use Rattle.device_links.proofs.Tabulating.{no_link}
+use Rattle.device_links.proofs.states.set_state.Goals.{then-set_one, else-set_one}
 use Rattle.device_links.proofs.states.set_state.Goals as goal
 
-pub loop-link-preserved : goal.loop-link-preserved
-loop-link-preserved c =
-    let xs = c.args.links.now.items in
-    let now = c.loop-link.link-items in
-    let i = c.loop-link.link-index in
-    let f = with_state c.args.supplier c.args.consumer c.args.to in
-    let within : i < length xs = let a = c.loop-link-test.true in let b = ap length c.deref_mut-link-items.ensures.value in omega (arith, a, b) in
-    mapped_more f xs now i (get_or now i no_link) c.set_one.new.link no_link within c.loop-link.invariant refl c.set_one.ensures
+pub index_mut-link-requires : goal.index_mut-link-requires
+index_mut-link-requires c =
+    let first = c.args.links.now.items in
+    let row = c.args.consumed.now in
+    let j = c.loop-number.number-index in
+    let a = number_within (λ l. l.consumer == c.args.consumer) first row c.requires j 0 c.loop-number-test.true in
+    let b = ap length c.loop-number.invariant.now in
+    let e = changed_length (with_state c.args.supplier c.args.consumer c.args.to) (take j row) first in
+    let g = c.loop-number.links.ok.0 in
+    omega (arith, a, b, e, g)
 
-pub returns : goal.returns
-returns c =
-    let xs = c.args.links.now.items in
-    let now = c.loop-link.link-items in
-    let i = c.loop-link.link-index in
+pub loop-number-preserved : goal.loop-number-preserved
+loop-number-preserved c =
     let f = with_state c.args.supplier c.args.consumer c.args.to in
-    let all : length xs ≤ i = let a = c.loop-link-test.false in let b = ap length c.deref_mut-link-items.ensures.value in omega (arith, a, b) in
-    let long : length now ≡ c.args.links.now.len = ap length c.loop-link.invariant ∙ (mapped_length f i xs ∙ sym c.args.links.now.ok.0) in
-    take_whole now (drop (length now) xs) c.args.links.now.len long ∙ (c.loop-link.invariant ∙ mapped_all f xs i all)
+    let first = c.args.links.now.items in
+    let row = c.args.consumed.now in
+    let now = c.loop-number.links.items in
+    let j = c.loop-number.number-index in
+    let i = get_or row j 0 in
+    let within : i < length now =
+    let a = number_within (λ l. l.consumer == c.args.consumer) first row c.requires j 0 c.loop-number-test.true in let b = ap length c.loop-number.invariant.now in let e = changed_length f (take j row) first in
+    omega (arith, a, b, e) in
+    let old = c.index_mut-link.result.now in
+    let at : old ≡ get_or now i no_link = c.index_mut-link.ensures.value ∙ sym (get_or_default now i no_link old within) in
+    let is : c.set_one.new.link ≡ f (get_or now i no_link) = c.set_one.ensures.set ∙ ap f at in
+    record {
+      now = ap (set now i) is ∙ changed_more f row j 0 first now c.loop-number-test.true c.loop-number.invariant.now;
+      kept = λ e. elim c.if-set_one.branch [
+        | then-set_one w ↦ absurd (true≢false (sym w.changed-is ∙ e))
+        | else-set_one w ↦ ap (set now i) (w.if-set_one.ensures.kept ∙ at) ∙ (set-get_or now i no_link ∙ c.loop-number.invariant.kept (sym w.changed-is ∙ e))
+      ];
+    }
+
+pub returns-clause-set : goal.returns-clause-set
+returns-clause-set c =
+    let f = with_state c.args.supplier c.args.consumer c.args.to in
+    let first = c.args.links.now.items in
+    c.loop-number.invariant.now
+    ∙ (ap (λ is. changed f is first) (take_all c.loop-number.number-index c.args.consumed.now (omega arith))
+    ∙ changed_all f (λ l. l.consumer == c.args.consumer) (λ l e. state_past c.args.supplier c.args.consumer c.args.to l e) first c.args.consumed.now c.requires)

@@ -1,7 +1,7 @@
 use Rattle.std.proofs.Common.{◌≡◌, ◌+◌, ◌++◌, ◌∷◌, [], ℕ, List, Option, None, length, take, get_or, sym, subst, arith}
 use Rattle.std.proofs.lemmas.List.{take_more, length-take-le}
 use Rattle.sleep_model.specs.Order.{children_from}
-use Rattle.device_rows.specs.Table.{hung}
+use Rattle.device_rows.specs.Table.{with_number}
 use Rattle.device_links.specs.Kept.{IsTableOf}
 use Rattle.device_links.proofs.RowsMade.{table_child, parent_within, weaker}
 use Rattle.device_links.proofs.tables.children_of.Goals as goal
@@ -22,6 +22,6 @@ loop-number-preserved c =
     let fits : length (take i ps) ≡ i = length-take-le i ps (omega arith) in
     let below = weaker p (0 + i) n (omega arith) (parent_within 0 ps i c.requires.after c.loop-number-test.true) in
     subst (λ (rs : List (List ℕ)). IsTableOf n (λ d. children_from d 0 (take (i + 1) ps)) rs) (sym c.in_ok-dependents_of.ensures)
-    (subst (λ (qs : List (Option ℕ)). IsTableOf n (λ d. children_from d 0 qs) (hung rows p i)) (sym (take_more ps i None c.loop-number-test.true))
-    (subst (λ (k : ℕ). IsTableOf n (λ d. children_from d 0 (take i ps ++ p ∷ [])) (hung rows p k)) fits
+    (subst (λ (qs : List (Option ℕ)). IsTableOf n (λ d. children_from d 0 qs) (with_number rows p i)) (sym (take_more ps i None c.loop-number-test.true))
+    (subst (λ (k : ℕ). IsTableOf n (λ d. children_from d 0 (take i ps ++ p ∷ [])) (with_number rows p k)) fits
     (table_child n (take i ps) p rows c.loop-number.invariant below)))

@@ -1,14 +1,15 @@
 use Rattle.std.proofs.Common.{◌≡◌, ◌≤◌, ℕ, List, arith, ◌++◌, ◌∷◌, ◌∙◌, [], Some, length, cond, reverse, ap, sym, subst, refl}
-use Rattle.std.proofs.lemmas.List.{reverse-append}
+use Rattle.std.proofs.lemmas.List.{length-reverse, reverse-append}
 use Rattle.sleep_model.specs.declared.machine.Link.{Link}
 use Rattle.sleep_model.specs.Order.{dependents, superiors, order_by}
-use Rattle.device_rows.specs.Table.{hung, places_at}
+use Rattle.device_rows.specs.Table.{with_number, places_at}
 use Rattle.device_links.specs.Linked.{Linked}
 use Rattle.device_links.specs.Moves.{Leaves, after_move}
 use Rattle.device_links.specs.Adds.{IsOpen}
-use Rattle.device_links.specs.Kept.{HavePlaces}
+use Rattle.device_links.specs.Kept.{HavePlaces, AreNumbered}
 use Rattle.device_links.specs.Passes.{is_left_out}
 use Rattle.device_links.proofs.Kept.{kept_more, kept_as, places_more, dependents_count, holding_count}
+use Rattle.device_links.proofs.Numbering.{numbered_more}
 use Rattle.device_links.proofs.links.Links.put.Goals as goal
 
 pub invariant_of-self-2 : goal.invariant_of-self-2
@@ -24,11 +25,11 @@ invariant_of-self-2 c =
     let leaves = subst (λ (v : Linked). Leaves v l (after_move c.args.moved (order_by v.parents v.links))) (sym c.self.view_is) c.requires.leaves in
     let left_out = c.is_left_out-left_out.result in
     let is : left_out ≡ is_left_out ps l = c.is_left_out-left_out.ensures ∙ ap (λ qs. is_left_out qs l) c.deref.ensures.value in
-    let links : reverse c.push-3.new.self.items ≡ l ∷ ls = ap reverse (c.in-Ok.ensures.items ∙ ap (λ xs. xs ++ l ∷ []) c.reserve.ensures.items) ∙ reverse-append old.links.items (l ∷ []) in
-    let hangs = c.push.ensures.rows ∙ ap (λ r. hung r (Some s) d) c.make_room.ensures.rows in
-    let below = c.push_unless.ensures.rows ∙ ap (λ r. cond left_out r (hung r (Some s) d)) c.make_near.ensures.rows in
-    let suppliers = c.push-2.ensures.rows ∙ ap (λ r. hung r (Some d) s) c.make_room-2.ensures.rows in
-    let above = c.push_unless-2.ensures.rows ∙ ap (λ r. cond left_out r (hung r (Some d) s)) c.make_near-2.ensures.rows in
+    let links : reverse c.push-4.new.self.items ≡ l ∷ ls = ap reverse (c.in-Ok.ensures.items ∙ ap (λ xs. xs ++ l ∷ []) c.reserve.ensures.items) ∙ reverse-append old.links.items (l ∷ []) in
+    let hangs = c.push.ensures.rows ∙ ap (λ r. with_number r (Some s) d) c.make_room.ensures.rows in
+    let below = c.push_unless.ensures.rows ∙ ap (λ r. cond left_out r (with_number r (Some s) d)) c.make_near.ensures.rows in
+    let suppliers = c.push-2.ensures.rows ∙ ap (λ r. with_number r (Some d) s) c.make_room-2.ensures.rows in
+    let above = c.push_unless-2.ensures.rows ∙ ap (λ r. cond left_out r (with_number r (Some d) s)) c.make_near-2.ensures.rows in
     let order = c.take_order.ensures ∙ ap (after_move c.args.moved) k.ordered in
     let seen = c.push_unless.new.table in
     let seen' = c.push_unless-2.new.table in
@@ -40,9 +41,20 @@ invariant_of-self-2 c =
     let fits_above : length (superiors ps (l ∷ ls) d) ≤ places_at seen' d =
     let p = c.in_ok-make_near-2.ensures.made in let q = c.push_unless-2.ensures.places d in let n = c.places_for-most_above.ensures in let e = ap length (k.all_suppliers.each d) in let m = holding_count ps l ls in
     omega (arith, p, q, n, e, m) in
-    let places : HavePlaces ps (reverse c.push-3.new.self.items) seen seen' =
+    let places : HavePlaces ps (reverse c.push-4.new.self.items) seen seen' =
     subst (λ (x : List Link). HavePlaces ps x seen seen') (sym links) (places_more ps k.after l ls old.below old.above seen seen' c.self.invariant.places more_below fits_below more_above fits_above) in
+    let n = c.len.result in
+    let count : n ≡ length ls = let a = c.len.ensures in let b = length-reverse old.links.items in let e = ap length c.reserve.ensures.items in let g = c.reserve.new.self.ok.0 in omega (arith, a, b, e, g) in
+    let supplied = c.push-3.ensures.by_supplier ∙ ap (λ r. with_number r (Some s) n) c.make_room-3.ensures.by_supplier in
+    let consumed = c.push-3.ensures.by_consumer ∙ ap (λ r. with_number r (Some d) n) c.make_room-3.ensures.by_consumer in
+    let told = c.push-3.new.self in
+    let numbers : AreNumbered (length ps) (reverse c.push-4.new.self.items) told.by_supplier.rows told.by_consumer.rows =
+    subst (λ (x : List Link). AreNumbered (length ps) x told.by_supplier.rows told.by_consumer.rows) (sym links)
+    (subst (λ (r : List (List ℕ)). AreNumbered (length ps) (l ∷ ls) r told.by_consumer.rows) (sym supplied)
+    (subst (λ (r : List (List ℕ)). AreNumbered (length ps) (l ∷ ls) (with_number old.numbers.by_supplier.rows (Some s) n) r) (sym consumed)
+    (numbered_more (length ps) l ls n old.numbers.by_supplier.rows old.numbers.by_consumer.rows c.self.invariant.numbers open'.stand.0 open'.stand.1 count))) in
     record {
       kept = kept_as refl (sym links) (sym hangs) (sym below) (sym suppliers) (sym above) (sym order) (kept_more ps ls old.dependents.rows old.below.rows old.suppliers.rows old.above.rows old.order.items k l open' leaves.missing (after_move c.args.moved (order_by ps ls)) leaves.ordered left_out is);
       places = places;
+      numbers = numbers;
     }

@@ -1,9 +1,0 @@
-use Rattle.std.proofs.Common.{ap, ◌∙◌, rules}
-use Rattle.sleep_model.specs.Merge.{in_order}
-use Rattle.log_merge.proofs.Sorts.{sorted_as_seen}
-use Rattle.log_merge.proofs.sources.sorted.Goals as goal
-
-pub returns : goal.returns
-returns c =
-    sorted_as_seen _ _ c.in_ok-sort_by.ensures.sorted c.in_ok-sort_by.ensures.stable (λ a r q k. search rules)
-    ∙ ap in_order c.in_ok-entries.ensures
