@@ -5,13 +5,14 @@ use Rattle.std.proofs.lemmas.List.Concat.{flat_map-append}
 use Rattle.sleep_model.specs.declared.entry.Entry.{Entry}
 use Rattle.sleep_model.specs.declared.entry.JournalEntry.{JournalEntry}
 use Rattle.sleep_model.specs.declared.entry.SourceEntry.{SourceEntry}
-use Rattle.sleep_model.specs.declared.entry_list.OtherEntry.{OtherEntry}
-use Rattle.sleep_model.specs.declared.log.LogEnd.TheVariants as end
 use Rattle.sleep_model.specs.declared.machine.Machine.{Machine}
-use Rattle.sleep_model.specs.Merge.{of_source}
-use Rattle.sleep_model.specs.Text.{entry_line, source_lines, source_names, text}
-use Rattle.sleep_model.specs.Woven.{woven}
-use Rattle.log_merge.specs.Rests.{sources_entries}
+use Rattle.sleep_model.specs.Merge.{all_entries, in_order, of_source}
+use Rattle.sleep_model.specs.Text.{entry_line}
+use Rattle.log_merge.specs.Rests.{seen, sources_entries}
+use Rattle.log_text.specs.Referred.{referred}
+use Rattle.apart_log.specs.declared.range.Range.{Range}
+use Rattle.apart_log.specs.Slices.{is_in, slice_lines}
+use denote.Ref.{Bor}
 
 -- the first alone, and the rest
 pub filter_first : {A : Type 0} (test : A → Bool) (x : A) (rest : List A) → filter test (x ∷ rest) ≡ filter test (x ∷ []) ++ filter test rest
@@ -47,17 +48,22 @@ gathered_more test histories i history l is =
     ∙ (ap (filter test) (flat_map-append f (take i histories) (history ∷ []) ∙ ap (λ l. flat_map f (take i histories) ++ l) (append-nil (f history)))
     ∙ filter_both test (flat_map f (take i histories)) (f history))
 
--- others of no journal
-pub woven_none : (n : ℕ) (others : List OtherEntry) → woven n [] others ≡ map (λ o. o.entry) others
-woven_none n [] = refl
-woven_none n (other ∷ others) = ap (λ (l : List Entry). other.entry ∷ l) (woven_none n others)
+-- entries that are referred to are what is seen of them
+pub slice_referred : (others : List (Bor SourceEntry)) → map (λ e. e.entry) (seen others) ≡ referred others
+slice_referred [] = refl
+slice_referred (other ∷ others) = ap (λ (l : List Entry). other.now.entry ∷ l) (slice_referred others)
 
--- a log of no sources, and of no script that waits, is its entries' lines
-no_sources : (names : List (List ℕ)) → source_lines names [] ≡ []
-no_sources [] = refl
-no_sources (name ∷ names) = refl
-
-pub lines_alone : (m : Machine) (entries : List Entry) → text m (record { entries = entries; stats = []; end = end.Stuck [] }) ≡ flat_map (entry_line m) entries
-lines_alone m entries =
-    ap (λ (l : List ℕ). flat_map (entry_line m) entries ++ l ++ []) (no_sources (source_names m))
-    ∙ (append-nil (flat_map (entry_line m) entries ++ []) ∙ append-nil (flat_map (entry_line m) entries))
+-- the lines of what a slice refers to are those of its entries
+pub slice_told : (m : Machine) (range : Range) (past : List JournalEntry) (histories : List (List SourceEntry)) (kept among : List SourceEntry) (entries others : List (Bor SourceEntry))
+    → map of_source kept ≡ filter (is_in range) past → among ≡ kept
+    → seen entries ≡ in_order (map of_source among ++ filter (is_in range) (sources_entries histories)) → others ≡ entries
+    → flat_map (entry_line m) (referred others) ≡ slice_lines m range (all_entries past histories)
+slice_told m range past histories kept among entries others of_kept is_kept ordered are =
+    let behind = filter (is_in range) (sources_entries histories) in
+    let all : in_order (map of_source among ++ behind) ≡ in_order (filter (is_in range) (past ++ sources_entries histories)) =
+    ap in_order
+    (ap (λ (l : List SourceEntry). map of_source l ++ behind) is_kept
+    ∙ (ap (λ (l : List JournalEntry). l ++ behind) of_kept ∙ sym (filter_both (is_in range) past (sources_entries histories)))) in
+    ap (λ (l : List (Bor SourceEntry)). flat_map (entry_line m) (referred l)) are
+    ∙ ap (λ (l : List Entry). flat_map (entry_line m) l)
+    (sym (slice_referred entries) ∙ ap (λ (l : List JournalEntry). map (λ e. e.entry) l) (ordered ∙ all))

@@ -1,20 +1,16 @@
 //! One slice of a log: its entries in order, and their text.
 
-ghost use Rattle.std.specs.Prelude.{◌≡◌, ◌++◌, IfOk, OnOk, filter, flat_map, map, reverse, ◌∷◌, []};
+ghost use Rattle.std.specs.Prelude.{◌≡◌, ◌++◌, IfOk, OnOk, filter, map, reverse, ◌∷◌, []};
 ghost use Rattle.sleep_model.specs.Merge.{all_entries, in_order, of_source};
-ghost use Rattle.log_merge.specs.Rests.{bare, seen, sources_entries};
-ghost use Rattle.sleep_model.specs.Text.{entry_line};
-ghost use Rattle.apart_log.specs.Slices.{is_in, slice, slice_lines};
+ghost use Rattle.log_merge.specs.Rests.{seen, sources_entries};
+ghost use Rattle.apart_log.specs.Slices.{is_in, slice_lines};
 
 use crate::cut::Parts;
 use crate::range::Range;
 use log_merge::in_order;
-use log_text::write_log;
+use log_text::write_entries;
 use sleep_base::Mem;
-use sleep_model::{
-    EntryList, Journal, JournalEntry, ListOf, Log, LogEnd, Machine, OtherEntry, SourceEntry,
-    SourceList,
-};
+use sleep_model::{Journal, JournalEntry, SourceEntry, SourceList};
 use std::alloc::{AllocError, Global};
 
 /// Puts an entry of the journal behind others, where it is of that range.
@@ -84,48 +80,24 @@ fn gathered<'a>(
     Ok(entries)
 }
 
-/// These entries as a list of a log. `Mem` where there is no memory.
-fn list_of(alloc: Global, entries: &[&SourceEntry]) -> Result<EntryList, Mem>
-    ensures { IfOk result (λ list. list ≡ bare (seen entries.now)) }
-{
-    let mut others = Vec::with_capacity(alloc, entries.len())?;
-    for one in entries {
-        others.push(OtherEntry {
-            before: 0,
-            entry: one.entry,
-        })?;
-    }
-    Ok(EntryList::of_parts(Journal::new(alloc), others))
-}
-
 /// The entries of a log that are of that range, in order. `Mem` where there is no memory.
-fn entries_in(alloc: Global, parts: &Parts<'_>, range: Range) -> Result<EntryList, Mem>
-    ensures { IfOk result (λ list. list ≡ slice range (all_entries (reverse parts.now.journal.now.past) parts.now.histories.now)) }
+fn entries_in<'a>(
+    alloc: Global,
+    journal: &'a [SourceEntry],
+    histories: &'a [SourceList],
+    range: Range,
+) -> Result<Vec<&'a SourceEntry>, Mem>
+    ensures { IfOk result (λ all. seen all.items ≡ in_order (map of_source journal.now ++ filter (is_in range) (sources_entries histories.now))) }
 {
-    let journal = journal_in(alloc, parts.journal, range)?;
-    let entries = log_merge::with_history(Vec::new(alloc), journal.as_slice())?;
-    let entries = in_order(gathered(entries, parts.histories, range)?)?;
-    list_of(alloc, entries.as_slice())
-}
-
-/// The lines of these entries. `Mem` where there is no memory.
-#[tactic(auto, using(crate::proofs::Gathering::lines_alone))]
-fn lines_of(alloc: Global, machine: &Machine, entries: EntryList) -> Result<Vec<u8>, Mem>
-    ensures { IfOk result (λ text. text.items ≡ flat_map (entry_line machine.now) entries) }
-{
-    // A log of no sources and no script that waits has no other lines.
-    let alone = Log {
-        entries,
-        stats: ListOf::of_vec(Vec::new(alloc)),
-        end: LogEnd::Stuck(ListOf::of_vec(Vec::new(alloc))),
-    };
-    write_log(alloc, machine, &alone)
+    let entries = log_merge::with_history(Vec::new(alloc), journal)?;
+    in_order(gathered(entries, histories, range)?)
 }
 
 /// The lines of the entries of a log that are of that range. `Mem` where there is no memory.
 pub(crate) fn slice_text(alloc: Global, parts: &Parts<'_>, range: Range) -> Result<Vec<u8>, Mem>
     ensures { IfOk result (λ text. text.items ≡ slice_lines parts.now.machine.now range (all_entries (reverse parts.now.journal.now.past) parts.now.histories.now)) }
 {
-    let entries = entries_in(alloc, parts, range)?;
-    lines_of(alloc, parts.machine, entries)
+    let journal = journal_in(alloc, parts.journal, range)?;
+    let entries = entries_in(alloc, journal.as_slice(), parts.histories, range)?;
+    write_entries(alloc, parts.machine, entries.as_slice())
 }

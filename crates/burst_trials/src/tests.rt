@@ -7,11 +7,11 @@ ghost use Rattle.run_world.specs.Held.{AreTimely};
 ghost use Rattle.burst_tasks.specs.Acts.{actor_of};
 ghost use Rattle.world_workers.specs.Bursts.{AreReady, AreTasksIn, HaveTurns};
 
-use answer_book::AnswerBook;
 use burst_tasks::Task;
 use device_links::Links;
 use event_word::EventTable;
 use machine_file::{ReadMachine, read_machine};
+use machine_plans::MachinePlans;
 use run_objects::{SeatedCore, seated_sources};
 use run_world::OpenGate;
 use sleep_base::Mem;
@@ -44,46 +44,36 @@ const MORE: [Actor; 4] = [
 ];
 
 /// The tasks of a machine of one script and no source, before anything was done.
-fn few_tasks<'m>(
-    alloc: Global,
-    machine: &'m Machine,
-    book: &'m AnswerBook<'m>,
-) -> Result<Vec<Task<'m>>, Mem>
-    requires accepted { IsAccepted machine.now }
-    requires book { book.now ≡ machine.now.answers }
-    requires one { length machine.now.actors ≡ 1 }
-    ensures in_all { IfOk result (λ tasks. AreTasksIn machine.now tasks.items) }
+fn few_tasks<'m>(alloc: Global, plans: &'m MachinePlans<'_>) -> Result<Vec<Task<'m>>, Mem>
+    requires accepted { IsAccepted plans.now }
+    requires one { length plans.now.actors ≡ 1 }
+    ensures in_all { IfOk result (λ tasks. AreTasksIn plans.now tasks.items) }
     ensures turns { IfOk result (λ tasks. HaveTurns tasks.items) }
     ensures actors { IfOk result (λ tasks. map actor_of tasks.items ≡ FEW) }
     ensures count { IfOk result (λ tasks. length tasks.items ≡ 3) }
 {
-    let script = Job::of_script(alloc, machine, book, 0)?;
+    let script = Job::of_script(plans, 0);
     let tasks = vec![in alloc;
         Task::Acts(script),
-        Task::Acts(Job::of_auto(machine, book)),
+        Task::Acts(Job::of_auto(plans)),
         Task::Fires(TimerJob::new(0)),
     ]?;
     Ok(tasks)
 }
 
 /// The tasks of a machine of one script and one source, before anything was done.
-fn more_tasks<'m>(
-    alloc: Global,
-    machine: &'m Machine,
-    book: &'m AnswerBook<'m>,
-) -> Result<Vec<Task<'m>>, Mem>
-    requires accepted { IsAccepted machine.now }
-    requires book { book.now ≡ machine.now.answers }
-    requires one { (length machine.now.actors ≡ 1) × (length machine.now.sources ≡ 1) }
-    ensures in_all { IfOk result (λ tasks. AreTasksIn machine.now tasks.items) }
+fn more_tasks<'m>(alloc: Global, plans: &'m MachinePlans<'_>) -> Result<Vec<Task<'m>>, Mem>
+    requires accepted { IsAccepted plans.now }
+    requires one { (length plans.now.actors ≡ 1) × (length plans.now.sources ≡ 1) }
+    ensures in_all { IfOk result (λ tasks. AreTasksIn plans.now tasks.items) }
     ensures turns { IfOk result (λ tasks. HaveTurns tasks.items) }
     ensures actors { IfOk result (λ tasks. map actor_of tasks.items ≡ MORE) }
     ensures count { IfOk result (λ tasks. length tasks.items ≡ 4) }
 {
-    let script = Job::of_script(alloc, machine, book, 0)?;
+    let script = Job::of_script(plans, 0);
     let tasks = vec![in alloc;
         Task::Acts(script),
-        Task::Acts(Job::of_auto(machine, book)),
+        Task::Acts(Job::of_auto(plans)),
         Task::Fires(TimerJob::new(0)),
         Task::Fires(TimerJob::new(1)),
     ]?;
@@ -93,19 +83,19 @@ fn more_tasks<'m>(
 /// What goes into a machine's first burst with these tasks, and the table of its seats.
 fn first_parts<'m>(
     alloc: Global,
-    machine: &'m Machine,
+    plans: &'m MachinePlans<'_>,
     links: Links,
     tasks: Vec<Task<'m>>,
 ) -> Result<(EventTable, BurstParts<'m>), Mem>
-    requires accepted { IsAccepted machine.now }
-    requires links { links ≡ record { parents = parents_of machine.now.devices; links = reverse machine.now.links } }
-    requires tasks { AreTasksIn machine.now tasks.items }
-    ensures ready { IfOk result (λ made. AreReady machine.now made.0.desk.shared.table_id made.1.core made.1.sources.items made.1.tasks.items) }
+    requires accepted { IsAccepted plans.now }
+    requires links { links ≡ record { parents = parents_of plans.now.devices; links = reverse plans.now.links } }
+    requires tasks { AreTasksIn plans.now tasks.items }
+    ensures ready { IfOk result (λ made. AreReady plans.now made.0.desk.shared.table_id made.1.core made.1.sources.items made.1.tasks.items) }
     ensures timely { IfOk result (λ made. AreTimely (time_of (entries made.1.core.core.past)) made.1.sources.items) }
     ensures tasks { IfOk result (λ made. made.1.tasks.items ≡ tasks.entry.items) }
 {
-    let (table, sources, look) = seated_sources(alloc, machine.sources.len() as u32 + 1)?;
-    let core = SeatedCore::new(Core::new(alloc, machine, links)?, look);
+    let (table, sources, look) = seated_sources(alloc, plans.machine().sources.len() as u32 + 1)?;
+    let core = SeatedCore::new(Core::new(alloc, plans, links)?, look);
     let parts = BurstParts {
         core,
         sources,
@@ -115,30 +105,90 @@ fn first_parts<'m>(
 }
 
 /// How many turns of two workers did something in a machine's first burst.
-fn first_burst<R: Threads + Sync + Wait>(
+fn first_burst<'m, R: Threads + Sync + Wait>(
     rt: &R,
     alloc: Global,
-    machine: &Machine,
+    plans: &'m MachinePlans<'_>,
     links: Links,
-    tasks: Vec<Task<'_>>,
+    tasks: Vec<Task<'m>>,
     actors: &[Actor],
 ) -> Result<u64, Mem>
-    requires accepted { IsAccepted machine.now }
-    requires links { links ≡ record { parents = parents_of machine.now.devices; links = reverse machine.now.links } }
-    requires tasks { AreTasksIn machine.now tasks.items }
+    requires accepted { IsAccepted plans.now }
+    requires links { links ≡ record { parents = parents_of plans.now.devices; links = reverse plans.now.links } }
+    requires tasks { AreTasksIn plans.now tasks.items }
     requires turns { HaveTurns tasks.items }
     requires actors { actors.now ≡ map actor_of tasks.items }
     requires count { (1 ≤ length tasks.items) × (length tasks.items ≤ 2000) }
 {
-    let (table, parts) = first_parts(alloc, machine, links, tasks)?;
+    let (table, parts) = first_parts(alloc, plans, links, tasks)?;
     let plan = BurstPlan {
         gate: &OpenGate,
         table: &table,
-        machine,
+        machine: plans.machine(),
         actors,
         workers: 2,
     };
     Ok(make_burst(rt, alloc, &plan, parts)?.did)
+}
+
+/// How many turns did something in the first burst over the plans of a machine of one script and no source.
+fn few_over<R: Threads + Sync + Wait>(
+    rt: &R,
+    alloc: Global,
+    plans: &MachinePlans<'_>,
+    links: Links,
+) -> Result<u64, Mem>
+    requires accepted { IsAccepted plans.now }
+    requires links { links ≡ record { parents = parents_of plans.now.devices; links = reverse plans.now.links } }
+    requires one { length plans.now.actors ≡ 1 }
+{
+    let tasks = few_tasks(alloc, plans)?;
+    first_burst(rt, alloc, plans, links, tasks, &FEW)
+}
+
+/// How many turns did something in the first burst over the plans of a machine of one script and one source.
+fn more_over<R: Threads + Sync + Wait>(
+    rt: &R,
+    alloc: Global,
+    plans: &MachinePlans<'_>,
+    links: Links,
+) -> Result<u64, Mem>
+    requires accepted { IsAccepted plans.now }
+    requires links { links ≡ record { parents = parents_of plans.now.devices; links = reverse plans.now.links } }
+    requires one { (length plans.now.actors ≡ 1) × (length plans.now.sources ≡ 1) }
+{
+    let tasks = more_tasks(alloc, plans)?;
+    first_burst(rt, alloc, plans, links, tasks, &MORE)
+}
+
+/// How many turns did something in the first burst of a machine of one script and no source.
+fn few_burst<R: Threads + Sync + Wait>(
+    rt: &R,
+    alloc: Global,
+    machine: &Machine,
+    links: Links,
+) -> Result<u64, Mem>
+    requires accepted { IsAccepted machine.now }
+    requires links { links ≡ record { parents = parents_of machine.now.devices; links = reverse machine.now.links } }
+    requires one { length machine.now.actors ≡ 1 }
+{
+    let plans = MachinePlans::new(alloc, machine)?;
+    few_over(rt, alloc, &plans, links)
+}
+
+/// How many turns did something in the first burst of a machine of one script and one source.
+fn more_burst<R: Threads + Sync + Wait>(
+    rt: &R,
+    alloc: Global,
+    machine: &Machine,
+    links: Links,
+) -> Result<u64, Mem>
+    requires accepted { IsAccepted machine.now }
+    requires links { links ≡ record { parents = parents_of machine.now.devices; links = reverse machine.now.links } }
+    requires one { (length machine.now.actors ≡ 1) × (length machine.now.sources ≡ 1) }
+{
+    let plans = MachinePlans::new(alloc, machine)?;
+    more_over(rt, alloc, &plans, links)
 }
 
 /// A task makes its whole attempt up to the sleep: seventeen entries.
@@ -151,9 +201,7 @@ fn an_attempt_in_a_burst(rt: HostRuntime) -> Result<(), Fail> {
     if machine.actors.len() != 1 {
         return Err("another machine".into());
     }
-    let book = AnswerBook::new(alloc, machine.answers.as_slice())?;
-    let tasks = few_tasks(alloc, &machine, &book)?;
-    let did = first_burst(&rt, alloc, &machine, links, tasks, &FEW)?;
+    let did = few_burst(&rt, alloc, &machine, links)?;
     assert_eq!(rt; did, 17);
     Ok(())
 }
@@ -168,9 +216,7 @@ fn two_calls_in_a_burst(rt: HostRuntime) -> Result<(), Fail> {
     if machine.actors.len() != 1 || machine.sources.len() != 1 {
         return Err("another machine".into());
     }
-    let book = AnswerBook::new(alloc, machine.answers.as_slice())?;
-    let tasks = more_tasks(alloc, &machine, &book)?;
-    let did = first_burst(&rt, alloc, &machine, links, tasks, &MORE)?;
+    let did = more_burst(&rt, alloc, &machine, links)?;
     assert_eq!(rt; did, 3);
     Ok(())
 }

@@ -15,8 +15,7 @@ planned p = p.machine.now
 
 -- the operations and the calls are those of its scripts (own)
 pub record ArePlans (p : Inside) : Type 0 where
-  pub operations : p.operations.items ≡ p.machine.now.actors
-  pub calls : p.calls.items ≡ map (with_source (length p.machine.now.sources)) p.machine.now.actors
+  pub scripts : p.scripts.items ≡ map (with_source (length p.machine.now.sources)) p.machine.now.actors
 
 -- the fields are the plans of the machine's scripts (own)
 abbrev pub keeps : Inside → Type 0

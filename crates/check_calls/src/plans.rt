@@ -5,7 +5,7 @@ ghost use Rattle.sleep_model.specs.declared.machine.Script.{Script};
 ghost use Rattle.sleep_model.specs.Places.{all_operations};
 ghost use Rattle.check_calls.specs.PlanFields.{with_source};
 
-use script_plan::{CallPlan, Plan};
+use script_plan::Plan;
 use sleep_base::Mem;
 use sleep_model::{Machine, Op, Report, Script};
 use std::alloc::Global;
@@ -15,8 +15,7 @@ use std::marker::Model;
 #[derive(Drop)]
 pub struct Plans<'m> {
     machine: &'m Machine,
-    operations: Vec<Plan<'m>>,
-    calls: Vec<CallPlan<'m>>,
+    scripts: Vec<Plan<'m>>,
 }
 
 impl<'m> Model for Plans<'m> {
@@ -31,26 +30,14 @@ impl<'m> Model for Plans<'m> {
     ghost invariant = { keeps };
 }
 
-// The operations of each script.
-fn operations_of(alloc: Global, scripts: &[Script]) -> Result<Vec<Plan<'_>>, Mem>
-    requires { length (all_operations scripts.now) ≤ 200000 }
-    ensures { IfOk result (λ v. v.items ≡ scripts.now) }
-{
-    let mut plans = Vec::with_capacity(alloc, scripts.len())?;
-    for script in scripts {
-        plans.push(Plan::new(alloc, script)?)?;
-    }
-    Ok(plans)
-}
-
-// The calls of each script, where autosleep has that source.
-fn calls_of(alloc: Global, scripts: &[Script], source: u32) -> Result<Vec<CallPlan<'_>>, Mem>
+// The plan of each script, where autosleep has that source.
+fn plans_of(alloc: Global, scripts: &[Script], source: u32) -> Result<Vec<Plan<'_>>, Mem>
     requires { length (all_operations scripts.now) ≤ 200000 }
     ensures { IfOk result (λ v. v.items ≡ map (with_source source) scripts.now) }
 {
     let mut plans = Vec::with_capacity(alloc, scripts.len())?;
     for script in scripts {
-        plans.push(CallPlan::new(alloc, script, source)?)?;
+        plans.push(Plan::new(alloc, script, source)?)?;
     }
     Ok(plans)
 }
@@ -72,8 +59,7 @@ impl<'m> Plans<'m> {
         let source = machine.sources.len() as u32;
         Ok(Plans {
             machine,
-            operations: operations_of(alloc, scripts)?,
-            calls: calls_of(alloc, scripts, source)?,
+            scripts: plans_of(alloc, scripts, source)?,
         })
     }
 
@@ -89,7 +75,7 @@ impl<'m> Plans<'m> {
     pub fn operation(&self, script: u32, number: usize) -> Option<&'m Op>
         ensures { option_copied result ≡ slice_get (steps_of (slice_get self.now.actors script)) number }
     {
-        let plan = self.operations.get(script as usize)?;
+        let plan = self.scripts.get(script as usize)?;
         plan.operation(number)
     }
 
@@ -98,7 +84,7 @@ impl<'m> Plans<'m> {
     pub fn calls_at(&self, script: u32, turn: usize) -> &[Report]
         ensures { map noted result.now ≡ calls_at (pieces_in self.now script) turn }
     {
-        match self.calls.get(script as usize) {
+        match self.scripts.get(script as usize) {
             None => &[],
             Some(plan) => plan.calls_at(turn),
         }

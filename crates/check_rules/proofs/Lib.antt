@@ -3,5 +3,6 @@ pub mod Counting
 pub mod Judging
 pub mod Jumping
 pub mod Owning
+pub mod Quiet
 pub mod Resting
 pub mod Sourcing

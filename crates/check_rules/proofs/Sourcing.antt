@@ -27,7 +27,7 @@ use Rattle.check_rules.specs.Places.{are_short, with_own}
 
 -- ---- what a source owes
 
-left_is : (own : List Entry) (x : Source) (left : Bool) → x ≡ source_of own → left ≡ is_left (steps_of x.owes) → left ≡ is_left (owed own)
+pub left_is : (own : List Entry) (x : Source) (left : Bool) → x ≡ source_of own → left ≡ is_left (steps_of x.owes) → left ≡ is_left (owed own)
 left_is own x left e l = l ∙ ap (λ (y : Source). is_left (steps_of y.owes)) e ∙ ap is_left (flags own)
 
 none_left : (steps : List WordKind) (left : Bool) → left ≡ is_left steps → IsTrue (not left) ↔ (steps ≡ [])

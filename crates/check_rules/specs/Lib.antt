@@ -2,4 +2,5 @@ pub mod Calling
 pub mod Judging
 pub mod Owing
 pub mod Places
+pub mod Quiet
 pub mod Rows

@@ -1,22 +1,24 @@
 //! Who is enabled, and which times are pending: where time jumps, and where a log is finished.
 
-ghost use Rattle.std.specs.Prelude.{◌≡◌, ◌↔◌, ◌<◌, ◌+◌, ◌&&◌, not, true, IsTrue, IfOk, length, slice_get};
+ghost use Rattle.std.specs.Prelude.{◌≡◌, ◌↔◌, ◌<◌, ◌+◌, ◌&&◌, not, true, IsTrue, IfOk, length, nat_lt, option_copied, slice_get};
 ghost use Rattle.sleep_model.specs.declared.entry.Actor.TheVariants.{Dev, Script};
 ghost use Rattle.sleep_model.specs.Attempt.{freeze_since, sleep_of, sleeps_now};
+ghost use Rattle.sleep_model.specs.Calls.{calls_due, is_left, made};
 ghost use Rattle.sleep_model.specs.Fits.{fits_actor};
 ghost use Rattle.sleep_model.specs.Freezer.{freezing};
 ghost use Rattle.sleep_model.specs.Legal.{JumpStep, alarm_at, deadline_at, is_enabled, is_finished, is_idle, is_made, next_expiry, next_sleep, next_time, none_enabled, none_expires, pending_nap, pending_sleep, sooner};
 ghost use Rattle.sleep_model.specs.Numbers.{numbers, time_of};
 ghost use Rattle.sleep_model.specs.Rules.Questions.{seat_of};
-ghost use Rattle.sleep_model.specs.Sources.{history};
+ghost use Rattle.sleep_model.specs.Sources.{history, owed};
 ghost use Rattle.check_past.specs.Passing.{journal_of, past_of};
+ghost use Rattle.check_rules.specs.Quiet.{is_quiet, none_owes, rests, stays};
 
 use crate::calls::is_calling;
 use crate::same::{is_time, without};
 use check_due::{due, gives_up_at, is_line};
 use check_past::Passed;
 use sleep_base::Mem;
-use sleep_model::{Actor, Due, EventNow, Work};
+use sleep_model::{Actor, Due, EventNow, Op, Seat, Work};
 
 // Whether an entry is due.
 fn is_made(due: Due) -> bool
@@ -25,15 +27,84 @@ fn is_made(due: Due) -> bool
     matches!(due, Due::Makes(_))
 }
 
+// Whether an actor of the machine has a call to make. `Mem` where a number has no room.
+fn owes_call(past: &Passed<'_>, who: Actor) -> Result<bool, Mem>
+    requires { fits_actor past.now.machine who ≡ true }
+    ensures { IfOk result (λ b. b ≡ nat_lt (made (length past.now.machine.sources + 1) (λ s. history s (past_of past.now)) who)
+        (calls_due past.now.machine who (journal_of past.now))) }
+{
+    Ok(past.made(who) < past.calls_due(who)?)
+}
+
 // Whether an actor of the machine is enabled: it is inside a call, has a call to make, or an entry of the journal is due of
 // it. `Mem` where a moment is beyond all time, a number has no room, or if there is no memory for a walk.
 fn is_enabled(past: &Passed<'_>, now: EventNow, who: Actor) -> Result<bool, Mem>
     requires { fits_actor past.now.machine who ≡ true }
     ensures { IfOk result (λ b. b ≡ is_enabled past.now.machine (journal_of past.now) (λ s. history s (past_of past.now)) now who) }
 {
-    let waits = past.made(who) < past.calls_due(who)?;
+    let waits = owes_call(past, who)?;
     let next = due(past, who, now)?;
     Ok(is_calling(past, who) || waits || is_made(next))
+}
+
+// Whether a source owes steps of a call, whoever made it.
+fn owes_steps(past: &Passed<'_>, s: u32) -> bool
+    ensures { result ≡ is_left (owed (history s (past_of past.now))) }
+{
+    past.source(s).owes.is_left()
+}
+
+// Whether no source owes steps of a call.
+fn none_owes(past: &Passed<'_>) -> bool
+    ensures { result ≡ none_owes (length past.now.machine.sources + 1) (λ s. history s (past_of past.now)) }
+{
+    let mut none = true;
+    for s in 0..past.source_count() {
+        none = without(owes_steps(past, s), none);
+    }
+    none
+}
+
+// Whether nobody is inside a call or makes an attempt, so that each script is at its own steps.
+fn is_quiet(past: &Passed<'_>) -> bool
+    ensures { result ≡ is_quiet past.now.machine (journal_of past.now) (λ s. history s (past_of past.now)) }
+{
+    past.maker().is_none() && none_owes(past)
+}
+
+// Whether a script that stands so at its operation sleeps on, or is gone.
+fn stays(seat: Seat, op: Option<&Op>, time: u64) -> bool
+    ensures { result ≡ stays seat (option_copied op.entry) time }
+{
+    if seat.exited {
+        return true;
+    }
+    match (op, seat.until) {
+        (Some(Op::Sleep { .. }), Some(until)) => seat.waits && time < until,
+        (Some(Op::SleepD { .. }), Some(until)) => seat.waits && time < until,
+        _ => false,
+    }
+}
+
+// Whether all is quiet, and script i is not asked to freeze, and sleeps on or is gone.
+fn rests(past: &Passed<'_>, quiet: bool, i: u32) -> bool
+    ensures { result ≡ (quiet && rests past.now.machine (journal_of past.now) i) }
+{
+    quiet && !past.freezing(i).asked && stays(past.seat(i), past.operation(i), past.journal_time())
+}
+
+// Whether script i of the machine is enabled, where the caller has found out whether all is quiet: then one that rests can
+// make a call alone. `Mem` as for `is_enabled`.
+fn is_script_enabled(past: &Passed<'_>, now: EventNow, quiet: bool, i: u32) -> Result<bool, Mem>
+    requires there { fits_actor past.now.machine (Script i) ≡ true }
+    requires quiet { quiet ≡ is_quiet past.now.machine (journal_of past.now) (λ s. history s (past_of past.now)) }
+    ensures { IfOk result (λ b. b ≡ is_enabled past.now.machine (journal_of past.now) (λ s. history s (past_of past.now)) now
+        (Script i)) }
+{
+    if rests(past, quiet, i) {
+        return owes_call(past, Actor::Script(i));
+    }
+    is_enabled(past, now, Actor::Script(i))
 }
 
 // Whether no script is enabled.
@@ -41,9 +112,10 @@ fn no_script_enabled(past: &Passed<'_>, now: EventNow) -> Result<bool, Mem>
     ensures { IfOk result (λ b. b ≡ none_enabled past.now.machine (journal_of past.now) (λ s. history s (past_of past.now)) now
         Script (length past.now.machine.actors)) }
 {
+    let quiet = is_quiet(past);
     let mut none = true;
     for i in 0..past.script_count() {
-        let enabled = is_enabled(past, now, Actor::Script(i))?;
+        let enabled = is_script_enabled(past, now, quiet, i)?;
         none = without(enabled, none);
     }
     Ok(none)
@@ -83,13 +155,21 @@ fn is_idle(past: &Passed<'_>, now: EventNow) -> Result<bool, Mem>
     Ok(scripts && !work && devices && none_expires(past, past.journal_time()))
 }
 
+// Whether every script has exited, no attempt is open, and nobody can make anything, as the caller has found out.
+fn is_finished_if(past: &Passed<'_>, now: EventNow, idle: bool) -> bool
+    requires { idle ≡ is_idle past.now.machine (journal_of past.now) (λ s. history s (past_of past.now)) now }
+    ensures { result ≡ is_finished past.now.machine (journal_of past.now) (λ s. history s (past_of past.now)) now }
+{
+    past.all_gone() && past.maker().is_none() && idle
+}
+
 /// Whether nobody can make anything, every script has exited, and no attempt is open. `Mem` where a moment is beyond all
 /// time, a number has no room, or if there is no memory for a walk.
 pub fn is_finished(past: &Passed<'_>, now: EventNow) -> Result<bool, Mem>
     ensures { IfOk result (λ b. b ≡ is_finished past.now.machine (journal_of past.now) (λ s. history s (past_of past.now)) now) }
 {
     let idle = is_idle(past, now)?;
-    Ok(past.all_gone() && past.maker().is_none() && idle)
+    Ok(is_finished_if(past, now, idle))
 }
 
 // The lesser of two moments, where there are any.
@@ -200,7 +280,7 @@ pub fn keeps_jump(past: &Passed<'_>, time: u64) -> Result<bool, Mem>
 {
     let now = past.word();
     let idle = is_idle(past, now)?;
-    let finished = is_finished(past, now)?;
+    let finished = is_finished_if(past, now, idle);
     let next = next_time(past)?;
     let least = is_time(next, time);
     let forward = past.time() < time;

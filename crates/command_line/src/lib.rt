@@ -4,8 +4,6 @@
 mod command;
 mod idle;
 mod number;
-#[cfg(test)]
-mod tests;
 mod words;
 
 pub use command::Command;

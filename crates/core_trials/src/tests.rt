@@ -1,10 +1,14 @@
-ghost use Rattle.std.specs.Prelude.{◌≡◌, ◌≤◌, OnOk};
+ghost use Rattle.std.specs.Prelude.{◌≡◌, ◌≤◌, OnOk, reverse};
+ghost use Rattle.sleep_model.specs.Accepted.{IsAccepted};
+ghost use Rattle.sleep_model.specs.Order.{parents_of};
 ghost use Rattle.sleep_core.specs.Cores.{IsActor};
 ghost use Rattle.sleep_core.specs.Histories.{last_stamp};
 
 use crate::MovingWord;
+use device_links::Links;
 use event_word::{EventTable, Events, PlainEvents};
 use machine_file::{ReadMachine, read_machine};
+use machine_plans::MachinePlans;
 use sleep_base::Errno;
 use sleep_core::{Core, CoreTurn};
 use sleep_model::{Actor, EntryList, Kind, Machine, Stamp, Why};
@@ -102,6 +106,40 @@ struct Alone {
     entries: EntryList,
 }
 
+// What the core of an actor alone shows, after its turns.
+fn told(alloc: Global, core: Core<'_>, waits: Option<Why>) -> Alone {
+    Alone {
+        waits,
+        next_time: core.next_time(),
+        whole: core.whole(),
+        is_open: core.is_open(),
+        is_still: core.is_still(0),
+        are_still: core.are_still(),
+        slept: core.next_slept(None),
+        entries: EntryList::of_parts(core.into_journal(), Vec::new(alloc)),
+    }
+}
+
+// The turns of one actor over these plans, up to its first wait or its end, with that word.
+fn run_over<R: Wait, E: Events>(
+    rt: &R,
+    alloc: Global,
+    events: &mut E,
+    plans: &MachinePlans<'_>,
+    links: Links,
+    who: Actor,
+) -> Result<Alone, Fail>
+    requires accepted { IsAccepted plans.now }
+    requires links { links ≡ record { parents = parents_of plans.now.devices; links = reverse plans.now.links } }
+    requires actor { IsActor plans.now who }
+{
+    let mut core = Core::new(alloc, plans, links)?;
+    match run(rt, &mut core, events, who) {
+        Ok(waits) => Ok(told(alloc, core, waits)),
+        Err(failed) => Err(failed),
+    }
+}
+
 // The turns of one actor of a machine alone, up to its first wait or its end, with that word.
 fn run_alone<R: Wait, E: Events>(
     rt: &R,
@@ -114,18 +152,8 @@ fn run_alone<R: Wait, E: Events>(
         return Err("no machine".into());
     };
     has_actor(&machine, who)?;
-    let mut core = Core::new(alloc, &machine, links)?;
-    let waits = run(rt, &mut core, events, who)?;
-    Ok(Alone {
-        waits,
-        next_time: core.next_time(),
-        whole: core.whole(),
-        is_open: core.is_open(),
-        is_still: core.is_still(0),
-        are_still: core.are_still(),
-        slept: core.next_slept(None),
-        entries: EntryList::of_parts(core.into_journal(), Vec::new(alloc)),
-    })
+    let plans = MachinePlans::new(alloc, &machine)?;
+    run_over(rt, alloc, events, &plans, links, who)
 }
 
 // What the manager of the family does alone, with that word, in order.

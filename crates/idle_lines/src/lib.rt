@@ -5,6 +5,3 @@ mod command;
 mod text;
 
 pub use command::idle_of;
-
-#[cfg(test)]
-mod tests;

@@ -10,6 +10,10 @@ use Rattle.log_text.specs.Grammar.{IsFirstBad}
 use Rattle.program_ending.specs.declared.refusal.Refusal.{Refusal}
 use Rattle.program_ending.specs.declared.refusal.Refusal.TheVariants.{LongMachine, Broken, BadLine}
 
+-- how many bytes a machine's file has at most (own)
+abbrev pub most_machine : ℕ
+most_machine = 16777216
+
 -- how many bytes stand before the first newline; all where there is none
 abbrev pub line_length : List ℕ → ℕ
 line_length bytes = position_or_len (λ b. b == 10) bytes
@@ -24,15 +28,15 @@ text_in bytes = drop (line_length bytes + 1) bytes
 
 -- the machine that its file spells, and the log that fits it whose text stands behind
 pub record IsLogIn (bytes : List ℕ) (m : Machine) (log : Log) : Type 0 where
-  pub few : length (file_in bytes) ≤ 16777216
+  pub few : length (file_in bytes) ≤ most_machine
   pub spells : machine_in (file_in bytes) ≡ Some m
   pub fits : IsWritable m log
   pub is_text : text m log ≡ text_in bytes
 
 -- why the machine's file is refused: it is too long, or that is the first rule that it breaks, and its first place
 abbrev pub IsBadMachine : List ℕ → Refusal → Type 0
-IsBadMachine file LongMachine = 16777216 < length file
-IsBadMachine file (Broken rule place) = (length file ≤ 16777216) × (broken_in file ≡ Some (broken_at rule (string_bytes place)))
+IsBadMachine file LongMachine = most_machine < length file
+IsBadMachine file (Broken rule place) = (length file ≤ most_machine) × (broken_in file ≡ Some (broken_at rule (string_bytes place)))
 IsBadMachine file refusal = ⊥
 
 -- why a log's text is refused: that is its first bad line
@@ -43,7 +47,7 @@ IsBadLog m bytes refusal = ⊥
 -- a machine is spelled, and its log's text is refused so
 pub record HasBadLog (bytes : List ℕ) (refusal : Refusal) : Type 0 where
   pub machine : Machine
-  pub few : length (file_in bytes) ≤ 16777216
+  pub few : length (file_in bytes) ≤ most_machine
   pub spells : machine_in (file_in bytes) ≡ Some machine
   pub bad : IsBadLog machine (text_in bytes) refusal
 

@@ -11,7 +11,7 @@ use Rattle.log_check.specs.declared.ending.Verdict.{Verdict}
 use Rattle.log_check.specs.declared.ending.Verdict.TheVariants.{Good, Bad}
 use Rattle.log_check.specs.Verdicts.{IsVerdict}
 use Rattle.program_ending.specs.declared.refusal.Refusal.{Refusal}
-use Rattle.log_commands.specs.Input.{IsBadMachine, file_in, text_in}
+use Rattle.log_commands.specs.Input.{most_machine, IsBadMachine, file_in, text_in}
 use Rattle.log_commands.specs.Telling.{count_row, counted}
 
 -- a text has that verdict: that on the log whose text it is; where it is none's, its first line that the grammar has not is the first bad one
@@ -39,7 +39,7 @@ pub record TellsVerdict (m : Machine) (bytes said : List ℕ) (good : Bool) : Ty
 -- a machine stands in the bytes, and this is the text of the verdict on what stands behind it
 pub record IsJudged (bytes said : List ℕ) (good : Bool) : Type 0 where
   pub machine : Machine
-  pub few : length (file_in bytes) ≤ 16777216
+  pub few : length (file_in bytes) ≤ most_machine
   pub spells : machine_in (file_in bytes) ≡ Some machine
   pub told : TellsVerdict machine (text_in bytes) said good
 

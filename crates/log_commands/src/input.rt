@@ -7,7 +7,7 @@ ghost use Rattle.sleep_model.specs.Text.{text};
 ghost use Rattle.machine_file.specs.Reading.{links_among};
 ghost use Rattle.machine_file.specs.Whole.{IsSpelled, machine_in};
 ghost use Rattle.program_ending.specs.Telling.{Refuses};
-ghost use Rattle.log_commands.specs.Input.{IsBadInput, IsBadLog, IsBadMachine, IsLogIn, file_in, line_length, text_in};
+ghost use Rattle.log_commands.specs.Input.{IsBadInput, IsBadLog, IsBadMachine, IsLogIn, file_in, line_length, most_machine, text_in};
 
 use device_links::Links;
 use log_text::{LogFault, read_log};
@@ -17,7 +17,7 @@ use sleep_model::{Log, Machine};
 use std::alloc::Global;
 
 /// The most bytes that a machine file has.
-const MOST_MACHINE: usize = 16_777_216;
+pub const MOST_MACHINE: u32 = 16_777_216;
 
 /// A machine with its links, and a log of it.
 #[derive(Drop)]
@@ -55,12 +55,12 @@ pub(crate) fn cut_line(bytes: &[u8]) -> (&[u8], &[u8])
 /// The machine that these bytes spell, with its links.
 pub(crate) fn machine_of(alloc: Global, bytes: &[u8]) -> Result<ReadMachine, Ending>
     ensures spells { IfOk result (λ r. machine_in bytes.now ≡ Some r.machine) }
-    ensures few { OnOk result (length bytes.now ≤ 16777216) }
+    ensures few { OnOk result (length bytes.now ≤ most_machine) }
     ensures links { IfOk result (λ r. r.links ≡ links_among r.machine) }
     ensures accepted { IfOk result (λ r. IsAccepted r.machine) }
     ensures refused { IfErr result (Refuses (IsBadMachine bytes.now)) }
 {
-    if bytes.len() > MOST_MACHINE {
+    if bytes.len() > MOST_MACHINE as usize {
         return Err(Ending::Refused(Refusal::LongMachine));
     }
     match read_machine(alloc, bytes) {

@@ -9,6 +9,6 @@ mod telling;
 mod tests;
 mod verdict;
 
-pub use input::{LogInput, read_log_input};
+pub use input::{LogInput, MOST_MACHINE, read_log_input};
 pub use stats::stats_of;
 pub use verdict::{Judged, judge};

@@ -6,6 +6,7 @@ pub mod Grammar
 pub mod Named
 pub mod Passing
 pub mod Reading
+pub mod Referred
 pub mod Ready
 pub mod Verbs
 pub mod Words

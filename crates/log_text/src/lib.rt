@@ -12,4 +12,5 @@ pub use fault::LogFault;
 pub use laws::{first_bad_line_is_one, text_tells_log, written_lines_are_good};
 pub use reading::read::read_log;
 pub use writing::log::write_log;
+pub use writing::referred::write_entries;
 pub use writing::stream::LogText;

@@ -6,4 +6,5 @@ pub(crate) mod held;
 pub(crate) mod piece;
 pub(crate) mod short;
 pub(crate) mod spelled;
+pub(crate) mod verb;
 pub(crate) mod words;

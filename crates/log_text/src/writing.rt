@@ -5,5 +5,6 @@ pub(crate) mod device_words;
 pub(crate) mod line;
 pub(crate) mod log;
 pub(crate) mod ready;
+pub(crate) mod referred;
 pub(crate) mod stream;
 pub(crate) mod writer;

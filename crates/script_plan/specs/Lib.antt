@@ -1,4 +1,3 @@
-pub mod CallPlanFields
 pub mod CallPlans
 pub mod PlanFields
 pub mod Plans

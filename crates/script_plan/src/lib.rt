@@ -2,9 +2,8 @@
 //! once.
 #![tactic(auto)]
 
-mod call_plan;
+mod calls;
 mod expand;
 mod plan;
 
-pub use call_plan::CallPlan;
 pub use plan::Plan;

@@ -2,9 +2,10 @@ ghost use Rattle.std.specs.Prelude.{◌≡◌, ◌≤◌, ◌<◌, ◌+◌, ◌^
 ghost use Rattle.sleep_model.specs.Scripts.{makes_entry};
 ghost use Rattle.script_plan.specs.Plans.{expanded, op_of, op_at, entry_places, calls_in, turns_in, turns_from, calls_after, ops_of};
 
+use crate::calls::{calls_of, part};
 use crate::expand::expand;
 use sleep_base::Mem;
-use sleep_model::{Op, Script, Step};
+use sleep_model::{Op, Report, Script, Step};
 use sleep_sysfs::is_autosleep_text;
 use std::alloc::Global;
 use std::marker::Model;
@@ -105,18 +106,22 @@ pub(crate) fn count_calls(alloc: Global, steps: &[Step], places: &[usize]) -> Re
     Ok(Counts { before_turns, all })
 }
 
-/// A script whose steps are counted once, so that each turn finds its own at once.
+/// A script whose steps are taken and counted once, so that each turn finds its own at once. Contracts see the script,
+/// and the source that autosleep has.
 #[derive(Drop)]
 pub struct Plan<'m> {
     script: &'m Script,
+    autosleep: u32,
     entry_places: Vec<usize>,
+    /// The calls that the script's own steps make, in order.
+    calls: Vec<Report>,
     counts: Counts,
 }
 
 impl<'m> Model for Plan<'m> {
-    ghost use Rattle.sleep_model.specs.declared.machine.Script.{Script};
+    ghost use Rattle.script_plan.specs.CallPlans.{ScriptCalls};
 
-    ghost Value = { Script };
+    ghost Value = { ScriptCalls };
 
     ghost use Rattle.script_plan.specs.PlanFields.{planned, keeps};
 
@@ -126,37 +131,62 @@ impl<'m> Model for Plan<'m> {
 }
 
 impl<'m> Plan<'m> {
-    ghost use Rattle.std.specs.Prelude.{◌≡◌, ◌≤◌, ℕ, length, IfOk, option_copied, slice_get};
+    ghost use Rattle.std.specs.Prelude.{◌≡◌, ◌≤◌, ℕ, length, map, IfOk, option_copied, slice_get};
+    ghost use Rattle.sleep_model.specs.Calls.{calls_at};
     ghost use Rattle.sleep_model.specs.Scripts.{operations, entry_steps, pieces};
+    ghost use Rattle.script_plan.specs.CallPlans.{noted, calls_ahead};
     ghost use Rattle.script_plan.specs.Plans.{calls_before};
 
-    /// The plan of a script, which makes at most 200,000 steps. `Mem` where there is no memory.
-    pub fn new(alloc: Global, script: &'m Script) -> Result<Self, Mem>
+    /// The plan of a script, which makes at most 200,000 steps, where autosleep has that source. `Mem` where there is no
+    /// memory.
+    pub fn new(alloc: Global, script: &'m Script, autosleep: u32) -> Result<Self, Mem>
         requires { length (operations script.now) ≤ 200000 }
-        ensures { IfOk result (λ p. p ≡ script.now) }
+        ensures { IfOk result (λ p. p ≡ record { source = autosleep; script = script.now }) }
     {
         let places = expand(alloc, script)?;
         let steps = script.steps.as_slice();
         Ok(Plan {
             script,
+            autosleep,
             entry_places: entry_places(alloc, steps, &places)?,
+            calls: calls_of(alloc, autosleep, steps, &places)?,
             counts: count_calls(alloc, steps, &places)?,
         })
     }
 
     /// The operation that makes the script's entries with that number, from 0. None where it has none left.
     pub fn operation(&self, number: usize) -> Option<&'m Op>
-        ensures { option_copied result ≡ slice_get (entry_steps self.now) number }
+        ensures { option_copied result ≡ slice_get (entry_steps self.now.script) number }
     {
         let at = *self.entry_places.get(number)?;
         let steps: &'m [Step] = self.script.steps.as_slice();
         Some(op_at(steps, at))
     }
 
-    /// How many calls on sources stand before the script's turn with that number, from 0, or before its exit.
+    /// How many calls on sources stand before the turn with that number, from 0, or before its exit.
     pub fn calls_before(&self, turn: usize) -> u32
-        ensures { (source : ℕ) → result ≡ calls_before (pieces source self.now) turn }
+        ensures { (source : ℕ) → result ≡ calls_before (pieces source self.now.script) turn }
     {
         self.counts.before_turn(turn)
+    }
+
+    /// How many calls stand before the turn in front of that one.
+    fn ahead(&self, turn: usize) -> usize
+        ensures { result ≡ calls_ahead (pieces self.now.source self.now.script) turn }
+    {
+        if turn == 0 {
+            0
+        } else {
+            self.counts.before_turn(turn - 1) as usize
+        }
+    }
+
+    /// The calls right before the script's turn with that number, from 0, or before its exit, in order.
+    pub fn calls_at(&self, turn: usize) -> &[Report]
+        ensures { map noted result.now ≡ calls_at (pieces self.now.source self.now.script) turn }
+    {
+        let from = self.ahead(turn);
+        let to = self.counts.before_turn(turn) as usize;
+        part(&self.calls, from, to)
     }
 }

@@ -1,5 +1,5 @@
 -- The calls of a script by the turns that it has ended.
-use Rattle.std.proofs.Common.{◌≡◌, ◌∙◌, ◌<◌, ◌+◌, ◌==◌, ◌&&◌, ℕ, zero, suc, Bool, true, false, List, [], ◌∷◌, length, slice_get, slice_index_or, slice_set, refl, sym, ap, ap₂, subst, length-append, arith}
+use Rattle.std.proofs.Common.{◌≡◌, ◌∙◌, ◌<◌, ◌+◌, ◌==◌, ◌&&◌, ℕ, zero, suc, Bool, true, false, List, [], ◌∷◌, length, slice_get, slice_index_or, slice_set, Option, Some, refl, sym, ap, ap₂, subst, length-append, arith}
 use Rattle.std.proofs.lemmas.Bool.Decides.{nat_tests}
 use Rattle.sleep_model.specs.declared.entry.Actor.{Actor}
 use Rattle.sleep_model.specs.declared.entry.Actor.TheVariants as actor
@@ -116,16 +116,11 @@ other_calls_due m past (actor.Dev d) reported is not by_report = omega (arith, b
 other_calls_due m past (actor.Timer s) reported is not by_report = absurd is
 other_calls_due m past actor.Time reported is not by_report = absurd is
 
-pieces_here : (source i : ℕ) (ss : List Script) (s : Script) → i < length ss → s ≡ slice_index_or ss i s → pieces source s ≡ pieces_if source (slice_get ss i)
-pieces_here source i [] s l e = absurd (omega (arith, l))
-pieces_here source zero (t ∷ ss) s l e = ap (pieces source) e
-pieces_here source (suc i) (t ∷ ss) s l e = pieces_here source i ss s (omega (arith, l)) e
-
 -- the calls before a turn, by the script's plan
-pub planned_calls : (m : Machine) (i : ℕ) (past : List Entry) (plans : List Script) (s : Script) (seat : Seat) (calls : ℕ) → plans ≡ m.actors → i < length m.actors → s ≡ slice_index_or plans i s
+pub planned_calls : (m : Machine) (i : ℕ) (past : List Entry) (s : Script) (seat : Seat) (calls : ℕ) → slice_get m.actors i ≡ Some s
     → ((source : ℕ) → calls ≡ calls_before (pieces source s) seat.turns) → seat ≡ seat_at (seats (length m.actors) past) i
     → calls ≡ calls_before (pieces_in m i) (seat_at (seats (length m.actors) past) i).turns
-planned_calls m i past plans s seat calls all l at is here =
+planned_calls m i past s seat calls at is here =
     is (length m.sources)
-    ∙ (ap (λ ps. calls_before ps seat.turns) (pieces_here (length m.sources) i m.actors s l (subst (λ (xs : List Script). s ≡ slice_index_or xs i s) all at))
+    ∙ (ap (λ (o : Option Script). calls_before (pieces_if (length m.sources) o) seat.turns) (sym at)
     ∙ ap (λ (x : Seat). calls_before (pieces_in m i) x.turns) here)

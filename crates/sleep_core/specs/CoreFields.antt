@@ -38,11 +38,10 @@ pub record IsCore (h : Kept) : Type 0 where
 abbrev pub state : Inside → CoreState
 state c = record { machine = c.history.machine; past = c.history.past }
 
--- what holds of a core between calls: it has each script's plan and the machine's answers, keeps its history, and counts the reports of callbacks
+-- what holds of a core between calls: the plans are its machine's, it keeps its history, and counts the reports of callbacks
 pub record IsWhole (c : Inside) : Type 0 where
   pub core : IsCore c.history
-  pub plans_are : c.plans.items ≡ c.history.machine.actors
-  pub answers_are : c.answers ≡ c.history.machine.answers
+  pub plans_are : c.plans.now ≡ c.history.machine
   pub wakeup_is : c.wakeup ≡ map may_wake c.history.machine.devices
   pub reports_are : c.reports ≡ counts_of c.history.machine (entries c.history.past)
 

@@ -93,7 +93,7 @@ impl<'m> Core<'m> {
             (seat_at (seats (length self.now.machine.actors) (entries self.now.past)) script).turns }
     {
         let seat = self.history.tasks().seat(script);
-        self.plans[script as usize].calls_before(seat.turns)
+        self.plan(script).calls_before(seat.turns)
     }
 
     /// How many calls on sources an actor owes in all before it may append to the journal: those of

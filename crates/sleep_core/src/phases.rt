@@ -98,7 +98,7 @@ impl<'m> Core<'m> {
         match device {
             None => 0,
             Some(d) => self
-                .answers
+                .answers()
                 .number(What::Device(d, Phase::Prepare), self.attempts()),
         }
     }

@@ -1,31 +1,17 @@
 //! A core before its first turn.
 
-ghost use Rattle.std.specs.Prelude.{◌≡◌, ◌≤◌, length, map, IfOk};
-ghost use Rattle.sleep_model.specs.Places.{all_operations};
+ghost use Rattle.std.specs.Prelude.{◌≡◌, map, IfOk};
 ghost use Rattle.sleep_model.specs.Runtime.{may_wake};
 
 use crate::history::History;
 use crate::reports::Reports;
 use crate::state::Core;
-use answer_book::AnswerBook;
 use device_links::Links;
 use device_rows::Flags;
-use script_plan::Plan;
+use machine_plans::MachinePlans;
 use sleep_base::Mem;
-use sleep_model::{Device, DeviceFlags, Machine, Script};
+use sleep_model::{Device, DeviceFlags};
 use std::alloc::Global;
-
-/// The plan of each script.
-fn plans_of(alloc: Global, scripts: &[Script]) -> Result<Vec<Plan<'_>>, Mem>
-    requires { length (all_operations scripts.now) ≤ 200000 }
-    ensures { IfOk result (λ v. v.items ≡ scripts.now) }
-{
-    let mut plans = Vec::with_capacity(alloc, scripts.len())?;
-    for script in scripts {
-        plans.push(Plan::new(alloc, script)?)?;
-    }
-    Ok(plans)
-}
 
 /// Which devices may wake the machine.
 fn wakeup_of(alloc: Global, devices: &[Device]) -> Result<Flags, Mem>
@@ -43,21 +29,19 @@ impl<'m> Core<'m> {
     ghost use Rattle.sleep_model.specs.Accepted.{IsAccepted};
     ghost use Rattle.sleep_model.specs.Order.{parents_of};
 
-    /// The core of a machine whose links these are, with nothing done yet. `Mem` where there is no memory.
-    pub fn new(alloc: Global, machine: &'m Machine, links: Links) -> Result<Core<'m>, Mem>
-        requires accepted { IsAccepted machine.now }
-        requires links { links ≡ record { parents = parents_of machine.now.devices; links = reverse machine.now.links } }
-        ensures { IfOk result (λ c. c ≡ record { machine = machine.now; past = [] }) }
+    /// The core of a machine whose plans and links these are, with nothing done yet. `Mem` where there is no memory.
+    pub fn new(alloc: Global, plans: &'m MachinePlans<'_>, links: Links) -> Result<Core<'m>, Mem>
+        requires accepted { IsAccepted plans.now }
+        requires links { links ≡ record { parents = parents_of plans.now.devices; links = reverse plans.now.links } }
+        ensures { IfOk result (λ c. c ≡ record { machine = plans.now; past = [] }) }
     {
-        let plans = plans_of(alloc, machine.actors.as_slice())?;
-        let answers = AnswerBook::new(alloc, machine.answers.as_slice())?;
+        let machine = plans.machine();
         let wakeup = wakeup_of(alloc, machine.devices.as_slice())?;
         let reports = Reports::new(alloc, machine.actors.len(), machine.devices.len())?;
         let history = History::new(alloc, machine, links)?;
         Ok(Core {
             history,
             plans,
-            answers,
             wakeup,
             reports,
         })

@@ -4,6 +4,7 @@ use answer_book::AnswerBook;
 use async_board::Board;
 use autosleep_loop::is_actor;
 use device_rows::Flags;
+use machine_plans::MachinePlans;
 use script_plan::Plan;
 use sleep_base::Errno;
 use sleep_model::{Actor, Callback, EventNow, Group, Machine, Sleep, Stage, TaskKind, What};
@@ -15,8 +16,8 @@ use task_freezer::{Left, Round};
 #[derive(Drop)]
 pub struct Core<'m> {
     pub(crate) history: History<'m>,
-    pub(crate) plans: Vec<Plan<'m>>,
-    pub(crate) answers: AnswerBook<'m>,
+    // The machine's scripts and answers, which the jobs of its actors share.
+    pub(crate) plans: &'m MachinePlans<'m>,
     // Which devices may wake the machine.
     pub(crate) wakeup: Flags,
     // The calls on sources that callbacks have reported.
@@ -36,7 +37,7 @@ impl<'m> Model for Core<'m> {
 }
 
 impl<'m> Core<'m> {
-    ghost use Rattle.std.specs.Prelude.{◌≡◌, ◌≤◌, ◌<◌, ◌^◌, ◌+◌, IfSome, is_some, length, slice_get};
+    ghost use Rattle.std.specs.Prelude.{◌≡◌, ◌≤◌, ◌<◌, ◌^◌, ◌+◌, IfSome, Some, is_some, length, slice_get};
     ghost use Rattle.sleep_model.specs.Attempt.{answered, sleeps_now, freeze_since, sleep_of};
     ghost use Rattle.sleep_model.specs.Devices.{callback, phase_failed, own_error};
     ghost use Rattle.sleep_model.specs.Freezer.{left};
@@ -59,6 +60,21 @@ impl<'m> Core<'m> {
         ensures { result.now ≡ self.now.machine }
     {
         self.history.machine()
+    }
+
+    /// What its callbacks answer.
+    pub(crate) fn answers(&self) -> &AnswerBook<'m>
+        ensures { result.now ≡ self.now.machine.answers }
+    {
+        self.plans.answers()
+    }
+
+    /// The steps of a script.
+    pub(crate) fn plan(&self, script: u32) -> &Plan<'m>
+        requires { script < length self.now.machine.actors }
+        ensures { slice_get self.now.machine.actors script ≡ Some result.now.script }
+    {
+        self.plans.script(script)
     }
 
     /// Whether a wakeup is pending at this word (`pm_wakeup_pending`).
@@ -88,7 +104,7 @@ impl<'m> Core<'m> {
     pub(crate) fn answered(&self, what: What) -> Option<Errno>
         ensures { result ≡ answered self.now.machine (entries self.now.past) what }
     {
-        self.answers.error(what, self.history.path().attempts())
+        self.answers().error(what, self.history.path().attempts())
     }
 
     /// Whether that actor makes the open attempt.

@@ -125,7 +125,7 @@ impl<'m> Core<'m> {
             return Due::Gone;
         }
         let freezing = self.history.freezer().freezing(script);
-        let op = self.plans[script as usize].operation(seat.done);
+        let op = self.plan(script).operation(seat.done);
         self.task_due(now, freezing, self.kind_of(script), seat, op)
     }
 }

@@ -125,7 +125,8 @@ impl<'m> Core<'m> {
         match kind {
             Kind::Begin(phase, device) => {
                 let what = What::Device(device, phase);
-                self.answers.reports(what, self.attempts()).len() as u32
+                let answers = self.plans.answers();
+                answers.reports(what, self.attempts()).len() as u32
             }
             _ => 0,
         }

@@ -28,7 +28,7 @@ use Rattle.program_ending.specs.Telling.{Refuses}
 use Rattle.idle_loop.specs.declared.entry.IdleSizes.{IdleSizes}
 use Rattle.idle_lines.specs.Lines.{IsIdleText}
 use Rattle.lock_lines.specs.Command.{IsLocksOf, RefusesLocks}
-use Rattle.log_commands.specs.Input.{IsLogIn, file_in, text_in}
+use Rattle.log_commands.specs.Input.{IsLogIn, file_in, most_machine, text_in}
 use Rattle.log_commands.specs.declared.verdict.Judged.{Judged}
 use Rattle.log_commands.specs.Judging.{IsGoodText, IsJudged, RefusesCheck}
 use Rattle.log_commands.specs.Stats.{IsStatsOf, RefusesStats}
@@ -55,6 +55,14 @@ abbrev pub streams : Stream → Stream → Streams
 streams input output = record { input = input; output = output }
 
 -- ---- reading and writing
+
+-- how many bytes a machine and its log have at most together (own)
+abbrev pub most_input : ℕ
+most_input = 268435456
+
+-- how many bytes the lines that lock and unlock names have at most together (own)
+abbrev pub most_locks : ℕ
+most_locks = 16777216
 
 -- the whole input was read, and was these bytes, within the limit
 pub record ReadWhole (most : ℕ) (old new : Stream) (bytes : List ℕ) : Type 0 where
@@ -156,7 +164,7 @@ WritesLog ran old new ending = Writes old new (text ran.machine ran.log) (is_stu
 
 -- the whole input was a machine file, and the text is that of its log
 abbrev pub RanFile : Stream → Stream → List ℕ → Bool → Type 0
-RanFile old new said stuck = (bytes : List ℕ) × ReadWhole 16777216 old new bytes × IsLogOf bytes said stuck
+RanFile old new said stuck = (bytes : List ℕ) × ReadWhole most_machine old new bytes × IsLogOf bytes said stuck
 
 -- the log's text was written, or a front of it
 abbrev pub WroteLog : Streams → Streams → Ending → Type 0
@@ -168,7 +176,7 @@ RunEnded old new Done = WroteLog old new Done
 RunEnded old new Stuck = WroteLog old new Stuck
 RunEnded old new WriteFault = WroteLog old new WriteFault
 -- more than 16,777,216 bytes came, they break that rule first and there, or a source's history has no place for a call
-RunEnded old new (Refused refusal) = RefusesInput 16777216 LongMachine RefusesRun old.input new.input refusal × KeepsOut old new
+RunEnded old new (Refused refusal) = RefusesInput most_machine LongMachine RefusesRun old.input new.input refusal × KeepsOut old new
 -- a read failed
 RunEnded old new ReadFault = Rose old.input.faults new.input.faults × KeepsOut old new
 RunEnded old new NoMemory = KeepsOut old new
@@ -244,7 +252,7 @@ WritesVerdict (Err other) old new ending = (ending ≡ other) × (new ≡ old)
 -- the whole input was a machine and a text, and the verdict on that as a log of it was written, or a front of it
 abbrev pub WroteVerdict : Streams → Streams → Ending → Type 0
 WroteVerdict old new ending =
-    (bytes said : List ℕ) × (good : Bool) × ReadWhole 268435456 old.input new.input bytes × IsJudged bytes said good
+    (bytes said : List ℕ) × (good : Bool) × ReadWhole most_input old.input new.input bytes × IsJudged bytes said good
     × WritesJudged old.output new.output said good ending
 
 -- what an ending of check means: done where the log is legal and finished, and else illegal
@@ -253,7 +261,7 @@ CheckEnded old new Done = WroteVerdict old new Done
 CheckEnded old new Illegal = WroteVerdict old new Illegal
 CheckEnded old new WriteFault = WroteVerdict old new WriteFault
 -- more bytes came, or the machine's file is refused so
-CheckEnded old new (Refused refusal) = RefusesInput 268435456 LongInput RefusesCheck old.input new.input refusal × KeepsOut old new
+CheckEnded old new (Refused refusal) = RefusesInput most_input LongInput RefusesCheck old.input new.input refusal × KeepsOut old new
 -- a read failed
 CheckEnded old new ReadFault = Rose old.input.faults new.input.faults × KeepsOut old new
 CheckEnded old new NoMemory = KeepsOut old new
@@ -262,11 +270,11 @@ CheckEnded old new NoForm = ⊥
 
 -- what an ending of stats means
 abbrev pub StatsEnded : Streams → Streams → Ending → Type 0
-StatsEnded old new ending = TellEnded 268435456 LongInput IsStatsOf RefusesStats old new ending
+StatsEnded old new ending = TellEnded most_input LongInput IsStatsOf RefusesStats old new ending
 
 -- what an ending of locks means
 abbrev pub LocksEnded : Streams → Streams → Ending → Type 0
-LocksEnded old new ending = TellEnded 16777216 LongLocks IsLocksOf RefusesLocks old new ending
+LocksEnded old new ending = TellEnded most_locks LongLocks IsLocksOf RefusesLocks old new ending
 
 -- ---- all words
 
@@ -316,16 +324,16 @@ IsInput most now bytes = (now.input.bytes ≡ Some bytes) × (length bytes ≤ m
 abbrev pub Completes : Option Command → Streams → Streams → ℕ → Type 0
 Completes None old new status = IsOneOf NoForm NoForm status
 Completes (Some (Run workers)) old new status =
-    (bytes : List ℕ) → IsInput 16777216 old bytes → (m : Machine) → machine_in bytes ≡ Some m → FillsNone m → NoFaults old new
+    (bytes : List ℕ) → IsInput most_machine old bytes → (m : Machine) → machine_in bytes ≡ Some m → FillsNone m → NoFaults old new
     → IsOneOf Done Stuck status
 Completes (Some (Gen seed devices)) old new status = NoFault old.output.faults new.output.faults → IsOneOf Done Done status
 Completes (Some (Soak seed devices)) old new status = NoFault old.output.faults new.output.faults → IsOneOf Done Stuck status
 Completes (Some (Idle wakers events sessions workers)) old new status = NoFault old.output.faults new.output.faults → IsOneOf Done Done status
 Completes (Some Check) old new status =
-    (bytes : List ℕ) → IsInput 268435456 old bytes → (m : Machine) → length (file_in bytes) ≤ 16777216 → machine_in (file_in bytes) ≡ Some m → NoFaults old new
+    (bytes : List ℕ) → IsInput most_input old bytes → (m : Machine) → length (file_in bytes) ≤ most_machine → machine_in (file_in bytes) ≡ Some m → NoFaults old new
     → (IsGoodText m (text_in bytes) → IsOneOf Done Done status) × ((IsGoodText m (text_in bytes) → ⊥) → IsOneOf Illegal Illegal status)
 Completes (Some Locks) old new status =
-    (bytes said : List ℕ) → IsInput 16777216 old bytes → IsLocksOf bytes said → NoFaults old new → IsOneOf Done Done status
+    (bytes said : List ℕ) → IsInput most_locks old bytes → IsLocksOf bytes said → NoFaults old new → IsOneOf Done Done status
 Completes (Some Stats) old new status =
-    (bytes : List ℕ) → IsInput 268435456 old bytes → (m : Machine) → (log : Log) → IsLogIn bytes m log
+    (bytes : List ℕ) → IsInput most_input old bytes → (m : Machine) → (log : Log) → IsLogIn bytes m log
     → refusal_of (parents_of m.devices) m.links log.entries ≡ None → NoFaults old new → IsOneOf Done Done status

@@ -1,12 +1,15 @@
 use crate::rows::{apart, attempts, autosleep, counts, devices, failures, freezing, links, timers};
-use crate::tests::{GOOD, Outcome, Streams, given};
+use crate::tests::{GOOD, Said, Streams, answers, given};
 use std::alloc::Global;
 use std::process::Abort;
 use std::sync::Wait;
 use std::test::Fail;
 use std::thread::Threads;
 
-// A machine's file and a log behind it.
+/// The words that ask for a check.
+const CHECK: [&str; 2] = ["sleep", "check"];
+
+/// A machine's file and a log behind it.
 fn input_of(alloc: Global, file: &str, log: &str) -> Result<Vec<u8>, Fail> {
     let mut input = String::from_str(alloc, file)?;
     input.push('\n')?;
@@ -14,90 +17,140 @@ fn input_of(alloc: Global, file: &str, log: &str) -> Result<Vec<u8>, Fail> {
     Ok(input.into_bytes())
 }
 
-// Judges an input.
-fn judged<R: Threads + Wait + Sync>(
-    rt: &R,
-    alloc: Global,
-    input: Vec<u8>,
-    streams: &Streams<'_>,
-) -> Result<Outcome, Fail> {
-    given(rt, alloc, &["sleep", "check"], input, streams)
-}
-
-// The program says that of a machine and a log.
-fn assert_said<R: Threads + Wait + Sync + Abort>(
+/// Whether the program answers so to a machine and a log.
+fn judges<R: Threads + Wait + Sync>(
     rt: &R,
     alloc: Global,
     file: &str,
     log: &str,
-    said: &str,
-) -> Result<(), Fail> {
-    let outcome = judged(rt, alloc, input_of(alloc, file, log)?, &GOOD)?;
-    assert_eq!(rt; outcome.out.as_slice(), said.as_bytes(), "{file}");
-    assert_eq!(rt; outcome.status, u8::from(said != "legal\n"));
-    assert!(rt; outcome.err.is_empty());
-    Ok(())
+    streams: &Streams<'_>,
+    said: &Said<'_>,
+) -> Result<bool, Fail> {
+    let input = input_of(alloc, file, log)?;
+    let outcome = given(rt, alloc, &CHECK, input, streams)?;
+    Ok(outcome.is(said))
 }
 
-// The log with another text in place of a line of it, counted from 1.
-fn with_line(alloc: Global, log: &str, number: usize, text: &str) -> Result<String, Fail> {
-    let mut copy = String::new(alloc);
-    for (place, line) in log.lines().enumerate() {
-        if place + 1 == number {
-            copy.push_str(text)?;
-        } else {
-            copy.push_str(line)?;
-            copy.push('\n')?;
-        }
-    }
-    Ok(copy)
+/// A log with another line, if any, and what is said of it.
+struct Judged {
+    file: &'static str,
+    log: &'static str,
+    /// The number of the line, from 1, or 0 for none.
+    line: usize,
+    /// What stands in its place.
+    text: &'static str,
+    said: &'static str,
 }
 
 /// A legal log; one without its `enter`; a save that is answered ok where an event came; a line with a number that is not
-/// its place's; and a run that is stuck.
-#[test]
-fn worked_logs_are_judged(rt: HostRuntime) -> Result<(), Fail> {
-    let alloc = rt.alloc();
-    let (file, log) = (attempts::SMALLEST_ATTEMPT, attempts::SMALLEST_ATTEMPT_LOG);
-    assert_said(&rt, alloc, file, log, "legal\n")?;
-    let without = with_line(alloc, log, 17, "")?;
-    assert_said(
-        &rt,
-        alloc,
-        file,
-        &without,
-        "illegal line 17 definition 18\n",
-    )?;
-    let other = with_line(alloc, log, 2, "0 0/1/0 task:w save 0 ok\n")?;
-    assert_said(&rt, alloc, file, &other, "illegal line 2 definition 4\n")?;
-    let (file, log) = (counts::EVENT_BEFORE_SAVE, counts::EVENT_BEFORE_SAVE_LOG);
-    let saved = with_line(alloc, log, 10, "0 0/1/0 task:w save 0 ok\n")?;
-    assert_said(&rt, alloc, file, &saved, "illegal line 10 definition 8\n")?;
-    let stuck = "illegal line 6 definition 20\n";
-    assert_said(
-        &rt,
-        alloc,
-        counts::STUCK_READ,
-        counts::STUCK_READ_LOG,
-        stuck,
-    )
+/// its place's; a run that is stuck; statistics that are not the source's; and a script that has not exited.
+const JUDGED: [Judged; 7] = [
+    Judged {
+        file: attempts::SMALLEST_ATTEMPT,
+        log: attempts::SMALLEST_ATTEMPT_LOG,
+        line: 0,
+        text: "",
+        said: "legal\n",
+    },
+    Judged {
+        file: attempts::SMALLEST_ATTEMPT,
+        log: attempts::SMALLEST_ATTEMPT_LOG,
+        line: 17,
+        text: "",
+        said: "illegal line 17 definition 18\n",
+    },
+    Judged {
+        file: attempts::SMALLEST_ATTEMPT,
+        log: attempts::SMALLEST_ATTEMPT_LOG,
+        line: 2,
+        text: "0 0/1/0 task:w save 0 ok\n",
+        said: "illegal line 2 definition 4\n",
+    },
+    Judged {
+        file: counts::EVENT_BEFORE_SAVE,
+        log: counts::EVENT_BEFORE_SAVE_LOG,
+        line: 10,
+        text: "0 0/1/0 task:w save 0 ok\n",
+        said: "illegal line 10 definition 8\n",
+    },
+    Judged {
+        file: counts::STUCK_READ,
+        log: counts::STUCK_READ_LOG,
+        line: 0,
+        text: "",
+        said: "illegal line 6 definition 20\n",
+    },
+    Judged {
+        file: counts::EVENT_BEFORE_SAVE,
+        log: counts::EVENT_BEFORE_SAVE_LOG,
+        line: 13,
+        text: "source lid 1 2 0 0 0 0 0\n",
+        said: "illegal line 13 definition 22\n",
+    },
+    Judged {
+        file: counts::EVENT_BEFORE_SAVE,
+        log: counts::EVENT_BEFORE_SAVE_LOG,
+        line: 12,
+        text: "",
+        said: "illegal line 14 definition 20\n",
+    },
+];
+
+/// Adds a log, with another text in place of a line of it.
+fn add_changed(input: &mut String, log: &str, number: usize, text: &str) -> Result<(), Fail> {
+    for (place, line) in log.lines().enumerate() {
+        if place + 1 == number {
+            input.push_str(text)?;
+        } else {
+            input.push_str(line)?;
+            input.push('\n')?;
+        }
+    }
+    Ok(())
 }
 
-/// Statistics that are not the source's, and a script that has not exited.
+/// What the program reads for a row.
+fn changed(alloc: Global, row: &Judged) -> Result<Vec<u8>, Fail> {
+    let mut input = String::from_str(alloc, row.file)?;
+    input.push('\n')?;
+    add_changed(&mut input, row.log, row.line, row.text)?;
+    Ok(input.into_bytes())
+}
+
+/// Whether the program says what a row says.
+fn is_judged<R: Threads + Wait + Sync>(rt: &R, alloc: Global, row: &Judged) -> Result<bool, Fail> {
+    let said = Said {
+        status: u8::from(row.said != "legal\n"),
+        out: row.said,
+        err: "",
+    };
+    let outcome = given(rt, alloc, &CHECK, changed(alloc, row)?, &GOOD)?;
+    Ok(outcome.is(&said))
+}
+
+/// Logs that were worked apart, as they are and with a line changed.
 #[test]
-fn the_last_lines_are_judged(rt: HostRuntime) -> Result<(), Fail> {
-    let alloc = rt.alloc();
-    let (file, log) = (counts::EVENT_BEFORE_SAVE, counts::EVENT_BEFORE_SAVE_LOG);
-    let counted = with_line(alloc, log, 13, "source lid 1 2 0 0 0 0 0\n")?;
-    assert_said(
-        &rt,
-        alloc,
-        file,
-        &counted,
-        "illegal line 13 definition 22\n",
-    )?;
-    let left = with_line(alloc, log, 12, "")?;
-    assert_said(&rt, alloc, file, &left, "illegal line 14 definition 20\n")
+fn worked_logs_are_judged(rt: HostRuntime) -> Result<(), Fail> {
+    for (n, row) in JUDGED.iter().enumerate() {
+        assert!(rt; is_judged(&rt, rt.alloc(), row)?, "row {n}");
+    }
+    Ok(())
+}
+
+/// Whether the log of a machine is legal where its run was finished, and else only its end is bad.
+fn is_of_run<R: Threads + Wait + Sync>(
+    rt: &R,
+    alloc: Global,
+    file: &str,
+    status: u8,
+    log: &str,
+) -> Result<bool, Fail> {
+    let outcome = given(rt, alloc, &CHECK, input_of(alloc, file, log)?, &GOOD)?;
+    Ok(if status == 0 {
+        outcome.ends_so(0, b"legal\n")
+    } else {
+        outcome.ends_so(1, b" definition 20\n")
+    })
 }
 
 // Each log of these machines is legal where its run was finished, else only its end is bad.
@@ -107,12 +160,7 @@ fn assert_each<R: Threads + Wait + Sync + Abort>(
     machines: &[(&str, u8, &str)],
 ) -> Result<(), Fail> {
     for (file, status, log) in machines {
-        let outcome = judged(rt, alloc, input_of(alloc, file, log)?, &GOOD)?;
-        if *status == 0 {
-            assert_eq!(rt; outcome.out.as_slice(), b"legal\n".as_slice(), "{file}");
-        } else {
-            assert!(rt; outcome.out.ends_with(b" definition 20\n"), "{file}");
-        }
+        assert!(rt; is_of_run(rt, alloc, file, *status, log)?, "{file}");
     }
     Ok(())
 }
@@ -121,48 +169,52 @@ fn assert_each<R: Threads + Wait + Sync + Abort>(
 #[test]
 fn logs_of_runs_are_legal(rt: HostRuntime) -> Result<(), Fail> {
     let alloc = rt.alloc();
-    assert_each(&rt, alloc, &attempts::MACHINES)?;
-    assert_each(&rt, alloc, &failures::MACHINES)?;
-    assert_each(&rt, alloc, &devices::MACHINES)?;
-    assert_each(&rt, alloc, &links::MACHINES)?;
-    assert_each(&rt, alloc, &freezing::MACHINES)?;
-    assert_each(&rt, alloc, &counts::MACHINES)?;
-    assert_each(&rt, alloc, &timers::MACHINES)?;
-    assert_each(&rt, alloc, &autosleep::MACHINES)?;
-    assert_each(&rt, alloc, &apart::MACHINES)
-}
-
-/// Lines that no log has: the first of them is told, also behind an entry that breaks a rule; and a log that ends too early.
-#[test]
-fn texts_that_are_no_log_are_judged(rt: HostRuntime) -> Result<(), Fail> {
-    let alloc = rt.alloc();
-    let file = attempts::NOTHING;
-    assert_said(&rt, alloc, file, "", "illegal line 1 definition 23\n")?;
-    let later = "0 0/0/0 auto again\n0 0/0/0 auto walk\nfinished\n";
-    assert_said(&rt, alloc, file, later, "illegal line 2 definition 23\n")?;
-    let ends = "source autosleep 0 0 0 0 0 0 0\n";
-    assert_said(&rt, alloc, file, ends, "illegal line 2 definition 23\n")?;
-    let outcome = judged(&rt, alloc, file.as_bytes().to_vec(alloc)?, &GOOD)?;
-    assert_eq!(rt; outcome.status, 1);
-    assert_eq!(rt;
-        outcome.out.as_slice(),
-        b"illegal line 1 definition 23\n".as_slice()
-    );
+    for machines in [
+        attempts::MACHINES.as_slice(),
+        failures::MACHINES.as_slice(),
+        devices::MACHINES.as_slice(),
+        links::MACHINES.as_slice(),
+        freezing::MACHINES.as_slice(),
+        counts::MACHINES.as_slice(),
+        timers::MACHINES.as_slice(),
+        autosleep::MACHINES.as_slice(),
+        apart::MACHINES.as_slice(),
+    ] {
+        assert_each(&rt, alloc, machines)?;
+    }
     Ok(())
 }
 
+/// Inputs that hold a machine and no log, or no machine, with the status and the two texts.
+const NO_LOGS: [(&str, u8, &str, &str); 6] = [
+    ("{\"version\":1}\n", 1, "illegal line 1 definition 23\n", ""),
+    (
+        "{\"version\":1}\n0 0/0/0 auto again\n0 0/0/0 auto walk\nfinished\n",
+        1,
+        "illegal line 2 definition 23\n",
+        "",
+    ),
+    (
+        "{\"version\":1}\nsource autosleep 0 0 0 0 0 0 0\n",
+        1,
+        "illegal line 2 definition 23\n",
+        "",
+    ),
+    ("{\"version\":1}", 1, "illegal line 1 definition 23\n", ""),
+    ("", 3, "", "machine: rule 1: json\n"),
+    ("{}\nfinished\n", 3, "", "machine: rule 3: version\n"),
+];
+
+/// Lines that no log has: the first of them is told, also behind an entry that breaks a rule; and a log that ends too early.
 /// A machine that is none is refused, whatever stands behind it.
 #[test]
-fn bad_machines_are_refused(rt: HostRuntime) -> Result<(), Fail> {
-    let alloc = rt.alloc();
-    for (input, said) in [
-        ("", "machine: rule 1: json\n"),
-        ("{}\nfinished\n", "machine: rule 3: version\n"),
-    ] {
-        let outcome = judged(&rt, alloc, input.as_bytes().to_vec(alloc)?, &GOOD)?;
-        assert_eq!(rt; outcome.status, 3);
-        assert!(rt; outcome.out.is_empty());
-        assert_eq!(rt; outcome.err.as_slice(), said.as_bytes());
+fn texts_that_are_no_log_are_judged(rt: HostRuntime) -> Result<(), Fail> {
+    for (input, status, out, err) in NO_LOGS {
+        let said = Said { status, out, err };
+        assert!(rt;
+            answers(&rt, rt.alloc(), &CHECK, input, &GOOD, &said)?,
+            "{input}"
+        );
     }
     Ok(())
 }
@@ -177,15 +229,21 @@ fn failed_streams_are_told(rt: HostRuntime) -> Result<(), Fail> {
         write_fails: &[2],
         ..GOOD
     };
-    let outcome = judged(&rt, alloc, input_of(alloc, file, log)?, &write)?;
-    assert_eq!(rt; outcome.status, 5);
-    assert_eq!(rt; outcome.err.as_slice(), b"write fault\n".as_slice());
+    let said = Said {
+        status: 5,
+        out: "leg",
+        err: "write fault\n",
+    };
+    assert!(rt; judges(&rt, alloc, file, log, &write, &said)?);
     let read = Streams {
         read_fails: &[1],
         ..GOOD
     };
-    let outcome = judged(&rt, alloc, input_of(alloc, file, log)?, &read)?;
-    assert_eq!(rt; outcome.status, 4);
-    assert!(rt; outcome.out.is_empty());
+    let said = Said {
+        status: 4,
+        out: "",
+        err: "read fault\n",
+    };
+    assert!(rt; judges(&rt, alloc, file, log, &read, &said)?);
     Ok(())
 }

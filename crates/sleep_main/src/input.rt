@@ -5,9 +5,6 @@ use program_ending::{Ending, Refusal};
 use sleep_base::{ByteSource, ReadStop, read_all};
 use std::alloc::Global;
 
-/// The most bytes that a machine file has.
-pub const MOST_MACHINE: u32 = 16_777_216;
-
 /// The most bytes that a machine and its log have together.
 pub const MOST_LOG_INPUT: u32 = 268_435_456;
 

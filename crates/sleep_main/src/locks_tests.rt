@@ -1,6 +1,5 @@
-use crate::tests::{GOOD, Outcome, given};
+use crate::tests::{GOOD, Said, given};
 use std::alloc::Global;
-use std::process::Abort;
 use std::sync::Wait;
 use std::test::Fail;
 use std::thread::Threads;
@@ -33,43 +32,80 @@ source gps 1 1 1 0 2 2 2
 source wifi 1 2 1 0 3 3 3
 ";
 
-/// What the program answers to copies of these lines.
-fn locks_of<R: Threads + Wait + Sync>(
+/// Lines, how often they are read, and what is answered: lines whose answers were worked apart from the program, a line of
+/// no form, one byte too many, and a source that is full.
+const READ: [(&str, u32, Said<'static>); 5] = [
+    (
+        LINES,
+        1,
+        Said {
+            status: 0,
+            out: ANSWERS,
+            err: "",
+        },
+    ),
+    (
+        "active\nafter 0\n",
+        1,
+        Said {
+            status: 3,
+            out: "",
+            err: "locks: line 2\n",
+        },
+    ),
+    (
+        "\n",
+        16_777_216,
+        Said {
+            status: 3,
+            out: "",
+            err: "locks: line 1\n",
+        },
+    ),
+    (
+        "\n",
+        16_777_217,
+        Said {
+            status: 3,
+            out: "",
+            err: "locks: longer than 16777216 bytes\n",
+        },
+    ),
+    (
+        "lock a\n",
+        59_997,
+        Said {
+            status: 7,
+            out: "",
+            err: "source full: a\n",
+        },
+    ),
+];
+
+/// Whether the program answers so to copies of these lines.
+fn locks_say<R: Threads + Wait + Sync>(
     rt: &R,
     alloc: Global,
-    lines: &[u8],
+    lines: &str,
     copies: u32,
-) -> Result<Outcome, Fail> {
+    said: &Said<'_>,
+) -> Result<bool, Fail> {
     let mut input = Vec::new(alloc);
     for _ in 0..copies {
-        input.extend_from_slice(lines)?;
+        input.extend_from_slice(lines.as_bytes())?;
     }
-    given(rt, alloc, &["sleep", "locks"], input, &GOOD)
+    let outcome = given(rt, alloc, &["sleep", "locks"], input, &GOOD)?;
+    Ok(outcome.is(said))
 }
 
-/// Lines with their answers, worked apart from the program.
+/// Lines of each kind, each with its status and its texts.
 #[test]
 fn locks_are_answered(rt: HostRuntime) -> Result<(), Fail> {
-    let outcome = locks_of(&rt, rt.alloc(), LINES.as_bytes(), 1)?;
-    assert_eq!(rt; outcome.status, 0);
-    assert_eq!(rt; outcome.out.as_slice(), ANSWERS.as_bytes());
-    assert!(rt; outcome.err.is_empty());
-    Ok(())
-}
-
-/// A line of no form, one byte too many, and a source that is full: each with its status and its text.
-#[test]
-fn locks_are_refused(rt: HostRuntime) -> Result<(), Fail> {
-    for (lines, copies, status, text) in [
-        ("active\nafter 0\n", 1, 3, "locks: line 2\n"),
-        ("\n", 16_777_216, 3, "locks: line 1\n"),
-        ("\n", 16_777_217, 3, "locks: longer than 16777216 bytes\n"),
-        ("lock a\n", 59_997, 7, "source full: a\n"),
-    ] {
-        let outcome = locks_of(&rt, rt.alloc(), lines.as_bytes(), copies)?;
-        assert_eq!(rt; outcome.status, status);
-        assert!(rt; outcome.out.is_empty());
-        assert_eq!(rt; outcome.err.as_slice(), text.as_bytes());
+    for (lines, copies, said) in READ {
+        assert!(rt;
+            locks_say(&rt, rt.alloc(), lines, copies, &said)?,
+            "{copies} of {lines}"
+        );
     }
     Ok(())
 }

@@ -7,13 +7,14 @@ ghost use Rattle.sleep_main.specs.Endings.{GivesRun, IsEndingOf, IsFullNamed, Ru
 ghost use Rattle.sleep_run.specs.Runs.{Fails};
 
 use crate::generated::{soak_generated, write_generated};
-use crate::input::{MOST_MACHINE, read_input};
+use crate::input::read_input;
 use crate::said::is_stuck;
 use crate::told::{tell_check, tell_idle, tell_locks, tell_stats};
 use apart_log::{ApartLog, SlicedText};
 use command_line::{Command, command_of};
 use idle_loop::IdleSizes;
 use itoa::Buffer;
+use log_commands::MOST_MACHINE;
 use log_text::LogText;
 use machine_file::{MachineFault, ReadMachine, read_machine};
 use program_ending::{Ending, Refusal};

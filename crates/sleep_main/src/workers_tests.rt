@@ -1,11 +1,11 @@
 //! Runs by several workers, through gates that bring their turns into an order.
 
+use crate::generated_tests::lines;
 use crate::rows::attempts::{SMALLEST_ATTEMPT, SMALLEST_ATTEMPT_LOG};
-use crate::tests::{GOOD, given_with};
+use crate::tests::{GOOD, Outcome, Said, given, given_with};
 use sleep_model::Actor;
-use sleep_run::{Gate, OpenGate};
+use sleep_run::Gate;
 use std::alloc::Global;
-use std::process::Abort;
 use std::sync::Wait;
 use std::sync::atomic::{AtomicBool, AtomicU64, Ordering};
 use std::test::Fail;
@@ -70,6 +70,24 @@ impl Gate for Race {
     }
 }
 
+impl Race {
+    /// Whether each saw what it waited for.
+    fn was(&self) -> bool {
+        self.saw_held.load(Ordering::SeqCst) && self.saw_calls.load(Ordering::SeqCst)
+    }
+}
+
+/// Runs the task and the interrupt by five workers, through a gate.
+fn run_by_five<R: Threads + Wait + Sync>(
+    rt: &R,
+    alloc: Global,
+    gate: &Race,
+) -> Result<Outcome, Fail> {
+    let words = ["sleep", "run", "--workers", "5"];
+    let file = TASK_AND_INTERRUPT.as_bytes().to_vec(alloc)?;
+    given_with(rt, alloc, &words, file, &GOOD, gate)
+}
+
 /// Reports are made while another holds the machine's lock.
 #[test]
 fn reports_pass_the_machines_lock(rt: HostRuntime) -> Result<(), Fail> {
@@ -79,16 +97,10 @@ fn reports_pass_the_machines_lock(rt: HostRuntime) -> Result<(), Fail> {
         saw_held: AtomicBool::new(false),
         saw_calls: AtomicBool::new(false),
     };
-    let words = ["sleep", "run", "--workers", "5"];
-    let file = TASK_AND_INTERRUPT.as_bytes().to_vec(rt.alloc())?;
-    let run = given_with(&rt, rt.alloc(), &words, file, &GOOD, &gate)?;
-    assert_eq!(rt; run.status, 0);
-    assert!(rt; gate.saw_held.load(Ordering::SeqCst));
-    assert!(rt; gate.saw_calls.load(Ordering::SeqCst));
-    assert_eq!(rt;
-        run.out.iter().filter(|byte| **byte == b'\n').count(),
-        7 + 3
-    );
+    let run = run_by_five(&rt, rt.alloc(), &gate)?;
+    assert!(rt; run.ends_so(0, b"finished\n"));
+    assert_eq!(rt; lines(run.out()), 7 + 3);
+    assert!(rt; gate.was());
     Ok(())
 }
 
@@ -131,13 +143,14 @@ impl Meeting {
         all
     }
 
-    /// Whether each of those met the others.
-    fn all_met(&self) -> bool {
+    /// Whether each of those met the others, and the first two jobs had so many turns.
+    fn was(&self, turns: (u64, u64)) -> bool {
         let mut all = true;
         for (meets, met) in self.meets.iter().zip(self.met.iter()) {
             all = (!*meets || met.load(Ordering::SeqCst)) & all;
         }
-        all
+        let [task, work, _] = &self.passes;
+        all && task.load(Ordering::SeqCst) == turns.0 && work.load(Ordering::SeqCst) == turns.1
     }
 }
 
@@ -156,54 +169,71 @@ impl Gate for Meeting {
     fn held(&self, _who: Actor) {}
 }
 
-/// Runs the smallest attempt through a meeting, and compares its log, and how often the first two jobs had turns.
-fn meet<R: Threads + Wait + Sync + Abort>(
+/// Whether a run of the smallest attempt through this meeting writes its log.
+fn meets_well<R: Threads + Wait + Sync>(
     rt: &R,
     alloc: Global,
     words: &[&str],
-    meets: [bool; 3],
-    turns: (u64, u64),
-) -> Result<(), Fail> {
-    let gate = Meeting::of(meets);
+    gate: &Meeting,
+) -> Result<bool, Fail> {
+    let said = Said {
+        status: 0,
+        out: SMALLEST_ATTEMPT_LOG,
+        err: "",
+    };
     let file = SMALLEST_ATTEMPT.as_bytes().to_vec(alloc)?;
-    let run = given_with(rt, alloc, words, file, &GOOD, &gate)?;
-    assert_eq!(rt; run.status, 0);
-    assert!(rt; run.out.as_slice() == SMALLEST_ATTEMPT_LOG.as_bytes());
-    assert!(rt; gate.all_met());
-    let [task, work, _] = &gate.passes;
-    assert_eq!(rt; task.load(Ordering::SeqCst), turns.0);
-    assert_eq!(rt; work.load(Ordering::SeqCst), turns.1);
+    let outcome = given_with(rt, alloc, words, file, &GOOD, gate)?;
+    Ok(outcome.is(&said))
+}
+
+/// Words of runs, which of the first three jobs meet, and how often the first two have turns. Of two workers the first has
+/// the task and autosleep's work, the other the timer. Of three, and of the four that a run has where no number is given,
+/// each job has a worker of its own. One worker makes no burst. Sixty-four run a machine with one script.
+const MEETINGS: [(&[&str], [bool; 3], (u64, u64)); 5] = [
+    (
+        &["sleep", "run", "--workers", "2"],
+        [true, false, true],
+        (32, 32),
+    ),
+    (
+        &["sleep", "run", "--workers", "3"],
+        [true, true, true],
+        (32, 2),
+    ),
+    (&["sleep", "run"], [true, true, true], (32, 2)),
+    (
+        &["sleep", "run", "--workers", "1"],
+        [false, false, false],
+        (0, 0),
+    ),
+    (
+        &["sleep", "run", "--workers", "64"],
+        [false, false, false],
+        (32, 2),
+    ),
+];
+
+/// Workers overlap, two and three at once.
+#[test]
+fn workers_meet(rt: HostRuntime) -> Result<(), Fail> {
+    for (n, (words, meets, turns)) in MEETINGS.iter().enumerate() {
+        let gate = Meeting::of(*meets);
+        assert!(rt; meets_well(&rt, rt.alloc(), words, &gate)?, "meeting {n}");
+        assert!(rt; gate.was(*turns), "meeting {n}");
+    }
     Ok(())
 }
 
-/// Two workers: the first has the task and autosleep's work, the other the timer.
-#[test]
-fn two_workers_meet(rt: HostRuntime) -> Result<(), Fail> {
-    let words = ["sleep", "run", "--workers", "2"];
-    meet(&rt, rt.alloc(), &words, [true, false, true], (32, 32))
-}
-
-/// Three workers, and the four that a run has where no number is given: each job has a worker of its own.
-#[test]
-fn three_workers_meet(rt: HostRuntime) -> Result<(), Fail> {
-    let all = [true, true, true];
-    let words = ["sleep", "run", "--workers", "3"];
-    meet(&rt, rt.alloc(), &words, all, (32, 2))?;
-    meet(&rt, rt.alloc(), &words[..2], all, (32, 2))
-}
-
-/// With one worker no burst is made.
-#[test]
-fn one_worker_makes_no_burst(rt: HostRuntime) -> Result<(), Fail> {
-    let words = ["sleep", "run", "--workers", "1"];
-    meet(&rt, rt.alloc(), &words, [false, false, false], (0, 0))
-}
-
-/// Sixty-four workers run a machine with one script.
-#[test]
-fn more_workers_than_jobs(rt: HostRuntime) -> Result<(), Fail> {
-    let words = ["sleep", "run", "--workers", "64"];
-    meet(&rt, rt.alloc(), &words, [false, false, false], (32, 2))
+/// Whether a run of many events by so many workers writes that log.
+fn is_same_log<R: Threads + Wait + Sync>(
+    rt: &R,
+    alloc: Global,
+    words: &[&str],
+    log: &[u8],
+) -> Result<bool, Fail> {
+    let file = MANY_EVENTS.as_bytes().to_vec(alloc)?;
+    let outcome = given(rt, alloc, words, file, &GOOD)?;
+    Ok(outcome.out() == log)
 }
 
 /// The log of one interrupt is the same for each number of workers, also where its text is made in slices.
@@ -211,12 +241,9 @@ fn more_workers_than_jobs(rt: HostRuntime) -> Result<(), Fail> {
 fn slices_are_one_log(rt: HostRuntime) -> Result<(), Fail> {
     let alone = ["sleep", "run", "--workers", "1"];
     let file = MANY_EVENTS.as_bytes().to_vec(rt.alloc())?;
-    let one = given_with(&rt, rt.alloc(), &alone, file, &GOOD, &OpenGate)?;
+    let one = given(&rt, rt.alloc(), &alone, file, &GOOD)?;
+    assert_eq!(rt; lines(one.out()), 6_000 * 3 + 4);
     let many = ["sleep", "run", "--workers", "3"];
-    let file = MANY_EVENTS.as_bytes().to_vec(rt.alloc())?;
-    let sliced = given_with(&rt, rt.alloc(), &many, file, &GOOD, &OpenGate)?;
-    let lines = sliced.out.iter().filter(|byte| **byte == b'\n').count();
-    assert_eq!(rt; lines, 6_000 * 3 + 4);
-    assert!(rt; one.out.as_slice() == sliced.out.as_slice());
+    assert!(rt; is_same_log(&rt, rt.alloc(), &many, one.out())?);
     Ok(())
 }

@@ -261,8 +261,22 @@ impl<'m> Run<'m> {
         }
     }
 
-    /// A burst where the pace wants one, and rounds of the caller's own. The run as it then stands, and what came of it;
-    /// `Mem` where there is no memory for the burst.
+    /// Makes `stretches` stretches of the caller's own rounds, each up to a jump of time. Answers how the run is over, if
+    /// it is. The run stays in its place, since it is large and most stretches make a few entries.
+    fn alone<R: Wait>(&mut self, rt: &R, stretches: u32) -> Result<Option<Rest>, RunFault>
+        ensures machine { self.new.machine ≡ self.old.machine }
+        ensures after { AfterGoing self.new result }
+    {
+        for _ in 0..stretches {
+            if let Some(end) = self.go_on(rt, false)? {
+                return Ok(Some(end));
+            }
+        }
+        Ok(None)
+    }
+
+    /// A burst and a round of the caller's own, or the stretches that the pace wants alone. The run as it then stands, and
+    /// what came of it; `Mem` where there is no memory for the burst.
     fn stretch<R: Threads + Wait + Sync, G: Gate + Sync>(
         self,
         rt: &R,
@@ -275,9 +289,10 @@ impl<'m> Run<'m> {
         ensures machine { IfOk result (λ after. after.0.machine ≡ self.entry.machine) }
         ensures after { IfOk result (λ after. AfterGoing after.0 after.1) }
     {
-        if !pace.wants_burst() {
+        let alone = pace.take_alone();
+        if alone > 0 {
             let mut run = self;
-            let came = run.go_on(rt, false);
+            let came = run.alone(rt, alone);
             return Ok((run, came));
         }
         let (mut run, refused) = self.after_burst(rt, alloc, workers, gate, pace)?;

@@ -7,9 +7,9 @@ ghost use Rattle.sleep_model.specs.Places.{one_if};
 ghost use Rattle.sleep_script.specs.Jobs.{IsWanted, first_job, after_turn, after_call};
 ghost use Rattle.sleep_run.specs.JobsOf.{owes, owing_of, job_at, HasJob, with_job, first_jobs_of, first_jobs};
 
-use answer_book::AnswerBook;
+use machine_plans::MachinePlans;
 use sleep_base::Mem;
-use sleep_model::{Actor, Kind, Machine, Stamp, Want};
+use sleep_model::{Actor, Kind, Stamp, Want};
 use sleep_script::Job;
 use std::alloc::Global;
 use std::marker::Model;
@@ -37,35 +37,27 @@ impl<'m> Model for Jobs<'m> {
 }
 
 /// The jobs of a machine's scripts.
-fn script_jobs<'m>(
-    alloc: Global,
-    machine: &'m Machine,
-    book: &'m AnswerBook<'m>,
-) -> Result<Vec<Job<'m>>, Mem>
-    requires accepted { IsAccepted machine.now }
-    requires book { book.now ≡ machine.now.answers }
-    ensures { IfOk result (λ v. v.items ≡ first_jobs_of machine.now Script (length machine.now.actors)) }
+fn script_jobs<'m>(alloc: Global, plans: &'m MachinePlans<'_>) -> Result<Vec<Job<'m>>, Mem>
+    requires { IsAccepted plans.now }
+    ensures { IfOk result (λ v. v.items ≡ first_jobs_of plans.now Script (length plans.now.actors)) }
 {
-    let mut jobs = Vec::with_capacity(alloc, machine.actors.len())?;
-    for script in 0..machine.actors.len() as u32 {
-        jobs.push(Job::of_script(alloc, machine, book, script)?)?;
+    let scripts = plans.machine().actors.len();
+    let mut jobs = Vec::with_capacity(alloc, scripts)?;
+    for script in 0..scripts as u32 {
+        jobs.push(Job::of_script(plans, script))?;
     }
     Ok(jobs)
 }
 
 /// The jobs of a machine's devices.
-fn device_jobs<'m>(
-    alloc: Global,
-    machine: &'m Machine,
-    book: &'m AnswerBook<'m>,
-) -> Result<Vec<Job<'m>>, Mem>
-    requires accepted { IsAccepted machine.now }
-    requires book { book.now ≡ machine.now.answers }
-    ensures { IfOk result (λ v. v.items ≡ first_jobs_of machine.now Dev (length machine.now.devices)) }
+fn device_jobs<'m>(alloc: Global, plans: &'m MachinePlans<'_>) -> Result<Vec<Job<'m>>, Mem>
+    requires { IsAccepted plans.now }
+    ensures { IfOk result (λ v. v.items ≡ first_jobs_of plans.now Dev (length plans.now.devices)) }
 {
-    let mut jobs = Vec::with_capacity(alloc, machine.devices.len())?;
-    for device in 0..machine.devices.len() as u32 {
-        jobs.push(Job::of_device(machine, book, device))?;
+    let devices = plans.machine().devices.len();
+    let mut jobs = Vec::with_capacity(alloc, devices)?;
+    for device in 0..devices as u32 {
+        jobs.push(Job::of_device(plans, device))?;
     }
     Ok(jobs)
 }
@@ -139,18 +131,13 @@ impl<'m> Jobs<'m> {
     }
 
     /// The jobs of a machine, before anything was done. `Mem` where there is no memory.
-    pub(crate) fn new(
-        alloc: Global,
-        machine: &'m Machine,
-        book: &'m AnswerBook<'m>,
-    ) -> Result<Self, Mem>
-        requires accepted { IsAccepted machine.now }
-        requires book { book.now ≡ machine.now.answers }
-        ensures { IfOk result (λ jobs. jobs ≡ first_jobs machine.now) }
+    pub(crate) fn new(alloc: Global, plans: &'m MachinePlans<'_>) -> Result<Self, Mem>
+        requires { IsAccepted plans.now }
+        ensures { IfOk result (λ jobs. jobs ≡ first_jobs plans.now) }
     {
-        let scripts = script_jobs(alloc, machine, book)?;
-        let auto = Job::of_auto(machine, book);
-        let devices = device_jobs(alloc, machine, book)?;
+        let scripts = script_jobs(alloc, plans)?;
+        let auto = Job::of_auto(plans);
+        let devices = device_jobs(alloc, plans)?;
         Ok(Jobs::of_parts(scripts, auto, devices))
     }
 

@@ -17,7 +17,7 @@ const MOST_ALONE: u32 = 65_536;
 pub(crate) struct Pace {
     /// How many bursts in a row came to little.
     short: u32,
-    /// How many times more the caller goes on alone.
+    /// For how many stretches the caller then goes on alone.
     alone: u32,
 }
 
@@ -27,13 +27,12 @@ impl Pace {
         Pace { short: 0, alone: 0 }
     }
 
-    /// Whether a burst comes next.
-    pub(crate) fn wants_burst(&mut self) -> bool {
-        if self.alone == 0 {
-            return true;
-        }
-        self.alone -= 1;
-        false
+    /// For how many stretches the caller goes on alone before the next burst. They are taken: the next answer is none,
+    /// unless a burst comes to little in between.
+    pub(crate) fn take_alone(&mut self) -> u32 {
+        let alone = self.alone;
+        self.alone = 0;
+        alone
     }
 
     /// A burst of `tasks` tasks made `beside` turns beside those of the busiest task.

@@ -7,9 +7,9 @@ ghost use Rattle.sleep_run.specs.Runs.{Fails, IsRun};
 
 use crate::rest::Rest;
 use crate::run::{Run, RunEnd, RunFault, Tried};
-use answer_book::AnswerBook;
 use apart_log::ApartLog;
 use device_links::Links;
+use machine_plans::MachinePlans;
 use run_world::Gate;
 use sleep_model::{Actor, Machine, Want, Why};
 use std::alloc::Global;
@@ -277,8 +277,8 @@ pub fn run_machine<R: Threads + Wait + Sync, G: Gate + Sync>(
     ensures ok { IfOk result (λ end. IsRun machine.now end.log) }
     ensures fault { IfErr result (Fails machine.now) }
 {
-    let book = AnswerBook::new(alloc, machine.answers.as_slice())?;
-    let run = Run::new(alloc, machine, &book, links)?;
+    let plans = MachinePlans::new(alloc, machine)?;
+    let run = Run::new(alloc, &plans, links)?;
     let log = run.to_end(rt, alloc, workers, gate)?;
     Ok(RunEnd { log })
 }

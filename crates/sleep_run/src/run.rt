@@ -7,11 +7,11 @@ ghost use Rattle.sleep_run.specs.Refused.{run_fault};
 
 use crate::jobs::Jobs;
 use crate::waiters::Waiters;
-use answer_book::AnswerBook;
 use apart_log::ApartLog;
 use device_links::Links;
 use event_word::EventTable;
 use fit_laws::{calls_are_ranged, kinds_are_ranged, moments_are_ranged};
+use machine_plans::MachinePlans;
 use run_objects::{SeatedCore, SeatedSource, seated_sources};
 use sleep_base::Mem;
 use sleep_core::{Core, CoreFault, CoreTurn};
@@ -202,21 +202,16 @@ impl<'m> Run<'m> {
     }
 
     /// A run in which nothing is done yet.
-    pub(crate) fn new(
-        alloc: Global,
-        machine: &'m Machine,
-        book: &'m AnswerBook<'m>,
-        links: Links,
-    ) -> Result<Self, Mem>
-        requires accepted { IsAccepted machine.now }
-        requires book { book.now ≡ machine.now.answers }
-        requires links { links ≡ record { parents = parents_of machine.now.devices; links = reverse machine.now.links } }
-        ensures { IfOk result (λ run. run.machine ≡ machine.now) }
+    pub(crate) fn new(alloc: Global, plans: &'m MachinePlans<'_>, links: Links) -> Result<Self, Mem>
+        requires accepted { IsAccepted plans.now }
+        requires links { links ≡ record { parents = parents_of plans.now.devices; links = reverse plans.now.links } }
+        ensures { IfOk result (λ run. run.machine ≡ plans.now) }
     {
+        let machine = plans.machine();
         let (table, sources, look) = seated_sources(alloc, machine.sources.len() as u32 + 1)?;
-        let jobs = Jobs::new(alloc, machine, book)?;
+        let jobs = Jobs::new(alloc, plans)?;
         let waiters = all_waiters(alloc, machine)?;
-        let seated = SeatedCore::new(Core::new(alloc, machine, links)?, look);
+        let seated = SeatedCore::new(Core::new(alloc, plans, links)?, look);
         Ok(Run::of_parts(machine, table, seated, sources, jobs, waiters))
     }
 

@@ -2,5 +2,4 @@ pub mod Drawn
 pub mod Following
 pub mod Generating
 mod Rising
-mod Scripted
 mod Stepped

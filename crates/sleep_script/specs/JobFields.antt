@@ -1,5 +1,5 @@
 -- What the fields of a job are.
-use Rattle.std.specs.Prelude.{◌≡◌, ℕ, Bool, true, false, List, [], ◌++◌, length, drop, map, Option, Some, None}
+use Rattle.std.specs.Prelude.{◌≡◌, ℕ, Bool, true, false, List, [], ◌++◌, length, drop, map, Option, Some, None, option_copied}
 use Rattle.sleep_model.specs.declared.entry.Actor.{Actor}
 use Rattle.sleep_model.specs.declared.entry.Kind.{Kind}
 use Rattle.sleep_model.specs.declared.machine.Machine.{Machine}
@@ -26,21 +26,20 @@ IsPlanOf plan m who = (k : ℕ) → planned_at plan k ≡ calls_of_turn m who k
 -- due are the reports that are left, then the calls before the next turn that are left (own)
 abbrev pub state : Inside → JobState
 state j = record {
-  machine = j.machine.now;
+  machine = j.plans.now;
   who = j.who;
   turns = j.turns;
-  pending = map noted j.reports.now ++ drop j.made (calls_of_turn j.machine.now j.who j.turns);
+  pending = map noted j.reports.now ++ drop j.made (calls_of_turn j.plans.now j.who j.turns);
   calls = j.calls;
   exited = j.exited;
   floor = j.floor;
 }
 
--- the book has the machine's answers, the plan the actor's calls, and that number of calls is due (own)
+-- the plan has the actor's calls, and that number of calls is due (own)
 pub record IsJob (j : Inside) : Type 0 where
-  pub answers_are : j.book.now ≡ j.machine.now.answers
-  pub plan_is : IsPlanOf j.plan j.machine.now j.who
-  pub due_is : j.due ≡ length (map noted j.reports.now ++ drop j.made (calls_of_turn j.machine.now j.who j.turns))
+  pub plan_is : IsPlanOf (option_copied j.plan) j.plans.now j.who
+  pub due_is : j.due ≡ length (map noted j.reports.now ++ drop j.made (calls_of_turn j.plans.now j.who j.turns))
 
--- the book has the machine's answers, the plan the actor's calls, and that number of calls is due (own)
+-- the plan has the actor's calls, and that number of calls is due (own)
 abbrev pub keeps : Inside → Type 0
 keeps j = IsJob j

@@ -1,21 +1,18 @@
 //! What an actor that takes turns of the core knows of itself.
 
-ghost use Rattle.std.specs.Prelude.{◌≡◌, ◌≤◌, ◌<◌, ◌^◌, Some, drop, length, map, slice_get};
+ghost use Rattle.std.specs.Prelude.{◌≡◌, ◌<◌, ◌^◌, drop, length, map, option_copied, slice_get};
 ghost use Rattle.answer_book.specs.Book.{answer_among};
 ghost use Rattle.sleep_model.specs.Answers.{answer_reports};
 ghost use Rattle.sleep_model.specs.Calls.{one_more};
-ghost use Rattle.sleep_model.specs.Places.{all_operations};
-ghost use Rattle.sleep_model.specs.Scripts.{operations};
 ghost use Rattle.script_plan.specs.CallPlans.{noted};
 ghost use Rattle.sleep_script.specs.JobFields.{own_due, planned_at};
 ghost use Rattle.sleep_script.specs.Jobs.{later, made_after, reports_among};
 
 use crate::kinds::{ends_turn, is_exit, is_in_walk};
 use answer_book::AnswerBook;
-use script_plan::CallPlan;
-use sleep_base::Mem;
-use sleep_model::{Actor, Kind, Machine, Report, Script, Stamp, Want, What};
-use std::alloc::Global;
+use machine_plans::MachinePlans;
+use script_plan::Plan;
+use sleep_model::{Actor, Kind, Report, Stamp, Want, What};
 use std::marker::Model;
 
 /// The reports of the callback that an entry begins in that attempt (`pm_wakeup_event` in a callback).
@@ -47,8 +44,8 @@ fn call_at(calls: &[Report], number: usize) -> Option<Report>
 }
 
 /// The plan's calls right before the turn with that number.
-fn calls_before<'a>(plan: &'a Option<CallPlan<'_>>, turn: usize) -> &'a [Report]
-    ensures { map noted result.now ≡ planned_at plan.now turn }
+fn calls_before<'a>(plan: Option<&'a Plan<'_>>, turn: usize) -> &'a [Report]
+    ensures { map noted result.now ≡ planned_at (option_copied plan.entry) turn }
 {
     match plan {
         Some(plan) => plan.calls_at(turn),
@@ -58,8 +55,8 @@ fn calls_before<'a>(plan: &'a Option<CallPlan<'_>>, turn: usize) -> &'a [Report]
 
 /// How many of the plan's calls are due before the turn with that number: none, where no turn has just ended, before
 /// which all were made.
-fn own_due(ends: bool, plan: &Option<CallPlan<'_>>, turn: usize) -> usize
-    ensures is { result ≡ own_due ends plan.now turn }
+fn own_due(ends: bool, plan: Option<&Plan<'_>>, turn: usize) -> usize
+    ensures is { result ≡ own_due ends (option_copied plan.entry) turn }
     ensures small { result < 2 ^ 63 }
 {
     if ends {
@@ -94,28 +91,16 @@ pub(crate) fn later(one: Stamp, other: Stamp) -> Stamp
     }
 }
 
-/// The machine's script with that number.
-fn script_at<'m>(machine: &'m Machine, script: u32) -> &'m Script
-    requires few { length (all_operations machine.now.actors) ≤ 200000 }
-    requires within { script < length machine.now.actors }
-    ensures at { slice_get machine.now.actors script ≡ Some result.now }
-    ensures few { length (operations result.now) ≤ 200000 }
-{
-    let scripts: &'m [Script] = machine.actors.as_slice();
-    &scripts[script as usize]
-}
-
 /// The job of an actor that takes turns of the core: a script, the autosleep work, or an asynchronous device. It knows
 /// the calls on sources of a script's own steps, those round a good write to autosleep among them, and the reports of
 /// the callbacks that its actor runs (`drivers/base/power/main.c`, `async_suspend`; `kernel/power/autosleep.c`,
 /// `try_to_suspend`).
 #[derive(Drop)]
 pub struct Job<'m> {
-    machine: &'m Machine,
+    plans: &'m MachinePlans<'m>,
     who: Actor,
-    book: &'m AnswerBook<'m>,
-    /// A script's own calls.
-    plan: Option<CallPlan<'m>>,
+    /// A script's own steps.
+    plan: Option<&'m Plan<'m>>,
     /// The turns of its own steps that have ended.
     turns: usize,
     /// How many of the plan's calls right before its next turn were made.
@@ -142,30 +127,22 @@ impl<'m> Model for Job<'m> {
 }
 
 impl<'m> Job<'m> {
-    ghost use Rattle.std.specs.Prelude.{◌≡◌, ◌≤◌, ◌+◌, ◌<◌, ◌^◌, [], drop, length, map, nat_lt, slice_get, IfOk};
+    ghost use Rattle.std.specs.Prelude.{◌≡◌, ◌+◌, ◌<◌, ◌^◌, [], drop, length, map, nat_lt, option_copied, slice_get};
     ghost use Rattle.std.specs.Option.{option_map};
     ghost use Rattle.script_plan.specs.CallPlans.{noted};
     ghost use Rattle.sleep_model.specs.Calls.{calls_of_turn};
-    ghost use Rattle.sleep_model.specs.Places.{all_operations};
     ghost use Rattle.sleep_script.specs.JobFields.{IsPlanOf};
     ghost use Rattle.sleep_script.specs.Jobs.{IsWanted, first_job, after_turn, after_call, raised};
 
-    /// The job of an actor before its first entry, with the plan of its own calls.
-    fn new(
-        machine: &'m Machine,
-        who: Actor,
-        book: &'m AnswerBook<'m>,
-        plan: Option<CallPlan<'m>>,
-    ) -> Self
-        requires book { book.now ≡ machine.now.answers }
-        requires plan { IsPlanOf plan machine.now who }
-        ensures { result ≡ first_job machine.now who }
+    /// The job of an actor before its first entry, with the plan of its own steps.
+    fn new(plans: &'m MachinePlans<'_>, who: Actor, plan: Option<&'m Plan<'m>>) -> Self
+        requires { IsPlanOf (option_copied plan) plans.now who }
+        ensures { result ≡ first_job plans.now who }
     {
-        let due = calls_before(&plan, 0).len();
+        let due = calls_before(plan, 0).len();
         Job {
-            machine,
+            plans,
             who,
-            book,
             plan,
             turns: 0,
             made: 0,
@@ -177,46 +154,34 @@ impl<'m> Job<'m> {
         }
     }
 
-    /// The job of the script with that number, before its first step, where `book` has the machine's answers. A machine
-    /// that a file may spell has at most 200,000 steps and 255 sources. `Mem` where there is no memory.
-    pub fn of_script(
-        alloc: Global,
-        machine: &'m Machine,
-        book: &'m AnswerBook<'m>,
-        script: u32,
-    ) -> Result<Self, Mem>
-        requires book { book.now ≡ machine.now.answers }
-        requires script { script < length machine.now.actors }
-        requires few { length (all_operations machine.now.actors) ≤ 200000 }
-        requires sources { length machine.now.sources ≤ 255 }
-        ensures { IfOk result (λ j. j ≡ first_job machine.now (Actor.Script script)) }
+    /// The job of the script with that number, before its first step.
+    pub fn of_script(plans: &'m MachinePlans<'_>, script: u32) -> Self
+        requires { script < length plans.now.actors }
+        ensures { result ≡ first_job plans.now (Actor.Script script) }
     {
-        let autosleep = machine.sources.len() as u32;
-        let plan = CallPlan::new(alloc, script_at(machine, script), autosleep)?;
-        Ok(Job::new(machine, Actor::Script(script), book, Some(plan)))
+        let plan: &'m Plan<'m> = plans.script(script);
+        Job::new(plans, Actor::Script(script), Some(plan))
     }
 
-    /// The job of the machine's autosleep work, before its first run, where `book` has the machine's answers.
-    pub fn of_auto(machine: &'m Machine, book: &'m AnswerBook<'m>) -> Self
-        requires { book.now ≡ machine.now.answers }
-        ensures { result ≡ first_job machine.now Actor.Auto }
+    /// The job of the machine's autosleep work, before its first run.
+    pub fn of_auto(plans: &'m MachinePlans<'_>) -> Self
+        ensures { result ≡ first_job plans.now Actor.Auto }
     {
-        Job::new(machine, Actor::Auto, book, None)
+        Job::new(plans, Actor::Auto, None)
     }
 
-    /// The job of the device with that number, before its first callback, where `book` has the machine's answers.
-    pub fn of_device(machine: &'m Machine, book: &'m AnswerBook<'m>, device: u32) -> Self
-        requires { book.now ≡ machine.now.answers }
-        ensures { result ≡ first_job machine.now (Actor.Dev device) }
+    /// The job of the device with that number, before its first callback.
+    pub fn of_device(plans: &'m MachinePlans<'_>, device: u32) -> Self
+        ensures { result ≡ first_job plans.now (Actor.Dev device) }
     {
-        Job::new(machine, Actor::Dev(device), book, None)
+        Job::new(plans, Actor::Dev(device), None)
     }
 
     /// The calls of its own steps right before its next turn.
     fn own_calls(&self) -> &[Report]
         ensures { map noted result.now ≡ calls_of_turn self.now.machine self.now.who self.now.turns }
     {
-        calls_before(&self.plan, self.turns)
+        calls_before(self.plan, self.turns)
     }
 
     /// The next call that it has to make before its next entry of the journal.
@@ -252,8 +217,8 @@ impl<'m> Job<'m> {
     {
         let ends = ends_turn(kind);
         let turns = one_more(ends, self.turns);
-        let reports = reports_of(self.book, kind, attempt);
-        self.due = reports.len() + own_due(ends, &self.plan, turns);
+        let reports = reports_of(self.plans.answers(), kind, attempt);
+        self.due = reports.len() + own_due(ends, self.plan, turns);
         self.made = made_after(ends, self.made);
         self.turns = turns;
         self.reports = reports;

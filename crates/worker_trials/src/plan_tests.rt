@@ -54,7 +54,7 @@ fn step(op: Op, times: u32) -> Step
 fn expect_calls(rt: &impl Abort, alloc: Global, script: &Script, calls: &[u32]) -> Result<(), Fail>
     requires { length (operations script.now) ≡ 14 }
 {
-    let plan = Plan::new(alloc, script)?;
+    let plan = Plan::new(alloc, script, 0)?;
     for (turn, wanted) in calls.iter().enumerate() {
         assert!(rt; plan.calls_before(turn) == *wanted, "turn {turn}");
     }
@@ -76,7 +76,7 @@ fn turns_come_after_calls(rt: HostRuntime) -> Result<(), Fail> {
 #[test]
 fn operations_come_in_order(rt: HostRuntime) -> Result<(), Fail> {
     let script = script(rt.alloc(), b"mem")?;
-    let plan = Plan::new(rt.alloc(), &script)?;
+    let plan = Plan::new(rt.alloc(), &script, 0)?;
     for number in 0..9usize {
         assert!(rt; is_in_order(&plan, number), "at {number}");
     }

@@ -2,7 +2,7 @@ ghost use Rattle.std.specs.Prelude.{◌≡◌, ◌≤◌, ◌<◌, ◌+◌, leng
 ghost use Rattle.sleep_model.specs.Places.{all_operations};
 ghost use Rattle.sleep_model.specs.Scripts.{operations};
 
-use answer_book::AnswerBook;
+use machine_plans::MachinePlans;
 use sleep_base::Mem;
 use sleep_model::{
     Answer, Kind, ListOf, Machine, Name, Op, Phase, Report, Script, SourceCall, Stamp, State, Step,
@@ -97,13 +97,13 @@ fn are_made(alloc: Global, machine: &Machine) -> Result<bool, Mem>
     requires answers { length machine.now.answers ≡ 1 }
     requires sources { length machine.now.sources ≡ 1 }
 {
-    let book = AnswerBook::new(alloc, machine.answers.as_slice())?;
-    let mut job = Job::of_script(alloc, machine, &book, 0)?;
+    let plans = MachinePlans::new(alloc, machine)?;
+    let mut job = Job::of_script(&plans, 0);
     Ok(
         reports_an_event(&mut job)?
             && goes_on(&mut job)?
-            && work_reports(machine, &book)
-            && device_reports(machine, &book),
+            && work_reports(&plans)
+            && device_reports(&plans),
     )
 }
 
@@ -188,19 +188,15 @@ fn jobs_make_turns_and_calls(rt: HostRuntime) -> Result<(), Fail> {
 }
 
 /// Whether the autosleep work that suspends device 0 reports an event.
-fn work_reports(machine: &Machine, book: &AnswerBook) -> bool
-    requires { book.now ≡ machine.now.answers }
-{
-    let mut work = Job::of_auto(machine, book);
+fn work_reports(plans: &MachinePlans<'_>) -> bool {
+    let mut work = Job::of_auto(plans);
     work.told_turn(stamp(3), Kind::Begin(Phase::Suspend, 0), 1);
     work.owes() && matches!(work.next(), Want::Source(0, _))
 }
 
 /// Whether device 0 that is suspended by its own thread does.
-fn device_reports(machine: &Machine, book: &AnswerBook) -> bool
-    requires { book.now ≡ machine.now.answers }
-{
-    let mut device = Job::of_device(machine, book, 0);
+fn device_reports(plans: &MachinePlans<'_>) -> bool {
+    let mut device = Job::of_device(plans, 0);
     device.told_turn(stamp(3), Kind::Begin(Phase::Suspend, 0), 1);
     device.owes() && matches!(device.next(), Want::Source(0, _))
 }

@@ -15,6 +15,7 @@ use crate::reading::steps::{
     state_kind,
 };
 use crate::reading::verb::{Verb, verb_of};
+use sleep_base::Errno;
 use sleep_model::Kind;
 
 /// What an entry says, if the text says it at all: read leniently. The numbers fit the machine.
@@ -123,7 +124,7 @@ fn attempt_by(book: &NameBook, verb: Verb, text: &[u8]) -> Option<Kind>
         Verb::Irqs => Some(Kind::Irqs { on: is(text, "on") }),
         Verb::Syscore => syscore_kind(book, text),
         Verb::Enter => Some(Kind::Enter {
-            busy: is(text, "EBUSY"),
+            busy: is(text, Errno::EBUSY.name()),
         }),
         Verb::Wake => Some(Kind::Wake {
             by_event: is(text, "event"),

@@ -73,7 +73,7 @@ pub fn group_in(word: &[u8]) -> Group
 pub fn thaw_in(word: &[u8]) -> Thaw
     ensures { result ≡ thaw_in word.now }
 {
-    if is(word, "kernel") {
+    if is(word, Group::Kernel.name()) {
         return Thaw::Kernel;
     }
     Thaw::All

@@ -8,7 +8,8 @@ use crate::reading::book::NameBook;
 use crate::reading::cut::{first_word, is};
 use crate::reading::meaning::{answer_in, errno_in};
 use crate::reading::number::word32;
-use sleep_model::{Kind, State};
+use sleep_base::Errno;
+use sleep_model::{Kind, State, link_word, runtime_word};
 
 /// What stands behind `read`.
 pub fn read_kind(text: &[u8]) -> Kind
@@ -57,7 +58,7 @@ pub fn autosleep_kind(text: &[u8]) -> Kind
     ensures kind { result ≡ autosleep_kind text.now }
     ensures fits { (m : Machine) → fits_kind m result ≡ true }
 {
-    if is(text, "EINVAL") {
+    if is(text, Errno::EINVAL.name()) {
         return Kind::AutoBad;
     }
     if is(text, "done") {
@@ -79,7 +80,7 @@ pub fn runtime_kind(book: &NameBook, text: &[u8]) -> Option<Kind>
     let device = book.device(device)?;
     Some(Kind::RuntimeAsk {
         device,
-        to_suspended: is(to, "suspended"),
+        to_suspended: is(to, runtime_word(true)),
         r: answer_in(answer),
     })
 }
@@ -113,7 +114,7 @@ pub fn link_state_kind(book: &NameBook, text: &[u8]) -> Option<Kind>
     Some(Kind::LinkState {
         supplier,
         consumer,
-        active: is(to, "active"),
+        active: is(to, link_word(true)),
         r: answer_in(answer),
     })
 }

@@ -2,6 +2,7 @@ ghost use Rattle.std.specs.Prelude.{◌≡◌};
 ghost use Rattle.log_text.specs.Verbs.{verb_of, task_verb, auto_verb, source_verb, attempt_verb};
 
 use crate::reading::cut::is;
+use crate::spelling::verb::verb;
 
 /// The first word of what an entry says.
 #[derive(Clone, Copy)]
@@ -57,10 +58,10 @@ pub enum Verb {
     Clear,
 }
 
-/// The verb of a table that the word spells, else what the last line says.
+/// The verb, of these, that the word spells, else what the last line says.
 macro_rules! spelled {
-    ($word:expr; $($text:literal => $verb:ident,)* _ => $other:expr) => {{
-        $(if is($word, $text) {
+    ($word:expr; $($verb:ident,)* _ => $other:expr) => {{
+        $(if is($word, verb!($verb)) {
             return Some(Verb::$verb);
         })*
         $other
@@ -73,13 +74,13 @@ pub fn verb_of(word: &[u8]) -> Option<Verb>
     ensures { result ≡ verb_of word.now }
 {
     spelled! { word;
-        "begin" => Begin,
-        "end" => End,
-        "prepare" => Prepare,
-        "complete" => Complete,
-        "schedule" => Schedule,
-        "skip" => Skip,
-        "done" => Done,
+        Begin,
+        End,
+        Prepare,
+        Complete,
+        Schedule,
+        Skip,
+        Done,
         _ => task_verb(word)
     }
 }
@@ -89,21 +90,21 @@ fn task_verb(word: &[u8]) -> Option<Verb>
     ensures { result ≡ task_verb word.now }
 {
     spelled! { word;
-        "frozen" => Frozen,
-        "read" => Read,
-        "save" => Save,
-        "state" => State,
-        "autosleep" => Autosleep,
-        "sleep" => Sleep,
-        "sleep_d" => SleepD,
-        "slept" => Slept,
-        "pass" => Pass,
-        "post" => Post,
-        "got" => Got,
-        "exit" => Exit,
-        "runtime" => Runtime,
-        "link" => Link,
-        "link_state" => LinkState,
+        Frozen,
+        Read,
+        Save,
+        State,
+        Autosleep,
+        Sleep,
+        SleepD,
+        Slept,
+        Pass,
+        Post,
+        Got,
+        Exit,
+        Runtime,
+        Link,
+        LinkState,
         _ => auto_verb(word)
     }
 }
@@ -113,12 +114,12 @@ fn auto_verb(word: &[u8]) -> Option<Verb>
     ensures { result ≡ auto_verb word.now }
 {
     spelled! { word;
-        "run" => Run,
-        "saved" => Saved,
-        "unsaved" => Unsaved,
-        "after" => After,
-        "again" => Again,
-        "off" => Off,
+        Run,
+        Saved,
+        Unsaved,
+        After,
+        Again,
+        Off,
         _ => source_verb(word)
     }
 }
@@ -128,14 +129,14 @@ fn source_verb(word: &[u8]) -> Option<Verb>
     ensures { result ≡ source_verb word.now }
 {
     spelled! { word;
-        "awake" => Awake,
-        "relax" => Relax,
-        "event" => Event,
-        "expire" => Expire,
-        "start" => Start,
-        "finish" => Finish,
-        "hard" => Hard,
-        "jump" => Jump,
+        Awake,
+        Relax,
+        Event,
+        Expire,
+        Start,
+        Finish,
+        Hard,
+        Jump,
         _ => attempt_verb(word)
     }
 }
@@ -146,19 +147,19 @@ fn attempt_verb(word: &[u8]) -> Option<Verb>
     ensures { result ≡ attempt_verb word.now }
 {
     spelled! { word;
-        "attempt" => Attempt,
-        "over" => Over,
-        "notify" => Notify,
-        "freeze" => Freeze,
-        "froze" => Froze,
-        "thaw" => Thaw,
-        "platform" => Platform,
-        "cpu" => Cpu,
-        "irqs" => Irqs,
-        "syscore" => Syscore,
-        "enter" => Enter,
-        "wake" => Wake,
-        "clear" => Clear,
+        Attempt,
+        Over,
+        Notify,
+        Freeze,
+        Froze,
+        Thaw,
+        Platform,
+        Cpu,
+        Irqs,
+        Syscore,
+        Enter,
+        Wake,
+        Clear,
         _ => None
     }
 }

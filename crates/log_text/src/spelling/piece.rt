@@ -1,10 +1,9 @@
 //! The words that lines of devices have, each ready to be copied with all of its room.
 
-ghost use Rattle.std.specs.Prelude.{◌≡◌, ◌++◌, codes};
+ghost use Rattle.std.specs.Prelude.{◌≡◌, ◌++◌};
 ghost use Rattle.phase_table.specs.Phases.{phase_name};
-ghost use Rattle.sleep_model.specs.Text.{answer_text, cause_text, newline, space};
+ghost use Rattle.sleep_model.specs.Text.{cause_text, newline, space};
 
-use sleep_base::Errno;
 use sleep_model::{Phase, SkipCause};
 use std::marker::Model;
 
@@ -26,7 +25,8 @@ impl Model for Piece {
 }
 
 impl Piece {
-    ghost use Rattle.std.specs.Prelude.{◌≡◌, ◌≤◌, [], length, take};
+    ghost use Rattle.std.specs.Prelude.{◌≡◌, ◌≤◌, ◌++◌, [], None, length, take};
+    ghost use Rattle.sleep_model.specs.Text.{answer_text, newline, space};
 
     /// The first bytes of this room.
     #[inline(always)]
@@ -51,6 +51,14 @@ impl Piece {
         ensures { result ≡ newline }
     {
         Piece::of(b"\n               ", 1)
+    }
+
+    /// The answer 0 behind a space, and the end of the line.
+    #[inline(always)]
+    pub fn success() -> Self
+        ensures { result ≡ space ++ answer_text None ++ newline }
+    {
+        Piece::of(b" 0\n             ", 3)
     }
 
     /// The bytes with all of the room behind them.
@@ -88,23 +96,6 @@ pub fn phase_piece(phase: Phase) -> Piece
         Phase::Early => Piece::of(b"early           ", 6),
         Phase::Resume => Piece::of(b"resume          ", 7),
         Phase::Complete => Piece::of(b"complete        ", 9),
-    }
-}
-
-/// The answer behind a space, at the end of a line.
-#[inline(always)]
-pub fn answer_piece(r: Option<Errno>) -> Piece
-    ensures { result ≡ space ++ answer_text r ++ newline }
-{
-    match r {
-        None => Piece::of(b" 0\n             ", 3),
-        Some(Errno::EINTR) => Piece::of(b" EINTR\n         ", 7),
-        Some(Errno::EIO) => Piece::of(b" EIO\n           ", 5),
-        Some(Errno::EAGAIN) => Piece::of(b" EAGAIN\n        ", 8),
-        Some(Errno::EACCES) => Piece::of(b" EACCES\n        ", 8),
-        Some(Errno::EBUSY) => Piece::of(b" EBUSY\n         ", 7),
-        Some(Errno::ENODEV) => Piece::of(b" ENODEV\n        ", 8),
-        Some(Errno::EINVAL) => Piece::of(b" EINVAL\n        ", 8),
     }
 }
 

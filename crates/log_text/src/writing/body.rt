@@ -5,9 +5,10 @@ ghost use Rattle.sleep_model.specs.Text.{answer_text, body, device, link_word, s
 
 use crate::spelling::held::HeldBytes;
 use crate::spelling::spelled::{Spelled, put};
+use crate::spelling::verb::verb;
 use crate::writing::ready::ReadyNames;
 use sleep_base::Errno;
-use sleep_model::{FrozeEnd, Kind, Thaw, link_word, runtime_word};
+use sleep_model::{FrozeEnd, Group, Kind, Thaw, link_word, runtime_word};
 
 /// Writes what an entry says.
 #[tactic(auto, using(std::proofs::Common::append_assoc))]
@@ -18,19 +19,19 @@ pub fn put_body(out: &mut HeldBytes, names: &ReadyNames, kind: Kind)
     ensures few { length out.new ≤ length out.old + 512 }
 {
     match kind {
-        Kind::Frozen => put!(out; "frozen"),
-        Kind::ReadWait => put!(out; "read wait"),
-        Kind::Read(count) => put!(out; "read ", count),
-        Kind::ReadIntr => put!(out; "read EINTR"),
-        Kind::SaveWait(count) => put!(out; "save ", count, " wait"),
-        Kind::Saved(count) => put!(out; "save ", count, " ok"),
-        Kind::SaveErr(count, error) => put!(out; "save ", count, " ", error),
-        Kind::StateWait => put!(out; "state wait"),
-        Kind::StateErr(error) => put!(out; "state ", error),
-        Kind::StateUnsaved => put!(out; "state unsaved"),
-        Kind::AutoBad => put!(out; "autosleep EINVAL"),
-        Kind::AutoSet(state) => put!(out; "autosleep set ", state),
-        Kind::AutoDone => put!(out; "autosleep done"),
+        Kind::Frozen => put!(out; verb!(Frozen)),
+        Kind::ReadWait => put!(out; verb!(Read " wait")),
+        Kind::Read(count) => put!(out; verb!(Read " "), count),
+        Kind::ReadIntr => put!(out; verb!(Read " "), Errno::EINTR),
+        Kind::SaveWait(count) => put!(out; verb!(Save " "), count, " wait"),
+        Kind::Saved(count) => put!(out; verb!(Save " "), count, " ok"),
+        Kind::SaveErr(count, error) => put!(out; verb!(Save " "), count, " ", error),
+        Kind::StateWait => put!(out; verb!(State " wait")),
+        Kind::StateErr(error) => put!(out; verb!(State " "), error),
+        Kind::StateUnsaved => put!(out; verb!(State " unsaved")),
+        Kind::AutoBad => put!(out; verb!(Autosleep " "), Errno::EINVAL),
+        Kind::AutoSet(state) => put!(out; verb!(Autosleep " set "), state),
+        Kind::AutoDone => put!(out; verb!(Autosleep " done")),
         _ => put_step(out, names, kind),
     }
 }
@@ -59,7 +60,7 @@ fn put_link_state(
     ensures text { out.new ≡ out.old ++ step_body names.now (kind.LinkState supplier consumer active r) }
     ensures few { length out.new ≤ length out.old + 512 }
 {
-    put!(out; "link_state ", names.device(supplier), " ");
+    put!(out; verb!(LinkState " "), names.device(supplier), " ");
     put_set(out, names, consumer, active, r);
 }
 
@@ -71,25 +72,27 @@ fn put_step(out: &mut HeldBytes, names: &ReadyNames, kind: Kind)
     ensures few { length out.new ≤ length out.old + 512 }
 {
     match kind {
-        Kind::Sleep(ms) => put!(out; "sleep ", ms),
-        Kind::SleepD(ms) => put!(out; "sleep_d ", ms),
-        Kind::Slept => put!(out; "slept"),
-        Kind::Pass => put!(out; "pass"),
-        Kind::Post(index) => put!(out; "post ", names.mark(index)),
-        Kind::Got(index) => put!(out; "got ", names.mark(index)),
-        Kind::Exit => put!(out; "exit"),
+        Kind::Sleep(ms) => put!(out; verb!(Sleep " "), ms),
+        Kind::SleepD(ms) => put!(out; verb!(SleepD " "), ms),
+        Kind::Slept => put!(out; verb!(Slept)),
+        Kind::Pass => put!(out; verb!(Pass)),
+        Kind::Post(index) => put!(out; verb!(Post " "), names.mark(index)),
+        Kind::Got(index) => put!(out; verb!(Got " "), names.mark(index)),
+        Kind::Exit => put!(out; verb!(Exit)),
         Kind::RuntimeAsk {
             device,
             to_suspended,
             r,
         } => {
-            put!(out; "runtime ", names.device(device), " ", runtime_word(to_suspended), " ", r)
+            put!(out; verb!(Runtime " "), names.device(device), " ", runtime_word(to_suspended), " ", r)
         }
         Kind::LinkAdd {
             supplier,
             consumer,
             r,
-        } => { put!(out; "link ", names.device(supplier), " ", names.device(consumer), " ", r) }
+        } => {
+            put!(out; verb!(Link " "), names.device(supplier), " ", names.device(consumer), " ", r)
+        }
         Kind::LinkState {
             supplier,
             consumer,
@@ -108,13 +111,13 @@ fn put_auto(out: &mut HeldBytes, names: &ReadyNames, kind: Kind)
     ensures few { length out.new ≤ length out.old + 512 }
 {
     match kind {
-        Kind::AutoRun => put!(out; "run"),
-        Kind::AutoSaved(count) => put!(out; "saved ", count),
-        Kind::AutoUnsaved(count) => put!(out; "unsaved ", count),
-        Kind::AutoAfter(Some(count)) => put!(out; "after ", count),
-        Kind::AutoAfter(None) => put!(out; "after busy"),
-        Kind::AutoAgain => put!(out; "again"),
-        Kind::AutoOff => put!(out; "off"),
+        Kind::AutoRun => put!(out; verb!(Run)),
+        Kind::AutoSaved(count) => put!(out; verb!(Saved " "), count),
+        Kind::AutoUnsaved(count) => put!(out; verb!(Unsaved " "), count),
+        Kind::AutoAfter(Some(count)) => put!(out; verb!(After " "), count),
+        Kind::AutoAfter(None) => put!(out; verb!(After " busy")),
+        Kind::AutoAgain => put!(out; verb!(Again)),
+        Kind::AutoOff => put!(out; verb!(Off)),
         _ => put_source(out, names, kind),
     }
 }
@@ -127,17 +130,17 @@ fn put_source(out: &mut HeldBytes, names: &ReadyNames, kind: Kind)
     ensures few { length out.new ≤ length out.old + 512 }
 {
     match kind {
-        Kind::Awake(index) => put!(out; "awake ", names.source(index)),
-        Kind::Relax(index) => put!(out; "relax ", names.source(index)),
+        Kind::Awake(index) => put!(out; verb!(Awake " "), names.source(index)),
+        Kind::Relax(index) => put!(out; verb!(Relax " "), names.source(index)),
         Kind::Event { source, ms, hard } => {
             let hard = if hard { "hard" } else { "soft" };
-            put!(out; "event ", names.source(source), " ", ms, " ", hard)
+            put!(out; verb!(Event " "), names.source(source), " ", ms, " ", hard)
         }
-        Kind::Expire(index) => put!(out; "expire ", names.source(index)),
-        Kind::Start(index) => put!(out; "start ", names.source(index)),
-        Kind::Finish(index) => put!(out; "finish ", names.source(index)),
-        Kind::Hard(index) => put!(out; "hard ", names.source(index)),
-        Kind::Jump => put!(out; "jump"),
+        Kind::Expire(index) => put!(out; verb!(Expire " "), names.source(index)),
+        Kind::Start(index) => put!(out; verb!(Start " "), names.source(index)),
+        Kind::Finish(index) => put!(out; verb!(Finish " "), names.source(index)),
+        Kind::Hard(index) => put!(out; verb!(Hard " "), names.source(index)),
+        Kind::Jump => put!(out; verb!(Jump)),
         _ => put_phase(out, names, kind),
     }
 }
@@ -151,19 +154,23 @@ fn put_phase(out: &mut HeldBytes, names: &ReadyNames, kind: Kind)
 {
     match kind {
         Kind::Prepare { device, r } => {
-            put!(out; "prepare ", names.device(device), b' ');
+            put!(out; verb!(Prepare " "), names.device(device), b' ');
             put_prepare_answer(out, r)
         }
-        Kind::Complete(index) => put!(out; "complete ", names.device(index)),
-        Kind::Schedule(phase, index) => { put!(out; "schedule ", phase, b' ', names.device(index)) }
-        Kind::Begin(phase, index) => { put!(out; "begin ", phase, b' ', names.device(index)) }
+        Kind::Complete(index) => put!(out; verb!(Complete " "), names.device(index)),
+        Kind::Schedule(phase, index) => {
+            put!(out; verb!(Schedule " "), phase, b' ', names.device(index))
+        }
+        Kind::Begin(phase, index) => {
+            put!(out; verb!(Begin " "), phase, b' ', names.device(index))
+        }
         Kind::End(phase, index, r) => {
-            put!(out; "end ", phase, b' ', names.device(index), b' ', r)
+            put!(out; verb!(End " "), phase, b' ', names.device(index), b' ', r)
         }
         Kind::Skip(phase, index, cause) => {
-            put!(out; "skip ", phase, b' ', names.device(index), b' ', cause)
+            put!(out; verb!(Skip " "), phase, b' ', names.device(index), b' ', cause)
         }
-        Kind::Done(phase, r) => put!(out; "done ", phase, b' ', r),
+        Kind::Done(phase, r) => put!(out; verb!(Done " "), phase, b' ', r),
         _ => put_attempt(out, names, kind),
     }
 }
@@ -177,7 +184,7 @@ fn failed_prepare(r: i32) -> &'static str
 {
     match Errno::of_answer(r) {
         Some(error) => error.name(),
-        None => "EINVAL",
+        None => Errno::EINVAL.name(),
     }
 }
 
@@ -201,23 +208,23 @@ fn put_attempt(out: &mut HeldBytes, names: &ReadyNames, kind: Kind)
     ensures few { length out.new ≤ length out.old + 512 }
 {
     match kind {
-        Kind::Attempt { n, guarded: None } => put!(out; "attempt ", n, " plain"),
+        Kind::Attempt { n, guarded: None } => put!(out; verb!(Attempt " "), n, " plain"),
         Kind::Attempt {
             n,
             guarded: Some(count),
-        } => put!(out; "attempt ", n, " guarded ", count),
-        Kind::Over { n, r } => put!(out; "over ", n, " ", r),
+        } => put!(out; verb!(Attempt " "), n, " guarded ", count),
+        Kind::Over { n, r } => put!(out; verb!(Over " "), n, " ", r),
         Kind::NotifyPrepare(index, r) => {
-            put!(out; "notify ", names.notifier(index), " prepare ", r)
+            put!(out; verb!(Notify " "), names.notifier(index), " prepare ", r)
         }
-        Kind::NotifyPost(index) => put!(out; "notify ", names.notifier(index), " post"),
-        Kind::Freeze(group) => put!(out; "freeze ", group),
+        Kind::NotifyPost(index) => put!(out; verb!(Notify " "), names.notifier(index), " post"),
+        Kind::Freeze(group) => put!(out; verb!(Freeze " "), group),
         Kind::Froze(group, end) => {
-            put!(out; "froze ", group, " ");
+            put!(out; verb!(Froze " "), group, " ");
             put_froze_end(out, names, end)
         }
-        Kind::Thaw(Thaw::Kernel) => put!(out; "thaw kernel"),
-        Kind::Thaw(Thaw::All) => put!(out; "thaw all"),
+        Kind::Thaw(Thaw::Kernel) => put!(out; verb!(Thaw " "), Group::Kernel),
+        Kind::Thaw(Thaw::All) => put!(out; verb!(Thaw " all")),
         _ => put_platform(out, names, kind),
     }
 }
@@ -231,10 +238,10 @@ fn put_froze_end(out: &mut HeldBytes, names: &ReadyNames, end: FrozeEnd)
     match end {
         FrozeEnd::AllFrozen => put!(out; "0"),
         FrozeEnd::Timeout { left, first } => {
-            put!(out; "EBUSY timeout ", left, " ", names.task(first))
+            put!(out; Errno::EBUSY, " timeout ", left, " ", names.task(first))
         }
         FrozeEnd::Wakeup { left, first } => {
-            put!(out; "EBUSY wakeup ", left, " ", names.task(first))
+            put!(out; Errno::EBUSY, " wakeup ", left, " ", names.task(first))
         }
     }
 }
@@ -247,23 +254,23 @@ fn put_platform(out: &mut HeldBytes, names: &ReadyNames, kind: Kind)
     ensures few { length out.new ≤ length out.old + 512 }
 {
     match kind {
-        Kind::PlatformDo(what, r) => put!(out; "platform ", what, " ", r),
-        Kind::PlatformUndo(what) => put!(out; "platform ", what),
-        Kind::CpuOff(cpu) => put!(out; "cpu off ", cpu),
-        Kind::CpuBusy(cpu) => put!(out; "cpu EBUSY ", cpu),
-        Kind::CpuOn(cpu) => put!(out; "cpu on ", cpu),
-        Kind::Irqs { on: true } => put!(out; "irqs on"),
-        Kind::Irqs { on: false } => put!(out; "irqs off"),
-        Kind::SyscoreCheck(r) => put!(out; "syscore check ", r),
+        Kind::PlatformDo(what, r) => put!(out; verb!(Platform " "), what, " ", r),
+        Kind::PlatformUndo(what) => put!(out; verb!(Platform " "), what),
+        Kind::CpuOff(cpu) => put!(out; verb!(Cpu " off "), cpu),
+        Kind::CpuBusy(cpu) => put!(out; verb!(Cpu " "), Errno::EBUSY, " ", cpu),
+        Kind::CpuOn(cpu) => put!(out; verb!(Cpu " on "), cpu),
+        Kind::Irqs { on: true } => put!(out; verb!(Irqs " on")),
+        Kind::Irqs { on: false } => put!(out; verb!(Irqs " off")),
+        Kind::SyscoreCheck(r) => put!(out; verb!(Syscore " check "), r),
         Kind::SyscoreSuspend(index, r) => {
-            put!(out; "syscore suspend ", names.syscore(index), " ", r)
+            put!(out; verb!(Syscore " suspend "), names.syscore(index), " ", r)
         }
-        Kind::SyscoreResume(index) => put!(out; "syscore resume ", names.syscore(index)),
-        Kind::Enter { busy: true } => put!(out; "enter EBUSY"),
-        Kind::Enter { busy: false } => put!(out; "enter"),
-        Kind::Wake { by_event: true } => put!(out; "wake event"),
-        Kind::Wake { by_event: false } => put!(out; "wake alarm"),
-        Kind::Clear => put!(out; "clear"),
+        Kind::SyscoreResume(index) => put!(out; verb!(Syscore " resume "), names.syscore(index)),
+        Kind::Enter { busy: true } => put!(out; verb!(Enter " "), Errno::EBUSY),
+        Kind::Enter { busy: false } => put!(out; verb!(Enter)),
+        Kind::Wake { by_event: true } => put!(out; verb!(Wake " event")),
+        Kind::Wake { by_event: false } => put!(out; verb!(Wake " alarm")),
+        Kind::Clear => put!(out; verb!(Clear)),
         _ => {}
     }
 }

@@ -5,7 +5,7 @@ ghost use Rattle.sleep_model.specs.declared.machine.Machine.{Machine};
 ghost use Rattle.sleep_model.specs.declared.entry.Kind.TheVariants as kind;
 ghost use Rattle.sleep_model.specs.Text.{body, newline, device as device_of};
 
-use crate::spelling::piece::{Piece, answer_piece, cause_piece, phase_piece};
+use crate::spelling::piece::{Piece, cause_piece, phase_piece};
 use sleep_model::Kind;
 
 /// The words round a device to the end of its line, each with the spaces that it needs.
@@ -29,7 +29,7 @@ fn prepared_words(device: u32, r: i32) -> Option<DeviceWords>
         verb: Piece::of(b"prepare         ", 8),
         phase: Piece::none(),
         device,
-        behind: answer_piece(None),
+        behind: Piece::success(),
     })
 }
 
@@ -45,11 +45,12 @@ pub fn device_words(kind: Kind) -> Option<DeviceWords>
             device,
             behind: Piece::newline(),
         }),
-        Kind::End(phase, device, r) => Some(DeviceWords {
+        // Most answers are 0. An error takes the way of other lines, where the table of errors spells it.
+        Kind::End(phase, device, None) => Some(DeviceWords {
             verb: Piece::of(b"end             ", 4),
             phase: phase_piece(phase),
             device,
-            behind: answer_piece(r),
+            behind: Piece::success(),
         }),
         Kind::Schedule(phase, device) => Some(DeviceWords {
             verb: Piece::of(b"schedule        ", 9),

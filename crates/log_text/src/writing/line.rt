@@ -5,6 +5,7 @@ ghost use Rattle.sleep_model.specs.Text.{script_text, waiting_text, entry_line, 
 use crate::spelling::front::LineFront;
 use crate::spelling::held::HeldBytes;
 use crate::spelling::spelled::{Spelled, put};
+use crate::spelling::verb::verb;
 use crate::spelling::words::script_word;
 use crate::writing::body::put_body;
 use crate::writing::device_words::device_words;
@@ -129,7 +130,7 @@ fn put_why(out: &mut HeldBytes, names: &ReadyNames, why: Why)
     ensures few { length out.new ≤ length out.old + 128 }
 {
     match why {
-        Why::InProgress => put!(out; "read"),
+        Why::InProgress => put!(out; verb!(Read)),
         Why::Mark(index) => put!(out; "mark ", names.mark(index)),
         _ => {}
     }

@@ -9,7 +9,7 @@ use sleep_model::{EntryList, Log, LogEnd, Machine, Stats, Waiting};
 use std::alloc::Global;
 
 /// How many bytes the line of an entry usually has, at most.
-const USUAL_LINE: usize = 48;
+pub(crate) const USUAL_LINE: usize = 48;
 
 /// The text of the log that this machine made.
 pub fn write_log(alloc: Global, machine: &Machine, log: &Log) -> Result<Vec<u8>, Mem>

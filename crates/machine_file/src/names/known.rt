@@ -84,20 +84,18 @@ pub(crate) fn item(list: Member, number: Option<usize>) -> Option<Place>
 }
 
 /// The first device that has another's name.
-pub(crate) fn repeated_device(tree: &Value<'_>, known: &Known) -> Option<Place>
-    requires { Knows known.now (view tree.now) }
-    ensures { place_of result ≡ repeated_device (view tree.now) }
+pub(crate) fn repeated_device(_tree: &Value<'_>, known: &Known) -> Option<Place>
+    requires { Knows known.now (view _tree.now) }
+    ensures { place_of result ≡ repeated_device (view _tree.now) }
 {
-    let _ = tree;
     item(Member::Devices, first_repeated(&known.devices))
 }
 
 /// The first syscore callback or notifier that has another's name.
-pub(crate) fn repeated_callback(tree: &Value<'_>, known: &Known) -> Option<Place>
-    requires { Knows known.now (view tree.now) }
-    ensures { place_of result ≡ repeated_callback (view tree.now) }
+pub(crate) fn repeated_callback(_tree: &Value<'_>, known: &Known) -> Option<Place>
+    requires { Knows known.now (view _tree.now) }
+    ensures { place_of result ≡ repeated_callback (view _tree.now) }
 {
-    let _ = tree;
     match first_repeated(&known.syscore) {
         Some(number) => Some(Place::Item(Member::Syscore, number)),
         None => item(Member::Notifiers, first_repeated(&known.notifiers)),

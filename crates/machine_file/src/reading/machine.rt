@@ -53,11 +53,10 @@ fn first_of_devices(
 }
 
 #[tactic(auto, unfolding(crate::specs::Kept::broken_cycle))]
-fn first_cycle(cycle: Option<usize>, tree: &Value<'_>) -> Option<Broken>
-    requires { cycle ≡ first_not_after (closes_no_cycle (view tree.now)) [] 0 (list_in (codes "links") (view tree.now)) }
-    ensures { option_map broken_view result ≡ broken_cycle (view tree.now) }
+fn first_cycle(cycle: Option<usize>, _tree: &Value<'_>) -> Option<Broken>
+    requires { cycle ≡ first_not_after (closes_no_cycle (view _tree.now)) [] 0 (list_in (codes "links") (view _tree.now)) }
+    ensures { option_map broken_view result ≡ broken_cycle (view _tree.now) }
 {
-    let _ = tree;
     match cycle {
         Some(number) => {
             let place = Place::Item(Member::Links, number);

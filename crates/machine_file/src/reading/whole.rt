@@ -37,12 +37,11 @@ fn devices_in(alloc: Global, tree: &Value<'_>, known: &Known<'_>) -> Result<Vec<
     Ok(devices)
 }
 
-fn syscore_in(alloc: Global, tree: &Value<'_>, known: &Known<'_>) -> Result<Vec<Name>, Mem>
-    requires knows { Knows known.now (view tree.now) }
-    requires fits { FitsFile (view tree.now) }
-    ensures { IfOk result (λ v. v.items ≡ texts_in (codes "syscore") (view tree.now)) }
+fn syscore_in(alloc: Global, _tree: &Value<'_>, known: &Known<'_>) -> Result<Vec<Name>, Mem>
+    requires knows { Knows known.now (view _tree.now) }
+    requires fits { FitsFile (view _tree.now) }
+    ensures { IfOk result (λ v. v.items ≡ texts_in (codes "syscore") (view _tree.now)) }
 {
-    let _ = tree;
     let names = names_of_texts(alloc, known.syscore.keys())?;
     Ok(names)
 }
@@ -55,22 +54,20 @@ fn notifiers_in(alloc: Global, tree: &Value<'_>) -> Result<Vec<Notifier>, Mem>
     Ok(notifiers)
 }
 
-fn sources_in(alloc: Global, tree: &Value<'_>, known: &Known<'_>) -> Result<Vec<Name>, Mem>
-    requires knows { Knows known.now (view tree.now) }
-    requires fits { FitsFile (view tree.now) }
-    ensures { IfOk result (λ v. v.items ≡ sources_named (view tree.now)) }
+fn sources_in(alloc: Global, _tree: &Value<'_>, known: &Known<'_>) -> Result<Vec<Name>, Mem>
+    requires knows { Knows known.now (view _tree.now) }
+    requires fits { FitsFile (view _tree.now) }
+    ensures { IfOk result (λ v. v.items ≡ sources_named (view _tree.now)) }
 {
-    let _ = tree;
     let names = names_of_texts(alloc, known.sources.keys())?;
     Ok(names)
 }
 
-fn marks_of(alloc: Global, tree: &Value<'_>, known: &Known<'_>) -> Result<Vec<Name>, Mem>
-    requires knows { Knows known.now (view tree.now) }
-    requires fits { FitsFile (view tree.now) }
-    ensures { IfOk result (λ v. v.items ≡ whole_marks (view tree.now)) }
+fn marks_of(alloc: Global, _tree: &Value<'_>, known: &Known<'_>) -> Result<Vec<Name>, Mem>
+    requires knows { Knows known.now (view _tree.now) }
+    requires fits { FitsFile (view _tree.now) }
+    ensures { IfOk result (λ v. v.items ≡ whole_marks (view _tree.now)) }
 {
-    let _ = tree;
     let names = names_of_texts(alloc, known.marks.keys())?;
     Ok(names)
 }

@@ -27,6 +27,7 @@ use crate::value::words::{DEVICE, NOTIFIER, SYSCORE, step_named};
 use borrowed_json::{Value, get};
 use key_index::KeyIndex;
 use sleep_base::{Errno, Mem};
+use sleep_model::Phase;
 use std::alloc::Global;
 
 /// A test of an answer.
@@ -57,7 +58,7 @@ fn has_its_phase(answer: &Value<'_>) -> bool
 fn is_of_prepare(answer: &Value<'_>) -> bool
     ensures { result ≡ is_of_prepare (view answer.now) }
 {
-    is_of_device(answer) && has_text(answer, "phase", "prepare")
+    is_of_device(answer) && has_text(answer, "phase", Phase::Prepare.name())
 }
 
 // Whether a name is that of a step of the platform that answers.

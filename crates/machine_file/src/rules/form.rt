@@ -1,12 +1,12 @@
 //! The form of the file's members and of the items of its lists.
 
-ghost use Rattle.std.specs.Prelude.{◌≡◌, codes, Option, nat_le, length, position, not};
+ghost use Rattle.std.specs.Prelude.{◌≡◌, codes, Option, nat_le, length, map, position, not};
 ghost use Rattle.std.specs.List.{list_all};
 ghost use Rattle.borrowed_json.specs.View.{view};
 ghost use Rattle.machine_file.specs.Members.{may_have, must_have, list_in, link_members};
 ghost use Rattle.machine_file.specs.Look.{has_only};
 ghost use Rattle.machine_file.specs.Places.{first_not};
-ghost use Rattle.machine_file.specs.Form.{is_string, is_one_of, kinds, phases, is_device_form, is_link_form, is_notifier_form, is_actor_form, is_ret_form, is_plain_report, is_event_report, is_report_form, are_reports, is_answer_form, unformed_member, unformed_item};
+ghost use Rattle.machine_file.specs.Form.{is_string, is_one_of, kinds, phases, statuses, link_states, is_device_form, is_link_form, is_notifier_form, is_actor_form, is_ret_form, is_plain_report, is_event_report, is_report_form, are_reports, is_answer_form, unformed_member, unformed_item};
 ghost use Rattle.machine_file.specs.Operations.{has_ends_named};
 ghost use Rattle.machine_file.specs.Broken.{place_of};
 
@@ -19,15 +19,24 @@ use crate::value::words::{
     AWAKE, DEVICE, EVENT, NOTIFIER, PLATFORM, RELAX, SYSCORE, error_in, kind_in, phase_in,
 };
 use borrowed_json::{Value, as_array, get};
+use sleep_model::{link_word, runtime_word};
 
 /// A day, in ms: the longest time.
 pub(crate) const DAY: u64 = 86_400_000;
 
 /// The words of a runtime status.
-pub(crate) const STATUSES: [&str; 2] = ["active", "suspended"];
+pub(crate) fn statuses() -> [&'static str; 2]
+    ensures { map (λ s. s.now) result ≡ statuses }
+{
+    [runtime_word(false), runtime_word(true)]
+}
 
 /// The words of a link's state.
-pub(crate) const LINK_STATES: [&str; 2] = ["active", "dormant"];
+pub(crate) fn link_states() -> [&'static str; 2]
+    ensures { map (λ s. s.now) result ≡ link_states }
+{
+    [link_word(true), link_word(false)]
+}
 
 /// The first member that has not its form.
 pub(crate) fn unformed_member(tree: &Value<'_>) -> Option<Place>
@@ -74,7 +83,7 @@ pub(crate) fn is_device_form(value: &Value<'_>) -> bool
         && may_be_text(value, "parent")
         && may_be_truth(value, "async")
         && may_be_truth(value, "wakeup")
-        && may_be_one_of(value, "runtime", &STATUSES)
+        && may_be_one_of(value, "runtime", &statuses())
 }
 
 // Whether a link has none but its members: with a state in a file of version 2.
@@ -100,7 +109,7 @@ pub(crate) fn is_link_form(value: &Value<'_>, second: bool) -> bool
 {
     has_link_members(value, second)
         && has_ends(value)
-        && may_be_one_of(value, "state", &LINK_STATES)
+        && may_be_one_of(value, "state", &link_states())
 }
 
 pub(crate) fn is_notifier_form(value: &Value<'_>) -> bool

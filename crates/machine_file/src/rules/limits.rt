@@ -37,8 +37,26 @@ const MOST_STEPS: u64 = 200_000;
 // The most turns of devices in all attempts.
 const MOST_TURNS: u64 = 100_000;
 
+// The most devices.
+const MOST_DEVICES: u64 = 1000;
+
 // The most links that are there or are added.
 const MOST_LINKS: u64 = 4000;
+
+// The most syscore callbacks.
+const MOST_SYSCORE: u64 = 32;
+
+// The most notifiers.
+const MOST_NOTIFIERS: u64 = 32;
+
+// The most sources, beside that of autosleep.
+const MOST_SOURCES: u64 = 255;
+
+// The most actors.
+const MOST_ACTORS: u64 = 256;
+
+// The most answers.
+const MOST_ANSWERS: u64 = 10_000;
 
 // The most reports of all answers.
 const MOST_REPORTS: u64 = 10_000;
@@ -47,35 +65,35 @@ const MOST_REPORTS: u64 = 10_000;
 const CAP: u64 = 1_000_000;
 
 #[tactic(auto, using(crate::proofs::Looks::length_view))]
-fn has_most(tree: &Value<'_>, list: Member, most: usize) -> bool
+fn has_most(tree: &Value<'_>, list: Member, most: u64) -> bool
     ensures { result ≡ nat_le (length (list_in (member_name list) (view tree.now))) most }
 {
-    items(tree, list).len() <= most
+    items(tree, list).len() as u64 <= most
 }
 
 /// The first list that is too long.
 pub(crate) fn too_many(tree: &Value<'_>) -> Option<Place>
     ensures { place_of result ≡ too_many (view tree.now) }
 {
-    if !has_most(tree, Member::Devices, 1000) {
+    if !has_most(tree, Member::Devices, MOST_DEVICES) {
         return Some(Place::Member(Member::Devices));
     }
-    if !has_most(tree, Member::Links, 4000) {
+    if !has_most(tree, Member::Links, MOST_LINKS) {
         return Some(Place::Member(Member::Links));
     }
-    if !has_most(tree, Member::Syscore, 32) {
+    if !has_most(tree, Member::Syscore, MOST_SYSCORE) {
         return Some(Place::Member(Member::Syscore));
     }
-    if !has_most(tree, Member::Notifiers, 32) {
+    if !has_most(tree, Member::Notifiers, MOST_NOTIFIERS) {
         return Some(Place::Member(Member::Notifiers));
     }
-    if !has_most(tree, Member::Sources, 255) {
+    if !has_most(tree, Member::Sources, MOST_SOURCES) {
         return Some(Place::Member(Member::Sources));
     }
-    if !has_most(tree, Member::Actors, 256) {
+    if !has_most(tree, Member::Actors, MOST_ACTORS) {
         return Some(Place::Member(Member::Actors));
     }
-    if !has_most(tree, Member::Answers, 10_000) {
+    if !has_most(tree, Member::Answers, MOST_ANSWERS) {
         return Some(Place::Member(Member::Answers));
     }
     None

@@ -1,8 +1,10 @@
 //! The operations of scripts: their form, who may make them, and what they name.
 
-ghost use Rattle.std.specs.Prelude.{◌≡◌, Some, ◌||◌, ◌&&◌, not, map, position, option_map, codes, ◌∷◌, nat_le, length};
+ghost use Rattle.std.specs.Prelude.{◌≡◌, Some, bytes_eq, ◌||◌, ◌&&◌, not, map, position, option_map, codes, ◌∷◌, nat_le, length};
+ghost use Rattle.std.specs.List.{list_any};
 ghost use Rattle.borrowed_json.specs.View.{view};
 ghost use Rattle.serde_json.specs.Find.{as_str};
+ghost use Rattle.sleep_model.specs.Text.{kind_word};
 ghost use Rattle.machine_file.specs.Look.{is_some_and, is_none_or, has_only};
 ghost use Rattle.machine_file.specs.Members.{must_have, may_have, list_in, word_at};
 ghost use Rattle.machine_file.specs.Places.{first_not, first_operation, first_operation_of};
@@ -13,15 +15,16 @@ ghost use Rattle.machine_file.specs.Knows.{Knows, texts};
 ghost use Rattle.machine_file.specs.Broken.{place_of};
 
 use crate::names::known::{Known, contains};
-use crate::rules::form::{DAY, LINK_STATES, STATUSES, has_ends};
+use crate::rules::form::{DAY, has_ends, link_states, statuses};
 use crate::rules::items::must_be_name;
 use crate::value::look::{
-    has_only, is_among, is_same, list_in, may_be_truth, may_be_within, must_be_one_of,
-    must_be_text, must_be_within, text_at, word_at,
+    has_only, is_same, list_in, may_be_truth, may_be_within, must_be_one_of, must_be_text,
+    must_be_within, text_at, word_at,
 };
 use crate::value::place::{Member, Place, items};
 use borrowed_json::{Value, as_str, get};
 use key_index::KeyIndex;
+use sleep_model::TaskKind;
 
 /// The word of an operation.
 #[derive(Clone, Copy)]
@@ -70,7 +73,7 @@ macro_rules! by_operation {
         match $from { $(Word::$word => $version,)* }
     };
     (@makers ($from:expr, $kind:expr); $($word:ident $name:literal $version:literal $makers:ident $members:tt $form:block $spelled:block [$op:pat] $written:block)*) => {
-        match $from { $(Word::$word => is_among($kind, &$makers),)* }
+        match $from { $(Word::$word => names_kind($kind, &$makers),)* }
     };
     (@members $from:expr; $($word:ident $name:literal $version:literal $makers:ident [$($member:literal)*] $form:block $spelled:block [$op:pat] $written:block)*) => {
         match $from { $(Word::$word => &["op", "times" $(, $member)*],)* }
@@ -141,7 +144,7 @@ macro_rules! by_operation {
                 { Op::Wait { mark: thing_at($operation, "mark", &$known.marks) } }
                 [Op::Wait { mark }] { put_mark($out, "wait", $machine.mark_name(*mark), $times) }
             Runtime "runtime" 1 TASKS ["device" "to"]
-                { must_be_text($operation, "device") && must_be_one_of($operation, "to", &STATUSES) }
+                { must_be_text($operation, "device") && must_be_one_of($operation, "to", &statuses()) }
                 { runtime_of($operation, $known) }
                 [Op::Runtime { device, to_suspended }] {
                     $out.text("device", $machine.device_name(*device))?;
@@ -155,7 +158,7 @@ macro_rules! by_operation {
                     put_link($out, $machine, "link", *supplier, *consumer, $times)
                 }
             LinkState "link_state" 2 TASKS ["supplier" "consumer" "to"]
-                { has_ends($operation) && must_be_one_of($operation, "to", &LINK_STATES) }
+                { has_ends($operation) && must_be_one_of($operation, "to", &link_states()) }
                 { link_state_of($operation, $known) }
                 [Op::LinkState { supplier, consumer, active }] {
                     put_link($out, $machine, "link_state", *supplier, *consumer, $times)?;
@@ -188,13 +191,18 @@ macro_rules! by_operation {
 pub(crate) use by_operation;
 
 // User space alone.
-const USERS: [&str; 1] = ["user"];
+const USERS: [TaskKind; 1] = [TaskKind::User];
 
 // Every task.
-const TASKS: [&str; 3] = ["user", "kthread", "nofreeze"];
+const TASKS: [TaskKind; 3] = [TaskKind::User, TaskKind::Kthread, TaskKind::NoFreeze];
 
 // Every task, and interrupt lines.
-const EVERYONE: [&str; 4] = ["user", "kthread", "nofreeze", "irq"];
+const EVERYONE: [TaskKind; 4] = [
+    TaskKind::User,
+    TaskKind::Kthread,
+    TaskKind::NoFreeze,
+    TaskKind::Irq,
+];
 
 fn word_named(text: &str) -> Option<Word>
     ensures { option_map op_row result ≡ row_named text.now }
@@ -293,6 +301,13 @@ fn is_of_table(second: bool, operation: &Value<'_>) -> bool
         Some(word) => is_formed_as(second, word, operation),
         None => false,
     }
+}
+
+// Whether the text is the word of one of these kinds.
+fn names_kind(text: &str, kinds: &[TaskKind]) -> bool
+    ensures { result ≡ list_any (λ k. bytes_eq text.now (kind_word k)) kinds.now }
+{
+    kinds.iter().any(|kind| is_same(text, kind.name()))
 }
 
 // Whether an actor of that kind may make the operation.

@@ -124,16 +124,15 @@ fn places_of(
 /// The numbers of the devices that are the ends of a file's links.
 pub(crate) fn places_in(
     alloc: Global,
-    tree: &Value<'_>,
+    _tree: &Value<'_>,
     known: &Known<'_>,
     ends: &[Ends<'_>],
 ) -> Result<Vec<EndPlaces>, Mem>
-    requires knows { Knows known.now (view tree.now) }
+    requires knows { Knows known.now (view _tree.now) }
     requires few { AreFew known.now }
-    requires ends { AreEnds ends.now (view tree.now) }
-    ensures { IfOk result (λ v. ArePlaced v.items (view tree.now)) }
+    requires ends { AreEnds ends.now (view _tree.now) }
+    ensures { IfOk result (λ v. ArePlaced v.items (view _tree.now)) }
 {
-    let _ = tree;
     let places = places_of(alloc, ends, &known.devices)?;
     Ok(places)
 }
@@ -151,11 +150,10 @@ fn first_loose(places: &[EndPlaces]) -> Option<usize>
 }
 
 /// The first link of which an end is no device.
-pub(crate) fn loose_link(tree: &Value<'_>, places: &[EndPlaces]) -> Option<Place>
-    requires { ArePlaced places.now (view tree.now) }
-    ensures { place_of result ≡ loose_link (view tree.now) }
+pub(crate) fn loose_link(_tree: &Value<'_>, places: &[EndPlaces]) -> Option<Place>
+    requires { ArePlaced places.now (view _tree.now) }
+    ensures { place_of result ≡ loose_link (view _tree.now) }
 {
-    let _ = tree;
     item(Member::Links, first_loose(places))
 }
 
@@ -185,13 +183,12 @@ fn first_again(alloc: Global, ends: &[Ends]) -> Result<Option<usize>, Mem>
 /// The first link that has one end, or that stands before.
 pub(crate) fn repeated_link(
     alloc: Global,
-    tree: &Value<'_>,
+    _tree: &Value<'_>,
     ends: &[Ends],
 ) -> Result<Option<Place>, Mem>
-    requires { AreEnds ends.now (view tree.now) }
-    ensures { IfOk result (λ p. place_of p ≡ repeated_link (view tree.now)) }
+    requires { AreEnds ends.now (view _tree.now) }
+    ensures { IfOk result (λ p. place_of p ≡ repeated_link (view _tree.now)) }
 {
-    let _ = tree;
     let number = first_again(alloc, ends)?;
     Ok(item(Member::Links, number))
 }

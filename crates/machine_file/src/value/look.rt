@@ -83,7 +83,7 @@ pub(crate) fn is_one_of(value: &Value<'_>, words: &[&str]) -> bool
     }
 }
 
-pub(crate) fn is_among(text: &str, words: &[&str]) -> bool
+fn is_among(text: &str, words: &[&str]) -> bool
     ensures { result ≡ list_any (bytes_eq text.now) (map (λ s. s.now) words.now) }
 {
     is_any(text, words)

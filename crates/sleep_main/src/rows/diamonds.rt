@@ -1,44 +1,58 @@
 //! A hundred diamonds of devices: their machine file, and its log.
 
-use std::alloc::{AllocError, Global};
+use std::alloc::Global;
+use std::test::Fail;
 
-/// The devices of a hundred diamonds, one below the other, in the order of their registration.
-pub(crate) fn diamond_names(alloc: Global) -> Result<Vec<String>, AllocError> {
-    let mut names = Vec::new(alloc);
-    for i in 0..100u32 {
-        for letter in ["a", "b", "c"] {
-            names.push(format!(in alloc; "{letter}{i}")?)?;
-        }
-    }
-    names.push(String::from_str(alloc, "a100")?)?;
-    Ok(names)
+/// The number of a device's diamond and its letter, in the order of their registration: a hundred diamonds, one below the
+/// other, and the last device of all.
+fn diamond(place: u32) -> (&'static str, u32) {
+    let letter = match place % 3 {
+        0 => "a",
+        1 => "b",
+        _ => "c",
+    };
+    (letter, place / 3)
 }
 
-/// Their machine file: a supplies b and c, and these supply the next a; the last diamond comes first.
-pub(crate) fn diamonds_file(alloc: Global, names: &[String]) -> Result<String, AllocError> {
-    let mut file = String::from_str(alloc, r#"{"version": 1, "devices": ["#)?;
-    let mut comma = "";
-    for name in names {
-        let name = name.as_str();
-        file.push_str(format!(in alloc; "{comma}{{\"name\": \"{name}\"}}")?.as_str())?;
-        comma = ",";
+/// How many devices they are.
+const DEVICES: u32 = 301;
+
+/// Adds the devices to a machine file.
+fn add_devices(file: &mut String) -> Result<(), Fail> {
+    for place in 0..DEVICES {
+        let (letter, i) = diamond(place);
+        let comma = if place == 0 { "" } else { "," };
+        write!(file, "{comma}{{\"name\": \"{letter}{i}\"}}")?;
     }
-    file.push_str(r#"], "links": ["#)?;
-    comma = "";
+    Ok(())
+}
+
+/// Adds their links: a supplies b and c, and these supply the next a; the last diamond comes first.
+fn add_links(file: &mut String) -> Result<(), Fail> {
+    let mut comma = "";
     for i in (0..100u32).rev() {
-        let next = i + 1;
         for (from, to, over) in [
-            ("b", "a", next),
-            ("c", "a", next),
+            ("b", "a", i + 1),
+            ("c", "a", i + 1),
             ("a", "b", i),
             ("a", "c", i),
         ] {
-            file.push_str(format!(in alloc;
+            write!(
+                file,
                 "{comma}{{\"supplier\": \"{from}{i}\", \"consumer\": \"{to}{over}\"}}"
-            )?.as_str())?;
+            )?;
             comma = ",";
         }
     }
+    Ok(())
+}
+
+/// The machine file of a hundred diamonds.
+pub(crate) fn diamonds_file(alloc: Global) -> Result<String, Fail> {
+    let mut file = String::from_str(alloc, r#"{"version": 1, "devices": ["#)?;
+    add_devices(&mut file)?;
+    file.push_str(r#"], "links": ["#)?;
+    add_links(&mut file)?;
     file.push_str(
         r#"], "actors": [{"name": "w", "kind": "user", "script": [{"op": "state", "text": "mem"}]}]}"#,
     )?;
@@ -94,46 +108,69 @@ const BACK: &str = "\
 source autosleep 0 0 0 0 0 0 0\n\
 finished\n";
 
-/// The lines of a device's callback at that time.
-fn callback(
-    alloc: Global,
-    log: &mut String,
-    at: &str,
-    phase: &str,
-    name: &str,
-) -> Result<(), AllocError> {
-    let head = format!(in alloc; "{at} 0/0/0 task:w")?;
-    let head = head.as_str();
-    log.push_str(format!(in alloc;
-        "{head} begin {phase} {name}\n{head} end {phase} {name} 0\n"
-    )?.as_str())
+/// Adds the lines of a device's callback at that time.
+fn add_callback(log: &mut String, at: &str, phase: &str, place: u32) -> Result<(), Fail> {
+    let (letter, i) = diamond(place);
+    write!(log, "{at} 0/0/0 task:w begin {phase} {letter}{i}\n")?;
+    write!(log, "{at} 0/0/0 task:w end {phase} {letter}{i} 0\n")?;
+    Ok(())
+}
+
+/// Adds the lines of all phases on the way down.
+fn add_down(log: &mut String) -> Result<(), Fail> {
+    for (phase, behind) in DOWN {
+        for place in (0..DEVICES).rev() {
+            add_callback(log, "0", phase, place)?;
+        }
+        log.push_str(behind)?;
+    }
+    Ok(())
+}
+
+/// Adds the lines of all phases on the way up.
+fn add_up(log: &mut String) -> Result<(), Fail> {
+    for (phase, behind) in UP {
+        for place in 0..DEVICES {
+            add_callback(log, "1000", phase, place)?;
+        }
+        log.push_str(behind)?;
+    }
+    Ok(())
+}
+
+/// Adds the lines by which all devices are prepared.
+fn add_prepared(log: &mut String) -> Result<(), Fail> {
+    for place in 0..DEVICES {
+        let (letter, i) = diamond(place);
+        write!(log, "0 0/0/0 task:w prepare {letter}{i} 0\n")?;
+    }
+    Ok(())
+}
+
+/// Adds the lines by which all are completed.
+fn add_completed(log: &mut String) -> Result<(), Fail> {
+    for place in (0..DEVICES).rev() {
+        let (letter, i) = diamond(place);
+        write!(log, "1000 0/0/0 task:w complete {letter}{i}\n")?;
+    }
+    Ok(())
+}
+
+/// Adds all lines of the log.
+fn add_lines(log: &mut String) -> Result<(), Fail> {
+    add_prepared(log)?;
+    log.push_str("0 0/0/0 task:w done prepare 0\n")?;
+    add_down(log)?;
+    log.push_str(SLEEP)?;
+    add_up(log)?;
+    add_completed(log)?;
+    log.push_str(BACK)?;
+    Ok(())
 }
 
 /// The log of the diamonds.
-pub(crate) fn diamonds_log(alloc: Global, names: &[String]) -> Result<String, AllocError> {
+pub(crate) fn diamonds_log(alloc: Global) -> Result<String, Fail> {
     let mut log = String::from_str(alloc, FRONT)?;
-    for name in names {
-        let name = name.as_str();
-        log.push_str(format!(in alloc; "0 0/0/0 task:w prepare {name} 0\n")?.as_str())?;
-    }
-    log.push_str("0 0/0/0 task:w done prepare 0\n")?;
-    for (phase, behind) in DOWN {
-        for name in names.iter().rev() {
-            callback(alloc, &mut log, "0", phase, name.as_str())?;
-        }
-        log.push_str(behind)?;
-    }
-    log.push_str(SLEEP)?;
-    for (phase, behind) in UP {
-        for name in names {
-            callback(alloc, &mut log, "1000", phase, name.as_str())?;
-        }
-        log.push_str(behind)?;
-    }
-    for name in names.iter().rev() {
-        let name = name.as_str();
-        log.push_str(format!(in alloc; "1000 0/0/0 task:w complete {name}\n")?.as_str())?;
-    }
-    log.push_str(BACK)?;
+    add_lines(&mut log)?;
     Ok(log)
 }

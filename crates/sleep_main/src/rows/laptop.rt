@@ -1,6 +1,7 @@
 //! A laptop of sixty devices: its machine file, and its log.
 
-use std::alloc::{AllocError, Global};
+use std::alloc::Global;
+use std::test::Fail;
 
 /// What stands in the file behind the links: the task that suspends three times, the tasks and the kernel
 /// thread that are frozen meanwhile, one that is not, and the keys that report while the laptop sleeps.
@@ -464,25 +465,39 @@ const ATTEMPTS: [(&str, &str, &str, &str); 3] = [
     ),
 ];
 
-/// Sixty devices, four below each. Two of three are asynchronous, and some need a supplier.
-pub(crate) fn laptop_file(alloc: Global) -> Result<String, AllocError> {
-    let mut file = String::from_str(alloc, r#"{"version": 1, "devices": [{"name": "d0"}"#)?;
+/// Adds sixty devices, four below each. Two of three are asynchronous.
+fn add_devices(file: &mut String) -> Result<(), Fail> {
     for i in 1..60u32 {
         let parent = (i - 1) / 4;
         let kind = if i % 3 == 0 { "" } else { r#", "async": true"# };
-        file.push_str(format!(in alloc;
+        write!(
+            file,
             ", {{\"name\": \"d{i}\", \"parent\": \"d{parent}\"{kind}}}"
-        )?.as_str())?;
+        )?;
     }
-    file.push_str(r#"], "cpus": 4, "sources": ["lid", "kbd", "net"], "links": ["#)?;
+    Ok(())
+}
+
+/// Adds their links: some need a supplier.
+fn add_links(file: &mut String) -> Result<(), Fail> {
     let mut comma = "";
     for i in 0..25u32 {
         let over = i + 30;
-        file.push_str(format!(in alloc;
+        write!(
+            file,
             "{comma}{{\"supplier\": \"d{i}\", \"consumer\": \"d{over}\"}}"
-        )?.as_str())?;
+        )?;
         comma = ", ";
     }
+    Ok(())
+}
+
+/// The laptop's machine file.
+pub(crate) fn laptop_file(alloc: Global) -> Result<String, Fail> {
+    let mut file = String::from_str(alloc, r#"{"version": 1, "devices": [{"name": "d0"}"#)?;
+    add_devices(&mut file)?;
+    file.push_str(r#"], "cpus": 4, "sources": ["lid", "kbd", "net"], "links": ["#)?;
+    add_links(&mut file)?;
     file.push_str(ACTORS)?;
     Ok(file)
 }
@@ -491,7 +506,7 @@ pub(crate) fn laptop_file(alloc: Global) -> Result<String, AllocError> {
 const ORDER: [(u32, u32); 3] = [(0, 30), (55, 60), (30, 55)];
 
 /// Adds a text, with `head` in place of each `@`, and `phase` in place of each `%`.
-fn add(log: &mut String, text: &str, head: &str, phase: &str) -> Result<(), AllocError> {
+fn add(log: &mut String, text: &str, head: &str, phase: &str) -> Result<(), Fail> {
     for letter in text.chars() {
         match letter {
             '@' => log.push_str(head)?,
@@ -502,14 +517,30 @@ fn add(log: &mut String, text: &str, head: &str, phase: &str) -> Result<(), Allo
     Ok(())
 }
 
-/// Adds the lines of an attempt on the way down, from the freeze to the sleep.
-fn add_down(alloc: Global, log: &mut String, head: &str) -> Result<(), AllocError> {
-    add(log, FREEZE, head, "")?;
+/// Adds the lines by which all devices are prepared.
+fn add_prepared(log: &mut String, head: &str) -> Result<(), Fail> {
     for (from, to) in ORDER {
         for i in from..to {
-            log.push_str(format!(in alloc; "{head} task:sleepd prepare d{i} 0\n")?.as_str())?;
+            write!(log, "{head} task:sleepd prepare d{i} 0\n")?;
         }
     }
+    Ok(())
+}
+
+/// Adds the lines by which all are completed.
+fn add_completed(log: &mut String, head: &str) -> Result<(), Fail> {
+    for (from, to) in ORDER.iter().rev() {
+        for i in (*from..*to).rev() {
+            write!(log, "{head} task:sleepd complete d{i}\n")?;
+        }
+    }
+    Ok(())
+}
+
+/// Adds the lines of an attempt on the way down, from the freeze to the sleep.
+fn add_down(log: &mut String, head: &str) -> Result<(), Fail> {
+    add(log, FREEZE, head, "")?;
+    add_prepared(log, head)?;
     add(log, "@ task:sleepd done prepare 0\n", head, "")?;
     for (phase, behind) in PHASES_DOWN {
         add(log, DOWN, head, phase)?;
@@ -519,28 +550,30 @@ fn add_down(alloc: Global, log: &mut String, head: &str) -> Result<(), AllocErro
 }
 
 /// Adds its lines on the way up, to the thaw.
-fn add_up(alloc: Global, log: &mut String, head: &str) -> Result<(), AllocError> {
+fn add_up(log: &mut String, head: &str) -> Result<(), Fail> {
     add(log, WAKE, head, "")?;
     for (phase, behind) in PHASES_UP {
         add(log, UP, head, phase)?;
         add(log, behind, head, phase)?;
     }
-    for (from, to) in ORDER.iter().rev() {
-        for i in (*from..*to).rev() {
-            log.push_str(format!(in alloc; "{head} task:sleepd complete d{i}\n")?.as_str())?;
-        }
-    }
+    add_completed(log, head)?;
     add(log, BACK, head, "")
 }
 
-/// The log of the laptop: the keys wake it twice, and the alarm wakes it once.
-pub(crate) fn laptop_log(alloc: Global) -> Result<String, AllocError> {
-    let mut log = String::from_str(alloc, FRONT)?;
+/// Adds the lines of all attempts.
+fn add_attempts(log: &mut String) -> Result<(), Fail> {
     for (down, asleep, up, behind) in ATTEMPTS {
-        add_down(alloc, &mut log, down)?;
+        add_down(log, down)?;
         log.push_str(asleep)?;
-        add_up(alloc, &mut log, up)?;
+        add_up(log, up)?;
         log.push_str(behind)?;
     }
+    Ok(())
+}
+
+/// The log of the laptop: the keys wake it twice, and the alarm wakes it once.
+pub(crate) fn laptop_log(alloc: Global) -> Result<String, Fail> {
+    let mut log = String::from_str(alloc, FRONT)?;
+    add_attempts(&mut log)?;
     Ok(log)
 }

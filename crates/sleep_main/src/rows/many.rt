@@ -1,6 +1,7 @@
 //! 65,536 events, which 16 bits do not count.
 
-use std::alloc::{AllocError, Global};
+use std::alloc::Global;
+use std::test::Fail;
 
 /// The script but its last operation.
 const EVENTS: &str =
@@ -57,16 +58,15 @@ finished
 ";
 
 /// A task that saves a count, reports the events, and then does that.
-pub(crate) fn many_file(alloc: Global, last: &str) -> Result<String, AllocError> {
+pub(crate) fn many_file(alloc: Global, last: &str) -> Result<String, Fail> {
     let mut file = String::from_str(alloc, EVENTS)?;
     file.push_str(last)?;
     file.push_str("]}]}")?;
     Ok(file)
 }
 
-/// Its log, which ends so.
-pub(crate) fn many_log(alloc: Global, end: &str) -> Result<String, AllocError> {
-    let mut log = String::from_str(alloc, "0 0/0/0 task:w read 0\n0 0/0/0 task:w save 0 ok\n")?;
+/// Adds the lines of the events.
+fn add_events(log: &mut String) -> Result<(), Fail> {
     for n in 0..65_536u32 {
         let source = match n / 16_384 {
             0 => "a",
@@ -74,10 +74,17 @@ pub(crate) fn many_log(alloc: Global, end: &str) -> Result<String, AllocError> {
             2 => "c",
             _ => "d",
         };
-        log.push_str(format!(in alloc;
-            "0 0/{n}/0 task:w event {source} 0 soft\n0 0/{n}/0 task:w start {source}\n0 1/{n}/0 task:w finish {source}\n"
-        )?.as_str())?;
+        write!(log, "0 0/{n}/0 task:w event {source} 0 soft\n")?;
+        write!(log, "0 0/{n}/0 task:w start {source}\n")?;
+        write!(log, "0 1/{n}/0 task:w finish {source}\n")?;
     }
+    Ok(())
+}
+
+/// Its log, which ends so.
+pub(crate) fn many_log(alloc: Global, end: &str) -> Result<String, Fail> {
+    let mut log = String::from_str(alloc, "0 0/0/0 task:w read 0\n0 0/0/0 task:w save 0 ok\n")?;
+    add_events(&mut log)?;
     log.push_str(end)?;
     log.push_str(STATS)?;
     Ok(log)

@@ -1,4 +1,4 @@
-use Rattle.std.proofs.Common.{◌≡◌, ◌∙◌, ◌++◌, ℕ, List, Option, Some, reverse, ap₂}
+use Rattle.std.proofs.Common.{◌≡◌, ◌∙◌, ◌++◌, ℕ, List, Some, reverse, ap₂}
 use Rattle.std.proofs.lemmas.Result.{IfOk-at_ok}
 use Rattle.sleep_model.specs.Merge.{all_entries}
 use Rattle.apart_log.specs.declared.range.Range.{Range}

@@ -1,4 +1,4 @@
-use Rattle.std.proofs.Common.{rules, ◌∙◌, ◌≡◌, ◌++◌, List, filter, map, sym, ap, append_assoc, take}
+use Rattle.std.proofs.Common.{◌∙◌, ◌++◌, List, filter, map, sym, ap, append_assoc, take}
 use Rattle.sleep_model.specs.declared.entry.JournalEntry.{JournalEntry}
 use Rattle.sleep_model.specs.declared.entry.SourceEntry.{SourceEntry}
 use Rattle.sleep_model.specs.Merge.{of_source}

@@ -1,8 +1,6 @@
-use Rattle.std.proofs.Common.{rules, arith, ◌∙◌, ◌≡◌, ◌++◌, ◌∷◌, [], List, filter, map, sym, ap, append_assoc, take}
+use Rattle.std.proofs.Common.{arith, append_assoc}
 use Rattle.std.proofs.lemmas.Grind.{common_steps}
-use Rattle.sleep_model.specs.declared.entry.JournalEntry.{JournalEntry}
 use Rattle.sleep_model.specs.Merge.{of_source}
-use Rattle.log_merge.specs.Rests.{seen}
 use Rattle.apart_log.specs.Slices.{is_in}
 use Rattle.apart_log.proofs.Gathering.{filter_more}
 use Rattle.apart_log.proofs.slice.with_history.Goals as goal

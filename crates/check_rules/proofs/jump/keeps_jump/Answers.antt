@@ -12,5 +12,5 @@ returns c =
     let past = past_of c.args.past.now in
     let own = journal_of c.args.past.now in
     subst (λ (b : Bool). IsTrue b ↔ (JumpStep m own (λ s. history s past) (numbers past) c.args.time × (time_of past < c.args.time))) (sym c.may_jump.ensures)
-    (jump_is m own past c.word-now.result c.args.time c.time.result c.in_ok-idle.idle c.in_ok-finished.finished c.is_time-least.result c.in_ok-next.next
-    c.word-now.ensures c.in_ok-idle.ensures c.in_ok-finished.ensures c.in_ok-next.ensures c.is_time-least.ensures c.time.ensures)
+    (jump_is m own past c.word-now.result c.args.time c.time.result c.in_ok-idle.idle c.is_finished_if-finished.result c.is_time-least.result c.in_ok-next.next
+    c.word-now.ensures c.in_ok-idle.ensures c.is_finished_if-finished.ensures c.in_ok-next.ensures c.is_time-least.ensures c.time.ensures)

@@ -4,4 +4,4 @@ use Rattle.sleep_run.specs.JobsOf.{first_jobs_of}
 use Rattle.sleep_run.proofs.jobs.device_jobs.Given as goal
 
 abbrev pub invariant-loop-device : goal.invariant-loop-device
-invariant-loop-device l = l.jobs.items ≡ first_jobs_of l.machine Dev l.device
+invariant-loop-device l = l.jobs.items ≡ first_jobs_of l.plans Dev l.device

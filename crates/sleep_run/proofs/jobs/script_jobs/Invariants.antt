@@ -4,4 +4,4 @@ use Rattle.sleep_run.specs.JobsOf.{first_jobs_of}
 use Rattle.sleep_run.proofs.jobs.script_jobs.Given as goal
 
 abbrev pub invariant-loop-script : goal.invariant-loop-script
-invariant-loop-script l = l.jobs.items ≡ first_jobs_of l.machine Script l.script
+invariant-loop-script l = l.jobs.items ≡ first_jobs_of l.plans Script l.script

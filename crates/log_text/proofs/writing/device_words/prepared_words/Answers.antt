@@ -7,4 +7,4 @@ use Rattle.log_text.proofs.writing.device_words.prepared_words.Goals as goal
 pub returns : goal.returns
 returns c =
     let zero : c.args.r ≡ pos 0 = omega (arith, ints) in
-    λ m. prepared_line m c.args.device c.args.r _ _ _ zero c.of.ensures c.none.ensures c.answer_piece.ensures
+    λ m. prepared_line m c.args.device c.args.r _ _ _ zero c.of.ensures c.none.ensures c.success.ensures

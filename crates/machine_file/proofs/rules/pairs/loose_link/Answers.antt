@@ -10,6 +10,6 @@ use Rattle.machine_file.proofs.rules.pairs.loose_link.Goals as goal
 
 pub returns : goal.returns
 returns c =
-    let file = view c.args.tree.now in
+    let file = view c.args._tree.now in
     c.item.ensures ∙ ap (option_map (item_place (codes "links"))) (c.first_loose.ensures ∙ ap (position (λ p. not (are_devices p))) c.requires
     ∙ loose_told (devices_named file) (list_in (codes "links") file))

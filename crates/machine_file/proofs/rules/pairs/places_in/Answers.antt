@@ -8,4 +8,4 @@ use Rattle.machine_file.proofs.rules.pairs.places_in.Goals as goal
 pub returns : goal.returns
 returns c =
     c.in_ok-places.ensures ∙ ap (map (end_places (texts c.args.known.now.devices))) c.requires.ends
-    ∙ ap (λ (ns : List (List ℕ)). map (end_places ns) (map ends_written (list_in (codes "links") (view c.args.tree.now)))) c.requires.knows.devices
+    ∙ ap (λ (ns : List (List ℕ)). map (end_places ns) (map ends_written (list_in (codes "links") (view c.args._tree.now)))) c.requires.knows.devices

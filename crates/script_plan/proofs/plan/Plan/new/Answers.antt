@@ -1,4 +1,5 @@
 use Rattle.std.proofs.Common.{◌≡◌, ◌∙◌, ◌<◌, ℕ, List, length, ap, arith}
+use Rattle.script_plan.specs.CallPlans.{calls_made}
 use Rattle.script_plan.specs.Plans.{expanded, entry_places, op_at, ops_of, turns_from, calls_after}
 use Rattle.sleep_model.specs.Scripts.{makes_entry}
 use Rattle.sleep_model.specs.declared.machine.Step.{Step}
@@ -9,24 +10,30 @@ pub entry_places-requires : goal.entry_places-requires
 entry_places-requires c =
     rw (c.as_slice-steps.ensures, c.deref.ensures.value, c.in_ok-places.ensures) (places_within c.args.script.now)
 
+pub calls_of-requires : goal.calls_of-requires
+calls_of-requires c =
+    rw (c.as_slice-steps.ensures, c.deref-2.ensures.value, c.in_ok-places.ensures) (places_within c.args.script.now)
+
 pub count_calls-requires-clause-few : goal.count_calls-requires-clause-few
 count_calls-requires-clause-few c =
-    rw (c.deref-2.ensures.value, c.in_ok-places.ensures) (omega (arith, places_few c.args.script.now 200000 c.requires))
+    rw (c.deref-3.ensures.value, c.in_ok-places.ensures) (omega (arith, places_few c.args.script.now 200000 c.requires))
 
 pub count_calls-requires-clause-within : goal.count_calls-requires-clause-within
 count_calls-requires-clause-within c =
-    rw (c.as_slice-steps.ensures, c.deref-2.ensures.value, c.in_ok-places.ensures) (places_within c.args.script.now)
+    rw (c.as_slice-steps.ensures, c.deref-3.ensures.value, c.in_ok-places.ensures) (places_within c.args.script.now)
 
 pub invariant_of-result : goal.invariant_of-result
 invariant_of-result c =
     let s = c.args.script.now in
     let one : c.deref.result.now ≡ expanded s = c.deref.ensures.value ∙ c.in_ok-places.ensures in
-    let two : c.deref-2.result.now ≡ expanded s = c.deref-2.ensures.value ∙ c.in_ok-places.ensures in
+    let between : c.deref-2.result.now ≡ expanded s = c.deref-2.ensures.value ∙ c.in_ok-places.ensures in
+    let two : c.deref-3.result.now ≡ expanded s = c.deref-3.ensures.value ∙ c.in_ok-places.ensures in
     let kept : c.in_ok-entry_places.field-0.items ≡ entry_places s.steps (expanded s) =
     c.in_ok-entry_places.ensures ∙ (ap (λ (ss : List Step). entry_places ss c.deref.result.now) c.as_slice-steps.ensures ∙ ap (entry_places s.steps) one) in
     record {
       entry_places_are = kept;
       within = rw (kept) (filter_within (λ (at : ℕ). at < length s.steps) (λ at. makes_entry (op_at s.steps at)) (expanded s) (places_within s));
-      turns_are = c.in_ok-count_calls.ensures.turns ∙ (ap (λ (ss : List Step). turns_from 0 (ops_of ss c.deref-2.result.now)) c.as_slice-steps.ensures ∙ ap (λ xs. turns_from 0 (ops_of s.steps xs)) two);
-      calls_are = c.in_ok-count_calls.ensures.all ∙ (ap (λ (ss : List Step). calls_after 0 (ops_of ss c.deref-2.result.now)) c.as_slice-steps.ensures ∙ ap (λ xs. calls_after 0 (ops_of s.steps xs)) two);
+      calls_are = c.in_ok-calls_of.ensures ∙ (ap (λ (ss : List Step). calls_made c.args.autosleep (ops_of ss c.deref-2.result.now)) c.as_slice-steps.ensures ∙ ap (λ xs. calls_made c.args.autosleep (ops_of s.steps xs)) between);
+      turns_are = c.in_ok-count_calls.ensures.turns ∙ (ap (λ (ss : List Step). turns_from 0 (ops_of ss c.deref-3.result.now)) c.as_slice-steps.ensures ∙ ap (λ xs. turns_from 0 (ops_of s.steps xs)) two);
+      all_are = c.in_ok-count_calls.ensures.all ∙ (ap (λ (ss : List Step). calls_after 0 (ops_of ss c.deref-3.result.now)) c.as_slice-steps.ensures ∙ ap (λ xs. calls_after 0 (ops_of s.steps xs)) two);
     }

@@ -29,8 +29,7 @@ invariant_of-self-2 c =
       core = core_jumped h c.reserve.new.self c.append_other.new.self _ c.args.to c.args.seen c.self.invariant.core c.in_ok-reserve.ensures.machine c.in_ok-reserve.ensures.past
           (omega (arith, c.in_ok-reserve.ensures.ok, c.room-places.ensures.room))
           (subst (λ (s : CoreState). time_of (entries s.past) < c.args.to) (sym c.self.view_is) c.requires.later) c.requires.small c.in-Ok.ensures.ok;
-      plans_are = c.self.invariant.plans_are ∙ ap (λ (m : Machine). m.actors) (sym same);
-      answers_are = c.self.invariant.answers_are ∙ ap (λ (m : Machine). m.answers) (sym same);
+      plans_are = c.self.invariant.plans_are ∙ sym same;
       wakeup_is = c.self.invariant.wakeup_is ∙ ap (λ (m : Machine). map may_wake m.devices) (sym same);
       reports_are = c.self.invariant.reports_are ∙ sym (counts_more h c.reserve.new.self c.append_other.new.self _ c.in_ok-reserve.ensures.machine c.in_ok-reserve.ensures.past c.in-Ok.ensures.ok);
     }

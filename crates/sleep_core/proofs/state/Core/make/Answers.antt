@@ -71,8 +71,7 @@ invariant_of-self-in-Ok-append c =
           (subst (λ (s : CoreState). Leaves s.machine c.args.kind (entries s.past)) (sym c.self.view_is) c.if-not-leaves.ensures.fits)
           (subst (λ (s : CoreState). c.is_own-own.result ≡ (is_actor c.args.who (maker (entries s.past)) || is_device c.args.who)) (sym c.self.view_is) c.is_own-own.ensures)
           has c.in-Ok-append.ensures.ok;
-      plans_are = c.self.invariant.plans_are ∙ ap (λ (m : Machine). m.actors) (sym same);
-      answers_are = c.self.invariant.answers_are ∙ ap (λ (m : Machine). m.answers) (sym same);
+      plans_are = c.self.invariant.plans_are ∙ sym same;
       wakeup_is = c.self.invariant.wakeup_is ∙ ap (λ (m : Machine). map may_wake m.devices) (sym same);
       reports_are =
           c.add.ensures
@@ -91,8 +90,7 @@ invariant_of-self-in-Err-append c =
     let past : c.append.new.self.past ≡ h.past = ap (λ (k : Kept). k.past) kept ∙ has.past in
     record {
       core = subst (λ (k : Kept). IsCore k) (sym kept) (core_kept h c.make_room.new.self c.self.invariant.core has.machine has.past has.grows);
-      plans_are = c.self.invariant.plans_are ∙ ap (λ (m : Machine). m.actors) (sym same);
-      answers_are = c.self.invariant.answers_are ∙ ap (λ (m : Machine). m.answers) (sym same);
+      plans_are = c.self.invariant.plans_are ∙ sym same;
       wakeup_is = c.self.invariant.wakeup_is ∙ ap (λ (m : Machine). map may_wake m.devices) (sym same);
       reports_are = c.self.invariant.reports_are ∙ ap₂ (λ m (xs : List JournalEntry). counts_of m (entries xs)) (sym same) (sym past);
     }

@@ -1,4 +1,5 @@
-use Rattle.std.proofs.Common.{◌≡◌, ◌∙◌, [], map, ap, ap₂, sym, subst}
+use Rattle.std.proofs.Common.{◌≡◌, ◌∙◌, [], map, length, ap, ap₂, sym, subst}
+use Rattle.sleep_model.specs.declared.machine.Machine.{Machine}
 use Rattle.sleep_model.specs.Runtime.{may_wake}
 use Rattle.sleep_core.specs.CoreFields.{IsCore}
 use Rattle.sleep_core.specs.Histories.{Kept}
@@ -9,12 +10,15 @@ use Rattle.sleep_core.proofs.state.Core.new.Goals as goal
 
 pub invariant_of-result : goal.invariant_of-result
 invariant_of-result c =
-    let m = c.args.machine.now in
-    let empty : c.in_ok-history.history ≡ record { machine = m; past = []; room = 0 } = c.in_ok-history.ensures in
+    let m = c.args.plans.now in
+    let is = c.machine-machine.ensures in
+    let empty : c.in_ok-history.history ≡ record { machine = m; past = []; room = 0 } = c.in_ok-history.ensures ∙ ap (λ (x : Machine). kept x) is in
     record {
       core = subst IsCore (sym empty) (core_empty m c.requires.accepted);
-      plans_are = c.in_ok-plans.ensures ∙ (c.as_slice.ensures ∙ sym (ap (λ (h : Kept). h.machine.actors) empty));
-      answers_are = c.in_ok-answers.ensures ∙ (c.as_slice-2.ensures ∙ sym (ap (λ (h : Kept). h.machine.answers) empty));
-      reports_are = c.in_ok-reports.ensures ∙ (ap₂ (λ n k. none_reported n k) c.len.ensures c.len-2.ensures ∙ sym (ap (λ (h : Kept). counts_of h.machine (entries h.past)) empty));
-      wakeup_is = c.in_ok-wakeup.ensures ∙ (ap (map may_wake) c.as_slice-3.ensures ∙ sym (ap (λ (h : Kept). map may_wake h.machine.devices) empty));
+      plans_are = sym (ap (λ (h : Kept). h.machine) empty);
+      reports_are = c.in_ok-reports.ensures ∙ (ap₂ (λ n k. none_reported n k) (c.len.ensures ∙ ap (λ (x : Machine). length x.actors) is) (c.len-2.ensures ∙ ap (λ (x : Machine). length x.devices) is) ∙ sym (ap (λ (h : Kept). counts_of h.machine (entries h.past)) empty));
+      wakeup_is = c.in_ok-wakeup.ensures ∙ (ap (map may_wake) (c.as_slice.ensures ∙ ap (λ (x : Machine). x.devices) is) ∙ sym (ap (λ (h : Kept). map may_wake h.machine.devices) empty));
     }
+  where
+    kept : Machine → Kept
+    kept x = record { machine = x; past = []; room = 0 }

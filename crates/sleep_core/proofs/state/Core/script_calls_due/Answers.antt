@@ -1,4 +1,4 @@
-use Rattle.std.proofs.Common.{◌≡◌, ◌∙◌, ◌<◌, length, ap, sym, subst}
+use Rattle.std.proofs.Common.{◌≡◌, ◌∙◌, Some, length, slice_get, ap, sym, subst}
 use Rattle.sleep_model.specs.Calls.{pieces_in}
 use Rattle.sleep_model.specs.Seats.{seat_at, seats}
 use Rattle.sleep_state.specs.Places.{entries}
@@ -13,6 +13,5 @@ returns c =
     let h = c.self.inside.history in
     let i = c.args.script in
     subst (λ (s : CoreState). c.calls_before.result ≡ calls_before (pieces_in s.machine i) (seat_at (seats (length s.machine.actors) (entries s.past)) i).turns) c.self.view_is
-    (planned_calls h.machine i (entries h.past) c.self.inside.plans.items c.index.result.now c.seat-seat.result c.calls_before.result c.self.invariant.plans_are
-    (subst (λ (s : CoreState). i < length s.machine.actors) (sym c.self.view_is) c.requires)
-    c.index.ensures c.calls_before.ensures (c.seat-seat.ensures ∙ ap (λ (t : TaskState). seat_at t.seats i) c.tasks.ensures))
+    (planned_calls h.machine i (entries h.past) c.plan.result.now.script c.seat-seat.result c.calls_before.result
+    (subst (λ (s : CoreState). slice_get s.machine.actors i ≡ Some c.plan.result.now.script) (sym c.self.view_is) c.plan.ensures) c.calls_before.ensures (c.seat-seat.ensures ∙ ap (λ (t : TaskState). seat_at t.seats i) c.tasks.ensures))

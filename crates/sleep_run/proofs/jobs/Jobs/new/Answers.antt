@@ -9,18 +9,18 @@ use Rattle.sleep_run.proofs.jobs.Jobs.new.Goals as goal
 
 pub of_parts-requires-clause-scripts : goal.of_parts-requires-clause-scripts
 of_parts-requires-clause-scripts c =
-    let m = c.args.machine.now in
-    omega (arith, ap (λ (xs : List JobState). length xs) c.in_ok-scripts.ensures, first_len m Script (length m.actors), c.requires.accepted.actors)
+    let m = c.args.plans.now in
+    omega (arith, ap (λ (xs : List JobState). length xs) c.in_ok-scripts.ensures, first_len m Script (length m.actors), c.requires.actors)
 
 pub of_parts-requires-clause-devices : goal.of_parts-requires-clause-devices
 of_parts-requires-clause-devices c =
-    let m = c.args.machine.now in
-    omega (arith, ap (λ (xs : List JobState). length xs) c.in_ok-devices.ensures, first_len m Dev (length m.devices), c.requires.accepted.devices)
+    let m = c.args.plans.now in
+    omega (arith, ap (λ (xs : List JobState). length xs) c.in_ok-devices.ensures, first_len m Dev (length m.devices), c.requires.devices)
 
 pub of_parts-requires-clause-auto : goal.of_parts-requires-clause-auto
 of_parts-requires-clause-auto c = ap (λ (job : JobState). one_if (owes job)) c.of_auto-auto.ensures
 
 pub of_parts-requires-clause-none : goal.of_parts-requires-clause-none
 of_parts-requires-clause-none c =
-    let m = c.args.machine.now in
+    let m = c.args.plans.now in
     ap owing_of c.in_ok-devices.ensures ∙ devices_owe_none m (length m.devices)

@@ -6,4 +6,4 @@ pub returns-in-None : goal.returns-in-None
 returns-in-None c =
     let j = c.self.inside in
     let are = rw (← c.self.view_is) at c.own_calls.ensures in
-    rw (← c.self.view_is) (own_first j.reports.now c.own_calls.result.now j.made (calls_of_turn j.machine.now j.who j.turns) c.call_at.result c.in-None.ensures.value are c.call_at.ensures)
+    rw (← c.self.view_is) (own_first j.reports.now c.own_calls.result.now j.made (calls_of_turn j.plans.now j.who j.turns) c.call_at.result c.in-None.ensures.value are c.call_at.ensures)

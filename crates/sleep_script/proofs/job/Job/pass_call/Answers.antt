@@ -8,4 +8,4 @@ pub returns-then-is_empty : goal.returns-then-is_empty
 returns-then-is_empty c =
     let j = c.self.inside in
     let none : length j.reports.now ≡ 0 = grind (arith, nat_tests, c.if-is_empty.ensures) in
-    rw (← c.self.view_is) (rw (own_made j.reports.now j.made (calls_of_turn j.machine.now j.who j.turns) none))
+    rw (← c.self.view_is) (rw (own_made j.reports.now j.made (calls_of_turn j.plans.now j.who j.turns) none))

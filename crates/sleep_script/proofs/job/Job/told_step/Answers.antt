@@ -12,5 +12,5 @@ returns c =
     c.one_more-turns.ensures ∙ ap (λ b. one_more b j.turns) c.ends_turn-ends.ensures in
     let exits : (c.is_exit.result || j.exited) ≡ (is_exit c.args.kind || j.exited) = ap (λ b. b || j.exited) c.is_exit.ensures in
     rw (← c.self.view_is) (same_job _ _ _ _ _ _ _ _ _ _ turns
-    (turned j.machine.now j.who j.book.now j.reports.now c.reports_of-reports.result.now j.made j.turns c.args.attempt _ _ c.args.kind c.ends_turn-ends.result
-    c.self.invariant.answers_are none c.ends_turn-ends.ensures c.reports_of-reports.ensures c.made_after-self-inside.ensures c.one_more-turns.ensures) exits)
+    (turned j.plans.now j.who c.answers.result.now j.reports.now c.reports_of-reports.result.now j.made j.turns c.args.attempt _ _ c.args.kind c.ends_turn-ends.result
+    c.answers.ensures none c.ends_turn-ends.ensures c.reports_of-reports.ensures c.made_after-self-inside.ensures c.one_more-turns.ensures) exits)

@@ -1,0 +1,88 @@
+ghost use Rattle.std.specs.Prelude.{◌≡◌, ◌≤◌, map, length, IfOk};
+ghost use Rattle.sleep_model.specs.Places.{all_operations};
+ghost use Rattle.machine_plans.specs.PlanFields.{with_source};
+
+use answer_book::AnswerBook;
+use script_plan::Plan;
+use sleep_base::Mem;
+use sleep_model::{Machine, Script};
+use std::alloc::Global;
+use std::marker::Model;
+
+/// A machine, what its callbacks answer by thing and attempt, and the steps of each of its scripts, taken and counted
+/// once. Contracts see the machine.
+#[derive(Drop)]
+pub struct MachinePlans<'m> {
+    machine: &'m Machine,
+    answers: AnswerBook<'m>,
+    scripts: Vec<Plan<'m>>,
+}
+
+impl<'m> Model for MachinePlans<'m> {
+    ghost use Rattle.sleep_model.specs.declared.machine.Machine.{Machine};
+
+    ghost Value = { Machine };
+
+    ghost use Rattle.machine_plans.specs.PlanFields.{planned, keeps};
+
+    ghost view = { planned };
+
+    ghost invariant = { keeps };
+}
+
+// The plan of each script, where autosleep has that source.
+fn plans_of(alloc: Global, scripts: &[Script], source: u32) -> Result<Vec<Plan<'_>>, Mem>
+    requires { length (all_operations scripts.now) ≤ 200000 }
+    ensures { IfOk result (λ v. v.items ≡ map (with_source source) scripts.now) }
+{
+    let mut plans = Vec::with_capacity(alloc, scripts.len())?;
+    for script in scripts {
+        plans.push(Plan::new(alloc, script, source)?)?;
+    }
+    Ok(plans)
+}
+
+impl<'m> MachinePlans<'m> {
+    ghost use Rattle.std.specs.Prelude.{◌≡◌, ◌<◌, ◌≤◌, ◌^◌, Some, length, slice_get, IfOk};
+    ghost use Rattle.sleep_model.specs.Places.{all_operations};
+
+    /// The plans of a machine, whose scripts make at most 200,000 steps in all. `Mem` where there is no memory.
+    pub fn new(alloc: Global, machine: &'m Machine) -> Result<Self, Mem>
+        requires steps { length (all_operations machine.now.actors) ≤ 200000 }
+        requires sources { length machine.now.sources < 2 ^ 32 }
+        requires answers { length machine.now.answers < 2 ^ 32 }
+        ensures { IfOk result (λ p. p ≡ machine.now) }
+    {
+        let source = machine.sources.len() as u32;
+        let answers = AnswerBook::new(alloc, machine.answers.as_slice())?;
+        let scripts = plans_of(alloc, machine.actors.as_slice(), source)?;
+        Ok(MachinePlans {
+            machine,
+            answers,
+            scripts,
+        })
+    }
+
+    /// The machine.
+    pub fn machine(&self) -> &'m Machine
+        ensures { result.now ≡ self.now }
+    {
+        self.machine
+    }
+
+    /// What its callbacks answer.
+    pub fn answers(&self) -> &AnswerBook<'m>
+        ensures { result.now ≡ self.now.answers }
+    {
+        &self.answers
+    }
+
+    /// The plan of its script with that number. Autosleep has the source behind the machine's own.
+    pub fn script(&self, number: u32) -> &Plan<'m>
+        requires { number < length self.now.actors }
+        ensures source { result.now.source ≡ length self.now.sources }
+        ensures script { slice_get self.now.actors number ≡ Some result.now.script }
+    {
+        &self.scripts[number as usize]
+    }
+}
