@@ -1,5 +1,5 @@
 #!/usr/bin/env python3
-"""Tries runs by many workers for so many minutes: each log has to be legal.
+"""Tries runs by many workers for some minutes: each log has to be legal.
 
 usage: tools/stress_workers.py MINUTES [PROGRAM]
 
