@@ -35,7 +35,7 @@ FOUND = {
     "freeze_times_out": ("found", 10, 15),
     "hard_event": ("found", 6, 22),
 }
-# After so many turns of a line comes an event, between the core's test and the last one, or a read and its save.
+# After this many turns of a line comes an event, between the core's test and the last one, or a read and its save.
 RARE = [
     (15, [{"op": "read"}, {"op": "save"}, {"op": "state", "text": "mem"}]),
     (5, [{"op": "autosleep", "text": "mem"}, {"op": "sleep", "ms": 10}, {"op": "autosleep", "text": "off"}]),

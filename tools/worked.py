@@ -593,7 +593,7 @@ def write_halves(log):
 def cuts(length):
     """How many newest entries are left out of each stretch that one lemma computes, the most first.
 
-    A declaration may take only so many steps, and a place costs more the more entries stand before it.
+    A declaration may take a limited number of steps, and a place costs more the more entries stand before it.
     """
     found, at = [], 0
     while at < length:

@@ -21,7 +21,7 @@ SHORT = [
     "] finish", "T expired", "Q the autosleep work runs, or is queued again", "L it looks at the count again",
     "O it is off", "! an error",
 ]
-SHOWN = 3  # So many errors of the way up stand in the table.
+SHOWN = 3  # How many errors of the way up the table shows.
 ZOOMS = (1, 2, 4, 8, 16, 32, 64)
 
 

@@ -6,7 +6,7 @@ from .joins import ATTEMPT
 from .page import said
 from .story import PHASES, error_of, stage_of
 
-NAMED = 5  # So many devices of a phase are named.
+NAMED = 5  # How many devices of a phase are named.
 UP = ("resume_noirq", "early", "resume")
 PLATFORM = {"recover": "recovers", "wake": "wakes", "finish": "finishes", "end": "ends"}
 
