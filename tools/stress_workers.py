@@ -5,8 +5,8 @@ usage: tools/stress_workers.py MINUTES [PROGRAM]
 
 It goes round the machines of bench/ and between them tries random ones (tools/second/maker.py), each by 2, 4, 16 and 64
 workers. The program's own `check` reads each large log, and the second writing of a run (tools/second/follow.py) each log of
-a random machine, with the run's status. Behind each large machine it prints how many logs there were,
-and how many of them differ from that of one worker. It stops at the first fault: it writes the machine, the log and why to
+a random machine, with the run's status. Behind each large machine it prints how many logs there were, and how many of them
+differ from that of one worker. It stops at the first fault: it writes the machine, the log and why to
 standard error, and ends with status 1.
 """
 
@@ -25,7 +25,7 @@ from try_workers import FULL, PROGRAM, refusal, run_by  # noqa: E402
 from workers import lines  # noqa: E402
 
 WORKERS = (2, 4, 16, 64)
-BETWEEN = 25  # So many random machines follow each machine of bench/.
+BETWEEN = 25  # How many random machines follow each machine of bench/.
 
 
 def benches():
