@@ -49,7 +49,7 @@ impl Board {
     ghost use Rattle.sleep_model.specs.declared.place.Stand.TheVariants as stand;
     ghost use Rattle.check_account.specs.Boards.{board_after, board_of, stands_on};
 
-    /// So many devices, none of which is prepared. `Mem` if there is no memory for them.
+    /// `count` devices, none of which is prepared. `Mem` if there is no memory for the devices.
     pub fn new(alloc: Global, count: usize) -> Result<Self, Mem>
         ensures { IfOk result (λ b. b ≡ board_of count []) }
     {

@@ -28,7 +28,7 @@ impl Flags {
     ghost use Rattle.std.specs.Prelude.{◌≡◌, false, replicate, slice_set, IfOk};
     ghost use Rattle.sleep_model.specs.Walk.{is_so};
 
-    /// So many flags, none of which is set. `Mem` if there is no memory for them.
+    /// `count` flags, none of which is set. `Mem` if there is no memory for the flags.
     pub(crate) fn new(alloc: Global, count: usize) -> Result<Self, Mem>
         ensures { IfOk result (λ f. f ≡ replicate count false) }
     {

@@ -1,4 +1,4 @@
-//! What the passed entries leave, before it is said of which.
+//! What the passed entries leave, before a law names the entries.
 
 ghost use Rattle.std.specs.Prelude.{◌≡◌, IfOk};
 ghost use Rattle.sleep_model.specs.Parts.{part_of};

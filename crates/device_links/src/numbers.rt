@@ -20,7 +20,7 @@ pub(crate) struct LinkNumbers {
 }
 
 impl LinkNumbers {
-    /// So many devices without links.
+    /// `count` devices without links.
     pub(crate) fn new(alloc: Global, count: usize) -> Result<LinkNumbers, Mem>
         ensures { IfOk result (λ t. AreNumbered count [] t.by_supplier.rows t.by_consumer.rows) }
     {
@@ -30,7 +30,7 @@ impl LinkNumbers {
         })
     }
 
-    /// So many devices with these links.
+    /// The devices of `parents` with these links.
     pub(crate) fn of_links(
         alloc: Global,
         parents: &[Option<u32>],

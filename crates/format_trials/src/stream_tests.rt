@@ -7,10 +7,10 @@ use sleep_model::{Actor, Entry, EntryList, EventNow, Kind, ListOf, Log, LogEnd};
 use std::alloc::Global;
 use std::test::Fail;
 
-// So many lines are more than are held at once.
+// More lines than the reader holds at once.
 const MANY: u32 = 2000;
 
-// A log of so many jumps.
+// A log of `many` jumps.
 fn jumps(alloc: Global, many: u32) -> Result<Log, Fail> {
     let now = EventNow {
         inpr: 0,

@@ -31,7 +31,7 @@ fn judges<R: Threads + Wait + Sync>(
     Ok(outcome.is(said))
 }
 
-/// A log with another line, if any, and what is said of it.
+/// A log with another line, if any, and the checker's answer.
 struct Judged {
     file: &'static str,
     log: &'static str,
@@ -205,7 +205,7 @@ const NO_LOGS: [(&str, u8, &str, &str); 6] = [
     ("{}\nfinished\n", 3, "", "machine: rule 3: version\n"),
 ];
 
-/// Lines that no log has: the first of them is told, also behind an entry that breaks a rule; and a log that ends too early.
+/// Lines that no log has: the checker names the first, also behind an entry that breaks a rule; and a log that ends too early.
 /// A machine that is none is refused, whatever stands behind it.
 #[test]
 fn texts_that_are_no_log_are_judged(rt: HostRuntime) -> Result<(), Fail> {

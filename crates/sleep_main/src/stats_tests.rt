@@ -51,7 +51,7 @@ fn bad_inputs_are_refused(rt: HostRuntime) -> Result<(), Fail> {
     Ok(())
 }
 
-/// Whether the program refuses so many spaces with that text.
+/// Whether the program refuses `length` spaces with that text.
 fn refuses_spaces<R: Threads + Wait + Sync>(
     rt: &R,
     alloc: Global,
@@ -82,7 +82,7 @@ fn a_long_first_line_is_refused(rt: HostRuntime) -> Result<(), Fail> {
 
 const TWO: &str = "{\"version\":1,\"devices\":[{\"name\":\"a\"},{\"name\":\"b\"}]}\n";
 
-/// Entries of a log of two devices, and the end of what is told of it. A link that stands already is passed over, and one
+/// Entries of a log of two devices, and the last lines of the statistics. A link that stands already is passed over, and one
 /// that the log makes dormant is no step of a chain.
 const LINKED: [(&str, &str); 2] = [
     (
@@ -149,7 +149,7 @@ fn add_thousand_devices(text: &mut String) -> Result<(), Fail> {
     Ok(())
 }
 
-/// Adds so many lines, each of another link between the first half of the devices and the second.
+/// Adds `count` lines, each of another link between the first half of the devices and the second.
 fn add_links(text: &mut String, count: u32) -> Result<(), Fail> {
     for number in 0..count {
         let supplier = number % 500;
@@ -159,7 +159,7 @@ fn add_links(text: &mut String, count: u32) -> Result<(), Fail> {
     Ok(())
 }
 
-/// A machine of a thousand devices, and a log of so many links.
+/// A machine of a thousand devices, and a log of `count` links.
 fn many_links(alloc: Global, count: u32) -> Result<Vec<u8>, Fail> {
     let mut input = String::new(alloc);
     add_thousand_devices(&mut input)?;

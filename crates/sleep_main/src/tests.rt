@@ -15,7 +15,7 @@ use std::thread::Threads;
 /// The words that ask for a run.
 const RUN: [&str; 4] = ["sleep", "run", "--workers", "1"];
 
-/// What is said of words of no form.
+/// The text on words of no form.
 const USAGE: &str =
     "usage: run [--workers N] or gen SEED DEVICES or soak SEED DEVICES or check or idle WAKERS EVENTS SESSIONS [--workers N] or locks or stats\n";
 
@@ -295,7 +295,7 @@ fn many_events_do_not_come_round(rt: HostRuntime) -> Result<(), Fail> {
     Ok(())
 }
 
-/// Files that break a rule, each with what is said of it: for each rule one at least.
+/// Files that break a rule, each with its message: for each rule one at least.
 #[test]
 fn other_files_are_refused(rt: HostRuntime) -> Result<(), Fail> {
     expect_refused(&rt, rt.alloc(), 3, &broken::FILES)
@@ -406,7 +406,7 @@ fn too_long_an_input_is_refused(rt: HostRuntime) -> Result<(), Fail> {
     Ok(())
 }
 
-/// Whether a run by reads of that many bytes, of which that one fails, is told so, if it comes to it.
+/// Whether a run that reads `chunk` bytes at a time ends with the error of its read number `call`, if it comes to that read.
 fn read_fails<R: Threads + Wait + Sync>(
     rt: &R,
     alloc: Global,

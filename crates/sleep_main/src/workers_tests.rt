@@ -143,7 +143,7 @@ impl Meeting {
         all
     }
 
-    /// Whether each of those met the others, and the first two jobs had so many turns.
+    /// Whether each of those met the others, and the first two jobs had these numbers of turns.
     fn was(&self, turns: (u64, u64)) -> bool {
         let mut all = true;
         for (meets, met) in self.meets.iter().zip(self.met.iter()) {
@@ -224,7 +224,7 @@ fn workers_meet(rt: HostRuntime) -> Result<(), Fail> {
     Ok(())
 }
 
-/// Whether a run of many events by so many workers writes that log.
+/// Whether a run of many events by that number of workers writes that log.
 fn is_same_log<R: Threads + Wait + Sync>(
     rt: &R,
     alloc: Global,

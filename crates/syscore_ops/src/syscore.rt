@@ -28,7 +28,7 @@ impl Syscore {
     ghost use Rattle.std.specs.Prelude.{◌≡◌, false, replicate, IfOk, IsSome};
     ghost use Rattle.syscore_ops.specs.Parts.{parts_after, parts_after_any, next_suspended, next_resumed, suspend_entry, resume_entry};
 
-    /// So many parts, none of which is suspended. `Mem` if there is no memory for them.
+    /// `n` parts, none of which is suspended. `Mem` if there is no memory for the parts.
     pub fn new(alloc: Global, n: u32) -> Result<Self, Mem>
         ensures { IfOk result (λ s. s ≡ record { n = n; flags = replicate n false }) }
     {

@@ -42,7 +42,7 @@ impl Journal {
     }
 }
 
-/// So many empty objects.
+/// `count` empty objects.
 pub(crate) fn objects(alloc: Global, count: usize) -> Result<Vec<Journal>, AllocError>
     ensures { IfOk result (λ values. vec_len values ≡ count) }
 {

@@ -53,7 +53,7 @@ pub(crate) fn merged(
     Ok(merge(alloc, journal, histories)?)
 }
 
-/// Whether a log has entries of so many times, one after another.
+/// Whether a log has `count` entries, at the times 0, 1, 2 and on.
 pub(crate) fn is_in_order(log: &EntryList, count: u64) -> bool {
     let mut reader = log.reader();
     for time in 0..count {

@@ -34,7 +34,7 @@ fn log_of(alloc: Global, made: Vec<Vec<SourceEntry>>) -> Result<EntryList, Fail>
     merged(alloc, &[], &histories)
 }
 
-/// The histories of so many workers, each in a thread of its own.
+/// The histories of that number of workers, each in a thread of its own.
 fn burst<R: Threads + Sync>(
     rt: &R,
     alloc: Global,

@@ -43,7 +43,7 @@ fn script(alloc: Global, autosleep: &[u8]) -> Result<Script, Fail>
     })
 }
 
-/// So many times that operation.
+/// A step that does the operation `times` times.
 fn step(op: Op, times: u32) -> Step
     ensures { result ≡ record { op = op; times = times } }
 {

@@ -92,7 +92,7 @@ fn a_source_with_three_places_left_is_full(rt: HostRuntime) -> Result<(), Fail> 
     Ok(())
 }
 
-/// What a source is told of raises its next tick.
+/// A raise of its next tick lets a source go on above.
 #[test]
 fn a_raised_source_goes_on_above(rt: HostRuntime) -> Result<(), Fail> {
     let mut events = PlainEvents::new();

@@ -1,4 +1,4 @@
-//! Machine files that break a rule, and what is said of each.
+//! Machine files that break a rule, each with its message.
 
 use crate::rows::apart;
 
