@@ -9,9 +9,10 @@ thrown away:
   locks   the program over the lines: it reads them, tries their forms, carries them out and writes the answers
   read    the program over the same lines with one of no form behind them: it reads them and tries all their forms, then
           refuses them, so it carries none out and writes nothing
-  copied  a program in Python that reads the same lines one by one and writes them
+  copied  a plain program in C that reads the same lines one by one and writes each of them, built here by cc -O2
 
-and how many times as long as each of the other two the first takes. Kinds of lines:
+and how many times as long as each of the other two the first takes. What counts is the last: it reads and writes these
+lines, and does nothing else. The program's own reading shrinks where its forms are tried faster. Kinds of lines:
 
   mixed     locks with and without timeouts, unlocks and waits, of 100 names by chance
   in turn   a lock and an unlock of each of 100 names in turn
@@ -20,13 +21,30 @@ and how many times as long as each of the other two the first takes. Kinds of li
   active    the names that are active, again and again
 """
 
+import pathlib
 import random
-import sys
+import subprocess
+import tempfile
 
 from clock import best, program
 
 LINES = 1_000_000
-COPIER = "import sys\nout = sys.stdout.buffer\nfor line in sys.stdin.buffer:\n    out.write(line)\n"
+COPIER = r"""
+#define _GNU_SOURCE
+#include <stdio.h>
+#include <stdlib.h>
+
+int main(void)
+{
+    char *line = NULL;
+    size_t places = 0;
+    ssize_t read;
+    while ((read = getline(&line, &places, stdin)) > 0)
+        fwrite(line, 1, (size_t)read, stdout);
+    free(line);
+    return 0;
+}
+"""
 
 
 def mixed_line(draw):
@@ -51,13 +69,25 @@ def rows():
     yield "active", names[:2] + [b"active"] * (LINES - 2)
 
 
+def built(folder):
+    """The program that copies lines."""
+    source, copier = pathlib.Path(folder, "copy.c"), pathlib.Path(folder, "copy")
+    source.write_text(COPIER)
+    subprocess.run(["cc", "-O2", "-o", copier, source], check=True)
+    return copier
+
+
 def main():
-    words = [program(), "locks"]
+    with tempfile.TemporaryDirectory() as folder:
+        measure([program(), "locks"], [built(folder)])
+
+
+def measure(words, copier):
     print(f"{'lines':>9} {'locks, s':>9} {'read, s':>9} {'times':>6} {'copied, s':>10} {'times':>6}")
     for name, lines in rows():
         data = b"\n".join(lines) + b"\n"
         told, read = best(words, data), best(words, data + b"none\n", 3)
-        copied = best([sys.executable, "-I", "-c", COPIER], data)
+        copied = best(copier, data)
         print(f"{name:>9} {told:>9.3f} {read:>9.3f} {told / read:>6.1f} {copied:>10.3f} {told / copied:>6.2f}")
 
 
