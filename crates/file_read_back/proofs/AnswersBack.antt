@@ -7,7 +7,7 @@ use Rattle.std.proofs.lemmas.Bool.{and_parts, and_from, false≢true, eqb-true}
 use Rattle.serde_json.specs.Data.{Data, null, boolean, number, string, array, object, unsigned, negative, float, no_items}
 use Rattle.serde_json.specs.Find.{get, as_str, as_array}
 use Rattle.sleep_base.specs.declared.errno.Errno.{Errno}
-use Rattle.sleep_base.specs.declared.errno.Errno.TheVariants.{EINTR, EIO, EAGAIN, EACCES, EBUSY, ENODEV, EINVAL}
+use Rattle.sleep_base.specs.declared.errno.Errno.TheVariants.{EINTR}
 use Rattle.sleep_base.specs.Errno.{name_of as error_name, number_of as error_number}
 use Rattle.sleep_model.specs.Answers.{errors, error_of_number}
 use Rattle.sleep_model.specs.declared.machine.PlatDo.TheVariants as step
@@ -109,12 +109,7 @@ ret_written z = error_or (error_of_number z) z
 
 error_back : (e : Errno) → ret_written (neg_ℤ (pos (error_number e))) ≡ Some (string (error_name e))
 error_back EINTR = refl
-error_back EIO = refl
-error_back EAGAIN = refl
-error_back EACCES = refl
-error_back EBUSY = refl
-error_back ENODEV = refl
-error_back EINVAL = refl
+error_back _ = refl
 
 -- what is written is what stood there; or it is left out, as it is 0
 abbrev pub RetBack : Option Data → Type 0

@@ -1,11 +1,10 @@
 -- No name, number or word has a newline, so each line ends at its own.
-use Rattle.std.proofs.Common.{◌≡◌, ◌∙◌, ℕ, ◌==◌, Bool, true, false, ◌&&◌, nat_lt, nat_le, List, ◌++◌, codes, decimal, length, Option, Some, None, ℤ, pos, negsuc, suc, refl, sym, ap, arith}
-use Rattle.std.specs.Prelude.{if◌then◌else◌}
+use Rattle.std.proofs.Common.{◌≡◌, ◌∙◌, ℕ, ◌==◌, Bool, true, false, ◌&&◌, nat_lt, nat_le, List, ◌++◌, codes, decimal, length, Option, Some, None, unwrap_or, ℤ, pos, negsuc, suc, refl, sym, ap, arith}
 use Rattle.std.proofs.lemmas.Bool.{and_parts}
 use Rattle.std.proofs.lemmas.Bool.Decides.{nat_tests}
 use Rattle.sleep_base.specs.declared.errno.Errno.{Errno}
-use Rattle.sleep_base.specs.declared.errno.Errno.TheVariants.{EINTR}
-use Rattle.sleep_base.specs.Errno.{name_of}
+use Rattle.sleep_base.specs.declared.errno.Errno.TheVariants.{EINTR, EINVAL}
+use Rattle.sleep_base.specs.Errno.{errno_with, errors, name_of}
 use Rattle.phase_table.specs.declared.phase.Phase.{Phase}
 use Rattle.phase_table.specs.declared.phase.Phase.TheVariants as phase
 use Rattle.phase_table.specs.Phases.{phase_name}
@@ -100,14 +99,9 @@ guard_clean : (g : Option ℕ) → is_word32_if g ≡ true → is_clean (guard_t
 guard_clean None f = refl
 guard_clean (Some c) f = number32 c f
 
-choose : (t : Bool) (a b : List ℕ) → is_clean a ≡ true → is_clean b ≡ true → is_clean (if t then a else b) ≡ true
-choose true a b h k = h
-choose false a b h k = k
-
 prepare_clean : (r : ℤ) → is_answer r ≡ true → is_clean (prepare_text r) ≡ true
 prepare_clean (pos n) f = number32 n (grind (arith, nat_tests))
-prepare_clean (negsuc n) f =
-    choose (suc n == 4) _ _ refl (choose (suc n == 5) _ _ refl (choose (suc n == 11) _ _ refl (choose (suc n == 13) _ _ refl (choose (suc n == 16) _ _ refl (choose (suc n == 19) _ _ refl refl)))))
+prepare_clean (negsuc n) f = errno_clean (unwrap_or (errno_with (suc n) errors) EINVAL)
 
 module _ (m : Machine) (named : AreNamed m) where
   froze_clean : (end : FrozeEnd) → fits_froze m end ≡ true → is_clean (froze_text m end) ≡ true

@@ -1,10 +1,10 @@
 -- Closed words are read back.
-use Rattle.std.proofs.Common.{◌≡◌, ℕ, zero, suc, ◌==◌, ◌≤◌, Bool, true, false, List, [], ◌∷◌, if◌then◌else◌, Option, Some, None, is_some, ℤ, pos, negsuc, refl, ap, arith}
+use Rattle.std.proofs.Common.{◌≡◌, ℕ, zero, suc, ◌==◌, ◌≤◌, Bool, true, false, List, [], ◌∷◌, if◌then◌else◌, Option, Some, None, is_some, unwrap_or, ℤ, pos, negsuc, neg_ℤ, ◌∙◌, refl, sym, ap, arith}
 use Rattle.std.proofs.lemmas.Bool.{eqb-true}
 use Rattle.std.proofs.lemmas.Bool.Decides.{nat_tests}
 use Rattle.std.proofs.lemmas.Fmt.{decimal_digit}
 use Rattle.sleep_base.specs.declared.errno.Errno.{Errno}
-use Rattle.sleep_base.specs.declared.errno.Errno.TheVariants.{EINTR, EIO, EAGAIN, EACCES, EBUSY, ENODEV, EINVAL}
+use Rattle.sleep_base.specs.declared.errno.Errno.TheVariants.{EINTR, EINVAL}
 use Rattle.sleep_base.specs.Errno.{name_of, number_of}
 use Rattle.phase_table.specs.declared.phase.Phase.{Phase}
 use Rattle.phase_table.specs.declared.phase.Phase.TheVariants as phase
@@ -18,8 +18,8 @@ use Rattle.sleep_model.specs.declared.machine.PlatDo.{PlatDo}
 use Rattle.sleep_model.specs.declared.machine.PlatDo.TheVariants as down
 use Rattle.sleep_model.specs.Answers.{errno_with, errors}
 use Rattle.sleep_model.specs.Fits.{is_answer}
-use Rattle.sleep_model.specs.Text.{answer_text, prepare_text, error_text, cause_text, group_word, down_word}
-use Rattle.log_text.specs.Words.{errno_in, answer_in, prepare_in, phase_in, cause_in, group_in, down_in}
+use Rattle.sleep_model.specs.Text.{answer_text, prepare_text, cause_text, group_word, down_word}
+use Rattle.log_text.specs.Words.{errno_in, error_number, answer_in, prepare_in, phase_in, cause_in, group_in, down_in}
 use Rattle.log_text.specs.Reading.{save_kind, state_kind}
 use Rattle.log_text.proofs.Cuts.{is_without}
 
@@ -68,26 +68,25 @@ pub state_err : (r : Errno) → state_kind (name_of r) ≡ kind.StateErr r
 state_err EINTR = refl
 state_err _ = refl
 
--- an error's number is that of one of the errors
-known : (es : List Errno) (k : ℕ) → is_some (errno_with k es) ≡ true → (e : Errno) × (number_of e ≡ k)
-known [] k h = absurd (cc)
-known (e ∷ es) k h = on (number_of e == k) refl (known es k) h
+-- an error that is found by a number has that number
+known : (es : List Errno) (k : ℕ) (e : Errno) → errno_with k es ≡ Some e → number_of e ≡ k
+known [] k e h = cc
+known (x ∷ es) k e h = on (number_of x == k) refl (known es k e) h
   where
-    on : (t : Bool) → (number_of e == k) ≡ t → (is_some (errno_with k es) ≡ true → (x : Errno) × (number_of x ≡ k)) → is_some (if t then Some e else errno_with k es) ≡ true → (x : Errno) × (number_of x ≡ k)
-    on true s ih g = (e, eqb-true (number_of e) k s)
+    on : (t : Bool) → (number_of x == k) ≡ t → (errno_with k es ≡ Some e → number_of e ≡ k) → (if t then Some x else errno_with k es) ≡ Some e → number_of e ≡ k
+    on true s ih g = ap (λ o. number_of (unwrap_or o e)) (sym g) ∙ eqb-true (number_of x) k s
     on false s ih g = ih g
 
-named_back : (e : Errno) (n : ℕ) → number_of e ≡ suc n → prepare_in (error_text (suc n)) ≡ negsuc n
-named_back EINTR n h = let same : n ≡ 3 = omega (arith, h) in rw same refl
-named_back EIO n h = let same : n ≡ 4 = omega (arith, h) in rw same refl
-named_back EAGAIN n h = let same : n ≡ 10 = omega (arith, h) in rw same refl
-named_back EACCES n h = let same : n ≡ 12 = omega (arith, h) in rw same refl
-named_back EBUSY n h = let same : n ≡ 15 = omega (arith, h) in rw same refl
-named_back ENODEV n h = let same : n ≡ 18 = omega (arith, h) in rw same refl
-named_back EINVAL n h = let same : n ≡ 21 = omega (arith, h) in rw same refl
+prepared : (e : Errno) → prepare_in (name_of e) ≡ error_number e
+prepared EINTR = refl
+prepared _ = refl
 
 pub prepare_back : (r : ℤ) → is_answer r ≡ true → prepare_in (prepare_text r) ≡ r
 prepare_back (pos zero) h = ap prepare_in (decimal_digit 0 (omega arith))
 prepare_back (pos (suc zero)) h = ap prepare_in (decimal_digit 1 (omega arith))
 prepare_back (pos (suc (suc n))) h = let l : suc (suc n) ≤ 1 = grind (arith, nat_tests) in absurd (omega arith)
-prepare_back (negsuc n) h = let e = known errors (suc n) h in named_back e.0 n e.1
+prepare_back (negsuc n) h = found (errno_with (suc n) errors) refl h
+  where
+    found : (o : Option Errno) → errno_with (suc n) errors ≡ o → is_some o ≡ true → prepare_in (name_of (unwrap_or o EINVAL)) ≡ negsuc n
+    found None e s = absurd (cc)
+    found (Some r) e s = prepared r ∙ ap (λ k. neg_ℤ (pos k)) (known errors (suc n) r e)

@@ -1,10 +1,8 @@
 -- What a word means, by what is found in the tables of names.
-use Rattle.std.proofs.Common.{◌≡◌, ◌≢◌, ◌∙◌, ℕ, suc, ◌==◌, Bool, true, false, cond, List, bytes_eq, codes, unwrap_or, IfSome, IfNone, Option, Some, None, ℤ, pos, negsuc, neg_ℤ, refl, sym, ap, arith}
+use Rattle.std.proofs.Common.{◌≡◌, ◌≢◌, ◌∙◌, ℕ, Bool, true, false, cond, List, bytes_eq, codes, unwrap_or, IfSome, IfNone, Option, Some, None, ℤ, pos, negsuc, refl, sym, ap}
 use Rattle.std.specs.Cmp.Lexicographic.{bytes_decides}
-use Rattle.std.proofs.lemmas.Bool.Decides.{nat_tests}
-use Rattle.sleep_base.specs.declared.errno.Errno.{Errno}
-use Rattle.sleep_base.specs.declared.errno.Errno.TheVariants.{EINTR, EIO, EAGAIN, EACCES, EBUSY, ENODEV, EINVAL}
-use Rattle.sleep_base.specs.Errno.{name_of, number_of, errno_with, errors, error_of_number}
+use Rattle.sleep_base.specs.declared.errno.Errno.TheVariants.{EINVAL}
+use Rattle.sleep_base.specs.Errno.{name_of, error_of_number}
 use Rattle.phase_table.specs.declared.phase.Phase.{Phase}
 use Rattle.phase_table.specs.declared.phase.Phase.TheVariants as phase
 use Rattle.phase_table.specs.Phases.{phase_name}
@@ -18,10 +16,10 @@ use Rattle.sleep_model.specs.declared.machine.PlatDo.{PlatDo}
 use Rattle.sleep_model.specs.declared.machine.PlatDo.TheVariants as down
 use Rattle.sleep_model.specs.declared.machine.PlatUndo.{PlatUndo}
 use Rattle.sleep_model.specs.declared.machine.PlatUndo.TheVariants as up
-use Rattle.sleep_model.specs.Text.{cause_text, group_word, down_word, up_word, error_text, prepare_text}
-use Rattle.log_text.specs.Words.{errno_in, error_number, phase_in, cause_in, group_in, down_in, is_negative}
+use Rattle.sleep_model.specs.Text.{cause_text, group_word, down_word, up_word, prepare_text}
+use Rattle.log_text.specs.Words.{phase_in, cause_in, group_in, down_in, is_negative}
 use Rattle.log_text.specs.Reading.{platform_kind}
-use Rattle.log_text.proofs.WordsBack.{errno_back, phase_back, cause_back, group_back, down_back}
+use Rattle.log_text.proofs.WordsBack.{phase_back, cause_back, group_back, down_back}
 
 differs : (w n : List ℕ) → w ≢ n → bytes_eq w n ≡ false
 differs w n h = by (bytes_eq w n) refl
@@ -37,13 +35,6 @@ module _ {A : Type 0} (z : A) where
 
   next : (a : Bool) (x : A) (rest : A) → a ≡ false → z ≡ rest → z ≡ cond a x rest
   next a x rest e h = rw e h
-
-pub errno_told : (w : List ℕ) (o : Option Errno) → IfSome o (λ e. w ≡ name_of e) → IfNone o ((e : Errno) → w ≢ name_of e) → unwrap_or o EINVAL ≡ errno_in w
-errno_told w (Some e) found none = sym (ap errno_in found ∙ errno_back e)
-errno_told w None found none =
-    next EINVAL _ EBUSY _ (differs w (name_of EBUSY) (none EBUSY)) (next EINVAL _ EINTR _ (differs w (name_of EINTR) (none EINTR))
-    (next EINVAL _ EIO _ (differs w (name_of EIO) (none EIO)) (next EINVAL _ EAGAIN _ (differs w (name_of EAGAIN) (none EAGAIN))
-    (next EINVAL _ EACCES _ (differs w (name_of EACCES) (none EACCES)) (one EINVAL _ ENODEV (differs w (name_of ENODEV) (none ENODEV)))))))
 
 pub phase_told : (w : List ℕ) (o : Option Phase) → IfSome o (λ p. w ≡ phase_name p) → IfNone o ((p : Phase) → w ≢ phase_name p) → unwrap_or o phase.Complete ≡ phase_in w
 phase_told w (Some p) found none = sym (ap phase_in found ∙ phase_back p)
@@ -86,51 +77,7 @@ up_untold w k none =
     sym (next k _ (kind.PlatformUndo up.Recover) _ (differs w (up_word up.Recover) (none up.Recover)) (next k _ (kind.PlatformUndo up.Wake) _ (differs w (up_word up.Wake) (none up.Wake))
     (next k _ (kind.PlatformUndo up.Finish) _ (differs w (up_word up.Finish) (none up.Finish)) (one k _ (kind.PlatformUndo up.End) (differs w (up_word up.End) (none up.End))))))
 
-pub number_below : (e : Errno) → neg_ℤ (pos (number_of e)) ≡ error_number e
-number_below EINTR = refl
-number_below EIO = refl
-number_below EAGAIN = refl
-number_below EACCES = refl
-number_below EBUSY = refl
-number_below ENODEV = refl
-number_below EINVAL = refl
-
--- ---- what prepare answered
-
-abbrev name_or : Option Errno → List ℕ
-name_or None = codes "EINVAL"
-name_or (Some e) = name_of e
-
-flip : (a b : ℕ) → (a == b) ≡ (b == a)
-flip a b = grind (arith, nat_tests)
-
-pushed : (a b c d e f g : Bool) → name_or (cond a (Some EINTR) (cond b (Some EIO) (cond c (Some EAGAIN) (cond d (Some EACCES) (cond e (Some EBUSY) (cond f (Some ENODEV) (cond g (Some EINVAL) None)))))))
-    ≡ cond a (codes "EINTR") (cond b (codes "EIO") (cond c (codes "EAGAIN") (cond d (codes "EACCES") (cond e (codes "EBUSY") (cond f (codes "ENODEV") (codes "EINVAL"))))))
-pushed true b c d e f g = refl
-pushed false true c d e f g = refl
-pushed false false true d e f g = refl
-pushed false false false true e f g = refl
-pushed false false false false true f g = refl
-pushed false false false false false true g = refl
-pushed false false false false false false true = refl
-pushed false false false false false false false = refl
-
-turned : (a b c d e f a' b' c' d' e' f' : Bool) → a ≡ a' → b ≡ b' → c ≡ c' → d ≡ d' → e ≡ e' → f ≡ f'
-    → cond a (codes "EINTR") (cond b (codes "EIO") (cond c (codes "EAGAIN") (cond d (codes "EACCES") (cond e (codes "EBUSY") (cond f (codes "ENODEV") (codes "EINVAL"))))))
-    ≡ cond a' (codes "EINTR") (cond b' (codes "EIO") (cond c' (codes "EAGAIN") (cond d' (codes "EACCES") (cond e' (codes "EBUSY") (cond f' (codes "ENODEV") (codes "EINVAL"))))))
-turned a b c d e f a' b' c' d' e' f' p q r s t u = rw (p, q, r, s, t, u) refl
-
-said : (n : ℕ) → name_or (errno_with n errors) ≡ error_text n
-said n =
-    pushed (4 == n) (5 == n) (11 == n) (13 == n) (16 == n) (19 == n) (22 == n)
-    ∙ turned (4 == n) (5 == n) (11 == n) (13 == n) (16 == n) (19 == n) (n == 4) (n == 5) (n == 11) (n == 13) (n == 16) (n == 19) (flip 4 n) (flip 5 n) (flip 11 n) (flip 13 n) (flip 16 n) (flip 19 n)
-
--- the name of the error that a number is
-pub prepare_told : (r : ℤ) (e : Errno) → Some e ≡ error_of_number r → name_of e ≡ prepare_text r
-prepare_told (pos n) e h = cc
-prepare_told (negsuc n) e h = ap name_or h ∙ said (suc n)
-
--- of a number that no error has
-pub prepare_untold : (r : ℤ) → is_negative r ≡ true → None ≡ error_of_number r → codes "EINVAL" ≡ prepare_text r
-prepare_untold (pos n) below h = cc
-prepare_untold (negsuc n) below h = ap name_or h ∙ said (suc n)
+-- the name of the error that a number below 0 means
+pub failed_told : (r : ℤ) → is_negative r ≡ true → name_of (unwrap_or (error_of_number r) EINVAL) ≡ prepare_text r
+failed_told (pos n) below = cc
+failed_told (negsuc n) below = refl

@@ -1,8 +1,9 @@
 -- What the closed words of a log mean: of two words told apart, the last one stands for any other.
-use Rattle.std.specs.Prelude.{ℕ, Bool, true, false, ℤ, pos, negsuc, List, codes, Option, Some, None, if◌then◌else◌}
+use Rattle.std.specs.Prelude.{ℕ, Bool, true, false, ℤ, pos, negsuc, neg_ℤ, List, codes, Option, Some, None, unwrap_or, if◌then◌else◌}
 use Rattle.std.specs.Str.{bytes_eq}
 use Rattle.sleep_base.specs.declared.errno.Errno.{Errno}
-use Rattle.sleep_base.specs.declared.errno.Errno.TheVariants.{EINTR, EIO, EAGAIN, EACCES, EBUSY, ENODEV, EINVAL}
+use Rattle.sleep_base.specs.declared.errno.Errno.TheVariants.{EINVAL}
+use Rattle.sleep_base.specs.Errno.{error_named, number_of}
 use Rattle.phase_table.specs.declared.phase.Phase.{Phase}
 use Rattle.phase_table.specs.declared.phase.Phase.TheVariants as phase
 use Rattle.sleep_model.specs.declared.entry.SkipCause.{SkipCause}
@@ -16,27 +17,15 @@ use Rattle.sleep_model.specs.declared.machine.PlatDo.TheVariants as down
 
 -- the error of that name
 abbrev pub errno_in : List ℕ → Errno
-errno_in w =
-    if bytes_eq w (codes "EBUSY") then EBUSY
-    else (if bytes_eq w (codes "EINTR") then EINTR
-    else (if bytes_eq w (codes "EIO") then EIO
-    else (if bytes_eq w (codes "EAGAIN") then EAGAIN
-    else (if bytes_eq w (codes "EACCES") then EACCES
-    else (if bytes_eq w (codes "ENODEV") then ENODEV else EINVAL)))))
+errno_in w = unwrap_or (error_named w) EINVAL
 
 -- none for 0, else the error of that name
 abbrev pub answer_in : List ℕ → Option Errno
 answer_in w = if bytes_eq w (codes "0") then None else Some (errno_in w)
 
--- the number of the error with that name, below 0
+-- an error's number, below 0
 abbrev pub error_number : Errno → ℤ
-error_number EINTR = negsuc 3
-error_number EIO = negsuc 4
-error_number EAGAIN = negsuc 10
-error_number EACCES = negsuc 12
-error_number EBUSY = negsuc 15
-error_number ENODEV = negsuc 18
-error_number EINVAL = negsuc 21
+error_number e = neg_ℤ (pos (number_of e))
 
 -- it is below 0
 abbrev pub is_negative : ℤ → Bool

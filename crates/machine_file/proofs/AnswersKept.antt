@@ -9,7 +9,7 @@ use Rattle.serde_json.specs.Data.{Data, null, boolean, number, string, array, ob
 use Rattle.serde_json.specs.Find.{get, as_number, as_u64, as_str, as_array}
 use Rattle.sleep_base.specs.Errno.{name_of as error_name, number_of}
 use Rattle.sleep_base.specs.declared.errno.Errno.{Errno}
-use Rattle.sleep_base.specs.declared.errno.Errno.TheVariants.{EINTR, EIO, EAGAIN, EACCES, EBUSY, ENODEV, EINVAL}
+use Rattle.sleep_base.specs.declared.errno.Errno.TheVariants.{EINTR}
 use Rattle.phase_table.specs.declared.phase.Phase.{Phase}
 use Rattle.phase_table.specs.declared.phase.Phase.TheVariants as phase
 use Rattle.phase_table.specs.Phases.{phase_name}
@@ -122,12 +122,7 @@ ret_plain prepare allowed r f e = first (or_cases (is_number 0 r || is_one_of co
 -- each error may be answered
 error_allowed : (thing : What) (e : Errno) → is_ret_of thing (neg_ℤ (pos (number_of e))) ≡ true
 error_allowed thing EINTR = refl
-error_allowed thing EIO = refl
-error_allowed thing EAGAIN = refl
-error_allowed thing EACCES = refl
-error_allowed thing EBUSY = refl
-error_allowed thing ENODEV = refl
-error_allowed thing EINVAL = refl
+error_allowed thing _ = refl
 
 ret_case : (thing : What) (prepare : Bool) (found : Option Errno) (o : Option Data) → (prepare ≡ true → is_one_allowed thing ≡ true) →
     is_none_or (λ r. is_number 0 r || is_one_of common_errors r || (if prepare then is_number 1 r else is_text (codes "EAGAIN") r)) o ≡ true →

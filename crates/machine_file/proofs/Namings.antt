@@ -4,7 +4,6 @@ use Rattle.std.specs.List.{list_any}
 use Rattle.std.specs.Cmp.Lexicographic.{bytes_decides}
 use Rattle.serde_json.specs.Data.{Data}
 use Rattle.serde_json.specs.Find.{get, as_str}
-use Rattle.sleep_base.specs.declared.errno.Errno.{Errno}
 use Rattle.sleep_base.specs.declared.errno.Errno.TheVariants as error
 use Rattle.sleep_base.specs.Errno.{name_of, errors}
 use Rattle.phase_table.specs.Phases.{phase_name}
@@ -73,16 +72,7 @@ module _ {X : Type 0} (word : X → List ℕ) where
       by None = none_some xs
       by (Some t) = some_text xs t
 
--- ---- errors, steps, kinds and phases
-
-pub each_error : (e : Errno) → find (λ x. bytes_eq (name_of e) (name_of x)) errors ≡ Some e
-each_error error.EINTR = refl
-each_error error.EIO = refl
-each_error error.EAGAIN = refl
-each_error error.EACCES = refl
-each_error error.EBUSY = refl
-each_error error.ENODEV = refl
-each_error error.EINVAL = refl
+-- ---- steps, kinds and phases
 
 pub each_step : (s : PlatDo) → find (λ x. bytes_eq (down_word s) (down_word x)) platform_steps ≡ Some s
 each_step step.Begin = refl

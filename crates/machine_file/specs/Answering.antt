@@ -3,6 +3,7 @@ use Rattle.std.specs.Prelude.{ℕ, List, [], ◌∷◌, length, codes, Bool, not
 use Rattle.std.specs.List.{list_any, list_all, find}
 use Rattle.serde_json.specs.Data.{Data}
 use Rattle.serde_json.specs.Find.{get}
+use Rattle.sleep_base.specs.declared.errno.Errno.TheVariants.{EIO, EAGAIN, EBUSY, ENODEV, EINVAL}
 use Rattle.sleep_base.specs.Errno.{name_of as error_name, number_of}
 use Rattle.sleep_model.specs.declared.machine.Answer.{Answer}
 use Rattle.sleep_model.specs.declared.machine.PlatDo.{PlatDo}
@@ -67,11 +68,11 @@ is_of_prepare a = is_of_device a && has_text (codes "phase") (codes "prepare") a
 
 -- the errors that everything may answer
 abbrev pub common_errors : List (List ℕ)
-common_errors = codes "EIO" ∷ codes "EBUSY" ∷ codes "ENODEV" ∷ codes "EINVAL" ∷ []
+common_errors = map error_name (EIO ∷ EBUSY ∷ ENODEV ∷ EINVAL ∷ [])
 
 -- 0 and the common errors; beside them prepare may answer 1, and the others EAGAIN
 abbrev pub is_ret_allowed : Data → Data → Bool
-is_ret_allowed a ret = is_number 0 ret || is_one_of common_errors ret || (if is_of_prepare a then is_number 1 ret else is_text (codes "EAGAIN") ret)
+is_ret_allowed a ret = is_number 0 ret || is_one_of common_errors ret || (if is_of_prepare a then is_number 1 ret else is_text (error_name EAGAIN) ret)
 
 -- where an answer's number or error is not allowed
 abbrev pub forbidden_ret : Data → Option (List ℕ)

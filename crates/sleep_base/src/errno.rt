@@ -1,6 +1,6 @@
 ghost use Rattle.std.specs.Prelude.{◌≡◌, ◌≢◌, IfSome, IfNone};
 ghost use Rattle.sleep_base.specs.declared.errno.Errno.{Errno};
-ghost use Rattle.sleep_base.specs.Errno.{number_of, name_of, error_of_number};
+ghost use Rattle.sleep_base.specs.Errno.{number_of, name_of, error_named, error_of_number};
 
 /// An error of the kernel that a callback, a test or a write can answer
 /// (`include/uapi/asm-generic/errno-base.h`).
@@ -62,6 +62,7 @@ impl Errno {
 
     /// The error of that name. None exactly where the text is no error's name.
     pub fn of_name(text: &str) -> Option<Errno>
+        ensures error { result ≡ error_named text.now }
         ensures found { IfSome result (λ e. text.now ≡ name_of e) }
         ensures none { IfNone result ((e : Errno) → text.now ≢ name_of e) }
     {
@@ -70,6 +71,7 @@ impl Errno {
 
     /// The error whose name these bytes are. None exactly where they are no error's name.
     pub fn of_bytes(bytes: &[u8]) -> Option<Errno>
+        ensures error { result ≡ error_named bytes.now }
         ensures found { IfSome result (λ e. bytes.now ≡ name_of e) }
         ensures none { IfNone result ((e : Errno) → bytes.now ≢ name_of e) }
     {

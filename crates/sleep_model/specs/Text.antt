@@ -1,7 +1,8 @@
 -- The text of a log: a line an entry, a line a source, and how the run ended.
-use Rattle.std.specs.Prelude.{ℕ, suc, ◌==◌, if◌then◌else◌, Bool, true, false, List, [], ◌∷◌, ◌++◌, codes, decimal, flat_map, ℤ, Option, Some, None, slice_get, pos, negsuc}
+use Rattle.std.specs.Prelude.{ℕ, suc, Bool, true, false, List, [], ◌∷◌, ◌++◌, codes, decimal, flat_map, ℤ, Option, Some, None, slice_get, unwrap_or, pos, negsuc}
 use Rattle.sleep_base.specs.declared.errno.Errno.{Errno}
-use Rattle.sleep_base.specs.Errno.{name_of}
+use Rattle.sleep_base.specs.declared.errno.Errno.TheVariants.{EINVAL}
+use Rattle.sleep_base.specs.Errno.{errno_with, errors, name_of}
 use Rattle.sleep_model.specs.declared.word.EventNow.{EventNow}
 use Rattle.sleep_model.specs.declared.entry.Actor.{Actor}
 use Rattle.sleep_model.specs.declared.entry.Actor.TheVariants as actor
@@ -178,15 +179,9 @@ up_word up.Wake = codes "wake"
 up_word up.Finish = codes "finish"
 up_word up.End = codes "end"
 
--- the name of the error with that number
+-- the name of the error with that number, and EINVAL's where no error has it
 abbrev pub error_text : ℕ → List ℕ
-error_text n =
-    if n == 4 then codes "EINTR"
-    else (if n == 5 then codes "EIO"
-    else (if n == 11 then codes "EAGAIN"
-    else (if n == 13 then codes "EACCES"
-    else (if n == 16 then codes "EBUSY"
-    else (if n == 19 then codes "ENODEV" else codes "EINVAL")))))
+error_text n = name_of (unwrap_or (errno_with n errors) EINVAL)
 
 -- what prepare answered: 0, 1, or an error's name
 abbrev pub prepare_text : ℤ → List ℕ

@@ -7,7 +7,6 @@ use sleep_base::Errno;
 use sleep_model::{Group, Phase, PlatDo, SkipCause, Thaw};
 
 /// The error of that name, and EINVAL for any other word.
-#[tactic(auto, using(crate::proofs::WordsTold::errno_told))]
 pub fn errno_in(word: &[u8]) -> Errno
     ensures { result ≡ errno_in word.now }
 {
@@ -25,7 +24,6 @@ pub fn answer_in(word: &[u8]) -> Option<Errno>
 }
 
 /// The error's number, below 0.
-#[tactic(auto, using(crate::proofs::WordsTold::number_below))]
 fn error_number(error: Errno) -> i32
     ensures { result ≡ error_number error }
 {

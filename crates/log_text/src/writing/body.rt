@@ -176,16 +176,13 @@ fn put_phase(out: &mut HeldBytes, names: &ReadyNames, kind: Kind)
 }
 
 /// The name of the error that a number below 0 means; of one that callbacks do not know, EINVAL.
-#[tactic(auto, using(crate::proofs::WordsTold::prepare_told, crate::proofs::WordsTold::prepare_untold, crate::proofs::Lengths::error_short))]
+#[tactic(auto, using(crate::proofs::WordsTold::failed_told, crate::proofs::Lengths::error_short))]
 fn failed_prepare(r: i32) -> &'static str
     requires { is_negative r ≡ true }
     ensures text { result.now ≡ prepare_text r }
     ensures short { length result.now ≤ 64 }
 {
-    match Errno::of_answer(r) {
-        Some(error) => error.name(),
-        None => Errno::EINVAL.name(),
-    }
+    Errno::of_answer(r).unwrap_or(Errno::EINVAL).name()
 }
 
 /// Writes what a device's prepare answered: 0, 1, or an error's name.

@@ -2,12 +2,12 @@ use Rattle.std.proofs.Common.{◌∙◌, List, ℕ, Bor, sym, ap}
 use Rattle.std.specs.Option.{option_map}
 use Rattle.sleep_base.specs.Errno.{name_of, errors}
 use Rattle.borrowed_json.specs.View.{view}
-use Rattle.machine_file.proofs.Namings.{named, named_in, textless, each_error}
+use Rattle.machine_file.proofs.Namings.{named_in, textless}
 use Rattle.machine_file.proofs.value.words.error_in.Goals as goal
 
 pub returns-in-Some : goal.returns-in-Some
 returns-in-Some c =
-    named_in name_of errors (view c.args.value.now) c.in-Some.text.now c.of_name.result (named name_of errors each_error c.in-Some.text.now c.of_name.result c.of_name.ensures.found c.of_name.ensures.none)
+    named_in name_of errors (view c.args.value.now) c.in-Some.text.now c.of_name.result c.of_name.ensures.error
     (sym (ap (option_map (λ (s : Bor (List ℕ)). s.now)) c.in-Some.is) ∙ c.as_str.ensures)
 
 pub returns-in-None : goal.returns-in-None
