@@ -2,7 +2,7 @@
 //! and devices.
 
 ghost use Rattle.std.specs.Prelude.{◌≡◌};
-ghost use Rattle.sleep_model.specs.Answers.{is_platform_step, error_of_number};
+ghost use Rattle.sleep_model.specs.Answers.{error_of_number};
 ghost use Rattle.sleep_model.specs.Devices.{is_device, callback_after, error_in, error_by, phase_failed_after, own_error_after};
 ghost use Rattle.sleep_model.specs.Notifiers.{irqs_off_after, undoes, owes_platform_after};
 ghost use Rattle.sleep_model.specs.Runtime.{disabled_by_direct_after, disabled_by_late_after};
@@ -119,18 +119,6 @@ pub(crate) fn irqs_off_after(kind: Kind, before: bool) -> bool
     }
 }
 
-// The same step of the platform.
-fn is_platform_step(step: PlatDo, other: PlatDo) -> bool
-    ensures { result ≡ is_platform_step step other }
-{
-    matches!(
-        (step, other),
-        (PlatDo::Begin, PlatDo::Begin)
-            | (PlatDo::Prepare, PlatDo::Prepare)
-            | (PlatDo::PrepareLate, PlatDo::PrepareLate)
-    )
-}
-
 // Whether that step on the way up undoes this one on the way down.
 fn undoes(told: PlatUndo, step: PlatDo) -> bool
     ensures { result ≡ undoes told step }
@@ -149,7 +137,7 @@ pub(crate) fn owes_platform_after(kind: Kind, step: PlatDo, before: bool) -> boo
     ensures { result ≡ owes_platform_after kind step before }
 {
     match kind {
-        Kind::PlatformDo(asked, _) => is_platform_step(asked, step) || before,
+        Kind::PlatformDo(asked, _) => asked == step || before,
         Kind::PlatformUndo(told) => !undoes(told, step) && before,
         _ => before,
     }

@@ -1,7 +1,6 @@
 //! Where devices stand in each phase and its mirror (`drivers/base/power/main.c`, `struct dev_pm_info`).
 
 ghost use Rattle.std.specs.Prelude.{◌≡◌, IfOk, replicate};
-ghost use Rattle.phase_table.specs.Phases.{is_phase};
 ghost use Rattle.sleep_model.specs.Stands.{prepared_by, ended_by, skipped_for, by_phase, stand_after, device_of, stands_after};
 ghost use Rattle.sleep_model.specs.declared.place.Stand.TheVariants as stand;
 
@@ -9,25 +8,6 @@ use phase_table::Phase;
 use sleep_base::{Errno, Mem};
 use sleep_model::{Kind, SkipCause, Stand};
 use std::alloc::Global;
-
-// The same phase.
-fn is_phase(p: Phase, q: Phase) -> bool
-    ensures { result ≡ is_phase p q }
-{
-    matches!(
-        (p, q),
-        (Phase::Prepare, Phase::Prepare)
-            | (Phase::Suspend, Phase::Suspend)
-            | (Phase::Late, Phase::Late)
-            | (Phase::Noirq, Phase::Noirq)
-            | (Phase::Syscore, Phase::Syscore)
-            | (Phase::SyscoreResume, Phase::SyscoreResume)
-            | (Phase::ResumeNoirq, Phase::ResumeNoirq)
-            | (Phase::Early, Phase::Early)
-            | (Phase::Resume, Phase::Resume)
-            | (Phase::Complete, Phase::Complete)
-    )
-}
 
 // A prepare that answers an error leaves the device as it was.
 fn prepared_by(r: i32, before: Stand) -> Stand
@@ -60,9 +40,9 @@ fn skipped_for(cause: SkipCause) -> Stand
 fn by_phase(pair: Phase, phase: Phase, down: Stand, up: Stand, other: Stand) -> Stand
     ensures { result ≡ by_phase pair phase down up other }
 {
-    if is_phase(phase, pair) {
+    if phase == pair {
         down
-    } else if is_phase(phase, pair.mirror()) {
+    } else if phase == pair.mirror() {
         up
     } else {
         other

@@ -1,73 +1,16 @@
 //! What a machine's callbacks answer.
 
 ghost use Rattle.std.specs.Prelude.{◌≡◌, ◌&&◌, option_copied};
-ghost use Rattle.sleep_model.specs.Answers.{answer, answer_error, answer_for, answer_number, answer_reports, is_for, is_platform_step, is_thing};
-ghost use Rattle.phase_table.specs.Phases.{is_phase};
+ghost use Rattle.sleep_model.specs.Answers.{answer, answer_error, answer_for, answer_number, answer_reports, is_for, is_thing};
 
-use phase_table::Phase;
 use sleep_base::Errno;
-use sleep_model::{Answer, Machine, PlatDo, Report, What};
-
-// The same phase.
-fn is_phase(p: Phase, q: Phase) -> bool
-    ensures { result ≡ is_phase p q }
-{
-    matches!(
-        (p, q),
-        (Phase::Prepare, Phase::Prepare)
-            | (Phase::Suspend, Phase::Suspend)
-            | (Phase::Late, Phase::Late)
-            | (Phase::Noirq, Phase::Noirq)
-            | (Phase::Syscore, Phase::Syscore)
-            | (Phase::SyscoreResume, Phase::SyscoreResume)
-            | (Phase::ResumeNoirq, Phase::ResumeNoirq)
-            | (Phase::Early, Phase::Early)
-            | (Phase::Resume, Phase::Resume)
-            | (Phase::Complete, Phase::Complete)
-    )
-}
-
-// The same thing.
-fn is_thing(one: What, other: What) -> bool
-    ensures { result ≡ is_thing one other }
-{
-    match (one, other) {
-        (What::Device(d, p), What::Device(e, q)) => d == e && is_phase(p, q),
-        (What::Syscore(x), What::Syscore(y)) => x == y,
-        (What::Notifier(x), What::Notifier(y)) => x == y,
-        (What::Platform(x), What::Platform(y)) => is_step(x, y),
-        _ => false,
-    }
-}
-
-// The same step of the platform.
-fn is_step(one: PlatDo, other: PlatDo) -> bool
-    ensures { result ≡ is_platform_step one other }
-{
-    matches!(
-        (one, other),
-        (PlatDo::Begin, PlatDo::Begin)
-            | (PlatDo::Prepare, PlatDo::Prepare)
-            | (PlatDo::PrepareLate, PlatDo::PrepareLate)
-    )
-}
-
-// The same attempt, or both for any.
-fn is_for(one: Option<u32>, other: Option<u32>) -> bool
-    ensures { result ≡ is_for one other }
-{
-    match (one, other) {
-        (None, None) => true,
-        (Some(n), Some(k)) => n == k,
-        _ => false,
-    }
-}
+use sleep_model::{Answer, Machine, Report, What};
 
 // Whether an answer is of that thing, for that attempt or for any.
 fn fits(a: &Answer, what: What, attempt: Option<u32>) -> bool
     ensures { result ≡ (is_thing a.now.what what && is_for a.now.attempt attempt) }
 {
-    is_thing(a.what, what) && is_for(a.attempt, attempt)
+    a.what == what && a.attempt == attempt
 }
 
 // The answer of a thing for that attempt, or for any.
