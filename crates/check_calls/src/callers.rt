@@ -6,6 +6,7 @@ use crate::answers::answered_reports;
 use crate::calls::{Calls, noted};
 use crate::places::{place_of, places_of};
 use crate::plans::Plans;
+use script_plan::ends_turn;
 use sleep_base::Mem;
 use sleep_model::{Actor, Entry, Kind, Machine, Op, Report, What};
 use std::alloc::Global;
@@ -72,32 +73,6 @@ fn extend_at(
         calls.extend(behind)?;
     }
     Ok(())
-}
-
-/// Whether an entry ends a turn of a script's own steps: a step, or the setting of autosleep.
-pub(crate) fn ends_turn(kind: Kind) -> bool
-    ensures { result ≡ ends_turn kind }
-{
-    matches!(
-        kind,
-        Kind::AutoSet(_)
-            | Kind::Read(_)
-            | Kind::ReadIntr
-            | Kind::Saved(_)
-            | Kind::SaveErr(..)
-            | Kind::StateErr(_)
-            | Kind::StateUnsaved
-            | Kind::Over { .. }
-            | Kind::AutoBad
-            | Kind::AutoDone
-            | Kind::Slept
-            | Kind::Pass
-            | Kind::Post(_)
-            | Kind::Got(_)
-            | Kind::RuntimeAsk { .. }
-            | Kind::LinkAdd { .. }
-            | Kind::LinkState { .. }
-    )
 }
 
 // What the callback that an entry begins reports, where `attempts` attempts were begun.

@@ -5,5 +5,7 @@
 mod calls;
 mod expand;
 mod plan;
+mod turns;
 
 pub use plan::Plan;
+pub use turns::ends_turn;

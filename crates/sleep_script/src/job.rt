@@ -8,10 +8,10 @@ ghost use Rattle.script_plan.specs.CallPlans.{noted};
 ghost use Rattle.sleep_script.specs.JobFields.{own_due, planned_at};
 ghost use Rattle.sleep_script.specs.Jobs.{later, made_after, reports_among};
 
-use crate::kinds::{ends_turn, is_exit, is_in_walk};
+use crate::kinds::{is_exit, is_in_walk};
 use answer_book::AnswerBook;
 use machine_plans::MachinePlans;
-use script_plan::Plan;
+use script_plan::{Plan, ends_turn};
 use sleep_model::{Actor, Kind, Report, Stamp, Want, What};
 use std::marker::Model;
 
