@@ -6,12 +6,7 @@ ghost use Rattle.sleep_model.specs.Autosleep.{auto_save, seen_count, naps_until}
 ghost use Rattle.autosleep_loop.specs.Autosleeps.{saving_due, nap_due, turn_due};
 
 use crate::autosleep::Autosleep;
-use sleep_model::{Due, EventNow, Kind, Why, Work};
-use sleep_sysfs::visible;
-
-/// How long the work naps, in ms, where nothing was registered during its attempt
-/// (`schedule_timeout_uninterruptible`, `HZ / 2`).
-const NAP: u64 = 500;
+use sleep_model::{Due, EventNow, Kind, NAP_MSECS, Why, Work, visible};
 
 /// A save of the work's count (`pm_save_wakeup_count`).
 fn save(now: EventNow, count: u32) -> Kind
@@ -41,7 +36,7 @@ fn nap_due(until: Option<u64>, time: u64) -> Due
     ensures { result ≡ nap_due until time }
 {
     match until {
-        None => Due::Makes(Kind::SleepD(time + NAP)),
+        None => Due::Makes(Kind::SleepD(time + u64::from(NAP_MSECS))),
         Some(until) if until <= time => Due::Makes(Kind::Slept),
         Some(until) => Due::Waits(Why::Until(until)),
     }

@@ -5,7 +5,7 @@ ghost use Rattle.sleep_model.specs.Numbers.{after_step, time_after, word_step};
 ghost use Rattle.sleep_model.specs.Guard.{count_part, force_after, forgotten_after, has_changed, count_pending};
 
 use sleep_base::{Errno, Mem};
-use sleep_model::{EventNow, FrozeEnd, Group, Kind, SkipCause};
+use sleep_model::{EventNow, FrozeEnd, Group, Kind, SkipCause, visible};
 
 /// One more. `Mem` where a counter has no room for it, which no log that fits into memory comes to.
 pub(crate) fn one_more(count: u32) -> Result<u32, Mem>
@@ -51,14 +51,11 @@ pub fn time_after(kind: Kind, at: u64, before: u64) -> u64
     }
 }
 
-// One more than the greatest count that user space sees.
-const COUNTS: u32 = 16_777_216;
-
 // Whether the count of events differs from the one in force, or an event is in progress (`pm_wakeup_pending`).
 fn has_changed(now: EventNow, count: u32) -> bool
     ensures { result ≡ has_changed now count }
 {
-    now.count % COUNTS != count || now.inpr > 0
+    visible(now) != count || now.inpr > 0
 }
 
 /// Whether a count that is in force has changed.

@@ -16,7 +16,7 @@ pub use next::due;
 pub use row::{answered, busy_error, row_now};
 pub use steps::{
     autosleep_due, count_due, deep_sleep_due, later_by, mark_due, read_due, saved_number,
-    sleep_due, state_due, unless_unsaved, visible,
+    sleep_due, state_due, unless_unsaved,
 };
 pub use tasks::{
     freezes_at, is_line, is_user, link_add_due, link_state_due, next_attempt, runtime_due,

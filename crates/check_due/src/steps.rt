@@ -3,10 +3,9 @@
 ghost use Rattle.std.specs.Prelude.{◌≡◌, ◌+◌, IfOk};
 ghost use Rattle.sleep_model.specs.declared.entry.Kind.TheVariants as kind;
 ghost use Rattle.sleep_model.specs.Steps.{autosleep_due, count_due, lock_due, mark_due, read_due, save_due, saved_number, sleep_due, slept_due, state_due, unless_unsaved};
-ghost use Rattle.sleep_model.specs.Word.{visible};
 
 use sleep_base::{Errno, Mem};
-use sleep_model::{Due, EventNow, Kind, Seat, State, Why};
+use sleep_model::{Due, EventNow, Kind, Seat, State, Why, visible};
 
 /// The sum of a moment and a length, in ms. `Mem` where that is beyond all time.
 pub fn later_by(time: u64, ms: u32) -> Result<u64, Mem>
@@ -16,13 +15,6 @@ pub fn later_by(time: u64, ms: u32) -> Result<u64, Mem>
         Some(t) => Ok(t),
         None => Err(Mem),
     }
-}
-
-/// The count that user space sees (`pm_get_wakeup_count`).
-pub fn visible(now: EventNow) -> u32
-    ensures { result ≡ visible now }
-{
-    now.count % 16_777_216
 }
 
 /// A read of the count by a task that waits for it or not, and is asked to freeze or not (`pm_get_wakeup_count`).

@@ -7,13 +7,12 @@ ghost use Rattle.sleep_model.specs.Freezer.{left};
 ghost use Rattle.check_past.specs.Passing.{journal_of};
 ghost use Rattle.check_due.specs.Frozen.{froze_by};
 
-use crate::steps::{later_by, visible};
+use crate::steps::later_by;
 use check_past::{Left, Passed};
 use sleep_base::Mem;
-use sleep_model::{Due, EventNow, FrozeEnd, Group, Kind, Sleep, Why, pos};
-
-/// How long a freeze waits for its tasks, in ms (`freeze_timeout_msecs`).
-const FREEZE_TIMEOUT_MSECS: u32 = 20_000;
+use sleep_model::{
+    Due, EventNow, FREEZE_TIMEOUT_MSECS, FrozeEnd, Group, Kind, Sleep, Why, pos, visible,
+};
 
 /// When a freeze gives up that goes on since that moment, in ms. `Mem` where that is beyond all time.
 pub fn gives_up_at(since: u64) -> Result<u64, Mem>

@@ -11,15 +11,12 @@ ghost use Rattle.sleep_model.specs.Attempt.{sleeps_now};
 ghost use Rattle.sleep_model.specs.Due.{is_over};
 ghost use Rattle.check_past.specs.Passing.{journal_of};
 
-use crate::steps::{later_by, visible};
+use crate::steps::later_by;
 use crate::tasks::next_attempt;
 use crate::waits::{auto_save, seen_count};
 use check_past::Passed;
 use sleep_base::Mem;
-use sleep_model::{Due, EventNow, Kind, Why, Work};
-
-/// How long the work naps, in ms (`schedule_timeout_uninterruptible`).
-const NAP_MSECS: u32 = 500;
+use sleep_model::{Due, EventNow, Kind, NAP_MSECS, Why, Work, visible};
 
 // A nap up to that moment, once it has begun.
 fn nap_due(past: &Passed<'_>, until: Option<u64>) -> Result<Due, Mem>

@@ -7,11 +7,11 @@ ghost use Rattle.check_past.specs.Passing.{journal_of};
 use crate::same::{is_kind, makes};
 use check_due::{
     auto_save, count_due, is_mem, is_off, next_attempt, read_due, saved_number, state_due,
-    unless_unsaved, visible,
+    unless_unsaved,
 };
 use check_past::Passed;
 use sleep_base::Mem;
-use sleep_model::{Actor, EventNow, Kind, Op, Seat, Work};
+use sleep_model::{Actor, EventNow, Kind, Op, Seat, Work, visible};
 
 // Whether an entry is right at a read.
 fn is_read(now: EventNow, seat: Seat, asked: bool, op: Option<&Op>, kind: Kind) -> bool

@@ -12,10 +12,7 @@ ghost use Rattle.check_rules.specs.Places.{are_short, with_own};
 use crate::same::both;
 use check_past::Passed;
 use check_sources::source_in;
-use sleep_model::{Entry, Kind, WordKind};
-
-/// How many entries a source's history has at most.
-const MOST_ENTRIES: usize = 60_000;
+use sleep_model::{Entry, Kind, MOST_ENTRIES, WordKind};
 
 // Whether a source's last call owes nothing.
 fn is_free(past: &Passed<'_>, s: u32) -> bool

@@ -13,7 +13,7 @@ use check_due::{
 };
 use check_past::Passed;
 use sleep_base::Mem;
-use sleep_model::{Actor, AsyncWork, EventNow, Kind, Op, Seat, State, Work};
+use sleep_model::{Actor, AsyncWork, EventNow, Kind, NAP_MSECS, Op, Seat, State, Work};
 
 // An entry of a read.
 fn is_of_read(kind: Kind) -> bool
@@ -192,7 +192,7 @@ fn is_work_step(past: &Passed<'_>, now: EventNow, work: Work, kind: Kind) -> Res
         (Work::Attempting(_), Kind::AutoOff) => Ok(!past.is_on()),
         (Work::Looking(_), Kind::AutoAfter(seen)) => Ok(is_same_number(seen, seen_count(now))),
         (Work::Napping(None), Kind::SleepD(until)) => Ok(
-            until == later_by(past.journal_time(), 500)?,
+            until == later_by(past.journal_time(), NAP_MSECS)?,
         ),
         (Work::Napping(Some(until)), Kind::Slept) => Ok(until <= past.journal_time()),
         (Work::Closing, Kind::AutoAgain) => Ok(past.is_on()),

@@ -5,6 +5,7 @@ mod entry;
 mod entry_list;
 mod flags;
 mod journal;
+mod limits;
 mod list;
 mod log;
 mod machine;
@@ -21,6 +22,7 @@ pub use entry::{
 pub use entry_list::{EntryList, EntryReader, OtherEntry};
 pub use flags::DeviceFlags;
 pub use journal::{Journal, JournalReader};
+pub use limits::{FREEZE_TIMEOUT_MSECS, MOST_ENTRIES, NAP_MSECS};
 pub use list::ListOf;
 pub use log::{Log, LogEnd, Move, Runtime, Stats, Waiting, Want, Why};
 pub use machine::{
@@ -30,5 +32,5 @@ pub use machine::{
 pub use name::{NAME_BYTES, Name};
 pub use phase_table::Phase;
 pub use place::{AsyncWork, Callback, Due, Freezing, Seat, Sleep, Stage, Stand, Work};
-pub use word::{EventNow, Stamp, WordKind, WordStep, pos};
+pub use word::{EventNow, Stamp, WordKind, WordStep, pos, visible};
 pub use words::{link_word, runtime_word, state_word};

@@ -1,5 +1,5 @@
 ghost use Rattle.std.specs.Prelude.{◌≡◌};
-ghost use Rattle.sleep_model.specs.Word.{position};
+ghost use Rattle.sleep_model.specs.Word.{position, visible};
 
 /// The event word taken apart (`drivers/base/power/wakeup.c`, `combined_event_count`):
 /// events in progress, registered events, hard events.
@@ -8,6 +8,16 @@ pub struct EventNow {
     pub inpr: u32,
     pub count: u32,
     pub hard: u32,
+}
+
+/// One more than the greatest count of events that user space sees.
+const COUNTS: u32 = 16_777_216;
+
+/// The count of events that user space sees: those registered, modulo 16,777,216 (`pm_get_wakeup_count`).
+pub fn visible(now: EventNow) -> u32
+    ensures { result ≡ visible now }
+{
+    now.count % COUNTS
 }
 
 /// The word's position: how many steps were made on it so far. Each start, finish and hard

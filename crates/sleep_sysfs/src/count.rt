@@ -2,20 +2,9 @@
 
 ghost use Rattle.std.specs.Prelude.{◌≡◌};
 ghost use Rattle.sleep_model.specs.Steps.{read_due, save_due, lock_due, count_due, saved_number};
-ghost use Rattle.sleep_model.specs.Word.{visible};
 
 use sleep_base::Errno;
-use sleep_model::{Due, EventNow, Kind, Why};
-
-/// One more than the greatest count that user space sees.
-const COUNTS: u32 = 16_777_216;
-
-/// The count that user space sees: the registered events modulo 16,777,216 (`pm_get_wakeup_count`).
-pub fn visible(now: EventNow) -> u32
-    ensures { result ≡ visible now }
-{
-    now.count % COUNTS
-}
+use sleep_model::{Due, EventNow, Kind, Why, visible};
 
 /// A read of the count by a task that waits for it already or not, and is asked to freeze or not: it answers
 /// where no event is in progress (`pm_get_wakeup_count`).

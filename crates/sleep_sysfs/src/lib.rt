@@ -6,6 +6,7 @@ mod count;
 mod state;
 mod texts;
 
-pub use count::{read_count, saved_number, visible, write_count};
+pub use count::{read_count, saved_number, write_count};
+pub use sleep_model::visible;
 pub use state::{write_autosleep, write_state};
 pub use texts::{decode_state, is_autosleep_text, is_mem, is_off};

@@ -4,19 +4,16 @@ ghost use Rattle.sleep_model.specs.Attempt.{gives_up_at};
 use crate::asking::{move_freezings, move_gone, unasked};
 use crate::left::{Left, LeftCounts, counts_after, left_among, waits_among};
 use sleep_base::Mem;
-use sleep_model::{Actor, Freezing, Group, Kind, Script};
+use sleep_model::{Actor, FREEZE_TIMEOUT_MSECS, Freezing, Group, Kind, Script};
 use std::alloc::Global;
 use std::marker::Model;
-
-/// How long a freeze waits for its tasks, in ms (`freeze_timeout_msecs`).
-const FREEZE_TIMEOUT_MSECS: u64 = 20_000;
 
 /// When a freeze gives up that goes on since that moment, in ms (`try_to_freeze_tasks`).
 pub fn gives_up_at(since: u64) -> u64
     requires { since ≤ 2 ^ 63 }
     ensures { result ≡ gives_up_at since }
 {
-    since + FREEZE_TIMEOUT_MSECS
+    since + u64::from(FREEZE_TIMEOUT_MSECS)
 }
 
 /// How a freeze stands at a moment (`try_to_freeze_tasks`).

@@ -15,4 +15,5 @@ mod tally;
 pub use call_by::CallBy;
 pub use fault::SourceFault;
 pub use line::stats_line;
-pub use source::{MOST_ENTRIES, WakeSource};
+pub use sleep_model::MOST_ENTRIES;
+pub use source::WakeSource;

@@ -7,9 +7,6 @@ use std::alloc::Global;
 use std::marker::Model;
 use std::sync::Wait;
 
-/// How many entries the history of a machine's source has at most.
-pub const MOST_ENTRIES: usize = 60_000;
-
 /// A wakeup source with a history of at most `CAP` entries (`include/linux/pm_wakeup.h`,
 /// `struct wakeup_source`). Contracts see its number, its entries, the newest first, and what it last knew.
 #[derive(Drop)]
