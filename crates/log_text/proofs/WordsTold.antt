@@ -3,9 +3,6 @@ use Rattle.std.proofs.Common.{◌≡◌, ◌≢◌, ◌∙◌, ℕ, Bool, true, 
 use Rattle.std.specs.Cmp.Lexicographic.{bytes_decides}
 use Rattle.sleep_base.specs.declared.errno.Errno.TheVariants.{EINVAL}
 use Rattle.sleep_base.specs.Errno.{name_of, error_of_number}
-use Rattle.phase_table.specs.declared.phase.Phase.{Phase}
-use Rattle.phase_table.specs.declared.phase.Phase.TheVariants as phase
-use Rattle.phase_table.specs.Phases.{phase_name}
 use Rattle.sleep_model.specs.declared.entry.SkipCause.{SkipCause}
 use Rattle.sleep_model.specs.declared.entry.SkipCause.TheVariants as cause
 use Rattle.sleep_model.specs.declared.entry.Group.{Group}
@@ -17,9 +14,9 @@ use Rattle.sleep_model.specs.declared.machine.PlatDo.TheVariants as down
 use Rattle.sleep_model.specs.declared.machine.PlatUndo.{PlatUndo}
 use Rattle.sleep_model.specs.declared.machine.PlatUndo.TheVariants as up
 use Rattle.sleep_model.specs.Text.{cause_text, group_word, down_word, up_word, prepare_text}
-use Rattle.log_text.specs.Words.{phase_in, cause_in, group_in, down_in, is_negative}
+use Rattle.log_text.specs.Words.{cause_in, group_in, down_in, is_negative}
 use Rattle.log_text.specs.Reading.{platform_kind}
-use Rattle.log_text.proofs.WordsBack.{phase_back, cause_back, group_back, down_back}
+use Rattle.log_text.proofs.WordsBack.{cause_back, group_back, down_back}
 
 differs : (w n : List ℕ) → w ≢ n → bytes_eq w n ≡ false
 differs w n h = by (bytes_eq w n) refl
@@ -35,15 +32,6 @@ module _ {A : Type 0} (z : A) where
 
   next : (a : Bool) (x : A) (rest : A) → a ≡ false → z ≡ rest → z ≡ cond a x rest
   next a x rest e h = rw e h
-
-pub phase_told : (w : List ℕ) (o : Option Phase) → IfSome o (λ p. w ≡ phase_name p) → IfNone o ((p : Phase) → w ≢ phase_name p) → unwrap_or o phase.Complete ≡ phase_in w
-phase_told w (Some p) found none = sym (ap phase_in found ∙ phase_back p)
-phase_told w None found none =
-    next phase.Complete _ phase.Suspend _ (differs w (phase_name phase.Suspend) (none phase.Suspend)) (next phase.Complete _ phase.Late _ (differs w (phase_name phase.Late) (none phase.Late))
-    (next phase.Complete _ phase.Noirq _ (differs w (phase_name phase.Noirq) (none phase.Noirq)) (next phase.Complete _ phase.ResumeNoirq _ (differs w (phase_name phase.ResumeNoirq) (none phase.ResumeNoirq))
-    (next phase.Complete _ phase.Early _ (differs w (phase_name phase.Early) (none phase.Early)) (next phase.Complete _ phase.Resume _ (differs w (phase_name phase.Resume) (none phase.Resume))
-    (next phase.Complete _ phase.Prepare _ (differs w (phase_name phase.Prepare) (none phase.Prepare)) (next phase.Complete _ phase.Syscore _ (differs w (phase_name phase.Syscore) (none phase.Syscore))
-    (one phase.Complete _ phase.SyscoreResume (differs w (phase_name phase.SyscoreResume) (none phase.SyscoreResume))))))))))
 
 pub cause_told : (w : List ℕ) (o : Option SkipCause) → IfSome o (λ c. w ≡ cause_text c) → IfNone o ((c : SkipCause) → w ≢ cause_text c) → unwrap_or o cause.Direct ≡ cause_in w
 cause_told w (Some c) found none = sym (ap cause_in found ∙ cause_back c)

@@ -1,6 +1,8 @@
 -- What a line has to say, if it is an entry's line at all: read leniently, since a line counts only where the entry spells it.
-use Rattle.std.specs.Prelude.{ℕ, List, codes, Option, Some, None, option_map, option_and_then, if◌then◌else◌}
+use Rattle.std.specs.Prelude.{ℕ, true, List, ◌++◌, codes, Option, Some, None, option_map, option_and_then, if◌then◌else◌}
 use Rattle.std.specs.Str.{bytes_eq}
+use Rattle.sleep_base.specs.declared.errno.Errno.TheVariants.{EBUSY, EINVAL}
+use Rattle.sleep_base.specs.Errno.{name_of}
 use Rattle.sleep_model.specs.declared.word.EventNow.{EventNow}
 use Rattle.sleep_model.specs.declared.entry.Actor.{Actor}
 use Rattle.sleep_model.specs.declared.entry.Actor.TheVariants as actor
@@ -16,7 +18,7 @@ use Rattle.sleep_model.specs.declared.log.Why.{Why}
 use Rattle.sleep_model.specs.declared.log.Why.TheVariants as why
 use Rattle.sleep_model.specs.declared.machine.Machine.{Machine}
 use Rattle.sleep_model.specs.declared.machine.PlatUndo.TheVariants as up
-use Rattle.sleep_model.specs.Text.{source_names}
+use Rattle.sleep_model.specs.Text.{hard_word, link_word, runtime_word, source_names, state_word, up_word}
 use Rattle.log_text.specs.declared.reading.verb.Verb.{Verb}
 use Rattle.log_text.specs.declared.reading.verb.Verb.TheVariants as verb
 use Rattle.log_text.specs.Named.{device_names, notifier_names, script_names}
@@ -72,15 +74,15 @@ state_kind t =
 -- what stands behind `autosleep`
 abbrev pub autosleep_kind : List ℕ → Kind
 autosleep_kind t =
-    if bytes_eq t (codes "EINVAL") then kind.AutoBad
+    if bytes_eq t (name_of EINVAL) then kind.AutoBad
     else (if bytes_eq t (codes "done") then kind.AutoDone
-    else (if bytes_eq t (codes "set mem") then kind.AutoSet state.Mem else kind.AutoSet state.Off))
+    else (if bytes_eq t (codes "set " ++ state_word state.Mem) then kind.AutoSet state.Mem else kind.AutoSet state.Off))
 
 -- what stands behind `runtime`
 abbrev pub runtime_kind : Machine → List ℕ → Option Kind
 runtime_kind m t =
     option_map
-    (λ d. kind.RuntimeAsk d (bytes_eq (word (rest t)) (codes "suspended")) (answer_in (rest (rest t))))
+    (λ d. kind.RuntimeAsk d (bytes_eq (word (rest t)) (runtime_word true)) (answer_in (rest (rest t))))
     (device_in m (word t))
 
 -- what stands behind `link`
@@ -92,7 +94,7 @@ link_kind m t =
 
 -- what stands behind the ends of `link_state`
 abbrev pub link_state_to : List ℕ → ℕ → ℕ → Kind
-link_state_to t s c = kind.LinkState s c (bytes_eq (word t) (codes "active")) (answer_in (rest t))
+link_state_to t s c = kind.LinkState s c (bytes_eq (word t) (link_word true)) (answer_in (rest t))
 
 -- what stands behind `link_state`
 abbrev pub link_state_kind : Machine → List ℕ → Option Kind
@@ -105,7 +107,7 @@ link_state_kind m t =
 abbrev pub event_kind : Machine → List ℕ → Option Kind
 event_kind m t =
     option_and_then
-    (λ s. option_map (λ ms. kind.Event s ms (bytes_eq (rest (rest t)) (codes "hard"))) (word32 (word (rest t))))
+    (λ s. option_map (λ ms. kind.Event s ms (bytes_eq (rest (rest t)) (hard_word true))) (word32 (word (rest t))))
     (source_in m (word t))
 
 -- ---- entries of device phases
@@ -172,10 +174,10 @@ froze_kind m t = option_map (kind.Froze (group_in (word t))) (froze_in m (rest t
 -- what stands behind `platform`
 abbrev pub platform_kind : List ℕ → Kind
 platform_kind t =
-    if bytes_eq t (codes "recover") then kind.PlatformUndo up.Recover
-    else (if bytes_eq t (codes "wake") then kind.PlatformUndo up.Wake
-    else (if bytes_eq t (codes "finish") then kind.PlatformUndo up.Finish
-    else (if bytes_eq t (codes "end") then kind.PlatformUndo up.End
+    if bytes_eq t (up_word up.Recover) then kind.PlatformUndo up.Recover
+    else (if bytes_eq t (up_word up.Wake) then kind.PlatformUndo up.Wake
+    else (if bytes_eq t (up_word up.Finish) then kind.PlatformUndo up.Finish
+    else (if bytes_eq t (up_word up.End) then kind.PlatformUndo up.End
     else kind.PlatformDo (down_in (word t)) (answer_in (rest t)))))
 
 -- what is said of a processor
@@ -213,7 +215,7 @@ attempt_by m verb.Platform t = Some (platform_kind t)
 attempt_by m verb.Cpu t = cpu_kind t
 attempt_by m verb.Irqs t = Some (kind.Irqs (bytes_eq t (codes "on")))
 attempt_by m verb.Syscore t = syscore_kind m t
-attempt_by m verb.Enter t = Some (kind.Enter (bytes_eq t (codes "EBUSY")))
+attempt_by m verb.Enter t = Some (kind.Enter (bytes_eq t (name_of EBUSY)))
 attempt_by m verb.Wake t = Some (kind.Wake (bytes_eq t (codes "event")))
 attempt_by m verb.Clear t = Some kind.Clear
 attempt_by m _ t = None

@@ -6,6 +6,7 @@ use Rattle.sleep_base.specs.declared.errno.Errno.TheVariants.{EINVAL}
 use Rattle.sleep_base.specs.Errno.{error_named, number_of}
 use Rattle.phase_table.specs.declared.phase.Phase.{Phase}
 use Rattle.phase_table.specs.declared.phase.Phase.TheVariants as phase
+use Rattle.phase_table.specs.Phases.{phase_named}
 use Rattle.sleep_model.specs.declared.entry.SkipCause.{SkipCause}
 use Rattle.sleep_model.specs.declared.entry.SkipCause.TheVariants as cause
 use Rattle.sleep_model.specs.declared.entry.Group.{Group}
@@ -14,6 +15,7 @@ use Rattle.sleep_model.specs.declared.entry.Thaw.{Thaw}
 use Rattle.sleep_model.specs.declared.entry.Thaw.TheVariants as thaw
 use Rattle.sleep_model.specs.declared.machine.PlatDo.{PlatDo}
 use Rattle.sleep_model.specs.declared.machine.PlatDo.TheVariants as down
+use Rattle.sleep_model.specs.Text.{cause_text, down_word, group_word}
 
 -- the error of that name
 abbrev pub errno_in : List ℕ → Errno
@@ -40,33 +42,24 @@ prepare_in w =
 
 -- the phase of that name
 abbrev pub phase_in : List ℕ → Phase
-phase_in w =
-    if bytes_eq w (codes "suspend") then phase.Suspend
-    else (if bytes_eq w (codes "late") then phase.Late
-    else (if bytes_eq w (codes "noirq") then phase.Noirq
-    else (if bytes_eq w (codes "resume_noirq") then phase.ResumeNoirq
-    else (if bytes_eq w (codes "early") then phase.Early
-    else (if bytes_eq w (codes "resume") then phase.Resume
-    else (if bytes_eq w (codes "prepare") then phase.Prepare
-    else (if bytes_eq w (codes "syscore") then phase.Syscore
-    else (if bytes_eq w (codes "syscore_resume") then phase.SyscoreResume else phase.Complete))))))))
+phase_in w = unwrap_or (phase_named w) phase.Complete
 
 -- why a device was skipped
 abbrev pub cause_in : List ℕ → SkipCause
 cause_in w =
-    if bytes_eq w (codes "error") then cause.Error
-    else (if bytes_eq w (codes "pending") then cause.Pending else cause.Direct)
+    if bytes_eq w (cause_text cause.Error) then cause.Error
+    else (if bytes_eq w (cause_text cause.Pending) then cause.Pending else cause.Direct)
 
 -- whom a freeze asks
 abbrev pub group_in : List ℕ → Group
-group_in w = if bytes_eq w (codes "user") then group.User else group.Kernel
+group_in w = if bytes_eq w (group_word group.User) then group.User else group.Kernel
 
 -- which tasks a thaw lets go
 abbrev pub thaw_in : List ℕ → Thaw
-thaw_in w = if bytes_eq w (codes "kernel") then thaw.Kernel else thaw.All
+thaw_in w = if bytes_eq w (group_word group.Kernel) then thaw.Kernel else thaw.All
 
 -- the platform's step on the way down
 abbrev pub down_in : List ℕ → PlatDo
 down_in w =
-    if bytes_eq w (codes "begin") then down.Begin
-    else (if bytes_eq w (codes "prepare") then down.Prepare else down.PrepareLate)
+    if bytes_eq w (down_word down.Begin) then down.Begin
+    else (if bytes_eq w (down_word down.Prepare) then down.Prepare else down.PrepareLate)

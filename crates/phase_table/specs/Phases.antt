@@ -1,5 +1,5 @@
 -- The phases of devices, as a table (drivers/base/power/main.c).
-use Rattle.std.specs.Prelude.{ℕ, Bool, true, false, ◌==◌, List, [], ◌∷◌, map, codes, find, Option}
+use Rattle.std.specs.Prelude.{ℕ, Bool, true, false, ◌==◌, List, [], ◌∷◌, map, bytes_eq, codes, find, Option}
 use Rattle.phase_table.specs.declared.phase.Phase.{Phase}
 use Rattle.phase_table.specs.declared.table.PhaseRow.{PhaseRow}
 use Rattle.phase_table.specs.declared.phase.Phase.TheVariants.{Prepare, Suspend, Late, Noirq, Syscore, SyscoreResume, ResumeNoirq, Early, Resume, Complete}
@@ -83,6 +83,10 @@ table_row p = record { phase = p; mirror = mirror p; forward = is_forward p; dow
 -- the phases in the order of an undisturbed attempt
 abbrev pub all_phases : List Phase
 all_phases = Prepare ∷ Suspend ∷ Late ∷ Noirq ∷ Syscore ∷ SyscoreResume ∷ ResumeNoirq ∷ Early ∷ Resume ∷ Complete ∷ []
+
+-- the phase of that name
+abbrev pub phase_named : List ℕ → Option Phase
+phase_named w = find (λ p. bytes_eq w (phase_name p)) all_phases
 
 -- the table: a row for each phase
 abbrev pub table_rows : List PhaseRow

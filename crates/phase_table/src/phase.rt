@@ -1,6 +1,6 @@
 ghost use Rattle.std.specs.Prelude.{◌≡◌, ◌≢◌, IfSome, IfNone};
 ghost use Rattle.phase_table.specs.declared.phase.Phase.{Phase};
-ghost use Rattle.phase_table.specs.Phases.{mirror, is_forward, is_down, is_up, tests_wakeup, phase_name, table_row, table_rows};
+ghost use Rattle.phase_table.specs.Phases.{mirror, is_forward, is_down, is_up, tests_wakeup, phase_name, phase_named, table_row, table_rows};
 
 use crate::{CaseTable, PhaseRow};
 
@@ -114,6 +114,7 @@ impl Phase {
 
     /// The phase of that name. None exactly where the text is no phase's name.
     pub fn of_name(text: &str) -> Option<Phase>
+        ensures phase { result ≡ phase_named text.now }
         ensures found { IfSome result (λ p. text.now ≡ phase_name p) }
         ensures none { IfNone result ((p : Phase) → text.now ≢ phase_name p) }
     {
@@ -122,6 +123,7 @@ impl Phase {
 
     /// The phase whose name these bytes are. None exactly where they are no phase's name.
     pub fn of_bytes(bytes: &[u8]) -> Option<Phase>
+        ensures phase { result ≡ phase_named bytes.now }
         ensures found { IfSome result (λ p. bytes.now ≡ phase_name p) }
         ensures none { IfNone result ((p : Phase) → bytes.now ≢ phase_name p) }
     {

@@ -44,7 +44,6 @@ pub fn prepare_in(word: &[u8]) -> i32
 }
 
 /// The phase of that name, and the last for any other word.
-#[tactic(auto, using(crate::proofs::WordsTold::phase_told))]
 pub fn phase_in(word: &[u8]) -> Phase
     ensures { result ≡ phase_in word.now }
 {
