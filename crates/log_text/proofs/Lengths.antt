@@ -16,7 +16,15 @@ use Rattle.sleep_model.specs.declared.machine.PlatDo.{PlatDo}
 use Rattle.sleep_model.specs.declared.machine.PlatDo.TheVariants as down
 use Rattle.sleep_model.specs.declared.machine.PlatUndo.{PlatUndo}
 use Rattle.sleep_model.specs.declared.machine.PlatUndo.TheVariants as up
+use Rattle.log_text.specs.declared.spelling.verb.Verb.{Verb}
+use Rattle.log_text.specs.declared.spelling.verb.Verb.TheVariants as verb
+use Rattle.log_text.specs.Verbs.{verb_word}
 use Rattle.sleep_model.specs.Text.{cause_text, group_word, state_word, down_word, up_word}
+
+-- the word of a verb
+pub verb_short : (v : Verb) → length (verb_word v) ≤ 64
+verb_short verb.Begin = lit≤ tt
+verb_short _ = lit≤ tt
 
 -- the name of an error
 pub error_short : (r : Errno) → length (name_of r) ≤ 64
@@ -26,15 +34,7 @@ error_short _ = lit≤ tt
 -- the name of a phase
 pub phase_short : (p : Phase) → length (phase_name p) ≤ 64
 phase_short phase.Prepare = lit≤ tt
-phase_short phase.Suspend = lit≤ tt
-phase_short phase.Late = lit≤ tt
-phase_short phase.Noirq = lit≤ tt
-phase_short phase.Syscore = lit≤ tt
-phase_short phase.SyscoreResume = lit≤ tt
-phase_short phase.ResumeNoirq = lit≤ tt
-phase_short phase.Early = lit≤ tt
-phase_short phase.Resume = lit≤ tt
-phase_short phase.Complete = lit≤ tt
+phase_short _ = lit≤ tt
 
 -- why a device was skipped
 pub cause_short : (c : SkipCause) → length (cause_text c) ≤ 64

@@ -1,5 +1,5 @@
 -- What a line has to say, if it is an entry's line at all: read leniently, since a line counts only where the entry spells it.
-use Rattle.std.specs.Prelude.{ℕ, true, List, ◌++◌, codes, Option, Some, None, option_map, option_and_then, if◌then◌else◌}
+use Rattle.std.specs.Prelude.{ℕ, true, List, codes, Option, Some, None, option_map, option_and_then, if◌then◌else◌}
 use Rattle.std.specs.Str.{bytes_eq}
 use Rattle.sleep_base.specs.declared.errno.Errno.TheVariants.{EBUSY, EINVAL}
 use Rattle.sleep_base.specs.Errno.{name_of}
@@ -11,19 +11,18 @@ use Rattle.sleep_model.specs.declared.entry.FrozeEnd.TheVariants as froze
 use Rattle.sleep_model.specs.declared.entry.FrozeEnd.{FrozeEnd}
 use Rattle.sleep_model.specs.declared.entry.Kind.{Kind}
 use Rattle.sleep_model.specs.declared.entry.Kind.TheVariants as kind
-use Rattle.sleep_model.specs.declared.entry.State.TheVariants as state
 use Rattle.sleep_model.specs.declared.log.Stats.{Stats}
 use Rattle.sleep_model.specs.declared.log.Waiting.{Waiting}
 use Rattle.sleep_model.specs.declared.log.Why.{Why}
 use Rattle.sleep_model.specs.declared.log.Why.TheVariants as why
 use Rattle.sleep_model.specs.declared.machine.Machine.{Machine}
 use Rattle.sleep_model.specs.declared.machine.PlatUndo.TheVariants as up
-use Rattle.sleep_model.specs.Text.{hard_word, link_word, runtime_word, source_names, state_word, up_word}
-use Rattle.log_text.specs.declared.reading.verb.Verb.{Verb}
-use Rattle.log_text.specs.declared.reading.verb.Verb.TheVariants as verb
+use Rattle.sleep_model.specs.Text.{hard_word, link_word, runtime_word, source_names, up_word}
+use Rattle.log_text.specs.declared.spelling.verb.Verb.{Verb}
+use Rattle.log_text.specs.declared.spelling.verb.Verb.TheVariants as verb
 use Rattle.log_text.specs.Named.{device_names, notifier_names, script_names}
 use Rattle.log_text.specs.Cutting.{before, behind, word, rest, word32, word64, place_in}
-use Rattle.log_text.specs.Words.{errno_in, answer_in, prepare_in, phase_in, cause_in, group_in, thaw_in, down_in}
+use Rattle.log_text.specs.Words.{errno_in, answer_in, prepare_in, phase_in, cause_in, group_in, thaw_in, state_in, down_in}
 use Rattle.log_text.specs.Verbs.{verb_of}
 
 -- ---- names
@@ -75,8 +74,7 @@ state_kind t =
 abbrev pub autosleep_kind : List ℕ → Kind
 autosleep_kind t =
     if bytes_eq t (name_of EINVAL) then kind.AutoBad
-    else (if bytes_eq t (codes "done") then kind.AutoDone
-    else (if bytes_eq t (codes "set " ++ state_word state.Mem) then kind.AutoSet state.Mem else kind.AutoSet state.Off))
+    else (if bytes_eq t (codes "done") then kind.AutoDone else kind.AutoSet (state_in (rest t)))
 
 -- what stands behind `runtime`
 abbrev pub runtime_kind : Machine → List ℕ → Option Kind

@@ -11,11 +11,13 @@ use Rattle.sleep_model.specs.declared.entry.SkipCause.{SkipCause}
 use Rattle.sleep_model.specs.declared.entry.SkipCause.TheVariants as cause
 use Rattle.sleep_model.specs.declared.entry.Group.{Group}
 use Rattle.sleep_model.specs.declared.entry.Group.TheVariants as group
+use Rattle.sleep_model.specs.declared.entry.State.{State}
+use Rattle.sleep_model.specs.declared.entry.State.TheVariants as state
 use Rattle.sleep_model.specs.declared.entry.Thaw.{Thaw}
 use Rattle.sleep_model.specs.declared.entry.Thaw.TheVariants as thaw
 use Rattle.sleep_model.specs.declared.machine.PlatDo.{PlatDo}
 use Rattle.sleep_model.specs.declared.machine.PlatDo.TheVariants as down
-use Rattle.sleep_model.specs.Text.{cause_text, down_word, group_word}
+use Rattle.sleep_model.specs.Text.{cause_text, down_word, group_word, state_word}
 
 -- the error of that name
 abbrev pub errno_in : List ℕ → Errno
@@ -57,6 +59,10 @@ group_in w = if bytes_eq w (group_word group.User) then group.User else group.Ke
 -- which tasks a thaw lets go
 abbrev pub thaw_in : List ℕ → Thaw
 thaw_in w = if bytes_eq w (group_word group.Kernel) then thaw.Kernel else thaw.All
+
+-- what autosleep is set to
+abbrev pub state_in : List ℕ → State
+state_in w = if bytes_eq w (state_word state.Mem) then state.Mem else state.Off
 
 -- the platform's step on the way down
 abbrev pub down_in : List ℕ → PlatDo

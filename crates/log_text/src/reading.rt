@@ -15,4 +15,3 @@ pub(crate) mod number;
 pub(crate) mod read;
 pub(crate) mod reader;
 pub(crate) mod steps;
-pub(crate) mod verb;

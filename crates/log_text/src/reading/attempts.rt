@@ -7,6 +7,7 @@ use crate::reading::book::NameBook;
 use crate::reading::cut::{first_word, is};
 use crate::reading::meaning::{answer_in, down_in, group_in};
 use crate::reading::number::word32;
+use crate::spelling::fixed::{CHECK, NO_ERROR, OFF, ON, POST, RESUME, TIMEOUT};
 use sleep_model::{FrozeEnd, Kind, PlatUndo};
 
 /// What stands behind `attempt`.
@@ -39,7 +40,7 @@ pub fn notify_kind(book: &NameBook, text: &[u8]) -> Option<Kind>
 {
     let (notifier, rest) = first_word(text);
     let notifier = book.notifier(notifier)?;
-    if is(rest, "post") {
+    if is(rest, POST) {
         return Some(Kind::NotifyPost(notifier));
     }
     let (_, answer) = first_word(rest);
@@ -55,7 +56,7 @@ fn failed_in(book: &NameBook, text: &[u8]) -> Option<FrozeEnd>
     let (left, first) = first_word(rest);
     let left = word32(left)?;
     let first = book.script(first)?;
-    if is(why, "timeout") {
+    if is(why, TIMEOUT) {
         return Some(FrozeEnd::Timeout { left, first });
     }
     Some(FrozeEnd::Wakeup { left, first })
@@ -66,7 +67,7 @@ fn froze_in(book: &NameBook, text: &[u8]) -> Option<FrozeEnd>
     ensures end { result ≡ froze_in book.now text.now }
     ensures fits { IfSome result (λ e. fits_froze book.now e ≡ true) }
 {
-    if is(text, "0") {
+    if is(text, NO_ERROR) {
         return Some(FrozeEnd::AllFrozen);
     }
     let (_, rest) = first_word(text);
@@ -105,10 +106,10 @@ pub fn cpu_kind(text: &[u8]) -> Option<Kind>
 {
     let (what, cpu) = first_word(text);
     let cpu = word32(cpu)?;
-    if is(what, "off") {
+    if is(what, OFF) {
         return Some(Kind::CpuOff(cpu));
     }
-    if is(what, "on") {
+    if is(what, ON) {
         return Some(Kind::CpuOn(cpu));
     }
     Some(Kind::CpuBusy(cpu))
@@ -130,10 +131,10 @@ pub fn syscore_kind(book: &NameBook, text: &[u8]) -> Option<Kind>
     ensures fits { IfSome result (λ k. fits_kind book.now k ≡ true) }
 {
     let (what, rest) = first_word(text);
-    if is(what, "check") {
+    if is(what, CHECK) {
         return Some(Kind::SyscoreCheck(answer_in(rest)));
     }
-    if is(what, "resume") {
+    if is(what, RESUME) {
         return Some(Kind::SyscoreResume(book.syscore(rest)?));
     }
     syscore_down(book, rest)

@@ -5,7 +5,7 @@ ghost use Rattle.log_text.specs.Reading.{times_in, stats_in, why_in, waiting_in}
 use crate::reading::book::NameBook;
 use crate::reading::cut::{cut, first_word, is};
 use crate::reading::number::{word32, word64};
-use crate::spelling::verb::verb;
+use crate::spelling::verb::Verb;
 use sleep_model::{Actor, Stats, Waiting, Why};
 
 /// The statistics with these counts, by the text of the times behind them.
@@ -53,7 +53,7 @@ fn why_in(book: &NameBook, text: &[u8]) -> Option<Why>
     ensures why { result ≡ why_in book.now text.now }
     ensures fits { IfSome result (λ w. fits_cause book.now w ≡ true) }
 {
-    if is(text, verb!(Read)) {
+    if is(text, Verb::Read.word()) {
         return Some(Why::InProgress);
     }
     let (_, mark) = first_word(text);

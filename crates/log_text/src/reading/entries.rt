@@ -6,6 +6,7 @@ use crate::reading::book::NameBook;
 use crate::reading::cut::{cut, first_word, is};
 use crate::reading::kinds::kind_in;
 use crate::reading::number::{word32, word64};
+use crate::spelling::fixed::{AUTO, DEVICE, TIME, TIMER};
 use sleep_model::{Actor, Entry, EventNow};
 
 /// The word that the text spells: events in progress, registered, hard.
@@ -26,17 +27,17 @@ fn actor_in(book: &NameBook, text: &[u8]) -> Option<Actor>
     ensures actor { result ≡ actor_in book.now text.now }
     ensures fits { IfSome result (λ a. fits_actor book.now a ≡ true) }
 {
-    if is(text, "auto") {
+    if is(text, AUTO) {
         return Some(Actor::Auto);
     }
-    if is(text, "time") {
+    if is(text, TIME) {
         return Some(Actor::Time);
     }
     let (kind, name) = cut(text, b':');
-    if is(kind, "dev") {
+    if is(kind, DEVICE) {
         return Some(Actor::Dev(book.device(name)?));
     }
-    if is(kind, "timer") {
+    if is(kind, TIMER) {
         return Some(Actor::Timer(book.source(name)?));
     }
     Some(Actor::Script(book.script(name)?))

@@ -14,7 +14,8 @@ use crate::reading::steps::{
     autosleep_kind, event_kind, link_kind, link_state_kind, read_kind, runtime_kind, save_kind,
     state_kind,
 };
-use crate::reading::verb::{Verb, verb_of};
+use crate::spelling::fixed::{EVENT, ON};
+use crate::spelling::verb::Verb;
 use sleep_base::Errno;
 use sleep_model::Kind;
 
@@ -24,7 +25,7 @@ pub fn kind_in(book: &NameBook, text: &[u8]) -> Option<Kind>
     ensures fits { IfSome result (λ k. fits_kind book.now k ≡ true) }
 {
     let (word, rest) = first_word(text);
-    let verb = verb_of(word)?;
+    let verb = Verb::of_bytes(word)?;
     kind_by(book, verb, rest)
 }
 
@@ -121,13 +122,13 @@ fn attempt_by(book: &NameBook, verb: Verb, text: &[u8]) -> Option<Kind>
         Verb::Thaw => Some(Kind::Thaw(thaw_in(text))),
         Verb::Platform => Some(platform_kind(text)),
         Verb::Cpu => cpu_kind(text),
-        Verb::Irqs => Some(Kind::Irqs { on: is(text, "on") }),
+        Verb::Irqs => Some(Kind::Irqs { on: is(text, ON) }),
         Verb::Syscore => syscore_kind(book, text),
         Verb::Enter => Some(Kind::Enter {
             busy: is(text, Errno::EBUSY.name()),
         }),
         Verb::Wake => Some(Kind::Wake {
-            by_event: is(text, "event"),
+            by_event: is(text, EVENT),
         }),
         Verb::Clear => Some(Kind::Clear),
         _ => None,

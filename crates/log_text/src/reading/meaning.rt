@@ -1,10 +1,11 @@
 ghost use Rattle.std.specs.Prelude.{◌≡◌, true};
 ghost use Rattle.sleep_model.specs.Fits.{is_answer};
-ghost use Rattle.log_text.specs.Words.{errno_in, answer_in, error_number, prepare_in, phase_in, cause_in, group_in, thaw_in, down_in};
+ghost use Rattle.log_text.specs.Words.{errno_in, answer_in, error_number, prepare_in, phase_in, cause_in, group_in, thaw_in, state_in, down_in};
 
 use crate::reading::cut::is;
+use crate::spelling::fixed::NO_ERROR;
 use sleep_base::Errno;
-use sleep_model::{Group, Phase, PlatDo, SkipCause, Thaw};
+use sleep_model::{Group, Phase, PlatDo, SkipCause, State, Thaw, state_word};
 
 /// The error of that name, and EINVAL for any other word.
 pub fn errno_in(word: &[u8]) -> Errno
@@ -17,7 +18,7 @@ pub fn errno_in(word: &[u8]) -> Errno
 pub fn answer_in(word: &[u8]) -> Option<Errno>
     ensures { result ≡ answer_in word.now }
 {
-    if is(word, "0") {
+    if is(word, NO_ERROR) {
         return None;
     }
     Some(errno_in(word))
@@ -34,7 +35,7 @@ fn error_number(error: Errno) -> i32
 pub fn prepare_in(word: &[u8]) -> i32
     ensures { result ≡ prepare_in word.now }
 {
-    if is(word, "0") {
+    if is(word, NO_ERROR) {
         return 0;
     }
     if is(word, "1") {
@@ -74,6 +75,16 @@ pub fn thaw_in(word: &[u8]) -> Thaw
         return Thaw::Kernel;
     }
     Thaw::All
+}
+
+/// What autosleep is set to, and off for any other word.
+pub fn state_in(word: &[u8]) -> State
+    ensures { result ≡ state_in word.now }
+{
+    if is(word, state_word(State::Mem)) {
+        return State::Mem;
+    }
+    State::Off
 }
 
 /// The platform's step on the way down; any other word stands for the last.

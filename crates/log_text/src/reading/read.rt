@@ -14,6 +14,7 @@ use crate::reading::book::NameBook;
 use crate::reading::cut::is;
 use crate::reading::lines::{first_line, next_number};
 use crate::reading::reader::LineReader;
+use crate::spelling::fixed::FINISHED;
 use sleep_base::Mem;
 use sleep_model::{EntryList, ListOf, Log, LogEnd, Machine, Stats, Waiting};
 use std::alloc::Global;
@@ -154,7 +155,7 @@ fn read_end(
         return Err(LogFault::Line(number));
     }
     let (line, behind) = first_line(bytes);
-    if is(line, "finished\n") {
+    if is(line, FINISHED) {
         if behind.is_empty() {
             return Ok(LogEnd::Finished);
         }

@@ -6,10 +6,11 @@ ghost use Rattle.log_text.specs.Reading.{read_kind, save_kind, state_kind, autos
 
 use crate::reading::book::NameBook;
 use crate::reading::cut::{first_word, is};
-use crate::reading::meaning::{answer_in, errno_in};
+use crate::reading::meaning::{answer_in, errno_in, state_in};
 use crate::reading::number::word32;
+use crate::spelling::fixed::{DONE, HARD, OK, UNSAVED, WAIT};
 use sleep_base::Errno;
-use sleep_model::{Kind, State, link_word, runtime_word};
+use sleep_model::{Kind, link_word, runtime_word};
 
 /// What stands behind `read`.
 pub fn read_kind(text: &[u8]) -> Kind
@@ -18,7 +19,7 @@ pub fn read_kind(text: &[u8]) -> Kind
 {
     match word32(text) {
         Some(count) => Kind::Read(count),
-        None if is(text, "wait") => Kind::ReadWait,
+        None if is(text, WAIT) => Kind::ReadWait,
         None => Kind::ReadIntr,
     }
 }
@@ -30,10 +31,10 @@ pub fn save_kind(text: &[u8]) -> Option<Kind>
 {
     let (count, rest) = first_word(text);
     let count = word32(count)?;
-    if is(rest, "wait") {
+    if is(rest, WAIT) {
         return Some(Kind::SaveWait(count));
     }
-    if is(rest, "ok") {
+    if is(rest, OK) {
         return Some(Kind::Saved(count));
     }
     Some(Kind::SaveErr(count, errno_in(rest)))
@@ -44,10 +45,10 @@ pub fn state_kind(text: &[u8]) -> Kind
     ensures kind { result ≡ state_kind text.now }
     ensures fits { (m : Machine) → fits_kind m result ≡ true }
 {
-    if is(text, "wait") {
+    if is(text, WAIT) {
         return Kind::StateWait;
     }
-    if is(text, "unsaved") {
+    if is(text, UNSAVED) {
         return Kind::StateUnsaved;
     }
     Kind::StateErr(errno_in(text))
@@ -61,13 +62,11 @@ pub fn autosleep_kind(text: &[u8]) -> Kind
     if is(text, Errno::EINVAL.name()) {
         return Kind::AutoBad;
     }
-    if is(text, "done") {
+    if is(text, DONE) {
         return Kind::AutoDone;
     }
-    if is(text, "set mem") {
-        return Kind::AutoSet(State::Mem);
-    }
-    Kind::AutoSet(State::Off)
+    let (_, state) = first_word(text);
+    Kind::AutoSet(state_in(state))
 }
 
 /// What stands behind `runtime`.
@@ -128,6 +127,6 @@ pub fn event_kind(book: &NameBook, text: &[u8]) -> Option<Kind>
     let (ms, hard) = first_word(rest);
     let source = book.source(source)?;
     let ms = word32(ms)?;
-    let hard = is(hard, "hard");
+    let hard = is(hard, HARD);
     Some(Kind::Event { source, ms, hard })
 }

@@ -88,11 +88,23 @@ impl Spelled for u64 {
     }
 }
 
-/// Puts each part in turn behind what is held, as `put!(out; "save ", count, " ok")`.
+/// Puts each part in turn behind what is held, as `put!(out; "source ", name)`.
 macro_rules! put {
     ($out:expr; $($part:expr),+) => {{
         $(Spelled::put_on($part, $out);)+
     }};
 }
 
+/// Puts each word in turn behind what is held, with a space between two, as `put_words!(out; Verb::Save, count, OK)`.
+macro_rules! put_words {
+    ($out:expr; $first:expr $(, $word:expr)*) => {{
+        Spelled::put_on($first, $out);
+        $(
+            $out.put_byte(b' ');
+            Spelled::put_on($word, $out);
+        )*
+    }};
+}
+
 pub(crate) use put;
+pub(crate) use put_words;

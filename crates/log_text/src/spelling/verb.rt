@@ -1,57 +1,147 @@
 //! The first words of what entries say.
 
-/// The first word of what an entry says, and what is written right behind it, as `verb!(Save " ")`. The reader and
-/// the writer of lines both take the word from this table.
-macro_rules! verb {
-    (Begin $($behind:literal)?) => { concat!("begin" $(, $behind)?) };
-    (End $($behind:literal)?) => { concat!("end" $(, $behind)?) };
-    (Prepare $($behind:literal)?) => { concat!("prepare" $(, $behind)?) };
-    (Complete $($behind:literal)?) => { concat!("complete" $(, $behind)?) };
-    (Schedule $($behind:literal)?) => { concat!("schedule" $(, $behind)?) };
-    (Skip $($behind:literal)?) => { concat!("skip" $(, $behind)?) };
-    (Done $($behind:literal)?) => { concat!("done" $(, $behind)?) };
-    (Frozen $($behind:literal)?) => { concat!("frozen" $(, $behind)?) };
-    (Read $($behind:literal)?) => { concat!("read" $(, $behind)?) };
-    (Save $($behind:literal)?) => { concat!("save" $(, $behind)?) };
-    (State $($behind:literal)?) => { concat!("state" $(, $behind)?) };
-    (Autosleep $($behind:literal)?) => { concat!("autosleep" $(, $behind)?) };
-    (Sleep $($behind:literal)?) => { concat!("sleep" $(, $behind)?) };
-    (SleepD $($behind:literal)?) => { concat!("sleep_d" $(, $behind)?) };
-    (Slept $($behind:literal)?) => { concat!("slept" $(, $behind)?) };
-    (Pass $($behind:literal)?) => { concat!("pass" $(, $behind)?) };
-    (Post $($behind:literal)?) => { concat!("post" $(, $behind)?) };
-    (Got $($behind:literal)?) => { concat!("got" $(, $behind)?) };
-    (Exit $($behind:literal)?) => { concat!("exit" $(, $behind)?) };
-    (Runtime $($behind:literal)?) => { concat!("runtime" $(, $behind)?) };
-    (Link $($behind:literal)?) => { concat!("link" $(, $behind)?) };
-    (LinkState $($behind:literal)?) => { concat!("link_state" $(, $behind)?) };
-    (Run $($behind:literal)?) => { concat!("run" $(, $behind)?) };
-    (Saved $($behind:literal)?) => { concat!("saved" $(, $behind)?) };
-    (Unsaved $($behind:literal)?) => { concat!("unsaved" $(, $behind)?) };
-    (After $($behind:literal)?) => { concat!("after" $(, $behind)?) };
-    (Again $($behind:literal)?) => { concat!("again" $(, $behind)?) };
-    (Off $($behind:literal)?) => { concat!("off" $(, $behind)?) };
-    (Awake $($behind:literal)?) => { concat!("awake" $(, $behind)?) };
-    (Relax $($behind:literal)?) => { concat!("relax" $(, $behind)?) };
-    (Event $($behind:literal)?) => { concat!("event" $(, $behind)?) };
-    (Expire $($behind:literal)?) => { concat!("expire" $(, $behind)?) };
-    (Start $($behind:literal)?) => { concat!("start" $(, $behind)?) };
-    (Finish $($behind:literal)?) => { concat!("finish" $(, $behind)?) };
-    (Hard $($behind:literal)?) => { concat!("hard" $(, $behind)?) };
-    (Jump $($behind:literal)?) => { concat!("jump" $(, $behind)?) };
-    (Attempt $($behind:literal)?) => { concat!("attempt" $(, $behind)?) };
-    (Over $($behind:literal)?) => { concat!("over" $(, $behind)?) };
-    (Notify $($behind:literal)?) => { concat!("notify" $(, $behind)?) };
-    (Freeze $($behind:literal)?) => { concat!("freeze" $(, $behind)?) };
-    (Froze $($behind:literal)?) => { concat!("froze" $(, $behind)?) };
-    (Thaw $($behind:literal)?) => { concat!("thaw" $(, $behind)?) };
-    (Platform $($behind:literal)?) => { concat!("platform" $(, $behind)?) };
-    (Cpu $($behind:literal)?) => { concat!("cpu" $(, $behind)?) };
-    (Irqs $($behind:literal)?) => { concat!("irqs" $(, $behind)?) };
-    (Syscore $($behind:literal)?) => { concat!("syscore" $(, $behind)?) };
-    (Enter $($behind:literal)?) => { concat!("enter" $(, $behind)?) };
-    (Wake $($behind:literal)?) => { concat!("wake" $(, $behind)?) };
-    (Clear $($behind:literal)?) => { concat!("clear" $(, $behind)?) };
+ghost use Rattle.std.specs.Prelude.{◌≡◌, bytes_eq};
+ghost use Rattle.log_text.specs.Verbs.{verb_of, verb_word};
+
+/// The first word of what an entry says.
+#[derive(Clone, Copy)]
+pub enum Verb {
+    Begin,
+    End,
+    Prepare,
+    Complete,
+    Schedule,
+    Skip,
+    Done,
+    Frozen,
+    Read,
+    Save,
+    State,
+    Autosleep,
+    Sleep,
+    SleepD,
+    Slept,
+    Pass,
+    Post,
+    Got,
+    Exit,
+    Runtime,
+    Link,
+    LinkState,
+    Run,
+    Saved,
+    Unsaved,
+    After,
+    Again,
+    Off,
+    Awake,
+    Relax,
+    Event,
+    Expire,
+    Start,
+    Finish,
+    Hard,
+    Jump,
+    Attempt,
+    Over,
+    Notify,
+    Freeze,
+    Froze,
+    Thaw,
+    Platform,
+    Cpu,
+    Irqs,
+    Syscore,
+    Enter,
+    Wake,
+    Clear,
 }
 
-pub(crate) use verb;
+/// Picks one column of the table of verbs: each verb has its word. Those of device phases stand first, since a log has
+/// most of them.
+macro_rules! by_verb {
+    (@word $from:expr; $($verb:ident $word:literal;)*) => {
+        match $from { $(Verb::$verb => $word,)* }
+    };
+    (@named $from:expr; $($verb:ident $word:literal;)*) => {
+        [$(Verb::$verb),*].iter().copied().find(|verb| verb.is($from))
+    };
+    ($column:ident of $from:expr) => {
+        by_verb! { @$column $from;
+            Begin "begin";
+            End "end";
+            Prepare "prepare";
+            Complete "complete";
+            Schedule "schedule";
+            Skip "skip";
+            Done "done";
+            Frozen "frozen";
+            Read "read";
+            Save "save";
+            State "state";
+            Autosleep "autosleep";
+            Sleep "sleep";
+            SleepD "sleep_d";
+            Slept "slept";
+            Pass "pass";
+            Post "post";
+            Got "got";
+            Exit "exit";
+            Runtime "runtime";
+            Link "link";
+            LinkState "link_state";
+            Run "run";
+            Saved "saved";
+            Unsaved "unsaved";
+            After "after";
+            Again "again";
+            Off "off";
+            Awake "awake";
+            Relax "relax";
+            Event "event";
+            Expire "expire";
+            Start "start";
+            Finish "finish";
+            Hard "hard";
+            Jump "jump";
+            Attempt "attempt";
+            Over "over";
+            Notify "notify";
+            Freeze "freeze";
+            Froze "froze";
+            Thaw "thaw";
+            Platform "platform";
+            Cpu "cpu";
+            Irqs "irqs";
+            Syscore "syscore";
+            Enter "enter";
+            Wake "wake";
+            Clear "clear";
+        }
+    };
+}
+
+impl Verb {
+    /// The word as a log spells it, such as `link_state`.
+    #[inline(always)]
+    pub fn word(self) -> &'static str
+        ensures { result.now ≡ verb_word self }
+    {
+        by_verb!(word of self)
+    }
+
+    /// Whether these bytes are the word.
+    #[inline(always)]
+    fn is(self, bytes: &[u8]) -> bool
+        ensures { result ≡ bytes_eq bytes.now (verb_word self) }
+    {
+        bytes == self.word().as_bytes()
+    }
+
+    /// The verb whose word these bytes are. None where there is none.
+    pub fn of_bytes(bytes: &[u8]) -> Option<Verb>
+        ensures { result ≡ verb_of bytes.now }
+    {
+        by_verb!(named of bytes)
+    }
+}

@@ -1,12 +1,27 @@
 ghost use Rattle.std.specs.Prelude.{◌≡◌, ◌≤◌, length};
 ghost use Rattle.sleep_base.specs.Errno.{name_of};
 ghost use Rattle.phase_table.specs.Phases.{phase_name};
+ghost use Rattle.log_text.specs.Verbs.{verb_word};
 ghost use Rattle.sleep_model.specs.Text.{answer_text, cause_text, script_word, state_word, group_word, down_word, up_word};
 
+use crate::spelling::fixed::NO_ERROR;
 use crate::spelling::held::HeldBytes;
 use crate::spelling::spelled::Spelled;
+use crate::spelling::verb::Verb;
 use sleep_base::Errno;
 use sleep_model::{Group, Phase, PlatDo, PlatUndo, SkipCause, State, TaskKind, state_word};
+
+impl Spelled for Verb {
+    ghost spelling = { verb_word };
+
+    ghost most = { λ _. 16 };
+
+    #[inline(always)]
+    #[tactic(auto, using(crate::proofs::Lengths::verb_short))]
+    fn put_on(self, out: &mut HeldBytes) {
+        out.put_text(self.word());
+    }
+}
 
 impl Spelled for Errno {
     ghost spelling = { name_of };
@@ -29,7 +44,7 @@ impl Spelled for Option<Errno> {
     #[tactic(auto, using(crate::proofs::Lengths::error_short))]
     fn put_on(self, out: &mut HeldBytes) {
         match self {
-            None => out.put_byte(b'0'),
+            None => out.put_text(NO_ERROR),
             Some(error) => out.put_text(error.name()),
         }
     }

@@ -3,9 +3,13 @@ ghost use Rattle.log_text.specs.Words.{is_negative};
 ghost use Rattle.sleep_model.specs.declared.entry.Kind.TheVariants as kind;
 ghost use Rattle.sleep_model.specs.Text.{answer_text, body, device, link_word, space, step_body, auto_body, source_body, phase_body, attempt_body, platform_body, froze_text, prepare_text};
 
+use crate::spelling::fixed::{
+    ALARM, ALL, BUSY, CHECK, DONE, EVENT, GUARDED, HARD, NO_ERROR, OFF, OK, ON, PLAIN, POST,
+    PREPARE, RESUME, SET, SOFT, SUSPEND, TIMEOUT, UNSAVED, WAIT, WAKEUP,
+};
 use crate::spelling::held::HeldBytes;
-use crate::spelling::spelled::{Spelled, put};
-use crate::spelling::verb::verb;
+use crate::spelling::spelled::{Spelled, put, put_words};
+use crate::spelling::verb::Verb;
 use crate::writing::ready::ReadyNames;
 use sleep_base::Errno;
 use sleep_model::{FrozeEnd, Group, Kind, Thaw, link_word, runtime_word};
@@ -19,19 +23,19 @@ pub fn put_body(out: &mut HeldBytes, names: &ReadyNames, kind: Kind)
     ensures few { length out.new ≤ length out.old + 512 }
 {
     match kind {
-        Kind::Frozen => put!(out; verb!(Frozen)),
-        Kind::ReadWait => put!(out; verb!(Read " wait")),
-        Kind::Read(count) => put!(out; verb!(Read " "), count),
-        Kind::ReadIntr => put!(out; verb!(Read " "), Errno::EINTR),
-        Kind::SaveWait(count) => put!(out; verb!(Save " "), count, " wait"),
-        Kind::Saved(count) => put!(out; verb!(Save " "), count, " ok"),
-        Kind::SaveErr(count, error) => put!(out; verb!(Save " "), count, " ", error),
-        Kind::StateWait => put!(out; verb!(State " wait")),
-        Kind::StateErr(error) => put!(out; verb!(State " "), error),
-        Kind::StateUnsaved => put!(out; verb!(State " unsaved")),
-        Kind::AutoBad => put!(out; verb!(Autosleep " "), Errno::EINVAL),
-        Kind::AutoSet(state) => put!(out; verb!(Autosleep " set "), state),
-        Kind::AutoDone => put!(out; verb!(Autosleep " done")),
+        Kind::Frozen => put_words!(out; Verb::Frozen),
+        Kind::ReadWait => put_words!(out; Verb::Read, WAIT),
+        Kind::Read(count) => put_words!(out; Verb::Read, count),
+        Kind::ReadIntr => put_words!(out; Verb::Read, Errno::EINTR),
+        Kind::SaveWait(count) => put_words!(out; Verb::Save, count, WAIT),
+        Kind::Saved(count) => put_words!(out; Verb::Save, count, OK),
+        Kind::SaveErr(count, error) => put_words!(out; Verb::Save, count, error),
+        Kind::StateWait => put_words!(out; Verb::State, WAIT),
+        Kind::StateErr(error) => put_words!(out; Verb::State, error),
+        Kind::StateUnsaved => put_words!(out; Verb::State, UNSAVED),
+        Kind::AutoBad => put_words!(out; Verb::Autosleep, Errno::EINVAL),
+        Kind::AutoSet(state) => put_words!(out; Verb::Autosleep, SET, state),
+        Kind::AutoDone => put_words!(out; Verb::Autosleep, DONE),
         _ => put_step(out, names, kind),
     }
 }
@@ -43,7 +47,7 @@ fn put_set(out: &mut HeldBytes, names: &ReadyNames, consumer: u32, active: bool,
     ensures text { out.new ≡ out.old ++ (device names.now consumer ++ space ++ link_word active ++ space ++ answer_text r) }
     ensures few { length out.new ≤ length out.old + 320 }
 {
-    put!(out; names.device(consumer), " ", link_word(active), " ", r)
+    put_words!(out; names.device(consumer), link_word(active), r)
 }
 
 /// Writes what an entry that sets the state of a link says.
@@ -60,11 +64,13 @@ fn put_link_state(
     ensures text { out.new ≡ out.old ++ step_body names.now (kind.LinkState supplier consumer active r) }
     ensures few { length out.new ≤ length out.old + 512 }
 {
-    put!(out; verb!(LinkState " "), names.device(supplier), " ");
+    put_words!(out; Verb::LinkState, names.device(supplier));
+    put!(out; b' ');
     put_set(out, names, consumer, active, r);
 }
 
 /// Writes what an entry of a task's other steps says.
+#[tactic(auto, using(std::proofs::Common::append_assoc))]
 #[inline(always)]
 fn put_step(out: &mut HeldBytes, names: &ReadyNames, kind: Kind)
     requires { length out.old + 512 ≤ 32768 }
@@ -72,27 +78,23 @@ fn put_step(out: &mut HeldBytes, names: &ReadyNames, kind: Kind)
     ensures few { length out.new ≤ length out.old + 512 }
 {
     match kind {
-        Kind::Sleep(ms) => put!(out; verb!(Sleep " "), ms),
-        Kind::SleepD(ms) => put!(out; verb!(SleepD " "), ms),
-        Kind::Slept => put!(out; verb!(Slept)),
-        Kind::Pass => put!(out; verb!(Pass)),
-        Kind::Post(index) => put!(out; verb!(Post " "), names.mark(index)),
-        Kind::Got(index) => put!(out; verb!(Got " "), names.mark(index)),
-        Kind::Exit => put!(out; verb!(Exit)),
+        Kind::Sleep(ms) => put_words!(out; Verb::Sleep, ms),
+        Kind::SleepD(ms) => put_words!(out; Verb::SleepD, ms),
+        Kind::Slept => put_words!(out; Verb::Slept),
+        Kind::Pass => put_words!(out; Verb::Pass),
+        Kind::Post(index) => put_words!(out; Verb::Post, names.mark(index)),
+        Kind::Got(index) => put_words!(out; Verb::Got, names.mark(index)),
+        Kind::Exit => put_words!(out; Verb::Exit),
         Kind::RuntimeAsk {
             device,
             to_suspended,
             r,
-        } => {
-            put!(out; verb!(Runtime " "), names.device(device), " ", runtime_word(to_suspended), " ", r)
-        }
+        } => put_words!(out; Verb::Runtime, names.device(device), runtime_word(to_suspended), r),
         Kind::LinkAdd {
             supplier,
             consumer,
             r,
-        } => {
-            put!(out; verb!(Link " "), names.device(supplier), " ", names.device(consumer), " ", r)
-        }
+        } => put_words!(out; Verb::Link, names.device(supplier), names.device(consumer), r),
         Kind::LinkState {
             supplier,
             consumer,
@@ -104,6 +106,7 @@ fn put_step(out: &mut HeldBytes, names: &ReadyNames, kind: Kind)
 }
 
 /// Writes what an entry of the autosleep work says.
+#[tactic(auto, using(std::proofs::Common::append_assoc))]
 #[inline(always)]
 fn put_auto(out: &mut HeldBytes, names: &ReadyNames, kind: Kind)
     requires { length out.old + 512 ≤ 32768 }
@@ -111,18 +114,19 @@ fn put_auto(out: &mut HeldBytes, names: &ReadyNames, kind: Kind)
     ensures few { length out.new ≤ length out.old + 512 }
 {
     match kind {
-        Kind::AutoRun => put!(out; verb!(Run)),
-        Kind::AutoSaved(count) => put!(out; verb!(Saved " "), count),
-        Kind::AutoUnsaved(count) => put!(out; verb!(Unsaved " "), count),
-        Kind::AutoAfter(Some(count)) => put!(out; verb!(After " "), count),
-        Kind::AutoAfter(None) => put!(out; verb!(After " busy")),
-        Kind::AutoAgain => put!(out; verb!(Again)),
-        Kind::AutoOff => put!(out; verb!(Off)),
+        Kind::AutoRun => put_words!(out; Verb::Run),
+        Kind::AutoSaved(count) => put_words!(out; Verb::Saved, count),
+        Kind::AutoUnsaved(count) => put_words!(out; Verb::Unsaved, count),
+        Kind::AutoAfter(Some(count)) => put_words!(out; Verb::After, count),
+        Kind::AutoAfter(None) => put_words!(out; Verb::After, BUSY),
+        Kind::AutoAgain => put_words!(out; Verb::Again),
+        Kind::AutoOff => put_words!(out; Verb::Off),
         _ => put_source(out, names, kind),
     }
 }
 
 /// Writes what an entry of a wakeup source or of time says.
+#[tactic(auto, using(std::proofs::Common::append_assoc))]
 #[inline(always)]
 fn put_source(out: &mut HeldBytes, names: &ReadyNames, kind: Kind)
     requires { length out.old + 512 ≤ 32768 }
@@ -130,22 +134,23 @@ fn put_source(out: &mut HeldBytes, names: &ReadyNames, kind: Kind)
     ensures few { length out.new ≤ length out.old + 512 }
 {
     match kind {
-        Kind::Awake(index) => put!(out; verb!(Awake " "), names.source(index)),
-        Kind::Relax(index) => put!(out; verb!(Relax " "), names.source(index)),
+        Kind::Awake(index) => put_words!(out; Verb::Awake, names.source(index)),
+        Kind::Relax(index) => put_words!(out; Verb::Relax, names.source(index)),
         Kind::Event { source, ms, hard } => {
-            let hard = if hard { "hard" } else { "soft" };
-            put!(out; verb!(Event " "), names.source(source), " ", ms, " ", hard)
+            let hard = if hard { HARD } else { SOFT };
+            put_words!(out; Verb::Event, names.source(source), ms, hard)
         }
-        Kind::Expire(index) => put!(out; verb!(Expire " "), names.source(index)),
-        Kind::Start(index) => put!(out; verb!(Start " "), names.source(index)),
-        Kind::Finish(index) => put!(out; verb!(Finish " "), names.source(index)),
-        Kind::Hard(index) => put!(out; verb!(Hard " "), names.source(index)),
-        Kind::Jump => put!(out; verb!(Jump)),
+        Kind::Expire(index) => put_words!(out; Verb::Expire, names.source(index)),
+        Kind::Start(index) => put_words!(out; Verb::Start, names.source(index)),
+        Kind::Finish(index) => put_words!(out; Verb::Finish, names.source(index)),
+        Kind::Hard(index) => put_words!(out; Verb::Hard, names.source(index)),
+        Kind::Jump => put_words!(out; Verb::Jump),
         _ => put_phase(out, names, kind),
     }
 }
 
 /// Writes what an entry of a device phase says.
+#[tactic(auto, using(std::proofs::Common::append_assoc))]
 #[inline(always)]
 fn put_phase(out: &mut HeldBytes, names: &ReadyNames, kind: Kind)
     requires { length out.old + 512 ≤ 32768 }
@@ -154,23 +159,17 @@ fn put_phase(out: &mut HeldBytes, names: &ReadyNames, kind: Kind)
 {
     match kind {
         Kind::Prepare { device, r } => {
-            put!(out; verb!(Prepare " "), names.device(device), b' ');
+            put_words!(out; Verb::Prepare, names.device(device));
+            put!(out; b' ');
             put_prepare_answer(out, r)
         }
-        Kind::Complete(index) => put!(out; verb!(Complete " "), names.device(index)),
-        Kind::Schedule(phase, index) => {
-            put!(out; verb!(Schedule " "), phase, b' ', names.device(index))
-        }
-        Kind::Begin(phase, index) => {
-            put!(out; verb!(Begin " "), phase, b' ', names.device(index))
-        }
-        Kind::End(phase, index, r) => {
-            put!(out; verb!(End " "), phase, b' ', names.device(index), b' ', r)
-        }
-        Kind::Skip(phase, index, cause) => {
-            put!(out; verb!(Skip " "), phase, b' ', names.device(index), b' ', cause)
-        }
-        Kind::Done(phase, r) => put!(out; verb!(Done " "), phase, b' ', r),
+        Kind::Complete(index) => put_words!(out; Verb::Complete, names.device(index)),
+        Kind::Schedule(phase, index) => put_words!(out; Verb::Schedule, phase, names.device(index)),
+        Kind::Begin(phase, index) => put_words!(out; Verb::Begin, phase, names.device(index)),
+        Kind::End(phase, index, r) => put_words!(out; Verb::End, phase, names.device(index), r),
+        Kind::Skip(phase, index, cause) =>
+            put_words!(out; Verb::Skip, phase, names.device(index), cause),
+        Kind::Done(phase, r) => put_words!(out; Verb::Done, phase, r),
         _ => put_attempt(out, names, kind),
     }
 }
@@ -199,29 +198,30 @@ fn put_prepare_answer(out: &mut HeldBytes, r: i32)
 }
 
 /// Writes what an entry of an attempt's start, of its end, of the notifiers or of the freezer says.
+#[tactic(auto, using(std::proofs::Common::append_assoc))]
 fn put_attempt(out: &mut HeldBytes, names: &ReadyNames, kind: Kind)
     requires { length out.old + 512 ≤ 32768 }
     ensures text { out.new ≡ out.old ++ attempt_body names.now kind }
     ensures few { length out.new ≤ length out.old + 512 }
 {
     match kind {
-        Kind::Attempt { n, guarded: None } => put!(out; verb!(Attempt " "), n, " plain"),
+        Kind::Attempt { n, guarded: None } => put_words!(out; Verb::Attempt, n, PLAIN),
         Kind::Attempt {
             n,
             guarded: Some(count),
-        } => put!(out; verb!(Attempt " "), n, " guarded ", count),
-        Kind::Over { n, r } => put!(out; verb!(Over " "), n, " ", r),
-        Kind::NotifyPrepare(index, r) => {
-            put!(out; verb!(Notify " "), names.notifier(index), " prepare ", r)
-        }
-        Kind::NotifyPost(index) => put!(out; verb!(Notify " "), names.notifier(index), " post"),
-        Kind::Freeze(group) => put!(out; verb!(Freeze " "), group),
+        } => put_words!(out; Verb::Attempt, n, GUARDED, count),
+        Kind::Over { n, r } => put_words!(out; Verb::Over, n, r),
+        Kind::NotifyPrepare(index, r) =>
+            put_words!(out; Verb::Notify, names.notifier(index), PREPARE, r),
+        Kind::NotifyPost(index) => put_words!(out; Verb::Notify, names.notifier(index), POST),
+        Kind::Freeze(group) => put_words!(out; Verb::Freeze, group),
         Kind::Froze(group, end) => {
-            put!(out; verb!(Froze " "), group, " ");
+            put_words!(out; Verb::Froze, group);
+            put!(out; b' ');
             put_froze_end(out, names, end)
         }
-        Kind::Thaw(Thaw::Kernel) => put!(out; verb!(Thaw " "), Group::Kernel),
-        Kind::Thaw(Thaw::All) => put!(out; verb!(Thaw " all")),
+        Kind::Thaw(Thaw::Kernel) => put_words!(out; Verb::Thaw, Group::Kernel),
+        Kind::Thaw(Thaw::All) => put_words!(out; Verb::Thaw, ALL),
         _ => put_platform(out, names, kind),
     }
 }
@@ -233,13 +233,11 @@ fn put_froze_end(out: &mut HeldBytes, names: &ReadyNames, end: FrozeEnd)
     ensures few { length out.new ≤ length out.old + 256 }
 {
     match end {
-        FrozeEnd::AllFrozen => put!(out; "0"),
-        FrozeEnd::Timeout { left, first } => {
-            put!(out; Errno::EBUSY, " timeout ", left, " ", names.task(first))
-        }
-        FrozeEnd::Wakeup { left, first } => {
-            put!(out; Errno::EBUSY, " wakeup ", left, " ", names.task(first))
-        }
+        FrozeEnd::AllFrozen => put_words!(out; NO_ERROR),
+        FrozeEnd::Timeout { left, first } =>
+            put_words!(out; Errno::EBUSY, TIMEOUT, left, names.task(first)),
+        FrozeEnd::Wakeup { left, first } =>
+            put_words!(out; Errno::EBUSY, WAKEUP, left, names.task(first)),
     }
 }
 
@@ -251,23 +249,22 @@ fn put_platform(out: &mut HeldBytes, names: &ReadyNames, kind: Kind)
     ensures few { length out.new ≤ length out.old + 512 }
 {
     match kind {
-        Kind::PlatformDo(what, r) => put!(out; verb!(Platform " "), what, " ", r),
-        Kind::PlatformUndo(what) => put!(out; verb!(Platform " "), what),
-        Kind::CpuOff(cpu) => put!(out; verb!(Cpu " off "), cpu),
-        Kind::CpuBusy(cpu) => put!(out; verb!(Cpu " "), Errno::EBUSY, " ", cpu),
-        Kind::CpuOn(cpu) => put!(out; verb!(Cpu " on "), cpu),
-        Kind::Irqs { on: true } => put!(out; verb!(Irqs " on")),
-        Kind::Irqs { on: false } => put!(out; verb!(Irqs " off")),
-        Kind::SyscoreCheck(r) => put!(out; verb!(Syscore " check "), r),
-        Kind::SyscoreSuspend(index, r) => {
-            put!(out; verb!(Syscore " suspend "), names.syscore(index), " ", r)
-        }
-        Kind::SyscoreResume(index) => put!(out; verb!(Syscore " resume "), names.syscore(index)),
-        Kind::Enter { busy: true } => put!(out; verb!(Enter " "), Errno::EBUSY),
-        Kind::Enter { busy: false } => put!(out; verb!(Enter)),
-        Kind::Wake { by_event: true } => put!(out; verb!(Wake " event")),
-        Kind::Wake { by_event: false } => put!(out; verb!(Wake " alarm")),
-        Kind::Clear => put!(out; verb!(Clear)),
+        Kind::PlatformDo(what, r) => put_words!(out; Verb::Platform, what, r),
+        Kind::PlatformUndo(what) => put_words!(out; Verb::Platform, what),
+        Kind::CpuOff(cpu) => put_words!(out; Verb::Cpu, OFF, cpu),
+        Kind::CpuBusy(cpu) => put_words!(out; Verb::Cpu, Errno::EBUSY, cpu),
+        Kind::CpuOn(cpu) => put_words!(out; Verb::Cpu, ON, cpu),
+        Kind::Irqs { on: true } => put_words!(out; Verb::Irqs, ON),
+        Kind::Irqs { on: false } => put_words!(out; Verb::Irqs, OFF),
+        Kind::SyscoreCheck(r) => put_words!(out; Verb::Syscore, CHECK, r),
+        Kind::SyscoreSuspend(index, r) =>
+            put_words!(out; Verb::Syscore, SUSPEND, names.syscore(index), r),
+        Kind::SyscoreResume(index) => put_words!(out; Verb::Syscore, RESUME, names.syscore(index)),
+        Kind::Enter { busy: true } => put_words!(out; Verb::Enter, Errno::EBUSY),
+        Kind::Enter { busy: false } => put_words!(out; Verb::Enter),
+        Kind::Wake { by_event: true } => put_words!(out; Verb::Wake, EVENT),
+        Kind::Wake { by_event: false } => put_words!(out; Verb::Wake, ALARM),
+        Kind::Clear => put_words!(out; Verb::Clear),
         _ => {}
     }
 }

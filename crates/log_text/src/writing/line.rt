@@ -2,10 +2,11 @@ ghost use Rattle.std.specs.Prelude.{◌≡◌, ◌+◌, ◌≤◌, ◌++◌, len
 ghost use Rattle.log_text.specs.Front.{maker_text};
 ghost use Rattle.sleep_model.specs.Text.{script_text, waiting_text, entry_line, source_line, counts_text, times_text, waiting_line};
 
+use crate::spelling::fixed::{AUTO, DEVICE, TIME, TIMER};
 use crate::spelling::front::LineFront;
 use crate::spelling::held::HeldBytes;
 use crate::spelling::spelled::{Spelled, put};
-use crate::spelling::verb::verb;
+use crate::spelling::verb::Verb;
 use crate::spelling::words::script_word;
 use crate::writing::body::put_body;
 use crate::writing::device_words::device_words;
@@ -28,10 +29,10 @@ fn put_maker(out: &mut HeldBytes, names: &ReadyNames, actor: Actor)
             put_script(out, names, index);
             put!(out; b' ')
         }
-        Actor::Auto => put!(out; "auto "),
-        Actor::Dev(index) => put!(out; "dev:", names.device(index), b' '),
-        Actor::Timer(index) => put!(out; "timer:", names.source(index), b' '),
-        Actor::Time => put!(out; "time "),
+        Actor::Auto => put!(out; AUTO, b' '),
+        Actor::Dev(index) => put!(out; DEVICE, b':', names.device(index), b' '),
+        Actor::Timer(index) => put!(out; TIMER, b':', names.source(index), b' '),
+        Actor::Time => put!(out; TIME, b' '),
     }
 }
 
@@ -130,7 +131,7 @@ fn put_why(out: &mut HeldBytes, names: &ReadyNames, why: Why)
     ensures few { length out.new ≤ length out.old + 128 }
 {
     match why {
-        Why::InProgress => put!(out; verb!(Read)),
+        Why::InProgress => put!(out; Verb::Read),
         Why::Mark(index) => put!(out; "mark ", names.mark(index)),
         _ => {}
     }

@@ -1,6 +1,7 @@
 ghost use Rattle.std.specs.Prelude.{◌≡◌, ◌+◌, ◌≤◌, ◌++◌, [], OnOk, codes, length};
 ghost use Rattle.sleep_model.specs.Text.{entry_line, newline, source_line, waiting_line};
 
+use crate::spelling::fixed::FINISHED;
 use crate::spelling::front::LineFront;
 use crate::spelling::held::HeldBytes;
 use crate::spelling::spelled::{Spelled, put};
@@ -140,6 +141,6 @@ pub fn put_finished(out: &mut LineWriter) -> Result<(), Mem>
 {
     make_room(&mut out.bytes, &mut out.held)?;
     let held = &mut out.held;
-    put!(held; "finished\n");
+    put!(held; FINISHED);
     Ok(())
 }
