@@ -1,13 +1,8 @@
 //! The steps of a machine's scripts, counted once.
 
-ghost use Rattle.std.specs.Prelude.{◌≡◌, ◌≤◌, map, length, IfOk};
-ghost use Rattle.sleep_model.specs.declared.machine.Script.{Script};
-ghost use Rattle.sleep_model.specs.Places.{all_operations};
-ghost use Rattle.check_calls.specs.PlanFields.{with_source};
-
-use script_plan::Plan;
+use script_plan::{Plan, plans_of};
 use sleep_base::Mem;
-use sleep_model::{Machine, Op, Report, Script};
+use sleep_model::{Machine, Op, Report};
 use std::alloc::Global;
 use std::marker::Model;
 
@@ -28,18 +23,6 @@ impl<'m> Model for Plans<'m> {
     ghost view = { planned };
 
     ghost invariant = { keeps };
-}
-
-// The plan of each script, where autosleep has that source.
-fn plans_of(alloc: Global, scripts: &[Script], source: u32) -> Result<Vec<Plan<'_>>, Mem>
-    requires { length (all_operations scripts.now) ≤ 200000 }
-    ensures { IfOk result (λ v. v.items ≡ map (with_source source) scripts.now) }
-{
-    let mut plans = Vec::with_capacity(alloc, scripts.len())?;
-    for script in scripts {
-        plans.push(Plan::new(alloc, script, source)?)?;
-    }
-    Ok(plans)
 }
 
 impl<'m> Plans<'m> {

@@ -2,7 +2,7 @@
 use Rattle.std.proofs.Common.{◌≡◌, ◌<◌, ◌∙◌, ℕ, zero, suc, List, [], ◌∷◌, length, map, slice_get, slice_index_or, Some, sym, ap, arith}
 use Rattle.sleep_model.specs.declared.machine.Script.{Script}
 use Rattle.script_plan.specs.CallPlans.{ScriptCalls}
-use Rattle.machine_plans.specs.PlanFields.{with_source}
+use Rattle.script_plan.specs.CallPlans.{with_source}
 
 -- it is that of the script with its number
 pub one_plan : (n : ℕ) (ss : List Script) (plans : List ScriptCalls) (i : ℕ) (x : ScriptCalls) → plans ≡ map (with_source n) ss → i < length ss → x ≡ slice_index_or plans i x → (x.source ≡ n) × (slice_get ss i ≡ Some x.script)

@@ -1,13 +1,8 @@
 -- What the fields of a machine's plans are.
 use Rattle.std.specs.Prelude.{◌≡◌, ℕ, length, map}
 use Rattle.sleep_model.specs.declared.machine.Machine.{Machine}
-use Rattle.sleep_model.specs.declared.machine.Script.{Script}
-use Rattle.script_plan.specs.CallPlans.{ScriptCalls}
+use Rattle.script_plan.specs.CallPlans.{with_source}
 use Rattle.machine_plans.specs.declared.plans.MachinePlans.TheInside.{Inside}
-
--- a script, where autosleep has that source (own)
-abbrev pub with_source : ℕ → Script → ScriptCalls
-with_source source s = record { source = source; script = s }
 
 -- plans are seen as their machine (own)
 abbrev pub planned : Inside → Machine

@@ -16,6 +16,10 @@ pub record ScriptCalls : Type 0 where
   pub source : ℕ
   pub script : Script
 
+-- a script, where autosleep has that source (own)
+abbrev pub with_source : ℕ → Script → ScriptCalls
+with_source source s = record { source = source; script = s }
+
 -- the note of a call (wakeup_source_report_event)
 abbrev pub noted : Report → Kind
 noted r = note r.source r.call

@@ -7,5 +7,5 @@ mod expand;
 mod plan;
 mod turns;
 
-pub use plan::Plan;
+pub use plan::{Plan, plans_of};
 pub use turns::ends_turn;

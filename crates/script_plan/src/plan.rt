@@ -1,5 +1,7 @@
 ghost use Rattle.std.specs.Prelude.{◌≡◌, ◌≤◌, ◌<◌, ◌+◌, ◌^◌, ◌++◌, ◌||◌, length, map, OnOk, IfOk, option_copied, slice_get, All, List, ℕ};
+ghost use Rattle.sleep_model.specs.Places.{all_operations};
 ghost use Rattle.sleep_model.specs.Scripts.{makes_entry};
+ghost use Rattle.script_plan.specs.CallPlans.{with_source};
 ghost use Rattle.script_plan.specs.Plans.{expanded, op_of, op_at, entry_places, calls_in, turns_in, turns_from, calls_after, ops_of};
 
 use crate::calls::{calls_of, part};
@@ -189,4 +191,17 @@ impl<'m> Plan<'m> {
         let to = self.counts.before_turn(turn) as usize;
         part(&self.calls, from, to)
     }
+}
+
+/// The plan of each script of a machine, which make at most 200,000 steps in all, where autosleep has that source. `Mem`
+/// where there is no memory.
+pub fn plans_of(alloc: Global, scripts: &[Script], source: u32) -> Result<Vec<Plan<'_>>, Mem>
+    requires { length (all_operations scripts.now) ≤ 200000 }
+    ensures { IfOk result (λ v. v.items ≡ map (with_source source) scripts.now) }
+{
+    let mut plans = Vec::with_capacity(alloc, scripts.len())?;
+    for script in scripts {
+        plans.push(Plan::new(alloc, script, source)?)?;
+    }
+    Ok(plans)
 }

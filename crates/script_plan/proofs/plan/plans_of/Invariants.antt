@@ -1,7 +1,7 @@
 use Rattle.std.proofs.Common.{◌≡◌, ◌≤◌, length, map, take, drop}
 use Rattle.sleep_model.specs.Places.{all_operations}
-use Rattle.machine_plans.specs.PlanFields.{with_source}
-use Rattle.machine_plans.proofs.plans.plans_of.Given as goal
+use Rattle.script_plan.specs.CallPlans.{with_source}
+use Rattle.script_plan.proofs.plan.plans_of.Given as goal
 
 abbrev pub invariant-loop-script : goal.invariant-loop-script
 invariant-loop-script l = record {
