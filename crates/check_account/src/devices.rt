@@ -1,8 +1,9 @@
 use crate::board::Board;
 use crate::flags::{
-    Flags, first_statuses, move_asks, move_cpus, move_notified, move_statuses, move_stopped,
+    first_statuses, move_asks, move_cpus, move_notified, move_statuses, move_stopped,
 };
 use crate::stands::device_of;
+use device_rows::Flags;
 use phase_table::Phase;
 use sleep_base::Mem;
 use sleep_model::{Kind, Machine, Stand};

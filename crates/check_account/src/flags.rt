@@ -5,65 +5,10 @@ ghost use Rattle.sleep_model.specs.Devices.{is_one, asks_direct_after};
 ghost use Rattle.sleep_model.specs.Notifiers.{notified_after, cpus_off_after, stopped_after};
 ghost use Rattle.sleep_model.specs.Runtime.{starts_suspended, statuses_after};
 
+use device_rows::Flags;
 use sleep_base::Mem;
 use sleep_model::{Device, DeviceFlags, Kind};
 use std::alloc::Global;
-use std::marker::Model;
-
-/// Flags by number. Contracts see the list.
-#[derive(Drop)]
-pub struct Flags {
-    flags: Vec<bool>,
-}
-
-impl Model for Flags {
-    ghost use Rattle.std.specs.Prelude.{Bool, List};
-
-    ghost Value = { List Bool };
-
-    ghost view = { λ f. f.flags.items };
-}
-
-impl Flags {
-    ghost use Rattle.std.specs.Prelude.{◌≡◌, false, replicate, slice_set, IfOk};
-    ghost use Rattle.sleep_model.specs.Walk.{is_so};
-
-    /// `count` flags, none of which is set. `Mem` if there is no memory for the flags.
-    pub(crate) fn new(alloc: Global, count: usize) -> Result<Self, Mem>
-        ensures { IfOk result (λ f. f ≡ replicate count false) }
-    {
-        Ok(Flags {
-            flags: vec![in alloc; false; count]?,
-        })
-    }
-
-    /// All of them.
-    pub fn as_slice(&self) -> &[bool]
-        ensures { result.now ≡ self.now }
-    {
-        self.flags.as_slice()
-    }
-
-    /// Whether that flag is set; not where there is none.
-    pub fn is_set(&self, number: u32) -> bool
-        ensures { result ≡ is_so self.now number }
-    {
-        if (number as usize) < self.flags.len() {
-            self.flags[number as usize]
-        } else {
-            false
-        }
-    }
-
-    // Sets that flag so, where there is one.
-    fn set(&mut self, number: u32, to: bool)
-        ensures { self.new ≡ slice_set self.old number to }
-    {
-        if (number as usize) < self.flags.len() {
-            self.flags[number as usize] = to;
-        }
-    }
-}
 
 /// Which devices are runtime suspended at first. `Mem` if there is no memory for the flags.
 pub(crate) fn first_statuses(alloc: Global, devices: &[Device]) -> Result<Flags, Mem>
@@ -73,7 +18,7 @@ pub(crate) fn first_statuses(alloc: Global, devices: &[Device]) -> Result<Flags,
     for device in devices {
         statuses.push(device.flags.has(DeviceFlags::RUNTIME_SUSPENDED))?;
     }
-    Ok(Flags { flags: statuses })
+    Ok(Flags::of_vec(statuses))
 }
 
 /// A prepare tells whether its device may be direct-complete (`device_prepare`).

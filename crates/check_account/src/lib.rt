@@ -22,7 +22,6 @@ pub use autosleep::{is_actor, is_same};
 pub use board::Board;
 pub use counts::{time_after, word_after};
 pub use devices::DeviceAccount;
-pub use flags::Flags;
 pub use freezings::is_in;
 pub use law::{accounts_follow, each_is_placed};
 pub use stage::behind;

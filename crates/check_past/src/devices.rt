@@ -1,7 +1,7 @@
 //! What the passed entries leave of devices, notifiers, processors and the core's parts.
 
 use crate::passed::Passed;
-use check_account::Flags;
+use device_rows::Flags;
 use phase_table::Phase;
 use sleep_base::Mem;
 use sleep_model::{DeviceFlags, Stand};

@@ -7,7 +7,7 @@ ghost use Rattle.sleep_model.specs.Walk.{is_so, last_where};
 ghost use Rattle.sleep_model.specs.Stands.{stand_at, is_direct_complete, is_down_in, is_going_down, is_not_down, is_not_up, is_prepared, is_ready, is_unprepared};
 
 use crate::passed::Passed;
-use check_account::Flags;
+use device_rows::Flags;
 use phase_table::Phase;
 use sleep_model::{Device, DeviceFlags, Stand};
 

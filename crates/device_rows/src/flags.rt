@@ -34,6 +34,13 @@ impl Flags {
         Ok(Flags { flags })
     }
 
+    /// All of them, in order.
+    pub fn as_slice(&self) -> &[bool]
+        ensures { result.now ≡ self.now }
+    {
+        self.flags.as_slice()
+    }
+
     /// How many flags there are.
     pub fn len(&self) -> usize
         ensures { result ≡ length self.now }
