@@ -1,4 +1,4 @@
-ghost use Rattle.std.specs.Prelude.{◌≡◌, ◌≤◌, ◌++◌, IfOk, IfSome, codes, length, map, string_bytes};
+ghost use Rattle.std.specs.Prelude.{◌≡◌, ◌≤◌, ◌++◌, IfOk, IfSome, length, map, string_bytes};
 ghost use Rattle.sleep_base.specs.Whole.{WriteAll};
 ghost use Rattle.command_line.specs.Words.{IsInRange, command_of};
 ghost use Rattle.program_ending.specs.declared.ending.Ending.{Ending};
@@ -25,16 +25,6 @@ use std::alloc::Global;
 use std::sync::Wait;
 use std::thread::Threads;
 
-/// The name of the source of autosleep.
-fn autosleep() -> Name
-    ensures { result ≡ codes "autosleep" }
-{
-    match Name::of_bytes(b"autosleep") {
-        Some(name) => name,
-        None => unreachable!(),
-    }
-}
-
 /// That a source has no place for a call, by its name.
 fn full(machine: &Machine, source: u32) -> Ending
     requires { source ≤ length machine.now.sources }
@@ -42,7 +32,7 @@ fn full(machine: &Machine, source: u32) -> Ending
 {
     match machine.sources.as_slice().get(source as usize) {
         Some(name) => Ending::Refused(Refusal::SourceFull(*name)),
-        None => Ending::Refused(Refusal::SourceFull(autosleep())),
+        None => Ending::Refused(Refusal::SourceFull(Name::autosleep())),
     }
 }
 

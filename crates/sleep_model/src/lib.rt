@@ -29,7 +29,7 @@ pub use machine::{
     Answer, Device, Link, Machine, Notifier, Op, PlatDo, PlatPart, PlatUndo, Report, Script,
     SourceCall, Step, TaskKind, Text, What,
 };
-pub use name::{NAME_BYTES, Name};
+pub use name::{AUTOSLEEP, NAME_BYTES, Name};
 pub use phase_table::Phase;
 pub use place::{AsyncWork, Callback, Due, Freezing, Seat, Sleep, Stage, Stand, Work};
 pub use word::{EventNow, Stamp, WordKind, WordStep, pos, visible};

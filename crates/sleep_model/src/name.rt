@@ -3,6 +3,9 @@ use std::marker::Model;
 /// The most bytes that a name has.
 pub const NAME_BYTES: usize = 32;
 
+/// The name of autosleep's own source (`kernel/power/autosleep.c`, `pm_autosleep_init`).
+pub const AUTOSLEEP: &str = "autosleep";
+
 /// The name of a thing: 1 to 32 bytes, kept in place, that contracts see as their list.
 #[derive(Clone, Copy, Debug, PartialEq, Eq, PartialOrd, Ord, Hash)]
 pub struct Name {
@@ -24,7 +27,7 @@ impl Model for Name {
 }
 
 impl Name {
-    ghost use Rattle.std.specs.Prelude.{◌≡◌, ◌<◌, ◌≤◌, ℕ, length, IfSome, IfNone};
+    ghost use Rattle.std.specs.Prelude.{◌≡◌, ◌<◌, ◌≤◌, ℕ, codes, length, IfSome, IfNone};
 
     /// The name that these bytes spell. None exactly where they are no byte at all, or more than 32.
     pub fn of_bytes(bytes: &[u8]) -> Option<Name>
@@ -41,6 +44,16 @@ impl Name {
             bytes: padded,
             len: bytes.len() as u8,
         })
+    }
+
+    /// The name of autosleep's own source.
+    pub fn autosleep() -> Name
+        ensures { result ≡ codes "autosleep" }
+    {
+        match Name::of_bytes(AUTOSLEEP.as_bytes()) {
+            Some(name) => name,
+            None => unreachable!(),
+        }
     }
 
     /// The name's bytes.

@@ -3,7 +3,7 @@
 ghost use Rattle.std.specs.Prelude.{◌≡◌, slice_get};
 ghost use Rattle.sleep_model.specs.Text.{name_in};
 
-use crate::{Machine, Name};
+use crate::{AUTOSLEEP, Machine, Name};
 
 fn name_at(names: &[Name], number: u32) -> &[u8]
     ensures { result.now ≡ name_in (slice_get names.now number) }
@@ -33,7 +33,7 @@ impl Machine {
         ensures { result.now ≡ source self.now number }
     {
         if number as usize == self.sources.len() {
-            b"autosleep"
+            AUTOSLEEP.as_bytes()
         } else {
             name_at(self.sources.as_slice(), number)
         }

@@ -42,9 +42,6 @@ pub fn names_of_sources(alloc: Global, sources: &[Name]) -> Result<Vec<Name>, Me
     ensures { IfOk result (λ v. v.items ≡ sources.now ++ codes "autosleep" ∷ []) }
 {
     let mut names = Vec::from_slice(alloc, sources)?;
-    match Name::of_bytes(b"autosleep") {
-        Some(name) => names.push(name)?,
-        None => unreachable!(),
-    }
+    names.push(Name::autosleep())?;
     Ok(names)
 }

@@ -16,7 +16,7 @@ use crate::reading::lines::{first_line, next_number};
 use crate::reading::reader::LineReader;
 use crate::spelling::fixed::FINISHED;
 use sleep_base::Mem;
-use sleep_model::{EntryList, ListOf, Log, LogEnd, Machine, Stats, Waiting};
+use sleep_model::{AUTOSLEEP, EntryList, ListOf, Log, LogEnd, Machine, Stats, Waiting};
 use std::alloc::Global;
 
 /// The entries at the beginning of a log's text, what stands behind their lines, and the number of
@@ -101,7 +101,7 @@ fn read_sources<'a>(
             Err(fault) => return Err(fault),
         }
     }
-    match read_source(reader, b"autosleep", left, number) {
+    match read_source(reader, AUTOSLEEP.as_bytes(), left, number) {
         Ok((stats, behind)) => {
             all.push(stats)?;
             Ok((all, behind, next_number(number)?))

@@ -5,7 +5,7 @@ use crate::spelling::front::LineFront;
 use crate::writing::ready::ReadyNames;
 use crate::writing::writer::{LineWriter, put_entry, put_finished, put_source, put_waiting};
 use sleep_base::Mem;
-use sleep_model::{EntryList, Log, LogEnd, Machine, Stats, Waiting};
+use sleep_model::{AUTOSLEEP, EntryList, Log, LogEnd, Machine, Stats, Waiting};
 use std::alloc::Global;
 
 /// How many bytes the line of an entry usually has, at most.
@@ -46,7 +46,7 @@ pub fn put_sources(out: &mut LineWriter, machine: &Machine, stats: &[Stats]) -> 
         put_source(out, name.bytes(), own)?;
     }
     match stats.get(names.len()) {
-        Some(own) => put_source(out, b"autosleep", own),
+        Some(own) => put_source(out, AUTOSLEEP.as_bytes(), own),
         None => Ok(()),
     }
 }

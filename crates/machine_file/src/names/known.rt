@@ -18,6 +18,7 @@ use crate::value::place::{Member, Place};
 use borrowed_json::Value;
 use key_index::KeyIndex;
 use sleep_base::Mem;
+use sleep_model::AUTOSLEEP;
 use std::alloc::Global;
 
 /// The names of the things of a file, by kind.
@@ -107,7 +108,7 @@ pub(crate) fn repeated_source(alloc: Global, tree: &Value<'_>) -> Result<Option<
     ensures { IfOk result (λ p. place_of p ≡ repeated_source (view tree.now)) }
 {
     let sources = texts_in(alloc, tree, Member::Sources)?;
-    let number = first_reserved(alloc, "autosleep", &sources)?;
+    let number = first_reserved(alloc, AUTOSLEEP, &sources)?;
     Ok(item(Member::Sources, number))
 }
 
