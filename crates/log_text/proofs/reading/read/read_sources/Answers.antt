@@ -1,4 +1,7 @@
-use Rattle.std.proofs.Common.{◌≡◌, ◌≤◌, ◌<◌, ◌++◌, ◌∷◌, [], ap, length, get_or, arith}
+use Rattle.std.proofs.Common.{◌≡◌, ◌∙◌, ℕ, List, ◌≤◌, ◌<◌, ◌++◌, ◌∷◌, [], ap, subst, length, get_or, arith}
+use Rattle.sleep_model.specs.Text.{source_line}
+use Rattle.log_text.specs.Faults.{AtLine, IsNoSource}
+use Rattle.log_text.specs.Grammar.{lines}
 use Rattle.log_text.proofs.Loops.{one_source, no_source_there, last_source_text, last_source_bad, no_last_source}
 use Rattle.log_text.proofs.reading.read.read_sources.Goals as goal
 
@@ -31,7 +34,8 @@ returns-in-Ok-read_source-clause-text c =
     let end : length m.sources ≤ c.loop-i.i = omega arith in
     let most : c.loop-i.i ≤ length m.sources = omega arith in
     rw c.in_ok-push-in-Ok-read_source.ensures.items
-    (last_source_text m c.loop-i.i end c.loop-i.all.items c.args.bytes.now c.loop-i.left.now c.args.first c.loop-i.number v.0 v.1 v.3 most c.in-Ok-read_source.stats c.in-Ok-read_source.behind.now c.in-Ok-read_source.ensures.text)
+    (last_source_text m c.loop-i.i end c.loop-i.all.items c.args.bytes.now c.loop-i.left.now c.args.first c.loop-i.number v.0 v.1 v.3 most c.in-Ok-read_source.stats c.in-Ok-read_source.behind.now
+    (c.in-Ok-read_source.ensures.text ∙ ap (λ (name : List ℕ). source_line name c.in-Ok-read_source.stats ++ c.in-Ok-read_source.behind.now) c.as_bytes.ensures.value))
 
 pub returns-in-Ok-read_source-clause-bad : goal.returns-in-Ok-read_source-clause-bad
 returns-in-Ok-read_source-clause-bad c =
@@ -40,7 +44,9 @@ returns-in-Ok-read_source-clause-bad c =
     let l = ap length c.as_slice-names.ensures in
     let end : length m.sources ≤ c.loop-i.i = omega arith in
     last_source_bad m c.loop-i.i end c.loop-i.all.items c.args.bytes.now c.loop-i.left.now c.args.first c.loop-i.number v.0 v.1 v.3 c.in-Ok-read_source.stats c.in-Ok-read_source.behind.now
-    c.in_ok-next_number-in-Ok-read_source.field-0 c.in-Ok-read_source.ensures.lines c.in-Ok-read_source.ensures.fits c.in_ok-next_number-in-Ok-read_source.ensures
+    c.in_ok-next_number-in-Ok-read_source.field-0
+    (c.in-Ok-read_source.ensures.lines ∙ ap (λ (name : List ℕ). source_line name c.in-Ok-read_source.stats ∷ lines c.in-Ok-read_source.behind.now) c.as_bytes.ensures.value)
+    c.in-Ok-read_source.ensures.fits c.in_ok-next_number-in-Ok-read_source.ensures
 
 pub returns-clause-fault : goal.returns-clause-fault
 returns-clause-fault c =
@@ -48,4 +54,5 @@ returns-clause-fault c =
     let v = c.loop-i.invariant in
     let l = ap length c.as_slice-names.ensures in
     let end : length m.sources ≤ c.loop-i.i = omega arith in
-    no_last_source m c.loop-i.i end c.loop-i.all.items c.args.bytes.now c.loop-i.left.now c.args.first c.loop-i.number v.0 v.1 v.3 c.in-Err-read_source.fault c.in-Err-read_source.ensures.line c.in-Err-read_source.ensures.fault
+    no_last_source m c.loop-i.i end c.loop-i.all.items c.args.bytes.now c.loop-i.left.now c.args.first c.loop-i.number v.0 v.1 v.3 c.in-Err-read_source.fault c.in-Err-read_source.ensures.line
+    (subst (λ (name : List ℕ). AtLine c.in-Err-read_source.fault (λ k. IsNoSource name (lines c.loop-i.left.now))) c.as_bytes.ensures.value c.in-Err-read_source.ensures.fault)

@@ -5,7 +5,7 @@ use Rattle.log_text.proofs.writing.body.put_froze_end.Goals as goal
 pub returns-in-Timeout-clause-text : goal.returns-in-Timeout-clause-text
 returns-in-Timeout-clause-text c =
     rw
-    (c.put_on-in-Timeout-4.ensures.text, c.put_byte-in-Timeout-3.ensures.text, c.put_on-in-Timeout-3.ensures.text, c.put_byte-in-Timeout-2.ensures.text, c.put_on-in-Timeout-2.ensures.text, c.put_byte.ensures.text, c.put_on-in-Timeout.ensures.text, c.task.ensures, c.in-Timeout.is)
+    (c.put_on-in-Timeout-4.ensures.text, c.put_byte-in-Timeout-2.ensures.text, c.put_on-in-Timeout-3.ensures.text, c.put_byte-in-Timeout.ensures.text, c.put_on-in-Timeout-2.ensures.text, c.put_byte.ensures.text, c.put_on-in-Timeout.ensures.text, c.task.ensures, c.in-Timeout.is)
     (simp append_assoc)
 
 pub returns-in-Wakeup-clause-text : goal.returns-in-Wakeup-clause-text

@@ -1,7 +1,8 @@
-use Rattle.std.proofs.Common.{rules, arith, ◌≡◌, ℕ, ◌<◌, ◌≤◌, length, List, get_or, min, length-append}
+use Rattle.std.proofs.Common.{rules, arith, ◌≡◌, ◌∙◌, ap, ℕ, ◌<◌, ◌≤◌, length, List, ◌++◌, get_or, min, length-append}
 use Rattle.std.proofs.lemmas.Slice.Zip.{zip_turn, zip_end}
 use Rattle.std.proofs.lemmas.Grind.{common_steps}
 use Rattle.sleep_model.specs.declared.log.Stats.{Stats}
+use Rattle.sleep_model.specs.Text.{source_line}
 use Rattle.std.proofs.lemmas.Result.{IfOk-equal}
 use Rattle.log_text.proofs.Sources.{written_more, written_last, written_all}
 use Rattle.log_text.proofs.writing.log.put_sources.Goals as goal
@@ -24,7 +25,8 @@ returns-in-Some-get c =
     let below : length names < length stats = grind (arith, common_steps) in
     let at_own : own ≡ get_or stats (length names) own = grind (arith, common_steps) in
     IfOk-equal _ _ _ _ c.put_source-in-Some-get.ensures
-    (rw (← c.as_slice-names.ensures) (written_last names stats _ _ _ own end below at_own c.loop-name.invariant))
+    (rw (← c.as_slice-names.ensures)
+    (ap (λ (name : List ℕ). c.loop-name.out ++ source_line name own) c.as_bytes.ensures.value ∙ written_last names stats _ _ _ own end below at_own c.loop-name.invariant))
 
 pub returns-in-None-get : goal.returns-in-None-get
 returns-in-None-get c =
