@@ -1,5 +1,5 @@
 -- No name, number or word has a newline, so each line ends at its own.
-use Rattle.std.proofs.Common.{◌≡◌, ◌∙◌, ℕ, ◌==◌, Bool, true, false, ◌&&◌, nat_lt, nat_le, List, ◌++◌, codes, decimal, length, Option, Some, None, unwrap_or, ℤ, pos, negsuc, suc, refl, sym, ap, arith}
+use Rattle.std.proofs.Common.{◌≡◌, ◌∙◌, ℕ, Bool, true, false, ◌&&◌, nat_lt, nat_le, List, ◌++◌, codes, decimal, length, Option, Some, None, unwrap_or, ℤ, pos, negsuc, suc, refl, sym, ap, arith}
 use Rattle.std.proofs.lemmas.Bool.{and_parts}
 use Rattle.std.proofs.lemmas.Bool.Decides.{nat_tests}
 use Rattle.sleep_base.specs.declared.errno.Errno.{Errno}
