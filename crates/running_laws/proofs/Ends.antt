@@ -59,6 +59,13 @@ kept_at [] s = refl
 kept_at (x ∷ sources) zero = map_reverse x.past
 kept_at (x ∷ sources) (suc s) = kept_at sources s
 
+-- each rises where each source's entries do
+kept_rise : (sources : List SourceState) → ((s : ℕ) → rises (reverse (of_sources sources s)) ≡ true) → list_all (λ history. rises (map of_source history)) (kept_histories sources) ≡ true
+kept_rise [] h = refl
+kept_rise (x ∷ sources) h =
+    all_more (λ (history : List SourceEntry). rises (map of_source history)) (reverse x.past) (kept_histories sources)
+    (ap rises (map_reverse x.past) ∙ h 0) (kept_rise sources (λ s. h (suc s)))
+
 -- so many entries and no more
 kept_short : (sources : List SourceState) → ((s : ℕ) (none : SourceState) → s < length sources → length (slice_index_or sources s none).past ≤ most_entries) → list_all (λ h. nat_le (length h) most_entries) (kept_histories sources) ≡ true
 kept_short [] h = refl
@@ -86,6 +93,10 @@ module _ (m : Machine) (journal : List JournalEntry) (sources : List SourceState
   -- the journal's ticks and positions rise
   pub journal_rises : rises (reverse journal) ≡ true
   journal_rises = falling_rises journal r.held.journal_falls
+
+  -- and those of each source's history
+  pub histories_rise : list_all (λ history. rises (map of_source history)) (kept_histories sources) ≡ true
+  histories_rise = kept_rise sources (λ s. falling_rises (of_sources sources s) (r.held.sources_fall s))
 
   -- a word that is at or above all that is known was the last
   seen_last : (looks : List (List EventNow)) (word : EventNow) → was_seen looks word ≡ true → floor.pos ≤ position word → IsSeenLast looks (kept_histories sources) word
