@@ -8,9 +8,9 @@ time from start to end by four workers over the time by one, the best of some ru
 have four processors. With files it measures these machines in place of its own. Rows:
 
   lines         64 interrupt lines, each with 3,125 events on a source of its own, as many as a file may ask for: all reports
-                are made under the sources' own locks, beside each other; each worker puts a slice of the log together
-                and makes its text. A burst cuts the 64 scripts, autosleep and the 65 timers into four parts, so two of
-                four workers make the reports; the aim is at most 0.6
+                are made under the sources' own locks, beside each other; each worker puts its part of the log together
+                slice by slice, and makes its text. A burst cuts the 64 scripts, autosleep and the 65 timers into four
+                parts, so two of four workers make the reports; the aim is at most 0.6
   tree, links   attempts on 10, 100 and 1,000 devices, as in attempts.py: all is done under the machine's lock, so there
                 is nothing to gain; the aim is at most 1.3
   in step       as in tasks.py: many sleeps that end at once

@@ -163,11 +163,20 @@ module _ (from middle : ℕ) (to : Option ℕ) (f : from ≤ middle) (u : IsUpTo
           ∙ sym (ap₂ (λ (a b : Bool). one x xs low a ++ one x xs high b) l h)))
 
   -- their lines too
-  pub lines_halved : (m : Machine) (xs : List JournalEntry) → slice_lines m low xs ++ slice_lines m high xs ≡ slice_lines m whole xs
+  lines_halved : (m : Machine) (xs : List JournalEntry) → slice_lines m low xs ++ slice_lines m high xs ≡ slice_lines m whole xs
   lines_halved m xs =
       sym (ap (λ (l : List JournalEntry). flat_map (entry_line m) (map (λ e. e.entry) l)) (halved xs)
       ∙ (ap (flat_map (entry_line m)) (map-append (λ (e : JournalEntry). e.entry) (in_order (filter (is_in low) xs)) (in_order (filter (is_in high) xs)))
       ∙ flat_map-append (entry_line m) (slice low xs) (slice high xs)))
+
+-- lines of both halves, one behind the other
+pub halves_joined : (m : Machine) (xs : List JournalEntry) (range low high : Range) (middle : ℕ) → range.from ≤ middle → IsUpTo middle range.to
+    → low ≡ record { from = range.from; to = Some middle } → high ≡ record { from = middle; to = range.to } → (front back : List ℕ)
+    → front ≡ slice_lines m low xs → back ≡ slice_lines m high xs → front ++ back ≡ slice_lines m range xs
+halves_joined m xs range lower upper middle f u is_low is_high front back of_low of_high =
+    ap₂ (λ (one other : List ℕ). one ++ other)
+    (of_low ∙ ap (λ (r : Range). slice_lines m r xs) is_low) (of_high ∙ ap (λ (r : Range). slice_lines m r xs) is_high)
+    ∙ lines_halved range.from middle range.to f u m xs
 
 -- ---- all
 

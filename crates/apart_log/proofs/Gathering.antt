@@ -12,6 +12,7 @@ use Rattle.log_merge.specs.Rests.{seen, sources_entries}
 use Rattle.log_text.specs.Referred.{referred}
 use Rattle.apart_log.specs.declared.range.Range.{Range}
 use Rattle.apart_log.specs.Slices.{is_in, slice_lines}
+use Rattle.apart_log.proofs.Parting.{filter_again}
 use denote.Ref.{Bor}
 
 -- the first alone, and the rest
@@ -54,16 +55,23 @@ slice_referred [] = refl
 slice_referred (other ∷ others) = ap (λ (l : List Entry). other.now.entry ∷ l) (slice_referred others)
 
 -- the lines of what a slice refers to are those of its entries
-pub slice_told : (m : Machine) (range : Range) (past : List JournalEntry) (histories : List (List SourceEntry)) (kept among : List SourceEntry) (entries others : List (Bor SourceEntry))
-    → map of_source kept ≡ filter (is_in range) past → among ≡ kept
-    → seen entries ≡ in_order (map of_source among ++ filter (is_in range) (sources_entries histories)) → others ≡ entries
-    → flat_map (entry_line m) (referred others) ≡ slice_lines m range (all_entries past histories)
-slice_told m range past histories kept among entries others of_kept is_kept ordered are =
-    let behind = filter (is_in range) (sources_entries histories) in
-    let all : in_order (map of_source among ++ behind) ≡ in_order (filter (is_in range) (past ++ sources_entries histories)) =
-    ap in_order
-    (ap (λ (l : List SourceEntry). map of_source l ++ behind) is_kept
-    ∙ (ap (λ (l : List JournalEntry). l ++ behind) of_kept ∙ sym (filter_both (is_in range) past (sources_entries histories)))) in
+pub slice_told : (m : Machine) (range : Range) (journal : List JournalEntry) (histories : List (List SourceEntry)) (entries others : List (Bor SourceEntry))
+    → seen entries ≡ in_order (filter (is_in range) journal ++ filter (is_in range) (sources_entries histories)) → others ≡ entries
+    → flat_map (entry_line m) (referred others) ≡ slice_lines m range (all_entries journal histories)
+slice_told m range journal histories entries others ordered are =
     ap (λ (l : List (Bor SourceEntry)). flat_map (entry_line m) (referred l)) are
     ∙ ap (λ (l : List Entry). flat_map (entry_line m) l)
-    (sym (slice_referred entries) ∙ ap (λ (l : List JournalEntry). map (λ e. e.entry) l) (ordered ∙ all))
+    (sym (slice_referred entries)
+    ∙ ap (λ (l : List JournalEntry). map (λ e. e.entry) l) (ordered ∙ ap in_order (sym (filter_both (is_in range) journal (sources_entries histories)))))
+
+-- those of the entries of a range alone are all
+pub told_of_range : (m : Machine) (range : Range) (past : List JournalEntry) (histories : List (List SourceEntry)) (kept among : List SourceEntry)
+    → map of_source kept ≡ filter (is_in range) past → among ≡ kept
+    → slice_lines m range (all_entries (map of_source among) histories) ≡ slice_lines m range (all_entries past histories)
+told_of_range m range past histories kept among of_kept is_kept =
+    let behind = sources_entries histories in
+    let test = is_in range in
+    let journal : filter test (map of_source among) ≡ filter test past =
+    ap (λ (l : List SourceEntry). filter test (map of_source l)) is_kept ∙ (ap (filter test) of_kept ∙ filter_again test past) in
+    ap (λ (l : List JournalEntry). flat_map (entry_line m) (map (λ e. e.entry) (in_order l)))
+    (filter_both test (map of_source among) behind ∙ (ap (λ (l : List JournalEntry). l ++ filter test behind) journal ∙ sym (filter_both test past behind)))

@@ -38,6 +38,17 @@ const FEW: usize = 8;
 /// The fewest entries of sources of which slices are worth their threads.
 const MANY: usize = 16_384;
 
+/// How many entries of sources a slice has, at least: so many stay in a processor's cache, and the machine's names, which each
+/// slice spells, are few beside them.
+const SLICE: usize = 4_096;
+
+/// How often each of the workers halves its own range, so that its slices are short. There are as many workers as the log is
+/// halved for.
+fn halvings_in_row(entries: usize, halvings: u32) -> u32 {
+    let slices = (entries / SLICE).max(1);
+    slices.ilog2().saturating_sub(halvings)
+}
+
 /// How many entries these histories have.
 fn entries_of(histories: &[SourceList]) -> usize {
     let mut entries = 0_usize;
@@ -59,15 +70,17 @@ fn last_position(histories: &[SourceList]) -> u64 {
 }
 
 impl ApartLog {
-    ghost use Rattle.std.specs.Prelude.{◌≡◌, true, reverse, IfOk, flat_map};
-    ghost use Rattle.sleep_model.specs.Merge.{merge, rises};
+    ghost use Rattle.std.specs.Prelude.{◌≡◌, true, reverse, IfOk, flat_map, map};
+    ghost use Rattle.std.specs.List.{list_all};
+    ghost use Rattle.sleep_model.specs.Merge.{merge, of_source, rises};
     ghost use Rattle.sleep_model.specs.Text.{entry_line};
     ghost use Rattle.apart_log.specs.Slices.{joined};
 
-    /// The log of a journal, whose ticks and positions rise, and of the sources' histories, with the sources' statistics and
-    /// how the run ended.
+    /// The log of a journal and of the sources' histories, along each of which ticks and positions rise, with the sources'
+    /// statistics and how the run ended.
     pub fn new(journal: Journal, histories: Vec<SourceList>, stats: Vec<Stats>, end: LogEnd) -> Self
-        requires { rises (reverse journal.past) ≡ true }
+        requires journal { rises (reverse journal.past) ≡ true }
+        requires histories { list_all (λ history. rises (map of_source history)) histories.items ≡ true }
         ensures { result ≡ record { entries = merge (reverse journal.past) histories.items; stats = stats.items; end = end } }
     {
         ApartLog {
@@ -126,6 +139,7 @@ impl ApartLog {
             journal: &self.journal,
             histories: self.histories.as_slice(),
             last: last_position(&self.histories),
+            in_row: halvings_in_row(entries_of(&self.histories), halvings),
         };
         texts(rt, alloc, &parts, Range::all(), halvings)
     }

@@ -12,7 +12,7 @@ pub(crate) struct Range {
 }
 
 impl Range {
-    ghost use Rattle.std.specs.Prelude.{◌≡◌, ◌≤◌, ◌&&◌, nat_le, None};
+    ghost use Rattle.std.specs.Prelude.{◌≡◌, ◌≤◌, ◌&&◌, nat_le, None, Some};
     ghost use Rattle.apart_log.specs.Slices.{IsUpTo, is_before};
 
     /// All positions.
@@ -33,6 +33,26 @@ impl Range {
         match self.to {
             Some(end) => stamp.pos < end,
             None => true,
+        }
+    }
+
+    /// Those before that position.
+    pub(crate) fn below(self, middle: u64) -> Self
+        ensures { result ≡ record { from = self.from; to = Some middle } }
+    {
+        Range {
+            from: self.from,
+            to: Some(middle),
+        }
+    }
+
+    /// Those from that position on.
+    pub(crate) fn from_on(self, middle: u64) -> Self
+        ensures { result ≡ record { from = middle; to = self.to } }
+    {
+        Range {
+            from: middle,
+            to: self.to,
         }
     }
 

@@ -1,13 +1,15 @@
 //! One slice of a log: its entries in order, and their text.
 
-ghost use Rattle.std.specs.Prelude.{◌≡◌, ◌++◌, IfOk, OnOk, filter, map, reverse, ◌∷◌, []};
-ghost use Rattle.sleep_model.specs.Merge.{all_entries, in_order, of_source};
+ghost use Rattle.std.specs.Prelude.{◌≡◌, ◌++◌, true, IfOk, OnOk, filter, map, nat_le, nat_lt, reverse, ◌∷◌, []};
+ghost use Rattle.std.specs.List.{list_all};
+ghost use Rattle.std.specs.List.Sorted.{IsNonDecreasingBy};
+ghost use Rattle.sleep_model.specs.Merge.{all_entries, in_order, of_source, rises};
 ghost use Rattle.log_merge.specs.Rests.{seen, sources_entries};
 ghost use Rattle.apart_log.specs.Slices.{is_in, slice_lines};
 
 use crate::cut::Parts;
 use crate::range::Range;
-use log_merge::in_order;
+use log_merge::{in_order, with_history};
 use log_text::write_entries;
 use sleep_base::Mem;
 use sleep_model::{Journal, JournalEntry, SourceEntry, SourceList};
@@ -26,7 +28,11 @@ fn push_in(those: &mut Vec<SourceEntry>, one: JournalEntry, range: Range) -> Res
 }
 
 /// The entries of a journal that are of that range. `Mem` where there is no memory.
-fn journal_in(alloc: Global, journal: &Journal, range: Range) -> Result<Vec<SourceEntry>, Mem>
+pub(crate) fn journal_in(
+    alloc: Global,
+    journal: &Journal,
+    range: Range,
+) -> Result<Vec<SourceEntry>, Mem>
     ensures { IfOk result (λ those. map of_source those.items ≡ filter (is_in range) (reverse journal.now.past)) }
 {
     let mut reader = journal.reader();
@@ -37,7 +43,7 @@ fn journal_in(alloc: Global, journal: &Journal, range: Range) -> Result<Vec<Sour
     Ok(those)
 }
 
-/// Puts an entry of a source behind others, where it is of that range.
+/// Puts an entry behind others, where it is of that range.
 #[inline(always)]
 fn push_ref_in<'a>(
     entries: &mut Vec<&'a SourceEntry>,
@@ -52,18 +58,46 @@ fn push_ref_in<'a>(
     Ok(())
 }
 
-/// These entries, and behind them those of a history that are of that range. `Mem` where there is no memory.
-fn with_history<'a>(
-    mut entries: Vec<&'a SourceEntry>,
-    history: &'a [SourceEntry],
-    range: Range,
-) -> Result<Vec<&'a SourceEntry>, Mem>
-    ensures { IfOk result (λ all. seen all.items ≡ seen entries.entry.items ++ filter (is_in range) (map of_source history.now)) }
+/// Those of these entries that are of that range. `Mem` where there is no memory.
+fn those_in(alloc: Global, entries: &[SourceEntry], range: Range) -> Result<Vec<&SourceEntry>, Mem>
+    ensures { IfOk result (λ those. seen those.items ≡ filter (is_in range) (map of_source entries.now)) }
 {
-    for entry in history {
-        push_ref_in(&mut entries, entry, range)?;
+    let mut those = Vec::new(alloc);
+    for entry in entries {
+        push_ref_in(&mut those, entry, range)?;
     }
-    Ok(entries)
+    Ok(those)
+}
+
+/// The entries of a history, whose positions rise, that stand before that position.
+fn before(history: &[SourceEntry], pos: u64) -> &[SourceEntry]
+    requires { IsNonDecreasingBy (λ (one : SourceEntry). one.stamp.pos) history.now }
+    ensures { result.now ≡ filter (λ (one : SourceEntry). nat_lt one.stamp.pos pos) history.now }
+{
+    let end = history.partition_point(|one| one.stamp.pos < pos);
+    &history[..end]
+}
+
+/// Those from that position on.
+fn from_on(history: &[SourceEntry], pos: u64) -> &[SourceEntry]
+    requires { IsNonDecreasingBy (λ (one : SourceEntry). one.stamp.pos) history.now }
+    ensures those { result.now ≡ filter (λ (one : SourceEntry). nat_le pos one.stamp.pos) history.now }
+    ensures rising { IsNonDecreasingBy (λ (one : SourceEntry). one.stamp.pos) result.now }
+{
+    let begin = history.partition_point(|one| one.stamp.pos < pos);
+    &history[begin..]
+}
+
+/// Those of that range.
+fn part_in(history: &[SourceEntry], range: Range) -> &[SourceEntry]
+    requires { rises (map of_source history.now) ≡ true }
+    ensures { map of_source result.now ≡ filter (is_in range) (map of_source history.now) }
+{
+    let rest = from_on(history, range.from);
+    match range.to {
+        Some(end) => before(rest, end),
+        None => rest,
+    }
 }
 
 /// These entries, and behind them those of all histories that are of that range. `Mem` where there is no memory.
@@ -72,10 +106,11 @@ fn gathered<'a>(
     histories: &'a [SourceList],
     range: Range,
 ) -> Result<Vec<&'a SourceEntry>, Mem>
+    requires { list_all (λ history. rises (map of_source history)) histories.now ≡ true }
     ensures { IfOk result (λ all. seen all.items ≡ seen entries.entry.items ++ filter (is_in range) (sources_entries histories.now)) }
 {
     for history in histories {
-        entries = with_history(entries, history.as_slice(), range)?;
+        entries = with_history(entries, part_in(history.as_slice(), range))?;
     }
     Ok(entries)
 }
@@ -87,17 +122,22 @@ fn entries_in<'a>(
     histories: &'a [SourceList],
     range: Range,
 ) -> Result<Vec<&'a SourceEntry>, Mem>
-    ensures { IfOk result (λ all. seen all.items ≡ in_order (map of_source journal.now ++ filter (is_in range) (sources_entries histories.now))) }
+    requires { list_all (λ history. rises (map of_source history)) histories.now ≡ true }
+    ensures { IfOk result (λ all. seen all.items ≡ in_order (filter (is_in range) (map of_source journal.now) ++ filter (is_in range) (sources_entries histories.now))) }
 {
-    let entries = log_merge::with_history(Vec::new(alloc), journal)?;
+    let entries = those_in(alloc, journal, range)?;
     in_order(gathered(entries, histories, range)?)
 }
 
-/// The lines of the entries of a log that are of that range. `Mem` where there is no memory.
-pub(crate) fn slice_text(alloc: Global, parts: &Parts<'_>, range: Range) -> Result<Vec<u8>, Mem>
-    ensures { IfOk result (λ text. text.items ≡ slice_lines parts.now.machine.now range (all_entries (reverse parts.now.journal.now.past) parts.now.histories.now)) }
+/// The lines of the entries of that range, of that journal and the histories. `Mem` where there is no memory.
+pub(crate) fn slice_text(
+    alloc: Global,
+    parts: &Parts<'_>,
+    journal: &[SourceEntry],
+    range: Range,
+) -> Result<Vec<u8>, Mem>
+    ensures { IfOk result (λ text. text.items ≡ slice_lines parts.now.machine.now range (all_entries (map of_source journal.now) parts.now.histories.now)) }
 {
-    let journal = journal_in(alloc, parts.journal, range)?;
-    let entries = entries_in(alloc, journal.as_slice(), parts.histories, range)?;
+    let entries = entries_in(alloc, journal, parts.histories, range)?;
     write_entries(alloc, parts.machine, entries.as_slice())
 }

@@ -1,9 +1,8 @@
-use Rattle.std.proofs.Common.{◌≡◌, ◌∙◌, ◌++◌, ℕ, List, Some, reverse, ap₂}
+use Rattle.std.proofs.Common.{◌≡◌, ◌∙◌, reverse}
 use Rattle.std.proofs.lemmas.Result.{IfOk-at_ok}
 use Rattle.sleep_model.specs.Merge.{all_entries}
-use Rattle.apart_log.specs.declared.range.Range.{Range}
 use Rattle.apart_log.specs.Slices.{joined, slice_lines}
-use Rattle.apart_log.proofs.Cutting.{lines_halved}
+use Rattle.apart_log.proofs.Cutting.{halves_joined}
 use Rattle.apart_log.proofs.cut.+texts.Goals as goal
 
 pub returns : goal.returns
@@ -11,13 +10,10 @@ returns g t c =
     let parts = c.args.parts.now in
     let m = parts.machine.now in
     let entries = all_entries (reverse parts.journal.now.past) parts.histories.now in
-    let middle = c.middle-middle.result in
-    let low : Range = record { from = c.args.range.from; to = Some middle } in
-    let high : Range = record { from = middle; to = c.args.range.to } in
-    let front : joined c.in_ok-front.field-0.items ≡ slice_lines m low entries =
-    IfOk-at_ok (λ v. joined v.items ≡ slice_lines m low entries) c.in_ok-front.was c.join-front.ensures.first in
-    let back : joined c.in_ok-back.field-0.items ≡ slice_lines m high entries =
-    IfOk-at_ok (λ v. joined v.items ≡ slice_lines m high entries) c.in_ok-back.was c.join-front.ensures.second in
+    let front : joined c.in_ok-front.field-0.items ≡ slice_lines m c.below-low.result entries =
+    IfOk-at_ok (λ v. joined v.items ≡ slice_lines m c.below-low.result entries) c.in_ok-front.was c.join-front.ensures.first in
+    let back : joined c.in_ok-back.field-0.items ≡ slice_lines m c.from_on-high.result entries =
+    IfOk-at_ok (λ v. joined v.items ≡ slice_lines m c.from_on-high.result entries) c.in_ok-back.was c.join-front.ensures.second in
     c.in_ok-texts.ensures
-    ∙ (ap₂ (λ (one other : List ℕ). one ++ other) front back
-    ∙ lines_halved c.args.range.from middle c.args.range.to c.middle-middle.ensures.behind c.middle-middle.ensures.before m entries)
+    ∙ halves_joined m entries c.args.range c.below-low.result c.from_on-high.result c.middle-middle.result c.middle-middle.ensures.behind c.middle-middle.ensures.before
+    c.below-low.ensures c.from_on-high.ensures _ _ front back

@@ -1,6 +1,6 @@
-use Rattle.std.proofs.Common.{◌≡◌, ◌∙◌, flat_map, reverse}
+use Rattle.std.proofs.Common.{◌≡◌, ◌∙◌, flat_map, map}
 use Rattle.std.proofs.lemmas.Result.{IfOk-weaker}
-use Rattle.sleep_model.specs.Merge.{all_entries}
+use Rattle.sleep_model.specs.Merge.{all_entries, of_source}
 use Rattle.sleep_model.specs.Text.{entry_line}
 use Rattle.log_text.specs.Referred.{referred}
 use Rattle.apart_log.specs.Slices.{slice_lines}
@@ -11,8 +11,8 @@ pub returns : goal.returns
 returns c =
     let parts = c.args.parts.now in
     let m = parts.machine.now in
-    let told = flat_map (entry_line m) (referred c.as_slice-2.result.now) in
-    let lines = slice_lines m c.args.range (all_entries (reverse parts.journal.now.past) parts.histories.now) in
+    let told = flat_map (entry_line m) (referred c.as_slice.result.now) in
+    let lines = slice_lines m c.args.range (all_entries (map of_source c.args.journal.now) parts.histories.now) in
     IfOk-weaker c.write_entries.result (λ v. v.items ≡ told) (λ v. v.items ≡ lines)
-    (λ v is. is ∙ slice_told m c.args.range (reverse parts.journal.now.past) parts.histories.now _ _ _ _ c.in_ok-journal.ensures c.as_slice.ensures.value c.in_ok-entries.ensures c.as_slice-2.ensures.value)
+    (λ v is. is ∙ slice_told m c.args.range (map of_source c.args.journal.now) parts.histories.now _ _ c.in_ok-entries.ensures c.as_slice.ensures.value)
     c.write_entries.ensures

@@ -1,8 +1,8 @@
-use Rattle.std.proofs.Common.{◌≡◌, ◌++◌, filter, map, take}
+use Rattle.std.proofs.Common.{◌≡◌, filter, map, take}
 use Rattle.sleep_model.specs.Merge.{of_source}
 use Rattle.log_merge.specs.Rests.{seen}
 use Rattle.apart_log.specs.Slices.{is_in}
-use Rattle.apart_log.proofs.slice.with_history.Given as goal
+use Rattle.apart_log.proofs.slice.those_in.Given as goal
 
 abbrev pub invariant-loop-entry : goal.invariant-loop-entry
-invariant-loop-entry l = seen l.entries.items ≡ seen l.fn.entries.items ++ filter (is_in l.range) (map of_source (take l.entry-index l.history))
+invariant-loop-entry l = seen l.those.items ≡ filter (is_in l.range) (map of_source (take l.entry-index l.entries))

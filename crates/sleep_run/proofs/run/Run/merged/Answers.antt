@@ -1,18 +1,26 @@
-use Rattle.std.proofs.Common.{◌≡◌, ◌∙◌, List, refl, reverse, ap, ap₂}
+use Rattle.std.proofs.Common.{◌≡◌, ◌∙◌, List, map, refl, reverse, ap, ap₂}
+use Rattle.std.specs.List.{list_all}
 use Rattle.sleep_model.specs.declared.entry.Entry.{Entry}
 use Rattle.sleep_model.specs.declared.entry.JournalEntry.{JournalEntry}
 use Rattle.sleep_model.specs.declared.entry.SourceEntry.{SourceEntry}
-use Rattle.sleep_model.specs.Merge.{merge, rises}
-use Rattle.running_laws.proofs.Ends.{journal_rises}
+use Rattle.sleep_model.specs.Merge.{merge, of_source, rises}
+use Rattle.running_laws.proofs.Ends.{histories_rise, journal_rises}
 use Rattle.sleep_run.proofs.Resting.{run_is}
 use Rattle.sleep_run.proofs.run.Run.merged.Goals as goal
 
-pub new-requires : goal.new-requires
-new-requires c =
+pub new-requires-clause-journal : goal.new-requires-clause-journal
+new-requires-clause-journal c =
     let s = c.args.self in
     let on = c.in_ok-journal.ensures.laid.on in
     ap (λ (past : List JournalEntry). rises (reverse past)) c.in_ok-journal.ensures.journal
     ∙ journal_rises s.machine s.journal s.sources on.jobs on.running
+
+pub new-requires-clause-histories : goal.new-requires-clause-histories
+new-requires-clause-histories c =
+    let s = c.args.self in
+    let on = c.in_ok-journal.ensures.laid.on in
+    ap (λ (hs : List (List SourceEntry)). list_all (λ history. rises (map of_source history)) hs) c.in_ok-journal.ensures.histories
+    ∙ histories_rise s.machine s.journal s.sources on.jobs on.running
 
 pub returns : goal.returns
 returns c =

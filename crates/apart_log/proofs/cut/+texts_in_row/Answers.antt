@@ -1,0 +1,12 @@
+use Rattle.std.proofs.Common.{◌∙◌, map}
+use Rattle.sleep_model.specs.Merge.{all_entries, of_source}
+use Rattle.apart_log.proofs.Cutting.{halves_joined}
+use Rattle.apart_log.proofs.cut.+texts_in_row.Goals as goal
+
+pub returns : goal.returns
+returns t c =
+    let parts = c.args.parts.now in
+    let entries = all_entries (map of_source c.args.journal.now) parts.histories.now in
+    c.in_ok-texts.ensures
+    ∙ halves_joined parts.machine.now entries c.args.range c.below.result c.from_on.result c.middle-middle.result c.middle-middle.ensures.behind c.middle-middle.ensures.before
+    c.below.ensures c.from_on.ensures _ _ c.in_ok-front.ensures c.in_ok-back.ensures

@@ -1,0 +1,4 @@
+use Rattle.apart_log.proofs.cut.+texts_in_row.Given as goal
+
+abbrev pub decreases-texts_in_row : goal.decreases-texts_in_row
+decreases-texts_in_row l = l.halvings
