@@ -1,4 +1,4 @@
-//! A log cut into slices, side by side on threads.
+//! A log cut into parts for workers, side by side on threads, and each part into slices.
 
 ghost use Rattle.std.specs.Prelude.{◌≡◌, ◌++◌, true, IfOk, map, reverse};
 ghost use Rattle.std.specs.List.{list_all};

@@ -1,5 +1,5 @@
 //! A log that is kept as the journal and the sources' histories that it is put together from: put together in one
-//! list, or written slice by slice, each slice on a thread of its own (own: Linux keeps no such log).
+//! list, or written slice by slice, the slices side by side on threads (own: Linux keeps no such log).
 #![tactic(auto)]
 
 mod cut;

@@ -122,8 +122,8 @@ impl ApartLog {
         })
     }
 
-    /// The texts of slices of the entries, each made on a thread of its own where one can be made; one behind the other
-    /// they are the text of all. There are twice as many for each `halvings`. `Mem` where there is no memory.
+    /// The texts of slices of the entries; one behind the other they are the text of all. Workers make them, each on a thread
+    /// of its own where one can be made; there are twice as many workers for each `halvings`. `Mem` where there is no memory.
     #[tactic(auto, using(crate::proofs::Cutting::lines_all))]
     pub(crate) fn texts<R: Threads + Sync>(
         &self,

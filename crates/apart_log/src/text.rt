@@ -30,7 +30,7 @@ impl Model for SlicedText {
     ghost view = { λ t. joined t.slices.items ++ t.behind.items };
 }
 
-/// How often the log is halved, so that each worker has a slice.
+/// How often the log is halved, so that each worker has a part of it.
 fn halvings(workers: u8) -> u32 {
     u32::from(workers).next_power_of_two().trailing_zeros()
 }
@@ -72,7 +72,7 @@ impl SlicedText {
     ghost use Rattle.sleep_base.specs.Whole.{WriteAll};
     ghost use Rattle.sleep_model.specs.Text.{text};
 
-    /// The text of the log that this machine made, in a slice for each worker. `Mem` if there is no memory
+    /// The text of the log that this machine made, in slices that this number of workers makes. `Mem` if there is no memory
     /// for it.
     pub fn new<R: Threads + Sync>(
         rt: &R,
