@@ -15,6 +15,7 @@ pub mod Loops
 pub mod Finished
 pub mod Clean
 pub mod TextLines
+pub mod NextEntry
 pub mod OneLog
 pub mod NoBadLine
 pub mod ReadBack
@@ -23,3 +24,4 @@ pub mod DeviceLines
 pub mod Lengths
 pub mod Passed
 pub mod Lists
+pub mod Pieces

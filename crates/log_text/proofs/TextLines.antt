@@ -79,7 +79,7 @@ lines_sources (name ∷ names) (s ∷ stats) h f r =
     ∙ ap (λ (ls : List (List ℕ)). source_line name s ∷ ls) (lines_sources names stats p.1 q.1 r)
 
 module _ (m : Machine) (named : AreNamed m) where
-  entry_is_line : (e : Entry) → fits_entry m e ≡ true → IsLine (entry_line m e)
+  pub entry_is_line : (e : Entry) → fits_entry m e ≡ true → IsLine (entry_line m e)
   entry_is_line e f = (decimal e.time ++ space ++ word_text e.now ++ space ++ actor_text m e.actor ++ space ++ body m e.kind, entry_clean m named e f, refl)
 
   waiting_is_line : (w : Waiting) → fits_waiting m w ≡ true → IsLine (waiting_line m w)

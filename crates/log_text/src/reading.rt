@@ -12,6 +12,8 @@ pub(crate) mod lines;
 pub(crate) mod meaning;
 pub(crate) mod names;
 pub(crate) mod number;
+pub(crate) mod pieces;
+pub(crate) mod quick;
 pub(crate) mod read;
 pub(crate) mod reader;
 pub(crate) mod steps;

@@ -10,7 +10,7 @@ use crate::spelling::fixed::{AUTO, DEVICE, TIME, TIMER};
 use sleep_model::{Actor, Entry, EventNow};
 
 /// The word that the text spells: events in progress, registered, hard.
-fn now_in(text: &[u8]) -> Option<EventNow>
+pub fn now_in(text: &[u8]) -> Option<EventNow>
     ensures now { result ≡ now_in text.now }
     ensures fits { IfSome result (λ n. fits_word n ≡ true) }
 {
@@ -23,7 +23,7 @@ fn now_in(text: &[u8]) -> Option<EventNow>
 }
 
 /// Who makes an entry.
-fn actor_in(book: &NameBook, text: &[u8]) -> Option<Actor>
+pub fn actor_in(book: &NameBook, text: &[u8]) -> Option<Actor>
     ensures actor { result ≡ actor_in book.now text.now }
     ensures fits { IfSome result (λ a. fits_actor book.now a ≡ true) }
 {

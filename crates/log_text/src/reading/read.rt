@@ -21,6 +21,7 @@ use std::alloc::Global;
 
 /// The entries at the beginning of a log's text, what stands behind their lines, and the number of
 /// the line there.
+#[tactic(auto, using(crate::proofs::NextEntry::shorter_behind))]
 fn read_entries<'a>(
     alloc: Global,
     book: &NameBook,
@@ -36,8 +37,7 @@ fn read_entries<'a>(
     let mut left = bytes;
     let mut number = 1;
     while !left.is_empty() {
-        let (line, behind) = first_line(left);
-        let Some(entry) = reader.entry(book, line)? else {
+        let Some((entry, behind)) = reader.next_entry(book, left)? else {
             return Ok((entries, left, number));
         };
         entries.push(entry)?;

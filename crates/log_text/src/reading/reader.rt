@@ -1,20 +1,28 @@
-//! Single lines, read leniently and then held against what they have to spell.
+//! Single lines: taken piece by piece where they are what most lines are, else read leniently and then held against what
+//! they have to spell.
 
-ghost use Rattle.std.specs.Prelude.{◌≡◌, true, IfOk, IfSome, IfNone};
+ghost use Rattle.std.specs.Prelude.{◌≡◌, ◌≢◌, ◌++◌, [], ℕ, true, IfOk, IfSome, IfNone};
 ghost use Rattle.std.specs.Str.{bytes_eq};
-ghost use Rattle.sleep_model.specs.Text.{entry_line, source_line, waiting_line};
-ghost use Rattle.sleep_model.specs.Fits.{fits_entry, fits_stats, fits_script, fits_cause};
+ghost use Rattle.sleep_model.specs.Text.{body, entry_line, newline, source_line, source_names, waiting_line};
+ghost use Rattle.sleep_model.specs.Fits.{fits_entry, fits_kind, fits_stats, fits_script, fits_cause};
+ghost use Rattle.log_text.specs.Front.{front_text};
 ghost use Rattle.log_text.specs.Cutting.{without_last};
-ghost use Rattle.log_text.specs.Grammar.{IsEntryLine, IsSourceLine, IsStuckLine};
+ghost use Rattle.log_text.specs.Grammar.{lines, IsBadEntry, IsBadSource, IsEntryLine, IsSourceLine, IsStuckLine};
 ghost use Rattle.log_text.specs.Named.{AreNamed};
 
 use crate::reading::book::NameBook;
+use crate::reading::cut::first_word;
 use crate::reading::ends::{stats_in, waiting_in};
-use crate::reading::entries::entry_in;
+use crate::reading::entries::{entry_in, now_in};
+use crate::reading::kinds::kind_in;
+use crate::reading::lines::first_line;
+use crate::reading::number::word64;
+use crate::reading::pieces::behind;
+use crate::reading::quick::{actor_first, kind_first};
 use crate::spelling::front::LineFront;
-use crate::writing::writer::{LineWriter, put_entry, put_source, put_waiting};
+use crate::writing::writer::{LineWriter, put_entry, put_said, put_source, put_waiting};
 use sleep_base::Mem;
-use sleep_model::{Entry, Stats, Waiting};
+use sleep_model::{Actor, Entry, Kind, Stats, Waiting};
 use std::alloc::Global;
 
 /// All but the last byte.
@@ -24,11 +32,28 @@ fn without_last(text: &[u8]) -> &[u8]
     &text[..text.len().saturating_sub(1)]
 }
 
+/// The device that an entry of a phase names, for others that of those before.
+#[inline]
+fn device_of(kind: Kind, before: u32) -> u32 {
+    match kind {
+        Kind::Prepare { device, .. }
+        | Kind::Complete(device)
+        | Kind::Schedule(_, device)
+        | Kind::Begin(_, device)
+        | Kind::End(_, device, _)
+        | Kind::Skip(_, device, _) => device,
+        _ => before,
+    }
+}
+
 /// Reads lines of a machine's log, each for itself.
 #[derive(Drop)]
 pub struct LineReader {
     spelled: LineWriter,
     front: LineFront,
+    // Who made the last entry that was read, and the last device that one named.
+    actor: Actor,
+    device: u32,
 }
 
 impl LineReader {
@@ -36,7 +61,12 @@ impl LineReader {
     pub fn new(alloc: Global) -> Result<Self, Mem> {
         let front = LineFront::start();
         let spelled = LineWriter::with_room(alloc, 0)?;
-        Ok(LineReader { spelled, front })
+        Ok(LineReader {
+            spelled,
+            front,
+            actor: Actor::Auto,
+            device: 0,
+        })
     }
 
     /// Whether the entry spells the line.
@@ -63,6 +93,163 @@ impl LineReader {
                 let same = self.is_entry(book, entry, line)?;
                 if same { Ok(Some(entry)) } else { Ok(None) }
             }
+        }
+    }
+
+    /// What stands behind the moment and the word that a text begins with, which the front then has: mostly those of the
+    /// line before. None where the text begins otherwise.
+    fn behind_front<'a>(&mut self, text: &'a [u8]) -> Option<&'a [u8]>
+        ensures { IfSome result (λ rest. text.now ≡ front_text self.new.front.time self.new.front.word ++ rest.now) }
+    {
+        if let Some(rest) = behind(text, self.front.text().as_bytes()) {
+            return Some(rest);
+        }
+        let (time, rest) = first_word(text);
+        let (now, _) = first_word(rest);
+        let time = word64(time)?;
+        let now = now_in(now)?;
+        self.front.move_to(time, now);
+        behind(text, self.front.text().as_bytes())
+    }
+
+    /// Whether what an entry says spells a line's end.
+    fn is_said(&mut self, book: &NameBook, kind: Kind, text: &[u8]) -> Result<bool, Mem>
+        ensures { IfOk result (λ b. b ≡ bytes_eq (body book.now kind ++ newline) text.now) }
+    {
+        self.spelled.clear();
+        put_said(&mut self.spelled, book.names(), kind)?;
+        self.spelled.is(text)
+    }
+
+    /// What a text tells first, to the end of its line, and what stands behind it. None where it tells nothing.
+    #[tactic(auto, using(crate::proofs::Readable::same_bytes))]
+    fn other_first<'a>(
+        &mut self,
+        book: &NameBook,
+        text: &'a [u8],
+    ) -> Result<Option<(Kind, &'a [u8])>, Mem>
+        ensures text { IfOk result (λ o. IfSome o (λ r. text.now ≡ body book.now r.0 ++ newline ++ r.1.now)) }
+        ensures fits { IfOk result (λ o. IfSome o (λ r. fits_kind book.now r.0 ≡ true)) }
+    {
+        if text.is_empty() {
+            return Ok(None);
+        }
+        let (line, rest) = first_line(text);
+        match kind_in(book, without_last(line)) {
+            None => Ok(None),
+            Some(kind) => {
+                let same = self.is_said(book, kind, line)?;
+                if same {
+                    Ok(Some((kind, rest)))
+                } else {
+                    Ok(None)
+                }
+            }
+        }
+    }
+
+    /// What a text tells first, to the end of its line, and what stands behind it: mostly something of a device.
+    fn said_first<'a>(
+        &mut self,
+        book: &NameBook,
+        text: &'a [u8],
+    ) -> Result<Option<(Kind, &'a [u8])>, Mem>
+        ensures text { IfOk result (λ o. IfSome o (λ r. text.now ≡ body book.now r.0 ++ newline ++ r.1.now)) }
+        ensures fits { IfOk result (λ o. IfSome o (λ r. fits_kind book.now r.0 ≡ true)) }
+    {
+        match kind_first(book, self.device, text) {
+            None => self.other_first(book, text),
+            Some((kind, rest)) => {
+                self.device = device_of(kind, self.device);
+                Ok(Some((kind, rest)))
+            }
+        }
+    }
+
+    /// The entry of a text's first line behind its front, and what stands behind the line.
+    #[tactic(auto, using(crate::proofs::NextEntry::entry_told))]
+    fn made_first<'a>(
+        &mut self,
+        book: &NameBook,
+        text: &'a [u8],
+    ) -> Result<Option<(Entry, &'a [u8])>, Mem>
+        ensures text { IfOk result (λ o. IfSome o (λ r.
+            front_text self.old.front.time self.old.front.word ++ text.now ≡ entry_line book.now r.0 ++ r.1.now)) }
+        ensures fits { IfOk result (λ o. IfSome o (λ r. fits_entry book.now r.0 ≡ true)) }
+    {
+        let (time, now) = (self.front.time(), self.front.word());
+        let Some((actor, said)) = actor_first(book, self.actor, text) else {
+            return Ok(None);
+        };
+        self.actor = actor;
+        match self.said_first(book, said)? {
+            None => Ok(None),
+            Some((kind, rest)) => Ok(Some((
+                Entry {
+                    time,
+                    now,
+                    actor,
+                    kind,
+                },
+                rest,
+            ))),
+        }
+    }
+
+    /// The entry of a text's first line, and what stands behind the line, read at one go. None also for some lines that
+    /// few logs have.
+    fn entry_first<'a>(
+        &mut self,
+        book: &NameBook,
+        text: &'a [u8],
+    ) -> Result<Option<(Entry, &'a [u8])>, Mem>
+        ensures text { IfOk result (λ o. IfSome o (λ r. text.now ≡ entry_line book.now r.0 ++ r.1.now)) }
+        ensures fits { IfOk result (λ o. IfSome o (λ r. fits_entry book.now r.0 ≡ true)) }
+    {
+        let Some(made) = self.behind_front(text) else {
+            return Ok(None);
+        };
+        match self.made_first(book, made)? {
+            None => Ok(None),
+            Some((entry, rest)) => Ok(Some((entry, rest))),
+        }
+    }
+
+    /// The same by the whole line, also for lines that few logs have. None where it is no entry's.
+    #[tactic(auto, using(crate::proofs::NextEntry::no_entry_next))]
+    fn entry_of_line<'a>(
+        &mut self,
+        book: &NameBook,
+        text: &'a [u8],
+    ) -> Result<Option<(Entry, &'a [u8])>, Mem>
+        requires { text.now ≢ [] }
+        ensures text { IfOk result (λ o. IfSome o (λ r. text.now ≡ entry_line book.now r.0 ++ r.1.now)) }
+        ensures fits { IfOk result (λ o. IfSome o (λ r. fits_entry book.now r.0 ≡ true)) }
+        ensures none { IfOk result (λ o. IfNone o (AreNamed book.now → (n bad : ℕ) →
+            IsBadSource book.now (source_names book.now) (lines text.now) n bad → IsBadEntry book.now (lines text.now) n bad)) }
+    {
+        let (line, rest) = first_line(text);
+        match self.entry(book, line)? {
+            None => Ok(None),
+            Some(entry) => Ok(Some((entry, rest))),
+        }
+    }
+
+    /// The entry of a text's first line, and what stands behind the line. None where it is no entry's.
+    pub fn next_entry<'a>(
+        &mut self,
+        book: &NameBook,
+        text: &'a [u8],
+    ) -> Result<Option<(Entry, &'a [u8])>, Mem>
+        requires { text.now ≢ [] }
+        ensures text { IfOk result (λ o. IfSome o (λ r. text.now ≡ entry_line book.now r.0 ++ r.1.now)) }
+        ensures fits { IfOk result (λ o. IfSome o (λ r. fits_entry book.now r.0 ≡ true)) }
+        ensures none { IfOk result (λ o. IfNone o (AreNamed book.now → (n bad : ℕ) →
+            IsBadSource book.now (source_names book.now) (lines text.now) n bad → IsBadEntry book.now (lines text.now) n bad)) }
+    {
+        match self.entry_first(book, text)? {
+            None => self.entry_of_line(book, text),
+            Some((entry, rest)) => Ok(Some((entry, rest))),
         }
     }
 

@@ -1,4 +1,5 @@
-ghost use Rattle.std.specs.Prelude.{◌≡◌, ◌≤◌, length};
+ghost use Rattle.std.specs.Prelude.{◌≡◌, ◌≤◌, length, true};
+ghost use Rattle.sleep_model.specs.Fits.{fits_word, is_word64};
 ghost use Rattle.log_text.specs.Front.{front_text};
 
 use crate::spelling::digits::Digits;
@@ -57,6 +58,24 @@ impl LineFront {
         *self = LineFront::of(time, word);
     }
 
+    /// Its moment, in ms.
+    #[inline(always)]
+    pub fn time(&self) -> u64
+        ensures time { result ≡ self.now.time }
+        ensures fits { is_word64 result ≡ true }
+    {
+        self.time
+    }
+
+    /// Its word.
+    #[inline(always)]
+    pub fn word(&self) -> EventNow
+        ensures word { result ≡ self.now.word }
+        ensures fits { fits_word result ≡ true }
+    {
+        word_of(self.word.inpr, self.word.count, self.word.hard)
+    }
+
     /// Its text.
     #[inline(always)]
     pub fn text(&self) -> &ShortText
@@ -64,6 +83,15 @@ impl LineFront {
     {
         &self.text
     }
+}
+
+/// The word of these numbers, each of which its type keeps in range.
+#[inline(always)]
+fn word_of(inpr: u32, count: u32, hard: u32) -> EventNow
+    ensures word { result ≡ record { inpr = inpr; count = count; hard = hard } }
+    ensures fits { fits_word result ≡ true }
+{
+    EventNow { inpr, count, hard }
 }
 
 /// Spells the moment and the word, each with the space behind it.

@@ -1,14 +1,15 @@
 ghost use Rattle.std.specs.Prelude.{◌≡◌, ◌+◌, ◌≤◌, ◌++◌, [], OnOk, codes, length};
-ghost use Rattle.sleep_model.specs.Text.{entry_line, newline, source_line, waiting_line};
+ghost use Rattle.sleep_model.specs.Text.{body, entry_line, newline, source_line, waiting_line};
 
 use crate::spelling::fixed::FINISHED;
 use crate::spelling::front::LineFront;
 use crate::spelling::held::HeldBytes;
 use crate::spelling::spelled::{Spelled, put};
+use crate::writing::body::put_body;
 use crate::writing::line::{spell_entry, spell_source, spell_waiting};
 use crate::writing::ready::{LONGEST, ReadyNames};
 use sleep_base::Mem;
-use sleep_model::{Entry, Stats, Waiting};
+use sleep_model::{Entry, Kind, Stats, Waiting};
 use std::alloc::Global;
 use std::marker::Model;
 
@@ -82,6 +83,9 @@ impl LineWriter {
     pub fn is(&mut self, bytes: &[u8]) -> Result<bool, Mem>
         ensures { IfOk result (λ b. b ≡ bytes_eq self.old bytes.now) }
     {
+        if self.bytes.is_empty() {
+            return Ok(self.held.as_bytes() == bytes);
+        }
         pass_on(&mut self.bytes, &mut self.held)?;
         Ok(self.bytes.as_slice() == bytes)
     }
@@ -111,6 +115,17 @@ pub fn put_entry(
 {
     make_room(&mut out.bytes, &mut out.held)?;
     spell_entry(&mut out.held, names, front, entry);
+    Ok(())
+}
+
+/// Writes what an entry says, to the end of its line.
+pub fn put_said(out: &mut LineWriter, names: &ReadyNames, kind: Kind) -> Result<(), Mem>
+    ensures { OnOk result (out.new ≡ out.old ++ (body names.now kind ++ newline)) }
+{
+    make_room(&mut out.bytes, &mut out.held)?;
+    let held = &mut out.held;
+    put_body(held, names, kind);
+    put!(held; "\n");
     Ok(())
 }
 

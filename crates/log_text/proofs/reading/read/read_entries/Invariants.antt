@@ -3,14 +3,15 @@ use Rattle.std.specs.List.{list_all}
 use Rattle.sleep_model.specs.Fits.{fits_entry}
 use Rattle.sleep_model.specs.Text.{entry_line}
 use Rattle.log_text.specs.Grammar.{lines, IsBadEntry}
+use Rattle.log_text.specs.Named.{AreNamed}
 use Rattle.log_text.proofs.reading.read.read_entries.Given as goal
 
 -- the entries so far are the text up to what is left, and the first bad line is the first bad one there
-abbrev pub invariant-loop-line : goal.invariant-loop-line
-invariant-loop-line l =
+abbrev pub invariant-loop-reader : goal.invariant-loop-reader
+invariant-loop-reader l =
     (l.bytes ≡ flat_map (entry_line l.book) l.entries ++ l.left)
     × (list_all (fits_entry l.book) l.entries ≡ true)
-    × ((n : ℕ) → IsBadEntry l.book (lines l.left) l.number n → IsBadEntry l.book (lines l.bytes) 1 n)
+    × (AreNamed l.book → (n : ℕ) → IsBadEntry l.book (lines l.left) l.number n → IsBadEntry l.book (lines l.bytes) 1 n)
 
-abbrev pub decreases-loop-line : goal.decreases-loop-line
-decreases-loop-line l = length l.left
+abbrev pub decreases-loop-reader : goal.decreases-loop-reader
+decreases-loop-reader l = length l.left
