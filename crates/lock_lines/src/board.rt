@@ -2,6 +2,7 @@ use crate::cut::first_line;
 use crate::fault::LinesFault;
 use crate::text::{answer_text, push_names, push_sources, push_text};
 use crate::verb::{Verb, rest, verb_of};
+use sleep_model::Name;
 use std::alloc::Global;
 use std::marker::Model;
 use std::sync::Wait;
@@ -14,6 +15,8 @@ pub(crate) struct LockBoard {
     locks: WakeLocks<MOST_ENTRIES>,
     now: u64,
     said: Vec<u8>,
+    /// The names that were told last, whose places are used again.
+    names: Vec<Name>,
 }
 
 impl Model for LockBoard {
@@ -44,6 +47,7 @@ impl LockBoard {
             locks: WakeLocks::new(alloc),
             now: 0,
             said: Vec::new(alloc),
+            names: Vec::new(alloc),
         }
     }
 
@@ -102,8 +106,8 @@ impl LockBoard {
         ensures done { OnOk result (self.new ≡ shown word.now active self.old) }
         ensures refused { IfErr result (λ e. e ≡ fault.Mem) }
     {
-        let names = self.locks.names(active)?;
-        push_names(&mut self.said, word, names.as_slice())?;
+        self.locks.list_names(active, &mut self.names)?;
+        push_names(&mut self.said, word, self.names.as_slice())?;
         Ok(())
     }
 
@@ -169,7 +173,12 @@ impl LockBoard {
         ensures agree { OnOk result (AllAgree self.locks) }
         ensures refused { IfErr result (λ e. e ≡ fault.Mem) }
     {
-        let LockBoard { locks, now, said } = self;
+        let LockBoard {
+            locks,
+            now,
+            said,
+            ..
+        } = self;
         let all = locks.all_stats(now)?;
         let mut out = said;
         push_sources(&mut out, &all)?;

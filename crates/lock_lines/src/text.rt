@@ -1,4 +1,4 @@
-ghost use Rattle.std.specs.Prelude.{◌≡◌, ◌++◌, OnOk, decimal, flat_map};
+ghost use Rattle.std.specs.Prelude.{◌≡◌, ◌++◌, ◌∷◌, [], OnOk, decimal, flat_map};
 ghost use Rattle.sleep_model.specs.Text.{counts_text, source_line, times_text, space};
 ghost use Rattle.lock_lines.specs.Answers.{answer_text, counted_line, names_line, spaced};
 
@@ -23,6 +23,14 @@ pub(crate) fn push_text(out: &mut Vec<u8>, text: &str) -> Result<(), AllocError>
     ensures { OnOk result (out.new.items ≡ out.old.items ++ text.now) }
 {
     out.extend_from_slice(text.as_bytes())
+}
+
+/// Puts a byte behind others.
+fn push_byte(out: &mut Vec<u8>, byte: u8) -> Result<(), AllocError>
+    ensures { OnOk result (out.new.items ≡ out.old.items ++ (byte ∷ [])) }
+{
+    out.push(byte)?;
+    Ok(())
 }
 
 /// Puts a number behind others, after a space.
@@ -79,7 +87,7 @@ fn push_spaced(out: &mut Vec<u8>, names: &[Name]) -> Result<(), AllocError>
     ensures { OnOk result (out.new.items ≡ out.old.items ++ flat_map spaced names.now) }
 {
     for name in names {
-        push_text(out, " ")?;
+        push_byte(out, b' ')?;
         out.extend_from_slice(name.bytes())?;
     }
     Ok(())
@@ -91,5 +99,5 @@ pub(crate) fn push_names(out: &mut Vec<u8>, word: &str, names: &[Name]) -> Resul
 {
     push_text(out, word)?;
     push_spaced(out, names)?;
-    push_text(out, "\n")
+    push_byte(out, b'\n')
 }

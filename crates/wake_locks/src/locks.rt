@@ -251,12 +251,21 @@ impl<const CAP: usize> WakeLocks<CAP> {
         ensures { IfOk result (λ names. names ≡ names_of active self.now) }
     {
         let mut names = Vec::new(self.alloc);
+        self.list_names(active, &mut names)?;
+        Ok(ListOf::of_vec(names))
+    }
+
+    /// The same in a list that is there, in place of what stood in it. After an error some of them stand there.
+    pub fn list_names(&self, active: bool, names: &mut Vec<Name>) -> Result<(), Mem>
+        ensures { OnOk result (names.new.items ≡ names_of active self.now) }
+    {
+        names.clear();
         for lock in &self.locks {
             if lock.stands_so(active) {
                 names.push(lock.name())?;
             }
         }
-        Ok(ListOf::of_vec(names))
+        Ok(())
     }
 
     /// What is counted of each known lock at that moment, in the order of their names. Each stands as its source's entries
