@@ -40,7 +40,7 @@ in_order d =
     (split thing_rules (operation_rules ++ answer_rules) d ∙ ap (option_or (first_of thing_rules d)) (split operation_rules answer_rules d)
     ∙ sym (or_group (first_of thing_rules d) (first_of operation_rules d) (first_of answer_rules d))))))
 
-or_none : {A : Type 0} (a b : Option A) → option_or a b ≡ None → (a ≡ None) × (b ≡ None)
+pub or_none : {A : Type 0} (a b : Option A) → option_or a b ≡ None → (a ≡ None) × (b ≡ None)
 or_none None b e = (refl, e)
 or_none (Some x) b e = cc
 

@@ -1,17 +1,14 @@
--- What came of testing the rules of a file.
-use Rattle.std.specs.Prelude.{◌≡◌, Option, Some, None, reverse}
+-- The rules of a file by groups, and a file that keeps them.
+use Rattle.std.specs.Prelude.{◌≡◌, Option, None, reverse}
 use Rattle.std.specs.Option.{option_or, option_map}
 use Rattle.serde_json.specs.Data.{Data}
 use Rattle.sleep_model.specs.Order.{parents_of}
 use Rattle.machine_file.specs.declared.names.known.Known.{Known}
 use Rattle.machine_file.specs.declared.rules.cycles.Linking.{Linking}
-use Rattle.machine_file.specs.declared.reading.machine.Checked.{Checked}
-use Rattle.machine_file.specs.declared.reading.machine.Checked.TheVariants as checked
 use Rattle.machine_file.specs.Devices.{whole_devices, whole_links, cyclic_link}
 use Rattle.machine_file.specs.Whole.{Broken, first_of, broken_at}
 use Rattle.machine_file.specs.Groups.{form_rules, device_rules, thing_rules, operation_rules, answer_rules}
 use Rattle.machine_file.specs.Knows.{Knows, AreFew}
-use Rattle.machine_file.specs.Broken.{broken_view}
 
 -- the first rule on form that is broken
 unfoldable pub broken_form : Data → Option Broken
@@ -40,8 +37,3 @@ pub record IsSound (file : Data) (k : Known) (l : Linking) : Type 0 where
   pub few : AreFew k
   pub links : l.links.items ≡ whole_links file
   pub added : l.added.links ≡ record { parents = parents_of (whole_devices file); links = reverse (whole_links file) }
-
--- a rule is broken, or none is
-abbrev pub Checks : Data → Checked → Type 0
-Checks file (checked.Broken b) = first_in_order file ≡ Some (broken_view b)
-Checks file (checked.Sound k l) = IsSound file k l

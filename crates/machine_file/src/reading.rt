@@ -5,17 +5,20 @@ pub(crate) mod texts;
 pub(crate) mod things;
 pub(crate) mod whole;
 
-ghost use Rattle.std.specs.Prelude.{◌≡◌, ◌++◌, codes, Some, IfOk, IfErr, string_bytes};
+ghost use Rattle.std.specs.Prelude.{◌≡◌, ◌++◌, codes, Some, None, IfOk, IfErr, string_bytes};
 ghost use Rattle.borrowed_json.specs.View.{view};
 ghost use Rattle.sleep_model.specs.Accepted.{IsAccepted};
 ghost use Rattle.machine_file.specs.Whole.{machine_in};
+ghost use Rattle.machine_file.specs.Kept.{broken_form};
+ghost use Rattle.machine_file.specs.Knows.{Knows};
 ghost use Rattle.machine_file.specs.Reading.{links_among, Reads};
 ghost use Rattle.machine_file.specs.Refusing.{Names, Refuses, RefusesValue};
 ghost use Rattle.machine_file.specs.Places.{item_place};
 ghost use Rattle.machine_file.specs.Broken.{broken_view, place_text};
 
 use crate::fault::MachineFault;
-use crate::reading::machine::{Checked, check};
+use crate::names::known::{Known, known_in};
+use crate::reading::machine::{first_of_form, linked};
 use crate::reading::whole::read_of;
 use crate::rules::Broken;
 use crate::value::place::Place;
@@ -62,12 +65,36 @@ fn read_tree(alloc: Global, tree: &Value<'_>) -> Result<ReadMachine, MachineFaul
     ensures ok { IfOk result (Reads (view tree.now)) }
     ensures err { IfErr result (RefusesValue (view tree.now)) }
 {
-    match check(alloc, tree)? {
-        Checked::Broken(broken) => Err(fault_of(alloc, broken)),
-        Checked::Sound(known, linking) => match read_of(alloc, tree, &known, linking) {
-            Ok(read) => Ok(read),
-            Err(_) => Err(MachineFault::Mem),
-        },
+    match first_of_form(tree) {
+        Some(broken) => Err(fault_of(alloc, broken)),
+        None => read_formed(alloc, tree),
+    }
+}
+
+/// Reads a file that keeps the rules on form. It alone owns the names of its things, and drops them at one exit.
+fn read_formed(alloc: Global, tree: &Value<'_>) -> Result<ReadMachine, MachineFault>
+    requires { broken_form (view tree.now) ≡ None }
+    ensures ok { IfOk result (Reads (view tree.now)) }
+    ensures err { IfErr result (RefusesValue (view tree.now)) }
+{
+    let known = known_in(alloc, tree)?;
+    read_known(alloc, tree, &known)
+}
+
+/// Reads it by the names of its things.
+fn read_known(
+    alloc: Global,
+    tree: &Value<'_>,
+    known: &Known<'_>,
+) -> Result<ReadMachine, MachineFault>
+    requires form { broken_form (view tree.now) ≡ None }
+    requires knows { Knows known.now (view tree.now) }
+    ensures ok { IfOk result (Reads (view tree.now)) }
+    ensures err { IfErr result (RefusesValue (view tree.now)) }
+{
+    match linked(alloc, tree, known)? {
+        Ok(linking) => Ok(read_of(alloc, tree, known, linking)?),
+        Err(broken) => Err(fault_of(alloc, broken)),
     }
 }
 

@@ -1,17 +1,17 @@
-//! A machine file as a whole: which rule it breaks, or which machine it spells.
+//! The rules of a machine file in their order, and its links where it breaks none.
 
-ghost use Rattle.std.specs.Prelude.{◌≡◌, [], reverse, option_map, codes, None, IfOk};
+ghost use Rattle.std.specs.Prelude.{◌≡◌, [], option_map, codes, Some, None, IfOk, IfErr};
+ghost use Rattle.std.specs.Option.{option_or};
 ghost use Rattle.borrowed_json.specs.View.{view};
-ghost use Rattle.sleep_model.specs.Order.{parents_of};
 ghost use Rattle.machine_file.specs.Members.{list_in};
 ghost use Rattle.machine_file.specs.Places.{first_not_after};
-ghost use Rattle.machine_file.specs.Devices.{closes_no_cycle, whole_devices, whole_links};
-ghost use Rattle.machine_file.specs.Knows.{Knows, AreFew};
-ghost use Rattle.machine_file.specs.Kept.{Checks, broken_form, broken_devices, broken_cycle, broken_rest};
+ghost use Rattle.machine_file.specs.Devices.{closes_no_cycle};
+ghost use Rattle.machine_file.specs.Knows.{Knows};
+ghost use Rattle.machine_file.specs.Kept.{IsSound, first_in_order, broken_form, broken_devices, broken_cycle, broken_rest};
 ghost use Rattle.machine_file.specs.Seen.{AreEnds, ArePlaced};
 ghost use Rattle.machine_file.specs.Broken.{broken_view};
 
-use crate::names::known::{Known, known_in};
+use crate::names::known::Known;
 use crate::rules::cycles::{Linking, linking_of};
 use crate::rules::pairs::{EndPlaces, Ends, ends_in, places_in};
 use crate::rules::{
@@ -22,15 +22,9 @@ use borrowed_json::Value;
 use sleep_base::Mem;
 use std::alloc::Global;
 
-/// What came of testing the rules.
-#[derive(Drop)]
-pub(crate) enum Checked<'v> {
-    Broken(Broken),
-    Sound(Known<'v>, Linking),
-}
-
+/// The first rule on form that is broken.
 #[tactic(auto, unfolding(crate::specs::Kept::broken_form))]
-fn first_of_form(tree: &Value<'_>) -> Option<Broken>
+pub(crate) fn first_of_form(tree: &Value<'_>) -> Option<Broken>
     ensures { option_map broken_view result ≡ broken_form (view tree.now) }
 {
     form_broken(tree)
@@ -76,66 +70,77 @@ fn first_of_rest(alloc: Global, tree: &Value<'_>, known: &Known<'_>) -> Result<O
     Ok(thing.or(operation_broken(tree, known)).or(answer))
 }
 
-/// Tests the rules in their order.
-pub(crate) fn check<'v>(alloc: Global, tree: &Value<'v>) -> Result<Checked<'v>, Mem>
-    ensures { IfOk result (Checks (view tree.now)) }
+/// The first rule behind those on devices that is broken.
+fn first_behind(
+    alloc: Global,
+    tree: &Value<'_>,
+    known: &Known<'_>,
+    cycle: Option<usize>,
+) -> Result<Option<Broken>, Mem>
+    requires knows { Knows known.now (view tree.now) }
+    requires cycle { cycle ≡ first_not_after (closes_no_cycle (view tree.now)) [] 0 (list_in (codes "links") (view tree.now)) }
+    ensures { IfOk result (λ b. option_map broken_view b ≡ option_or (broken_cycle (view tree.now)) (broken_rest (view tree.now))) }
 {
-    match first_of_form(tree) {
-        Some(broken) => Ok(Checked::Broken(broken)),
-        None => check_devices(alloc, tree),
+    match first_cycle(cycle, tree) {
+        Some(broken) => Ok(Some(broken)),
+        None => first_of_rest(alloc, tree, known),
     }
 }
 
-fn check_devices<'v>(alloc: Global, tree: &Value<'v>) -> Result<Checked<'v>, Mem>
-    requires { broken_form (view tree.now) ≡ None }
-    ensures { IfOk result (Checks (view tree.now)) }
+/// The links of a file, or the first rule behind those on form that is broken.
+pub(crate) fn linked(
+    alloc: Global,
+    tree: &Value<'_>,
+    known: &Known<'_>,
+) -> Result<Result<Linking, Broken>, Mem>
+    requires form { broken_form (view tree.now) ≡ None }
+    requires knows { Knows known.now (view tree.now) }
+    ensures sound { IfOk result (λ r. IfOk r (IsSound (view tree.now) known.now)) }
+    ensures broken { IfOk result (λ r. IfErr r (λ b. first_in_order (view tree.now) ≡ Some (broken_view b))) }
 {
-    let known = known_in(alloc, tree)?;
+    match ends_of_devices(alloc, tree, known)? {
+        Ok(places) => linked_by(alloc, tree, known, &places),
+        Err(broken) => Ok(Err(broken)),
+    }
+}
+
+/// The places of the ends of links, or the first rule on devices and on those ends that is broken.
+fn ends_of_devices(
+    alloc: Global,
+    tree: &Value<'_>,
+    known: &Known<'_>,
+) -> Result<Result<Vec<EndPlaces>, Broken>, Mem>
+    requires form { broken_form (view tree.now) ≡ None }
+    requires knows { Knows known.now (view tree.now) }
+    ensures placed { IfOk result (λ r. IfOk r (λ places. ArePlaced places.items (view tree.now))) }
+    ensures sound { IfOk result (λ r. IfOk r (λ _. broken_devices (view tree.now) ≡ None)) }
+    ensures broken { IfOk result (λ r. IfErr r (λ b. broken_devices (view tree.now) ≡ Some (broken_view b))) }
+{
     let ends = ends_in(alloc, tree)?;
-    let places = places_in(alloc, tree, &known, &ends)?;
-    match first_of_devices(alloc, tree, &known, &ends, &places)? {
-        Some(broken) => Ok(Checked::Broken(broken)),
-        None => check_links(alloc, tree, known, &places),
+    let places = places_in(alloc, tree, known, &ends)?;
+    match first_of_devices(alloc, tree, known, &ends, &places)? {
+        Some(broken) => Ok(Err(broken)),
+        None => Ok(Ok(places)),
     }
 }
 
-fn check_links<'v>(
+/// The links between these places, or the first rule behind those on devices that is broken.
+fn linked_by(
     alloc: Global,
-    tree: &Value<'v>,
-    known: Known<'v>,
+    tree: &Value<'_>,
+    known: &Known<'_>,
     places: &[EndPlaces],
-) -> Result<Checked<'v>, Mem>
+) -> Result<Result<Linking, Broken>, Mem>
     requires form { broken_form (view tree.now) ≡ None }
     requires devices { broken_devices (view tree.now) ≡ None }
-    requires knows { Knows known (view tree.now) }
+    requires knows { Knows known.now (view tree.now) }
     requires placed { ArePlaced places.now (view tree.now) }
-    ensures { IfOk result (Checks (view tree.now)) }
+    ensures sound { IfOk result (λ r. IfOk r (IsSound (view tree.now) known.now)) }
+    ensures broken { IfOk result (λ r. IfErr r (λ b. first_in_order (view tree.now) ≡ Some (broken_view b))) }
 {
-    let linking = linking_of(alloc, tree, &known, places)?;
-    match first_cycle(linking.added.cycle, tree) {
-        Some(broken) => Ok(Checked::Broken(broken)),
-        None => check_rest(alloc, tree, known, linking),
-    }
-}
-
-fn check_rest<'v>(
-    alloc: Global,
-    tree: &Value<'v>,
-    known: Known<'v>,
-    linking: Linking,
-) -> Result<Checked<'v>, Mem>
-    requires form { broken_form (view tree.now) ≡ None }
-    requires devices { broken_devices (view tree.now) ≡ None }
-    requires cycle { broken_cycle (view tree.now) ≡ None }
-    requires knows { Knows known (view tree.now) }
-    requires few { AreFew known }
-    requires links { linking.links.items ≡ whole_links (view tree.now) }
-    requires added { linking.added.links ≡
-        record { parents = parents_of (whole_devices (view tree.now)); links = reverse (whole_links (view tree.now)) } }
-    ensures { IfOk result (Checks (view tree.now)) }
-{
-    match first_of_rest(alloc, tree, &known)? {
-        Some(broken) => Ok(Checked::Broken(broken)),
-        None => Ok(Checked::Sound(known, linking)),
+    let linking = linking_of(alloc, tree, known, places)?;
+    match first_behind(alloc, tree, known, linking.added.cycle)? {
+        Some(broken) => Ok(Err(broken)),
+        None => Ok(Ok(linking)),
     }
 }
