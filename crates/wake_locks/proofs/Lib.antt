@@ -3,6 +3,7 @@ mod Calls
 pub mod Digits
 mod Expired
 pub mod Placed
+mod Rows
 mod Sooner
 pub mod Timely
 mod Written

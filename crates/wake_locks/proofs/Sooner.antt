@@ -18,7 +18,7 @@ pub less : (sooner soonest : ℕ) (locks : List LockState) → sooner ≤ soones
 less sooner soonest [] l h = tt
 less sooner soonest (x ∷ xs) l h = (omega (arith, h.0, l), less sooner soonest xs l h.1)
 
-other_less : (sooner others at : ℕ) (locks : List LockState) → sooner ≤ others → NoOtherEndsBefore others at locks → NoOtherEndsBefore sooner at locks
+pub other_less : (sooner others at : ℕ) (locks : List LockState) → sooner ≤ others → NoOtherEndsBefore others at locks → NoOtherEndsBefore sooner at locks
 other_less sooner others at [] l h = tt
 other_less sooner others zero (x ∷ xs) l h = less sooner others xs l h
 other_less sooner others (suc at) (x ∷ xs) l h = (omega (arith, h.0, l), other_less sooner others at xs l h.1)
@@ -41,29 +41,30 @@ other_set others at [] new l h = tt
 other_set others zero (x ∷ xs) new l h = (l, h)
 other_set others (suc at) (x ∷ xs) new l h = (h.0, other_set others at xs new l h.1)
 
-not_due : (to : ℕ) (lock : LockState) (s : Standing) (o : Option Due) → to < end_or_never s → o ≡ None → due_of to lock s o ≡ None
-not_due to lock Inactive o l e = e
-not_due to lock Endless o l e = e
-not_due to lock (Until end) o l e =
+-- a lock that ends later changes nothing of what is due
+pub not_due : (to : ℕ) (lock : LockState) (s : Standing) (o : Option Due) → to < end_or_never s → due_of to lock s o ≡ o
+not_due to lock Inactive o l = refl
+not_due to lock Endless o l = refl
+not_due to lock (Until end) o l =
     let late : nat_le end to ≡ false = grind (arith, nat_tests) in
-    rw late e
+    rw late refl
 
 -- before such a moment none is due
 pub none_by : (to soonest : ℕ) (locks : List LockState) → to < soonest → NoneEndsBefore soonest locks → next_due to locks ≡ None
 none_by to soonest [] l h = refl
-none_by to soonest (x ∷ xs) l h = not_due to x x.standing (next_due to xs) (omega (arith, l, h.0)) (none_by to soonest xs l h.1)
+none_by to soonest (x ∷ xs) l h = not_due to x x.standing (next_due to xs) (omega (arith, l, h.0)) ∙ none_by to soonest xs l h.1
 
 -- ---- the lock that ends first
 
 -- none is found behind the last
-pub none_behind : (locks : List LockState) (at : ℕ) → at ≡ length locks → IsSoonest locks at (record { at = at; end = never; others = never })
-none_behind locks at e = record {
+pub none_behind : (to : ℕ) (locks : List LockState) (at : ℕ) → to < never → at ≡ length locks → IsSoonest to locks at (record { at = at; end = never; others = never })
+none_behind to locks at l e = record {
   within = omega (arith, e);
   behind = omega arith;
   last = omega arith;
   few = omega arith;
-  first = λ to l. subst (λ (xs : List LockState). MatchDue locks (next_due to xs) (found_by to (record { at = at; end = never; others = never }))) (sym (nothing locks at e)) (later to l);
-  least = subst (NoneEndsBefore never) (sym (nothing locks at e)) tt;
+  first = subst (λ (xs : List LockState). MatchDue locks (next_due to xs) (found_by to (record { at = at; end = never; others = never }))) (sym (nothing locks at e)) later;
+  least = subst (NoneEndsBefore (min never never)) (sym (nothing locks at e)) tt;
   others = subst (NoOtherEndsBefore never (at - at)) (sym (nothing locks at e)) tt;
 }
   where
@@ -73,8 +74,8 @@ none_behind locks at e = record {
     nothing (x ∷ xs) zero e = absurd (omega (arith, e))
     nothing (x ∷ xs) (suc n) e = nothing xs n (omega (arith, e))
 
-    later : (to : ℕ) → to < never → MatchDue locks None (found_by to (record { at = at; end = never; others = never }))
-    later to l =
+    later : MatchDue locks None (found_by to (record { at = at; end = never; others = never }))
+    later =
         let late : nat_le never to ≡ false = grind (arith, nat_tests) in
         rw late tt
 
@@ -120,7 +121,7 @@ module _ (locks : List LockState) (to : ℕ) (found : Soonest) where
     never_due : (o : Option Due) → to < never → MatchDue locks o (found_by to found) → MatchDue locks o (found_by to (with_lock at never found))
     never_due o l m = go (nat_le never found.end) refl
       where
-        go : (b : Bool) → nat_le never found.end ≡ b → MatchDue locks o (found_by to (cond b (record { at = at; end = never; others = found.end }) (record { at = found.at; end = found.end; others = min found.others never })))
+        go : (b : Bool) → nat_le never found.end ≡ b → MatchDue locks o (found_by to (cond b (record { at = at; end = never; others = min found.others found.end }) (record { at = found.at; end = found.end; others = min found.others never })))
         go true e =
             let never_by : nat_le never to ≡ false = grind (arith, nat_tests) in
             let found_late : nat_le found.end to ≡ false = grind (arith, nat_tests) in
@@ -130,7 +131,7 @@ module _ (locks : List LockState) (to : ℕ) (found : Soonest) where
     end_due : (end : ℕ) (o : Option Due) → lock.standing ≡ Until end → latest lock.own ≤ end → MatchDue locks o (found_by to found) → MatchDue locks (due_of to lock (Until end) o) (found_by to (with_lock at end found))
     end_due end o s b m = go (nat_le end found.end) refl (nat_le end to) refl
       where
-        go : (first : Bool) → nat_le end found.end ≡ first → (due : Bool) → nat_le end to ≡ due → MatchDue locks (cond due (first_of lock end o) o) (found_by to (cond first (record { at = at; end = end; others = found.end }) (record { at = found.at; end = found.end; others = min found.others end })))
+        go : (first : Bool) → nat_le end found.end ≡ first → (due : Bool) → nat_le end to ≡ due → MatchDue locks (cond due (first_of lock end o) o) (found_by to (cond first (record { at = at; end = end; others = min found.others found.end }) (record { at = found.at; end = found.end; others = min found.others end })))
         go true e true t = rw t (first_due end o s b e m)
         go true e false t = rw t (late_due end o e t m)
         go false e true t = later_due end o e t m
@@ -143,35 +144,40 @@ module _ (locks : List LockState) (to : ℕ) (found : Soonest) where
     more_due (Until end) o e b l m = end_due end o e b m
 
 -- the same is said of what is left of the locks
-least_more : (at end : ℕ) (found : Soonest) (lock : LockState) (locks : List LockState) → end ≡ end_or_never lock.standing → NoneEndsBefore found.end locks → NoneEndsBefore (with_lock at end found).end (lock ∷ locks)
-least_more at end found lock locks e h = go (nat_le end found.end) refl
+least_more : (at end : ℕ) (found : Soonest) (lock : LockState) (locks : List LockState) → end ≡ end_or_never lock.standing → NoneEndsBefore (min found.end found.others) locks
+    → NoneEndsBefore (min (with_lock at end found).end (with_lock at end found).others) (lock ∷ locks)
+least_more at end found lock locks e h = go (nat_le end found.end)
   where
-    go : (b : Bool) → nat_le end found.end ≡ b → NoneEndsBefore (cond {A = Soonest} b (record { at = at; end = end; others = found.end }) (record { at = found.at; end = found.end; others = min found.others end })).end (lock ∷ locks)
-    go true t = (omega (arith, e), less end found.end locks (grind (arith, nat_tests)) h)
-    go false t = (grind (arith, nat_tests, e), h)
+    go : (b : Bool)
+        → NoneEndsBefore (min (cond {A = Soonest} b (record { at = at; end = end; others = min found.others found.end }) (record { at = found.at; end = found.end; others = min found.others end })).end (cond {A = Soonest} b (record { at = at; end = end; others = min found.others found.end }) (record { at = found.at; end = found.end; others = min found.others end })).others) (lock ∷ locks)
+    go true = (omega (arith, e), less (min end (min found.others found.end)) (min found.end found.others) locks (omega arith) h)
+    go false = (omega (arith, e), less (min found.end (min found.others end)) (min found.end found.others) locks (omega arith) h)
 
-others_more : (at end : ℕ) (found : Soonest) (lock : LockState) (locks : List LockState) → end ≡ end_or_never lock.standing → suc at ≤ found.at → NoneEndsBefore found.end locks → NoOtherEndsBefore found.others (found.at - suc at) locks
+others_more : (at end : ℕ) (found : Soonest) (lock : LockState) (locks : List LockState) → end ≡ end_or_never lock.standing → suc at ≤ found.at → NoneEndsBefore (min found.end found.others) locks → NoOtherEndsBefore found.others (found.at - suc at) locks
     → NoOtherEndsBefore (with_lock at end found).others ((with_lock at end found).at - at) (lock ∷ locks)
-others_more at end found lock locks e b h k = go (nat_le end found.end) refl
+others_more at end found lock locks e b h k = go (nat_le end found.end)
   where
-    go : (t : Bool) → nat_le end found.end ≡ t
-        → NoOtherEndsBefore (cond {A = Soonest} t (record { at = at; end = end; others = found.end }) (record { at = found.at; end = found.end; others = min found.others end })).others ((cond {A = Soonest} t (record { at = at; end = end; others = found.end }) (record { at = found.at; end = found.end; others = min found.others end })).at - at) (lock ∷ locks)
-    go true t = subst (λ n. NoOtherEndsBefore found.end n (lock ∷ locks)) {x = zero} (omega arith) h
-    go false t =
+    go : (t : Bool)
+        → NoOtherEndsBefore (cond {A = Soonest} t (record { at = at; end = end; others = min found.others found.end }) (record { at = found.at; end = found.end; others = min found.others end })).others ((cond {A = Soonest} t (record { at = at; end = end; others = min found.others found.end }) (record { at = found.at; end = found.end; others = min found.others end })).at - at) (lock ∷ locks)
+    go true =
+        subst (λ n. NoOtherEndsBefore (min found.others found.end) n (lock ∷ locks)) {x = zero} (omega arith)
+        (less (min found.others found.end) (min found.end found.others) locks (omega arith) h)
+    go false =
         subst (λ n. NoOtherEndsBefore (min found.others end) n (lock ∷ locks)) {x = suc (found.at - suc at)} (omega (arith, b))
         (omega (arith, e), other_less (min found.others end) found.others (found.at - suc at) locks (omega arith) k)
 
 -- one more lock
-pub one_more : (locks : List LockState) (at : ℕ) (lock : LockState) (end : ℕ) (found : Soonest) → at < length locks → lock ≡ get_or locks at lock → end ≡ end_or_never lock.standing → IsBehind (latest lock.own) (end_of lock.standing) → IsSoonest locks (suc at) found → IsSoonest locks at (with_lock at end found)
-one_more locks at lock end found l is e b h = record {
+pub one_more : (to : ℕ) (locks : List LockState) (at : ℕ) (lock : LockState) (end : ℕ) (found : Soonest) → to < never → at < length locks → lock ≡ get_or locks at lock → end ≡ end_or_never lock.standing → IsBehind (latest lock.own) (end_of lock.standing) → IsSoonest to locks (suc at) found
+    → IsSoonest to locks at (with_lock at end found)
+one_more to locks at lock end found k l is e b h = record {
   within = omega (arith, l);
   behind = place (nat_le end found.end);
   last = last_more (nat_le end found.end) refl;
   few = few_more (nat_le end found.end);
-  first = λ to k. subst (λ (xs : List LockState). MatchDue locks (next_due to xs) (found_by to (with_lock at end found))) (sym left)
+  first = subst (λ (xs : List LockState). MatchDue locks (next_due to xs) (found_by to (with_lock at end found))) (sym left)
       (subst (λ n. MatchDue locks (next_due to (lock ∷ drop (suc at) locks)) (found_by to (with_lock at n found))) (sym e)
-      (more_due locks to found at lock l (λ d. any locks at d l ∙ sym is) lock.standing (next_due to (drop (suc at) locks)) refl b k (h.first to k)));
-  least = subst (NoneEndsBefore (with_lock at end found).end) (sym left) (least_more at end found lock (drop (suc at) locks) e h.least);
+      (more_due locks to found at lock l (λ d. any locks at d l ∙ sym is) lock.standing (next_due to (drop (suc at) locks)) refl b k h.first));
+  least = subst (NoneEndsBefore (min (with_lock at end found).end (with_lock at end found).others)) (sym left) (least_more at end found lock (drop (suc at) locks) e h.least);
   others = subst (NoOtherEndsBefore (with_lock at end found).others ((with_lock at end found).at - at)) (sym left) (others_more at end found lock (drop (suc at) locks) e h.behind h.least h.others);
 }
   where
@@ -183,14 +189,14 @@ one_more locks at lock end found l is e b h = record {
     any (x ∷ xs) zero d l = refl
     any (x ∷ xs) (suc i) d l = any xs i d (omega (arith, l))
 
-    place : (b : Bool) → at ≤ (cond {A = Soonest} b (record { at = at; end = end; others = found.end }) (record { at = found.at; end = found.end; others = min found.others end })).at
+    place : (b : Bool) → at ≤ (cond {A = Soonest} b (record { at = at; end = end; others = min found.others found.end }) (record { at = found.at; end = found.end; others = min found.others end })).at
     place true = omega arith
     place false = omega (arith, h.behind)
 
-    last_more : (b : Bool) → nat_le end found.end ≡ b → (cond {A = Soonest} b (record { at = at; end = end; others = found.end }) (record { at = found.at; end = found.end; others = min found.others end })).end ≤ never
+    last_more : (b : Bool) → nat_le end found.end ≡ b → (cond {A = Soonest} b (record { at = at; end = end; others = min found.others found.end }) (record { at = found.at; end = found.end; others = min found.others end })).end ≤ never
     last_more true t = let l : end ≤ found.end = grind (arith, nat_tests) in omega (arith, l, h.last)
     last_more false t = h.last
 
-    few_more : (b : Bool) → (cond {A = Soonest} b (record { at = at; end = end; others = found.end }) (record { at = found.at; end = found.end; others = min found.others end })).others ≤ never
-    few_more true = h.last
+    few_more : (b : Bool) → (cond {A = Soonest} b (record { at = at; end = end; others = min found.others found.end }) (record { at = found.at; end = found.end; others = min found.others end })).others ≤ never
+    few_more true = omega (arith, h.few)
     few_more false = omega (arith, h.few)

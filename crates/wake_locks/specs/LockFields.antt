@@ -1,5 +1,5 @@
 -- What the fields of a lock, and of the known locks, are.
-use Rattle.std.specs.Prelude.{◌≡◌, ◌≤◌, ◌<◌, ◌-◌, ◌++◌, ℕ, zero, suc, min, true, false, nat_le, List, [], ◌∷◌, length, drop, slice_index_or, is_some, if◌then◌else◌, Option, Some, None}
+use Rattle.std.specs.Prelude.{◌≡◌, ◌≤◌, ◌<◌, ◌-◌, ◌/◌, ◌++◌, ℕ, zero, suc, min, true, false, nat_le, List, [], ◌∷◌, length, drop, slice_index, slice_index_or, is_some, if◌then◌else◌, Option, Some, None}
 use Rattle.std.specs.declared.cmp.Ordering.TheVariants.{Less, Equal, Greater}
 use Rattle.sleep_model.specs.declared.entry.Entry.{Entry}
 use Rattle.sleep_model.specs.declared.machine.SourceCall.{SourceCall}
@@ -103,11 +103,24 @@ NoOtherEndsBefore others at [] = Unit {0}
 NoOtherEndsBefore others zero (lock ∷ locks) = NoneEndsBefore others locks
 NoOtherEndsBefore others (suc at) (lock ∷ locks) = (others ≤ end_or_never lock.standing) × NoOtherEndsBefore others at locks
 
+-- none of the locks from one place up to another ends by itself before that moment
+abbrev pub NoneEndsWithin : ℕ → ℕ → ℕ → List LockState → Type 0
+NoneEndsWithin moment from until locks = (j : ℕ) (d : LockState) → from ≤ j → j < until → moment ≤ end_or_never (slice_index_or locks j d).standing
+
+-- none of a row of eight ends before the row's moment
+pub record AreFloors (moments : List ℕ) (locks : List LockState) : Type 0 where
+  pub rows : length moments ≡ 13
+  pub below : (j : ℕ) (d : LockState) → j < length locks → slice_index moments (j / 8) ≤ end_or_never (slice_index_or locks j d).standing
+
 -- the lock that ends first, with one more before the others, which ends at that moment
 abbrev pub with_lock : ℕ → ℕ → Soonest → Soonest
 with_lock at end found =
-    if nat_le end found.end then record { at = at; end = end; others = found.end }
+    if nat_le end found.end then record { at = at; end = end; others = min found.others found.end }
     else record { at = found.at; end = found.end; others = min found.others end }
+
+-- with more of which none ends before that moment
+abbrev pub with_floor : ℕ → Soonest → Soonest
+with_floor floor found = record { at = found.at; end = found.end; others = min found.others floor }
 
 -- its place, and its end
 abbrev pub place_and_end : Soonest → ℕ × ℕ
@@ -117,19 +130,20 @@ place_and_end found = (found.at, found.end)
 abbrev pub found_by : ℕ → Soonest → Option (ℕ × ℕ)
 found_by to found = if nat_le found.end to then Some (found.at, found.end) else None
 
--- what is found of the locks from that place on: which ends first, and that no other ends before `others`
-pub record IsSoonest (locks : List LockState) (from : ℕ) (found : Soonest) : Type 0 where
+-- what is found of the locks from that place on: which ends first, where one ends by that moment, and that no other ends before `others`
+pub record IsSoonest (to : ℕ) (locks : List LockState) (from : ℕ) (found : Soonest) : Type 0 where
   pub within : from ≤ length locks
   pub behind : from ≤ found.at
   pub last : found.end ≤ never
   pub few : found.others ≤ never
-  pub first : (to : ℕ) → to < never → MatchDue locks (next_due to (drop from locks)) (found_by to found)
-  pub least : NoneEndsBefore found.end (drop from locks)
+  pub first : MatchDue locks (next_due to (drop from locks)) (found_by to found)
+  pub least : NoneEndsBefore (min found.end found.others) (drop from locks)
   pub others : NoOtherEndsBefore found.others (found.at - from) (drop from locks)
 
 -- what holds of all locks
-pub record AreLocks (places soonest : ℕ) (locks : List LockState) : Type 0 where
+pub record AreLocks (places soonest : ℕ) (floors : List ℕ) (locks : List LockState) : Type 0 where
   pub in_order : AreInOrder locks
   pub few : length locks ≤ 100
   pub places_few : places ≤ most_entries
   pub none_sooner : NoneEndsBefore soonest locks
+  pub floors_are : AreFloors floors locks

@@ -2,6 +2,7 @@
 #![tactic(auto)]
 
 mod answer;
+mod floors;
 mod lock;
 mod locks;
 mod soonest;

@@ -1,4 +1,5 @@
 use crate::answer::{LockAnswer, LockFault, answered};
+use crate::floors::{Floors, ROW};
 use crate::lock::{Lock, LockStats};
 use crate::soonest::{NEVER, Soonest};
 use crate::text::{lock_text, unlock_text};
@@ -23,6 +24,8 @@ pub struct WakeLocks<const CAP: usize> {
     locks: Vec<Lock<CAP>>,
     /// No lock ends by itself before this moment.
     soonest: u64,
+    /// Nor one of a row before its moment.
+    floors: Floors,
 }
 
 impl<const CAP: usize> Model for WakeLocks<CAP> {
@@ -35,10 +38,10 @@ impl<const CAP: usize> Model for WakeLocks<CAP> {
 
     ghost view = { λ w. w.locks.items };
 
-    ghost invariant = { λ w. AreLocks CAP w.soonest w.locks.items };
+    ghost invariant = { λ w. AreLocks CAP w.soonest w.floors.moments w.locks.items };
 }
 
-ghost use Rattle.std.specs.Prelude.{◌≡◌, ◌≢◌, ◌≤◌, ◌<◌, ◌+◌, ◌^◌, List, [], Ok, Err, None, length, slice_index_or, OnOk, OnErr, IfOk, IfErr, IfSome, option_map, map};
+ghost use Rattle.std.specs.Prelude.{◌≡◌, ◌≢◌, ◌≤◌, ◌<◌, ◌+◌, ◌*◌, ◌^◌, min, ℕ, List, [], Ok, Err, None, length, slice_index_or, OnOk, OnErr, IfOk, IfErr, IfSome, option_map, map};
 ghost use Rattle.wake_locks.specs.Counted.{AllAgree, counted};
 ghost use Rattle.sleep_model.specs.Sources.{most_entries, stats_at};
 ghost use Rattle.wake_locks.specs.declared.answer.LockAnswer.TheVariants as LockAnswer;
@@ -46,7 +49,7 @@ ghost use Rattle.wake_locks.specs.declared.answer.LockFault.TheVariants as LockF
 ghost use Rattle.wakeup_source.specs.SourceStates.{latest};
 ghost use Rattle.wake_locks.specs.declared.standing.Standing.TheVariants as Standing;
 ghost use Rattle.wake_locks.specs.Expiries.{IsAdvance, next_due};
-ghost use Rattle.wake_locks.specs.LockFields.{IsAt, IsGapFor, IsMeant, IsSoonest, MatchDue, NoOtherEndsBefore, place_and_end};
+ghost use Rattle.wake_locks.specs.LockFields.{IsAt, IsGapFor, IsMeant, IsSoonest, MatchDue, NoOtherEndsBefore, NoneEndsWithin, place_and_end};
 ghost use Rattle.wake_locks.specs.Standings.{never};
 ghost use Rattle.wake_locks.specs.Locks.{LockState, new_lock, after_call, put, find, names_of, AreBefore, AreInOrder, IsTimely};
 ghost use Rattle.wake_locks.specs.Writes.{asked_lock, asked_unlock, on_lock, WriteEnded};
@@ -61,6 +64,7 @@ impl<const CAP: usize> WakeLocks<CAP> {
             alloc,
             locks: Vec::new(alloc),
             soonest: NEVER,
+            floors: Floors::new(),
         }
     }
 
@@ -143,6 +147,7 @@ impl<const CAP: usize> WakeLocks<CAP> {
         let made = lock.call(rt, call, now);
         let end = lock.end_or_never();
         self.soonest = self.soonest.min(end);
+        self.floors.lower(at / ROW, end);
         answered(made)
     }
 
@@ -184,6 +189,7 @@ impl<const CAP: usize> WakeLocks<CAP> {
             unreachable!()
         }
         self.soonest = self.soonest.min(end);
+        self.floors = Floors::new();
         Ok(LockAnswer::Done)
     }
 
@@ -220,30 +226,73 @@ impl<const CAP: usize> WakeLocks<CAP> {
         if to < self.soonest {
             return None;
         }
-        let found = self.first_to_end();
+        let found = self.first_to_end(to);
         if to < found.end {
-            self.soonest = found.end;
+            self.soonest = found.end.min(found.others);
             return None;
         }
         Some(found)
     }
 
-    /// The lock that ends first.
-    fn first_to_end(&self) -> Soonest
-        ensures { IsSoonest self.now 0 result }
+    /// The lock that ends first, where one ends by that moment.
+    fn first_to_end(&mut self, to: u64) -> Soonest
+        requires { to < never }
+        ensures same { self.new ≡ self.old }
+        ensures first { IsSoonest to self.old 0 result }
     {
-        let mut at = self.locks.len();
+        let many = self.locks.len();
+        let mut row = (many + (ROW - 1)) / ROW;
         let mut found = Soonest {
-            at,
+            at: many,
             end: NEVER,
             others: NEVER,
         };
-        while at > 0 {
-            at -= 1;
-            let lock = &self.locks[at];
-            found = found.with_lock(at, lock.end_or_never());
+        while row > 0 {
+            row -= 1;
+            found = self.past_row(to, row, found);
         }
         found
+    }
+
+    /// The same with the locks of a row, which stand before the others. No lock is looked at where none of the row ends by
+    /// that moment.
+    fn past_row(&mut self, to: u64, row: usize, found: Soonest) -> Soonest
+        requires small { to < never }
+        requires in_range { row * 8 < length self.old }
+        requires behind { IsSoonest to self.old (min (row * 8 + 8) (length self.old)) found }
+        ensures same { self.new ≡ self.old }
+        ensures first { IsSoonest to self.old (row * 8) result }
+    {
+        let floor = self.floors.of_row(row);
+        if to < floor {
+            return found.with_floor(floor);
+        }
+        let from = row * ROW;
+        let until = self.locks.len().min(from + ROW);
+        let (found, least) = self.with_row(from, until, found);
+        self.floors.set_row(row, least);
+        found
+    }
+
+    /// The same with the locks between two places, which stand before the others, and a moment before which none of these
+    /// ends.
+    fn with_row(&self, from: usize, until: usize, behind: Soonest) -> (Soonest, u64)
+        requires ordered { from ≤ until }
+        requires in_range { until ≤ length self.now }
+        ensures first { (to : ℕ) → to < never → IsSoonest to self.now until behind → IsSoonest to self.now from result.0 }
+        ensures least { NoneEndsWithin result.1 from until self.now }
+    {
+        let mut at = until;
+        let mut found = behind;
+        let mut least = NEVER;
+        while at > from {
+            at -= 1;
+            let lock = &self.locks[at];
+            let end = lock.end_or_never();
+            found = found.with_lock(at, end);
+            least = least.min(end);
+        }
+        (found, least)
     }
 
     /// The names of the locks that are active, or of those that are not, in order (`pm_show_wakelocks`).

@@ -1,5 +1,5 @@
 ghost use Rattle.std.specs.Prelude.{◌≡◌};
-ghost use Rattle.wake_locks.specs.LockFields.{with_lock};
+ghost use Rattle.wake_locks.specs.LockFields.{with_floor, with_lock};
 
 /// The moment at which a lock ends that does not end by itself.
 pub(crate) const NEVER: u64 = u64::MAX;
@@ -11,7 +11,7 @@ pub(crate) struct Soonest {
     pub(crate) at: usize,
     /// When it ends.
     pub(crate) end: u64,
-    /// No other of them ends before this moment.
+    /// No other of them ends before this moment, looked at or not.
     pub(crate) others: u64,
 }
 
@@ -24,13 +24,22 @@ impl Soonest {
             return Soonest {
                 at,
                 end,
-                others: self.end,
+                others: self.others.min(self.end),
             };
         }
         Soonest {
             at: self.at,
             end: self.end,
             others: self.others.min(end),
+        }
+    }
+    /// The same with locks that were not looked at, of which none ends before that moment.
+    pub(crate) fn with_floor(self, floor: u64) -> Soonest
+        ensures { result ≡ with_floor floor self }
+    {
+        Soonest {
+            others: self.others.min(floor),
+            ..self
         }
     }
 }

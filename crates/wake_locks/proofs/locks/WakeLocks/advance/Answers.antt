@@ -99,6 +99,7 @@ invariant_of-self g c =
       few = c.self-in-loop.invariant.few;
       places_few = c.self-in-loop.invariant.places_few;
       none_sooner = subst (NoneEndsBefore found.others) (sym (c.self-in-loop.view_is ∙ is)) (other_set found.others found.at locks (after_call Expire found.end (get_or locks found.at (new_lock []))) c.in-Some.ensures.few others);
+      floors_are = c.self-in-loop.invariant.floors_are;
     }
 
 pub returns-clause-timely : goal.returns-clause-timely

@@ -1,11 +1,18 @@
-use Rattle.std.proofs.Common.{◌<◌, ◌∙◌, min, List, length, get_or, set, sym, subst, arith}
+use Rattle.std.proofs.Common.{◌<◌, ◌∙◌, ℕ, min, List, length, get_or, set, sym, subst, arith}
 use Rattle.std.proofs.lemmas.List.{length-set}
 use Rattle.wake_locks.specs.Locks.{LockState}
+use Rattle.wake_locks.specs.LockFields.{AreFloors}
 use Rattle.wake_locks.specs.Standings.{end_or_never}
 use Rattle.wake_locks.proofs.Placed.{any_of}
+use Rattle.wake_locks.proofs.Rows.{floors_lower}
 use Rattle.wake_locks.proofs.Sooner.{less, set_sooner}
 use Rattle.wake_locks.proofs.Written.{Called, at_ended, at_kept}
 use Rattle.wake_locks.proofs.locks.WakeLocks.call_at.Goals as goal
+
+pub lower-requires : goal.lower-requires
+lower-requires g c =
+    let l : c.args.at < length c.self.inside.locks.items = subst (λ (xs : List LockState). c.args.at < length xs) (sym c.self.view_is) c.requires.in_range in
+    omega (arith, l, c.self.invariant.few)
 
 pub invariant_of-self : goal.invariant_of-self
 invariant_of-self g c =
@@ -22,6 +29,8 @@ invariant_of-self g c =
       places_few = c.self.invariant.places_few;
       none_sooner = less c.min-self-inside.result (min c.self.inside.soonest (end_or_never new.standing)) (set items c.args.at new) (omega (arith, c.min-self-inside.ensures, c.end_or_never-end.ensures.end))
           (set_sooner c.self.inside.soonest c.args.at items new c.self.invariant.none_sooner);
+      floors_are = subst (λ (ms : List ℕ). AreFloors ms (set items c.args.at new)) (sym c.lower.ensures)
+          (floors_lower c.self.inside.floors.moments c.args.at c.end_or_never-end.result items new l c.self.invariant.few c.end_or_never-end.ensures.end c.self.invariant.floors_are);
     }
 
 pub returns : goal.returns

@@ -6,6 +6,7 @@ use Rattle.wake_locks.specs.Locks.{LockState, put, AreInOrder}
 use Rattle.wake_locks.specs.Standings.{end_or_never}
 use Rattle.wake_locks.specs.LockFields.{IsGapFor, NoneEndsBefore}
 use Rattle.wake_locks.proofs.Placed.{put_gap, put_in_order}
+use Rattle.wake_locks.proofs.Rows.{floors_new}
 use Rattle.wake_locks.proofs.Sooner.{insert_sooner, less}
 use Rattle.wake_locks.proofs.locks.WakeLocks.insert.Goals as goal
 
@@ -22,6 +23,7 @@ invariant_of-self-2 g c =
       places_few = c.self.invariant.places_few;
       none_sooner = subst (NoneEndsBefore c.min-self-inside.result) (sym is)
           (less c.min-self-inside.result (min c.self.inside.soonest (end_or_never c.args.lock.standing)) (insert items c.args.at c.args.lock) (omega (arith, c.min-self-inside.ensures, c.end_or_never-end.ensures.end)) sooner);
+      floors_are = floors_new c.new-self-inside.result.moments c.insert.new.self.items c.new-self-inside.ensures;
     }
 
 pub returns-clause-ok : goal.returns-clause-ok
