@@ -35,3 +35,13 @@ pub record IsBack
   pub jobs_are : AreJobsOf (jobs_in tasks) (length m.actors) jobs
   pub table_is : core.seat.table_id ≡ table
   pub seats : AreAll core.seat (seats_of sources)
+
+-- core, sources and jobs are those of a run of the machine, whose actors may all know that stamp
+pub record IsJoined
+    (m : Machine) (table : TableId) (floor : Stamp) (core : SeatedCoreState) (sources : List SeatedSourceState) (jobs : JobsState)
+    : Type 0 where
+  pub all_jobs : AreAllJobs m jobs
+  pub machine_is : core.core.machine ≡ m
+  pub running : IsRunning m core.core.past (sources_of sources) (job_at jobs) floor
+  pub table_is : core.seat.table_id ≡ table
+  pub seats : AreAll core.seat (seats_of sources)

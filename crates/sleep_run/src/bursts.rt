@@ -11,6 +11,7 @@ use crate::tasks::{actors_of, highest_of};
 use crate::waiters::Waiters;
 use apart_log::ApartLog;
 use event_word::EventTable;
+use run_objects::{SeatedCore, SeatedSource};
 use run_world::Gate;
 use sleep_base::Mem;
 use sleep_model::{Machine, Stamp};
@@ -40,22 +41,13 @@ struct AfterBurst<'m> {
     beside: u64,
     /// How many tasks there were.
     tasks: usize,
-    /// The least source at which a worker stopped, since it had no place left.
-    full: Option<u32>,
-}
-
-/// The source at which a worker stopped, if one did; `Mem` where a worker stopped for want of memory.
-fn full_at(stop: Option<Stop>) -> Result<Option<u32>, Mem> {
-    match stop {
-        Some(Stop::Mem { .. }) => Err(Mem),
-        Some(Stop::Full { source, .. }) => Ok(Some(source)),
-        None => Ok(None),
-    }
+    /// Why a worker stopped, if one did.
+    stop: Option<Stop>,
 }
 
 impl<'m> Away<'m> {
     ghost use Rattle.std.specs.Prelude.{◌≡◌, ◌≤◌, IfOk};
-    ghost use Rattle.sleep_run.specs.BurstsOf.{IsAway, IsBack};
+    ghost use Rattle.sleep_run.specs.BurstsOf.{IsAway, IsBack, IsJoined};
 
     /// The burst of these parts.
     fn make<R: Threads + Wait + Sync, G: Gate + Sync>(
@@ -88,27 +80,25 @@ impl<'m> Away<'m> {
         make_burst(rt, alloc, &plan, parts)
     }
 
-    /// The run again, with what came back from a burst. Everybody is to be asked.
-    fn come_back(self, alloc: Global, parts: BurstParts<'m>) -> Result<Run<'m>, Mem>
-        requires { IsBack self.machine.now self.table.desk.shared.table_id self.floor
-            parts.core parts.sources.items parts.tasks.items }
-        ensures { IfOk result (λ run. run.machine ≡ self.entry.machine.now) }
+    /// The run again, of what came back from a burst, where all actors may know that stamp. Everybody is to be asked.
+    fn joined(
+        self,
+        core: SeatedCore<'m>,
+        sources: Vec<SeatedSource>,
+        jobs: Jobs<'m>,
+        floor: Stamp,
+    ) -> Run<'m>
+        requires { IsJoined self.machine.now self.table.desk.shared.table_id floor core sources.items jobs }
+        ensures { result.machine ≡ self.entry.machine.now }
     {
         let Away {
             machine,
             table,
-            floor,
             mut waiters,
+            ..
         } = self;
-        let BurstParts {
-            core,
-            sources,
-            tasks,
-        } = parts;
-        let floor = highest_of(&tasks, floor);
-        let jobs = Jobs::of_tasks(alloc, tasks, machine.actors.len())?;
         waiters.wake_all();
-        Ok(Run {
+        Run {
             machine,
             table,
             seated: core,
@@ -116,6 +106,52 @@ impl<'m> Away<'m> {
             jobs,
             floor,
             waiters,
+        }
+    }
+
+    /// The run again, with what came back from a burst.
+    fn come_back(self, alloc: Global, parts: BurstParts<'m>) -> Result<Run<'m>, Mem>
+        requires { IsBack self.machine.now self.table.desk.shared.table_id self.floor
+            parts.core parts.sources.items parts.tasks.items }
+        ensures { IfOk result (λ run. run.machine ≡ self.entry.machine.now) }
+    {
+        let BurstParts {
+            core,
+            sources,
+            tasks,
+        } = parts;
+        let floor = highest_of(&tasks, self.floor);
+        let jobs = Jobs::of_tasks(alloc, tasks, self.machine.actors.len())?;
+        Ok(self.joined(core, sources, jobs, floor))
+    }
+
+    /// The burst of these parts, and the run behind it.
+    fn run_on<R: Threads + Wait + Sync, G: Gate + Sync>(
+        self,
+        rt: &R,
+        alloc: Global,
+        parts: BurstParts<'m>,
+        workers: u8,
+        gate: &G,
+    ) -> Result<AfterBurst<'m>, Mem>
+        requires away { IsAway self.machine.now self.table.desk.shared.table_id self.floor
+            parts.core parts.sources.items parts.tasks.items }
+        requires workers { 1 ≤ workers }
+        ensures { IfOk result (λ after. after.run.machine ≡ self.entry.machine.now) }
+    {
+        let tasks = parts.tasks.len();
+        let Burst {
+            parts,
+            beside,
+            stop,
+            ..
+        } = self.make(rt, alloc, parts, workers, gate)?;
+        let run = self.come_back(alloc, parts)?;
+        Ok(AfterBurst {
+            run,
+            beside,
+            tasks,
+            stop,
         })
     }
 }
@@ -180,21 +216,7 @@ impl<'m> Run<'m> {
             return Err(Mem);
         }
         let (away, parts) = self.leave(alloc)?;
-        let tasks = parts.tasks.len();
-        let Burst {
-            parts,
-            beside,
-            stop,
-            ..
-        } = away.make(rt, alloc, parts, workers, gate)?;
-        let full = full_at(stop)?;
-        let run = away.come_back(alloc, parts)?;
-        Ok(AfterBurst {
-            run,
-            beside,
-            tasks,
-            full,
-        })
+        away.run_on(rt, alloc, parts, workers, gate)
     }
 
     /// Whether that source has fewer than the four places that a call may need.
@@ -207,17 +229,20 @@ impl<'m> Run<'m> {
         }
     }
 
-    /// Why the run gives nothing, where a worker stopped at that source and the source is full.
-    fn refused(&self, full: Option<u32>) -> Option<RunFault>
+    /// Why the run gives nothing, where a worker stopped: for want of memory, or at a source that is full.
+    fn refused(&self, stop: Option<Stop>) -> Option<RunFault>
         ensures { IfSome result (IsRefused self.now) }
     {
-        match full {
-            Some(source) if self.is_full(source) => Some(RunFault::SourceFull(source)),
+        match stop {
+            Some(Stop::Mem { .. }) => Some(RunFault::Mem),
+            Some(Stop::Full { source, .. }) if self.is_full(source) => {
+                Some(RunFault::SourceFull(source))
+            }
             _ => None,
         }
     }
 
-    /// A burst, and whether it filled a source.
+    /// A burst, and why the run gives nothing behind it, if it does not.
     fn after_burst<R: Threads + Wait + Sync, G: Gate + Sync>(
         self,
         rt: &R,
@@ -234,10 +259,10 @@ impl<'m> Run<'m> {
             run,
             beside,
             tasks,
-            full,
+            stop,
         } = self.burst(rt, alloc, workers, gate)?;
         pace.note(beside, tasks);
-        let refused = run.refused(full);
+        let refused = run.refused(stop);
         Ok((run, refused))
     }
 

@@ -10,14 +10,14 @@ pub of_tasks-requires-clause-there : goal.of_tasks-requires-clause-there
 of_tasks-requires-clause-there c =
     subst (λ (n : ℕ). n < length (jobs_in c.args.parts.tasks.items)) (sym c.len.ensures) (back_there _ _ _ _ _ _ c.requires)
 
-pub invariant_of-result : goal.invariant_of-result
-invariant_of-result c =
+pub joined-requires : goal.joined-requires
+joined-requires c =
     let are = subst (λ (n : ℕ). AreJobsOf (jobs_in c.args.parts.tasks.items) n c.in_ok-jobs.jobs) c.len.ensures c.in_ok-jobs.ensures in
     let top = c.highest_of-floor.ensures ∙ ap (highest c.args.self.floor) c.deref.ensures.value in
     record {
+      all_jobs = back_jobs _ _ _ _ _ _ c.requires c.in_ok-jobs.jobs are;
       machine_is = c.requires.machine_is;
       running = back_running _ _ _ _ _ _ c.requires c.in_ok-jobs.jobs are c.highest_of-floor.result top;
-      all_jobs = back_jobs _ _ _ _ _ _ c.requires c.in_ok-jobs.jobs are;
-      table = c.requires.table_is;
+      table_is = c.requires.table_is;
       seats = c.requires.seats;
     }
