@@ -1,9 +1,10 @@
 -- What the entries of the journal passed so far leave: of the open attempt, of the tasks, of the devices.
-use Rattle.std.specs.Prelude.{◌≡◌, ℕ, Bool, List, ◌∷◌, length, Option}
+use Rattle.std.specs.Prelude.{◌≡◌, ℕ, Bool, true, false, List, ◌∷◌, length, Option}
 use Rattle.sleep_base.specs.declared.errno.Errno.{Errno}
 use Rattle.sleep_model.specs.declared.entry.Actor.{Actor}
 use Rattle.sleep_model.specs.declared.entry.Entry.{Entry}
 use Rattle.sleep_model.specs.declared.entry.Kind.{Kind}
+use Rattle.sleep_model.specs.declared.entry.Kind.TheVariants as kind
 use Rattle.sleep_model.specs.declared.machine.Machine.{Machine}
 use Rattle.sleep_model.specs.declared.machine.PlatDo.{PlatDo}
 use Rattle.sleep_model.specs.declared.machine.PlatDo.TheVariants as down
@@ -103,6 +104,15 @@ attempt_of past = record {
   prepared = owes_platform down.Prepare past;
   prepared_late = owes_platform down.PrepareLate past;
 }
+
+-- an entry of a device that is prepared, scheduled, called back or completed (device_prepare, dpm_run_callback, device_complete)
+abbrev pub is_of_device : Kind → Bool
+is_of_device (kind.Prepare d r) = true
+is_of_device (kind.Complete d) = true
+is_of_device (kind.Schedule p d) = true
+is_of_device (kind.Begin p d) = true
+is_of_device (kind.End p d r) = true
+is_of_device _ = false
 
 -- that step of the platform is owed its undo (platform_resume_end, platform_resume_finish, platform_resume_noirq)
 abbrev pub owes_by : AttemptState → PlatDo → Bool

@@ -1,9 +1,11 @@
 -- Where each device stands, for each phase and its mirror.
-use Rattle.std.specs.Prelude.{ℕ, List, Option}
+use Rattle.std.specs.Prelude.{ℕ, Bool, true, false, ◌||◌, List, Option}
 use Rattle.phase_table.specs.declared.phase.Phase.{Phase}
 use Rattle.phase_table.specs.declared.phase.Phase.TheVariants as phase
+use Rattle.phase_table.specs.Phases.{is_phase, mirror}
 use Rattle.sleep_model.specs.declared.entry.Entry.{Entry}
 use Rattle.sleep_model.specs.declared.entry.Kind.{Kind}
+use Rattle.sleep_model.specs.declared.entry.Kind.TheVariants as kind
 use Rattle.sleep_model.specs.declared.place.Stand.{Stand}
 use Rattle.sleep_model.specs.Stands.{stands, stands_after}
 
@@ -49,6 +51,16 @@ board_of n past = record {
   resume = stands n phase.Resume past;
   complete = stands n phase.Complete past;
 }
+
+-- an entry may move its device in phase p and its mirror (dpm_run_callback, device_prepare, device_complete)
+abbrev pub may_move : Phase → Kind → Bool
+may_move p (kind.Prepare d r) = true
+may_move p (kind.Complete d) = true
+may_move p (kind.Schedule q d) = is_phase q p || is_phase q (mirror p)
+may_move p (kind.Begin q d) = is_phase q p || is_phase q (mirror p)
+may_move p (kind.End q d r) = is_phase q p || is_phase q (mirror p)
+may_move p (kind.Skip q d cause) = is_phase q p || is_phase q (mirror p)
+may_move p _ = false
 
 -- those in that phase and its mirror (struct dev_pm_info)
 abbrev pub stands_on : BoardState → Phase → List Stand

@@ -9,6 +9,7 @@ use crate::errors::{
     owes_platform_after, own_error_after, phase_failed_after,
 };
 use crate::stage::stage_after;
+use crate::stands::is_of_device;
 use sleep_base::{Errno, Mem};
 use sleep_model::{Actor, Callback, Entry, EventNow, PlatDo, Sleep, Stage, pos};
 use std::marker::Model;
@@ -67,9 +68,9 @@ impl Model for AttemptAccount {
 }
 
 impl AttemptAccount {
-    ghost use Rattle.std.specs.Prelude.{◌≡◌, ◌||◌, [], nat_lt, OnOk};
+    ghost use Rattle.std.specs.Prelude.{◌≡◌, ◌||◌, [], nat_lt, true, OnOk};
     ghost use Rattle.sleep_model.specs.Guard.{count_pending};
-    ghost use Rattle.check_account.specs.Accounts.{attempt_after, attempt_of, owes_by};
+    ghost use Rattle.check_account.specs.Accounts.{attempt_after, attempt_of, is_of_device, owes_by};
 
     /// Before the first entry.
     pub fn new() -> Self
@@ -98,8 +99,21 @@ impl AttemptAccount {
         }
     }
 
-    /// Passes one more entry of the journal. `Mem` where a counter has no room.
-    pub fn pass(&mut self, e: Entry) -> Result<(), Mem>
+    // Passes an entry of a device that is prepared, scheduled, called back or completed, which moves the open phase alone.
+    #[tactic(auto, using(crate::proofs::Unmoved::attempt_stays))]
+    fn pass_device(&mut self, e: Entry)
+        requires { is_of_device e.kind ≡ true }
+        ensures { self.new ≡ attempt_after e self.old }
+    {
+        let own = is_device(e.actor);
+        self.callback = callback_after(e.kind, own, self.callback);
+        self.phase_failed = phase_failed_after(e.kind, self.phase_failed);
+        self.own_error = own_error_after(e.kind, own, self.own_error);
+        self.disabled_by_late = disabled_by_late_after(e.kind, self.disabled_by_late);
+    }
+
+    // Passes any entry of the journal. `Mem` where a counter has no room.
+    fn pass_any(&mut self, e: Entry) -> Result<(), Mem>
         ensures { OnOk result (self.new ≡ attempt_after e self.old) }
     {
         let own = is_device(e.actor);
@@ -123,6 +137,18 @@ impl AttemptAccount {
         self.prepared = owes_platform_after(e.kind, PlatDo::Prepare, self.prepared);
         self.prepared_late = owes_platform_after(e.kind, PlatDo::PrepareLate, self.prepared_late);
         Ok(())
+    }
+
+    /// Passes one more entry of the journal. `Mem` where a counter has no room.
+    pub fn pass(&mut self, e: Entry) -> Result<(), Mem>
+        ensures { OnOk result (self.new ≡ attempt_after e self.old) }
+    {
+        if is_of_device(e.kind) {
+            self.pass_device(e);
+            Ok(())
+        } else {
+            self.pass_any(e)
+        }
     }
 
     /// The time of the last jump, in ms; 0 before any.

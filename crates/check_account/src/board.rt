@@ -71,16 +71,21 @@ impl Board {
     pub fn pass(&mut self, kind: Kind, device: Option<u32>)
         ensures { self.new ≡ board_after kind device self.old }
     {
-        move_stand(&mut self.prepare, Phase::Prepare, kind, device);
-        move_stand(&mut self.suspend, Phase::Suspend, kind, device);
-        move_stand(&mut self.late, Phase::Late, kind, device);
-        move_stand(&mut self.noirq, Phase::Noirq, kind, device);
-        move_stand(&mut self.syscore, Phase::Syscore, kind, device);
-        move_stand(&mut self.syscore_resume, Phase::SyscoreResume, kind, device);
-        move_stand(&mut self.resume_noirq, Phase::ResumeNoirq, kind, device);
-        move_stand(&mut self.early, Phase::Early, kind, device);
-        move_stand(&mut self.resume, Phase::Resume, kind, device);
-        move_stand(&mut self.complete, Phase::Complete, kind, device);
+        move_stand(&mut self.prepare, Phase::Prepare, &kind, device);
+        move_stand(&mut self.suspend, Phase::Suspend, &kind, device);
+        move_stand(&mut self.late, Phase::Late, &kind, device);
+        move_stand(&mut self.noirq, Phase::Noirq, &kind, device);
+        move_stand(&mut self.syscore, Phase::Syscore, &kind, device);
+        move_stand(
+            &mut self.syscore_resume,
+            Phase::SyscoreResume,
+            &kind,
+            device,
+        );
+        move_stand(&mut self.resume_noirq, Phase::ResumeNoirq, &kind, device);
+        move_stand(&mut self.early, Phase::Early, &kind, device);
+        move_stand(&mut self.resume, Phase::Resume, &kind, device);
+        move_stand(&mut self.complete, Phase::Complete, &kind, device);
     }
 
     /// Where each device stands in a phase and its mirror.

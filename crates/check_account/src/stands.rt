@@ -1,8 +1,11 @@
 //! Where devices stand in each phase and its mirror (`drivers/base/power/main.c`, `struct dev_pm_info`).
 
-ghost use Rattle.std.specs.Prelude.{◌≡◌, IfOk, replicate};
+ghost use Rattle.std.specs.Prelude.{◌≡◌, ◌||◌, Some, IfOk, replicate};
+ghost use Rattle.phase_table.specs.Phases.{is_phase, mirror};
 ghost use Rattle.sleep_model.specs.Stands.{prepared_by, ended_by, skipped_for, by_phase, stand_after, device_of, stands_after};
 ghost use Rattle.sleep_model.specs.declared.place.Stand.TheVariants as stand;
+ghost use Rattle.check_account.specs.Accounts.{is_of_device};
+ghost use Rattle.check_account.specs.Boards.{may_move};
 
 use phase_table::Phase;
 use sleep_base::{Errno, Mem};
@@ -81,6 +84,20 @@ pub(crate) fn device_of(kind: Kind) -> Option<u32>
     }
 }
 
+/// Whether an entry is one of a device that is prepared, scheduled, called back or completed.
+pub(crate) fn is_of_device(kind: Kind) -> bool
+    ensures { result ≡ is_of_device kind }
+{
+    matches!(
+        kind,
+        Kind::Prepare { .. }
+            | Kind::Complete(_)
+            | Kind::Schedule(..)
+            | Kind::Begin(..)
+            | Kind::End(..)
+    )
+}
+
 /// No device is prepared. `Mem` if there is no memory for the list.
 pub(crate) fn none_prepared(alloc: Global, count: usize) -> Result<Vec<Stand>, Mem>
     ensures { IfOk result (λ v. v.items ≡ replicate count stand.Unprepared) }
@@ -88,14 +105,47 @@ pub(crate) fn none_prepared(alloc: Global, count: usize) -> Result<Vec<Stand>, M
     Ok(vec![in alloc; Stand::Unprepared; count]?)
 }
 
-/// An entry moves its own device alone.
-pub(crate) fn move_stand(stands: &mut Vec<Stand>, pair: Phase, kind: Kind, device: Option<u32>)
-    ensures { stands.new.items ≡ stands_after pair kind device stands.old.items }
+// Whether a phase is that one or its mirror.
+fn is_of_pair(pair: Phase, phase: Phase) -> bool
+    ensures { result ≡ (is_phase phase pair || is_phase phase (mirror pair)) }
+{
+    phase == pair || phase == pair.mirror()
+}
+
+// Whether an entry may move its device in that phase and its mirror.
+#[inline(always)]
+fn may_move(pair: Phase, kind: &Kind) -> bool
+    ensures { result ≡ may_move pair kind.now }
+{
+    match kind {
+        Kind::Schedule(phase, _)
+        | Kind::Begin(phase, _)
+        | Kind::End(phase, _, _)
+        | Kind::Skip(phase, _, _) => is_of_pair(pair, *phase),
+        Kind::Prepare { .. } | Kind::Complete(_) => true,
+        _ => false,
+    }
+}
+
+// An entry moves that device, if it is there.
+fn put_stand(stands: &mut Vec<Stand>, pair: Phase, kind: &Kind, device: u32)
+    ensures { stands.new.items ≡ stands_after pair kind.now (Some device) stands.old.items }
+{
+    if (device as usize) < stands.len() {
+        let after = stand_after(pair, *kind, stands[device as usize]);
+        stands[device as usize] = after;
+    }
+}
+
+/// An entry moves its own device alone, in its own phase or all.
+#[inline(always)]
+#[tactic(auto, using(crate::proofs::Unmoved::stands_stay))]
+pub(crate) fn move_stand(stands: &mut Vec<Stand>, pair: Phase, kind: &Kind, device: Option<u32>)
+    ensures { stands.new.items ≡ stands_after pair kind.now device stands.old.items }
 {
     if let Some(device) = device {
-        if (device as usize) < stands.len() {
-            let after = stand_after(pair, kind, stands[device as usize]);
-            stands[device as usize] = after;
+        if may_move(pair, kind) {
+            put_stand(stands, pair, kind, device);
         }
     }
 }
