@@ -75,6 +75,22 @@ fn extend_at(
     Ok(())
 }
 
+// The same, where few entries owe a call.
+fn owe_at(
+    later: &mut Vec<Calls>,
+    place: usize,
+    reports: &[Report],
+    behind: &[Report],
+) -> Result<(), Mem>
+    ensures { OnOk result (later.new.items ≡ slice_set later.old.items place
+        (slice_index_or later.old.items place [] ++ map noted reports.now ++ map noted behind.now)) }
+{
+    if reports.is_empty() && behind.is_empty() {
+        return Ok(());
+    }
+    extend_at(later, place, reports, behind)
+}
+
 // What the callback that an entry begins reports, where `attempts` attempts were begun.
 fn reports_of<'m>(machine: &'m Machine, kind: Kind, attempts: u32) -> &'m [Report]
     ensures { map noted result.now ≡ report_calls machine.now attempts kind }
@@ -170,7 +186,7 @@ impl<'m> Callers<'m> {
         let turn = one_further(number_at(&self.turns, place))?;
         let reports = reports_of(machine, e.kind, attempts);
         let behind = calls_behind(&self.plans, e.actor, ended, turn);
-        extend_at(&mut self.later, place, reports, behind)?;
+        owe_at(&mut self.later, place, reports, behind)?;
         if ended {
             set_at(&mut self.turns, place, turn);
         }

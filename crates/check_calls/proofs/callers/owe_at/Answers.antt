@@ -1,0 +1,10 @@
+use Rattle.std.proofs.Common.{◌≡◌, length, arith}
+use Rattle.std.proofs.lemmas.Bool.Decides.{nat_tests}
+use Rattle.check_calls.proofs.Owing.{none_owed}
+use Rattle.check_calls.proofs.callers.owe_at.Goals as goal
+
+pub returns-then-is_empty-2 : goal.returns-then-is_empty-2
+returns-then-is_empty-2 c =
+    let reports : length c.args.reports.now ≡ 0 = grind (arith, nat_tests) in
+    let behind : length c.args.behind.now ≡ 0 = grind (arith, nat_tests) in
+    none_owed c.args.later.now.items c.args.place c.args.reports.now c.args.behind.now reports behind
