@@ -35,8 +35,8 @@ by_kept : (m : Machine) (e : Entry) (past : List Entry) (b : Bool) → journal_i
 by_kept m e past true = refl
 by_kept m e past false = refl
 
-pub holds : (m : Machine) (past : List Entry) (e : Entry) (k after : Kept) → Holds m past k.word k.time k.journal k.sources k.calls → after ≡ kept_after m e k
-    → Holds m (e ∷ past) after.word after.time after.journal after.sources after.calls
+pub holds : (m : Machine) (past : List Entry) (e : Entry) (k after : Kept) → Holds m past k → after ≡ kept_after m e k
+    → Holds m (e ∷ past) after
 holds m past e k after h is = record {
   word = ap (λ (x : Kept). x.word) is ∙ ap (λ (x : EventNow). after_step (word_step e.kind) x) h.word;
   time = ap (λ (x : Kept). x.time) is ∙ ap (λ x. time_after e.kind e.time x) h.time;

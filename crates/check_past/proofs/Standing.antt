@@ -1,9 +1,11 @@
 -- The lists that are kept, read at one place.
-use Rattle.std.proofs.Common.{◌≡◌, ℕ, suc, zero, Bool, false, List, [], ◌∷◌, Option, Some, None, map, refl, slice_get}
+use Rattle.std.proofs.Common.{◌≡◌, ◌&&◌, ◌||◌, ℕ, suc, zero, Bool, true, false, if◌then◌else◌, List, [], ◌∷◌, Option, Some, None, find, map, refl, ap, slice_get}
+use Rattle.std.specs.List.{list_any}
 use Rattle.phase_table.specs.declared.phase.Phase.{Phase}
 use Rattle.phase_table.specs.declared.phase.Phase.TheVariants as phase
 use Rattle.sleep_model.specs.declared.entry.Entry.{Entry}
 use Rattle.sleep_model.specs.declared.machine.Device.{Device}
+use Rattle.sleep_model.specs.Runtime.{is_async}
 use Rattle.sleep_model.specs.Stands.{stands}
 use Rattle.sleep_model.specs.Walk.{is_so}
 use Rattle.check_account.specs.Boards.{board_of, stands_on}
@@ -35,6 +37,27 @@ pub flag_is : (f : Device → Bool) (ds : List Device) (i : ℕ) → is_so (map 
 flag_is f [] i = refl
 flag_is f (d ∷ ds) zero = refl
 flag_is f (d ∷ ds) (suc i) = flag_is f ds i
+
+-- ---- no device is asynchronous
+
+neither : (a b : Bool) → (a || b) ≡ false → (a ≡ false) × (b ≡ false)
+neither false b e = (refl, e)
+neither true b e = absurd (cc)
+
+not_so : (ds : List Device) (i : ℕ) → list_any is_async ds ≡ false → is_so (map is_async ds) i ≡ false
+not_so [] i h = refl
+not_so (d ∷ ds) zero h = (neither (is_async d) (list_any is_async ds) h).0
+not_so (d ∷ ds) (suc i) h = not_so ds i (neither (is_async d) (list_any is_async ds) h).1
+
+not_both : (a b : Bool) → b ≡ false → (a && b) ≡ false
+not_both true b h = h
+not_both false b h = refl
+
+pub none_beside : (p : ℕ → Bool) (ds : List Device) (order : List ℕ) → list_any is_async ds ≡ false → find (λ d. p d && is_so (map is_async ds) d) order ≡ None
+none_beside p ds [] h = refl
+none_beside p ds (x ∷ xs) h =
+    ap (λ b. if b then Some x else find (λ d. p d && is_so (map is_async ds) d) xs) (not_both (p x) (is_so (map is_async ds) x) (not_so ds x h))
+    ∙ none_beside p ds xs h
 
 -- ---- each script has its place
 

@@ -1,6 +1,8 @@
 -- What the fields of the passed entries are.
 use Rattle.std.specs.Prelude.{◌≡◌}
+use Rattle.std.specs.List.{list_any}
 use Rattle.sleep_model.specs.Notifiers.{call_order}
+use Rattle.sleep_model.specs.Runtime.{is_async}
 use Rattle.check_past.specs.declared.passed.Passed.TheInside.{Inside}
 use Rattle.check_past.specs.Passing.{Passage, Holds, IsPassage, past_of}
 
@@ -10,8 +12,9 @@ passage p = record { machine = p.machine.now; entries = p.entries.now; passed = 
 
 -- the fields are what the passed entries leave (own)
 pub record IsKept (p : Inside) : Type 0 where
-  pub holds : Holds p.machine.now (past_of (passage p)) p.word p.time p.journal p.sources p.calls
+  pub holds : Holds p.machine.now (past_of (passage p)) p.kept.value
   pub call_order : p.call_order.items ≡ call_order p.machine.now
+  pub beside : p.beside ≡ list_any is_async p.machine.now.devices
   pub passage : IsPassage (passage p)
 
 -- the fields are what the passed entries leave (own)

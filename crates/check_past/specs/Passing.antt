@@ -3,16 +3,13 @@ use Rattle.std.specs.Prelude.{◌≡◌, ◌≤◌, ℕ, ◌+◌, true, List, le
 use Rattle.std.specs.List.{list_all}
 use Rattle.sleep_model.specs.declared.entry.Entry.{Entry}
 use Rattle.sleep_model.specs.declared.machine.Machine.{Machine}
-use Rattle.sleep_model.specs.declared.word.EventNow.{EventNow}
 use Rattle.sleep_model.specs.Accepted.{IsAccepted}
 use Rattle.sleep_model.specs.Fits.{fits_entry}
 use Rattle.sleep_model.specs.Numbers.{after_step, numbers, time_after, time_of, word_step}
 use Rattle.sleep_model.specs.Parts.{is_kept, journal, part_of}
-use Rattle.check_calls.specs.Calling.{CallsOf, callers_after, callers_of}
-use Rattle.check_past.specs.declared.journal.JournalParts.{JournalParts}
+use Rattle.check_calls.specs.Calling.{callers_after, callers_of}
 use Rattle.check_past.specs.declared.kept.Kept.{Kept}
 use Rattle.check_past.specs.Parts.{journal_if, state_of}
-use Rattle.check_sources.specs.declared.source.Source.{Source}
 use Rattle.check_sources.specs.Kept.{sources, sources_after}
 
 -- a machine, the entries of a log, the oldest first, and how many of them were passed (own)
@@ -30,12 +27,12 @@ abbrev pub journal_of : Passage → List Entry
 journal_of p = journal (past_of p)
 
 -- what is kept is what these entries leave (own)
-pub record Holds (m : Machine) (past : List Entry) (now : EventNow) (moment : ℕ) (parts : JournalParts) (kept : List Source) (made : CallsOf) : Type 0 where
-  pub word : now ≡ numbers past
-  pub time : moment ≡ time_of past
-  pub state : parts ≡ state_of m (journal past)
-  pub sources : kept ≡ sources (length m.sources + 1) past
-  pub calls : made ≡ record { machine = m; state = callers_of m past }
+pub record Holds (m : Machine) (past : List Entry) (k : Kept) : Type 0 where
+  pub word : k.word ≡ numbers past
+  pub time : k.time ≡ time_of past
+  pub state : k.journal ≡ state_of m (journal past)
+  pub sources : k.sources ≡ sources (length m.sources + 1) past
+  pub calls : k.calls ≡ record { machine = m; state = callers_of m past }
 
 -- what is kept after one more entry (own)
 abbrev pub kept_after : Machine → Entry → Kept → Kept

@@ -58,49 +58,49 @@ impl<'m> Passed<'m> {
     pub fn word(&self) -> EventNow
         ensures { result ≡ numbers (past_of self.now) }
     {
-        self.word
+        self.kept.word
     }
 
     /// The time of the last jump, in ms; 0 before any.
     pub fn time(&self) -> u64
         ensures { result ≡ time_of (past_of self.now) }
     {
-        self.time
+        self.kept.time
     }
 
     /// That time, by the journal.
     pub fn journal_time(&self) -> u64
         ensures { result ≡ time_of (journal_of self.now) }
     {
-        self.journal.attempt.time()
+        self.kept.journal.attempt.time()
     }
 
     /// The count in force, if there is one (`events_check_enabled`, `saved_count`).
     pub fn in_force(&self) -> Option<u32>
         ensures { result ≡ in_force (journal_of self.now) }
     {
-        self.journal.attempt.in_force()
+        self.kept.journal.attempt.in_force()
     }
 
     /// Whether a wakeup is pending at that word (`pm_wakeup_pending`).
     pub fn is_pending(&self, now: EventNow) -> bool
         ensures { result ≡ pending (journal_of self.now) now }
     {
-        self.journal.attempt.is_pending(now)
+        self.kept.journal.attempt.is_pending(now)
     }
 
     /// How many attempts were begun.
     pub fn attempts(&self) -> u32
         ensures { result ≡ attempts (journal_of self.now) }
     {
-        self.journal.attempt.attempts()
+        self.kept.journal.attempt.attempts()
     }
 
     /// Who makes the open attempt, if one is open.
     pub fn maker(&self) -> Option<Actor>
         ensures { result ≡ maker (journal_of self.now) }
     {
-        self.journal.attempt.maker()
+        self.kept.journal.attempt.maker()
     }
 
     /// Whether that actor makes the open attempt (`system_transition_mutex`).
@@ -114,35 +114,35 @@ impl<'m> Passed<'m> {
     pub fn stage(&self) -> Option<Stage>
         ensures { result ≡ stage_of (journal_of self.now) }
     {
-        self.journal.attempt.stage()
+        self.kept.journal.attempt.stage()
     }
 
     /// The error of the open attempt's step that failed.
     pub fn failed(&self) -> Option<Errno>
         ensures { result ≡ failed (journal_of self.now) }
     {
-        self.journal.attempt.failed()
+        self.kept.journal.attempt.failed()
     }
 
     /// Whether the open attempt has entered sleep.
     pub fn entered(&self) -> bool
         ensures { result ≡ entered (journal_of self.now) }
     {
-        self.journal.attempt.entered()
+        self.kept.journal.attempt.entered()
     }
 
     /// Since when a freeze goes on, in ms, if one does (`try_to_freeze_tasks`).
     pub fn freeze_since(&self) -> Option<u64>
         ensures { result ≡ freeze_since (journal_of self.now) }
     {
-        self.journal.attempt.freeze_since()
+        self.kept.journal.attempt.freeze_since()
     }
 
     /// The machine's sleep, if it sleeps (`suspend_enter`).
     pub fn sleep(&self) -> Option<Sleep>
         ensures { result ≡ sleep_of (journal_of self.now) }
     {
-        self.journal.attempt.sleep()
+        self.kept.journal.attempt.sleep()
     }
 
     /// Whether the machine sleeps.
@@ -156,48 +156,48 @@ impl<'m> Passed<'m> {
     pub fn callback(&self) -> Option<Callback>
         ensures { result ≡ callback (journal_of self.now) }
     {
-        self.journal.attempt.callback()
+        self.kept.journal.attempt.callback()
     }
 
     /// The error that stands in the open phase (`async_error`).
     pub fn phase_failed(&self) -> Option<Errno>
         ensures { result ≡ phase_failed (journal_of self.now) }
     {
-        self.journal.attempt.phase_failed()
+        self.kept.journal.attempt.phase_failed()
     }
 
     /// The error of a synchronous device's callback in the open phase.
     pub fn own_error(&self) -> Option<Errno>
         ensures { result ≡ own_error (journal_of self.now) }
     {
-        self.journal.attempt.own_error()
+        self.kept.journal.attempt.own_error()
     }
 
     /// Whether suspend has left a device alone, and resume is not done since.
     pub fn disabled_by_direct(&self) -> bool
         ensures { result ≡ disabled_by_direct (journal_of self.now) }
     {
-        self.journal.attempt.disabled_by_direct()
+        self.kept.journal.attempt.disabled_by_direct()
     }
 
     /// Whether late has taken a device, and early is not done since.
     pub fn disabled_by_late(&self) -> bool
         ensures { result ≡ disabled_by_late (journal_of self.now) }
     {
-        self.journal.attempt.disabled_by_late()
+        self.kept.journal.attempt.disabled_by_late()
     }
 
     /// Whether interrupts are off.
     pub fn irqs_off(&self) -> bool
         ensures { result ≡ irqs_off (journal_of self.now) }
     {
-        self.journal.attempt.irqs_off()
+        self.kept.journal.attempt.irqs_off()
     }
 
     /// Whether that step of the platform is owed its undo.
     pub fn owes_platform(&self, step: PlatDo) -> bool
         ensures { result ≡ owes_platform step (journal_of self.now) }
     {
-        self.journal.attempt.owes_platform(step)
+        self.kept.journal.attempt.owes_platform(step)
     }
 }

@@ -21,7 +21,7 @@ impl<'m> Passed<'m> {
     pub fn stand(&self, phase: Phase, device: u32) -> Stand
         ensures { result ≡ stand_in self.now.machine (journal_of self.now) phase device }
     {
-        self.journal.devices.stand(phase, device)
+        self.kept.journal.devices.stand(phase, device)
     }
 
     /// Where each device stands in a phase and its mirror.
@@ -29,70 +29,70 @@ impl<'m> Passed<'m> {
     pub fn stands(&self, phase: Phase) -> &[Stand]
         ensures { result.now ≡ stands (length self.now.machine.devices) phase (journal_of self.now) }
     {
-        self.journal.devices.stands(phase)
+        self.kept.journal.devices.stands(phase)
     }
 
     /// Which devices answered 1 to their last prepare (`power.direct_complete`).
     pub fn asks_direct(&self) -> &Flags
         ensures { result.now ≡ asks_direct (length self.now.machine.devices) (journal_of self.now) }
     {
-        self.journal.devices.asks_direct()
+        self.kept.journal.devices.asks_direct()
     }
 
     /// Which devices are runtime suspended (`power.runtime_status`).
     pub fn statuses(&self) -> &Flags
         ensures { result.now ≡ statuses self.now.machine.devices (journal_of self.now) }
     {
-        self.journal.devices.statuses()
+        self.kept.journal.devices.statuses()
     }
 
     /// Which notifiers are owed their post (`PM_POST_SUSPEND`).
     pub fn told(&self) -> &Flags
         ensures { result.now ≡ told self.now.machine (journal_of self.now) }
     {
-        self.journal.devices.notified()
+        self.kept.journal.devices.notified()
     }
 
     /// Which processors are off (`frozen_cpus`).
     pub fn cpus_off(&self) -> &Flags
         ensures { result.now ≡ cpus_off self.now.machine.cpus (journal_of self.now) }
     {
-        self.journal.devices.cpus_off()
+        self.kept.journal.devices.cpus_off()
     }
 
     /// Which of the core's parts are suspended (`syscore_ops_list`).
     pub fn stopped(&self) -> &Flags
         ensures { result.now ≡ stopped (length self.now.machine.syscore) (journal_of self.now) }
     {
-        self.journal.devices.stopped()
+        self.kept.journal.devices.stopped()
     }
 
     /// The devices in their order (`dpm_list`).
     pub fn order(&self) -> &[u32]
         ensures { result.now ≡ order self.now.machine (journal_of self.now) }
     {
-        self.journal.ties.order()
+        self.kept.journal.ties.order()
     }
 
     /// What must sleep before a device does (`dpm_wait_for_subordinate`).
     pub fn below(&self, device: u32) -> &[u32]
         ensures { result.now ≡ below self.now.machine (journal_of self.now) device }
     {
-        self.journal.ties.below(device)
+        self.kept.journal.ties.below(device)
     }
 
     /// What must be awake before a device is (`dpm_wait_for_superior`).
     pub fn above(&self, device: u32) -> &[u32]
         ensures { result.now ≡ above self.now.machine (journal_of self.now) device }
     {
-        self.journal.ties.above(device)
+        self.kept.journal.ties.above(device)
     }
 
     /// Whether a link between these two stands, active or dormant.
     pub fn is_linked(&self, supplier: u32, consumer: u32) -> bool
         ensures { result ≡ is_linked (links_at self.now.machine (journal_of self.now)) supplier consumer }
     {
-        self.journal.ties.is_linked(supplier, consumer)
+        self.kept.journal.ties.is_linked(supplier, consumer)
     }
 
     /// Whether a walk down from the consumer, over children and all links, meets the supplier (`device_is_dependent`).
@@ -103,7 +103,7 @@ impl<'m> Passed<'m> {
         ensures { IfOk result (λ b. b ≡ is_dependent (parents_of self.now.machine.devices)
             (links_at self.now.machine (journal_of self.now)) consumer supplier) }
     {
-        self.journal.ties.is_dependent(consumer, supplier)
+        self.kept.journal.ties.is_dependent(consumer, supplier)
     }
 
     /// Whether a device is asynchronous (`power.async_suspend`).

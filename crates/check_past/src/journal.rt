@@ -1,7 +1,9 @@
 //! What is kept of a journal: the open attempt, the tasks, the devices, and the links between them.
 
-ghost use Rattle.std.specs.Prelude.{◌≡◌, IfOk};
-ghost use Rattle.sleep_model.specs.Order.{parents_of};
+ghost use Rattle.std.specs.Prelude.{◌≡◌, ◌∷◌, IfOk, OnOk, map};
+ghost use Rattle.check_order.specs.Kept.{with_links};
+ghost use Rattle.sleep_model.specs.Links.{AreLinks};
+ghost use Rattle.sleep_model.specs.Order.{parents_of, with_state};
 ghost use Rattle.sleep_model.specs.Parts.{is_kept, part_of};
 ghost use Rattle.check_past.specs.Parts.{MayAdd, ties_after};
 
@@ -20,30 +22,55 @@ pub(crate) struct JournalParts {
     pub(crate) ties: DeviceTies,
 }
 
-// The devices' parents and links after an entry, which adds no link that may not stand. `Mem` if there is no memory for
-// them.
-fn ties_after(ties: DeviceTies, kind: Kind) -> Result<DeviceTies, Mem>
-    requires { MayAdd ties kind }
-    ensures { IfOk result (λ t. t ≡ ties_after kind ties) }
+// Adds a link that may stand, which few entries do. `Mem` if there is no memory for it.
+#[cold]
+#[inline(never)]
+fn add_link(ties: &mut DeviceTies, link: Link) -> Result<(), Mem>
+    requires { AreLinks ties.old.parents (link ∷ ties.old.links) }
+    ensures { OnOk result (ties.new ≡ with_links ties.old (link ∷ ties.old.links)) }
+{
+    *ties = ties.with_link(link)?;
+    Ok(())
+}
+
+// Gives the link between these two that state, which few entries do. `Mem` if there is no memory for it.
+#[cold]
+#[inline(never)]
+fn set_link(ties: &mut DeviceTies, supplier: u32, consumer: u32, active: bool) -> Result<(), Mem>
+    ensures { OnOk result (ties.new ≡ with_links ties.old (map (with_state supplier consumer active) ties.old.links)) }
+{
+    *ties = ties.with_state(supplier, consumer, active)?;
+    Ok(())
+}
+
+// Moves the devices' parents and links by an entry, which adds no link that may not stand. `Mem` if there is no memory
+// for them.
+fn move_ties(ties: &mut DeviceTies, kind: Kind) -> Result<(), Mem>
+    requires { MayAdd ties.old kind }
+    ensures { OnOk result (ties.new ≡ ties_after kind ties.old) }
 {
     match kind {
         Kind::LinkAdd {
             supplier,
             consumer,
             r: None,
-        } => ties.with_link(Link {
-            supplier,
-            consumer,
-            active: true,
-        }),
+        } => {
+            let link = Link {
+                supplier,
+                consumer,
+                active: true,
+            };
+            add_link(ties, link)?;
+        }
         Kind::LinkState {
             supplier,
             consumer,
             active,
             r: None,
-        } => ties.with_state(supplier, consumer, active),
-        _ => Ok(ties),
+        } => set_link(ties, supplier, consumer, active)?,
+        _ => {}
     }
+    Ok(())
 }
 
 // The parents of a machine's devices. `Mem` if there is no memory for the list.
@@ -75,7 +102,7 @@ pub(crate) fn is_kept(kind: Kind) -> bool
 }
 
 impl JournalParts {
-    ghost use Rattle.std.specs.Prelude.{◌≡◌, ◌<◌, ◌^◌, [], length, IfOk};
+    ghost use Rattle.std.specs.Prelude.{◌≡◌, ◌<◌, ◌^◌, [], length, IfOk, OnOk};
     ghost use Rattle.sleep_model.specs.Accepted.{IsAccepted};
     ghost use Rattle.sleep_model.specs.Parts.{is_kept, part_of};
     ghost use Rattle.check_past.specs.Parts.{MayAdd, journal_after, journal_if, state_of};
@@ -95,41 +122,31 @@ impl JournalParts {
     }
 
     // Passes one more entry of the journal. `Mem` where a counter has no room, or if there is no memory for a link.
-    fn pass(self, machine: &Machine, e: Entry) -> Result<Self, Mem>
-        requires all { length self.tasks.freezings ≡ length machine.now.actors }
+    fn pass(&mut self, machine: &Machine, e: Entry) -> Result<(), Mem>
+        requires all { length self.old.tasks.freezings ≡ length machine.now.actors }
         requires few { length machine.now.actors < 2 ^ 32 }
-        requires link { MayAdd self.ties e.kind }
-        ensures { IfOk result (λ p. p ≡ journal_after machine.now e self) }
+        requires link { MayAdd self.old.ties e.kind }
+        ensures { OnOk result (self.new ≡ journal_after machine.now e self.old) }
     {
-        let JournalParts {
-            mut attempt,
-            mut tasks,
-            mut devices,
-            ties,
-        } = self;
-        attempt.pass(e)?;
-        tasks.pass(machine.actors.as_slice(), e)?;
-        devices.pass(e.kind);
-        let ties = ties_after(ties, e.kind)?;
-        Ok(JournalParts {
-            attempt,
-            tasks,
-            devices,
-            ties,
-        })
+        self.attempt.pass(e)?;
+        self.tasks.pass(machine.actors.as_slice(), e)?;
+        self.devices.pass(e.kind);
+        move_ties(&mut self.ties, e.kind)?;
+        Ok(())
     }
 
-    /// Passes one more entry, where it is the journal's.
-    pub(crate) fn pass_if(self, machine: &Machine, e: Entry) -> Result<Self, Mem>
-        requires all { length self.tasks.freezings ≡ length machine.now.actors }
+    /// Passes one more entry, where it is the journal's. `Mem` where a counter has no room, or if there is no memory for a
+    /// link.
+    pub(crate) fn pass_if(&mut self, machine: &Machine, e: Entry) -> Result<(), Mem>
+        requires all { length self.old.tasks.freezings ≡ length machine.now.actors }
         requires few { length machine.now.actors < 2 ^ 32 }
-        requires link { MayAdd self.ties e.kind }
-        ensures { IfOk result (λ p. p ≡ journal_if (is_kept (part_of e.kind)) machine.now e self) }
+        requires link { MayAdd self.old.ties e.kind }
+        ensures { OnOk result (self.new ≡ journal_if (is_kept (part_of e.kind)) machine.now e self.old) }
     {
         if is_kept(e.kind) {
             self.pass(machine, e)
         } else {
-            Ok(self)
+            Ok(())
         }
     }
 }

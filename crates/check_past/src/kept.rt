@@ -1,6 +1,6 @@
 //! What the passed entries leave, before a law names the entries.
 
-ghost use Rattle.std.specs.Prelude.{◌≡◌, IfOk};
+ghost use Rattle.std.specs.Prelude.{◌≡◌, OnOk};
 ghost use Rattle.sleep_model.specs.Parts.{part_of};
 ghost use Rattle.check_calls.specs.Calling.{callers_after};
 
@@ -10,6 +10,7 @@ use check_calls::Callers;
 use check_sources::SourceAccounts;
 use sleep_base::Mem;
 use sleep_model::{Entry, EventNow, Kind, Machine};
+use std::alloc::Global;
 
 /// What is kept of the word, of time, of the journal, of the sources and of the calls on them.
 #[derive(Drop)]
@@ -21,60 +22,63 @@ pub(crate) struct Kept<'m> {
     pub(crate) calls: Callers<'m>,
 }
 
-// Passes one more entry to the calls, behind that journal.
-fn pass_calls<'m>(
-    mut calls: Callers<'m>,
-    e: Entry,
-    journal: &JournalParts,
-) -> Result<Callers<'m>, Mem>
-    ensures { IfOk result (λ c. c ≡ record calls.entry {
-      state = callers_after calls.entry.machine e journal.now.attempt.attempts (part_of e.kind) calls.entry.state;
+// Passes one more entry to the calls, behind so many attempts.
+fn pass_calls(calls: &mut Callers<'_>, e: Entry, attempts: u32) -> Result<(), Mem>
+    ensures { OnOk result (calls.new ≡ record calls.old {
+      state = callers_after calls.old.machine e attempts (part_of e.kind) calls.old.state;
     }) }
 {
     match e.kind {
         Kind::Awake(_) | Kind::Relax(_) | Kind::Event { .. } | Kind::Expire(_) => {
-            calls.note(e.actor)?;
-            Ok(calls)
+            calls.note(e.actor)
         }
-        Kind::Start(_) | Kind::Finish(_) | Kind::Hard(_) => Ok(calls),
-        _ => {
-            calls.pass(e, journal.attempt.attempts())?;
-            Ok(calls)
-        }
+        Kind::Start(_) | Kind::Finish(_) | Kind::Hard(_) => Ok(()),
+        _ => calls.pass(e, attempts),
     }
 }
 
 impl<'m> Kept<'m> {
-    ghost use Rattle.std.specs.Prelude.{◌≡◌, ◌<◌, ◌^◌, length, IfOk};
+    ghost use Rattle.std.specs.Prelude.{◌≡◌, ◌<◌, ◌^◌, [], length, IfOk, OnOk};
+    ghost use Rattle.sleep_model.specs.Accepted.{IsAccepted};
     ghost use Rattle.check_past.specs.Parts.{MayAdd};
-    ghost use Rattle.check_past.specs.Passing.{kept_after};
+    ghost use Rattle.check_past.specs.Passing.{Holds, kept_after};
 
-    /// Passes one more entry, which adds no link that may not stand. `Mem` where a counter has no room, or if there is no
-    /// memory for what it leaves.
-    pub(crate) fn pass(self, machine: &Machine, e: Entry) -> Result<Self, Mem>
-        requires all { length self.journal.tasks.freezings ≡ length machine.now.actors }
-        requires few { length machine.now.actors < 2 ^ 32 }
-        requires link { MayAdd self.journal.ties e.kind }
-        ensures { IfOk result (λ k. k ≡ kept_after machine.now e self.entry) }
+    /// Before the first entry, on a machine as files spell it. `Mem` if there is no memory for it.
+    pub(crate) fn new(alloc: Global, machine: &'m Machine) -> Result<Self, Mem>
+        requires { IsAccepted machine.now }
+        ensures { IfOk result (λ k. Holds machine.now [] k) }
     {
-        let Kept {
-            word,
-            time,
-            journal,
-            mut sources,
-            calls,
-        } = self;
-        let word = word_after(e.kind, word)?;
-        let time = time_after(e.kind, e.time, time);
-        sources.pass(e)?;
-        let calls = pass_calls(calls, e, &journal)?;
-        let journal = journal.pass_if(machine, e)?;
+        let sources = SourceAccounts::new(alloc, machine.sources.len() + 1)?;
+        let calls = Callers::new(alloc, machine)?;
+        // The largest comes last, with no exit behind it.
+        let journal = JournalParts::new(alloc, machine)?;
         Ok(Kept {
-            word,
-            time,
+            word: EventNow {
+                inpr: 0,
+                count: 0,
+                hard: 0,
+            },
+            time: 0,
             journal,
             sources,
             calls,
         })
+    }
+
+    /// Passes one more entry, which adds no link that may not stand. `Mem` where a counter has no room, or if there is no
+    /// memory for what it leaves.
+    #[tactic(auto, using(crate::proofs::Passing::together))]
+    pub(crate) fn pass(&mut self, machine: &Machine, e: Entry) -> Result<(), Mem>
+        requires all { length self.old.journal.tasks.freezings ≡ length machine.now.actors }
+        requires few { length machine.now.actors < 2 ^ 32 }
+        requires link { MayAdd self.old.journal.ties e.kind }
+        ensures { OnOk result (self.new ≡ kept_after machine.now e self.old) }
+    {
+        self.word = word_after(e.kind, self.word)?;
+        self.time = time_after(e.kind, e.time, self.time);
+        self.sources.pass(e)?;
+        pass_calls(&mut self.calls, e, self.journal.attempt.attempts())?;
+        self.journal.pass_if(machine, e)?;
+        Ok(())
     }
 }

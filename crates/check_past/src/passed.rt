@@ -3,6 +3,7 @@ ghost use Rattle.std.specs.Prelude.{◌≡◌, ◌+◌, IfOk};
 use crate::journal::JournalParts;
 use crate::kept::Kept;
 use crate::order::call_order;
+use crate::walks::has_async;
 use check_calls::Callers;
 use check_sources::SourceAccounts;
 use sleep_base::Mem;
@@ -19,11 +20,10 @@ pub struct Passed<'m> {
     pub(crate) passed: usize,
     // The notifiers in the order in which they are called.
     pub(crate) call_order: Vec<u32>,
-    pub(crate) word: EventNow,
-    pub(crate) time: u64,
-    pub(crate) journal: JournalParts,
-    pub(crate) sources: SourceAccounts,
-    pub(crate) calls: Callers<'m>,
+    // Whether a device is asynchronous.
+    pub(crate) beside: bool,
+    // In a place of its own on the heap, since the rest is moved at each entry.
+    pub(crate) kept: Box<Kept<'m>>,
 }
 
 impl<'m> Model for Passed<'m> {
@@ -63,20 +63,15 @@ impl<'m> Passed<'m> {
         requires fits { list_all (fits_entry machine.now) entries.now ≡ true }
         ensures { IfOk result (λ p. p ≡ record { machine = machine.now; entries = entries.now; passed = 0 }) }
     {
+        let call_order = call_order(alloc, machine.notifiers.as_slice())?;
+        let kept = Kept::new(alloc, machine)?;
         Ok(Passed {
             machine,
             entries,
             passed: 0,
-            call_order: call_order(alloc, machine.notifiers.as_slice())?,
-            word: EventNow {
-                inpr: 0,
-                count: 0,
-                hard: 0,
-            },
-            time: 0,
-            journal: JournalParts::new(alloc, machine)?,
-            sources: SourceAccounts::new(alloc, machine.sources.len() + 1)?,
-            calls: Callers::new(alloc, machine)?,
+            call_order,
+            beside: has_async(machine.devices.as_slice()),
+            kept: Box::new(alloc, kept)?,
         })
     }
 
@@ -92,31 +87,18 @@ impl<'m> Passed<'m> {
             entries,
             passed,
             call_order,
-            word,
-            time,
-            journal,
-            sources,
-            calls,
+            beside,
+            mut kept,
         } = self;
-        let kept = Kept {
-            word,
-            time,
-            journal,
-            sources,
-            calls,
-        };
         let passed = one_further(passed)?;
-        let after = kept.pass(machine, e)?;
+        kept.pass(machine, e)?;
         Ok(Passed {
             machine,
             entries,
             passed,
             call_order,
-            word: after.word,
-            time: after.time,
-            journal: after.journal,
-            sources: after.sources,
-            calls: after.calls,
+            beside,
+            kept,
         })
     }
 
@@ -138,6 +120,6 @@ impl<'m> Passed<'m> {
     pub fn are_ties(&self)
         ensures { AreTies (state_of self.now.machine (journal_of self.now)).ties }
     {
-        self.journal.ties.are_ties()
+        self.kept.journal.ties.are_ties()
     }
 }

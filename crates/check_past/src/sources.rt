@@ -17,7 +17,7 @@ impl<'m> Passed<'m> {
     pub fn source(&self, number: u32) -> Source
         ensures { result ≡ source_of (history number (past_of self.now)) }
     {
-        self.sources.source(number)
+        self.kept.sources.source(number)
     }
 
     /// How many calls an actor of the machine has made.
@@ -25,7 +25,7 @@ impl<'m> Passed<'m> {
         requires { fits_actor self.now.machine who ≡ true }
         ensures { result ≡ made (length self.now.machine.sources + 1) (λ s. history s (past_of self.now)) who }
     {
-        self.calls.made(who)
+        self.kept.calls.made(who)
     }
 
     /// How many calls an actor of the machine owes in all before it may append to the journal. `Mem` where the sum has no
@@ -34,7 +34,7 @@ impl<'m> Passed<'m> {
         requires { fits_actor self.now.machine who ≡ true }
         ensures { IfOk result (λ n. n ≡ calls_due self.now.machine who (journal_of self.now)) }
     {
-        self.calls.due(who)
+        self.kept.calls.due(who)
     }
 
     /// The next call of an actor of the machine, if it has one to make.
@@ -43,6 +43,6 @@ impl<'m> Passed<'m> {
         ensures { result ≡ slice_get (calls_of self.now.machine who (journal_of self.now))
             (made (length self.now.machine.sources + 1) (λ s. history s (past_of self.now)) who) }
     {
-        self.calls.next(who)
+        self.kept.calls.next(who)
     }
 }

@@ -61,21 +61,21 @@ impl<'m> Passed<'m> {
     pub fn freezing(&self, script: u32) -> Freezing
         ensures { result ≡ freezing self.now.machine script (journal_of self.now) }
     {
-        self.journal.tasks.freezing(script)
+        self.kept.journal.tasks.freezing(script)
     }
 
     /// What the freezer has come to with each script.
     pub fn freezings(&self) -> &[Freezing]
         ensures { result.now ≡ freezings self.now.machine.actors (journal_of self.now) }
     {
-        self.journal.tasks.freezings()
+        self.kept.journal.tasks.freezings()
     }
 
     /// Where a script stands.
     pub fn seat(&self, script: u32) -> Seat
         ensures { result ≡ seat_of self.now.machine (journal_of self.now) script }
     {
-        self.journal.tasks.seat(script)
+        self.kept.journal.tasks.seat(script)
     }
 
     // The operation of a script that is under way, if one is left.
@@ -83,7 +83,7 @@ impl<'m> Passed<'m> {
         ensures { option_copied result ≡ op_of self.now.machine (journal_of self.now) script }
     {
         let done = self.seat(script).done;
-        self.calls.operation(script, done)
+        self.kept.calls.operation(script, done)
     }
 
     /// The operation of a script that is under way, if one is left; it names what the machine has.
@@ -99,7 +99,7 @@ impl<'m> Passed<'m> {
     pub fn all_gone(&self) -> bool
         ensures { result ≡ all_gone self.now.machine (journal_of self.now) }
     {
-        self.journal.tasks.all_exited()
+        self.kept.journal.tasks.all_exited()
     }
 
     /// Whether every script has made its exit, and no attempt is open.
@@ -114,7 +114,7 @@ impl<'m> Passed<'m> {
     pub fn left(&self, group: Group) -> Left
         ensures { result ≡ left_is (left self.now.machine group (journal_of self.now)) }
     {
-        let tasks = &self.journal.tasks;
+        let tasks = &self.kept.journal.tasks;
         left_among(
             group,
             self.machine.actors.as_slice(),
@@ -127,34 +127,35 @@ impl<'m> Passed<'m> {
     pub fn raised(&self, mark: u32) -> u32
         ensures { result ≡ mark_at (raised (length self.now.machine.marks) (journal_of self.now)) mark }
     {
-        self.journal.tasks.raised(mark)
+        self.kept.journal.tasks.raised(mark)
     }
 
     /// Who holds the autosleep lock (`pm_autosleep_lock`).
     pub fn holder(&self) -> Option<Actor>
         ensures { result ≡ holder (journal_of self.now) }
     {
-        self.journal.tasks.holder()
+        self.kept.journal.tasks.holder()
     }
 
     /// Whether autosleep is on (`pm_autosleep_state`).
     pub fn is_on(&self) -> bool
         ensures { result ≡ is_on (journal_of self.now) }
     {
-        self.journal.tasks.is_on()
+        self.kept.journal.tasks.is_on()
     }
 
     /// Where the autosleep work stands (`try_to_suspend`).
     pub fn work(&self) -> Work
         ensures { result ≡ work (journal_of self.now) }
     {
-        self.journal.tasks.work()
+        self.kept.journal.tasks.work()
     }
 
     /// Whether the autosleep work may run (`queue_up_suspend_work`).
     pub fn may_run(&self) -> bool
         ensures { result ≡ may_run self.now.machine (journal_of self.now) }
     {
-        self.journal.tasks.is_queued() && self.journal.tasks.runs() < self.machine.auto_cycles
+        self.kept.journal.tasks.is_queued()
+            && self.kept.journal.tasks.runs() < self.machine.auto_cycles
     }
 }

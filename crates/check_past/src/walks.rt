@@ -1,7 +1,7 @@
 //! Who is next among devices, notifiers, processors and the core's parts.
 
 ghost use Rattle.std.specs.Prelude.{◌≡◌, ◌-◌, ◌&&◌, not, map, reverse};
-ghost use Rattle.std.specs.List.{find, list_all, range_with_len};
+ghost use Rattle.std.specs.List.{find, list_all, list_any, range_with_len};
 ghost use Rattle.sleep_model.specs.Runtime.{is_async};
 ghost use Rattle.sleep_model.specs.Walk.{is_so, last_where};
 ghost use Rattle.sleep_model.specs.Stands.{stand_at, is_direct_complete, is_down_in, is_going_down, is_not_down, is_not_up, is_prepared, is_ready, is_unprepared};
@@ -95,6 +95,15 @@ fn is_async(devices: &[Device], device: u32) -> bool
     }
 }
 
+/// Whether one of these devices is asynchronous.
+pub(crate) fn has_async(devices: &[Device]) -> bool
+    ensures { result ≡ list_any is_async devices.now }
+{
+    devices
+        .iter()
+        .any(|device| device.flags.has(DeviceFlags::ASYNC))
+}
+
 // The first that is not prepared.
 fn first_unprepared(order: &[u32], stands: &[Stand]) -> Option<u32>
     ensures { result ≡ find (λ d. is_unprepared (stand_at stands.now d)) order.now }
@@ -162,6 +171,17 @@ fn first_down_beside(order: &[u32], stands: &[Stand], devices: &[Device]) -> Opt
     ensures { result ≡ find (λ d. is_down_in (stand_at stands.now d) && is_so (map is_async devices.now) d) order.now }
 {
     order.iter().copied().find(|d| is_down_in(stand_at(stands, *d)) && is_async(devices, *d))
+}
+
+// The first that is down and asynchronous, where the caller tells whether a device is asynchronous at all.
+fn first_beside(beside: bool, order: &[u32], stands: &[Stand], devices: &[Device]) -> Option<u32>
+    requires { beside ≡ list_any is_async devices.now }
+    ensures { result ≡ find (λ d. is_down_in (stand_at stands.now d) && is_so (map is_async devices.now) d) order.now }
+{
+    if !beside {
+        return None;
+    }
+    first_down_beside(order, stands, devices)
 }
 
 // The first that is down and synchronous.
@@ -297,7 +317,8 @@ impl<'m> Passed<'m> {
     pub fn next_to_schedule(&self, phase: Phase) -> Option<u32>
         ensures { result ≡ next_to_schedule self.now.machine (journal_of self.now) phase }
     {
-        first_down_beside(
+        first_beside(
+            self.beside,
             self.order(),
             self.stands(phase),
             self.machine.devices.as_slice(),

@@ -52,7 +52,6 @@ pub(crate) fn bad(before: usize, definition: u8) -> Result<Verdict, Mem>
 
 // A source's statistics at the end. `Mem` where a sum has no room.
 fn stats_of(past: &Passed<'_>, source: u32) -> Result<Stats, Mem>
-    requires { source ≤ length past.now.machine.sources }
     ensures { IfOk result (λ s. s ≡ stats_at (history source (past_of past.now)) (time_of (past_of past.now))) }
 {
     past.source(source).stats(past.time())

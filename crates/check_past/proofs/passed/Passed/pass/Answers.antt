@@ -5,25 +5,27 @@ use Rattle.check_account.proofs.Following.{placed}
 use Rattle.check_past.specs.declared.journal.JournalParts.{JournalParts}
 use Rattle.check_past.specs.declared.kept.Kept.{Kept}
 use Rattle.check_past.specs.PassedFields.{passage}
-use Rattle.check_past.specs.Passing.{Holds, past_of}
+use Rattle.check_past.specs.Passing.{Holds, kept_after, past_of}
 use Rattle.check_past.proofs.Passing.{holds, more, then_next}
 use Rattle.check_past.proofs.passed.Passed.pass.Goals as goal
 
 pub pass-requires-clause-all : goal.pass-requires-clause-all
 pass-requires-clause-all c =
     let f = c.self.inside in
-    ap (λ (x : JournalParts). length x.tasks.freezings) c.self.invariant.holds.state ∙ placed f.machine.now.actors (journal (past_of (passage f)))
+    ap (λ (k : Kept). length k.journal.tasks.freezings) c.deref_mut.ensures.value
+    ∙ ap (λ (x : JournalParts). length x.tasks.freezings) c.self.invariant.holds.state ∙ placed f.machine.now.actors (journal (past_of (passage f)))
 
 pub invariant_of-result : goal.invariant_of-result
 invariant_of-result c =
     let f = c.self.inside in
-    let k : Kept = record { word = f.word; time = f.time; journal = f.journal; sources = f.sources; calls = f.calls } in
     let there = rw (← c.self.view_is) at c.requires.next in
     record {
-      holds = subst (λ (p : List Entry). Holds f.machine.now p c.in_ok-after.after.word c.in_ok-after.after.time c.in_ok-after.after.journal c.in_ok-after.after.sources c.in_ok-after.after.calls)
+      holds = subst (λ (p : List Entry). Holds f.machine.now p c.pass.new.self)
           (sym (then_next f.passed c.in_ok-passed.passed f.entries.now c.args.e there c.in_ok-passed.ensures))
-          (holds f.machine.now (past_of (passage f)) c.args.e k c.in_ok-after.after c.self.invariant.holds c.in_ok-after.ensures);
+          (holds f.machine.now (past_of (passage f)) c.args.e f.kept.value c.pass.new.self c.self.invariant.holds
+          (c.in_ok-pass.ensures ∙ ap (λ (k : Kept). kept_after f.machine.now c.args.e k) c.deref_mut.ensures.value));
       call_order = c.self.invariant.call_order;
+      beside = c.self.invariant.beside;
       passage = record {
         accepted = c.self.invariant.passage.accepted;
         fits = c.self.invariant.passage.fits;

@@ -1,4 +1,5 @@
-use Rattle.std.proofs.Common.{◌∙◌}
+use Rattle.std.proofs.Common.{◌∙◌, ap}
+use Rattle.check_past.specs.declared.kept.Kept.{Kept}
 use Rattle.check_past.specs.PassedFields.{passage}
 use Rattle.check_past.specs.Passing.{past_of}
 use Rattle.check_past.proofs.Telling.{all_passed, any_source}
@@ -8,4 +9,4 @@ pub returns : goal.returns
 returns c =
     let f = c.self.inside in
     let fits = all_passed f.machine.now f.passed f.entries.now c.self.invariant.passage.fits in
-    rw (← c.self.view_is) (c.source.ensures ∙ any_source f.machine.now (past_of (passage f)) c.args.number f.sources c.self.invariant.holds.sources fits)
+    rw (← c.self.view_is) (c.source.ensures ∙ any_source f.machine.now (past_of (passage f)) c.args.number c.deref.result.now.sources (ap (λ (k : Kept). k.sources) c.deref.ensures ∙ c.self.invariant.holds.sources) fits)
