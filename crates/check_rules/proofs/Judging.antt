@@ -3,10 +3,19 @@ use Rattle.std.proofs.Common.{◌≡◌, ◌<◌, ◌≤◌, ◌+◌, ◌-◌, �
 use Rattle.std.proofs.lemmas.Bool.{cases_lt}
 use Rattle.sleep_model.specs.declared.entry.Entry.{Entry}
 use Rattle.sleep_model.specs.declared.machine.Machine.{Machine}
-use Rattle.sleep_model.specs.Parts.{Part, OfJournal, Notes, Moves, OfTime, part_of}
+use Rattle.sleep_model.specs.Parts.{Part, OfJournal, Notes, Moves, OfTime, journal, part_of}
 use Rattle.sleep_model.specs.Rules.Entry.{KeepsEntry, KeepsRule, OnJournal, Rule, Links, Numbers, Attempts, Reads, Walk, Skip, Runtime, Owed, Freezer, Path, Answers, Restored, Steps, Enabled, Source}
 use Rattle.sleep_model.specs.Rules.Verdict.{BreaksFirst, number_of}
-use Rattle.check_rules.specs.Judging.{KeepsBelow, is_of_journal, place_of, rule_at}
+use Rattle.sleep_model.specs.Numbers.{numbers}
+use Rattle.sleep_model.specs.Rules.Answers.{KeepsAnswers}
+use Rattle.sleep_model.specs.Rules.Attempts.{KeepsAttempts}
+use Rattle.sleep_model.specs.Rules.Links.{KeepsLinks}
+use Rattle.sleep_model.specs.Rules.Owed.{KeepsOwed}
+use Rattle.sleep_model.specs.Rules.Reads.{KeepsReads}
+use Rattle.sleep_model.specs.Rules.Restored.{KeepsRestored}
+use Rattle.sleep_model.specs.Rules.Runtime.{KeepsRuntime}
+use Rattle.sleep_model.specs.Rules.Skip.{KeepsSkip}
+use Rattle.check_rules.specs.Judging.{KeepsAlone, KeepsAsJournal, KeepsBelow, KeepsTogether, is_of_journal, place_of, rule_at}
 
 -- ---- a rule of the journal alone
 
@@ -108,3 +117,46 @@ all_kept m past e h = record {
   enabled = h Enabled (omega arith);
   source = h Source (omega arith);
 }
+
+-- ---- all rules at one go
+
+-- the rules of the journal alone ask nothing of other entries
+pub none_asked : (X : Type 0) (p : Part) → is_of_journal p ≡ false → OnJournal p X
+none_asked X OfJournal h = absurd (cc)
+none_asked X (Notes s call) h = tt
+none_asked X (Moves s step) h = tt
+none_asked X OfTime h = tt
+
+pub asked : (X : Type 0) (p : Part) → X → OnJournal p X
+asked X OfJournal x = x
+asked X (Notes s call) x = tt
+asked X (Moves s step) x = tt
+asked X OfTime x = tt
+
+at_each : (X Y : Type 0) (p : Part) → (X → Y) → OnJournal p X → OnJournal p Y
+at_each X Y OfJournal f x = f x
+at_each X Y (Notes s call) f x = tt
+at_each X Y (Moves s step) f x = tt
+at_each X Y OfTime f x = tt
+
+pub each_kept : (m : Machine) (past : List Entry) (e : Entry) → KeepsAlone m past e (part_of e.kind) → KeepsTogether m past e (part_of e.kind) → KeepsEntry m past e
+each_kept m past e a t =
+    let Alone : Type 0 = KeepsAsJournal m past e.actor e.kind in
+    let part = part_of e.kind in
+    record {
+      links = at_each Alone (KeepsLinks m (journal past) e.kind) part (λ k. k.links) a;
+      numbers = t.numbers;
+      attempts = at_each Alone (KeepsAttempts (journal past) e.kind) part (λ k. k.at_once.attempts) a;
+      reads = at_each Alone (KeepsReads m (journal past) (numbers past) e.actor e.kind) part (λ k. k.reads) a;
+      walk = t.walk;
+      skip = at_each Alone (KeepsSkip m (journal past) (numbers past) e.kind) part (λ k. k.at_once.skip) a;
+      runtime = at_each Alone (KeepsRuntime m (journal past) e.kind) part (λ k. k.at_once.runtime) a;
+      owed = at_each Alone (KeepsOwed m (journal past) e.kind) part (λ k. k.at_once.owed) a;
+      freezer = t.freezer;
+      path = t.path;
+      answers = at_each Alone (KeepsAnswers (journal past) e.kind) part (λ k. k.at_once.answers) a;
+      restored = at_each Alone (KeepsRestored m (journal past) e.kind) part (λ k. k.at_once.restored) a;
+      steps = t.steps;
+      enabled = t.enabled;
+      source = t.source;
+    }

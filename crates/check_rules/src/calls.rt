@@ -22,6 +22,7 @@ use sleep_model::{Actor, AsyncWork, Kind, WordKind};
 
 /// Whether an actor of the machine has made the calls that come before its next entry, and no more. `Mem` where their
 /// number has no room.
+#[inline]
 pub(crate) fn is_own_turn(past: &Passed<'_>, who: Actor) -> Result<bool, Mem>
     requires { fits_actor past.now.machine who ≡ true }
     ensures { IfOk result (λ b. IsTrue b ↔ IsOwnTurn past.now.machine (journal_of past.now)

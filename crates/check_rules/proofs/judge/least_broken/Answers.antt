@@ -2,7 +2,7 @@ use Rattle.std.proofs.Common.{sym}
 use Rattle.check_past.specs.Passing.{past_of}
 use Rattle.check_rules.specs.Judging.{meant}
 use Rattle.check_rules.proofs.Judging.{below_more, breaks}
-use Rattle.check_rules.proofs.judge.first_broken.Goals as goal
+use Rattle.check_rules.proofs.judge.least_broken.Goals as goal
 
 pub returns-then-not-branch : goal.returns-then-not-branch
 returns-then-not-branch c = (
