@@ -33,7 +33,7 @@ WORKERS, LOGS = 4, 5
 
 
 def lines(many, calls):
-    """Interrupt lines that each report so many events on a source of its own."""
+    """Interrupt lines that each report that number of events on a source of its own."""
     actors = [
         {"name": f"i{i}", "kind": "irq", "script": [{"op": "event", "source": f"s{i}", "times": calls}]} for i in range(many)
     ]
@@ -55,7 +55,7 @@ def machines(files):
 
 
 def run(measured, given, workers, out=subprocess.DEVNULL):
-    """How long a run by so many workers takes from start to end, in seconds."""
+    """How long a run by that number of workers takes from start to end, in seconds."""
     given.seek(0)
     begun = time.monotonic()
     status = subprocess.run([measured, "run", "--workers", str(workers)], stdin=given, stdout=out).returncode
@@ -65,7 +65,7 @@ def run(measured, given, workers, out=subprocess.DEVNULL):
 
 
 def log(measured, given, workers):
-    """The log of a run by so many workers."""
+    """The log of a run by that number of workers."""
     with tempfile.TemporaryFile() as out:
         run(measured, given, workers, out)
         out.seek(0)

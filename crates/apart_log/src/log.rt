@@ -38,8 +38,8 @@ const FEW: usize = 8;
 /// The fewest entries of sources of which slices are worth their threads.
 const MANY: usize = 16_384;
 
-/// How many entries of sources a slice has, at least: so many stay in a processor's cache, and the machine's names, which each
-/// slice spells, are few beside them.
+/// How many entries of sources a slice has, at least. A processor's cache holds them, and the machine's names, which each slice
+/// spells, are few beside them.
 const SLICE: usize = 4_096;
 
 /// How often each of the workers halves its own range, so that its slices are short. There are as many workers as the log is

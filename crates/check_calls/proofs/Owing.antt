@@ -20,5 +20,5 @@ pub none_owed : (later : List (List Kind)) (place : ℕ) (reports behind : List 
 none_owed later place reports behind h k =
     let own = slice_index_or later place [] in
     let same : own ++ map noted reports ++ map noted behind ≡ own =
-        ap₂ (λ (a b : List Kind). own ++ a ++ b) (nothing reports h) (nothing behind k) ∙ append-nil (own ++ []) ∙ append-nil own in
+    ap₂ (λ (a b : List Kind). own ++ a ++ b) (nothing reports h) (nothing behind k) ∙ append-nil (own ++ []) ∙ append-nil own in
     sym (ap (λ (calls : List Kind). slice_set later place calls) same ∙ put_same later place)

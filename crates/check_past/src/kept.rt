@@ -22,7 +22,7 @@ pub(crate) struct Kept<'m> {
     pub(crate) calls: Callers<'m>,
 }
 
-// Passes one more entry to the calls, behind so many attempts.
+// Passes one more entry to the calls, behind that number of attempts.
 fn pass_calls(calls: &mut Callers<'_>, e: Entry, attempts: u32) -> Result<(), Mem>
     ensures { OnOk result (calls.new ≡ record calls.old {
       state = callers_after calls.old.machine e attempts (part_of e.kind) calls.old.state;

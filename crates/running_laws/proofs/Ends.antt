@@ -66,7 +66,7 @@ kept_rise (x ∷ sources) h =
     all_more (λ (history : List SourceEntry). rises (map of_source history)) (reverse x.past) (kept_histories sources)
     (ap rises (map_reverse x.past) ∙ h 0) (kept_rise sources (λ s. h (suc s)))
 
--- so many entries and no more
+-- that number of entries and no more
 kept_short : (sources : List SourceState) → ((s : ℕ) (none : SourceState) → s < length sources → length (slice_index_or sources s none).past ≤ most_entries) → list_all (λ h. nat_le (length h) most_entries) (kept_histories sources) ≡ true
 kept_short [] h = refl
 kept_short (x ∷ sources) h =
