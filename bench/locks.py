@@ -16,7 +16,7 @@ lines, and does nothing else. The program's own reading shrinks where its forms 
 
 Measured on a busy machine, waits took as long as the copy, names that are told some one and a half times as long, and
 calls seven to nine times as long. A lock is a wakeup source, which keeps each entry of its history, so a million calls
-fill some 100 MB: the first touch of so many pages took twice the time of the copy already. Kinds of lines:
+fill some 100 MB: the first touch of these pages took twice the time of the copy already. Kinds of lines:
 
   mixed     locks with and without timeouts, unlocks and waits, of 100 names by chance
   in turn   a lock and an unlock of each of 100 names in turn
