@@ -15,7 +15,7 @@ use Rattle.sleep_model.specs.Rules.Reads.{KeepsReads}
 use Rattle.sleep_model.specs.Rules.Restored.{KeepsRestored}
 use Rattle.sleep_model.specs.Rules.Runtime.{KeepsRuntime}
 use Rattle.sleep_model.specs.Rules.Skip.{KeepsSkip}
-use Rattle.check_rules.specs.Judging.{KeepsAlone, KeepsAsJournal, KeepsBelow, KeepsTogether, is_of_journal, place_of, rule_at}
+use Rattle.check_rules.specs.Judging.{KeepsBelow, KeepsTogether, is_of_journal, place_of, rule_at}
 
 -- ---- a rule of the journal alone
 
@@ -127,35 +127,23 @@ none_asked X (Notes s call) h = tt
 none_asked X (Moves s step) h = tt
 none_asked X OfTime h = tt
 
-pub asked : (X : Type 0) (p : Part) → X → OnJournal p X
-asked X OfJournal x = x
-asked X (Notes s call) x = tt
-asked X (Moves s step) x = tt
-asked X OfTime x = tt
-
-at_each : (X Y : Type 0) (p : Part) → (X → Y) → OnJournal p X → OnJournal p Y
-at_each X Y OfJournal f x = f x
-at_each X Y (Notes s call) f x = tt
-at_each X Y (Moves s step) f x = tt
-at_each X Y OfTime f x = tt
-
-pub each_kept : (m : Machine) (past : List Entry) (e : Entry) → KeepsAlone m past e (part_of e.kind) → KeepsTogether m past e (part_of e.kind) → KeepsEntry m past e
-each_kept m past e a t =
-    let Alone : Type 0 = KeepsAsJournal m past e.actor e.kind in
+-- an entry of a source, or a jump, keeps each rule
+pub each_kept : (m : Machine) (past : List Entry) (e : Entry) → is_of_journal (part_of e.kind) ≡ false → KeepsTogether m past e (part_of e.kind) → KeepsEntry m past e
+each_kept m past e h t =
     let part = part_of e.kind in
     record {
-      links = at_each Alone (KeepsLinks m (journal past) e.kind) part (λ k. k.links) a;
+      links = none_asked (KeepsLinks m (journal past) e.kind) part h;
       numbers = t.numbers;
-      attempts = at_each Alone (KeepsAttempts (journal past) e.kind) part (λ k. k.at_once.attempts) a;
-      reads = at_each Alone (KeepsReads m (journal past) (numbers past) e.actor e.kind) part (λ k. k.reads) a;
+      attempts = none_asked (KeepsAttempts (journal past) e.kind) part h;
+      reads = none_asked (KeepsReads m (journal past) (numbers past) e.actor e.kind) part h;
       walk = t.walk;
-      skip = at_each Alone (KeepsSkip m (journal past) (numbers past) e.kind) part (λ k. k.at_once.skip) a;
-      runtime = at_each Alone (KeepsRuntime m (journal past) e.kind) part (λ k. k.at_once.runtime) a;
-      owed = at_each Alone (KeepsOwed m (journal past) e.kind) part (λ k. k.at_once.owed) a;
+      skip = none_asked (KeepsSkip m (journal past) (numbers past) e.kind) part h;
+      runtime = none_asked (KeepsRuntime m (journal past) e.kind) part h;
+      owed = none_asked (KeepsOwed m (journal past) e.kind) part h;
       freezer = t.freezer;
       path = t.path;
-      answers = at_each Alone (KeepsAnswers (journal past) e.kind) part (λ k. k.at_once.answers) a;
-      restored = at_each Alone (KeepsRestored m (journal past) e.kind) part (λ k. k.at_once.restored) a;
+      answers = none_asked (KeepsAnswers (journal past) e.kind) part h;
+      restored = none_asked (KeepsRestored m (journal past) e.kind) part h;
       steps = t.steps;
       enabled = t.enabled;
       source = t.source;

@@ -1,22 +1,10 @@
 -- The least rule that an entry breaks, and its number.
 use Rattle.std.specs.Prelude.{◌≡◌, ◌<◌, ℕ, zero, suc, Bool, true, false, List, Option, Some, None}
-use Rattle.sleep_model.specs.declared.entry.Actor.{Actor}
 use Rattle.sleep_model.specs.declared.entry.Entry.{Entry}
-use Rattle.sleep_model.specs.declared.entry.Kind.{Kind}
 use Rattle.sleep_model.specs.declared.machine.Machine.{Machine}
-use Rattle.sleep_model.specs.declared.word.EventNow.{EventNow}
-use Rattle.sleep_model.specs.Numbers.{numbers}
-use Rattle.sleep_model.specs.Parts.{Part, OfJournal, journal, part_of}
-use Rattle.sleep_model.specs.Rules.Answers.{KeepsAnswers}
-use Rattle.sleep_model.specs.Rules.Attempts.{KeepsAttempts}
+use Rattle.sleep_model.specs.Parts.{Part, OfJournal, part_of}
 use Rattle.sleep_model.specs.Rules.Entry as model
 use Rattle.sleep_model.specs.Rules.Entry.{KeepsEntry, KeepsRule, OnJournal}
-use Rattle.sleep_model.specs.Rules.Links.{KeepsLinks}
-use Rattle.sleep_model.specs.Rules.Owed.{KeepsOwed}
-use Rattle.sleep_model.specs.Rules.Reads.{KeepsReads}
-use Rattle.sleep_model.specs.Rules.Restored.{KeepsRestored}
-use Rattle.sleep_model.specs.Rules.Runtime.{KeepsRuntime}
-use Rattle.sleep_model.specs.Rules.Skip.{KeepsSkip}
 use Rattle.sleep_model.specs.Rules.Verdict.{BreaksFirst, number_of}
 use Rattle.check_rules.specs.declared.judge.Rule.{Rule}
 use Rattle.check_rules.specs.declared.judge.Rule.TheVariants as ours
@@ -88,25 +76,6 @@ KeepsBelow m past e n = (rule : model.Rule) → place_of rule < n → KeepsRule 
 abbrev pub IsBroken : Machine → List Entry → Entry → Option ℕ → Type 0
 IsBroken m past e None = KeepsEntry m past e
 IsBroken m past e (Some n) = (rule : model.Rule) × ((number_of rule ≡ n) × BreaksFirst m past e rule)
-
--- an entry of the journal keeps those rules of the journal alone that want no memory (own)
-pub record KeepsAtOnce (m : Machine) (past : List Entry) (now : EventNow) (k : Kind) : Type 0 where
-  pub attempts : KeepsAttempts past k
-  pub skip : KeepsSkip m past now k
-  pub runtime : KeepsRuntime m past k
-  pub owed : KeepsOwed m past k
-  pub answers : KeepsAnswers past k
-  pub restored : KeepsRestored m past k
-
--- it keeps all of them (own)
-pub record KeepsAsJournal (m : Machine) (past : List Entry) (who : Actor) (k : Kind) : Type 0 where
-  pub links : KeepsLinks m (journal past) k
-  pub reads : KeepsReads m (journal past) (numbers past) who k
-  pub at_once : KeepsAtOnce m (journal past) (numbers past) k
-
--- an entry of that part keeps the rules of the journal alone (own)
-abbrev pub KeepsAlone : Machine → List Entry → Entry → Part → Type 0
-KeepsAlone m past e part = OnJournal part (KeepsAsJournal m past e.actor e.kind)
 
 -- it keeps the rules that entries of sources and jumps have a part in (own)
 pub record KeepsTogether (m : Machine) (past : List Entry) (e : Entry) (part : Part) : Type 0 where

@@ -1,5 +1,6 @@
 pub mod Calling
 pub mod Judging
+pub mod Next
 pub mod Owing
 pub mod Places
 pub mod Quiet

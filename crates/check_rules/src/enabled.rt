@@ -50,7 +50,6 @@ fn wakes_by(past: &Passed<'_>, now: EventNow, kind: Kind) -> Result<bool, Mem>
 
 /// Whether who makes an entry of the journal may go on, and the machine wakes rightly (`suspend_enter`). `Mem` where its
 /// alarm is beyond all time.
-#[inline(always)]
 pub fn keeps_enabled(past: &Passed<'_>, now: EventNow, who: Actor, kind: Kind) -> Result<bool, Mem>
     ensures { IfOk result (λ b. IsTrue b ↔ KeepsEnabled past.now.machine (journal_of past.now) now who kind) }
 {

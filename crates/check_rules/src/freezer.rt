@@ -47,7 +47,6 @@ fn freezes_script(past: &Passed<'_>, i: u32, kind: Kind) -> bool
 }
 
 // So for an actor outside attempts of its own; one inside freezes not.
-#[inline(always)]
 fn freezes_actor(past: &Passed<'_>, who: Actor, kind: Kind) -> bool
     ensures { IsTrue result
         ↔ FreezesActor past.now.machine (journal_of past.now) who (is_maker (journal_of past.now) who) kind }
@@ -59,7 +58,6 @@ fn freezes_actor(past: &Passed<'_>, who: Actor, kind: Kind) -> bool
 }
 
 // Whether a freeze ends rightly. `Mem` where its end is beyond all time.
-#[inline(always)]
 fn freeze_ends(past: &Passed<'_>, now: EventNow, kind: Kind) -> Result<bool, Mem>
     ensures { IfOk result (λ b. IsTrue b
         ↔ FreezeEnds past.now.machine (journal_of past.now) now (freeze_since (journal_of past.now)) kind) }
@@ -75,7 +73,6 @@ fn freeze_ends(past: &Passed<'_>, now: EventNow, kind: Kind) -> Result<bool, Mem
 
 /// Whether tasks freeze where they are asked to, and a freeze ends rightly (`try_to_freeze`, `try_to_freeze_tasks`). `Mem`
 /// where its end is beyond all time.
-#[inline(always)]
 pub fn keeps_freezer(past: &Passed<'_>, now: EventNow, who: Actor, kind: Kind) -> Result<bool, Mem>
     ensures { IfOk result (λ b. IsTrue b ↔ KeepsFreezer past.now.machine (journal_of past.now) now who kind) }
 {

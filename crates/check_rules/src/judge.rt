@@ -1,12 +1,12 @@
 //! All rules of an entry, and the least that it breaks.
 
 ghost use Rattle.std.specs.Prelude.{◌≡◌, ◌↔◌, ◌||◌, not, true, IsTrue, IfOk};
-ghost use Rattle.sleep_model.specs.Fits.{fits_entry, fits_kind};
+ghost use Rattle.sleep_model.specs.Fits.{fits_entry};
 ghost use Rattle.sleep_model.specs.Parts.{part_of};
 ghost use Rattle.sleep_model.specs.Rules.Entry.{KeepsEntry, KeepsRule};
 ghost use Rattle.sleep_model.specs.Rules.Verdict.{number_of};
-ghost use Rattle.check_past.specs.Passing.{journal_of, past_of};
-ghost use Rattle.check_rules.specs.Judging.{IsBroken, KeepsAlone, KeepsAsJournal, KeepsAtOnce, KeepsTogether, is_of_journal, meant, rule_at};
+ghost use Rattle.check_past.specs.Passing.{past_of};
+ghost use Rattle.check_rules.specs.Judging.{IsBroken, KeepsTogether, is_of_journal, meant, rule_at};
 
 use crate::answers::{keeps_answers, keeps_links, keeps_runtime};
 use crate::entries::{enabled_entry, freezer_entry, path_entry, steps_entry, walk_entry};
@@ -18,7 +18,7 @@ use crate::skip::keeps_skip;
 use crate::source::source_entry;
 use check_past::Passed;
 use sleep_base::Mem;
-use sleep_model::{Actor, Entry, EventNow, Kind};
+use sleep_model::{Entry, Kind};
 
 /// How many rules there are.
 const RULES: u8 = 15;
@@ -90,7 +90,7 @@ fn number_of(rule: Rule) -> u8
 }
 
 /// Whether an entry of that kind is the journal's.
-fn is_of_journal(kind: Kind) -> bool
+pub(crate) fn is_of_journal(kind: Kind) -> bool
     ensures { result ≡ is_of_journal (part_of kind) }
 {
     !matches!(
@@ -140,49 +140,8 @@ fn keeps(past: &Passed<'_>, e: Entry, rule: Rule) -> Result<bool, Mem>
     }
 }
 
-// Whether an entry of the journal keeps those rules of the journal alone that want no memory.
-#[inline(always)]
-fn keeps_at_once(past: &Passed<'_>, now: EventNow, kind: Kind) -> bool
-    ensures { IsTrue result → KeepsAtOnce past.now.machine (journal_of past.now) now kind }
-{
-    keeps_attempts(past, kind)
-        && keeps_skip(past, now, kind)
-        && keeps_runtime(past, kind)
-        && keeps_owed(past, kind)
-        && keeps_answers(past, kind)
-        && keeps_restored(past, kind)
-}
-
-// Whether an entry of the journal keeps the rules of the journal alone. `Mem` where a number has no room, or if there is no
-// memory for a walk.
-#[inline(always)]
-fn keeps_as_journal(past: &Passed<'_>, who: Actor, kind: Kind) -> Result<bool, Mem>
-    requires { fits_kind past.now.machine kind ≡ true }
-    ensures { IfOk result (λ b. IsTrue b → KeepsAsJournal past.now.machine (past_of past.now) who kind) }
-{
-    let now = past.word();
-    let links = keeps_links(past, kind)?;
-    let reads = keeps_reads(past, now, who, kind)?;
-    Ok(links && reads && keeps_at_once(past, now, kind))
-}
-
-// Whether an entry keeps the rules of the journal alone, which ask nothing of others. `Mem` as above.
-#[tactic(auto, using(crate::proofs::Judging::none_asked, crate::proofs::Judging::asked))]
-#[inline(always)]
-fn keeps_alone(past: &Passed<'_>, e: Entry) -> Result<bool, Mem>
-    requires { fits_entry past.now.machine e ≡ true }
-    ensures { IfOk result (λ b. IsTrue b → KeepsAlone past.now.machine (past_of past.now) e (part_of e.kind)) }
-{
-    if !is_of_journal(e.kind) {
-        return Ok(true);
-    }
-    let keeps = keeps_as_journal(past, e.actor, e.kind)?;
-    Ok(keeps)
-}
-
 // Whether an entry keeps the rules that entries of sources and jumps have a part in. `Mem` where a moment is beyond all time,
 // a number has no room, or if there is no memory for a walk.
-#[inline(always)]
 fn keeps_together(past: &Passed<'_>, e: Entry) -> Result<bool, Mem>
     requires { fits_entry past.now.machine e ≡ true }
     ensures { IfOk result (λ b. IsTrue b → KeepsTogether past.now.machine (past_of past.now) e (part_of e.kind)) }
@@ -202,15 +161,16 @@ fn keeps_together(past: &Passed<'_>, e: Entry) -> Result<bool, Mem>
     )
 }
 
-// Whether an entry keeps every rule. `Mem` as above.
+// Whether an entry of a source or a jump keeps every rule; false of the journal's. `Mem` as above.
 #[tactic(auto, using(crate::proofs::Judging::each_kept))]
-fn keeps_each(past: &Passed<'_>, e: Entry) -> Result<bool, Mem>
+fn keeps_aside(past: &Passed<'_>, e: Entry) -> Result<bool, Mem>
     requires { fits_entry past.now.machine e ≡ true }
     ensures { IfOk result (λ b. IsTrue b → KeepsEntry past.now.machine (past_of past.now) e) }
 {
-    let alone = keeps_alone(past, e)?;
-    let together = keeps_together(past, e)?;
-    Ok(alone && together)
+    if is_of_journal(e.kind) {
+        return Ok(false);
+    }
+    keeps_together(past, e)
 }
 
 // The number of the least rule that an entry breaks, if it breaks one, rule by rule.
@@ -235,8 +195,9 @@ pub fn first_broken(past: &Passed<'_>, e: Entry) -> Result<Option<u8>, Mem>
     requires { fits_entry past.now.machine e ≡ true }
     ensures { IfOk result (λ n. IsBroken past.now.machine (past_of past.now) e n) }
 {
-    // Most entries of a log break none, and only one that does wants the rules in order.
-    match keeps_each(past, e) {
+    // Most entries of sources break none, and only one that does wants the rules in order. Of the journal's a caller asks
+    // first whether it is the next (`is_next_entry`).
+    match keeps_aside(past, e) {
         Ok(true) => Ok(None),
         _ => least_broken(past, e),
     }

@@ -55,7 +55,6 @@ fn is_owed_by(past: &Passed<'_>, step: PlatUndo) -> bool
 }
 
 /// Whether an entry undoes only what is owed (`dpm_resume`, `dpm_complete`, `suspend_finish`).
-#[inline(always)]
 pub fn keeps_owed(past: &Passed<'_>, kind: Kind) -> bool
     ensures { IsTrue result ↔ KeepsOwed past.now.machine (journal_of past.now) kind }
 {

@@ -224,7 +224,6 @@ fn is_of_row_if(past: &Passed<'_>, now: EventNow, row: Option<Stage>, kind: Kind
 }
 
 /// Whether the open attempt's maker keeps to the table (`enter_state`, `suspend_devices_and_enter`, `suspend_enter`).
-#[inline(always)]
 pub fn keeps_path(past: &Passed<'_>, now: EventNow, who: Actor, kind: Kind) -> bool
     ensures { IsTrue result ↔ KeepsPath past.now.machine (journal_of past.now) now who kind }
 {

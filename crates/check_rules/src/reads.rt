@@ -134,7 +134,6 @@ fn reads_work(past: &Passed<'_>, now: EventNow, work: Work, kind: Kind) -> bool
 
 /// Whether reads, saves and writes are answered by the word, the lock, autosleep, their number and their text
 /// (`kernel/power/main.c`, `drivers/base/power/wakeup.c`). `Mem` where the next attempt has no number.
-#[inline(always)]
 pub fn keeps_reads(past: &Passed<'_>, now: EventNow, who: Actor, kind: Kind) -> Result<bool, Mem>
     ensures { IfOk result (λ b. IsTrue b ↔ KeepsReads past.now.machine (journal_of past.now) now who kind) }
 {

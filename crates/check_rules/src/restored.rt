@@ -148,7 +148,6 @@ fn is_nothing_owed(past: &Passed<'_>) -> bool
 }
 
 /// Whether an attempt is over only where nothing is owed (`suspend_devices_and_enter`, `suspend_finish`).
-#[inline(always)]
 pub fn keeps_restored(past: &Passed<'_>, kind: Kind) -> bool
     ensures { IsTrue result ↔ KeepsRestored past.now.machine (journal_of past.now) kind }
 {

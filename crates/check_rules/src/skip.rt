@@ -46,7 +46,6 @@ fn is_turn(past: &Passed<'_>, phase: Phase, device: u32, row: Option<Stage>) -> 
 
 /// Whether a device is passed over at its turn, for the cause that comes first, and begins to go down only where there
 /// is none (`__device_suspend`).
-#[inline(always)]
 pub fn keeps_skip(past: &Passed<'_>, now: EventNow, kind: Kind) -> bool
     ensures { IsTrue result ↔ KeepsSkip past.now.machine (journal_of past.now) now kind }
 {

@@ -247,7 +247,6 @@ fn is_maker_step(past: &Passed<'_>, kind: Kind) -> bool
 
 /// Whether an entry of the journal is of its actor's own steps, once and in order (`kernel/power/main.c`,
 /// `kernel/power/autosleep.c`, `drivers/base/power/main.c`). `Mem` where a sleep ends beyond all time.
-#[inline(always)]
 pub fn keeps_steps(past: &Passed<'_>, now: EventNow, who: Actor, kind: Kind) -> Result<bool, Mem>
     ensures { IfOk result (λ b. IsTrue b ↔ KeepsSteps past.now.machine (journal_of past.now) now who kind) }
 {

@@ -212,7 +212,6 @@ fn done_at(past: &Passed<'_>, phase: Phase, row: Option<Stage>) -> bool
 
 /// Whether devices are taken in order, each after those that it waits for, while their phase is under way, and answer
 /// what the machine answers (`drivers/base/power/main.c`).
-#[inline(always)]
 pub fn keeps_walk(past: &Passed<'_>, now: EventNow, kind: Kind) -> bool
     ensures { IsTrue result ↔ KeepsWalk past.now.machine (journal_of past.now) now kind }
 {

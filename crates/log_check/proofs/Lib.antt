@@ -1,5 +1,6 @@
 mod Adding
 mod Ends
 mod Entries
+mod Next
 mod Sources
 mod Walking

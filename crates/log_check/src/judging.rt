@@ -1,14 +1,40 @@
-ghost use Rattle.std.specs.Prelude.{◌≡◌, IfOk};
+ghost use Rattle.std.specs.Prelude.{◌≡◌, true, IfOk};
 ghost use Rattle.sleep_model.specs.Accepted.{IsAccepted};
-ghost use Rattle.sleep_model.specs.Fits.{IsWritable};
+ghost use Rattle.sleep_model.specs.Fits.{IsWritable, fits_entry};
+ghost use Rattle.sleep_model.specs.Rules.Entry.{KeepsEach};
+ghost use Rattle.check_past.specs.Passing.{past_of};
+ghost use Rattle.check_rules.specs.Judging.{IsBroken};
 ghost use Rattle.log_check.specs.Verdicts.{IsVerdict};
 
 use crate::ending::{Verdict, bad, judge_end};
 use check_past::Passed;
-use check_rules::first_broken;
+use check_rules::{first_broken, is_next_entry};
 use sleep_base::Mem;
-use sleep_model::{Log, Machine};
+use sleep_model::{Entry, Log, Machine};
 use std::alloc::Global;
+
+// The number of the least rule that an entry breaks behind the entries that were passed, which keep all rules, if it breaks
+// one. `Mem` where a moment is beyond all time, a number has no room, or if there is no memory for a walk.
+#[tactic(auto, using(crate::proofs::Next::keeps_next))]
+fn broken(past: &Passed<'_>, e: Entry) -> Result<Option<u8>, Mem>
+    requires fits { fits_entry past.now.machine e ≡ true }
+    requires kept { KeepsEach past.now.machine (past_of past.now) }
+    ensures { IfOk result (λ n. IsBroken past.now.machine (past_of past.now) e n) }
+{
+    // Nearly every entry is the one that is due, and breaks none.
+    match is_next_entry(past, e) {
+        Ok(true) => Ok(None),
+        _ => first_broken(past, e),
+    }
+}
+
+// An answer, behind which a value is let go of. The value's type is a parameter, so that the proof of a caller does not
+// follow its parts.
+fn without<A: Drop, B>(_value: A, answer: B) -> B
+    ensures { result ≡ answer }
+{
+    answer
+}
 
 /// Judges a log that fits a machine as files spell it: good exactly where it is legal and finished, else its first bad
 /// line, with the number of the least rule that this breaks. `Mem` where there is no memory for the account.
@@ -20,10 +46,15 @@ pub fn check(alloc: Global, machine: &Machine, log: &Log) -> Result<Verdict, Mem
     let mut past = Passed::new(alloc, machine, &log.entries)?;
     let mut reader = log.entries.reader();
     while let Some(e) = reader.next() {
-        if let Some(definition) = first_broken(&past, e)? {
-            return bad(past.passed(), definition);
+        match broken(&past, e) {
+            Ok(None) => past = past.pass(e)?,
+            Ok(Some(definition)) => {
+                let verdict = bad(past.passed(), definition);
+                return without(past, verdict);
+            }
+            Err(failed) => return without(past, Err(failed)),
         }
-        past = past.pass(e)?;
     }
-    judge_end(&past, log)
+    let verdict = judge_end(&past, log);
+    without(past, verdict)
 }

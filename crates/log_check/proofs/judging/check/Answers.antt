@@ -1,13 +1,21 @@
-use Rattle.std.proofs.Common.{◌∙◌, sym}
+use Rattle.std.proofs.Common.{◌∙◌, sym, subst}
 use Rattle.std.proofs.lemmas.Result.{IfOk-weaker}
+use Rattle.sleep_model.specs.declared.machine.Machine.{Machine}
+use Rattle.sleep_model.specs.Rules.Entry.{KeepsEach}
 use Rattle.sleep_model.specs.Woven.{unread}
+use Rattle.check_past.specs.Passing.{past_of}
 use Rattle.log_check.proofs.Entries.{all_kept, bad_entry, fits_here, here, kept_then, left_then, may_link, same_entries, same_machine, whole}
 use Rattle.log_check.proofs.judging.check.Goals as goal
 
-pub first_broken-requires : goal.first_broken-requires
-first_broken-requires c =
+pub broken-requires-clause-fits : goal.broken-requires-clause-fits
+broken-requires-clause-fits c =
     let i = c.loop-e.invariant in
     fits_here c.args.machine.now c.args.log.now c.loop-e.past i.machine i.entries i.kept c.in-Some.e (unread c.next.new.self) (sym i.left ∙ c.in-Some.ensures) c.requires.fits
+
+pub broken-requires-clause-kept : goal.broken-requires-clause-kept
+broken-requires-clause-kept c =
+    let i = c.loop-e.invariant in
+    subst (λ (k : Machine). KeepsEach k (past_of c.loop-e.past)) (sym i.machine) i.kept
 
 pub returns-in-Some-2 : goal.returns-in-Some-2
 returns-in-Some-2 c =

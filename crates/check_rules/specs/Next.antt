@@ -1,0 +1,19 @@
+-- An entry of the journal that is due at its place.
+use Rattle.std.specs.Prelude.{◌≡◌, List}
+use Rattle.sleep_model.specs.declared.entry.Entry.{Entry}
+use Rattle.sleep_model.specs.declared.machine.Machine.{Machine}
+use Rattle.sleep_model.specs.declared.place.Due.TheVariants.{Makes}
+use Rattle.sleep_model.specs.Due.{due}
+use Rattle.sleep_model.specs.Legal.{IsOutside, IsOwnTurn}
+use Rattle.sleep_model.specs.Numbers.{numbers}
+use Rattle.sleep_model.specs.Parts.{OfJournal, journal, part_of}
+use Rattle.sleep_model.specs.Rules.Numbers.{KeepsNumbers}
+use Rattle.sleep_model.specs.Sources.{history}
+
+-- the entry is the journal's, carries the numbers and the time of its place, and is due of its actor, which is inside no call and has made those that come before (own)
+pub record IsNextEntry (m : Machine) (past : List Entry) (e : Entry) : Type 0 where
+  pub of_journal : part_of e.kind ≡ OfJournal
+  pub placed : KeepsNumbers past e (part_of e.kind)
+  pub made : due m (journal past) e.actor (numbers past) ≡ Makes e.kind
+  pub turn : IsOwnTurn m (journal past) (λ s. history s past) e.actor
+  pub outside : IsOutside m (λ s. history s past) e.actor
