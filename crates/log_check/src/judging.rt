@@ -15,7 +15,6 @@ use std::alloc::Global;
 
 // The number of the least rule that an entry breaks behind the entries that were passed, which keep all rules, if it breaks
 // one. `Mem` where a moment is beyond all time, a number has no room, or if there is no memory for a walk.
-#[tactic(auto, using(crate::proofs::Next::keeps_next))]
 fn broken(past: &Passed<'_>, e: Entry) -> Result<Option<u8>, Mem>
     requires fits { fits_entry past.now.machine e ≡ true }
     requires kept { KeepsEach past.now.machine (past_of past.now) }

@@ -1,9 +1,12 @@
-use Rattle.std.proofs.Common.{◌∙◌, sym, subst}
+use Rattle.std.proofs.Common.{◌∙◌, IfOk, Result, sym, subst}
 use Rattle.std.proofs.lemmas.Result.{IfOk-weaker}
+use Rattle.sleep_base.specs.declared.outside.Mem.{Mem}
 use Rattle.sleep_model.specs.declared.machine.Machine.{Machine}
 use Rattle.sleep_model.specs.Rules.Entry.{KeepsEach}
 use Rattle.sleep_model.specs.Woven.{unread}
 use Rattle.check_past.specs.Passing.{past_of}
+use Rattle.log_check.specs.declared.ending.Verdict.{Verdict}
+use Rattle.log_check.specs.Verdicts.{IsVerdict}
 use Rattle.log_check.proofs.Entries.{all_kept, bad_entry, fits_here, here, kept_then, left_then, may_link, same_entries, same_machine, whole}
 use Rattle.log_check.proofs.judging.check.Goals as goal
 
@@ -17,11 +20,12 @@ broken-requires-clause-kept c =
     let i = c.loop-e.invariant in
     subst (λ (k : Machine). KeepsEach k (past_of c.loop-e.past)) (sym i.machine) i.kept
 
-pub returns-in-Some-2 : goal.returns-in-Some-2
-returns-in-Some-2 c =
+pub returns-in-Ok-Some : goal.returns-in-Ok-Some
+returns-in-Ok-Some c =
     let i = c.loop-e.invariant in
-    IfOk-weaker c.bad.result _ _ (λ v is. bad_entry c.args.machine.now c.args.log.now c.loop-e.past i.machine i.entries i.kept c.in-Some.e (unread c.next.new.self) (sym i.left ∙ c.in-Some.ensures)
-    c.in_ok-definition.field-0 c.in-Some-2.definition c.passed.result v c.in_ok-definition.ensures c.in-Some-2.is c.passed.ensures is) c.bad.ensures
+    subst (λ (r : Result Verdict Mem). IfOk r (λ v. IsVerdict c.args.machine.now c.args.log.now v)) (sym c.without.ensures)
+    (IfOk-weaker c.bad-verdict.result _ _ (λ v is. bad_entry c.args.machine.now c.args.log.now c.loop-e.past i.machine i.entries i.kept c.in-Some.e (unread c.next.new.self) (sym i.left ∙ c.in-Some.ensures)
+    c.in-Ok-Some.field-0 c.in-Ok-Some.definition c.passed.result v c.in-Ok-Some.ensures c.in-Ok-Some.field-0-is c.passed.ensures is) c.bad-verdict.ensures)
 
 pub pass-requires-clause-next : goal.pass-requires-clause-next
 pass-requires-clause-next c =
@@ -32,7 +36,7 @@ pub pass-requires-clause-link : goal.pass-requires-clause-link
 pass-requires-clause-link c =
     let i = c.loop-e.invariant in
     may_link c.args.machine.now c.args.log.now c.loop-e.past i.machine i.entries i.kept c.in-Some.e (unread c.next.new.self) (sym i.left ∙ c.in-Some.ensures)
-    c.in_ok-definition.field-0 c.in_ok-definition.ensures c.in_default-2.is c.requires.accepted c.requires.fits
+    c.in-Ok-None.field-0 c.in-Ok-None.ensures c.in-Ok-None.field-0-is c.requires.accepted c.requires.fits
 
 pub loop-e-preserved : goal.loop-e-preserved
 loop-e-preserved c =
@@ -43,21 +47,20 @@ loop-e-preserved c =
     let e = c.in-Some.e in
     let rest = unread c.next.new.self in
     let left = sym i.left ∙ c.in-Some.ensures in
-    let o = c.in_ok-definition.field-0 in
-    let q = c.in_ok-past-2.past in
+    let q = c.in_ok-past-in-Ok-None.past in
     record {
-      machine = same_machine m log p i.machine i.entries i.kept e rest left o c.in_ok-definition.ensures c.in_default-2.is q c.in_ok-past-2.ensures;
-      entries = same_entries m log p i.machine i.entries i.kept e rest left o c.in_ok-definition.ensures c.in_default-2.is q c.in_ok-past-2.ensures;
-      kept = kept_then m log p i.machine i.entries i.kept e rest left o c.in_ok-definition.ensures c.in_default-2.is q c.in_ok-past-2.ensures;
-      left = left_then m log p i.machine i.entries i.kept e rest left o c.in_ok-definition.ensures c.in_default-2.is q c.in_ok-past-2.ensures;
+      machine = same_machine m log p i.machine i.entries i.kept e rest left c.in-Ok-None.field-0 c.in-Ok-None.ensures c.in-Ok-None.field-0-is q c.in_ok-past-in-Ok-None.ensures;
+      entries = same_entries m log p i.machine i.entries i.kept e rest left c.in-Ok-None.field-0 c.in-Ok-None.ensures c.in-Ok-None.field-0-is q c.in_ok-past-in-Ok-None.ensures;
+      kept = kept_then m log p i.machine i.entries i.kept e rest left c.in-Ok-None.field-0 c.in-Ok-None.ensures c.in-Ok-None.field-0-is q c.in_ok-past-in-Ok-None.ensures;
+      left = left_then m log p i.machine i.entries i.kept e rest left c.in-Ok-None.field-0 c.in-Ok-None.ensures c.in-Ok-None.field-0-is q c.in_ok-past-in-Ok-None.ensures;
     }
 
-pub judge_end-requires-clause-all : goal.judge_end-requires-clause-all
-judge_end-requires-clause-all c =
+pub judge_end-verdict-requires-clause-all : goal.judge_end-verdict-requires-clause-all
+judge_end-verdict-requires-clause-all c =
     let i = c.loop-e.invariant in
     whole c.args.machine.now c.args.log.now c.loop-e.past i.machine i.entries i.kept (sym c.in_default.ensures.0 ∙ i.left)
 
-pub judge_end-requires-clause-kept : goal.judge_end-requires-clause-kept
-judge_end-requires-clause-kept c =
+pub judge_end-verdict-requires-clause-kept : goal.judge_end-verdict-requires-clause-kept
+judge_end-verdict-requires-clause-kept c =
     let i = c.loop-e.invariant in
     all_kept c.args.machine.now c.args.log.now c.loop-e.past i.machine i.entries i.kept (sym c.in_default.ensures.0 ∙ i.left)
