@@ -27,14 +27,6 @@ fn broken(past: &Passed<'_>, e: Entry) -> Result<Option<u8>, Mem>
     }
 }
 
-// An answer, behind which a value is let go of. The value's type is a parameter, so that the proof of a caller does not
-// follow its parts.
-fn without<A: Drop, B>(_value: A, answer: B) -> B
-    ensures { result ≡ answer }
-{
-    answer
-}
-
 /// Judges a log that fits a machine as files spell it: good exactly where it is legal and finished, else its first bad
 /// line, with the number of the least rule that this breaks. `Mem` where there is no memory for the account.
 pub fn check(alloc: Global, machine: &Machine, log: &Log) -> Result<Verdict, Mem>
@@ -49,11 +41,16 @@ pub fn check(alloc: Global, machine: &Machine, log: &Log) -> Result<Verdict, Mem
             Ok(None) => past = past.pass(e)?,
             Ok(Some(definition)) => {
                 let verdict = bad(past.passed(), definition);
-                return without(past, verdict);
+                drop(past);
+                return verdict;
             }
-            Err(failed) => return without(past, Err(failed)),
+            Err(failed) => {
+                drop(past);
+                return Err(failed);
+            }
         }
     }
     let verdict = judge_end(&past, log);
-    without(past, verdict)
+    drop(past);
+    verdict
 }

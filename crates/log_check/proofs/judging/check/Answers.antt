@@ -1,12 +1,9 @@
-use Rattle.std.proofs.Common.{◌∙◌, IfOk, Result, sym, subst}
+use Rattle.std.proofs.Common.{◌∙◌, sym, subst}
 use Rattle.std.proofs.lemmas.Result.{IfOk-weaker}
-use Rattle.sleep_base.specs.declared.outside.Mem.{Mem}
 use Rattle.sleep_model.specs.declared.machine.Machine.{Machine}
 use Rattle.sleep_model.specs.Rules.Entry.{KeepsEach}
 use Rattle.sleep_model.specs.Woven.{unread}
 use Rattle.check_past.specs.Passing.{past_of}
-use Rattle.log_check.specs.declared.ending.Verdict.{Verdict}
-use Rattle.log_check.specs.Verdicts.{IsVerdict}
 use Rattle.log_check.proofs.Entries.{all_kept, bad_entry, fits_here, here, kept_then, left_then, may_link, same_entries, same_machine, whole}
 use Rattle.log_check.proofs.judging.check.Goals as goal
 
@@ -23,9 +20,8 @@ broken-requires-clause-kept c =
 pub returns-in-Ok-Some : goal.returns-in-Ok-Some
 returns-in-Ok-Some c =
     let i = c.loop-e.invariant in
-    subst (λ (r : Result Verdict Mem). IfOk r (λ v. IsVerdict c.args.machine.now c.args.log.now v)) (sym c.without.ensures)
-    (IfOk-weaker c.bad-verdict.result _ _ (λ v is. bad_entry c.args.machine.now c.args.log.now c.loop-e.past i.machine i.entries i.kept c.in-Some.e (unread c.next.new.self) (sym i.left ∙ c.in-Some.ensures)
-    c.in-Ok-Some.field-0 c.in-Ok-Some.definition c.passed.result v c.in-Ok-Some.ensures c.in-Ok-Some.field-0-is c.passed.ensures is) c.bad-verdict.ensures)
+    IfOk-weaker c.bad-verdict.result _ _ (λ v is. bad_entry c.args.machine.now c.args.log.now c.loop-e.past i.machine i.entries i.kept c.in-Some.e (unread c.next.new.self) (sym i.left ∙ c.in-Some.ensures)
+    c.in-Ok-Some.field-0 c.in-Ok-Some.definition c.passed.result v c.in-Ok-Some.ensures c.in-Ok-Some.field-0-is c.passed.ensures is) c.bad-verdict.ensures
 
 pub pass-requires-clause-next : goal.pass-requires-clause-next
 pass-requires-clause-next c =
