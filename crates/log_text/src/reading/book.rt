@@ -1,12 +1,13 @@
 //! A machine with its names, as a log's reader needs them.
 
+use crate::fault::lost;
 use crate::reading::index::NameIndex;
 use crate::reading::names::{
     names_of_devices, names_of_notifiers, names_of_scripts, names_of_sources,
 };
 use crate::writing::ready::ReadyNames;
 use sleep_base::Mem;
-use sleep_model::Machine;
+use sleep_model::{Machine, Name};
 use std::alloc::Global;
 use std::marker::Model;
 
@@ -44,8 +45,14 @@ impl<'a> NameBook<'a> {
         ensures { IfOk result (λ b. b ≡ machine.now) }
     {
         let names = ReadyNames::new(alloc, machine)?;
-        let (devices, syscore, notifiers) = index_of_things(alloc, machine)?;
-        let (sources, marks, scripts) = index_of_tasks(alloc, machine)?;
+        let Ok(things) = index_of_things(alloc, machine) else {
+            return Err(lost(names));
+        };
+        let Ok(tasks) = index_of_tasks(alloc, machine) else {
+            return Err(lost((names, things)));
+        };
+        let (devices, syscore, notifiers) = things;
+        let (sources, marks, scripts) = tasks;
         Ok(NameBook {
             names,
             devices,
@@ -127,16 +134,59 @@ ghost use Rattle.log_text.specs.Named.{device_names, notifier_names, script_name
 /// Names of three kinds of things.
 type ThreeIndexes = (NameIndex, NameIndex, NameIndex);
 
+/// The devices by their names.
+fn index_of_devices(alloc: Global, machine: &Machine) -> Result<NameIndex, Mem>
+    ensures { IfOk result (λ n. n.places ≡ device_names machine.now) }
+{
+    let names = names_of_devices(alloc, machine.devices.as_slice())?;
+    NameIndex::new(alloc, names)
+}
+
+/// The notifiers by their names.
+fn index_of_notifiers(alloc: Global, machine: &Machine) -> Result<NameIndex, Mem>
+    ensures { IfOk result (λ n. n.places ≡ notifier_names machine.now) }
+{
+    let names = names_of_notifiers(alloc, machine.notifiers.as_slice())?;
+    NameIndex::new(alloc, names)
+}
+
+/// The sources by their names.
+fn index_of_sources(alloc: Global, machine: &Machine) -> Result<NameIndex, Mem>
+    ensures { IfOk result (λ n. n.places ≡ source_names machine.now) }
+{
+    let names = names_of_sources(alloc, machine.sources.as_slice())?;
+    NameIndex::new(alloc, names)
+}
+
+/// The scripts by their names.
+fn index_of_scripts(alloc: Global, machine: &Machine) -> Result<NameIndex, Mem>
+    ensures { IfOk result (λ n. n.places ≡ script_names machine.now) }
+{
+    let names = names_of_scripts(alloc, machine.actors.as_slice())?;
+    NameIndex::new(alloc, names)
+}
+
+/// These names, each found at once.
+fn index_of_names(alloc: Global, names: &[Name]) -> Result<NameIndex, Mem>
+    ensures { IfOk result (λ n. n.places ≡ names.now) }
+{
+    let names = Vec::from_slice(alloc, names)?;
+    NameIndex::new(alloc, names)
+}
+
 /// The devices, the syscore steps and the notifiers by their names.
 fn index_of_things(alloc: Global, machine: &Machine) -> Result<ThreeIndexes, Mem>
     ensures devices { IfOk result (λ t. t.0.places ≡ device_names machine.now) }
     ensures syscore { IfOk result (λ t. t.1.places ≡ machine.now.syscore) }
     ensures notifiers { IfOk result (λ t. t.2.places ≡ notifier_names machine.now) }
 {
-    let devices = NameIndex::new(alloc, names_of_devices(alloc, machine.devices.as_slice())?)?;
-    let syscore = NameIndex::new(alloc, Vec::from_slice(alloc, machine.syscore.as_slice())?)?;
-    let notifiers = names_of_notifiers(alloc, machine.notifiers.as_slice())?;
-    let notifiers = NameIndex::new(alloc, notifiers)?;
+    let devices = index_of_devices(alloc, machine)?;
+    let Ok(syscore) = index_of_names(alloc, machine.syscore.as_slice()) else {
+        return Err(lost(devices));
+    };
+    let Ok(notifiers) = index_of_notifiers(alloc, machine) else {
+        return Err(lost((devices, syscore)));
+    };
     Ok((devices, syscore, notifiers))
 }
 
@@ -146,8 +196,12 @@ fn index_of_tasks(alloc: Global, machine: &Machine) -> Result<ThreeIndexes, Mem>
     ensures marks { IfOk result (λ t. t.1.places ≡ machine.now.marks) }
     ensures scripts { IfOk result (λ t. t.2.places ≡ script_names machine.now) }
 {
-    let sources = NameIndex::new(alloc, names_of_sources(alloc, machine.sources.as_slice())?)?;
-    let marks = NameIndex::new(alloc, Vec::from_slice(alloc, machine.marks.as_slice())?)?;
-    let scripts = NameIndex::new(alloc, names_of_scripts(alloc, machine.actors.as_slice())?)?;
+    let sources = index_of_sources(alloc, machine)?;
+    let Ok(marks) = index_of_names(alloc, machine.marks.as_slice()) else {
+        return Err(lost(sources));
+    };
+    let Ok(scripts) = index_of_scripts(alloc, machine) else {
+        return Err(lost((sources, marks)));
+    };
     Ok((sources, marks, scripts))
 }

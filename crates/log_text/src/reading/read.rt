@@ -9,7 +9,7 @@ ghost use Rattle.log_text.specs.Grammar.{lines, IsBadEntry, IsBadSource, IsBadEn
 ghost use Rattle.log_text.specs.Faults.{AtLine, IsNoSource};
 ghost use Rattle.log_text.specs.Named.{AreNamed};
 
-use crate::fault::LogFault;
+use crate::fault::{LogFault, lost};
 use crate::reading::book::NameBook;
 use crate::reading::cut::is;
 use crate::reading::lines::{first_line, next_number};
@@ -37,11 +37,19 @@ fn read_entries<'a>(
     let mut left = bytes;
     let mut number = 1;
     while !left.is_empty() {
-        let Some((entry, behind)) = reader.next_entry(book, left)? else {
+        let Ok(next) = reader.next_entry(book, left) else {
+            return Err(lost(entries));
+        };
+        let Some((entry, behind)) = next else {
             return Ok((entries, left, number));
         };
-        entries.push(entry)?;
-        number = next_number(number)?;
+        let Ok(()) = entries.push(entry) else {
+            return Err(lost(entries));
+        };
+        let Ok(following) = next_number(number) else {
+            return Err(lost(entries));
+        };
+        number = following;
         left = behind;
     }
     Ok((entries, left, number))
@@ -233,7 +241,11 @@ pub fn read_log(alloc: Global, machine: &Machine, bytes: &[u8]) -> Result<Log, L
         IsOkUnless result LogFault.Mem }
 {
     match NameBook::new(alloc, machine) {
-        Ok(book) => read_whole(alloc, &book, bytes),
+        Ok(book) => {
+            let read = read_whole(alloc, &book, bytes);
+            drop(book);
+            read
+        }
         Err(_) => Err(LogFault::Mem),
     }
 }

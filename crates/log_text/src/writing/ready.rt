@@ -7,6 +7,7 @@ ghost use Rattle.sleep_model.specs.Text.{device_name, name_in, script_text, sour
 ghost use Rattle.log_text.specs.Front.{maker_text};
 ghost use Rattle.log_text.specs.Named.{device_names, notifier_names, script_names};
 
+use crate::fault::lost;
 use crate::reading::names::{
     names_of_devices, names_of_notifiers, names_of_scripts, names_of_sources,
 };
@@ -57,9 +58,16 @@ impl<'a> ReadyNames<'a> {
     pub fn new(alloc: Global, machine: &'a Machine) -> Result<Self, Mem>
         ensures { IfOk result (λ r. r ≡ machine.now) }
     {
-        let (makers, scripts) = makers_of(alloc, machine)?;
-        let (devices, syscore, notifiers) = texts_of_things(alloc, machine)?;
-        let (sources, marks, tasks) = texts_of_tasks(alloc, machine)?;
+        let actors = makers_of(alloc, machine)?;
+        let Ok(things) = texts_of_things(alloc, machine) else {
+            return Err(lost(actors));
+        };
+        let Ok(tasks) = texts_of_tasks(alloc, machine) else {
+            return Err(lost((actors, things)));
+        };
+        let (makers, scripts) = actors;
+        let (devices, syscore, notifiers) = things;
+        let (sources, marks, tasks) = tasks;
         Ok(ReadyNames {
             machine,
             none: ShortText::of(b""),
@@ -170,17 +178,51 @@ fn name_texts(alloc: Global, names: &[Name]) -> Result<Vec<ShortText>, Mem>
     Ok(texts)
 }
 
+/// The names of the devices.
+fn texts_of_devices(alloc: Global, machine: &Machine) -> Result<Vec<ShortText>, Mem>
+    ensures { IfOk result (λ v. v.items ≡ device_names machine.now) }
+{
+    let names = names_of_devices(alloc, machine.devices.as_slice())?;
+    name_texts(alloc, names.as_slice())
+}
+
+/// The names of the notifiers.
+fn texts_of_notifiers(alloc: Global, machine: &Machine) -> Result<Vec<ShortText>, Mem>
+    ensures { IfOk result (λ v. v.items ≡ notifier_names machine.now) }
+{
+    let names = names_of_notifiers(alloc, machine.notifiers.as_slice())?;
+    name_texts(alloc, names.as_slice())
+}
+
+/// The names of the sources.
+fn texts_of_sources(alloc: Global, machine: &Machine) -> Result<Vec<ShortText>, Mem>
+    ensures { IfOk result (λ v. v.items ≡ source_names machine.now) }
+{
+    let names = names_of_sources(alloc, machine.sources.as_slice())?;
+    name_texts(alloc, names.as_slice())
+}
+
+/// The names of the tasks.
+fn texts_of_scripts(alloc: Global, machine: &Machine) -> Result<Vec<ShortText>, Mem>
+    ensures { IfOk result (λ v. v.items ≡ script_names machine.now) }
+{
+    let names = names_of_scripts(alloc, machine.actors.as_slice())?;
+    name_texts(alloc, names.as_slice())
+}
+
 /// The names of the devices, of the syscore steps and of the notifiers.
 fn texts_of_things(alloc: Global, machine: &Machine) -> Result<ThreeTexts, Mem>
     ensures devices { IfOk result (λ t. t.0.items ≡ device_names machine.now) }
     ensures syscore { IfOk result (λ t. t.1.items ≡ machine.now.syscore) }
     ensures notifiers { IfOk result (λ t. t.2.items ≡ notifier_names machine.now) }
 {
-    let devices = names_of_devices(alloc, machine.devices.as_slice())?;
-    let devices = name_texts(alloc, devices.as_slice())?;
-    let syscore = name_texts(alloc, machine.syscore.as_slice())?;
-    let notifiers = names_of_notifiers(alloc, machine.notifiers.as_slice())?;
-    let notifiers = name_texts(alloc, notifiers.as_slice())?;
+    let devices = texts_of_devices(alloc, machine)?;
+    let Ok(syscore) = name_texts(alloc, machine.syscore.as_slice()) else {
+        return Err(lost(devices));
+    };
+    let Ok(notifiers) = texts_of_notifiers(alloc, machine) else {
+        return Err(lost((devices, syscore)));
+    };
     Ok((devices, syscore, notifiers))
 }
 
@@ -190,11 +232,13 @@ fn texts_of_tasks(alloc: Global, machine: &Machine) -> Result<ThreeTexts, Mem>
     ensures marks { IfOk result (λ t. t.1.items ≡ machine.now.marks) }
     ensures tasks { IfOk result (λ t. t.2.items ≡ script_names machine.now) }
 {
-    let sources = names_of_sources(alloc, machine.sources.as_slice())?;
-    let sources = name_texts(alloc, sources.as_slice())?;
-    let marks = name_texts(alloc, machine.marks.as_slice())?;
-    let tasks = names_of_scripts(alloc, machine.actors.as_slice())?;
-    let tasks = name_texts(alloc, tasks.as_slice())?;
+    let sources = texts_of_sources(alloc, machine)?;
+    let Ok(marks) = name_texts(alloc, machine.marks.as_slice()) else {
+        return Err(lost(sources));
+    };
+    let Ok(tasks) = texts_of_scripts(alloc, machine) else {
+        return Err(lost((sources, marks)));
+    };
     Ok((sources, marks, tasks))
 }
 
@@ -216,7 +260,9 @@ fn makers_of(alloc: Global, machine: &Machine) -> Result<(Vec<ShortText>, Vec<Sh
     ensures scripts { IfOk result (λ t. (i : ℕ) → ForSome (slice_get t.1.items i) (λ t. t ≡ maker_text machine.now (actor.Script i))) }
 {
     let makers = device_makers(alloc, machine.devices.as_slice())?;
-    let scripts = script_makers(alloc, machine.actors.as_slice())?;
+    let Ok(scripts) = script_makers(alloc, machine.actors.as_slice()) else {
+        return Err(lost(makers));
+    };
     Ok((makers, scripts))
 }
 

@@ -19,5 +19,5 @@ loop-reader-preserved c =
     let more : c.push.new.self ≡ c.loop-reader.entries ++ e ∷ [] = first_of (search rules, cc) in (
       rw more (text_push (entry_line m) c.loop-reader.entries e (entry_line m e) left behind c.args.bytes.now so_far.0 (sym next) refl),
       rw more (all_push (fits_entry m) c.loop-reader.entries e so_far.1 fits),
-      next_passed m left behind e c.loop-reader.number c.in_ok-number.number (IsBadEntry m (lines c.args.bytes.now) 1) fits next c.in_ok-number.ensures so_far.2,
+      next_passed m left behind e c.loop-reader.number c.in-Ok-next_number.following (IsBadEntry m (lines c.args.bytes.now) 1) fits next c.in-Ok-next_number.ensures so_far.2,
     )
