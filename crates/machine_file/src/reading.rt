@@ -78,7 +78,9 @@ fn read_formed(alloc: Global, tree: &Value<'_>) -> Result<ReadMachine, MachineFa
     ensures err { IfErr result (RefusesValue (view tree.now)) }
 {
     let known = known_in(alloc, tree)?;
-    read_known(alloc, tree, &known)
+    let read = read_known(alloc, tree, &known);
+    drop(known);
+    read
 }
 
 /// Reads it by the names of its things.

@@ -12,6 +12,7 @@ ghost use Rattle.machine_file.specs.Operations.{whole_marks};
 ghost use Rattle.machine_file.specs.Knows.{Knows, texts};
 ghost use Rattle.machine_file.specs.Broken.{member_name, place_of};
 
+use crate::fault::lost;
 use crate::names::marks::marks_in;
 use crate::names::{first_repeated, names_in, texts_in};
 use crate::value::place::{Member, Place};
@@ -61,10 +62,18 @@ pub(crate) fn known_in<'v>(alloc: Global, tree: &Value<'v>) -> Result<Known<'v>,
     ensures { IfOk result (λ k. Knows k (view tree.now)) }
 {
     let devices = named_in(alloc, tree, Member::Devices)?;
-    let syscore = told_in(alloc, tree, Member::Syscore)?;
-    let notifiers = named_in(alloc, tree, Member::Notifiers)?;
-    let sources = told_in(alloc, tree, Member::Sources)?;
-    let marks = marked_in(alloc, tree)?;
+    let Ok(syscore) = told_in(alloc, tree, Member::Syscore) else {
+        return Err(lost(devices));
+    };
+    let Ok(notifiers) = named_in(alloc, tree, Member::Notifiers) else {
+        return Err(lost((devices, syscore)));
+    };
+    let Ok(sources) = told_in(alloc, tree, Member::Sources) else {
+        return Err(lost((devices, syscore, notifiers)));
+    };
+    let Ok(marks) = marked_in(alloc, tree) else {
+        return Err(lost((devices, syscore, notifiers, sources)));
+    };
     Ok(Known {
         devices,
         syscore,
@@ -123,7 +132,9 @@ fn first_reserved<'x>(
 {
     let all = behind(alloc, reserved, names)?;
     let all = KeyIndex::new(alloc, all)?;
-    Ok(one_less(first_repeated(&all)))
+    let number = one_less(first_repeated(&all));
+    drop(all);
+    Ok(number)
 }
 
 fn behind<'x>(alloc: Global, reserved: &'x str, names: &[&'x str]) -> Result<Vec<&'x str>, Mem>
@@ -150,7 +161,9 @@ pub(crate) fn repeated_actor(alloc: Global, tree: &Value<'_>) -> Result<Option<P
 {
     let names = names_in(alloc, tree, Member::Actors)?;
     let names = KeyIndex::new(alloc, names)?;
-    Ok(item(Member::Actors, first_repeated(&names)))
+    let number = first_repeated(&names);
+    drop(names);
+    Ok(item(Member::Actors, number))
 }
 
 /// The place of a name among these.

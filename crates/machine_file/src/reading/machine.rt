@@ -11,6 +11,7 @@ ghost use Rattle.machine_file.specs.Kept.{IsSound, first_in_order, broken_form, 
 ghost use Rattle.machine_file.specs.Seen.{AreEnds, ArePlaced};
 ghost use Rattle.machine_file.specs.Broken.{broken_view};
 
+use crate::fault::lost;
 use crate::names::known::Known;
 use crate::rules::cycles::{Linking, linking_of};
 use crate::rules::pairs::{EndPlaces, Ends, ends_in, places_in};
@@ -139,8 +140,14 @@ fn linked_by(
     ensures broken { IfOk result (λ r. IfErr r (λ b. first_in_order (view tree.now) ≡ Some (broken_view b))) }
 {
     let linking = linking_of(alloc, tree, known, places)?;
-    match first_behind(alloc, tree, known, linking.added.cycle)? {
-        Some(broken) => Ok(Err(broken)),
+    let Ok(broken) = first_behind(alloc, tree, known, linking.added.cycle) else {
+        return Err(lost(linking));
+    };
+    match broken {
+        Some(broken) => {
+            drop(linking);
+            Ok(Err(broken))
+        }
         None => Ok(Ok(linking)),
     }
 }

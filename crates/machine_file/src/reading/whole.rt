@@ -14,6 +14,7 @@ ghost use Rattle.machine_file.specs.Kept.{IsSound};
 ghost use Rattle.machine_file.specs.Reading.{Reads};
 
 use crate::ReadMachine;
+use crate::fault::lost;
 use crate::names::known::Known;
 use crate::reading::replies::answers_of;
 use crate::reading::scripts::{scripts_of, small_or};
@@ -142,7 +143,9 @@ pub(crate) fn read_of(
         links: tied,
         cycle: _,
     } = added;
-    let machine = machine_of(alloc, tree, known, links)?;
+    let Ok(machine) = machine_of(alloc, tree, known, links) else {
+        return Err(lost(tied));
+    };
     Ok(ReadMachine {
         machine,
         links: tied,

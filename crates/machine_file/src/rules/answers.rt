@@ -240,5 +240,7 @@ pub(crate) fn repeated_answer(alloc: Global, tree: &Value<'_>) -> Result<Option<
 {
     let answers = all_given(alloc, items(tree, Member::Answers))?;
     let answers = KeyIndex::new(alloc, answers)?;
-    Ok(item(Member::Answers, first_again(&answers)))
+    let number = first_again(&answers);
+    drop(answers);
+    Ok(item(Member::Answers, number))
 }

@@ -12,6 +12,7 @@ ghost use Rattle.machine_file.specs.Fresh.{AreFresh, closes_nothing};
 ghost use Rattle.machine_file.specs.Seen.{ends_written, end_places, ArePlaced};
 ghost use Rattle.machine_file.specs.Knows.{Knows, texts};
 
+use crate::fault::lost;
 use crate::names::known::{Known, device_at, place_of_name};
 use crate::rules::pairs::EndPlaces;
 use crate::value::look::{has_text, word_at};
@@ -123,7 +124,7 @@ pub(crate) fn add_links(
                     cycle: Some(i),
                 });
             }
-            Err(LinkFault::Mem) => return Err(Mem),
+            Err(LinkFault::Mem) => return Err(lost(added)),
             Err(_) => unreachable!(),
         }
     }

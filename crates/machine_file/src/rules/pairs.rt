@@ -12,6 +12,7 @@ ghost use Rattle.machine_file.specs.Knows.{Knows, AreFew, texts};
 ghost use Rattle.machine_file.specs.Seen.{ends_seen, ends_written, differ, same_ends, end_places, are_devices, AreEnds, ArePlaced};
 ghost use Rattle.machine_file.specs.Broken.{place_of};
 
+use crate::fault::lost;
 use crate::names::known::{Known, device_at, item};
 use crate::value::look::{text_at, word_at};
 use crate::value::place::{Member, Place, items};
@@ -172,11 +173,15 @@ fn first_again(alloc: Global, ends: &[Ends]) -> Result<Option<usize>, Mem>
     let mut seen = IndexMap::with_capacity(alloc, ends.len())?;
     for i in 0..ends.len() {
         let key = ends[i];
-        let before = seen.insert(key, i)?;
+        let Ok(before) = seen.insert(key, i) else {
+            return Err(lost(seen));
+        };
         if is_again(&key, before) {
+            drop(seen);
             return Ok(Some(i));
         }
     }
+    drop(seen);
     Ok(None)
 }
 

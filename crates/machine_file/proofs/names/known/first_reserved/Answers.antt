@@ -9,5 +9,5 @@ use Rattle.machine_file.proofs.names.known.first_reserved.Goals as goal
 pub returns : goal.returns
 returns c =
     let all : texts c.in_ok-all-2.all ≡ c.args.reserved.now ∷ texts c.args.names.now = ap texts c.in_ok-all-2.ensures ∙ c.in_ok-all.ensures in
-    c.one_less.ensures ∙ ap (option_map (λ k. k - 1)) (c.first_repeated.ensures ∙ ap (first_not_after (λ before name. not (is_among_names before name)) [] 0) all)
+    c.one_less-number.ensures ∙ ap (option_map (λ k. k - 1)) (c.first_repeated.ensures ∙ ap (first_not_after (λ before name. not (is_among_names before name)) [] 0) all)
     ∙ sym (reserved_first bytes_eq c.args.reserved.now [] 0 (texts c.args.names.now))

@@ -14,7 +14,7 @@ pub returns-in-None-clause-sound : goal.returns-in-None-clause-sound
 returns-in-None-clause-sound c =
     let d = view c.args.tree.now in
     let behind = option_or (broken_cycle d) (broken_rest d) in
-    let none : behind ≡ None = sym c.in_ok-broken.ensures ∙ ap (option_map broken_view) c.in-None.is in
+    let none : behind ≡ None = sym c.in-Ok.ensures ∙ ap (option_map broken_view) c.in-None.is in
     record {
       unbroken =
           ap (λ (o : Option Broken). option_or o (option_or (broken_devices d) behind)) c.requires.form

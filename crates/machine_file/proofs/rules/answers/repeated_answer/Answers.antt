@@ -7,5 +7,5 @@ use Rattle.machine_file.proofs.rules.answers.repeated_answer.Goals as goal
 
 pub returns : goal.returns
 returns c =
-    c.item.ensures ∙ ap (option_map (item_place (codes "answers"))) (c.first_again.ensures
+    c.item.ensures ∙ ap (option_map (item_place (codes "answers"))) (c.first_again-number.ensures
     ∙ answers_again c.in_ok-answers-2.answers _ (ap (map answer_seen) c.in_ok-answers-2.ensures ∙ c.in_ok-answers.ensures ∙ ap (map answer_written) c.items.ensures))

@@ -1,4 +1,5 @@
 use Rattle.std.proofs.Common.{◌<◌, length, get_or, None, arith}
+use Rattle.std.proofs.lemmas.Grind.{common_steps}
 use Rattle.std.proofs.lemmas.List.{get_or_default}
 use Rattle.machine_file.specs.declared.rules.pairs.EndPlaces.{EndPlaces}
 use Rattle.machine_file.specs.Knows.{texts}
@@ -16,3 +17,6 @@ link_of-requires c =
     let p = get_or c.args.places.now c.loop-i.i unset in
     place_at (texts c.args.names.now) c.args.places.now c.args.links.now c.loop-i.i p c.index-links-i.result within inside
     (get_or_default c.args.places.now c.loop-i.i unset p within) c.index-links-i.is c.requires
+
+pub loop-i-preserved : goal.loop-i-preserved
+loop-i-preserved c = grind (arith, common_steps)

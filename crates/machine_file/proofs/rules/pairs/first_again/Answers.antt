@@ -19,7 +19,7 @@ returns-then-is_again c =
     let within : c.loop-i.i < length c.args.ends.now = omega arith in
     let e = get_or c.args.ends.now c.loop-i.i unset in
     later_here is_two c.args.ends.now c.loop-i.i e within (get_or_default c.args.ends.now c.loop-i.i unset e within)
-    (again_test c.args.ends.now e c.loop-i.i c.in_ok-before.before (ap is_some c.in_ok-before.ensures.old ∙ c.loop-i.invariant.1 e) ∙ flipped _ c.if-is_again.ensures)
+    (again_test c.args.ends.now e c.loop-i.i c.in-Ok.before (ap is_some c.in-Ok.ensures.old ∙ c.loop-i.invariant.1 e) ∙ flipped _ c.if-is_again.ensures)
     ∙ sym c.loop-i.invariant.0
 
 pub loop-i-preserved : goal.loop-i-preserved
@@ -29,6 +29,6 @@ loop-i-preserved c =
     let is = get_or_default c.args.ends.now c.loop-i.i unset e within in (
       c.loop-i.invariant.0
           ∙ later_next is_two c.args.ends.now c.loop-i.i e within is
-          (again_test c.args.ends.now e c.loop-i.i c.in_ok-before.before (ap is_some c.in_ok-before.ensures.old ∙ c.loop-i.invariant.1 e) ∙ kept _ c.if-is_again.ensures),
-      seen_more c.args.ends.now c.loop-i.i e within is (get twin c.loop-i.seen) (get twin c.insert.new.self) c.loop-i.invariant.1 c.in_ok-before.ensures.updates.0,
+          (again_test c.args.ends.now e c.loop-i.i c.in-Ok.before (ap is_some c.in-Ok.ensures.old ∙ c.loop-i.invariant.1 e) ∙ kept _ c.if-is_again.ensures),
+      seen_more c.args.ends.now c.loop-i.i e within is (get twin c.loop-i.seen) (get twin c.insert.new.self) c.loop-i.invariant.1 c.in-Ok.ensures.updates.0,
     )
