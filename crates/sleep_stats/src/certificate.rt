@@ -76,6 +76,14 @@ fn are_levels(links: &Links, levels: &[u32], most: usize) -> bool
     levels.len() == order.len() && have_levels(links, levels, most, order)
 }
 
+/// Whether the devices of a chain are one, and its levels are those of all devices, up to its length.
+fn is_certified(links: &Links, chain: &Chain) -> bool
+    ensures { result ≡ is_certified links.now chain.now }
+{
+    let devices = chain.devices.as_slice();
+    is_chain(links, devices) && are_levels(links, chain.levels.as_slice(), devices.len())
+}
+
 /// Whether the chain is one at the log's end, and the levels are those of all devices, up to its length, so that no chain is
 /// longer.
 pub fn certified(alloc: Global, machine: &Machine, log: &Log, chain: &Chain) -> Result<bool, Mem>
@@ -84,6 +92,7 @@ pub fn certified(alloc: Global, machine: &Machine, log: &Log, chain: &Chain) -> 
     ensures { IfOk result (λ sure. sure ≡ is_certified (last_linked machine.now log.now) chain.now) }
 {
     let links = last_linked(alloc, machine, log)?;
-    let devices = chain.devices.as_slice();
-    Ok(is_chain(&links, devices) && are_levels(&links, chain.levels.as_slice(), devices.len()))
+    let sure = is_certified(&links, chain);
+    drop(links);
+    Ok(sure)
 }

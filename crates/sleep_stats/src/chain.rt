@@ -58,6 +58,11 @@ fn longest_by(alloc: Global, links: &Links, levels: &[u32]) -> Result<Vec<u32>, 
     }
 }
 
+/// Want of memory, where a value has to be let go. Its type is a parameter, so that no proof of a caller follows its parts.
+fn lost<A: Drop>(_value: A) -> Mem {
+    Mem
+}
+
 /// The longest chain of devices at a log's end.
 pub fn longest(alloc: Global, machine: &Machine, log: &Log) -> Result<Chain, Mem>
     requires accepted { IsAccepted machine.now }
@@ -65,8 +70,13 @@ pub fn longest(alloc: Global, machine: &Machine, log: &Log) -> Result<Chain, Mem
     ensures { IfOk result (λ c. IsLongest (last_linked machine.now log.now) c) }
 {
     let links = last_linked(alloc, machine, log)?;
-    let levels = levels_of(alloc, &links)?;
-    let devices = longest_by(alloc, &links, &levels)?;
+    let Ok(levels) = levels_of(alloc, &links) else {
+        return Err(lost(links));
+    };
+    let Ok(devices) = longest_by(alloc, &links, &levels) else {
+        return Err(lost((links, levels)));
+    };
+    drop(links);
     Ok(Chain {
         devices: DevList::of_vec(devices),
         levels: DevList::of_vec(levels),
