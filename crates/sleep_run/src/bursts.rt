@@ -6,7 +6,7 @@ ghost use Rattle.sleep_run.specs.declared.run.RunFault.TheVariants as fault;
 use crate::jobs::Jobs;
 use crate::pace::Pace;
 use crate::rest::Rest;
-use crate::run::{Run, RunFault};
+use crate::run::{Run, RunFault, lost};
 use crate::tasks::{actors_of, highest_of};
 use crate::waiters::Waiters;
 use apart_log::ApartLog;
@@ -64,12 +64,14 @@ impl<'m> Away<'m> {
         ensures { IfOk result (λ made. IsBack self.now.machine.now self.now.table.desk.shared.table_id self.now.floor
             made.parts.core made.parts.sources.items made.parts.tasks.items) }
     {
-        let actors = actors_of(
+        let Ok(actors) = actors_of(
             alloc,
             self.machine.actors.len() as u32,
             self.machine.devices.len() as u32,
             self.machine.sources.len() as u32 + 1,
-        )?;
+        ) else {
+            return Err(lost(parts));
+        };
         let plan = BurstPlan {
             gate,
             table: &self.table,
@@ -121,7 +123,9 @@ impl<'m> Away<'m> {
             tasks,
         } = parts;
         let floor = highest_of(&tasks, self.floor);
-        let jobs = Jobs::of_tasks(alloc, tasks, self.machine.actors.len())?;
+        let Ok(jobs) = Jobs::of_tasks(alloc, tasks, self.machine.actors.len()) else {
+            return Err(lost((self, core, sources)));
+        };
         Ok(self.joined(core, sources, jobs, floor))
     }
 
@@ -140,12 +144,15 @@ impl<'m> Away<'m> {
         ensures { IfOk result (λ after. after.run.machine ≡ self.entry.machine.now) }
     {
         let tasks = parts.tasks.len();
+        let Ok(burst) = self.make(rt, alloc, parts, workers, gate) else {
+            return Err(lost(self));
+        };
         let Burst {
             parts,
             beside,
             stop,
             ..
-        } = self.make(rt, alloc, parts, workers, gate)?;
+        } = burst;
         let run = self.come_back(alloc, parts)?;
         Ok(AfterBurst {
             run,
@@ -185,7 +192,9 @@ impl<'m> Run<'m> {
             floor,
             waiters,
         } = self;
-        let tasks = jobs.into_tasks(alloc, sources.len() as u32, floor)?;
+        let Ok(tasks) = jobs.into_tasks(alloc, sources.len() as u32, floor) else {
+            return Err(lost((table, core, sources, waiters)));
+        };
         let away = Away {
             machine,
             table,
@@ -213,7 +222,7 @@ impl<'m> Run<'m> {
         ensures { IfOk result (λ after. after.run.machine ≡ self.entry.machine) }
     {
         if !self.is_short() {
-            return Err(Mem);
+            return Err(lost(self));
         }
         let (away, parts) = self.leave(alloc)?;
         away.run_on(rt, alloc, parts, workers, gate)

@@ -7,7 +7,7 @@ ghost use Rattle.sleep_run.specs.RunFields.{sources_of};
 ghost use Rattle.sleep_run.specs.Waits.{waits_of, all_stats};
 ghost use Rattle.wakeup_source.specs.SourceStates.{bare, latest};
 
-use crate::run::{Run, RunFault, wait_unless};
+use crate::run::{Run, RunFault, lost, wait_unless};
 use crate::waiters::Waiters;
 use apart_log::ApartLog;
 use fit_laws::{moments_are_ranged, stats_are_ranged};
@@ -296,7 +296,7 @@ impl<'m> Run<'m> {
     {
         match self.ending(alloc, rest) {
             Ok((end, stats)) => self.merged(alloc, end, stats),
-            Err(_) => Err(Mem),
+            Err(_) => Err(lost(self)),
         }
     }
 

@@ -6,7 +6,7 @@ ghost use Rattle.sleep_model.specs.Order.{parents_of};
 ghost use Rattle.sleep_run.specs.Runs.{Fails, IsRun};
 
 use crate::rest::Rest;
-use crate::run::{Run, RunEnd, RunFault, Tried};
+use crate::run::{Run, RunEnd, RunFault, Tried, lost};
 use apart_log::ApartLog;
 use device_links::Links;
 use machine_plans::MachinePlans;
@@ -277,7 +277,9 @@ pub fn run_machine<R: Threads + Wait + Sync, G: Gate + Sync>(
     ensures ok { IfOk result (λ end. IsRun machine.now end.log) }
     ensures fault { IfErr result (Fails machine.now) }
 {
-    let plans = MachinePlans::new(alloc, machine)?;
+    let Ok(plans) = MachinePlans::new(alloc, machine) else {
+        return Err(RunFault::from(lost(links)));
+    };
     let run = Run::new(alloc, &plans, links)?;
     let log = run.to_end(rt, alloc, workers, gate)?;
     Ok(RunEnd { log })

@@ -102,6 +102,11 @@ impl<'m> Model for Run<'m> {
     ghost invariant = { KeepsRun };
 }
 
+/// Lets a value go for want of memory. Its type is a parameter, so that no caller's proof follows its parts.
+pub(crate) fn lost<A: Drop>(_value: A) -> Mem {
+    Mem
+}
+
 /// Waits for ever unless that holds.
 pub(crate) fn wait_unless<R: Wait>(rt: &R, holds: bool)
     ensures { holds ≡ true }
@@ -208,10 +213,20 @@ impl<'m> Run<'m> {
         ensures { IfOk result (λ run. run.machine ≡ plans.now) }
     {
         let machine = plans.machine();
-        let (table, sources, look) = seated_sources(alloc, machine.sources.len() as u32 + 1)?;
-        let jobs = Jobs::new(alloc, plans)?;
-        let waiters = all_waiters(alloc, machine)?;
-        let seated = SeatedCore::new(Core::new(alloc, plans, links)?, look);
+        let Ok((table, sources, look)) = seated_sources(alloc, machine.sources.len() as u32 + 1)
+        else {
+            return Err(lost(links));
+        };
+        let Ok(jobs) = Jobs::new(alloc, plans) else {
+            return Err(lost((table, sources, look, links)));
+        };
+        let Ok(waiters) = all_waiters(alloc, machine) else {
+            return Err(lost((table, sources, look, links, jobs)));
+        };
+        let Ok(core) = Core::new(alloc, plans, links) else {
+            return Err(lost((table, sources, look, jobs, waiters)));
+        };
+        let seated = SeatedCore::new(core, look);
         Ok(Run::of_parts(machine, table, seated, sources, jobs, waiters))
     }
 

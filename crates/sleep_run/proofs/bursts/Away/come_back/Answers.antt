@@ -12,12 +12,12 @@ of_tasks-requires-clause-there c =
 
 pub joined-requires : goal.joined-requires
 joined-requires c =
-    let are = subst (λ (n : ℕ). AreJobsOf (jobs_in c.args.parts.tasks.items) n c.in_ok-jobs.jobs) c.len.ensures c.in_ok-jobs.ensures in
+    let are = subst (λ (n : ℕ). AreJobsOf (jobs_in c.args.parts.tasks.items) n c.in-Ok.jobs) c.len.ensures c.in-Ok.ensures in
     let top = c.highest_of-floor.ensures ∙ ap (highest c.args.self.floor) c.deref.ensures.value in
     record {
-      all_jobs = back_jobs _ _ _ _ _ _ c.requires c.in_ok-jobs.jobs are;
+      all_jobs = back_jobs _ _ _ _ _ _ c.requires c.in-Ok.jobs are;
       machine_is = c.requires.machine_is;
-      running = back_running _ _ _ _ _ _ c.requires c.in_ok-jobs.jobs are c.highest_of-floor.result top;
+      running = back_running _ _ _ _ _ _ c.requires c.in-Ok.jobs are c.highest_of-floor.result top;
       table_is = c.requires.table_is;
       seats = c.requires.seats;
     }

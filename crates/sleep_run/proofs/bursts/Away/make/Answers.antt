@@ -13,7 +13,7 @@ pub make_burst-requires-clause-actors : goal.make_burst-requires-clause-actors
 make_burst-requires-clause-actors g c =
     let m = c.args.self.now.machine.now in
     λ κs h.
-    c.deref.ensures.value ∙ (c.in_ok-actors.ensures
+    c.deref.ensures.value ∙ (c.in-Ok.ensures
     ∙ (ap (λ (n : ℕ). all_actors n c.len-2.result (c.len-3.result + 1)) c.len.ensures
     ∙ (ap (λ (n : ℕ). all_actors (length m.actors) n (c.len-3.result + 1)) c.len-2.ensures
     ∙ (ap (λ (n : ℕ). all_actors (length m.actors) (length m.devices) (n + 1)) c.len-3.ensures ∙ sym (away_actors _ _ _ _ _ _ c.requires.away)))))
