@@ -106,13 +106,25 @@ fn three(alloc: Global) -> Result<Links, Mem> {
     }
 }
 
-/// Takes each step on a board over those three, of which the second is asynchronous, and asserts that it came as it says.
-fn follow(rt: &impl Abort, alloc: Global, steps: &[Step]) -> Result<(), Mem> {
+/// A board over those three, of which the second is asynchronous.
+fn board_of_three(alloc: Global) -> Result<Board, Mem> {
     let asynchronous = vec![in alloc; false, true, false]?;
-    let mut board = Board::wired(alloc, three(alloc)?, asynchronous)?;
+    let links = three(alloc)?;
+    Board::wired(alloc, links, asynchronous)
+}
+
+/// Takes each step on a board, and asserts that it came as it says.
+fn take(rt: &impl Abort, board: &mut Board, steps: &[Step]) {
     for (number, step) in steps.iter().enumerate() {
-        assert!(rt; is_so(&mut board, step), "step {number}");
+        assert!(rt; is_so(board, step), "step {number}");
     }
+}
+
+/// Takes each step on a board of its own.
+fn follow(rt: &impl Abort, alloc: Global, steps: &[Step]) -> Result<(), Mem> {
+    let mut board = board_of_three(alloc)?;
+    take(rt, &mut board, steps);
+    drop(board);
     Ok(())
 }
 
@@ -203,16 +215,16 @@ fn boards_tell_who_is_next(rt: HostRuntime) -> Result<(), Fail> {
     Ok(follow(&rt, rt.alloc(), &ANEW)?)
 }
 
+/// Tests of the other stands.
+fn are_others() -> bool {
+    is_down_in(Stand::Suspended) && is_not_up(Stand::Resuming) && is_direct_complete(Stand::Direct)
+}
+
 /// Tests of a stand.
 #[test]
 fn stands_are_told_apart(rt: HostRuntime) {
     let failed = Stand::Failed;
     assert!(rt; is_prepared(failed) && is_taken(failed) && !is_not_down(failed));
-    assert!(rt; is_ready(Stand::Prepared) && !is_taken(Stand::Prepared));
-    assert!(rt;
-        is_down_in(Stand::Suspended)
-            && is_not_up(Stand::Resuming)
-            && is_direct_complete(Stand::Direct)
-    );
+    assert!(rt; is_ready(Stand::Prepared) && !is_taken(Stand::Prepared) && are_others());
     board_tells();
 }

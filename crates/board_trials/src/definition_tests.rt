@@ -104,12 +104,16 @@ fn compare_all(
 fn compare(rt: &impl Abort, alloc: Global, parents: &[Option<u32>], seed: u32) -> Result<(), Mem>
     requires { EachAfterParent 0 parents.now }
 {
+    let order = [0u32, 1, 2, 3, 4, 5, 6].to_vec(alloc)?;
+    let links = Links::new(alloc, parents)?;
     let mut compared = Compared {
-        links: Links::new(alloc, parents)?,
-        order: [0u32, 1, 2, 3, 4, 5, 6].to_vec(alloc)?,
+        links,
+        order,
         added: Vec::new(alloc),
     };
-    compare_all(rt, alloc, parents, &mut compared, seed)
+    let done = compare_all(rt, alloc, parents, &mut compared, seed);
+    drop(compared);
+    done
 }
 
 /// Compares over seven devices without parents, and over a tree.

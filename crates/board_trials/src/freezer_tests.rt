@@ -1,3 +1,4 @@
+use sleep_base::Mem;
 use sleep_model::{Actor, Freezing, Group, Kind, ListOf, Name, Script, TaskKind, Thaw};
 use std::alloc::Global;
 use std::process::Abort;
@@ -25,8 +26,8 @@ const KINDS: [TaskKind; 5] = [
 ];
 
 /// Three user tasks, a kernel thread and a task that is never asked.
-fn five(alloc: Global) -> Result<Vec<Script>, Fail> {
-    let name = Name::of_bytes(b"w").ok_or("a name")?;
+fn five(alloc: Global) -> Result<Vec<Script>, Mem> {
+    let name = Name::of_bytes(b"w").ok_or(Mem)?;
     let mut scripts = Vec::new(alloc);
     for kind in KINDS {
         scripts.push(script(alloc, name, kind))?;
@@ -61,27 +62,28 @@ fn are_left(freezer: &Freezer<'_>, group: Group, count: u32, first: Option<u32>)
     left.count == count && left.first == first
 }
 
-/// Takes each step, and asserts what the freezer has come to.
-fn follow(rt: &impl Abort, freezer: &mut Freezer<'_>, steps: &[Step]) {
-    for (number, step) in steps.iter().enumerate() {
-        match step {
-            Step::Notes(who, kind) => freezer.note(*who, *kind),
-            Step::Freezing(task, asked, frozen) => {
-                let wanted = Freezing {
-                    asked: *asked,
-                    frozen: *frozen,
-                };
-                assert!(rt; freezer.freezing(*task) == wanted, "step {number}");
-            }
-            Step::Left(group, count, first) => assert!(rt;
-                are_left(freezer, *group, *count, *first),
-                "step {number}"
-            ),
-            Step::Goes(time, wanted) => {
-                let found = freezer.round(Group::Kernel, 30, *time);
-                assert!(rt; is_round(found, wanted), "step {number}");
-            }
+/// Whether a task is asked and frozen so.
+fn is_freezing(freezer: &Freezer<'_>, task: u32, asked: bool, frozen: bool) -> bool {
+    freezer.freezing(task) == Freezing { asked, frozen }
+}
+
+/// Takes a step, and tells whether the freezer has come to what it says.
+fn is_so(freezer: &mut Freezer<'_>, step: &Step) -> bool {
+    match step {
+        Step::Notes(who, kind) => {
+            freezer.note(*who, *kind);
+            true
         }
+        Step::Freezing(task, asked, frozen) => is_freezing(freezer, *task, *asked, *frozen),
+        Step::Left(group, count, first) => are_left(freezer, *group, *count, *first),
+        Step::Goes(time, wanted) => is_round(freezer.round(Group::Kernel, 30, *time), wanted),
+    }
+}
+
+/// Takes each step, and asserts that it came as it says.
+fn take(rt: &impl Abort, freezer: &mut Freezer<'_>, steps: &[Step]) {
+    for (number, step) in steps.iter().enumerate() {
+        assert!(rt; is_so(freezer, step), "step {number}");
     }
 }
 
@@ -123,9 +125,17 @@ const ROUNDS: [Step; 7] = [
 #[test]
 fn a_freeze_asks_its_group_and_goes_its_rounds(rt: HostRuntime) -> Result<(), Fail> {
     let scripts = five(rt.alloc())?;
+    let done = freeze(&rt, rt.alloc(), scripts.as_slice());
+    drop(scripts);
+    Ok(done?)
+}
+
+/// Takes the steps of a freeze, and of its rounds.
+fn freeze(rt: &impl Abort, alloc: Global, scripts: &[Script]) -> Result<(), Mem> {
     assert!(rt; scripts.len() == 5);
-    let mut freezer = Freezer::new(rt.alloc(), scripts.as_slice())?;
-    follow(&rt, &mut freezer, &ASKS);
-    follow(&rt, &mut freezer, &ROUNDS);
+    let mut freezer = Freezer::new(alloc, scripts)?;
+    take(rt, &mut freezer, &ASKS);
+    take(rt, &mut freezer, &ROUNDS);
+    drop(freezer);
     Ok(())
 }

@@ -23,15 +23,24 @@ fn saved() -> Guard<24> {
     guard
 }
 
-// Saves at a word, of a number, and whether they are taken: of the visible count, while no event is in progress.
-const SAVES: [(u32, u32, u32, u32, bool); 4] = [
+/// Saves at a word, of a number, and whether they are taken: of the visible count, while no event is in progress.
+type Save = (u32, u32, u32, u32, bool);
+
+const SAVES: [Save; 4] = [
     (0, 16_777_217, 0, 1, true),
     (0, 16_777_217, 0, 16_777_217, false),
     (1, 3, 0, 3, false),
     (0, 3, 9, 3, true),
 ];
 
-// Entries, which store, drop, test and keep the count, and the one that is left in force.
+/// Whether a save is taken as its row says, and its count is in force then.
+fn is_taken_so(row: &Save) -> bool {
+    let (inpr, count, hard, c, is_saved) = *row;
+    let mut guard = saved();
+    guard.save(word(inpr, count, hard), c) == is_saved && guard.in_force().is_some() == is_saved
+}
+
+/// Entries, which store, drop, test and keep the count, and the one that is left in force.
 const ENTRIES: [(Kind, Option<u32>); 8] = [
     (Kind::Saved(4), Some(4)),
     (Kind::AutoSaved(4), Some(4)),
@@ -43,23 +52,23 @@ const ENTRIES: [(Kind, Option<u32>); 8] = [
     (Kind::Jump, Some(3)),
 ];
 
+/// Whether an entry leaves that count in force, and the end of a run none.
+fn is_left_so(kind: Kind, left: Option<u32>) -> bool {
+    let mut guard = saved();
+    guard.note(kind, word(0, 5, 0));
+    let is_left = guard.in_force() == left;
+    guard.finish();
+    is_left && guard.in_force().is_none()
+}
+
 /// A save that fails drops the count, and entries move it.
 #[test]
 fn the_count_in_force_moves(rt: HostRuntime) {
-    for (number, (inpr, count, hard, c, is_saved)) in SAVES.iter().enumerate() {
-        let mut guard = saved();
-        assert!(rt;
-            guard.save(word(*inpr, *count, *hard), *c) == *is_saved,
-            "save {number}"
-        );
-        assert!(rt; guard.in_force().is_some() == *is_saved, "save {number}");
+    for (number, row) in SAVES.iter().enumerate() {
+        assert!(rt; is_taken_so(row), "save {number}");
     }
     for (number, (kind, left)) in ENTRIES.iter().enumerate() {
-        let mut guard = saved();
-        guard.note(*kind, word(0, 5, 0));
-        assert!(rt; guard.in_force() == *left, "entry {number}");
-        guard.finish();
-        assert!(rt; guard.in_force().is_none(), "entry {number}");
+        assert!(rt; is_left_so(*kind, *left), "entry {number}");
     }
 }
 

@@ -133,6 +133,7 @@ fn follow_over(
 {
     let mut links = Links::new(alloc, parents)?;
     follow(rt, &mut links, steps);
+    drop(links);
     Ok(())
 }
 
@@ -232,29 +233,59 @@ fn adds_diamonds(links: &mut Links) -> bool {
     are_added
 }
 
+/// Links of devices without parents, of which none is made yet.
+fn unlinked(alloc: Global, count: u32) -> Result<Links, Mem> {
+    let parents = unrelated(alloc, count)?;
+    Links::new(alloc, &parents)
+}
+
+/// Whether the order is that of 301 devices as they were registered.
+fn is_as_registered(links: &Links) -> bool {
+    links.order().len() == 301
+        && links
+            .order()
+            .iter()
+            .zip(0..301u32)
+            .all(|(at, place)| *at == place)
+}
+
 /// A hundred diamonds, one on the other: what depends on one doubles with each, and the order stays
 /// that of registration.
 #[test]
 fn diamonds_keep_the_order(rt: HostRuntime) -> Result<(), Fail> {
-    let parents = unrelated(rt.alloc(), 301)?;
-    let mut links = Links::new(rt.alloc(), &parents)?;
-    assert!(rt; adds_diamonds(&mut links));
-    assert!(rt; links.order().len() == 301);
-    for (device, place) in links.order().iter().zip(0..301u32) {
-        assert!(rt; *device == place, "at {place}");
-    }
+    let mut links = unlinked(rt.alloc(), 301)?;
+    assert!(rt; adds_diamonds(&mut links) && is_as_registered(&links));
+    drop(links);
     Ok(())
+}
+
+/// Links of a chain of devices, of which none is made yet.
+fn unlinked_chain(alloc: Global, count: u32) -> Result<Links, Mem> {
+    let parents = chain(alloc, count)?;
+    Links::new(alloc, &parents)
+}
+
+/// Whether a link from the last of 1,000 devices to the first leaves the last in front, and all behind it.
+fn moves_chain(links: &mut Links) -> bool {
+    links.add(1000, 0).is_ok()
+        && links.order().first() == Some(&1000)
+        && links.order().last() == Some(&999)
+}
+
+/// Whether a link closes a cycle of all 1,001.
+fn closes_chain(links: &mut Links) -> bool {
+    match cycle_of(links, 999, 1000) {
+        Some(path) => path.len() == 1001,
+        None => false,
+    }
 }
 
 /// A chain of 1,000 devices below one another moves as a whole, and a link that closes it has all on its path.
 #[test]
 fn a_long_chain_moves(rt: HostRuntime) -> Result<(), Fail> {
-    let parents = chain(rt.alloc(), 1000)?;
-    let mut links = Links::new(rt.alloc(), &parents)?;
-    assert!(rt; links.add(1000, 0).is_ok());
-    assert!(rt; links.order().first() == Some(&1000) && links.order().last() == Some(&999));
-    let path = cycle_of(&mut links, 999, 1000).ok_or("a cycle")?;
-    assert!(rt; path.len() == 1001);
+    let mut links = unlinked_chain(rt.alloc(), 1000)?;
+    assert!(rt; moves_chain(&mut links) && closes_chain(&mut links));
+    drop(links);
     Ok(())
 }
 
@@ -264,6 +295,7 @@ fn dependents_are_found(rt: HostRuntime) -> Result<(), Fail> {
     let mut links = Links::new(rt.alloc(), &[None, Some(0), None])?;
     assert!(rt; links.add_as(1, 2, false).is_ok());
     assert!(rt; links.is_dependent(0, 0) && links.is_dependent(0, 2) && !links.is_dependent(2, 0));
+    drop(links);
     Ok(())
 }
 
@@ -289,9 +321,9 @@ const FULL: [Step<'static>; 4] = [
 /// Four thousand links stand, and no more, whatever the next one is but for its devices.
 #[test]
 fn four_thousand_links_stand(rt: HostRuntime) -> Result<(), Fail> {
-    let parents = unrelated(rt.alloc(), 100)?;
-    let mut links = Links::new(rt.alloc(), &parents)?;
+    let mut links = unlinked(rt.alloc(), 100)?;
     assert!(rt; fills(&mut links));
     follow(&rt, &mut links, &FULL);
+    drop(links);
     Ok(())
 }

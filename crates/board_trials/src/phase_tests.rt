@@ -47,8 +47,9 @@ enum Step {
 /// Three devices, the second below the first and the third below the second, of which the last may
 /// be asynchronous.
 fn chain(alloc: Global, is_asynchronous: bool) -> Result<Board, Mem> {
+    let asynchronous = vec![in alloc; false, false, is_asynchronous]?;
     let links = Links::new(alloc, &[None, Some(0), Some(1)])?;
-    Board::wired(alloc, links, vec![in alloc; false, false, is_asynchronous]?)
+    Board::wired(alloc, links, asynchronous)
 }
 
 /// What a walk down looks at: flags of devices that ask to be left alone and are runtime suspended, of wakeup sources, and
@@ -113,19 +114,31 @@ fn is_so(board: &mut Board, all: &Flags, none: &Flags, step: &Step) -> bool {
     }
 }
 
-/// Takes each step on three devices, and asserts that it came as it says.
+/// Takes each step on a board, and asserts that it came as it says.
+fn take(rt: &impl Abort, board: &mut Board, all: &Flags, none: &Flags, steps: &[Step]) {
+    for (number, step) in steps.iter().enumerate() {
+        assert!(rt; is_so(board, all, none, step), "step {number}");
+    }
+}
+
+/// Flags of three devices that are all set, or of which none is.
+fn flags(alloc: Global, set: bool) -> Result<Flags, Mem> {
+    let flags = vec![in alloc; set; 3]?;
+    Ok(Flags::of_vec(flags))
+}
+
+/// Takes each step on three devices.
 fn follow(
     rt: &impl Abort,
     alloc: Global,
     is_asynchronous: bool,
     steps: &[Step],
 ) -> Result<(), Mem> {
-    let all = Flags::of_vec(vec![in alloc; true; 3]?);
-    let none = Flags::of_vec(vec![in alloc; false; 3]?);
+    let all = flags(alloc, true)?;
+    let none = flags(alloc, false)?;
     let mut board = chain(alloc, is_asynchronous)?;
-    for (number, step) in steps.iter().enumerate() {
-        assert!(rt; is_so(&mut board, &all, &none, step), "step {number}");
-    }
+    take(rt, &mut board, &all, &none, steps);
+    drop(board);
     Ok(())
 }
 

@@ -1,13 +1,13 @@
 use platform_steps::Platform;
-use sleep_base::Errno;
+use sleep_base::{Errno, Mem};
 use sleep_model::{Kind, ListOf, Machine, Name, Notifier, PlatDo, PlatPart, PlatUndo};
 use std::alloc::Global;
 use std::process::Abort;
 use std::test::Fail;
 
 /// Notifiers with these priorities.
-fn notifiers(alloc: Global, priorities: &[i32]) -> Result<Vec<Notifier>, Fail> {
-    let name = Name::of_bytes(b"n").ok_or("a name")?;
+fn notifiers(alloc: Global, priorities: &[i32]) -> Result<Vec<Notifier>, Mem> {
+    let name = Name::of_bytes(b"n").ok_or(Mem)?;
     let mut notifiers = Vec::new(alloc);
     for priority in priorities {
         notifiers.push(Notifier {
@@ -67,15 +67,35 @@ fn is_so(platform: &mut Platform, step: &Step) -> bool {
     }
 }
 
-/// Takes each step on the platform of a machine of few notifiers, and asserts that it came as it says.
-fn follow(rt: &impl Abort, alloc: Global, machine: &Machine, steps: &[Step]) -> Result<(), Fail> {
-    if machine.notifiers.len() > 9 {
-        return Err("few notifiers".into());
-    }
-    let mut platform = Platform::new(alloc, machine)?;
+/// Takes each step, and asserts that it came as it says.
+fn take(rt: &impl Abort, platform: &mut Platform, steps: &[Step]) {
     for (number, step) in steps.iter().enumerate() {
-        assert!(rt; is_so(&mut platform, step), "step {number}");
+        assert!(rt; is_so(platform, step), "step {number}");
     }
+}
+
+/// The platform of a machine of few notifiers.
+fn platform_of(alloc: Global, machine: &Machine) -> Result<Platform, Mem> {
+    if machine.notifiers.len() > 9 {
+        return Err(Mem);
+    }
+    Platform::new(alloc, machine)
+}
+
+/// Takes each step on the platform of a machine with notifiers of these priorities and that number of processors.
+fn follow(
+    rt: &impl Abort,
+    alloc: Global,
+    priorities: &[i32],
+    cpus: u32,
+    steps: &[Step],
+) -> Result<(), Mem> {
+    let machine = machine(alloc, notifiers(alloc, priorities)?, cpus);
+    let platform = platform_of(alloc, &machine);
+    drop(machine);
+    let mut platform = platform?;
+    take(rt, &mut platform, steps);
+    drop(platform);
     Ok(())
 }
 
@@ -159,10 +179,7 @@ const OF_PLATFORM: [Step; 2] = [
 /// Notifiers, processors and the platform go as each list of steps says.
 #[test]
 fn the_platform_goes_by_its_steps(rt: HostRuntime) -> Result<(), Fail> {
-    let alloc = rt.alloc();
-    let told = machine(alloc, notifiers(alloc, &[0, 5, -3, 5, 0])?, 1);
-    follow(&rt, alloc, &told, &OF_NOTIFIERS)?;
-    let bare = machine(alloc, Vec::new(alloc), 4);
-    follow(&rt, alloc, &bare, &OF_PROCESSORS)?;
-    follow(&rt, alloc, &bare, &OF_PLATFORM)
+    follow(&rt, rt.alloc(), &[0, 5, -3, 5, 0], 1, &OF_NOTIFIERS)?;
+    follow(&rt, rt.alloc(), &[], 4, &OF_PROCESSORS)?;
+    Ok(follow(&rt, rt.alloc(), &[], 4, &OF_PLATFORM)?)
 }

@@ -1,4 +1,4 @@
-use sleep_base::Errno;
+use sleep_base::{Errno, Mem};
 use sleep_model::{
     Actor, Device, DeviceFlags, FrozeEnd, Group, Kind, Name, Phase, PlatDo, PlatUndo, SkipCause,
     Stage, Thaw,
@@ -205,8 +205,8 @@ fn is_so(devices: &mut Devices, step: &Step) -> bool {
 }
 
 /// What is kept of two devices at first, of which the second is runtime suspended.
-fn kept_of_two(alloc: Global) -> Result<Devices, Fail> {
-    let name = Name::of_bytes(b"d").ok_or("a name")?;
+fn kept_of_two(alloc: Global) -> Result<Devices, Mem> {
+    let name = Name::of_bytes(b"d").ok_or(Mem)?;
     let (parent, flags) = (None, DeviceFlags::WAKEUP);
     let first = Device {
         name,
@@ -217,7 +217,7 @@ fn kept_of_two(alloc: Global) -> Result<Devices, Fail> {
         flags: DeviceFlags::RUNTIME_SUSPENDED,
         ..first
     };
-    Ok(Devices::new(alloc, &[first, second])?)
+    Devices::new(alloc, &[first, second])
 }
 
 const OF_DEVICES: [Step; 22] = [
@@ -257,10 +257,16 @@ const OF_DEVICES: [Step; 22] = [
 #[test]
 fn devices_keep_what_they_answer(rt: HostRuntime) -> Result<(), Fail> {
     let mut devices = kept_of_two(rt.alloc())?;
-    for (number, step) in OF_DEVICES.iter().enumerate() {
-        assert!(rt; is_so(&mut devices, step), "step {number}");
-    }
+    take(&rt, &mut devices, &OF_DEVICES);
+    drop(devices);
     Ok(())
+}
+
+/// Takes each step, and asserts that it came as it says.
+fn take(rt: &impl Abort, devices: &mut Devices, steps: &[Step]) {
+    for (number, step) in steps.iter().enumerate() {
+        assert!(rt; is_so(devices, step), "step {number}");
+    }
 }
 
 /// A script's own entries move its place; a post raises a mark, and a wait that ends lowers it.
@@ -277,6 +283,7 @@ fn a_script_moves_on(rt: HostRuntime) -> Result<(), Fail> {
     assert!(rt; tasks.raised(0) == 0 && tasks.seat(0).turns == 3 && !tasks.all_exited());
     tasks.note(TASK, Kind::Exit);
     assert!(rt; tasks.all_exited());
+    drop(tasks);
     Ok(())
 }
 
@@ -290,6 +297,7 @@ fn the_least_end_of_sleeps_is_known(rt: HostRuntime) -> Result<(), Fail> {
     assert!(rt; is_found(&tasks));
     tasks.note(TASK, Kind::Slept);
     assert!(rt; is_sleep(&tasks, 8, None, false));
+    drop(tasks);
     Ok(())
 }
 

@@ -34,12 +34,18 @@ fn is_so(core: &mut Syscore, step: &Step) -> bool {
     }
 }
 
-/// Takes each step on so many parts, and asserts that it came as it says.
+/// Takes each step, and asserts that it came as it says.
+fn take(rt: &impl Abort, core: &mut Syscore, steps: &[Step]) {
+    for (number, step) in steps.iter().enumerate() {
+        assert!(rt; is_so(core, step), "step {number}");
+    }
+}
+
+/// Takes each step on that number of parts.
 fn follow(rt: &impl Abort, alloc: Global, parts: u32, steps: &[Step]) -> Result<(), Mem> {
     let mut core = Syscore::new(alloc, parts)?;
-    for (number, step) in steps.iter().enumerate() {
-        assert!(rt; is_so(&mut core, step), "step {number}");
-    }
+    take(rt, &mut core, steps);
+    drop(core);
     Ok(())
 }
 

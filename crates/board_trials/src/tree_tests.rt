@@ -56,13 +56,29 @@ fn devices_are_found(rt: HostRuntime) {
     assert!(rt; tree.into_devices().len() == 4);
 }
 
+/// Whether a device stands under that text, or none does.
+fn is_at(tree: &Tree, text: &[u8], device: Option<u32>) -> bool {
+    match Name::of_bytes(text) {
+        Some(name) => tree.find(&name) == device,
+        None => false,
+    }
+}
+
+/// Whether each has its parent.
+fn have_parents(tree: &Tree) -> bool {
+    tree.parent(1) == Some(0) && tree.parent(2).is_none() && tree.parent(4).is_none()
+}
+
+/// Whether each has its children.
+fn have_children(tree: &Tree) -> bool {
+    tree.children(0) == [1u32, 3].as_slice()
+        && tree.children(1).is_empty()
+        && tree.children(4).is_empty()
+}
+
 fn expect_found(rt: &impl Abort, tree: &Tree) {
-    assert!(rt; tree.len() == 4);
-    assert!(rt; tree.find(&name(rt, b"cam")) == Some(3));
-    assert!(rt; tree.find(&name(rt, b"gpio")).is_none());
-    assert!(rt; tree.parent(1) == Some(0) && tree.parent(2).is_none() && tree.parent(4).is_none());
-    assert!(rt; tree.children(0) == [1u32, 3].as_slice());
-    assert!(rt; tree.children(1).is_empty() && tree.children(4).is_empty());
+    assert!(rt; tree.len() == 4 && is_at(tree, b"cam", Some(3)) && is_at(tree, b"gpio", None));
+    assert!(rt; have_parents(tree) && have_children(tree));
 }
 
 /// A text for each number below a thousand.
@@ -98,7 +114,9 @@ fn a_thousand_devices_stand(rt: HostRuntime) {
 
 // Whether a device is prepared, whether runtime PM is disabled by direct-complete and by late, whether it is to be
 // suspended, and the answer.
-const REQUESTS: [(bool, bool, bool, bool, Result<(), Errno>); 8] = [
+type Request = (bool, bool, bool, bool, Result<(), Errno>);
+
+const REQUESTS: [Request; 8] = [
     (false, false, false, true, Ok(())),
     (false, false, false, false, Ok(())),
     (true, false, false, true, Err(Errno::EAGAIN)),
@@ -109,19 +127,28 @@ const REQUESTS: [(bool, bool, bool, bool, Result<(), Errno>); 8] = [
     (true, false, true, false, Err(Errno::EACCES)),
 ];
 
+/// Whether a request is answered as its row says, and sets the status where it is granted, and nothing else.
+fn is_answered(row: &Request) -> bool {
+    let (prepared, off_direct, off_late, to_suspended, answer) = *row;
+    let mut r = Runtime {
+        suspended: !to_suspended,
+        prepared,
+        off_direct,
+        off_late,
+    };
+    let found = request(&mut r, to_suspended);
+    found == answer
+        && r.suspended == (to_suspended == answer.is_ok())
+        && r.prepared == prepared
+        && r.off_direct == off_direct
+        && r.off_late == off_late
+}
+
 /// A request is refused where runtime PM is disabled, and where a prepared device is to be
 /// suspended; else it sets the status.
 #[test]
 fn requests_are_answered(rt: HostRuntime) {
-    for (prepared, off_direct, off_late, to_suspended, answer) in REQUESTS {
-        let mut r = Runtime {
-            suspended: !to_suspended,
-            prepared,
-            off_direct,
-            off_late,
-        };
-        assert!(rt; request(&mut r, to_suspended) == answer);
-        assert!(rt; r.suspended == (to_suspended == answer.is_ok()));
-        assert!(rt; r.prepared == prepared && r.off_direct == off_direct && r.off_late == off_late);
+    for (number, row) in REQUESTS.iter().enumerate() {
+        assert!(rt; is_answered(row), "row {number}");
     }
 }
