@@ -9,6 +9,6 @@ mod whole;
 
 pub use errno::Errno;
 pub use memory::{MemSink, MemSource};
-pub use outside::{ByteSink, ByteSource, Failed, Mem};
+pub use outside::{ByteSink, ByteSource, Failed, Mem, lost};
 pub use standard::{StdSink, StdSource, Stream};
 pub use whole::{ReadStop, read_all, write_all};

@@ -27,6 +27,12 @@ impl<T: Drop> From<AllocFailed<T>> for Mem {
     }
 }
 
+/// Want of memory, where a value has to be let go of. Its type is a parameter, so that no proof of a caller follows the
+/// value's parts, which would take minutes of some (`docs/PROOF_COSTS.md`).
+pub fn lost<A: Drop>(_value: A) -> Mem {
+    Mem
+}
+
 /// A read or a write that failed. The source or the sink has counted it as a fault.
 #[derive(Clone, Copy, Debug, PartialEq, Eq, Error)]
 #[error("a read or a write failed")]
