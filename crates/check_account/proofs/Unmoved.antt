@@ -1,22 +1,25 @@
 -- What an entry leaves as it was.
-use Rattle.std.proofs.Common.{◌≡◌, ◌∙◌, ℕ, zero, suc, Bool, true, false, ◌||◌, if◌then◌else◌, List, [], ◌∷◌, Some, slice_set, refl, sym, ap}
+use Rattle.std.proofs.Common.{◌≡◌, ◌∙◌, ℕ, zero, suc, Bool, true, false, ◌||◌, if◌then◌else◌, List, [], ◌∷◌, Some, slice_set, refl, sym, ap, ap₂}
 use Rattle.std.specs.Prelude.{slice_index_or}
 use Rattle.phase_table.specs.declared.phase.Phase.{Phase}
 use Rattle.phase_table.specs.Phases.{is_phase, mirror}
 use Rattle.sleep_model.specs.declared.entry.Actor.{Actor}
-use Rattle.sleep_model.specs.declared.entry.Actor.TheVariants.{Script}
+use Rattle.sleep_model.specs.declared.entry.Actor.TheVariants as actor
 use Rattle.sleep_model.specs.declared.entry.Entry.{Entry}
 use Rattle.sleep_model.specs.declared.entry.Kind.{Kind}
 use Rattle.sleep_model.specs.declared.entry.Kind.TheVariants as kind
+use Rattle.sleep_model.specs.declared.machine.Script.{Script}
 use Rattle.sleep_model.specs.declared.place.Seat.{Seat}
 use Rattle.sleep_model.specs.declared.place.Stand.{Stand}
 use Rattle.sleep_model.specs.declared.place.Stand.TheVariants as stand
+use Rattle.sleep_model.specs.declared.place.Work.{Work}
 use Rattle.sleep_model.specs.declared.word.EventNow.{EventNow}
+use Rattle.sleep_model.specs.Autosleep.{work_after, work_step}
 use Rattle.sleep_model.specs.Devices.{callback_after, is_device, own_error_after, phase_failed_after}
 use Rattle.sleep_model.specs.Runtime.{disabled_by_late_after}
 use Rattle.sleep_model.specs.Seats.{SeatPart, Stays, first_seat, seat_after, seat_at, seat_part, seats_after}
 use Rattle.sleep_model.specs.Stands.{ended_by, skipped_for, stand_after, stand_at, stands_after}
-use Rattle.check_account.specs.Accounts.{AttemptState, attempt_after, is_of_device}
+use Rattle.check_account.specs.Accounts.{AttemptState, TaskState, attempt_after, is_of_device, tasks_after}
 use Rattle.check_account.specs.Boards.{may_move}
 
 put_same : {A : Type 0} (xs : List A) (i : ℕ) (other : A) → slice_set xs i (slice_index_or xs i other) ≡ xs
@@ -55,12 +58,37 @@ stays (kind.End p d r) h = refl
 stays _ h = absurd (cc)
 
 by_part : (who : Actor) (part : SeatPart) (xs : List Seat) → part ≡ Stays → xs ≡ seats_after who part xs
-by_part (Script i) part xs h = sym (ap (λ (p : SeatPart). slice_set xs i (seat_after p (seat_at xs i))) h ∙ put_same xs i first_seat)
+by_part (actor.Script i) part xs h = sym (ap (λ (p : SeatPart). slice_set xs i (seat_after p (seat_at xs i))) h ∙ put_same xs i first_seat)
 by_part _ part xs h = refl
 
 -- an entry of a device leaves each script where it stands
-pub seats_stay : (who : Actor) (k : Kind) (xs : List Seat) → is_of_device k ≡ true → xs ≡ seats_after who (seat_part k) xs
+seats_stay : (who : Actor) (k : Kind) (xs : List Seat) → is_of_device k ≡ true → xs ≡ seats_after who (seat_part k) xs
 seats_stay who k xs h = by_part who (seat_part k) xs (stays k h)
+
+step_stays : (k : Kind) (before : Work) → is_of_device k ≡ true → before ≡ work_step k before
+step_stays (kind.Prepare d r) before h = refl
+step_stays (kind.Complete d) before h = refl
+step_stays (kind.Schedule p d) before h = refl
+step_stays (kind.Begin p d) before h = refl
+step_stays (kind.End p d r) before h = refl
+step_stays _ before h = absurd (cc)
+
+work_stays : (who : Actor) (k : Kind) (before : Work) → is_of_device k ≡ true → before ≡ work_after who k before
+work_stays actor.Auto k before h = step_stays k before h
+work_stays _ k before h = refl
+
+tasks_stay_at : (scripts : List Script) (time : ℕ) (now : EventNow) (who : Actor) (k : Kind) (a : TaskState) → is_of_device k ≡ true →
+    a ≡ tasks_after scripts (record { time = time; now = now; actor = who; kind = k }) a
+tasks_stay_at scripts time now who (kind.Prepare d r) a h = ap₂ (λ (s : List Seat) (w : Work). record a { seats = s; work = w }) (seats_stay who (kind.Prepare d r) a.seats h) (work_stays who (kind.Prepare d r) a.work h)
+tasks_stay_at scripts time now who (kind.Complete d) a h = ap₂ (λ (s : List Seat) (w : Work). record a { seats = s; work = w }) (seats_stay who (kind.Complete d) a.seats h) (work_stays who (kind.Complete d) a.work h)
+tasks_stay_at scripts time now who (kind.Schedule p d) a h = ap₂ (λ (s : List Seat) (w : Work). record a { seats = s; work = w }) (seats_stay who (kind.Schedule p d) a.seats h) (work_stays who (kind.Schedule p d) a.work h)
+tasks_stay_at scripts time now who (kind.Begin p d) a h = ap₂ (λ (s : List Seat) (w : Work). record a { seats = s; work = w }) (seats_stay who (kind.Begin p d) a.seats h) (work_stays who (kind.Begin p d) a.work h)
+tasks_stay_at scripts time now who (kind.End p d r) a h = ap₂ (λ (s : List Seat) (w : Work). record a { seats = s; work = w }) (seats_stay who (kind.End p d r) a.seats h) (work_stays who (kind.End p d r) a.work h)
+tasks_stay_at scripts time now who _ a h = absurd (cc)
+
+-- an entry of a device leaves the tasks as they were
+pub tasks_stay : (scripts : List Script) (e : Entry) (a : TaskState) → is_of_device e.kind ≡ true → a ≡ tasks_after scripts e a
+tasks_stay scripts e a h = tasks_stay_at scripts e.time e.now e.actor e.kind a h
 
 -- ---- the open attempt
 

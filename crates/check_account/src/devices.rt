@@ -36,6 +36,11 @@ impl Model for DeviceAccount {
     } };
 }
 
+// No memory, where a value has to be let go. Its type is a parameter, so that the proof of a caller does not follow its parts.
+fn lost<A: Drop>(_value: A) -> Mem {
+    Mem
+}
+
 impl DeviceAccount {
     ghost use Rattle.std.specs.Prelude.{◌≡◌, [], IfOk};
     ghost use Rattle.sleep_model.specs.Stands.{stand_at};
@@ -46,13 +51,30 @@ impl DeviceAccount {
     pub fn new(alloc: Global, machine: &Machine) -> Result<Self, Mem>
         ensures { IfOk result (λ a. a ≡ devices_of machine.now []) }
     {
+        let asks_direct = Flags::new(alloc, machine.devices.len())?;
+        let Ok(statuses) = first_statuses(alloc, machine.devices.as_slice()) else {
+            return Err(lost(asks_direct));
+        };
+        let Ok(notified) = Flags::new(alloc, machine.notifiers.len()) else {
+            return Err(lost((asks_direct, statuses)));
+        };
+        let Ok(cpus_off) = Flags::new(alloc, machine.cpus as usize) else {
+            return Err(lost((asks_direct, statuses, notified)));
+        };
+        let Ok(stopped) = Flags::new(alloc, machine.syscore.len()) else {
+            return Err(lost((asks_direct, statuses, notified, cpus_off)));
+        };
+        // The largest comes last, with no exit behind it.
+        let Ok(board) = Board::new(alloc, machine.devices.len()) else {
+            return Err(lost((asks_direct, statuses, notified, cpus_off, stopped)));
+        };
         Ok(DeviceAccount {
-            board: Board::new(alloc, machine.devices.len())?,
-            asks_direct: Flags::new(alloc, machine.devices.len())?,
-            statuses: first_statuses(alloc, machine.devices.as_slice())?,
-            notified: Flags::new(alloc, machine.notifiers.len())?,
-            cpus_off: Flags::new(alloc, machine.cpus as usize)?,
-            stopped: Flags::new(alloc, machine.syscore.len())?,
+            board,
+            asks_direct,
+            statuses,
+            notified,
+            cpus_off,
+            stopped,
         })
     }
 

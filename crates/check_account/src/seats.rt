@@ -5,7 +5,6 @@ ghost use Rattle.sleep_model.specs.Marks.{marks_after};
 ghost use Rattle.sleep_model.specs.Seats.{first_seat, seat_part, next_step, seat_after, seats_after, Reads, Saves, Sets};
 
 use crate::counts::one_more;
-use crate::stands::is_of_device;
 use sleep_base::Mem;
 use sleep_model::{Actor, Kind, Seat};
 
@@ -117,13 +116,9 @@ fn seat_after(kind: Kind, seat: Seat) -> Result<Seat, Mem>
 }
 
 /// A script's own entry moves its place. `Mem` where a counter has no room.
-#[tactic(auto, using(crate::proofs::Unmoved::seats_stay))]
 pub(crate) fn move_seat(seats: &mut Vec<Seat>, who: Actor, kind: Kind) -> Result<(), Mem>
     ensures { OnOk result (seats.new.items ≡ seats_after who (seat_part kind) seats.old.items) }
 {
-    if is_of_device(kind) {
-        return Ok(());
-    }
     if let Actor::Script(i) = who {
         if (i as usize) < seats.len() {
             let after = seat_after(kind, seats[i as usize])?;

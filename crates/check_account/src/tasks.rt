@@ -1,6 +1,7 @@
 use crate::autosleep::{holder_after, on_after, queued_after, runs_after, work_after};
 use crate::freezings::{move_freezings, none_asked, unasked};
 use crate::seats::{first_seat, move_marks, move_seat};
+use crate::stands::is_of_device;
 use sleep_base::Mem;
 use sleep_model::{Actor, Entry, Freezing, Machine, Script, Seat, Work};
 use std::alloc::Global;
@@ -61,11 +62,16 @@ impl TaskAccount {
     }
 
     /// Passes one more entry of the journal, among the tasks of these scripts. `Mem` where a counter has no room.
+    #[tactic(auto, using(crate::proofs::Unmoved::tasks_stay))]
     pub fn pass(&mut self, scripts: &[Script], e: Entry) -> Result<(), Mem>
         requires all { length self.old.freezings ≡ length scripts.now }
         requires few { length scripts.now < 2 ^ 32 }
         ensures { OnOk result (self.new ≡ tasks_after scripts.now e self.old) }
     {
+        // Most entries of a log are of devices, and leave the tasks as they are.
+        if is_of_device(e.kind) {
+            return Ok(());
+        }
         self.runs = runs_after(e.kind, self.runs)?;
         move_seat(&mut self.seats, e.actor, e.kind)?;
         move_marks(&mut self.raised, e.kind)?;
