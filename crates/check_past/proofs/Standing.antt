@@ -53,11 +53,11 @@ not_both : (a b : Bool) → b ≡ false → (a && b) ≡ false
 not_both true b h = h
 not_both false b h = refl
 
-pub none_beside : (p : ℕ → Bool) (ds : List Device) (order : List ℕ) → list_any is_async ds ≡ false → find (λ d. p d && is_so (map is_async ds) d) order ≡ None
-none_beside p ds [] h = refl
-none_beside p ds (x ∷ xs) h =
+pub none_async : (p : ℕ → Bool) (ds : List Device) (order : List ℕ) → list_any is_async ds ≡ false → find (λ d. p d && is_so (map is_async ds) d) order ≡ None
+none_async p ds [] h = refl
+none_async p ds (x ∷ xs) h =
     ap (λ b. if b then Some x else find (λ d. p d && is_so (map is_async ds) d) xs) (not_both (p x) (is_so (map is_async ds) x) (not_so ds x h))
-    ∙ none_beside p ds xs h
+    ∙ none_async p ds xs h
 
 -- ---- each script has its place
 

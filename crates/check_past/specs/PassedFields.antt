@@ -14,7 +14,7 @@ passage p = record { machine = p.machine.now; entries = p.entries.now; passed = 
 pub record IsKept (p : Inside) : Type 0 where
   pub holds : Holds p.machine.now (past_of (passage p)) p.kept.value
   pub call_order : p.call_order.items ≡ call_order p.machine.now
-  pub beside : p.beside ≡ list_any is_async p.machine.now.devices
+  pub has_async : p.has_async ≡ list_any is_async p.machine.now.devices
   pub passage : IsPassage (passage p)
 
 -- the fields are what the passed entries leave (own)

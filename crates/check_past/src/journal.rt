@@ -1,9 +1,10 @@
 //! What is kept of a journal: the open attempt, the tasks, the devices, and the links between them.
 
-ghost use Rattle.std.specs.Prelude.{◌≡◌, ◌∷◌, IfOk, OnOk, map};
+ghost use Rattle.std.specs.Prelude.{◌≡◌, ◌∷◌, [], IfOk, OnOk, map};
 ghost use Rattle.check_order.specs.Kept.{with_links};
+ghost use Rattle.sleep_model.specs.Accepted.{IsAccepted};
 ghost use Rattle.sleep_model.specs.Links.{AreLinks};
-ghost use Rattle.sleep_model.specs.Order.{parents_of, with_state};
+ghost use Rattle.sleep_model.specs.Order.{links_at, parents_of, with_state};
 ghost use Rattle.sleep_model.specs.Parts.{is_kept, part_of};
 ghost use Rattle.check_past.specs.Parts.{MayAdd, ties_after};
 
@@ -85,6 +86,20 @@ fn parents_of(alloc: Global, machine: &Machine) -> Result<Vec<Option<u32>>, Mem>
     Ok(parents)
 }
 
+// The devices' parents and the links that stand at first. `Mem` if there is no memory for them.
+fn ties_of(alloc: Global, machine: &Machine) -> Result<DeviceTies, Mem>
+    requires { IsAccepted machine.now }
+    ensures { IfOk result (λ t. t ≡ record { parents = parents_of machine.now.devices; links = links_at machine.now [] }) }
+{
+    let parents = parents_of(alloc, machine)?;
+    DeviceTies::new(alloc, &parents, machine.links.as_slice())
+}
+
+// No memory, where a value has to be let go. Its type is a parameter, so that the proof of a caller does not follow its parts.
+fn lost<A: Drop>(_value: A) -> Mem {
+    Mem
+}
+
 /// Whether an entry of that kind is the journal's, or a jump of time.
 pub(crate) fn is_kept(kind: Kind) -> bool
     ensures { result ≡ is_kept (part_of kind) }
@@ -112,12 +127,18 @@ impl JournalParts {
         requires { IsAccepted machine.now }
         ensures { IfOk result (λ p. p ≡ state_of machine.now []) }
     {
-        let parents = parents_of(alloc, machine)?;
+        let ties = ties_of(alloc, machine)?;
+        let Ok(tasks) = TaskAccount::new(alloc, machine) else {
+            return Err(lost(ties));
+        };
+        let Ok(devices) = DeviceAccount::new(alloc, machine) else {
+            return Err(lost((ties, tasks)));
+        };
         Ok(JournalParts {
             attempt: AttemptAccount::new(),
-            tasks: TaskAccount::new(alloc, machine)?,
-            devices: DeviceAccount::new(alloc, machine)?,
-            ties: DeviceTies::new(alloc, &parents, machine.links.as_slice())?,
+            tasks,
+            devices,
+            ties,
         })
     }
 

@@ -3,7 +3,7 @@ ghost use Rattle.std.specs.Prelude.{◌≡◌, ◌+◌, IfOk};
 use crate::journal::JournalParts;
 use crate::kept::Kept;
 use crate::order::call_order;
-use crate::walks::has_async;
+use crate::walks::any_async;
 use check_calls::Callers;
 use check_sources::SourceAccounts;
 use sleep_base::Mem;
@@ -21,7 +21,7 @@ pub struct Passed<'m> {
     // The notifiers in the order in which they are called.
     pub(crate) call_order: Vec<u32>,
     // Whether a device is asynchronous.
-    pub(crate) beside: bool,
+    pub(crate) has_async: bool,
     // In a place of its own on the heap, since the rest is moved at each entry.
     pub(crate) kept: Box<Kept<'m>>,
 }
@@ -70,7 +70,7 @@ impl<'m> Passed<'m> {
             entries,
             passed: 0,
             call_order,
-            beside: has_async(machine.devices.as_slice()),
+            has_async: any_async(machine.devices.as_slice()),
             kept: Box::new(alloc, kept)?,
         })
     }
@@ -87,7 +87,7 @@ impl<'m> Passed<'m> {
             entries,
             passed,
             call_order,
-            beside,
+            has_async,
             mut kept,
         } = self;
         let passed = one_further(passed)?;
@@ -97,7 +97,7 @@ impl<'m> Passed<'m> {
             entries,
             passed,
             call_order,
-            beside,
+            has_async,
             kept,
         })
     }

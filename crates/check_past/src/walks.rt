@@ -96,7 +96,7 @@ fn is_async(devices: &[Device], device: u32) -> bool
 }
 
 /// Whether one of these devices is asynchronous.
-pub(crate) fn has_async(devices: &[Device]) -> bool
+pub(crate) fn any_async(devices: &[Device]) -> bool
     ensures { result ≡ list_any is_async devices.now }
 {
     devices
@@ -167,25 +167,25 @@ fn first_not_up(order: &[u32], stands: &[Stand]) -> Option<u32>
 }
 
 // The first that is down and asynchronous.
-fn first_down_beside(order: &[u32], stands: &[Stand], devices: &[Device]) -> Option<u32>
+fn first_down_async(order: &[u32], stands: &[Stand], devices: &[Device]) -> Option<u32>
     ensures { result ≡ find (λ d. is_down_in (stand_at stands.now d) && is_so (map is_async devices.now) d) order.now }
 {
     order.iter().copied().find(|d| is_down_in(stand_at(stands, *d)) && is_async(devices, *d))
 }
 
 // The first that is down and asynchronous, where the caller tells whether a device is asynchronous at all.
-fn first_beside(beside: bool, order: &[u32], stands: &[Stand], devices: &[Device]) -> Option<u32>
-    requires { beside ≡ list_any is_async devices.now }
+fn first_async(has_async: bool, order: &[u32], stands: &[Stand], devices: &[Device]) -> Option<u32>
+    requires { has_async ≡ list_any is_async devices.now }
     ensures { result ≡ find (λ d. is_down_in (stand_at stands.now d) && is_so (map is_async devices.now) d) order.now }
 {
-    if !beside {
+    if !has_async {
         return None;
     }
-    first_down_beside(order, stands, devices)
+    first_down_async(order, stands, devices)
 }
 
 // The first that is down and synchronous.
-fn first_down_alone(order: &[u32], stands: &[Stand], devices: &[Device]) -> Option<u32>
+fn first_down_sync(order: &[u32], stands: &[Stand], devices: &[Device]) -> Option<u32>
     ensures { result ≡ find (λ d. is_down_in (stand_at stands.now d) && not (is_so (map is_async devices.now) d)) order.now }
 {
     order.iter().copied().find(|d| is_down_in(stand_at(stands, *d)) && !is_async(devices, *d))
@@ -317,8 +317,8 @@ impl<'m> Passed<'m> {
     pub fn next_to_schedule(&self, phase: Phase) -> Option<u32>
         ensures { result ≡ next_to_schedule self.now.machine (journal_of self.now) phase }
     {
-        first_beside(
-            self.beside,
+        first_async(
+            self.has_async,
             self.order(),
             self.stands(phase),
             self.machine.devices.as_slice(),
@@ -330,7 +330,7 @@ impl<'m> Passed<'m> {
     pub fn next_up(&self, phase: Phase) -> Option<u32>
         ensures { result ≡ next_up self.now.machine (journal_of self.now) phase }
     {
-        first_down_alone(
+        first_down_sync(
             self.order(),
             self.stands(phase),
             self.machine.devices.as_slice(),

@@ -25,7 +25,7 @@ invariant_of-result c =
           (holds f.machine.now (past_of (passage f)) c.args.e f.kept.value c.pass.new.self c.self.invariant.holds
           (c.in_ok-pass.ensures ∙ ap (λ (k : Kept). kept_after f.machine.now c.args.e k) c.deref_mut.ensures.value));
       call_order = c.self.invariant.call_order;
-      beside = c.self.invariant.beside;
+      has_async = c.self.invariant.has_async;
       passage = record {
         accepted = c.self.invariant.passage.accepted;
         fits = c.self.invariant.passage.fits;
