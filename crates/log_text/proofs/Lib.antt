@@ -25,3 +25,4 @@ pub mod Lengths
 pub mod Passed
 pub mod Lists
 pub mod Pieces
+pub mod OtherVerbs

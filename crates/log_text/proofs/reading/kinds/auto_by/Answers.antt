@@ -1,0 +1,9 @@
+use Rattle.std.proofs.Common.{◌∙◌}
+use Rattle.log_text.proofs.OtherVerbs.{no_auto}
+use Rattle.log_text.proofs.reading.kinds.auto_by.Goals as goal
+
+pub returns-in_default-clause-kind : goal.returns-in_default-clause-kind
+returns-in_default-clause-kind c =
+    let w = c.in_default in
+    c.source_by.ensures.kind
+    ∙ no_auto c.args.book.now c.args.verb c.args.text.now w.not-Run w.not-Saved w.not-Unsaved w.not-After w.not-Again w.not-Off
