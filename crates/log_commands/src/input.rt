@@ -98,10 +98,15 @@ pub fn read_log_input(alloc: Global, bytes: &[u8]) -> Result<LogInput, Ending>
 {
     let (file, text) = cut_line(bytes);
     let ReadMachine { machine, links } = machine_of(alloc, file)?;
-    let log = log_of(alloc, &machine, text)?;
-    Ok(LogInput {
-        machine,
-        links,
-        log,
-    })
+    match log_of(alloc, &machine, text) {
+        Ok(log) => Ok(LogInput {
+            machine,
+            links,
+            log,
+        }),
+        Err(ending) => {
+            drop((machine, links));
+            Err(ending)
+        }
+    }
 }

@@ -61,7 +61,11 @@ pub(crate) fn take_links(links: Links, log: &Log) -> Result<(), Ending>
     let mut links = links;
     let mut reader = log.entries.reader();
     while let Some(entry) = reader.next() {
-        take_link(&mut links, entry.kind)?;
+        if let Err(ending) = take_link(&mut links, entry.kind) {
+            drop(links);
+            return Err(ending);
+        }
     }
+    drop(links);
     Ok(())
 }

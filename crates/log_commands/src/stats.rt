@@ -76,7 +76,11 @@ pub fn stats_of(alloc: Global, bytes: &[u8]) -> Result<Vec<u8>, Ending>
                 links,
                 log,
             },
-        ) => told_if_linked(alloc, &machine, links, &log),
+        ) => {
+            let told = told_if_linked(alloc, &machine, links, &log);
+            drop((machine, log));
+            told
+        }
         Err(ending) => Err(ending),
     }
 }

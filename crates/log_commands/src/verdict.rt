@@ -32,7 +32,11 @@ fn verdict_on(alloc: Global, machine: &Machine, bytes: &[u8]) -> Result<Verdict,
     ensures { IfOk result (λ v. IsVerdictOf machine.now bytes.now v) }
 {
     match read_log(alloc, machine, bytes) {
-        Ok(log) => check(alloc, machine, &log),
+        Ok(log) => {
+            let verdict = check(alloc, machine, &log);
+            drop(log);
+            verdict
+        }
         Err(LogFault::Line(line)) => Ok(Verdict::Bad {
             line,
             definition: GRAMMAR,
@@ -86,10 +90,14 @@ pub fn judge(alloc: Global, bytes: &[u8]) -> Result<Judged, Ending>
 {
     let (file, text) = cut_line(bytes);
     match machine_of(alloc, file) {
-        Ok(read) => match judge_text(alloc, &read.machine, text) {
-            Ok(judged) => Ok(judged),
-            Err(_) => Err(Ending::NoMemory),
-        },
+        Ok(read) => {
+            let judged = judge_text(alloc, &read.machine, text);
+            drop(read);
+            match judged {
+                Ok(judged) => Ok(judged),
+                Err(_) => Err(Ending::NoMemory),
+            }
+        }
         Err(ending) => Err(ending),
     }
 }

@@ -4,7 +4,7 @@ use Rattle.log_commands.specs.Judging.{OfLine, OfLog}
 use Rattle.log_commands.proofs.verdict.verdict_on.Goals as goal
 
 pub returns-in-Ok : goal.returns-in-Ok
-returns-in-Ok c = IfOk-weaker c.check.result _ _ (λ v is. OfLog c.in-Ok.log v c.in-Ok.ensures.fits c.in-Ok.ensures.text is) c.check.ensures
+returns-in-Ok c = IfOk-weaker c.check-verdict.result _ _ (λ v is. OfLog c.in-Ok.log v c.in-Ok.ensures.fits c.in-Ok.ensures.text is) c.check-verdict.ensures
 
 pub returns-in-Err-Line : goal.returns-in-Err-Line
 returns-in-Err-Line c =
