@@ -83,6 +83,11 @@ fn has_nothing(sizes: IdleSizes, book: &IdleBook<24>) -> bool
     }
 }
 
+/// Want of memory, where a value has to be let go. Its type is a parameter, so that no proof of a caller follows its parts.
+fn lost<A: Drop>(_value: A) -> Mem {
+    Mem
+}
+
 /// Bursts, up to the end of the run.
 fn to_end<R: Threads + Wait + Sync>(
     rt: &R,
@@ -100,10 +105,13 @@ fn to_end<R: Threads + Wait + Sync>(
     requires count { length seats.items ≡ sizes.wakers }
     ensures { IfOk result (IsLeft sizes table.now.desk.shared.table_id) }
 {
-    let mut crew = Crew {
-        book: IdleBook::new(alloc, sizes)?,
-        parts: parts_of(alloc, sizes, table, seats, look)?,
+    let Ok(book) = IdleBook::new(alloc, sizes) else {
+        return Err(lost((seats, look)));
     };
+    let Ok(parts) = parts_of(alloc, sizes, table, seats, look) else {
+        return Err(lost(book));
+    };
+    let mut crew = Crew { book, parts };
     for _ in rt.forever() {
         if are_through(sizes, &crew.parts) && has_nothing(sizes, &crew.book) {
             return leave(rt, alloc, crew);
