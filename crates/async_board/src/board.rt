@@ -42,6 +42,11 @@ impl Model for Board {
     ghost invariant = { AreKept };
 }
 
+// Lets a value go for want of memory. Its type is a parameter, so that no caller's proof follows its parts.
+fn lost<A: Drop>(_value: A) -> Mem {
+    Mem
+}
+
 // Begins anew, no device prepared, over links that have changed right below this supplier alone.
 fn begin_anew(layout: &Layout, supplier: u32, suspend: &mut Walk, late: &mut Walk, noirq: &mut Walk)
     requires suspend { MayRestart layout.now supplier suspend.old }
@@ -69,15 +74,23 @@ impl Board {
     pub fn wired(alloc: Global, links: Links, asynchronous: Vec<bool>) -> Result<Board, Mem>
         ensures { IfOk result (λ b. b ≡ first_board links.parents links.links asynchronous.items) }
     {
-        let places = places_of(alloc, links.order())?;
+        let Ok(places) = places_of(alloc, links.order()) else {
+            return Err(lost((links, asynchronous)));
+        };
         let layout = Layout {
             links,
             places,
             asynchronous,
         };
-        let suspend = Walk::new(alloc, &layout)?;
-        let late = Walk::new(alloc, &layout)?;
-        let noirq = Walk::new(alloc, &layout)?;
+        let Ok(suspend) = Walk::new(alloc, &layout) else {
+            return Err(lost(layout));
+        };
+        let Ok(late) = Walk::new(alloc, &layout) else {
+            return Err(lost((layout, suspend)));
+        };
+        let Ok(noirq) = Walk::new(alloc, &layout) else {
+            return Err(lost((layout, suspend, late)));
+        };
         Ok(Board {
             layout,
             suspend,

@@ -107,6 +107,11 @@ fn move_guard(guard: &mut Guard<24>, kind: Kind, now: EventNow)
     }
 }
 
+/// Lets a value go for want of memory. Its type is a parameter, so that no caller's proof follows its parts.
+pub(crate) fn lost<A: Drop>(_value: A) -> Mem {
+    Mem
+}
+
 /// The parts that take memory, but for the board.
 #[derive(Drop)]
 struct Parts<'m> {
@@ -124,10 +129,18 @@ impl<'m> Parts<'m> {
         ensures { IfOk result (AreFirst machine.now) }
     {
         let syscore = Syscore::new(alloc, machine.syscore.len() as u32)?;
-        let platform = Platform::new(alloc, machine)?;
-        let freezer = Freezer::new(alloc, machine.actors.as_slice())?;
-        let tasks = Tasks::new(alloc, machine.actors.len(), machine.marks.len())?;
-        let devices = Devices::new(alloc, machine.devices.as_slice())?;
+        let Ok(platform) = Platform::new(alloc, machine) else {
+            return Err(lost(syscore));
+        };
+        let Ok(freezer) = Freezer::new(alloc, machine.actors.as_slice()) else {
+            return Err(lost((syscore, platform)));
+        };
+        let Ok(tasks) = Tasks::new(alloc, machine.actors.len(), machine.marks.len()) else {
+            return Err(lost((syscore, platform, freezer)));
+        };
+        let Ok(devices) = Devices::new(alloc, machine.devices.as_slice()) else {
+            return Err(lost((syscore, platform, freezer, tasks)));
+        };
         Ok(Parts {
             devices,
             tasks,
@@ -190,7 +203,9 @@ impl<'m> History<'m> {
         ensures { IfOk result (λ h. h ≡ record { machine = machine.now; past = []; room = 0 }) }
     {
         let board = first_board(alloc, machine.devices.as_slice(), links)?;
-        let parts = Parts::new(alloc, machine)?;
+        let Ok(parts) = Parts::new(alloc, machine) else {
+            return Err(lost(board));
+        };
         let journal = Journal::new(alloc);
         Ok(History::of_parts(machine, journal, parts, board))
     }
@@ -420,7 +435,23 @@ impl<'m> History<'m> {
     pub fn into_journal(self) -> Journal
         ensures { result.past ≡ self.entry.past }
     {
-        let History { journal, .. } = self;
+        let History {
+            journal,
+            guard,
+            path,
+            devices,
+            board,
+            tasks,
+            freezer,
+            autosleep,
+            platform,
+            syscore,
+            ..
+        } = self;
+        // As one value: a proof that follows each part's end takes long.
+        drop((
+            guard, path, devices, board, tasks, freezer, autosleep, platform, syscore,
+        ));
         journal
     }
 }

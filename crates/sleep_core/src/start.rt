@@ -3,7 +3,7 @@
 ghost use Rattle.std.specs.Prelude.{◌≡◌, map, IfOk};
 ghost use Rattle.sleep_model.specs.Runtime.{may_wake};
 
-use crate::history::History;
+use crate::history::{History, lost};
 use crate::reports::Reports;
 use crate::state::Core;
 use device_links::Links;
@@ -36,9 +36,15 @@ impl<'m> Core<'m> {
         ensures { IfOk result (λ c. c ≡ record { machine = plans.now; past = [] }) }
     {
         let machine = plans.machine();
-        let wakeup = wakeup_of(alloc, machine.devices.as_slice())?;
-        let reports = Reports::new(alloc, machine.actors.len(), machine.devices.len())?;
-        let history = History::new(alloc, machine, links)?;
+        let Ok(wakeup) = wakeup_of(alloc, machine.devices.as_slice()) else {
+            return Err(lost(links));
+        };
+        let Ok(reports) = Reports::new(alloc, machine.actors.len(), machine.devices.len()) else {
+            return Err(lost((links, wakeup)));
+        };
+        let Ok(history) = History::new(alloc, machine, links) else {
+            return Err(lost((wakeup, reports)));
+        };
         Ok(Core {
             history,
             plans,

@@ -12,12 +12,12 @@ pub invariant_of-result : goal.invariant_of-result
 invariant_of-result c =
     let m = c.args.plans.now in
     let is = c.machine-machine.ensures in
-    let empty : c.in_ok-history.history ≡ record { machine = m; past = []; room = 0 } = c.in_ok-history.ensures ∙ ap (λ (x : Machine). kept x) is in
+    let empty : c.in-Ok-new-2.history ≡ record { machine = m; past = []; room = 0 } = c.in-Ok-new-2.ensures ∙ ap (λ (x : Machine). kept x) is in
     record {
       core = subst IsCore (sym empty) (core_empty m c.requires.accepted);
       plans_are = sym (ap (λ (h : Kept). h.machine) empty);
-      reports_are = c.in_ok-reports.ensures ∙ (ap₂ (λ n k. none_reported n k) (c.len.ensures ∙ ap (λ (x : Machine). length x.actors) is) (c.len-2.ensures ∙ ap (λ (x : Machine). length x.devices) is) ∙ sym (ap (λ (h : Kept). counts_of h.machine (entries h.past)) empty));
-      wakeup_is = c.in_ok-wakeup.ensures ∙ (ap (map may_wake) (c.as_slice.ensures ∙ ap (λ (x : Machine). x.devices) is) ∙ sym (ap (λ (h : Kept). map may_wake h.machine.devices) empty));
+      reports_are = c.in-Ok-new.ensures ∙ (ap₂ (λ n k. none_reported n k) (c.len.ensures ∙ ap (λ (x : Machine). length x.actors) is) (c.len-2.ensures ∙ ap (λ (x : Machine). length x.devices) is) ∙ sym (ap (λ (h : Kept). counts_of h.machine (entries h.past)) empty));
+      wakeup_is = c.in-Ok.ensures ∙ (ap (map may_wake) (c.as_slice.ensures ∙ ap (λ (x : Machine). x.devices) is) ∙ sym (ap (λ (h : Kept). map may_wake h.machine.devices) empty));
     }
   where
     kept : Machine → Kept
