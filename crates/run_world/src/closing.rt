@@ -58,6 +58,11 @@ fn sources_of(alloc: Global, objects: Vec<WorldObject<'_>>) -> Result<Vec<Seated
     Ok(sources)
 }
 
+/// Lets a value go for want of memory. Its type is a parameter, so that no caller's proof follows its parts.
+fn lost<A: Drop>(_value: A) -> Mem {
+    Mem
+}
+
 /// Closes the world: the machine, and its sources in the order of their numbers, with what the passes made, which
 /// stand in the order of theirs. Each keeps its seat. `Mem` where there is no memory.
 pub fn close_world<'m>(
@@ -72,6 +77,8 @@ pub fn close_world<'m>(
 {
     let mut objects = close_locks(alloc, locks, passes)?;
     let machine = machine_of(objects.remove(0));
-    let sources = sources_of(alloc, objects)?;
+    let Ok(sources) = sources_of(alloc, objects) else {
+        return Err(lost(machine));
+    };
     Ok((machine, sources))
 }

@@ -20,4 +20,4 @@ returns-clause-closed c =
     let o = c.requires.objects in
     let b = back o.0 o.1 o.2 (first_of c.args.locks.own) (made_lists c.args.passes.items) o.3 c.in_ok-objects.objects.items c.in_ok-objects.ensures in
     closed_world o.2 c.in_ok-objects.objects.items c.remove.new.self.items c.remove.result b c.remove.ensures.value c.remove.ensures.items (first_of c.args.locks.own) (made_lists c.args.passes.items)
-    c.machine_of-machine.result c.in_ok-sources.sources.items c.in_ok-objects.ensures c.machine_of-machine.ensures.machine c.in_ok-sources.ensures.those
+    c.machine_of-machine.result c.in-Ok.sources.items c.in_ok-objects.ensures c.machine_of-machine.ensures.machine c.in-Ok.ensures.those
