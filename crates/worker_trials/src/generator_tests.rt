@@ -2,7 +2,6 @@ use sleep_base::Mem;
 use sleep_model::{DeviceFlags, Link, Machine, Op, Script, Step, TaskKind};
 use sleep_script::generate;
 use std::alloc::Global;
-use std::test::Fail;
 
 /// Whether the devices have these parents, and are async as said.
 fn are_devices(machine: &Machine, devices: &[(Option<u32>, bool)]) -> bool {
@@ -114,34 +113,55 @@ const LINKS: [Link; 2] = [
 const TWENTY: [Drawn; 4] = [(927, 0, 50), (703, 1, 50), (497, 2, 0), (309, 0, 0)];
 
 /// Whether a machine with one device is as the example of a generated file has it.
-fn is_one(alloc: Global) -> Result<bool, Mem> {
-    let machine = generate(alloc, 0, 1)?;
-    Ok(
-        are_devices(&machine, &[(None, false)])
-            && machine.links.len() == 0
-            && have_tasks(&machine, &ONE),
-    )
+fn is_one(machine: &Machine) -> bool {
+    are_devices(machine, &[(None, false)]) && machine.links.len() == 0 && have_tasks(machine, &ONE)
 }
 
 /// Whether a small machine is whole.
-fn is_twenty(alloc: Global) -> Result<bool, Mem> {
-    let machine = generate(alloc, 7, 20)?;
-    let are_linked = machine.links.as_slice() == LINKS.as_slice();
-    Ok(are_linked && are_devices(&machine, &DEVICES) && have_tasks(&machine, &TWENTY))
+fn is_twenty(machine: &Machine) -> bool {
+    machine.links.as_slice() == LINKS.as_slice()
+        && are_devices(machine, &DEVICES)
+        && have_tasks(machine, &TWENTY)
 }
 
-/// Whether the names of a third machine are their letter and their number.
-fn is_numbered(alloc: Global) -> Result<bool, Mem> {
-    let machine = generate(alloc, 0, 12)?;
-    Ok(are_numbered(&machine))
+/// What is asked of a generated machine: that it is as the example, that it is whole, that its names are numbered, or what it
+/// has.
+#[derive(Clone, Copy)]
+enum Asked {
+    One,
+    Twenty,
+    Numbered,
+    Has(Counts),
+}
+
+/// Whether a machine is as asked.
+fn is_as(machine: &Machine, asked: Asked) -> bool {
+    match asked {
+        Asked::One => is_one(machine),
+        Asked::Twenty => is_twenty(machine),
+        Asked::Numbered => are_numbered(machine),
+        Asked::Has(counts) => counts_of(machine) == counts,
+    }
+}
+
+/// Whether the machine of a seed with that number of devices is as asked.
+fn is_generated(alloc: Global, seed: u64, devices: u32, asked: Asked) -> Result<bool, Mem> {
+    if devices < 1 || devices > 1000 {
+        return Ok(false);
+    }
+    let machine = generate(alloc, seed, devices)?;
+    let is_so = is_as(&machine, asked);
+    drop(machine);
+    Ok(is_so)
 }
 
 /// A machine with one device, a small machine whole, and the names of a third. The numbers come from a program of thirty lines
 /// in another language, which was written from the words of the generator's description alone.
 #[test]
-fn small_machines_are_generated(rt: HostRuntime) -> Result<(), Fail> {
-    assert!(rt; is_one(rt.alloc())? && is_twenty(rt.alloc())? && is_numbered(rt.alloc())?);
-    Ok(())
+fn small_machines_are_generated(rt: HostRuntime) {
+    assert!(rt; is_generated(rt.alloc(), 0, 1, Asked::One) == Ok(true));
+    assert!(rt; is_generated(rt.alloc(), 7, 20, Asked::Twenty) == Ok(true));
+    assert!(rt; is_generated(rt.alloc(), 0, 12, Asked::Numbered) == Ok(true));
 }
 
 /// How many devices depend on no other, and how many are async.
@@ -157,18 +177,14 @@ fn roots_and_async(machine: &Machine) -> (u32, u32) {
 /// How many devices, roots, async devices and links the machine of a seed has.
 type Counts = (usize, u32, u32, usize);
 
-fn counts(alloc: Global, seed: u64, devices: u32) -> Result<Counts, Fail> {
-    if devices < 1 || devices > 1000 {
-        return Err("1 to 1,000 devices".into());
-    }
-    let machine = generate(alloc, seed, devices)?;
-    let (roots, asynchronous) = roots_and_async(&machine);
-    Ok((
+fn counts_of(machine: &Machine) -> Counts {
+    let (roots, asynchronous) = roots_and_async(machine);
+    (
         machine.devices.len(),
         roots,
         asynchronous,
         machine.links.len(),
-    ))
+    )
 }
 
 /// Seeds and sizes, and what their machines have.
@@ -184,10 +200,12 @@ const COUNTED: [(u64, u32, Counts); 6] = [
 /// Machines of other seeds and sizes, the largest too: the counts come from the same program in
 /// another language. That of seed 2622 tries the link from its first device to its last twice.
 #[test]
-fn larger_machines_are_generated(rt: HostRuntime) -> Result<(), Fail> {
+fn larger_machines_are_generated(rt: HostRuntime) {
     for (seed, devices, want) in &COUNTED {
-        let found = counts(rt.alloc(), *seed, *devices)?;
-        assert!(rt; found == *want, "seed {seed}");
+        let asked = Asked::Has(*want);
+        assert!(rt;
+            is_generated(rt.alloc(), *seed, *devices, asked) == Ok(true),
+            "seed {seed}"
+        );
     }
-    Ok(())
 }

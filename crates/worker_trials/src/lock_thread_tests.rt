@@ -115,6 +115,15 @@ fn each_once(values: &mut Vec<Journal>, lists: &Vec<Vec<Made<u32>>>) -> bool {
     }
 }
 
+/// How many numbers each of two objects has, where each is in one list, once.
+fn counted_in(values: &mut Vec<Journal>, lists: &Vec<Vec<Made<u32>>>) -> Option<(usize, usize)> {
+    let once = each_once(values, lists);
+    match values.as_slice() {
+        [first, second] => once.then_some((first.notes.len(), second.notes.len())),
+        _ => None,
+    }
+}
+
 /// How many numbers each of two objects has after all turns of all workers, where each is in one list, once.
 fn counted<R: Threads + Wait + Sync>(
     rt: &R,
@@ -128,11 +137,10 @@ fn counted<R: Threads + Wait + Sync>(
     let workers = burst(rt, alloc, &locks, passes, turns)?;
     let (passes, lists) = parted(alloc, workers)?;
     let mut values = close_locks(alloc, locks, passes)?;
-    let once = each_once(&mut values, &lists);
-    let [first, second] = values.as_slice() else {
-        return Ok(None);
-    };
-    Ok(once.then_some((first.notes.len(), second.notes.len())))
+    let counted = counted_in(&mut values, &lists);
+    drop(values);
+    drop(lists);
+    Ok(counted)
 }
 
 /// Four workers lose nothing, nor do sixteen.

@@ -109,8 +109,12 @@ fn histories_of(alloc: Global, rows: &[Row]) -> Result<Vec<SourceList>, Mem> {
 fn stand_in_order(alloc: Global, rows: &[Row]) -> Result<bool, Fail> {
     let journal = journal_of(alloc, rows)?;
     let histories = histories_of(alloc, rows)?;
-    let log = merged(alloc, &journal, &histories)?;
-    Ok(is_in_order(&log, rows.len() as u64))
+    let log = merged(alloc, &journal, &histories);
+    drop(histories);
+    let log = log?;
+    let is_so = is_in_order(&log, rows.len() as u64);
+    drop(log);
+    Ok(is_so)
 }
 
 const OTHER: Actor = Actor::Script(1);
@@ -171,15 +175,23 @@ const SOURCES: [Row; 2] = [
 /// A journal without histories.
 const JOURNAL: [Row; 2] = [Row(0, 0, (0, 1), TASK, POST), Row(0, 1, (4, 2), TASK, POST)];
 
+/// Asserts that rows do.
+fn expect_order(rt: &impl Abort, alloc: Global, rows: &[Row]) -> Result<(), Fail> {
+    assert!(rt; stand_in_order(alloc, rows)?);
+    Ok(())
+}
+
 /// The lists of each trial merge to its rows in their order.
 #[test]
 fn entries_stand_in_order(rt: HostRuntime) -> Result<(), Fail> {
     let alloc = rt.alloc();
-    assert!(rt; stand_in_order(alloc, &LOOKS)? && stand_in_order(alloc, &BETWEEN)?);
-    assert!(rt; stand_in_order(alloc, &TIES)? && stand_in_order(alloc, &EQUAL)?);
-    assert!(rt; stand_in_order(alloc, &SOURCES)? && stand_in_order(alloc, &JOURNAL)?);
-    assert!(rt; stand_in_order(alloc, &[])?);
-    Ok(())
+    expect_order(&rt, alloc, &LOOKS)?;
+    expect_order(&rt, alloc, &BETWEEN)?;
+    expect_order(&rt, alloc, &TIES)?;
+    expect_order(&rt, alloc, &EQUAL)?;
+    expect_order(&rt, alloc, &SOURCES)?;
+    expect_order(&rt, alloc, &JOURNAL)?;
+    expect_order(&rt, alloc, &[])
 }
 
 /// The history beside a journal that is kept.

@@ -98,13 +98,22 @@ fn are_made(alloc: Global, machine: &Machine) -> Result<bool, Mem>
     requires sources { length machine.now.sources ≡ 1 }
 {
     let plans = MachinePlans::new(alloc, machine)?;
-    let mut job = Job::of_script(&plans, 0);
-    Ok(
-        reports_an_event(&mut job)?
-            && goes_on(&mut job)?
-            && work_reports(&plans)
-            && device_reports(&plans),
-    )
+    let are_well = go_well(&plans);
+    drop(plans);
+    are_well
+}
+
+/// Whether the jobs of these plans do.
+fn go_well(plans: &MachinePlans<'_>) -> Result<bool, Mem>
+    requires steps { length (all_operations plans.now.actors) ≡ 3 }
+    requires actors { length plans.now.actors ≡ 1 }
+    requires answers { length plans.now.answers ≡ 1 }
+    requires sources { length plans.now.sources ≡ 1 }
+{
+    let mut job = Job::of_script(plans, 0);
+    let reports = reports_an_event(&mut job)?;
+    let goes = goes_on(&mut job)?;
+    Ok(reports && goes && work_reports(plans) && device_reports(plans))
 }
 
 /// A stamp with that tick.
@@ -184,6 +193,7 @@ fn goes_on(job: &mut Job<'_>) -> Result<bool, Mem>
 fn jobs_make_turns_and_calls(rt: HostRuntime) -> Result<(), Fail> {
     let machine = machine(rt.alloc())?;
     assert!(rt; are_made(rt.alloc(), &machine) == Ok(true));
+    drop(machine);
     Ok(())
 }
 

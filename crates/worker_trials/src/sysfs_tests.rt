@@ -22,25 +22,28 @@ const ATTEMPT: Kind = Kind::Attempt {
     guarded: None,
 };
 
+/// Texts, and the state of each.
+const TEXTS: [(&str, Result<State, Errno>); 8] = [
+    ("mem", Ok(State::Mem)),
+    ("mem\n", Ok(State::Mem)),
+    ("mem\ndisk", Ok(State::Mem)),
+    ("mem ", Err(Errno::EINVAL)),
+    ("", Err(Errno::EINVAL)),
+    ("off", Ok(State::Off)),
+    ("off\n", Ok(State::Off)),
+    ("off\noff", Err(Errno::EINVAL)),
+];
+
+/// Whether a text is of that state, for both files.
+fn is_state(text: &[u8], state: Result<State, Errno>) -> bool {
+    decode_state(text) == state && is_autosleep_text(text) == state.is_ok()
+}
+
 /// A state is read up to its newline, and `off` with one newline at most.
 #[test]
 fn texts_end_at_a_newline(rt: HostRuntime) {
-    let rows = [
-        ("mem", Ok(State::Mem)),
-        ("mem\n", Ok(State::Mem)),
-        ("mem\ndisk", Ok(State::Mem)),
-        ("mem ", Err(Errno::EINVAL)),
-        ("", Err(Errno::EINVAL)),
-        ("off", Ok(State::Off)),
-        ("off\n", Ok(State::Off)),
-        ("off\noff", Err(Errno::EINVAL)),
-    ];
-    for (text, state) in rows {
-        assert!(rt; decode_state(text.as_bytes()) == state, "at {text}");
-        assert!(rt;
-            is_autosleep_text(text.as_bytes()) == state.is_ok(),
-            "at {text}"
-        );
+    for (text, state) in &TEXTS {
+        assert!(rt; is_state(text.as_bytes(), *state), "at {text}");
     }
 }
 
@@ -57,10 +60,11 @@ fn is_due(due: Due, wanted: Option<Kind>) -> bool {
 /// and is interrupted by the freezer.
 #[test]
 fn a_read_waits_for_events(rt: HostRuntime) {
-    assert!(rt; is_due(read_count(QUIET, false, true), Some(Kind::Read(3))));
-    assert!(rt; is_due(read_count(BUSY, false, true), Some(Kind::ReadWait)));
-    assert!(rt; matches!(read_count(BUSY, true, false), Due::Waits(Why::InProgress)));
-    assert!(rt; is_due(read_count(BUSY, true, true), Some(Kind::ReadIntr)));
+    let quiet = is_due(read_count(QUIET, false, true), Some(Kind::Read(3)));
+    let said = is_due(read_count(BUSY, false, true), Some(Kind::ReadWait));
+    let waits = matches!(read_count(BUSY, true, false), Due::Waits(Why::InProgress));
+    let ends = is_due(read_count(BUSY, true, true), Some(Kind::ReadIntr));
+    assert!(rt; quiet && said && waits && ends);
 }
 
 // Whether another holds the lock, whether autosleep is on, whether the writer has said that it waits, and whether it is
