@@ -1,7 +1,9 @@
 use crate::log_tests::{Row, TASK, assert_lines, two_devices};
-use crate::reading_tests::{assert_bad, assert_kept};
+use crate::reading_tests::{assert_bad, is_kept};
 use sleep_base::Errno;
-use sleep_model::Kind;
+use sleep_model::{Kind, Machine};
+use std::alloc::Global;
+use std::process::Abort;
 use std::test::Fail;
 
 const ADDED: Kind = Kind::LinkAdd {
@@ -43,24 +45,15 @@ const OF_LINKS: [Row; 4] = [
     ),
 ];
 
-/// A task adds a link, or sets its state, and where that is refused the error is written.
-#[test]
-fn writes_links_and_their_states(rt: HostRuntime) -> Result<(), Fail> {
-    let machine = two_devices(rt.alloc())?;
-    assert_lines(&rt, rt.alloc(), &machine, &OF_LINKS)
-}
+// A log with links that change.
+const LOG: &str = "0 0/0/0 task:w link c d 0\n\
+0 0/0/0 task:w link d c EINVAL\n\
+0 0/0/0 task:w link_state c d dormant 0\n\
+0 0/0/0 task:w link_state d c active ENODEV\n\
+source autosleep 0 0 0 0 0 0 0\nfinished\n";
 
-/// A log with links that change is read, and written again as it was.
-#[test]
-fn reads_links_and_writes_them_again(rt: HostRuntime) -> Result<(), Fail> {
-    let text = "0 0/0/0 task:w link c d 0\n\
-        0 0/0/0 task:w link d c EINVAL\n\
-        0 0/0/0 task:w link_state c d dormant 0\n\
-        0 0/0/0 task:w link_state d c active ENODEV\n\
-        source autosleep 0 0 0 0 0 0 0\nfinished\n";
-    assert_kept(&rt, rt.alloc(), &two_devices(rt.alloc())?, text)
-}
-
+// A link of something that is no device, or with an end too few or too many; a state that is none, or none at all; an
+// answer that is no error.
 const BAD_LINKS: [(&str, u32); 7] = [
     ("0 0/0/0 task:w link c 0\n", 1),
     ("0 0/0/0 task:w link c x 0\n", 1),
@@ -71,10 +64,19 @@ const BAD_LINKS: [(&str, u32); 7] = [
     ("0 0/0/0 task:w link_state c d active 1\n", 1),
 ];
 
-/// A link of something that is no device, or with an end too few or too many; a state that is none, or none at all; an
-/// answer that is no error.
+// What a log of a machine says of links.
+fn expect_links(rt: &impl Abort, alloc: Global, machine: &Machine) {
+    assert_lines(rt, alloc, machine, &OF_LINKS);
+    assert!(rt; is_kept(alloc, machine, LOG) == Ok(true));
+    assert_bad(rt, alloc, machine, &BAD_LINKS);
+}
+
+/// A task adds a link, or sets its state, and where that is refused the error is written; a log with links that change is
+/// read, and written again as it was; and a bad link is named by its line.
 #[test]
-fn names_a_bad_link(rt: HostRuntime) -> Result<(), Fail> {
+fn links_are_written_and_read(rt: HostRuntime) -> Result<(), Fail> {
     let machine = two_devices(rt.alloc())?;
-    Ok(assert_bad(&rt, rt.alloc(), &machine, &BAD_LINKS)?)
+    expect_links(&rt, rt.alloc(), &machine);
+    drop(machine);
+    Ok(())
 }

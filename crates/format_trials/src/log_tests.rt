@@ -1,5 +1,5 @@
 use log_text::write_log;
-use sleep_base::Errno;
+use sleep_base::{Errno, Mem};
 use sleep_model::{
     Actor, Device, DeviceFlags, Entry, EntryList, EventNow, FrozeEnd, Group, Kind, ListOf, Log,
     LogEnd, Machine, Name, Phase, Script, SkipCause, Stats, TaskKind, Waiting, Why,
@@ -8,13 +8,15 @@ use std::alloc::Global;
 use std::process::Abort;
 use std::test::Fail;
 
-fn name(text: &str) -> Result<Name, &'static str> {
-    Name::of_bytes(text.as_bytes()).ok_or("no name")
+fn name(text: &str) -> Result<Name, Mem> {
+    Name::of_bytes(text.as_bytes()).ok_or(Mem)
 }
 
-fn script(alloc: Global, text: &str, kind: TaskKind) -> Result<Script, Fail> {
+// A script without steps.
+fn script(alloc: Global, text: &str, kind: TaskKind) -> Result<Script, Mem> {
+    let name = name(text)?;
     Ok(Script {
-        name: name(text)?,
+        name,
         kind,
         repeat: 1,
         steps: ListOf::of_vec(Vec::new(alloc)),
@@ -44,9 +46,46 @@ fn machine_of(
     }
 }
 
+// Scripts without steps.
+fn scripts(alloc: Global, rows: &[(&str, TaskKind)]) -> Result<Vec<Script>, Mem> {
+    let mut scripts = Vec::new(alloc);
+    for (text, kind) in rows {
+        scripts.push(script(alloc, text, *kind)?)?;
+    }
+    Ok(scripts)
+}
+
+fn names(alloc: Global, texts: &[&str]) -> Result<Vec<Name>, Mem> {
+    let mut names = Vec::new(alloc);
+    for text in texts {
+        names.push(name(text)?)?;
+    }
+    Ok(names)
+}
+
+fn devices(alloc: Global, texts: &[&str]) -> Result<Vec<Device>, Mem> {
+    let mut devices = Vec::new(alloc);
+    for text in texts {
+        devices.push(Device {
+            name: name(text)?,
+            parent: None,
+            flags: DeviceFlags::WAKEUP,
+        })?;
+    }
+    Ok(devices)
+}
+
+const ONE: [(&str, TaskKind); 1] = [("w", TaskKind::User)];
+
+const THREE: [(&str, TaskKind); 3] = [
+    ("w", TaskKind::User),
+    ("b", TaskKind::User),
+    ("k", TaskKind::Irq),
+];
+
 // The task w alone.
-pub fn one_task(alloc: Global) -> Result<Machine, Fail> {
-    let actors = vec![in alloc; script(alloc, "w", TaskKind::User)?]?;
+pub fn one_task(alloc: Global) -> Result<Machine, Mem> {
+    let actors = scripts(alloc, &ONE)?;
     Ok(machine_of(
         alloc,
         Vec::new(alloc),
@@ -56,40 +95,19 @@ pub fn one_task(alloc: Global) -> Result<Machine, Fail> {
     ))
 }
 
-// The tasks w and b and the interrupt line k.
-fn actors(alloc: Global) -> Result<Vec<Script>, Fail> {
-    let mut actors = Vec::new(alloc);
-    for (text, kind) in [
-        ("w", TaskKind::User),
-        ("b", TaskKind::User),
-        ("k", TaskKind::Irq),
-    ] {
-        actors.push(script(alloc, text, kind)?)?;
-    }
-    Ok(actors)
-}
-
-fn device(text: &str) -> Result<Device, &'static str> {
-    Ok(Device {
-        name: name(text)?,
-        parent: None,
-        flags: DeviceFlags::WAKEUP,
-    })
-}
-
 // The devices c and d, and the task w.
-pub fn two_devices(alloc: Global) -> Result<Machine, Fail> {
-    let devices = vec![in alloc; device("c")?, device("d")?]?;
-    let actors = vec![in alloc; script(alloc, "w", TaskKind::User)?]?;
+pub fn two_devices(alloc: Global) -> Result<Machine, Mem> {
+    let devices = devices(alloc, &["c", "d"])?;
+    let actors = scripts(alloc, &ONE)?;
     Ok(machine_of(alloc, devices, Vec::new(alloc), Vec::new(alloc), actors))
 }
 
 // The device c, the source lid, the mark a, the tasks w and b and the interrupt line k.
-pub fn machine(alloc: Global) -> Result<Machine, Fail> {
-    let actors = actors(alloc)?;
-    let devices = vec![in alloc; device("c")?]?;
-    let sources = vec![in alloc; name("lid")?]?;
-    let marks = vec![in alloc; name("a")?]?;
+pub fn machine(alloc: Global) -> Result<Machine, Mem> {
+    let devices = devices(alloc, &["c"])?;
+    let sources = names(alloc, &["lid"])?;
+    let marks = names(alloc, &["a"])?;
+    let actors = scripts(alloc, &THREE)?;
     Ok(machine_of(alloc, devices, sources, marks, actors))
 }
 
@@ -114,30 +132,37 @@ fn made(time: u64, count: u32, actor: Actor, kind: Kind) -> Entry {
 // An entry by its moment, the events that are registered, its actor and its kind, and its line.
 pub type Row = (u64, u32, Actor, Kind, &'static str);
 
-// The text of an entry alone.
-fn line_of(alloc: Global, machine: &Machine, entry: Entry) -> Result<Vec<u8>, Fail> {
+// An entry alone.
+fn entries_of(alloc: Global, entry: Entry) -> Result<EntryList, Mem> {
     let mut entries = EntryList::new(alloc);
     entries.push(entry)?;
+    Ok(entries)
+}
+
+// The text of an entry alone.
+fn line_of(alloc: Global, machine: &Machine, entry: Entry) -> Result<Vec<u8>, Mem> {
     let log = Log {
-        entries,
+        entries: entries_of(alloc, entry)?,
         stats: ListOf::of_vec(Vec::new(alloc)),
         end: LogEnd::Stuck(ListOf::of_vec(Vec::new(alloc))),
     };
-    Ok(write_log(alloc, machine, &log)?)
+    let text = write_log(alloc, machine, &log);
+    drop(log);
+    text
+}
+
+// Whether the entry of a row alone makes its line.
+fn is_line(alloc: Global, machine: &Machine, row: &Row) -> Result<bool, Mem> {
+    let (time, count, actor, kind, line) = row;
+    let text = line_of(alloc, machine, made(*time, *count, *actor, *kind))?;
+    Ok(text.as_slice() == line.as_bytes())
 }
 
 // Each entry alone makes its line.
-pub fn assert_lines(
-    rt: &impl Abort,
-    alloc: Global,
-    machine: &Machine,
-    rows: &[Row],
-) -> Result<(), Fail> {
-    for (time, count, actor, kind, line) in rows {
-        let text = line_of(alloc, machine, made(*time, *count, *actor, *kind))?;
-        assert_eq!(rt; text.as_slice(), line.as_bytes(), "at {line}");
+pub fn assert_lines(rt: &impl Abort, alloc: Global, machine: &Machine, rows: &[Row]) {
+    for row in rows {
+        assert!(rt; is_line(alloc, machine, row) == Ok(true), "at {}", row.4);
     }
-    Ok(())
 }
 
 const EVENT: Kind = Kind::Event {
@@ -188,12 +213,6 @@ const OF_TASKS: [Row; 9] = [
     (1000, 0, Actor::Time, Kind::Jump, "1000 0/0/0 time jump\n"),
 ];
 
-#[test]
-fn writes_steps_of_tasks(rt: HostRuntime) -> Result<(), Fail> {
-    let machine = machine(rt.alloc())?;
-    assert_lines(&rt, rt.alloc(), &machine, &OF_TASKS)
-}
-
 const SKIP: Kind = Kind::Skip(Phase::Suspend, 0, SkipCause::Pending);
 
 const OF_PHASES: [Row; 4] = [
@@ -220,12 +239,6 @@ const OF_PHASES: [Row; 4] = [
         "0 0/1/0 task:w done suspend EBUSY\n",
     ),
 ];
-
-#[test]
-fn writes_steps_of_phases(rt: HostRuntime) -> Result<(), Fail> {
-    let machine = machine(rt.alloc())?;
-    assert_lines(&rt, rt.alloc(), &machine, &OF_PHASES)
-}
 
 const ATTEMPT: Kind = Kind::Attempt {
     n: 1,
@@ -273,10 +286,27 @@ const OF_ATTEMPTS: [Row; 6] = [
     ),
 ];
 
+// Writes the rows of a machine's log.
+fn expect_lines(rt: &impl Abort, alloc: Global, rows: &[Row]) -> Result<(), Mem> {
+    let machine = machine(alloc)?;
+    assert_lines(rt, alloc, &machine, rows);
+    drop(machine);
+    Ok(())
+}
+
 #[test]
-fn writes_steps_of_attempts(rt: HostRuntime) -> Result<(), Fail> {
-    let machine = machine(rt.alloc())?;
-    assert_lines(&rt, rt.alloc(), &machine, &OF_ATTEMPTS)
+fn writes_steps_of_tasks(rt: HostRuntime) {
+    assert!(rt; expect_lines(&rt, rt.alloc(), &OF_TASKS) == Ok(()));
+}
+
+#[test]
+fn writes_steps_of_phases(rt: HostRuntime) {
+    assert!(rt; expect_lines(&rt, rt.alloc(), &OF_PHASES) == Ok(()));
+}
+
+#[test]
+fn writes_steps_of_attempts(rt: HostRuntime) {
+    assert!(rt; expect_lines(&rt, rt.alloc(), &OF_ATTEMPTS) == Ok(()));
 }
 
 fn stats(count: u32, ms: u64) -> Stats {
@@ -291,36 +321,68 @@ fn stats(count: u32, ms: u64) -> Stats {
     }
 }
 
-// The text of a log of no entry.
-fn text_behind(alloc: Global, stats: Vec<Stats>, end: LogEnd) -> Result<Vec<u8>, Fail> {
+// Whether a log makes that text.
+fn is_text(alloc: Global, machine: &Machine, log: &Log, lines: &str) -> Result<bool, Mem> {
+    let text = write_log(alloc, machine, log)?;
+    Ok(text.as_slice() == lines.as_bytes())
+}
+
+// Whether a log does, of that machine.
+fn is_told(alloc: Global, log: &Log, lines: &str) -> Result<bool, Mem> {
     let machine = machine(alloc)?;
-    let log = Log {
+    let is_so = is_text(alloc, &machine, log, lines);
+    drop(machine);
+    is_so
+}
+
+// A log of no entry.
+fn log_of(alloc: Global, stats: Vec<Stats>, end: LogEnd) -> Log {
+    Log {
         entries: EntryList::new(alloc),
         stats: ListOf::of_vec(stats),
         end,
-    };
-    Ok(write_log(alloc, &machine, &log)?)
+    }
 }
+
+// What is behind the entries of a run that is over.
+fn finished(alloc: Global) -> Result<Log, Mem> {
+    let stats = vec![in alloc; stats(1, 50), stats(0, 0)]?;
+    Ok(log_of(alloc, stats, LogEnd::Finished))
+}
+
+const FINISHED: &str = "source lid 1 1 0 0 50 50 50\nsource autosleep 0 0 0 0 0 0 0\nfinished\n";
 
 #[test]
 fn writes_sources_and_end(rt: HostRuntime) -> Result<(), Fail> {
-    let stats = vec![in rt.alloc(); stats(1, 50), stats(0, 0)]?;
-    let text = text_behind(rt.alloc(), stats, LogEnd::Finished)?;
-    let lines = b"source lid 1 1 0 0 50 50 50\nsource autosleep 0 0 0 0 0 0 0\nfinished\n";
-    assert_eq!(rt; text.as_slice(), lines.as_slice());
+    let log = finished(rt.alloc())?;
+    assert!(rt; is_told(rt.alloc(), &log, FINISHED) == Ok(true));
+    drop(log);
     Ok(())
 }
 
+const WAITS: [Waiting; 2] = [
+    Waiting {
+        actor: TASK,
+        why: Why::Mark(0),
+    },
+    Waiting {
+        actor: TASK,
+        why: Why::InProgress,
+    },
+];
+
+// What is behind the entries of a run that is stuck.
+fn stuck(alloc: Global) -> Result<Log, Mem> {
+    let waits = WAITS.to_vec(alloc)?;
+    Ok(log_of(alloc, Vec::new(alloc), LogEnd::Stuck(ListOf::of_vec(waits))))
+}
+
+const STUCK: &str = "stuck task:w mark a\nstuck task:w read\n";
+
 #[test]
 fn writes_who_is_stuck(rt: HostRuntime) -> Result<(), Fail> {
-    let actor = TASK;
-    let why = Why::Mark(0);
-    let mark = Waiting { actor, why };
-    let why = Why::InProgress;
-    let read = Waiting { actor, why };
-    let stuck = LogEnd::Stuck(ListOf::of_vec(vec![in rt.alloc(); mark, read]?));
-    let text = text_behind(rt.alloc(), Vec::new(rt.alloc()), stuck)?;
-    let lines = b"stuck task:w mark a\nstuck task:w read\n";
-    assert_eq!(rt; text.as_slice(), lines.as_slice());
+    let log = stuck(rt.alloc())?;
+    assert!(rt; is_told(rt.alloc(), &log, STUCK) == Ok(true));
+    drop(log);
     Ok(())
 }

@@ -1,7 +1,8 @@
 use bitflags::Flags;
 use machine_file::{MachineFault, ReadMachine, read_machine};
 use sleep_model::{
-    Answer, Device, Link, Machine, Name, Notifier, Op, Phase, Script, SourceCall, What,
+    Answer, Device, Link, Machine, Name, Notifier, Op, Phase, Report, Script, SourceCall, Step,
+    What,
 };
 use std::alloc::{AllocError, Global};
 use std::process::Abort;
@@ -30,44 +31,56 @@ fn place_of(read: &Result<ReadMachine, MachineFault>) -> &str {
     }
 }
 
-// That a file breaks that rule first, and there; rule 0 is none.
-fn expect(rt: &impl Abort, alloc: Global, text: &str, rule: u8, place: &str) {
+// What is to come of a file: the rule that it breaks first, or 0, and where, or what it is read as.
+#[derive(Clone, Copy)]
+enum Wanted<'a> {
+    Rule(u8, &'a str),
+    Lists,
+    Changes,
+    Shared,
+}
+
+// Whether that came of a file.
+fn is_wanted(read: &Result<ReadMachine, MachineFault>, wanted: &Wanted<'_>) -> bool {
+    match (read, wanted) {
+        (_, Wanted::Rule(rule, place)) => rule_of(read) == *rule && place_of(read) == *place,
+        (Ok(read), Wanted::Lists) => is_machine(&read.machine, read.links.order()),
+        (Ok(read), Wanted::Changes) => are_changes(&read.machine),
+        (Ok(read), Wanted::Shared) => is_shared(&read.machine),
+        (Err(_), _) => false,
+    }
+}
+
+// Whether that comes of a file.
+fn gives(alloc: Global, text: &str, wanted: &Wanted<'_>) -> bool {
     let read = read_machine(alloc, text.as_bytes());
-    assert_eq!(rt; rule_of(&read), rule, "{text}");
-    assert_eq!(rt; place_of(&read), place, "{text}");
+    let is_so = is_wanted(&read, wanted);
+    drop(read);
+    is_so
+}
+
+// Whether a file breaks that rule first, and there; rule 0 is none.
+fn breaks(alloc: Global, text: &str, rule: u8, place: &str) -> bool {
+    gives(alloc, text, &Wanted::Rule(rule, place))
 }
 
 // That each of these files does.
 fn expect_each(rt: &impl Abort, alloc: Global, rows: &[(&str, u8, &str)]) {
     for (text, rule, place) in rows {
-        expect(rt, alloc, text, *rule, place);
+        assert!(rt; breaks(alloc, text, *rule, place), "{text}");
     }
 }
 
-// That each file with these further members does.
-fn expect_members(
-    rt: &impl Abort,
+// Whether a file with these further members and operations does.
+fn file_breaks(
     alloc: Global,
-    rows: &[(&str, u8, &str)],
-) -> Result<(), AllocError> {
-    for (more, rule, place) in rows {
-        let text = file(alloc, more, "")?;
-        expect(rt, alloc, text.as_str(), *rule, place);
-    }
-    Ok(())
-}
-
-// That each file with these operations does.
-fn expect_operations(
-    rt: &impl Abort,
-    alloc: Global,
-    rows: &[(&str, u8, &str)],
-) -> Result<(), AllocError> {
-    for (operations, rule, place) in rows {
-        let text = file(alloc, "", operations)?;
-        expect(rt, alloc, text.as_str(), *rule, place);
-    }
-    Ok(())
+    more: &str,
+    operations: &str,
+    rule: u8,
+    place: &str,
+) -> Result<bool, AllocError> {
+    let text = file(alloc, more, operations)?;
+    Ok(breaks(alloc, text.as_str(), rule, place))
 }
 
 const NO_FILES: [(&str, u8, &str); 8] = [
@@ -148,7 +161,10 @@ const MEMBERS: [(&str, u8, &str); 15] = [
 /// Each rule on the members of a file, by a file that breaks it alone, and where.
 #[test]
 fn members_that_break_a_rule(rt: HostRuntime) -> Result<(), Fail> {
-    Ok(expect_members(&rt, rt.alloc(), &MEMBERS)?)
+    for (more, rule, place) in &MEMBERS {
+        assert!(rt; file_breaks(rt.alloc(), more, "", *rule, place)?, "{more}");
+    }
+    Ok(())
 }
 
 const OPERATIONS: [(&str, u8, &str); 8] = [
@@ -177,7 +193,13 @@ const OPERATIONS: [(&str, u8, &str); 8] = [
 /// Each rule on operations, by a script that breaks it alone, and where.
 #[test]
 fn operations_that_break_a_rule(rt: HostRuntime) -> Result<(), Fail> {
-    Ok(expect_operations(&rt, rt.alloc(), &OPERATIONS)?)
+    for (operations, rule, place) in &OPERATIONS {
+        assert!(rt;
+            file_breaks(rt.alloc(), "", operations, *rule, place)?,
+            "{operations}"
+        );
+    }
+    Ok(())
 }
 
 const CHANGING_LINKS: [(&str, u8, &str); 11] = [
@@ -263,236 +285,253 @@ fn makers_that_break_a_rule(rt: HostRuntime) {
     expect_each(&rt, rt.alloc(), &MAKERS);
 }
 
-// A machine with something of each list.
-fn machine(alloc: Global) -> Result<ReadMachine, Fail> {
-    let more = r#","alarm_ms":7,"cpus":4,"auto_cycles":3,
+// Members of each list.
+const MORE: &str = r#","alarm_ms":7,"cpus":4,"auto_cycles":3,
         "devices":[{"name":"bus"},{"name":"usb","parent":"bus","async":true,"runtime":"suspended"},{"name":"clk","wakeup":true}],
         "links":[{"supplier":"clk","consumer":"usb"}],
         "syscore":["irq","clock"],"notifiers":[{"name":"n","priority":-5}],"sources":["lid"],
         "answers":[{"what":"device","name":"usb","phase":"late","attempt":2,"ret":"EIO"},{"what":"syscore","name":"clock","ret":"EBUSY"}]"#;
-    let operations = r#"{"op":"read"},{"op":"save"},{"op":"event","source":"lid"},
+
+// What an actor makes of them.
+const SCRIPT: &str = r#"{"op":"read"},{"op":"save"},{"op":"event","source":"lid"},
         {"op":"runtime","device":"clk","to":"suspended"},{"op":"state","text":"mem"}"#;
-    let text = file(alloc, more, operations)?;
-    Ok(read_machine(alloc, text.as_str().as_bytes())?)
+
+// Whether the file of those lists is read as it is written.
+fn lists_are_read(alloc: Global) -> Result<bool, AllocError> {
+    let text = file(alloc, MORE, SCRIPT)?;
+    Ok(gives(alloc, text.as_str(), &Wanted::Lists))
 }
 
 /// Each list is read as it is written.
 #[test]
 fn a_machine_is_read(rt: HostRuntime) -> Result<(), Fail> {
-    let read = machine(rt.alloc())?;
-    assert_machine(&rt, &read.machine, read.links.order())
-}
-
-fn assert_machine(rt: &impl Abort, machine: &Machine, order: &[u32]) -> Result<(), Fail> {
-    assert_numbers(rt, machine);
-    assert_devices(rt, machine.devices.as_slice())?;
-    assert_link(rt, machine.links.as_slice(), order)?;
-    assert_notifier(rt, machine.notifiers.as_slice())?;
-    assert_answers(rt, machine.answers.as_slice())?;
-    assert_operations(rt, machine.actors.as_slice())
-}
-
-fn assert_numbers(rt: &impl Abort, machine: &Machine) {
-    assert!(rt; machine.alarm_ms == 7 && machine.cpus == 4 && machine.auto_cycles == 3);
-}
-
-fn assert_devices(rt: &impl Abort, devices: &[Device]) -> Result<(), Fail> {
-    let [bus, usb, clk] = devices else {
-        return Err(Fail::from("three devices"));
-    };
-    for (device, parent, flags) in [(bus, None, 0u8), (usb, Some(0u32), 5), (clk, None, 2)] {
-        assert!(rt; device.parent == parent && device.flags.bits() == flags);
-    }
+    assert!(rt; lists_are_read(rt.alloc())?);
     Ok(())
+}
+
+fn is_machine(machine: &Machine, order: &[u32]) -> bool {
+    are_numbers(machine)
+        && are_devices(machine.devices.as_slice())
+        && is_link(machine.links.as_slice(), order)
+        && is_notifier(machine.notifiers.as_slice())
+        && are_answers(machine.answers.as_slice())
+        && are_operations(machine.actors.as_slice())
+}
+
+fn are_numbers(machine: &Machine) -> bool {
+    machine.alarm_ms == 7 && machine.cpus == 4 && machine.auto_cycles == 3
+}
+
+fn is_device(device: &Device, parent: Option<u32>, flags: u8) -> bool {
+    device.parent == parent && device.flags.bits() == flags
+}
+
+fn are_devices(devices: &[Device]) -> bool {
+    match devices {
+        [bus, usb, clk] => {
+            is_device(bus, None, 0) && is_device(usb, Some(0), 5) && is_device(clk, None, 2)
+        }
+        _ => false,
+    }
 }
 
 // Links are read, and added in turn.
-fn assert_link(rt: &impl Abort, links: &[Link], order: &[u32]) -> Result<(), Fail> {
-    let [link] = links else {
-        return Err(Fail::from("one link"));
-    };
-    assert!(rt; link.supplier == 2 && link.consumer == 1);
-    assert!(rt; order == [0u32, 2, 1].as_slice());
-    Ok(())
+fn is_link(links: &[Link], order: &[u32]) -> bool {
+    match links {
+        [link] => { link.supplier == 2 && link.consumer == 1 && order == [0u32, 2, 1].as_slice() }
+        _ => false,
+    }
 }
 
-/// A link's state is read, and what a script makes of links.
-#[test]
-fn changes_of_links_are_read(rt: HostRuntime) -> Result<(), Fail> {
-    let text = r#"{"version":2,"devices":[{"name":"a"},{"name":"b"}],
-        "links":[{"supplier":"b","consumer":"a","state":"dormant"}],
-        "actors":[{"name":"w","kind":"user","script":[{"op":"link_state","supplier":"b","consumer":"a","to":"active"},{"op":"link","supplier":"a","consumer":"b"}]}]}"#;
-    let read = read_machine(rt.alloc(), text.as_bytes())?;
-    assert_changes(
-        &rt,
-        read.machine.links.as_slice(),
-        read.machine.actors.as_slice(),
+fn is_notifier(notifiers: &[Notifier]) -> bool {
+    match notifiers {
+        [notifier] => notifier.priority == -5,
+        _ => false,
+    }
+}
+
+// What is answered for, in which attempt, and what.
+fn is_answer(answer: &Answer, what: What, attempt: Option<u32>, ret: i32) -> bool {
+    answer.what == what && answer.attempt == attempt && answer.ret == ret
+}
+
+fn are_answers(answers: &[Answer]) -> bool {
+    match answers {
+        [late, core] => {
+            is_answer(late, What::Device(1, Phase::Late), Some(2), -5)
+                && is_answer(core, What::Syscore(1), None, -16)
+        }
+        _ => false,
+    }
+}
+
+// The steps of the only script.
+fn steps_of(actors: &[Script]) -> &[Step] {
+    match actors {
+        [actor] => actor.steps.as_slice(),
+        _ => &[],
+    }
+}
+
+fn are_operations(actors: &[Script]) -> bool {
+    match steps_of(actors) {
+        [_, _, event, runtime, state] => {
+            is_event(&event.op) && is_request(&runtime.op) && is_state(&state.op, false)
+        }
+        _ => false,
+    }
+}
+
+fn is_event(op: &Op) -> bool {
+    matches!(
+        op,
+        Op::Event {
+            source: 0,
+            ms: 0,
+            hard: false
+        }
     )
 }
 
-fn assert_changes(rt: &impl Abort, links: &[Link], actors: &[Script]) -> Result<(), Fail> {
-    let [link] = links else {
-        return Err(Fail::from("one link"));
-    };
-    assert!(rt; !link.active);
-    let [actor] = actors else {
-        return Err(Fail::from("one actor"));
-    };
-    let [state, added] = actor.steps.as_slice() else {
-        return Err(Fail::from("two steps"));
-    };
-    assert!(rt;
-        matches!(
-            &state.op,
-            Op::LinkState {
-                supplier: 1,
-                consumer: 0,
-                active: true
-            }
-        )
-    );
-    assert!(rt;
-        matches!(
-            &added.op,
-            Op::Link {
-                supplier: 0,
-                consumer: 1
-            }
-        )
-    );
-    Ok(())
+fn is_request(op: &Op) -> bool {
+    matches!(
+        op,
+        Op::Runtime {
+            device: 2,
+            to_suspended: true
+        }
+    )
 }
 
-fn assert_notifier(rt: &impl Abort, notifiers: &[Notifier]) -> Result<(), Fail> {
-    let [notifier] = notifiers else {
-        return Err(Fail::from("one notifier"));
-    };
-    assert_eq!(rt; notifier.priority, -5);
-    Ok(())
+fn is_state(op: &Op, wanted: bool) -> bool {
+    matches!(op, Op::State { if_saved, .. } if *if_saved == wanted)
 }
 
-fn assert_answers(rt: &impl Abort, answers: &[Answer]) -> Result<(), Fail> {
-    let [late, core] = answers else {
-        return Err(Fail::from("two answers"));
-    };
-    assert!(rt; late.what == What::Device(1, Phase::Late));
-    assert!(rt; late.attempt == Some(2) && late.ret == -5);
-    assert!(rt; core.what == What::Syscore(1) && core.ret == -16);
-    Ok(())
+// A file with a link whose state is given, and a script that sets its state and adds another one.
+const CHANGES: &str = r#"{"version":2,"devices":[{"name":"a"},{"name":"b"}],
+        "links":[{"supplier":"b","consumer":"a","state":"dormant"}],
+        "actors":[{"name":"w","kind":"user","script":[{"op":"link_state","supplier":"b","consumer":"a","to":"active"},{"op":"link","supplier":"a","consumer":"b"}]}]}"#;
+
+/// A link's state is read, and what a script makes of links.
+#[test]
+fn changes_of_links_are_read(rt: HostRuntime) {
+    assert!(rt; gives(rt.alloc(), CHANGES, &Wanted::Changes));
 }
 
-fn assert_operations(rt: &impl Abort, actors: &[Script]) -> Result<(), Fail> {
-    let [actor] = actors else {
-        return Err(Fail::from("one actor"));
-    };
-    let [_, _, event, runtime, state] = actor.steps.as_slice() else {
-        return Err(Fail::from("five steps"));
-    };
-    assert!(rt;
-        matches!(
-            &event.op,
-            Op::Event {
-                source: 0,
-                ms: 0,
-                hard: false
-            }
-        )
-    );
-    assert!(rt;
-        matches!(
-            &runtime.op,
-            Op::Runtime {
-                device: 2,
-                to_suspended: true
-            }
-        )
-    );
-    assert!(rt;
-        matches!(
-            &state.op,
-            Op::State {
-                if_saved: false,
-                ..
-            }
-        )
-    );
-    Ok(())
+fn are_changes(machine: &Machine) -> bool {
+    is_dormant(machine.links.as_slice()) && change_links(machine.actors.as_slice())
+}
+
+fn is_dormant(links: &[Link]) -> bool {
+    match links {
+        [link] => !link.active,
+        _ => false,
+    }
+}
+
+fn change_links(actors: &[Script]) -> bool {
+    match steps_of(actors) {
+        [state, added] => sets_link(&state.op) && adds_link(&added.op),
+        _ => false,
+    }
+}
+
+fn sets_link(op: &Op) -> bool {
+    matches!(
+        op,
+        Op::LinkState {
+            supplier: 1,
+            consumer: 0,
+            active: true
+        }
+    )
+}
+
+fn adds_link(op: &Op) -> bool {
+    matches!(
+        op,
+        Op::Link {
+            supplier: 0,
+            consumer: 1
+        }
+    )
 }
 
 // Two writers that share marks, and a callback that reports.
-fn shared(alloc: Global) -> Result<ReadMachine, Fail> {
-    let text = r#"{"version":1,"devices":[{"name":"nic"}],"sources":["lan","lid"],
+const SHARED: &str = r#"{"version":1,"devices":[{"name":"nic"}],"sources":["lan","lid"],
         "actors":[
             {"name":"w","kind":"user","script":[{"op":"wait","mark":"b"},{"op":"state","text":"mem","if_saved":true,"times":3}]},
             {"name":"v","kind":"user","script":[{"op":"autosleep","text":"mem"},{"op":"sleep","ms":20},{"op":"post","mark":"a"},{"op":"post","mark":"b"}]}],
         "answers":[{"what":"device","name":"nic","phase":"late","reports":[{"call":"event","source":"lid","ms":9,"hard":true},{"call":"relax","source":"lan"}]}]}"#;
-    Ok(read_machine(alloc, text.as_bytes())?)
-}
 
 /// Marks, each writer's script and reports are read.
 #[test]
-fn a_shared_machine_is_read(rt: HostRuntime) -> Result<(), Fail> {
-    let read = shared(rt.alloc())?;
-    assert_shared(&rt, &read.machine)
+fn a_shared_machine_is_read(rt: HostRuntime) {
+    assert!(rt; gives(rt.alloc(), SHARED, &Wanted::Shared));
 }
 
-fn assert_shared(rt: &impl Abort, machine: &Machine) -> Result<(), Fail> {
-    assert_marks(rt, machine.marks.as_slice())?;
-    assert_posts(rt, machine.actors.as_slice())?;
-    assert_writers(rt, machine.actors.as_slice())?;
-    assert_reports(rt, machine.answers.as_slice())
+fn is_shared(machine: &Machine) -> bool {
+    are_marks(machine.marks.as_slice())
+        && are_writers(machine.actors.as_slice())
+        && have_reports(machine.answers.as_slice())
 }
 
 // Marks stand in the order of their first use.
-fn assert_marks(rt: &impl Abort, marks: &[Name]) -> Result<(), Fail> {
-    let [first, second] = marks else {
-        return Err(Fail::from("two marks"));
-    };
-    assert!(rt; first.bytes() == b"b".as_slice() && second.bytes() == b"a".as_slice());
-    Ok(())
-}
-
-// Marks are named by their numbers.
-fn assert_posts(rt: &impl Abort, actors: &[Script]) -> Result<(), Fail> {
-    let [_, other] = actors else {
-        return Err(Fail::from("two actors"));
-    };
-    let [_, sleep, one, two] = other.steps.as_slice() else {
-        return Err(Fail::from("four steps"));
-    };
-    assert!(rt; matches!(&sleep.op, Op::Sleep { ms: 20 }));
-    assert!(rt; matches!(&one.op, Op::Post { mark: 1 }));
-    assert!(rt; matches!(&two.op, Op::Post { mark: 0 }));
-    Ok(())
+fn are_marks(marks: &[Name]) -> bool {
+    match marks {
+        [first, second] => { first.bytes() == b"b".as_slice() && second.bytes() == b"a".as_slice() }
+        _ => false,
+    }
 }
 
 // Each of two writers has its own script.
-fn assert_writers(rt: &impl Abort, actors: &[Script]) -> Result<(), Fail> {
-    let [one, other] = actors else {
-        return Err(Fail::from("two actors"));
-    };
-    let [wait, state] = one.steps.as_slice() else {
-        return Err(Fail::from("two steps"));
-    };
-    assert!(rt; matches!(&wait.op, Op::Wait { mark: 0 }));
-    assert!(rt; matches!(&state.op, Op::State { if_saved: true, .. }) && state.times == 3);
-    let [autosleep, ..] = other.steps.as_slice() else {
-        return Err(Fail::from("a step"));
-    };
-    assert!(rt; matches!(&autosleep.op, Op::Autosleep { .. }));
-    Ok(())
+fn are_writers(actors: &[Script]) -> bool {
+    match actors {
+        [one, other] => waits(one.steps.as_slice()) && posts(other.steps.as_slice()),
+        _ => false,
+    }
+}
+
+fn waits(steps: &[Step]) -> bool {
+    match steps {
+        [wait, state] => {
+            matches!(&wait.op, Op::Wait { mark: 0 })
+                && is_state(&state.op, true)
+                && state.times == 3
+        }
+        _ => false,
+    }
+}
+
+// Marks are named by their numbers.
+fn posts(steps: &[Step]) -> bool {
+    match steps {
+        [autosleep, sleep, one, two] => {
+            matches!(&autosleep.op, Op::Autosleep { .. })
+                && matches!(&sleep.op, Op::Sleep { ms: 20 })
+                && matches!(&one.op, Op::Post { mark: 1 })
+                && matches!(&two.op, Op::Post { mark: 0 })
+        }
+        _ => false,
+    }
+}
+
+fn have_reports(answers: &[Answer]) -> bool {
+    match answers {
+        [answer] => are_reports(answer.reports.as_slice()),
+        _ => false,
+    }
 }
 
 // Reports are read, in their order.
-fn assert_reports(rt: &impl Abort, answers: &[Answer]) -> Result<(), Fail> {
-    let [answer] = answers else {
-        return Err(Fail::from("one answer"));
-    };
-    let [event, relax] = answer.reports.as_slice() else {
-        return Err(Fail::from("two reports"));
-    };
-    assert!(rt; event.source == 1 && relax.source == 0);
-    assert!(rt; matches!(&event.call, SourceCall::Event { ms: 9, hard: true }));
-    assert!(rt; matches!(&relax.call, SourceCall::Relax));
-    Ok(())
+fn are_reports(reports: &[Report]) -> bool {
+    match reports {
+        [event, relax] => {
+            event.source == 1
+                && matches!(&event.call, SourceCall::Event { ms: 9, hard: true })
+                && relax.source == 0
+                && matches!(&relax.call, SourceCall::Relax)
+        }
+        _ => false,
+    }
 }

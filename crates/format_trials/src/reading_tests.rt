@@ -1,5 +1,6 @@
 use crate::log_tests::{machine, one_task};
 use log_text::{LogFault, read_log, write_log};
+use sleep_base::Mem;
 use sleep_model::Machine;
 use std::alloc::Global;
 use std::process::Abort;
@@ -57,59 +58,52 @@ fn bad_line(alloc: Global, machine: &Machine, text: &str) -> Result<u32, LogFaul
     }
 }
 
-// Where the text is a log, what is written of it is the text again.
+// What is written of the log that the text is.
 fn written_again(alloc: Global, machine: &Machine, text: &str) -> Result<Vec<u8>, LogFault> {
     let log = read_log(alloc, machine, text.as_bytes())?;
-    Ok(write_log(alloc, machine, &log)?)
+    let again = write_log(alloc, machine, &log);
+    drop(log);
+    Ok(again?)
 }
 
-// The text is a log, and what is written of it is the text again.
-pub fn assert_kept(
-    rt: &impl Abort,
-    alloc: Global,
-    machine: &Machine,
-    text: &str,
-) -> Result<(), Fail> {
+// Whether the text is a log, of which the text is written again.
+pub fn is_kept(alloc: Global, machine: &Machine, text: &str) -> Result<bool, LogFault> {
     let again = written_again(alloc, machine, text)?;
-    assert_eq!(rt; again.as_slice(), text.as_bytes());
-    Ok(())
+    Ok(again.as_slice() == text.as_bytes())
+}
+
+// Lines, and more behind them.
+fn with_end(alloc: Global, lines: &str, end: &str) -> Result<String, Mem> {
+    let mut text = String::from_str(alloc, lines)?;
+    text.push_str(end)?;
+    Ok(text)
+}
+
+// Whether lines with more behind them are.
+fn are_kept(alloc: Global, machine: &Machine, lines: &str, end: &str) -> Result<bool, LogFault> {
+    let text = with_end(alloc, lines, end)?;
+    is_kept(alloc, machine, text.as_str())
+}
+
+// Lines of the only task, which are kept with their end, and of which line 33, the last one, is cut off.
+fn expect_one_task(rt: &impl Abort, alloc: Global, machine: &Machine) {
+    assert!(rt; are_kept(alloc, machine, SLEEPS_ONCE, "finished\n") == Ok(true));
+    assert!(rt; bad_line(alloc, machine, SLEEPS_ONCE) == Ok(33));
 }
 
 #[test]
-fn reads_a_log_and_writes_it_again(rt: HostRuntime) -> Result<(), Fail> {
-    let alloc = rt.alloc();
-    let text = format!(in alloc; "{SLEEPS_ONCE}finished\n")?;
-    assert_kept(&rt, alloc, &one_task(alloc)?, text.as_str())
-}
-
-#[test]
-fn reads_entries_of_several_things(rt: HostRuntime) -> Result<(), Fail> {
-    let alloc = rt.alloc();
-    let text = format!(in alloc; "{SEVERAL}stuck task:w read\nstuck task:b mark a\n")?;
-    assert_kept(&rt, alloc, &machine(alloc)?, text.as_str())
-}
-
-// Line 33, the last one, is cut off.
-#[test]
-fn names_the_line_that_is_missing(rt: HostRuntime) -> Result<(), Fail> {
-    let alloc = rt.alloc();
-    let bad = bad_line(alloc, &one_task(alloc)?, SLEEPS_ONCE)?;
-    assert_eq!(rt; bad, 33);
+fn reads_a_log_and_names_the_line_that_is_missing(rt: HostRuntime) -> Result<(), Fail> {
+    let machine = one_task(rt.alloc())?;
+    expect_one_task(&rt, rt.alloc(), &machine);
+    drop(machine);
     Ok(())
 }
 
 // That the text's first bad line is that one.
-pub fn assert_bad(
-    rt: &impl Abort,
-    alloc: Global,
-    machine: &Machine,
-    rows: &[(&str, u32)],
-) -> Result<(), LogFault> {
+pub fn assert_bad(rt: &impl Abort, alloc: Global, machine: &Machine, rows: &[(&str, u32)]) {
     for (text, line) in rows {
-        let bad = bad_line(alloc, machine, text)?;
-        assert_eq!(rt; bad, *line, "at {text}");
+        assert!(rt; bad_line(alloc, machine, text) == Ok(*line), "at {text}");
     }
-    Ok(())
 }
 
 const BAD_ENTRIES: [(&str, u32); 8] = [
@@ -122,12 +116,6 @@ const BAD_ENTRIES: [(&str, u32); 8] = [
     ("0 0/0/0 task:w exit \n", 1),
     ("0 0/0/0 task:w exit\n0 0/0/0 task:w post b\n", 2),
 ];
-
-#[test]
-fn names_the_first_bad_entry(rt: HostRuntime) -> Result<(), Fail> {
-    let machine = machine(rt.alloc())?;
-    Ok(assert_bad(&rt, rt.alloc(), &machine, &BAD_ENTRIES)?)
-}
 
 const BAD_BEHIND: [(&str, u32); 6] = [
     ("", 1),
@@ -147,8 +135,20 @@ const BAD_BEHIND: [(&str, u32); 6] = [
     ),
 ];
 
+// Entries of several things, which are kept, and the first bad line of entries and behind them.
+fn expect_several(rt: &impl Abort, alloc: Global, machine: &Machine) {
+    let stuck = "stuck task:w read\nstuck task:b mark a\n";
+    assert!(rt; are_kept(alloc, machine, SEVERAL, stuck) == Ok(true));
+    assert_bad(rt, alloc, machine, &BAD_ENTRIES);
+    assert_bad(rt, alloc, machine, &BAD_BEHIND);
+}
+
 #[test]
-fn names_the_first_bad_line_behind_the_entries(rt: HostRuntime) -> Result<(), Fail> {
+fn reads_entries_of_several_things_and_names_the_first_bad_line(
+    rt: HostRuntime,
+) -> Result<(), Fail> {
     let machine = machine(rt.alloc())?;
-    Ok(assert_bad(&rt, rt.alloc(), &machine, &BAD_BEHIND)?)
+    expect_several(&rt, rt.alloc(), &machine);
+    drop(machine);
+    Ok(())
 }
