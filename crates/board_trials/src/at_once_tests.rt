@@ -62,6 +62,13 @@ const FORK: [Row<'static>; 9] = [
     Row([(0, 2), (3, 0)], &[]),
 ];
 
+// What the devices of each list hang on.
+const FOUR: [Option<u32>; 4] = [None, None, None, None];
+
+const FIVE: [Option<u32>; 5] = [None, Some(0), Some(1), None, None];
+
+const THREE: [Option<u32>; 3] = [None, Some(0), None];
+
 /// Whether links leave an order, or are not made where that is empty.
 fn is_order(links: &Option<Links>, order: &[u32]) -> bool {
     match links {
@@ -100,10 +107,9 @@ fn expect_orders(rt: &impl Abort, alloc: Global, parents: &[Option<u32>], rows: 
 /// Links that are made at once leave the order of the moves of each in turn, or none are made.
 #[test]
 fn links_are_made_at_once(rt: HostRuntime) {
-    let alloc = rt.alloc();
-    expect_orders(&rt, alloc, &[None, None, None, None], &UNRELATED);
-    expect_orders(&rt, alloc, &[None, Some(0), Some(1), None, None], &CHAIN);
-    expect_orders(&rt, alloc, &[None, Some(0), None], &FORK);
+    expect_orders(&rt, rt.alloc(), &FOUR, &UNRELATED);
+    expect_orders(&rt, rt.alloc(), &FIVE, &CHAIN);
+    expect_orders(&rt, rt.alloc(), &THREE, &FORK);
 }
 
 /// Lists of many links: a hundred diamonds, one on the other, the last diamond first; two rows of devices, each linked along

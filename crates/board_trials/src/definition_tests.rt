@@ -62,24 +62,50 @@ fn is_answer(answer: Answer, added: &[(u32, u32)], dependents: &[u32], link: (u3
     }
 }
 
-/// Tries a link, and compares the answer and the order with the plain definition. The list is the order with all that
-/// depends on the consumer behind it.
-fn compare_with(
-    rt: &impl Abort,
+/// Adds a link to what was added. The list is the order with all that depends on its consumer behind it.
+fn keep(alloc: Global, compared: &mut Compared, link: (u32, u32), all: &[u32]) -> Result<(), Mem> {
+    compared.added.push(link)?;
+    compared.order = at_last_places(alloc, all)?;
+    Ok(())
+}
+
+/// Tries a link. Whether the answer and the order are those of the plain definition.
+fn is_as_defined(
     alloc: Global,
     compared: &mut Compared,
     link: (u32, u32),
     all: &[u32],
-) -> Result<(), Mem> {
+) -> Result<bool, Mem> {
     let answer = added(&mut compared.links, link.0, link.1, true);
     let dependents = all.get(compared.order.len()..).unwrap_or_default();
-    assert!(rt; is_answer(answer, &compared.added, dependents, link));
+    let is_answer = is_answer(answer, &compared.added, dependents, link);
     if answer == Answer::Done {
-        compared.added.push(link)?;
-        compared.order = at_last_places(alloc, all)?;
+        keep(alloc, compared, link, all)?;
     }
-    assert!(rt; compared.links.order() == compared.order.as_slice());
-    Ok(())
+    Ok(is_answer && compared.links.order() == compared.order.as_slice())
+}
+
+/// The order with a device and all that depends on it behind.
+fn all_of(
+    alloc: Global,
+    parents: &[Option<u32>],
+    compared: &Compared,
+    device: u32,
+) -> Result<Vec<u32>, Mem> {
+    let mut all = compared.order.as_slice().to_vec(alloc)?;
+    moved(7, parents, &compared.added, device, &mut all)?;
+    Ok(all)
+}
+
+/// Whether a link is answered as the plain definition has it.
+fn is_tried(
+    alloc: Global,
+    parents: &[Option<u32>],
+    compared: &mut Compared,
+    link: (u32, u32),
+) -> Result<bool, Mem> {
+    let all = all_of(alloc, parents, compared, link.1)?;
+    is_as_defined(alloc, compared, link, &all)
 }
 
 /// Tries twenty links at random.
@@ -89,15 +115,12 @@ fn compare_all(
     parents: &[Option<u32>],
     compared: &mut Compared,
     mut seed: u32,
-) -> Result<(), Mem> {
+) {
     for _ in 0..20 {
         seed = seed.wrapping_mul(1_664_525).wrapping_add(1_013_904_223);
         let link = ((seed >> 16) % 7, (seed >> 20) % 7);
-        let mut all = compared.order.as_slice().to_vec(alloc)?;
-        moved(7, parents, &compared.added, link.1, &mut all)?;
-        compare_with(rt, alloc, compared, link, &all)?;
+        assert!(rt; is_tried(alloc, parents, compared, link) == Ok(true));
     }
-    Ok(())
 }
 
 /// Tries links between seven devices.
@@ -111,17 +134,19 @@ fn compare(rt: &impl Abort, alloc: Global, parents: &[Option<u32>], seed: u32) -
         order,
         added: Vec::new(alloc),
     };
-    let done = compare_all(rt, alloc, parents, &mut compared, seed);
+    compare_all(rt, alloc, parents, &mut compared, seed);
     drop(compared);
-    done
+    Ok(())
 }
+
+const BARE: [Option<u32>; 7] = [None, None, None, None, None, None, None];
+
+const TREE: [Option<u32>; 7] = [None, Some(0), Some(0), Some(1), None, Some(4), Some(2)];
 
 /// Compares over seven devices without parents, and over a tree.
 fn compare_both(rt: &impl Abort, alloc: Global, seed: u32) -> Result<(), Mem> {
-    let bare = [None, None, None, None, None, None, None];
-    compare(rt, alloc, &bare, seed)?;
-    let tree = [None, Some(0), Some(0), Some(1), None, Some(4), Some(2)];
-    compare(rt, alloc, &tree, seed)
+    compare(rt, alloc, &BARE, seed)?;
+    compare(rt, alloc, &TREE, seed)
 }
 
 /// On small trees, and links at random, order and refusals are those of the plain definition.

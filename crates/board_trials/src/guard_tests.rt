@@ -8,12 +8,26 @@ fn word(inpr: u32, count: u32, hard: u32) -> EventNow {
 /// Sixteen events after a save of 0 are not seen by 4 bits; by 5 they are, and the test drops the count.
 #[test]
 fn events_wrap_round_the_visible_count(rt: HostRuntime) {
-    let (none, sixteen) = (word(0, 0, 0), word(0, 16, 0));
+    assert!(rt; are_unseen() && are_seen());
+}
+
+/// Whether 4 bits do not see them.
+fn are_unseen() -> bool {
     let mut few = Guard::<4>::new();
-    assert!(rt; few.save(none, 0) && !few.pending(sixteen) && few.in_force() == Some(0));
+    let is_saved = few.save(word(0, 0, 0), 0);
+    let is_pending = few.pending(word(0, 16, 0));
+    is_saved && !is_pending && few.in_force() == Some(0)
+}
+
+/// Whether 5 bits see them once.
+fn are_seen() -> bool {
+    let sixteen = word(0, 16, 0);
     let mut more = Guard::<5>::new();
-    assert!(rt; more.save(none, 0) && more.is_pending(sixteen) && more.pending(sixteen));
-    assert!(rt; !more.pending(sixteen) && more.in_force().is_none());
+    let is_saved = more.save(word(0, 0, 0), 0);
+    let is_seen = more.is_pending(sixteen);
+    let once = more.pending(sixteen);
+    let again = more.pending(sixteen);
+    is_saved && is_seen && once && !again && more.in_force().is_none()
 }
 
 /// A guard that has saved 3.
@@ -75,11 +89,18 @@ fn the_count_in_force_moves(rt: HostRuntime) {
 /// Hard events are pending until they are forgotten, a count in force or not.
 #[test]
 fn hard_events_are_pending_until_forgotten(rt: HostRuntime) {
+    assert!(rt; are_forgotten());
+}
+
+/// Whether a freeze and a call forget those that came before them, and no more.
+fn are_forgotten() -> bool {
     let (one, two) = (word(0, 0, 1), word(0, 0, 2));
     let mut guard = Guard::<24>::new();
-    assert!(rt; guard.pending(one));
+    let first = guard.pending(one);
     guard.clear_hard(one);
-    assert!(rt; !guard.pending(one) && guard.pending(two));
+    let cleared = guard.pending(one);
+    let second = guard.pending(two);
     guard.note(Kind::Freeze(Group::User), two);
-    assert!(rt; !guard.pending(two) && guard.visible(word(0, 16_777_217, 0)) == 1);
+    let frozen = guard.pending(two);
+    first && !cleared && second && !frozen && guard.visible(word(0, 16_777_217, 0)) == 1
 }

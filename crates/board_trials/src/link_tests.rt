@@ -208,15 +208,25 @@ const REFUSALS: [Step<'static>; 8] = [
     Step::Order(&[2, 0, 1]),
 ];
 
+// What the devices of each list of steps hang on.
+const OF_MOVES: [Option<u32>; 5] = [None, Some(0), Some(1), None, None];
+
+const OF_STAYS: [Option<u32>; 4] = [None, None, None, None];
+
+const OF_CHILDREN: [Option<u32>; 4] = [None, Some(0), Some(0), None];
+
+const OF_DORMANT: [Option<u32>; 3] = [None, None, None];
+
+const OF_REFUSALS: [Option<u32>; 3] = [None, Some(0), None];
+
 /// Links come, move their consumers and are refused as each list of steps says.
 #[test]
 fn links_move_and_are_refused(rt: HostRuntime) -> Result<(), Fail> {
-    let alloc = rt.alloc();
-    follow_over(&rt, alloc, &[None, Some(0), Some(1), None, None], &MOVES)?;
-    follow_over(&rt, alloc, &[None, None, None, None], &STAYS)?;
-    follow_over(&rt, alloc, &[None, Some(0), Some(0), None], &CHILDREN)?;
-    follow_over(&rt, alloc, &[None, None, None], &DORMANT)?;
-    Ok(follow_over(&rt, alloc, &[None, Some(0), None], &REFUSALS)?)
+    follow_over(&rt, rt.alloc(), &OF_MOVES, &MOVES)?;
+    follow_over(&rt, rt.alloc(), &OF_STAYS, &STAYS)?;
+    follow_over(&rt, rt.alloc(), &OF_CHILDREN, &CHILDREN)?;
+    follow_over(&rt, rt.alloc(), &OF_DORMANT, &DORMANT)?;
+    Ok(follow_over(&rt, rt.alloc(), &OF_REFUSALS, &REFUSALS)?)
 }
 
 /// Adds four links for each of a hundred diamonds, one on the other, the last first; true if all are added.

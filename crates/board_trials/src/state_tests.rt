@@ -120,18 +120,27 @@ fn begun() -> Path {
     path
 }
 
-/// Asserts that each step leads to its stage, and that the machine sleeps where it is entered.
+/// Whether a step leads to its stage, and the machine sleeps where it is entered.
 #[tactic(auto, using(sleep_state::proofs::Counting::attempts_few))]
+fn leads(path: &mut Path, kind: Kind, stage: Stage) -> bool {
+    if path.attempts() > 9 {
+        return false;
+    }
+    path.note(kind, TASK, 7, 50);
+    path.stage() == Some(stage) && path.sleep().is_some() == (stage == Stage::Enters)
+}
+
+/// Asserts that each step does.
 fn expect_steps(rt: &impl Abort, path: &mut Path, steps: &[(Kind, Stage)]) {
     for (number, (kind, stage)) in steps.iter().enumerate() {
-        assert!(rt; path.attempts() < 9);
-        path.note(*kind, TASK, 7, 50);
-        assert!(rt; path.stage() == Some(*stage), "step {number}");
-        assert!(rt;
-            path.sleep().is_some() == (*stage == Stage::Enters),
-            "step {number}"
-        );
+        assert!(rt; leads(path, *kind, *stage), "step {number}");
     }
+}
+
+/// Whether an attempt that is begun leads to its stage by that step, and has an error.
+fn fails(kind: Kind, stage: Stage) -> bool {
+    let mut path = begun();
+    leads(&mut path, kind, stage) && path.failed().is_some()
 }
 
 /// An attempt that nothing disturbs passes each stage once, sleeps from its entering to its wake,
@@ -142,23 +151,26 @@ fn an_attempt_passes_its_stages(rt: HostRuntime) {
     assert!(rt; path.stage() == Some(Stage::Notifies));
     expect_steps(&rt, &mut path, &CALM);
     assert!(rt; path.maker() == Some(TASK) && path.failed().is_none());
-    for (number, step) in FAILED.iter().enumerate() {
-        let mut path = begun();
-        expect_steps(&rt, &mut path, &[*step]);
-        assert!(rt; path.failed().is_some(), "step {number}");
+    for (number, (kind, stage)) in FAILED.iter().enumerate() {
+        assert!(rt; fails(*kind, *stage), "step {number}");
     }
+}
+
+/// Whether a freeze goes on from its begin to its end, and an attempt that is over has no maker and no stage.
+fn has_times() -> bool {
+    let mut path = begun();
+    path.note(Kind::Freeze(Group::User), TASK, 0, 30);
+    let since = path.freeze_since();
+    path.note(Kind::Froze(Group::User, FrozeEnd::AllFrozen), TASK, 0, 40);
+    let behind = path.freeze_since();
+    path.note(Kind::Over { n: 1, r: None }, TASK, 7, 50);
+    since == Some(30) && behind.is_none() && path.maker().is_none() && path.stage().is_none()
 }
 
 /// A freeze goes on from its begin to its end. An attempt that is over has no maker and no stage.
 #[test]
 fn a_freeze_has_its_time(rt: HostRuntime) {
-    let mut path = begun();
-    path.note(Kind::Freeze(Group::User), TASK, 0, 30);
-    assert!(rt; path.freeze_since() == Some(30));
-    path.note(Kind::Froze(Group::User, FrozeEnd::AllFrozen), TASK, 0, 40);
-    assert!(rt; path.freeze_since().is_none());
-    path.note(Kind::Over { n: 1, r: None }, TASK, 7, 50);
-    assert!(rt; path.maker().is_none() && path.stage().is_none());
+    assert!(rt; has_times());
 }
 
 /// What is kept of two devices: whether the maker is in a callback, the phase's error, that of a synchronous device, what the
