@@ -22,6 +22,11 @@ use std::sync::Wait;
 use std::thread::Threads;
 use turn_lock::LockTable;
 
+// Want of memory, where a value has to be let go of.
+fn lost<A: Drop>(_value: A) -> Mem {
+    Mem
+}
+
 /// The workers make their turns, side by side where threads can be made. Answers how many turns did something.
 fn run_workers<'m, R: Threads + Sync + Wait, G: Gate + Sync>(
     rt: &R,
@@ -78,17 +83,28 @@ pub fn make_burst<'m, R: Threads + Sync + Wait, G: Gate + Sync>(
     let moment = core.core().time();
     moments_are_ranged(moment);
     let count = tasks.len() as u32;
-    let objects = world_objects(alloc, core, sources, moment)?;
-    let (locks, passes) = LockTable::new(alloc, objects, count)?;
-    let mut workers = workers_of(alloc, passes, tasks, plan.actors, moment)?;
+    let Ok(objects) = world_objects(alloc, core, sources, moment) else {
+        return Err(lost(tasks));
+    };
+    let Ok((locks, passes)) = LockTable::new(alloc, objects, count) else {
+        return Err(lost(tasks));
+    };
+    let Ok(mut workers) = workers_of(alloc, passes, tasks, plan.actors, moment) else {
+        return Err(lost(locks));
+    };
     let did = run_workers(rt, plan, &locks.desk, workers.as_mut_slice(), moment);
+    let Ok(brought) = taken_apart(alloc, workers) else {
+        return Err(lost(locks));
+    };
     let Brought {
         passes,
         tasks,
         stop,
         busiest,
-    } = taken_apart(alloc, workers)?;
-    let (core, sources) = close_world(alloc, locks, passes)?;
+    } = brought;
+    let Ok((core, sources)) = close_world(alloc, locks, passes) else {
+        return Err(lost(tasks));
+    };
     Ok(Burst {
         parts: BurstParts {
             core,
