@@ -11,7 +11,7 @@ use crate::rows::{all_direct_complete, count_at, first_not_down, first_not_up, i
 use crate::stand::{ended_by, is_at_work, skipped_for, work_in};
 use crate::walk::{Layout, Walk, places_of, refill_places};
 use device_links::Links;
-use sleep_base::Mem;
+use sleep_base::{Mem, lost};
 use sleep_model::{AsyncWork, Kind, Phase, Stand};
 use std::alloc::Global;
 use std::marker::Model;
@@ -40,11 +40,6 @@ impl Model for Board {
     ghost view = { board_of };
 
     ghost invariant = { AreKept };
-}
-
-// Lets a value go for want of memory. Its type is a parameter, so that no caller's proof follows its parts.
-fn lost<A: Drop>(_value: A) -> Mem {
-    Mem
 }
 
 // Begins anew, no device prepared, over links that have changed right below this supplier alone.

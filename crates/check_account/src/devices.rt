@@ -5,7 +5,7 @@ use crate::flags::{
 use crate::stands::device_of;
 use device_rows::Flags;
 use phase_table::Phase;
-use sleep_base::Mem;
+use sleep_base::{Mem, lost};
 use sleep_model::{Kind, Machine, Stand};
 use std::alloc::Global;
 use std::marker::Model;
@@ -34,11 +34,6 @@ impl Model for DeviceAccount {
       cpus_off = a.cpus_off;
       stopped = a.stopped;
     } };
-}
-
-// No memory, where a value has to be let go. Its type is a parameter, so that the proof of a caller does not follow its parts.
-fn lost<A: Drop>(_value: A) -> Mem {
-    Mem
 }
 
 impl DeviceAccount {

@@ -10,7 +10,7 @@ ghost use Rattle.check_past.specs.Parts.{MayAdd, ties_after};
 
 use check_account::{AttemptAccount, DeviceAccount, TaskAccount};
 use check_order::DeviceTies;
-use sleep_base::Mem;
+use sleep_base::{Mem, lost};
 use sleep_model::{Entry, Kind, Link, Machine};
 use std::alloc::Global;
 
@@ -93,11 +93,6 @@ fn ties_of(alloc: Global, machine: &Machine) -> Result<DeviceTies, Mem>
 {
     let parents = parents_of(alloc, machine)?;
     DeviceTies::new(alloc, &parents, machine.links.as_slice())
-}
-
-// No memory, where a value has to be let go. Its type is a parameter, so that the proof of a caller does not follow its parts.
-fn lost<A: Drop>(_value: A) -> Mem {
-    Mem
 }
 
 /// Whether an entry of that kind is the journal's, or a jump of time.

@@ -15,7 +15,7 @@ use crate::parts::{Part, Waker};
 use event_word::{EventSeat, EventTable, LookSeat};
 use idle_loop::{IdleLog, IdleSizes, IdleState, WakerNow};
 use idle_merge::IdleBook;
-use sleep_base::Mem;
+use sleep_base::{Mem, lost};
 use std::alloc::Global;
 use std::sync::Wait;
 use std::thread::Threads;
@@ -81,11 +81,6 @@ fn has_nothing(sizes: IdleSizes, book: &IdleBook<24>) -> bool
         IdleState::Enter => true,
         IdleState::Wake => false,
     }
-}
-
-/// Want of memory, where a value has to be let go. Its type is a parameter, so that no proof of a caller follows its parts.
-fn lost<A: Drop>(_value: A) -> Mem {
-    Mem
 }
 
 /// Bursts, up to the end of the run.

@@ -39,8 +39,3 @@ impl<T: Drop> From<AllocFailed<T>> for LogFault {
         LogFault::Mem
     }
 }
-
-/// Want of memory, where a value has to be let go. Its type is a parameter, so that no proof of a caller follows its parts.
-pub(crate) fn lost<A: Drop>(_value: A) -> Mem {
-    Mem
-}

@@ -13,7 +13,7 @@ ghost use Rattle.run_world.specs.Objects.{AreObjects};
 use crate::object::WorldObject;
 use crate::world::WorldPass;
 use run_objects::{SeatedCore, SeatedSource};
-use sleep_base::Mem;
+use sleep_base::{Mem, lost};
 use std::alloc::Global;
 use turn_lock::{LockTable, close_locks};
 
@@ -56,11 +56,6 @@ fn sources_of(alloc: Global, objects: Vec<WorldObject<'_>>) -> Result<Vec<Seated
         sources.push(source_of(object))?;
     }
     Ok(sources)
-}
-
-/// Lets a value go for want of memory. Its type is a parameter, so that no caller's proof follows its parts.
-fn lost<A: Drop>(_value: A) -> Mem {
-    Mem
 }
 
 /// Closes the world: the machine, and its sources in the order of their numbers, with what the passes made, which

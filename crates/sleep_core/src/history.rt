@@ -12,7 +12,7 @@ use async_board::Board;
 use autosleep_loop::Autosleep;
 use device_links::Links;
 use platform_steps::Platform;
-use sleep_base::Mem;
+use sleep_base::{Mem, lost};
 use sleep_model::{
     Device, DeviceFlags, Entry, EventNow, Journal, JournalEntry, Kind, Machine, Stamp, pos,
 };
@@ -105,11 +105,6 @@ fn move_guard(guard: &mut Guard<24>, kind: Kind, now: EventNow)
         Kind::Skip(phase, device, cause) => guard.note(Kind::Skip(phase, device, cause), now),
         _ => {}
     }
-}
-
-/// Lets a value go for want of memory. Its type is a parameter, so that no caller's proof follows its parts.
-pub(crate) fn lost<A: Drop>(_value: A) -> Mem {
-    Mem
 }
 
 /// The parts that take memory, but for the board.

@@ -3,13 +3,13 @@
 ghost use Rattle.std.specs.Prelude.{◌≡◌, map, IfOk};
 ghost use Rattle.sleep_model.specs.Runtime.{may_wake};
 
-use crate::history::{History, lost};
+use crate::history::History;
 use crate::reports::Reports;
 use crate::state::Core;
 use device_links::Links;
 use device_rows::Flags;
 use machine_plans::MachinePlans;
-use sleep_base::Mem;
+use sleep_base::{Mem, lost};
 use sleep_model::{Device, DeviceFlags};
 use std::alloc::Global;
 

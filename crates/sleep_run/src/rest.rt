@@ -7,12 +7,12 @@ ghost use Rattle.sleep_run.specs.RunFields.{sources_of};
 ghost use Rattle.sleep_run.specs.Waits.{waits_of, all_stats};
 ghost use Rattle.wakeup_source.specs.SourceStates.{bare, latest};
 
-use crate::run::{Run, RunFault, lost, wait_unless};
+use crate::run::{Run, RunFault, wait_unless};
 use crate::waiters::Waiters;
 use apart_log::ApartLog;
 use fit_laws::{moments_are_ranged, stats_are_ranged};
 use run_objects::{SeatedSource, close_table};
-use sleep_base::Mem;
+use sleep_base::{Mem, lost};
 use sleep_core::Core;
 use sleep_model::{Actor, Due, EventNow, Journal, ListOf, LogEnd, SourceList, Stats, Waiting};
 use std::alloc::{AllocError, Global};

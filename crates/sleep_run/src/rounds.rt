@@ -6,11 +6,12 @@ ghost use Rattle.sleep_model.specs.Order.{parents_of};
 ghost use Rattle.sleep_run.specs.Runs.{Fails, IsRun};
 
 use crate::rest::Rest;
-use crate::run::{Run, RunEnd, RunFault, Tried, lost};
+use crate::run::{Run, RunEnd, RunFault, Tried};
 use apart_log::ApartLog;
 use device_links::Links;
 use machine_plans::MachinePlans;
 use run_world::Gate;
+use sleep_base::lost;
 use sleep_model::{Actor, Machine, Want, Why};
 use std::alloc::Global;
 use std::sync::Wait;

@@ -13,7 +13,7 @@ use event_word::EventTable;
 use fit_laws::{calls_are_ranged, kinds_are_ranged, moments_are_ranged};
 use machine_plans::MachinePlans;
 use run_objects::{SeatedCore, SeatedSource, seated_sources};
-use sleep_base::Mem;
+use sleep_base::{Mem, lost};
 use sleep_core::{Core, CoreFault, CoreTurn};
 use sleep_model::{Actor, EventNow, Kind, Machine, Phase, SourceCall, Stamp, Why};
 use std::alloc::{AllocError, Global};
@@ -100,11 +100,6 @@ impl<'m> Model for Run<'m> {
     ghost view = { state };
 
     ghost invariant = { KeepsRun };
-}
-
-/// Lets a value go for want of memory. Its type is a parameter, so that no caller's proof follows its parts.
-pub(crate) fn lost<A: Drop>(_value: A) -> Mem {
-    Mem
 }
 
 /// Waits for ever unless that holds.

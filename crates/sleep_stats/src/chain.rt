@@ -11,7 +11,7 @@ use crate::levels::{first_at, greatest, level_at, levels_of};
 use crate::linked::last_linked;
 use device_links::{DevList, Links};
 use device_rows::Stack;
-use sleep_base::Mem;
+use sleep_base::{Mem, lost};
 use sleep_model::{Log, Machine};
 use std::alloc::Global;
 
@@ -56,11 +56,6 @@ fn longest_by(alloc: Global, links: &Links, levels: &[u32]) -> Result<Vec<u32>, 
         Some(end) => chain_to(alloc, links, levels, end),
         None => Ok(Vec::new(alloc)),
     }
-}
-
-/// Want of memory, where a value has to be let go. Its type is a parameter, so that no proof of a caller follows its parts.
-fn lost<A: Drop>(_value: A) -> Mem {
-    Mem
 }
 
 /// The longest chain of devices at a log's end.

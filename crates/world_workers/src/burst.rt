@@ -15,17 +15,12 @@ use crate::parts::{Burst, BurstParts, BurstPlan};
 use crate::worker::Worker;
 use fit_laws::moments_are_ranged;
 use run_world::{Gate, World, WorldDesk, close_world, world_objects};
-use sleep_base::Mem;
+use sleep_base::{Mem, lost};
 use sleep_pool::burst;
 use std::alloc::Global;
 use std::sync::Wait;
 use std::thread::Threads;
 use turn_lock::LockTable;
-
-// Want of memory, where a value has to be let go of.
-fn lost<A: Drop>(_value: A) -> Mem {
-    Mem
-}
 
 /// The workers make their turns, side by side where threads can be made. Answers how many turns did something.
 fn run_workers<'m, R: Threads + Sync + Wait, G: Gate + Sync>(

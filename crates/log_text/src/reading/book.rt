@@ -1,12 +1,11 @@
 //! A machine with its names, as a log's reader needs them.
 
-use crate::fault::lost;
 use crate::reading::index::NameIndex;
 use crate::reading::names::{
     names_of_devices, names_of_notifiers, names_of_scripts, names_of_sources,
 };
 use crate::writing::ready::ReadyNames;
-use sleep_base::Mem;
+use sleep_base::{Mem, lost};
 use sleep_model::{Machine, Name};
 use std::alloc::Global;
 use std::marker::Model;

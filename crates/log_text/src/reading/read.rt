@@ -9,13 +9,13 @@ ghost use Rattle.log_text.specs.Grammar.{lines, IsBadEntry, IsBadSource, IsBadEn
 ghost use Rattle.log_text.specs.Faults.{AtLine, IsNoSource};
 ghost use Rattle.log_text.specs.Named.{AreNamed};
 
-use crate::fault::{LogFault, lost};
+use crate::fault::LogFault;
 use crate::reading::book::NameBook;
 use crate::reading::cut::is;
 use crate::reading::lines::{first_line, next_number};
 use crate::reading::reader::LineReader;
 use crate::spelling::fixed::FINISHED;
-use sleep_base::Mem;
+use sleep_base::{Mem, lost};
 use sleep_model::{AUTOSLEEP, EntryList, ListOf, Log, LogEnd, Machine, Stats, Waiting};
 use std::alloc::Global;
 

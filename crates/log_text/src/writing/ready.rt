@@ -7,13 +7,12 @@ ghost use Rattle.sleep_model.specs.Text.{device_name, name_in, script_text, sour
 ghost use Rattle.log_text.specs.Front.{maker_text};
 ghost use Rattle.log_text.specs.Named.{device_names, notifier_names, script_names};
 
-use crate::fault::lost;
 use crate::reading::names::{
     names_of_devices, names_of_notifiers, names_of_scripts, names_of_sources,
 };
 use crate::spelling::short::ShortText;
 use crate::spelling::words::script_word;
-use sleep_base::Mem;
+use sleep_base::{Mem, lost};
 use sleep_model::{Actor, Device, Machine, Name, Script};
 use std::alloc::Global;
 use std::marker::Model;

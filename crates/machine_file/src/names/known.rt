@@ -12,13 +12,12 @@ ghost use Rattle.machine_file.specs.Operations.{whole_marks};
 ghost use Rattle.machine_file.specs.Knows.{Knows, texts};
 ghost use Rattle.machine_file.specs.Broken.{member_name, place_of};
 
-use crate::fault::lost;
 use crate::names::marks::marks_in;
 use crate::names::{first_repeated, names_in, texts_in};
 use crate::value::place::{Member, Place};
 use borrowed_json::Value;
 use key_index::KeyIndex;
-use sleep_base::Mem;
+use sleep_base::{Mem, lost};
 use sleep_model::AUTOSLEEP;
 use std::alloc::Global;
 

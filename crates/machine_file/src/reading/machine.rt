@@ -11,7 +11,6 @@ ghost use Rattle.machine_file.specs.Kept.{IsSound, first_in_order, broken_form, 
 ghost use Rattle.machine_file.specs.Seen.{AreEnds, ArePlaced};
 ghost use Rattle.machine_file.specs.Broken.{broken_view};
 
-use crate::fault::lost;
 use crate::names::known::Known;
 use crate::rules::cycles::{Linking, linking_of};
 use crate::rules::pairs::{EndPlaces, Ends, ends_in, places_in};
@@ -20,7 +19,7 @@ use crate::rules::{
 };
 use crate::value::place::{Member, Place};
 use borrowed_json::Value;
-use sleep_base::Mem;
+use sleep_base::{Mem, lost};
 use std::alloc::Global;
 
 /// The first rule on form that is broken.

@@ -14,7 +14,6 @@ ghost use Rattle.machine_file.specs.Kept.{IsSound};
 ghost use Rattle.machine_file.specs.Reading.{Reads};
 
 use crate::ReadMachine;
-use crate::fault::lost;
 use crate::names::known::Known;
 use crate::reading::replies::answers_of;
 use crate::reading::scripts::{scripts_of, small_or};
@@ -24,7 +23,7 @@ use crate::rules::cycles::{Added, Linking};
 use crate::value::look::number_at;
 use crate::value::place::{Member, items};
 use borrowed_json::Value;
-use sleep_base::Mem;
+use sleep_base::{Mem, lost};
 use sleep_model::{Answer, Device, Link, ListOf, Machine, Name, Notifier, Script};
 use std::alloc::Global;
 

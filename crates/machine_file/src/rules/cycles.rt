@@ -12,7 +12,6 @@ ghost use Rattle.machine_file.specs.Fresh.{AreFresh, closes_nothing};
 ghost use Rattle.machine_file.specs.Seen.{ends_written, end_places, ArePlaced};
 ghost use Rattle.machine_file.specs.Knows.{Knows, texts};
 
-use crate::fault::lost;
 use crate::names::known::{Known, device_at, place_of_name};
 use crate::rules::pairs::EndPlaces;
 use crate::value::look::{has_text, word_at};
@@ -20,7 +19,7 @@ use crate::value::place::{Member, items};
 use borrowed_json::Value;
 use device_links::{LinkFault, Links};
 use key_index::KeyIndex;
-use sleep_base::Mem;
+use sleep_base::{Mem, lost};
 use sleep_model::{Link, link_word};
 use std::alloc::Global;
 

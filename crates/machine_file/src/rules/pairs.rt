@@ -12,14 +12,13 @@ ghost use Rattle.machine_file.specs.Knows.{Knows, AreFew, texts};
 ghost use Rattle.machine_file.specs.Seen.{ends_seen, ends_written, differ, same_ends, end_places, are_devices, AreEnds, ArePlaced};
 ghost use Rattle.machine_file.specs.Broken.{place_of};
 
-use crate::fault::lost;
 use crate::names::known::{Known, device_at, item};
 use crate::value::look::{text_at, word_at};
 use crate::value::place::{Member, Place, items};
 use borrowed_json::Value;
 use indexmap::IndexMap;
 use key_index::KeyIndex;
-use sleep_base::Mem;
+use sleep_base::{Mem, lost};
 use std::alloc::Global;
 
 /// The ends of a link, by name.
