@@ -25,6 +25,13 @@ on_journal (Notes s call) b h = (λ g. tt, λ g. refl)
 on_journal (Moves s step) b h = (λ g. tt, λ g. refl)
 on_journal OfTime b h = (λ g. tt, λ g. refl)
 
+-- whose entry it is
+pub of_journal : (p : Part) → IsTrue (is_of_journal p) ↔ (p ≡ OfJournal)
+of_journal OfJournal = (λ h. refl, λ h. refl)
+of_journal (Notes s call) = (λ h. absurd (cc), λ h. absurd (cc))
+of_journal (Moves s step) = (λ h. absurd (cc), λ h. absurd (cc))
+of_journal OfTime = (λ h. absurd (cc), λ h. absurd (cc))
+
 -- ---- places and numbers
 
 pub at_place : (rule : Rule) → rule_at (place_of rule) ≡ rule

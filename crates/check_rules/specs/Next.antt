@@ -10,10 +10,13 @@ use Rattle.sleep_model.specs.Parts.{OfJournal, journal, part_of}
 use Rattle.sleep_model.specs.Rules.Numbers.{KeepsNumbers}
 use Rattle.sleep_model.specs.Sources.{history}
 
--- the entry is the journal's, carries the numbers and the time of its place, and is due of its actor, which is inside no call and has made those that come before (own)
+-- the entry is the journal's, and carries the numbers and the time of its place (own)
+abbrev pub IsAtPlace : List Entry → Entry → Type 0
+IsAtPlace past e = (part_of e.kind ≡ OfJournal) × KeepsNumbers past e (part_of e.kind)
+
+-- the entry of the journal is at its place, and due of its actor, which is inside no call and has made those that come before (own)
 pub record IsNextEntry (m : Machine) (past : List Entry) (e : Entry) : Type 0 where
-  pub of_journal : part_of e.kind ≡ OfJournal
-  pub placed : KeepsNumbers past e (part_of e.kind)
+  pub placed : IsAtPlace past e
   pub made : due m (journal past) e.actor (numbers past) ≡ Makes e.kind
   pub turn : IsOwnTurn m (journal past) (λ s. history s past) e.actor
   pub outside : IsOutside m (λ s. history s past) e.actor

@@ -34,6 +34,7 @@ fn are_reports_made(past: &Passed<'_>, e: Entry) -> Result<bool, Mem>
 
 /// Whether devices are taken in order and answer what the machine answers, and a callback makes its reports in order, and
 /// nothing else (`drivers/base/power/main.c`). `Mem` where the number of reports has no room.
+#[inline(always)]
 pub fn walk_entry(past: &Passed<'_>, e: Entry) -> Result<bool, Mem>
     requires { fits_entry past.now.machine e ≡ true }
     ensures { IfOk result (λ b. IsTrue b ↔ WalkEntry past.now.machine (past_of past.now) e (part_of e.kind)) }
@@ -52,6 +53,7 @@ pub fn walk_entry(past: &Passed<'_>, e: Entry) -> Result<bool, Mem>
 
 /// Whether tasks freeze where they are asked to, frozen ones make nothing, and a freeze ends rightly (`try_to_freeze`,
 /// `try_to_freeze_tasks`). `Mem` where its end is beyond all time.
+#[inline(always)]
 pub fn freezer_entry(past: &Passed<'_>, e: Entry) -> Result<bool, Mem>
     ensures { IfOk result (λ b. IsTrue b ↔ FreezerEntry past.now.machine (past_of past.now) e (part_of e.kind)) }
 {
@@ -73,6 +75,7 @@ pub fn freezer_entry(past: &Passed<'_>, e: Entry) -> Result<bool, Mem>
 
 /// Whether the open attempt's maker keeps to the table, and calls on sources from callbacks alone (`enter_state`,
 /// `dpm_run_callback`).
+#[inline(always)]
 pub fn path_entry(past: &Passed<'_>, e: Entry) -> bool
     ensures { IsTrue result ↔ PathEntry past.now.machine (past_of past.now) e (part_of e.kind) }
 {
@@ -88,6 +91,7 @@ pub fn path_entry(past: &Passed<'_>, e: Entry) -> bool
 /// Whether an entry is its actor's next, once the calls before it are made whole; a note its actor's next call; a step of
 /// the word none of another's call; and time makes the jumps. `Mem` where a moment is beyond all time, or a number has no
 /// room.
+#[inline(always)]
 pub fn steps_entry(past: &Passed<'_>, e: Entry) -> Result<bool, Mem>
     requires { fits_entry past.now.machine e ≡ true }
     ensures { IfOk result (λ b. IsTrue b ↔ StepsEntry past.now.machine (past_of past.now) e (part_of e.kind)) }
@@ -110,6 +114,7 @@ pub fn steps_entry(past: &Passed<'_>, e: Entry) -> Result<bool, Mem>
 
 /// Whether who makes an entry may go on, and time jumps where it may (`suspend_enter`). `Mem` where a moment is beyond all
 /// time, a number has no room, or if there is no memory for a walk.
+#[inline(always)]
 pub fn enabled_entry(past: &Passed<'_>, e: Entry) -> Result<bool, Mem>
     ensures { IfOk result (λ b. IsTrue b ↔ EnabledEntry past.now.machine (past_of past.now) e (part_of e.kind)) }
 {

@@ -37,6 +37,7 @@ fn has_expired(past: &Passed<'_>, s: u32) -> bool
 
 /// Whether a note begins a call where the source's last one owes nothing, an expiry only where it is due, and a step is
 /// the one that is owed next (`wakeup_source_report_event`, `pm_wakeup_timer_fn`).
+#[inline(always)]
 pub fn keeps_call(past: &Passed<'_>, e: Entry) -> bool
     ensures { IsTrue result ↔ CallEntry (past_of past.now) e (part_of e.kind) }
 {
@@ -74,6 +75,7 @@ fn have_places(past: &Passed<'_>, e: Entry) -> bool
 
 /// Whether a source's entry is right: of its call, of a source that is there, and within the places of its history
 /// (`drivers/base/power/wakeup.c`).
+#[inline(always)]
 pub fn source_entry(past: &Passed<'_>, e: Entry) -> bool
     requires { fits_entry past.now.machine e ≡ true }
     ensures { IsTrue result ↔ SourceEntry past.now.machine (past_of past.now) e (part_of e.kind) }

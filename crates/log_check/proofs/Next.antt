@@ -16,12 +16,12 @@ use Rattle.check_rules.specs.Next.{IsNextEntry}
 
 module _ (m : Machine) (past : List Entry) (e : Entry) (l : IsLegal m past) (n : IsNextEntry m past e) where
   of_journal : OfJournal ≡ part_of e.kind
-  of_journal = sym n.of_journal
+  of_journal = sym n.placed.0
 
   step : JournalStep m (journal past) e OfJournal
   step = (
-    subst (λ (w : EventNow). due m (journal past) e.actor w ≡ Makes e.kind) (sym n.placed.0) n.made,
-    subst (IsOnTime past e.time) n.of_journal n.placed.1 ∙ sym (time_journal past),
+    subst (λ (w : EventNow). due m (journal past) e.actor w ≡ Makes e.kind) (sym n.placed.1.0) n.made,
+    subst (IsOnTime past e.time) n.placed.0 n.placed.1.1 ∙ sym (time_journal past),
   )
 
   in_journal : JournalPart m (journal (e ∷ past))
@@ -46,7 +46,7 @@ module _ (m : Machine) (past : List Entry) (e : Entry) (l : IsLegal m past) (n :
     journal = in_journal;
     sources = (subst (OwnStep past e) of_journal tt, l.sources);
     histories = fits;
-    placed = (n.placed.0, n.placed.1, l.placed);
+    placed = (n.placed.1.0, n.placed.1.1, l.placed);
     joint = (subst (JointStep m past e) of_journal (n.turn, n.outside), l.joint);
   }
 
