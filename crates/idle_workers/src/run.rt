@@ -100,13 +100,10 @@ fn to_end<R: Threads + Wait + Sync>(
     requires count { length seats.items ≡ sizes.wakers }
     ensures { IfOk result (IsLeft sizes table.now.desk.shared.table_id) }
 {
-    let Ok(book) = IdleBook::new(alloc, sizes) else {
-        return Err(lost((seats, look)));
+    let mut crew = Crew {
+        book: IdleBook::new(alloc, sizes)?,
+        parts: parts_of(alloc, sizes, table, seats, look)?,
     };
-    let Ok(parts) = parts_of(alloc, sizes, table, seats, look) else {
-        return Err(lost(book));
-    };
-    let mut crew = Crew { book, parts };
     for _ in rt.forever() {
         if are_through(sizes, &crew.parts) && has_nothing(sizes, &crew.book) {
             return leave(rt, alloc, crew);
