@@ -4,6 +4,7 @@ ghost use Rattle.idle_loop.specs.Kept.{AreSizes};
 use idle_loop::{IdleEntry, IdleKind, IdleLog, IdleSizes, run_idle_alone};
 use idle_merge::merge_idle;
 use idle_workers::run_idle;
+use sleep_base::Mem;
 use std::alloc::Global;
 use std::sync::Wait;
 use std::test::Fail;
@@ -34,8 +35,7 @@ fn a_second_event_ends_the_session(rt: HostRuntime) -> Result<(), Fail> {
         entry(2, 1, IdleKind::Leave),
         entry(2, 1, IdleKind::TryBusy),
     ];
-    assert!(rt; log.entries.as_slice() == row.as_slice());
-    assert!(rt; !log.idle);
+    assert!(rt; log.entries.as_slice() == row.as_slice() && !log.idle);
     Ok(())
 }
 
@@ -54,8 +54,7 @@ fn a_forgotten_event_lets_it_sleep(rt: HostRuntime) -> Result<(), Fail> {
         entry(1, 0, IdleKind::Wake),
         entry(1, 1, IdleKind::TryOk),
     ];
-    assert!(rt; log.entries.as_slice() == row.as_slice());
-    assert!(rt; log.idle);
+    assert!(rt; log.entries.as_slice() == row.as_slice() && log.idle);
     Ok(())
 }
 
@@ -68,8 +67,7 @@ fn the_greatest_sizes_end(rt: HostRuntime) -> Result<(), Fail> {
         sessions: 1000,
     };
     let log = run_idle_alone(&rt, rt.alloc(), sizes)?;
-    assert!(rt; log.entries.len() >= 32_000);
-    assert!(rt; log.entries.len() <= 50_001);
+    assert!(rt; log.entries.len() >= 32_000 && log.entries.len() <= 50_001);
     Ok(())
 }
 
@@ -95,17 +93,22 @@ fn a_run_taken_apart_merges_again(rt: HostRuntime) -> Result<(), Fail> {
     Ok(())
 }
 
+/// Whether two logs are the same.
+fn is_same(log: &IdleLog, other: &IdleLog) -> bool {
+    log.entries.as_slice() == other.entries.as_slice() && log.idle == other.idle
+}
+
 /// Whether one worker makes the log that a run without threads makes.
-fn is_alone<R: Threads + Wait + Sync>(rt: &R, alloc: Global, sizes: IdleSizes) -> Result<bool, Fail>
+fn is_alone<R: Threads + Wait + Sync>(rt: &R, alloc: Global, sizes: IdleSizes) -> Result<bool, Mem>
     requires { AreSizes sizes }
 {
     let log = run_idle(rt, alloc, sizes, 1)?;
     let alone = run_idle_alone(rt, alloc, sizes)?;
-    Ok(log.entries.as_slice() == alone.entries.as_slice() && log.idle == alone.idle)
+    Ok(is_same(&log, &alone))
 }
 
 #[test]
-fn one_worker_makes_the_log_of_a_run_alone(rt: HostRuntime) -> Result<(), Fail> {
+fn one_worker_makes_the_log_of_a_run_alone(rt: HostRuntime) {
     let short = IdleSizes {
         wakers: 1,
         events: 2,
@@ -116,9 +119,8 @@ fn one_worker_makes_the_log_of_a_run_alone(rt: HostRuntime) -> Result<(), Fail> 
         events: 700,
         sessions: 300,
     };
-    assert!(rt; is_alone(&rt, rt.alloc(), short)?);
-    assert!(rt; is_alone(&rt, rt.alloc(), long)?);
-    Ok(())
+    assert!(rt; is_alone(&rt, rt.alloc(), short) == Ok(true));
+    assert!(rt; is_alone(&rt, rt.alloc(), long) == Ok(true));
 }
 
 /// How many entries of a kind the log has.
@@ -130,17 +132,21 @@ fn count(log: &IdleLog, what: IdleKind) -> u32 {
     count
 }
 
-/// Four workers, again and again: each waker makes all its hard events and wakes.
-#[test]
-fn four_workers_lose_no_step(rt: HostRuntime) -> Result<(), Fail> {
+/// Whether four workers make all hard events and wakes of eight wakers.
+fn is_whole<R: Threads + Wait + Sync>(rt: &R, alloc: Global) -> Result<bool, Mem> {
     let sizes = IdleSizes {
         wakers: 8,
         events: 100,
         sessions: 50,
     };
+    let log = run_idle(rt, alloc, sizes, 4)?;
+    Ok(count(&log, IdleKind::Hard) == 800 && count(&log, IdleKind::Wake) == 800)
+}
+
+/// Four workers, again and again: each waker makes all its hard events and wakes.
+#[test]
+fn four_workers_lose_no_step(rt: HostRuntime) {
     for _ in 0..20 {
-        let log = run_idle(&rt, rt.alloc(), sizes, 4)?;
-        assert!(rt; count(&log, IdleKind::Hard) == 800 && count(&log, IdleKind::Wake) == 800);
+        assert!(rt; is_whole(&rt, rt.alloc()) == Ok(true));
     }
-    Ok(())
 }

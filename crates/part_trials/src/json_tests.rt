@@ -1,109 +1,142 @@
 use borrowed_json::{
     Scratch, Value, as_array, as_bool, as_i64, as_object, as_str, as_u64, get, read_value,
 };
-use std::test::Fail;
+use sleep_base::Mem;
+use std::alloc::Global;
 
-/// The texts that are read, and those that are none: as serde_json's own reader says.
+/// Texts, and whether they are read: as serde_json's own reader says.
+const TEXTS: [(&str, bool); 16] = [
+    ("{}", true),
+    (r#" [1, 2.5, -3, true, null, "a"] "#, true),
+    (r#"{"a":{"b":[{}]}}"#, true),
+    ("18446744073709551616", true),
+    ("1e-400", true),
+    ("", false),
+    ("{", false),
+    ("nul", false),
+    ("[1,]", false),
+    ("{} {}", false),
+    ("01", false),
+    ("1.", false),
+    ("1e400", false),
+    (r#"{"a":[0,-1e400]}"#, false),
+    (r#""\ud800""#, false),
+    ("\u{feff}{}", false),
+];
+
+/// Whether a text is read.
+fn is_read(alloc: Global, text: &[u8]) -> Result<bool, Mem> {
+    let mut scratch = Scratch::new(alloc);
+    let value = read_value(alloc, text, &mut scratch)?;
+    Ok(value.is_some())
+}
+
+/// Whether serde_json's own reader reads it.
+fn is_known(alloc: Global, text: &[u8]) -> bool {
+    serde_json::Value::from_slice(alloc, text).is_ok()
+}
+
+/// The texts that are read, and those that are none.
 #[test]
-fn the_same_texts_are_read(rt: HostRuntime) -> Result<(), Fail> {
-    for (text, is_read) in [
-        ("{}", true),
-        (r#" [1, 2.5, -3, true, null, "a"] "#, true),
-        (r#"{"a":{"b":[{}]}}"#, true),
-        ("18446744073709551616", true),
-        ("1e-400", true),
-        ("", false),
-        ("{", false),
-        ("nul", false),
-        ("[1,]", false),
-        ("{} {}", false),
-        ("01", false),
-        ("1.", false),
-        ("1e400", false),
-        (r#"{"a":[0,-1e400]}"#, false),
-        (r#""\ud800""#, false),
-        ("\u{feff}{}", false),
-    ] {
-        let mut scratch = Scratch::new(rt.alloc());
-        let value = read_value(rt.alloc(), text.as_bytes(), &mut scratch)?;
-        assert!(rt; value.is_some() == is_read, "{text}");
-        let known = serde_json::Value::from_slice(rt.alloc(), text.as_bytes());
-        assert!(rt; known.is_ok() == is_read, "{text}");
+fn the_same_texts_are_read(rt: HostRuntime) {
+    for (text, is_text) in &TEXTS {
+        assert!(rt;
+            is_read(rt.alloc(), text.as_bytes()) == Ok(*is_text),
+            "{text}"
+        );
+        assert!(rt; is_known(rt.alloc(), text.as_bytes()) == *is_text, "{text}");
     }
-    Ok(())
 }
 
 /// Bytes that are not UTF-8 are no value, in a text of it neither.
 #[test]
-fn bytes_that_are_no_text(rt: HostRuntime) -> Result<(), Fail> {
-    let mut scratch = Scratch::new(rt.alloc());
-    assert!(rt; read_value(rt.alloc(), &[b'"', 0xff, b'"'], &mut scratch)?.is_none());
-    Ok(())
+fn bytes_that_are_no_text(rt: HostRuntime) {
+    assert!(rt; is_read(rt.alloc(), &[b'"', 0xff, b'"']) == Ok(false));
+}
+
+/// A list in a list, to that depth.
+fn nested(alloc: Global, depth: usize) -> Result<Vec<u8>, Mem> {
+    let mut text = vec![in alloc; b'['; depth]?;
+    for _ in 0..depth {
+        text.push(b']')?;
+    }
+    Ok(text)
+}
+
+/// Whether lists may nest that deep.
+fn may_nest(alloc: Global, depth: usize) -> Result<bool, Mem> {
+    let text = nested(alloc, depth)?;
+    is_read(alloc, &text)
 }
 
 /// Lists may nest 127 deep, and no deeper.
 #[test]
-fn how_deep_lists_nest(rt: HostRuntime) -> Result<(), Fail> {
-    for (depth, is_read) in [(127usize, true), (128, false)] {
-        let mut text = String::new(rt.alloc());
-        for _ in 0..depth {
-            text.push_str("[")?;
-        }
-        for _ in 0..depth {
-            text.push_str("]")?;
-        }
-        let mut scratch = Scratch::new(rt.alloc());
-        let value = read_value(rt.alloc(), text.as_bytes(), &mut scratch)?;
-        assert!(rt; value.is_some() == is_read);
+fn how_deep_lists_nest(rt: HostRuntime) {
+    assert!(rt; may_nest(rt.alloc(), 127) == Ok(true));
+    assert!(rt; may_nest(rt.alloc(), 128) == Ok(false));
+}
+
+/// Numbers, and what they are as whole ones, without and with a sign.
+const NUMBERS: [(&str, Option<u64>, Option<i64>); 12] = [
+    ("0", Some(0), Some(0)),
+    ("-0", None, None),
+    ("-7", None, Some(-7)),
+    ("1.0", None, None),
+    ("1e0", None, None),
+    (
+        "9223372036854775807",
+        Some(9_223_372_036_854_775_807),
+        Some(i64::MAX),
+    ),
+    ("9223372036854775808", Some(9_223_372_036_854_775_808), None),
+    ("18446744073709551615", Some(u64::MAX), None),
+    ("18446744073709551616", None, None),
+    ("-9223372036854775808", None, Some(i64::MIN)),
+    ("-9223372036854775809", None, None),
+    ("\"1\"", None, None),
+];
+
+/// Whether a text is a value that is these whole numbers.
+fn is_number(
+    alloc: Global,
+    text: &str,
+    unsigned: Option<u64>,
+    signed: Option<i64>,
+) -> Result<bool, Mem> {
+    let mut scratch = Scratch::new(alloc);
+    match read_value(alloc, text.as_bytes(), &mut scratch)? {
+        Some(value) => Ok(as_u64(&value) == unsigned && as_i64(&value) == signed),
+        None => Ok(false),
     }
-    Ok(())
 }
 
 /// Which numbers are whole, without and with a sign.
 #[test]
-fn whole_numbers(rt: HostRuntime) -> Result<(), Fail> {
-    for (text, unsigned, signed) in [
-        ("0", Some(0u64), Some(0i64)),
-        ("-0", None, None),
-        ("-7", None, Some(-7)),
-        ("1.0", None, None),
-        ("1e0", None, None),
-        (
-            "9223372036854775807",
-            Some(9_223_372_036_854_775_807),
-            Some(i64::MAX),
-        ),
-        ("9223372036854775808", Some(9_223_372_036_854_775_808), None),
-        ("18446744073709551615", Some(u64::MAX), None),
-        ("18446744073709551616", None, None),
-        ("-9223372036854775808", None, Some(i64::MIN)),
-        ("-9223372036854775809", None, None),
-        ("\"1\"", None, None),
-    ] {
-        let mut scratch = Scratch::new(rt.alloc());
-        let Some(value) = read_value(rt.alloc(), text.as_bytes(), &mut scratch)? else {
-            return Err(Fail::new("it is not read"));
-        };
-        assert!(rt; as_u64(&value) == unsigned, "{text}");
-        assert!(rt; as_i64(&value) == signed, "{text}");
+fn whole_numbers(rt: HostRuntime) {
+    for (text, unsigned, signed) in &NUMBERS {
+        assert!(rt;
+            is_number(rt.alloc(), text, *unsigned, *signed) == Ok(true),
+            "{text}"
+        );
     }
-    Ok(())
+}
+
+/// An object of three members.
+const OBJECT: &str = r#"{"a":1,"b":"x\u0079\n","a":[true,3],"\u0063":{}}"#;
+
+/// Whether the object says what it has.
+fn says_all(alloc: Global) -> Result<bool, Mem> {
+    let mut scratch = Scratch::new(alloc);
+    match read_value(alloc, OBJECT.as_bytes(), &mut scratch)? {
+        Some(value) => Ok(says_members(&value) && get(&value, "a").is_some_and(says_list)),
+        None => Ok(false),
+    }
 }
 
 /// Of equal members the last one counts; escapes are read; what is of another kind is none.
 #[test]
-fn what_values_say(rt: HostRuntime) -> Result<(), Fail> {
-    let text = r#"{"a":1,"b":"x\u0079\n","a":[true,3],"\u0063":{}}"#;
-    let mut scratch = Scratch::new(rt.alloc());
-    let Some(value) = read_value(rt.alloc(), text.as_bytes(), &mut scratch)? else {
-        return Err(Fail::new("it is not read"));
-    };
-    assert!(rt; says_members(&value));
-    match get(&value, "a") {
-        Some(found) => assert!(rt; says_list(found)),
-        None => return Err(Fail::new("a member is missing")),
-    }
-    Ok(())
+fn what_values_say(rt: HostRuntime) {
+    assert!(rt; says_all(rt.alloc()) == Ok(true));
 }
 
 /// Whether an object has its members, and is nothing else.

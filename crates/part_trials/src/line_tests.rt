@@ -1,4 +1,5 @@
 use lock_lines::{LinesFault, MOST_BYTES, answer_lines};
+use sleep_base::Mem;
 use sleep_model::Name;
 use std::alloc::Global;
 use std::sync::Wait;
@@ -42,50 +43,69 @@ const REFUSED: [(&str, u32); 10] = [
     ("\n", 1),
 ];
 
-/// Texts of lines and their answers.
-#[test]
-fn lines_are_answered(rt: HostRuntime) {
-    for (lines, text) in ANSWERED {
-        match answer_lines(&rt, rt.alloc(), lines.as_bytes()) {
-            Ok(said) => assert!(rt; said.as_slice() == text.as_bytes(), "{lines}"),
-            Err(fault) => assert!(rt; false, "{fault:?}"),
-        }
+/// What lines are answered, where they are not too long.
+fn answered<R: Wait>(rt: &R, alloc: Global, lines: &[u8]) -> Result<Vec<u8>, LinesFault> {
+    if lines.len() > MOST_BYTES as usize {
+        return Err(LinesFault::Mem);
+    }
+    answer_lines(rt, alloc, lines)
+}
+
+/// Whether lines are answered so.
+fn is_answered<R: Wait>(rt: &R, alloc: Global, lines: &str, text: &str) -> bool {
+    match answered(rt, alloc, lines.as_bytes()) {
+        Ok(said) => said.as_slice() == text.as_bytes(),
+        Err(_) => false,
     }
 }
 
-/// What lines come to, where they are not too long.
-fn tried<R: Wait>(rt: &R, alloc: Global, lines: &[u8]) -> Result<(), LinesFault> {
-    if lines.len() <= MOST_BYTES as usize {
-        answer_lines(rt, alloc, lines)?;
+/// Texts of lines and their answers.
+#[test]
+fn lines_are_answered(rt: HostRuntime) {
+    for (lines, text) in &ANSWERED {
+        assert!(rt; is_answered(&rt, rt.alloc(), lines, text), "{lines}");
     }
-    Ok(())
+}
+
+/// Whether lines are refused with that fault, or answered where there is none.
+fn is_refused<R: Wait>(rt: &R, alloc: Global, lines: &[u8], fault: Option<LinesFault>) -> bool {
+    let found = answered(rt, alloc, lines).err();
+    found == fault
 }
 
 /// The first line of no form, before any is carried out.
 #[test]
 fn lines_of_no_form_are_refused(rt: HostRuntime) {
-    for (lines, number) in REFUSED {
-        let refused = Err(LinesFault::Line(number));
+    for (lines, number) in &REFUSED {
+        let fault = Some(LinesFault::Line(*number));
         assert!(rt;
-            tried(&rt, rt.alloc(), lines.as_bytes()) == refused,
+            is_refused(&rt, rt.alloc(), lines.as_bytes(), fault),
             "{lines}"
         );
     }
 }
 
-/// So many locks of one name, and what they come to.
-fn locked<R: Wait>(rt: &R, alloc: Global, times: u16) -> Result<(), LinesFault> {
+/// Copies of a lock of one name.
+fn copies(alloc: Global, times: u16) -> Result<Vec<u8>, Mem> {
     let mut lines = Vec::new(alloc);
     for _ in 0..times {
         lines.extend_from_slice(b"lock a\n")?;
     }
-    tried(rt, alloc, &lines)
+    Ok(lines)
+}
+
+/// Whether copies of a lock of one name are answered, or refused with that fault.
+fn is_locked<R: Wait>(rt: &R, alloc: Global, times: u16, fault: Option<LinesFault>) -> bool {
+    match copies(alloc, times) {
+        Ok(lines) => is_refused(rt, alloc, &lines, fault),
+        Err(_) => false,
+    }
 }
 
 /// A source takes calls as long as it has four places left.
 #[test]
 fn a_full_source_is_named(rt: HostRuntime) {
     let a = Name::of_bytes(b"a").expect(&rt, "a name");
-    assert!(rt; locked(&rt, rt.alloc(), 59_996) == Ok(()));
-    assert!(rt; locked(&rt, rt.alloc(), 59_997) == Err(LinesFault::Full(a)));
+    assert!(rt; is_locked(&rt, rt.alloc(), 59_996, None));
+    assert!(rt; is_locked(&rt, rt.alloc(), 59_997, Some(LinesFault::Full(a))));
 }

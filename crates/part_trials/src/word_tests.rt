@@ -1,15 +1,20 @@
 use command_line::{Command, command_of};
 use sleep_base::Mem;
 use std::alloc::Global;
-use std::test::Fail;
 
-/// What these words ask for, which stand between spaces.
-fn asked(alloc: Global, line: &str) -> Result<Option<Command>, Fail> {
+/// The words of a line, which stand between spaces.
+fn words_of(alloc: Global, line: &str) -> Result<Vec<String>, Mem> {
     let mut words = Vec::new(alloc);
     for word in line.split(' ') {
         words.push(String::from_str(alloc, word)?)?;
     }
-    Ok(command_of(alloc, &words)?)
+    Ok(words)
+}
+
+/// What a line asks for.
+fn asked(alloc: Global, line: &str) -> Result<Option<Command>, Mem> {
+    let words = words_of(alloc, line)?;
+    command_of(alloc, &words)
 }
 
 /// Each form, and the least and the most of each number, with what they ask for.
@@ -247,57 +252,51 @@ const HELP: [&str; 28] = [
     "sleep check --help",
 ];
 
-/// The first of these lines that asks for something.
-fn first_of_a_form<'a>(alloc: Global, lines: &[&'a str]) -> Result<Option<&'a str>, Fail> {
+/// Whether each of these lines asks for nothing.
+fn ask_nothing(alloc: Global, lines: &[&str]) -> Result<bool, Mem> {
     for line in lines {
         if asked(alloc, line)?.is_some() {
-            return Ok(Some(line));
+            return Ok(false);
         }
     }
-    Ok(None)
+    Ok(true)
 }
 
 /// Each form, and the least and the most of each number.
 #[test]
-fn words_of_a_form(rt: HostRuntime) -> Result<(), Fail> {
-    for (line, command) in FORMS {
-        assert_eq!(rt; asked(rt.alloc(), line)?, Some(command));
+fn words_of_a_form(rt: HostRuntime) {
+    for (line, command) in &FORMS {
+        assert!(rt; asked(rt.alloc(), line) == Ok(Some(*command)), "{line}");
     }
-    Ok(())
 }
 
 /// Numbers past their range, and texts that are no numbers.
 #[test]
-fn numbers_of_no_form(rt: HostRuntime) -> Result<(), Fail> {
-    assert_eq!(rt; first_of_a_form(rt.alloc(), &NUMBERS)?, None);
-    Ok(())
+fn numbers_of_no_form(rt: HostRuntime) {
+    assert!(rt; ask_nothing(rt.alloc(), &NUMBERS) == Ok(true));
 }
 
 /// Words that are too few, too many, or none of the forms'.
 #[test]
-fn words_of_no_form(rt: HostRuntime) -> Result<(), Fail> {
-    assert_eq!(rt; first_of_a_form(rt.alloc(), &WORDS)?, None);
-    Ok(())
+fn words_of_no_form(rt: HostRuntime) {
+    assert!(rt; ask_nothing(rt.alloc(), &WORDS) == Ok(true));
 }
 
 /// `--` is of no form, wherever it stands after the name.
 #[test]
-fn the_end_of_options_is_of_no_form(rt: HostRuntime) -> Result<(), Fail> {
-    assert_eq!(rt; first_of_a_form(rt.alloc(), &ENDS)?, None);
-    Ok(())
+fn the_end_of_options_is_of_no_form(rt: HostRuntime) {
+    assert!(rt; ask_nothing(rt.alloc(), &ENDS) == Ok(true));
 }
 
 /// A call for help or for the version is of no form, in each spelling and place.
 #[test]
-fn help_is_of_no_form(rt: HostRuntime) -> Result<(), Fail> {
-    assert_eq!(rt; first_of_a_form(rt.alloc(), &HELP)?, None);
-    Ok(())
+fn help_is_of_no_form(rt: HostRuntime) {
+    assert!(rt; ask_nothing(rt.alloc(), &HELP) == Ok(true));
 }
 
 /// No words at all, without a name.
 #[test]
-fn no_words_are_of_no_form(rt: HostRuntime) -> Result<(), Mem> {
+fn no_words_are_of_no_form(rt: HostRuntime) {
     let words: Vec<String> = Vec::new(rt.alloc());
-    assert_eq!(rt; command_of(rt.alloc(), &words)?, None);
-    Ok(())
+    assert!(rt; command_of(rt.alloc(), &words) == Ok(None));
 }
