@@ -15,7 +15,7 @@ use crate::parts::{Part, Waker};
 use event_word::{EventSeat, EventTable, LookSeat};
 use idle_loop::{IdleLog, IdleSizes, IdleState, WakerNow};
 use idle_merge::IdleBook;
-use sleep_base::{Mem, lost};
+use sleep_base::Mem;
 use std::alloc::Global;
 use std::sync::Wait;
 use std::thread::Threads;
