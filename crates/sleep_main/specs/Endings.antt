@@ -157,10 +157,14 @@ abbrev pub GivesRun : List ℕ → Result Ran Ending → Type 0
 GivesRun bytes (Ok ran) = IsRunOf bytes ran.machine ran.log
 GivesRun bytes (Err ending) = Refuses (RefusesRun bytes) ending
 
--- the text of the log was written, or a front of it, or memory ran out before
+-- the text of a machine's log was written, or a front of it, or memory ran out before
+abbrev pub WritesText : Machine → Log → Stream → Stream → Ending → Type 0
+WritesText machine log old new NoMemory = new ≡ old
+WritesText machine log old new ending = Writes old new (text machine log) (is_stuck log.end) ending
+
+-- the same of the log of a run
 abbrev pub WritesLog : Ran → Stream → Stream → Ending → Type 0
-WritesLog ran old new NoMemory = new ≡ old
-WritesLog ran old new ending = Writes old new (text ran.machine ran.log) (is_stuck ran.log.end) ending
+WritesLog ran = WritesText ran.machine ran.log
 
 -- the whole input was a machine file, and the text is that of its log
 abbrev pub RanFile : Stream → Stream → List ℕ → Bool → Type 0

@@ -93,9 +93,14 @@ fn line_of<R: Threads + Wait + Sync>(
     ensures { IfOk result (λ said. IsLineOf seed devices said.text.items said.stuck) }
 {
     let machine = generate(alloc, seed, devices)?;
-    let log = log_of(rt, alloc, &machine)?;
+    let Ok(log) = log_of(rt, alloc, &machine) else {
+        drop(machine);
+        return Err(Mem);
+    };
     let stuck = is_stuck(&log.end);
-    let text = count_line(alloc, counts_of(&log), stuck)?;
+    let counts = counts_of(&log);
+    drop((machine, log));
+    let text = count_line(alloc, counts, stuck)?;
     Ok(Said { text, stuck })
 }
 

@@ -3,7 +3,7 @@ ghost use Rattle.sleep_base.specs.Whole.{WriteAll};
 ghost use Rattle.command_line.specs.Words.{IsInRange, command_of};
 ghost use Rattle.program_ending.specs.declared.ending.Ending.{Ending};
 ghost use Rattle.program_ending.specs.Endings.{status_of, text_of};
-ghost use Rattle.sleep_main.specs.Endings.{GivesRun, IsEndingOf, IsFullNamed, RunEnded, WritesLog, Ended, Completes, Says, stream, streams};
+ghost use Rattle.sleep_main.specs.Endings.{GivesRun, IsEndingOf, IsFullNamed, RunEnded, WritesLog, WritesText, Ended, Completes, Says, stream, streams};
 ghost use Rattle.sleep_run.specs.Runs.{Fails};
 
 use crate::generated::{soak_generated, write_generated};
@@ -19,7 +19,7 @@ use log_text::LogText;
 use machine_file::{MachineFault, ReadMachine, read_machine};
 use program_ending::{Ending, Refusal};
 use sleep_base::{ByteSink, ByteSource, Failed, write_all};
-use sleep_model::{Machine, Name};
+use sleep_model::{Log, Machine, Name};
 use sleep_run::{Gate, RunFault, run_machine};
 use std::alloc::Global;
 use std::sync::Wait;
@@ -83,17 +83,11 @@ fn run_of_bytes<R: Threads + Wait + Sync, G: Gate + Sync>(
     }
 }
 
-/// Writes the log of a run as its text is put together: `Done`, or `Stuck` where the run was stuck. `NoMemory` before
-/// anything was written, `WriteFault` at the first write that fails: a front of the text was written.
-fn write_whole<K: ByteSink>(alloc: Global, out: &mut K, ran: Ran) -> Ending
-    ensures { WritesLog ran (stream (K.written out.old) (K.faults out.old)) (stream (K.written out.new) (K.faults out.new)) result }
+/// Writes the text of a machine's log as it is put together. Ends as `write_whole`.
+fn write_text<K: ByteSink>(alloc: Global, out: &mut K, machine: &Machine, log: &Log) -> Ending
+    ensures { WritesText machine.now log.now (stream (K.written out.old) (K.faults out.old)) (stream (K.written out.new) (K.faults out.new)) result }
 {
-    let Ran { machine, log } = ran;
-    let log = match log.into_log(alloc) {
-        Ok(log) => log,
-        Err(_) => return Ending::NoMemory,
-    };
-    let text = match LogText::new(alloc, &machine, &log) {
+    let text = match LogText::new(alloc, machine, log) {
         Ok(text) => text,
         Err(_) => return Ending::NoMemory,
     };
@@ -102,6 +96,21 @@ fn write_whole<K: ByteSink>(alloc: Global, out: &mut K, ran: Ran) -> Ending
         Ok(()) => Ending::Done,
         Err(_) => Ending::WriteFault,
     }
+}
+
+/// Writes the log of a run as its text is put together: `Done`, or `Stuck` where the run was stuck. `NoMemory` before
+/// anything was written, `WriteFault` at the first write that fails: a front of the text was written.
+fn write_whole<K: ByteSink>(alloc: Global, out: &mut K, ran: Ran) -> Ending
+    ensures { WritesLog ran (stream (K.written out.old) (K.faults out.old)) (stream (K.written out.new) (K.faults out.new)) result }
+{
+    let Ran { machine, log } = ran;
+    let Ok(log) = log.into_log(alloc) else {
+        drop(machine);
+        return Ending::NoMemory;
+    };
+    let ending = write_text(alloc, out, &machine, &log);
+    drop((machine, log));
+    ending
 }
 
 /// Writes the log of a run, whose text is made in slices on threads, one for each worker. Ends as `write_whole`.

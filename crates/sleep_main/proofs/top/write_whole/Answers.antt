@@ -1,8 +1,10 @@
-use Rattle.std.proofs.Common.{◌∙◌, sym, ap}
-use Rattle.sleep_model.specs.Text.{text}
+use Rattle.std.proofs.Common.{subst}
+use Rattle.sleep_model.specs.declared.log.Log.{Log}
+use Rattle.sleep_main.specs.Endings.{Stream, WritesText, stream}
 use Rattle.sleep_main.proofs.top.write_whole.Goals as goal
 
 pub returns : goal.returns
 returns g c =
-    let h = c.in-Err-write_to.ensures.bytes in
-    (h.4, (h.0, h.1, sym (c.in-Ok-new.ensures ∙ ap (text c.args.ran.machine) c.in-Ok.ensures) ∙ h.2, h.3))
+    let old : Stream = stream (g.K.ByteSink.written c.args.out.now) (g.K.ByteSink.faults c.args.out.now) in
+    let new : Stream = stream (g.K.ByteSink.written c.write_text-ending.new.out) (g.K.ByteSink.faults c.write_text-ending.new.out) in
+    subst (λ (log : Log). WritesText c.args.ran.machine log old new c.write_text-ending.result) c.in-Ok.ensures c.write_text-ending.ensures
