@@ -1,4 +1,4 @@
-ghost use Rattle.std.specs.Prelude.{◌≡◌, ◌≤◌, OnOk, reverse};
+ghost use Rattle.std.specs.Prelude.{◌≡◌, ◌≤◌, reverse, true};
 ghost use Rattle.sleep_model.specs.Accepted.{IsAccepted};
 ghost use Rattle.sleep_model.specs.Order.{parents_of};
 ghost use Rattle.sleep_core.specs.Cores.{IsActor};
@@ -9,7 +9,7 @@ use device_links::Links;
 use event_word::{EventTable, Events, PlainEvents};
 use machine_file::{ReadMachine, read_machine};
 use machine_plans::MachinePlans;
-use sleep_base::Errno;
+use sleep_base::{Errno, Mem};
 use sleep_core::{Core, CoreTurn};
 use sleep_model::{Actor, EntryList, Kind, Machine, Stamp, Why};
 use std::alloc::Global;
@@ -76,20 +76,15 @@ fn run<R: Wait, E: Events>(
     Err("too many turns".into())
 }
 
-// Sees that the machine has that actor.
-fn has_actor(machine: &Machine, who: Actor) -> Result<(), Fail>
-    ensures { OnOk result (IsActor machine.now who) }
+// Whether the machine has that actor.
+fn has_actor(machine: &Machine, who: Actor) -> bool
+    ensures { result ≡ true → IsActor machine.now who }
 {
-    let there = match who {
+    match who {
         Actor::Script(script) => (script as usize) < machine.actors.len(),
         Actor::Auto => true,
         Actor::Dev(device) => (device as usize) < machine.devices.len(),
         Actor::Timer(_) | Actor::Time => false,
-    };
-    if there {
-        Ok(())
-    } else {
-        Err("no such actor".into())
     }
 }
 
@@ -136,11 +131,53 @@ fn run_over<R: Wait, E: Events>(
     let mut core = Core::new(alloc, plans, links)?;
     match run(rt, &mut core, events, who) {
         Ok(waits) => Ok(told(alloc, core, waits)),
-        Err(failed) => Err(failed),
+        Err(failed) => {
+            drop(core);
+            Err(failed)
+        }
     }
 }
 
 // The turns of one actor of a machine alone, up to its first wait or its end, with that word.
+fn run_one<R: Wait, E: Events>(
+    rt: &R,
+    alloc: Global,
+    events: &mut E,
+    machine: &Machine,
+    links: Links,
+    who: Actor,
+) -> Result<Alone, Fail>
+    requires accepted { IsAccepted machine.now }
+    requires links { links ≡ record { parents = parents_of machine.now.devices; links = reverse machine.now.links } }
+    requires actor { IsActor machine.now who }
+{
+    let plans = MachinePlans::new(alloc, machine)?;
+    let alone = run_over(rt, alloc, events, &plans, links, who);
+    drop(plans);
+    alone
+}
+
+// The same where the machine has that actor.
+fn run_known<R: Wait, E: Events>(
+    rt: &R,
+    alloc: Global,
+    events: &mut E,
+    machine: &Machine,
+    links: Links,
+    who: Actor,
+) -> Result<Alone, Fail>
+    requires accepted { IsAccepted machine.now }
+    requires links { links ≡ record { parents = parents_of machine.now.devices; links = reverse machine.now.links } }
+{
+    if has_actor(machine, who) {
+        run_one(rt, alloc, events, machine, links, who)
+    } else {
+        drop(links);
+        Err("no such actor".into())
+    }
+}
+
+// The same of the machine of a file.
 fn run_alone<R: Wait, E: Events>(
     rt: &R,
     alloc: Global,
@@ -148,17 +185,18 @@ fn run_alone<R: Wait, E: Events>(
     file: &str,
     who: Actor,
 ) -> Result<Alone, Fail> {
-    let Ok(ReadMachine { machine, links }) = read_machine(alloc, file.as_bytes()) else {
-        return Err("no machine".into());
-    };
-    has_actor(&machine, who)?;
-    let plans = MachinePlans::new(alloc, &machine)?;
-    run_over(rt, alloc, events, &plans, links, who)
+    match read_machine(alloc, file.as_bytes()) {
+        Ok(ReadMachine { machine, links }) => {
+            let alone = run_known(rt, alloc, events, &machine, links, who);
+            drop(machine);
+            alone
+        }
+        Err(_) => Err("no machine".into()),
+    }
 }
 
-// What the manager of the family does alone, with that word, in order.
-fn kinds_of<R: Wait, E: Events>(rt: &R, alloc: Global, events: &mut E) -> Result<Vec<Kind>, Fail> {
-    let Alone { entries, .. } = run_alone(rt, alloc, events, FAMILY, MANAGER)?;
+// What entries say, in order.
+fn kinds_in(alloc: Global, entries: &EntryList) -> Result<Vec<Kind>, Mem> {
     let mut kinds = Vec::new(alloc);
     let mut reader = entries.reader();
     for _ in 0..entries.len() {
@@ -169,9 +207,20 @@ fn kinds_of<R: Wait, E: Events>(rt: &R, alloc: Global, events: &mut E) -> Result
     Ok(kinds)
 }
 
+// What the manager of the family does alone, with that word, in order.
+fn kinds_of<R: Wait, E: Events>(rt: &R, alloc: Global, events: &mut E) -> Result<Vec<Kind>, Fail> {
+    let alone = run_alone(rt, alloc, events, FAMILY, MANAGER)?;
+    let kinds = kinds_in(alloc, &alone.entries);
+    drop(alone);
+    Ok(kinds?)
+}
+
 // What an actor of a machine waits for, after its first turns, where no event comes.
 fn waits_for<R: Wait>(rt: &R, alloc: Global, file: &str, who: Actor) -> Result<Option<Why>, Fail> {
-    Ok(run_alone(rt, alloc, &mut PlainEvents::new(), file, who)?.waits)
+    let alone = run_alone(rt, alloc, &mut PlainEvents::new(), file, who)?;
+    let waits = alone.waits;
+    drop(alone);
+    Ok(waits)
 }
 
 // Whether the machine entered sleep.
@@ -194,12 +243,29 @@ fn was_busy(kinds: &[Kind]) -> bool {
     })
 }
 
+/// Whether an attempt under that word enters, and is not given up; or is given up, and does not enter.
+fn goes<R: Wait, E: Events>(
+    rt: &R,
+    alloc: Global,
+    events: &mut E,
+    enters: bool,
+) -> Result<bool, Fail> {
+    let kinds = kinds_of(rt, alloc, events)?;
+    Ok(entered(kinds.as_slice()) == enters && was_busy(kinds.as_slice()) != enters)
+}
+
 /// Without events the attempt enters.
 #[test]
 fn a_quiet_attempt_enters(rt: HostRuntime) -> Result<(), Fail> {
-    let kinds = kinds_of(&rt, rt.alloc(), &mut PlainEvents::new())?;
-    assert!(rt; entered(kinds.as_slice()));
+    assert!(rt; goes(&rt, rt.alloc(), &mut PlainEvents::new(), true)?);
     Ok(())
+}
+
+/// Whether an attempt under that word enters, by as many entries as without events.
+fn is_plain<R: Wait, E: Events>(rt: &R, alloc: Global, events: &mut E) -> Result<bool, Fail> {
+    let kinds = kinds_of(rt, alloc, events)?;
+    let plain = kinds_of(rt, alloc, &mut PlainEvents::new())?;
+    Ok(plain.len() == kinds.len() && entered(kinds.as_slice()))
 }
 
 /// A look at the table of the event word serves the core as the plain counter does.
@@ -207,10 +273,7 @@ fn a_quiet_attempt_enters(rt: HostRuntime) -> Result<(), Fail> {
 fn a_quiet_attempt_enters_over_the_table(rt: HostRuntime) -> Result<(), Fail> {
     let (table, _seats, look) = EventTable::new(rt.alloc(), 1)?;
     let mut look = look.on(&table);
-    let kinds = kinds_of(&rt, rt.alloc(), &mut look)?;
-    assert!(rt; entered(kinds.as_slice()));
-    let plain = kinds_of(&rt, rt.alloc(), &mut PlainEvents::new())?;
-    assert_eq!(rt; kinds.len(), plain.len());
+    assert!(rt; is_plain(&rt, rt.alloc(), &mut look)?);
     Ok(())
 }
 
@@ -218,27 +281,31 @@ fn a_quiet_attempt_enters_over_the_table(rt: HostRuntime) -> Result<(), Fail> {
 /// guards, enters.
 #[test]
 fn a_plain_attempt_enters(rt: HostRuntime) -> Result<(), Fail> {
-    let kinds = kinds_of(&rt, rt.alloc(), &mut MovingWord::new(0, false))?;
-    assert!(rt; entered(kinds.as_slice()));
+    assert!(rt; goes(&rt, rt.alloc(), &mut MovingWord::new(0, false), true)?);
     Ok(())
 }
 
 /// Such events behind a save that was answered: the attempt is given up.
 #[test]
 fn a_guarded_attempt_is_given_up(rt: HostRuntime) -> Result<(), Fail> {
-    let kinds = kinds_of(&rt, rt.alloc(), &mut MovingWord::new(3, false))?;
-    assert!(rt; was_busy(kinds.as_slice()));
-    assert!(rt; !entered(kinds.as_slice()));
+    assert!(rt; goes(&rt, rt.alloc(), &mut MovingWord::new(3, false), false)?);
     Ok(())
 }
 
 /// Hard events between any two turns: the attempt is given up, whether a count guards it or not.
 #[test]
 fn hard_events_end_an_attempt(rt: HostRuntime) -> Result<(), Fail> {
-    let kinds = kinds_of(&rt, rt.alloc(), &mut MovingWord::new(0, true))?;
-    assert!(rt; was_busy(kinds.as_slice()));
-    assert!(rt; !entered(kinds.as_slice()));
+    assert!(rt; goes(&rt, rt.alloc(), &mut MovingWord::new(0, true), false)?);
     Ok(())
+}
+
+/// Whether the machine sleeps till its alarm.
+fn sleeps(slept: &Alone) -> bool {
+    matches!(slept.waits, Some(Why::Asleep))
+        && slept.next_time == Some(1000)
+        && !slept.whole
+        && slept.is_open
+        && !slept.are_still
 }
 
 /// The machine sleeps till its alarm, and all is not over before that.
@@ -246,39 +313,58 @@ fn hard_events_end_an_attempt(rt: HostRuntime) -> Result<(), Fail> {
 fn a_machine_sleeps_till_its_alarm(rt: HostRuntime) -> Result<(), Fail> {
     let mut events = PlainEvents::new();
     let slept = run_alone(&rt, rt.alloc(), &mut events, FAMILY, MANAGER)?;
-    assert!(rt; matches!(slept.waits, Some(Why::Asleep)));
-    assert_eq!(rt; slept.next_time, Some(1000));
-    assert!(rt; !slept.whole && slept.is_open && !slept.are_still);
+    assert!(rt; sleeps(&slept));
+    drop(slept);
     Ok(())
+}
+
+/// Whether the first script is still, and all are or not.
+fn is_still<R: Wait>(rt: &R, alloc: Global, file: &str, are_still: bool) -> Result<bool, Fail> {
+    let alone = run_alone(rt, alloc, &mut PlainEvents::new(), file, MANAGER)?;
+    let all = alone.are_still == are_still;
+    let first = alone.is_still && !alone.is_open && alone.slept.is_none();
+    drop(alone);
+    Ok(all && first)
 }
 
 /// A script is still that sleeps on or has exited, and so are all where each is; none of those has slept, and no attempt is
 /// open.
 #[test]
 fn scripts_are_still(rt: HostRuntime) -> Result<(), Fail> {
-    for (file, are_still) in [(SLEEPER, true), (POSTER, true), (WAITERS, false)] {
-        let mut events = PlainEvents::new();
-        let alone = run_alone(&rt, rt.alloc(), &mut events, file, MANAGER)?;
-        assert_eq!(rt; alone.are_still, are_still);
-        assert!(rt; alone.is_still && !alone.is_open && alone.slept.is_none());
-    }
+    assert!(rt; is_still(&rt, rt.alloc(), SLEEPER, true)?);
+    assert!(rt; is_still(&rt, rt.alloc(), POSTER, true)?);
+    assert!(rt; is_still(&rt, rt.alloc(), WAITERS, false)?);
     Ok(())
+}
+
+/// The actors of the waiters.
+const ACTORS: [Actor; 5] = [
+    Actor::Script(0),
+    Actor::Script(1),
+    Actor::Script(2),
+    Actor::Dev(0),
+    Actor::Auto,
+];
+
+/// Whether an actor of the waiters waits for what it should.
+fn is_its_wait(who: Actor, waits: Option<Why>) -> bool {
+    match who {
+        Actor::Script(0) => matches!(waits, Some(Why::Until(5))),
+        Actor::Script(1) => matches!(waits, Some(Why::Mark(_))),
+        Actor::Script(_) => waits.is_none(),
+        Actor::Dev(_) => matches!(waits, Some(Why::NotScheduled)),
+        Actor::Auto => matches!(waits, Some(Why::NoWork)),
+        Actor::Timer(_) | Actor::Time => false,
+    }
 }
 
 /// What an actor waits for that can do nothing: the end of its sleep, a mark, its turn in a phase, or work; and
 /// nothing is due of one that has exited.
 #[test]
 fn actors_say_what_they_wait_for(rt: HostRuntime) -> Result<(), Fail> {
-    let alloc = rt.alloc();
-    let sleeper = waits_for(&rt, alloc, WAITERS, Actor::Script(0))?;
-    assert!(rt; matches!(sleeper, Some(Why::Until(5))));
-    let waiter = waits_for(&rt, alloc, WAITERS, Actor::Script(1))?;
-    assert!(rt; matches!(waiter, Some(Why::Mark(_))));
-    let poster = waits_for(&rt, alloc, WAITERS, Actor::Script(2))?;
-    assert!(rt; poster.is_none());
-    let device = waits_for(&rt, alloc, WAITERS, Actor::Dev(0))?;
-    assert!(rt; matches!(device, Some(Why::NotScheduled)));
-    let work = waits_for(&rt, alloc, WAITERS, Actor::Auto)?;
-    assert!(rt; matches!(work, Some(Why::NoWork)));
+    for who in &ACTORS {
+        let waits = waits_for(&rt, rt.alloc(), WAITERS, *who)?;
+        assert!(rt; is_its_wait(*who, waits));
+    }
     Ok(())
 }
