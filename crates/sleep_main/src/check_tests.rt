@@ -1,34 +1,20 @@
 use crate::rows::{apart, attempts, autosleep, counts, devices, failures, freezing, links, timers};
-use crate::tests::{GOOD, Said, Streams, answers, given};
+use crate::tests::{GOOD, Said, Sought, Streams, answers, gives};
+use sleep_base::Mem;
 use std::alloc::Global;
 use std::process::Abort;
 use std::sync::Wait;
-use std::test::Fail;
 use std::thread::Threads;
 
 /// The words that ask for a check.
 const CHECK: [&str; 2] = ["sleep", "check"];
 
 /// A machine's file and a log behind it.
-fn input_of(alloc: Global, file: &str, log: &str) -> Result<Vec<u8>, Fail> {
+fn input_of(alloc: Global, file: &str, log: &str) -> Result<Vec<u8>, Mem> {
     let mut input = String::from_str(alloc, file)?;
     input.push('\n')?;
     input.push_str(log)?;
     Ok(input.into_bytes())
-}
-
-/// Whether the program answers so to a machine and a log.
-fn judges<R: Threads + Wait + Sync>(
-    rt: &R,
-    alloc: Global,
-    file: &str,
-    log: &str,
-    streams: &Streams<'_>,
-    said: &Said<'_>,
-) -> Result<bool, Fail> {
-    let input = input_of(alloc, file, log)?;
-    let outcome = given(rt, alloc, &CHECK, input, streams)?;
-    Ok(outcome.is(said))
 }
 
 /// A log with another line, if any, and the checker's answer.
@@ -97,7 +83,7 @@ const JUDGED: [Judged; 7] = [
 ];
 
 /// Adds a log, with another text in place of a line of it.
-fn add_changed(input: &mut String, log: &str, number: usize, text: &str) -> Result<(), Fail> {
+fn add_changed(input: &mut String, log: &str, number: usize, text: &str) -> Result<(), Mem> {
     for (place, line) in log.lines().enumerate() {
         if place + 1 == number {
             input.push_str(text)?;
@@ -110,7 +96,7 @@ fn add_changed(input: &mut String, log: &str, number: usize, text: &str) -> Resu
 }
 
 /// What the program reads for a row.
-fn changed(alloc: Global, row: &Judged) -> Result<Vec<u8>, Fail> {
+fn changed(alloc: Global, row: &Judged) -> Result<Vec<u8>, Mem> {
     let mut input = String::from_str(alloc, row.file)?;
     input.push('\n')?;
     add_changed(&mut input, row.log, row.line, row.text)?;
@@ -118,23 +104,22 @@ fn changed(alloc: Global, row: &Judged) -> Result<Vec<u8>, Fail> {
 }
 
 /// Whether the program says what a row says.
-fn is_judged<R: Threads + Wait + Sync>(rt: &R, alloc: Global, row: &Judged) -> Result<bool, Fail> {
+fn is_judged<R: Threads + Wait + Sync>(rt: &R, alloc: Global, row: &Judged) -> Result<bool, Mem> {
     let said = Said {
         status: u8::from(row.said != "legal\n"),
         out: row.said,
         err: "",
     };
-    let outcome = given(rt, alloc, &CHECK, changed(alloc, row)?, &GOOD)?;
-    Ok(outcome.is(&said))
+    let input = changed(alloc, row)?;
+    gives(rt, alloc, &CHECK, input, &GOOD, &Sought::Is(&said))
 }
 
 /// Logs that were worked apart, as they are and with a line changed.
 #[test]
-fn worked_logs_are_judged(rt: HostRuntime) -> Result<(), Fail> {
+fn worked_logs_are_judged(rt: HostRuntime) {
     for (n, row) in JUDGED.iter().enumerate() {
-        assert!(rt; is_judged(&rt, rt.alloc(), row)?, "row {n}");
+        assert!(rt; is_judged(&rt, rt.alloc(), row) == Ok(true), "row {n}");
     }
-    Ok(())
 }
 
 /// Whether the log of a machine is legal where its run was finished, and else only its end is bad.
@@ -144,13 +129,14 @@ fn is_of_run<R: Threads + Wait + Sync>(
     file: &str,
     status: u8,
     log: &str,
-) -> Result<bool, Fail> {
-    let outcome = given(rt, alloc, &CHECK, input_of(alloc, file, log)?, &GOOD)?;
-    Ok(if status == 0 {
-        outcome.ends_so(0, b"legal\n")
+) -> Result<bool, Mem> {
+    let input = input_of(alloc, file, log)?;
+    let sought = if status == 0 {
+        Sought::Ends(0, b"legal\n")
     } else {
-        outcome.ends_so(1, b" definition 20\n")
-    })
+        Sought::Ends(1, b" definition 20\n")
+    };
+    gives(rt, alloc, &CHECK, input, &GOOD, &sought)
 }
 
 // Each log of these machines is legal where its run was finished, else only its end is bad.
@@ -158,31 +144,27 @@ fn assert_each<R: Threads + Wait + Sync + Abort>(
     rt: &R,
     alloc: Global,
     machines: &[(&str, u8, &str)],
-) -> Result<(), Fail> {
+) {
     for (file, status, log) in machines {
-        assert!(rt; is_of_run(rt, alloc, file, *status, log)?, "{file}");
+        assert!(rt;
+            is_of_run(rt, alloc, file, *status, log) == Ok(true),
+            "{file}"
+        );
     }
-    Ok(())
 }
 
 /// The logs of all worked machines.
 #[test]
-fn logs_of_runs_are_legal(rt: HostRuntime) -> Result<(), Fail> {
-    let alloc = rt.alloc();
-    for machines in [
-        attempts::MACHINES.as_slice(),
-        failures::MACHINES.as_slice(),
-        devices::MACHINES.as_slice(),
-        links::MACHINES.as_slice(),
-        freezing::MACHINES.as_slice(),
-        counts::MACHINES.as_slice(),
-        timers::MACHINES.as_slice(),
-        autosleep::MACHINES.as_slice(),
-        apart::MACHINES.as_slice(),
-    ] {
-        assert_each(&rt, alloc, machines)?;
-    }
-    Ok(())
+fn logs_of_runs_are_legal(rt: HostRuntime) {
+    assert_each(&rt, rt.alloc(), &attempts::MACHINES);
+    assert_each(&rt, rt.alloc(), &failures::MACHINES);
+    assert_each(&rt, rt.alloc(), &devices::MACHINES);
+    assert_each(&rt, rt.alloc(), &links::MACHINES);
+    assert_each(&rt, rt.alloc(), &freezing::MACHINES);
+    assert_each(&rt, rt.alloc(), &counts::MACHINES);
+    assert_each(&rt, rt.alloc(), &timers::MACHINES);
+    assert_each(&rt, rt.alloc(), &autosleep::MACHINES);
+    assert_each(&rt, rt.alloc(), &apart::MACHINES);
 }
 
 /// Inputs that hold a machine and no log, or no machine, with the status and the two texts.
@@ -208,42 +190,68 @@ const NO_LOGS: [(&str, u8, &str, &str); 6] = [
 /// Lines that no log has: the checker names the first, also behind an entry that breaks a rule; and a log that ends too early.
 /// A machine that is none is refused, whatever stands behind it.
 #[test]
-fn texts_that_are_no_log_are_judged(rt: HostRuntime) -> Result<(), Fail> {
-    for (input, status, out, err) in NO_LOGS {
-        let said = Said { status, out, err };
+fn texts_that_are_no_log_are_judged(rt: HostRuntime) {
+    for (input, status, out, err) in &NO_LOGS {
+        let said = Said {
+            status: *status,
+            out,
+            err,
+        };
         assert!(rt;
-            answers(&rt, rt.alloc(), &CHECK, input, &GOOD, &said)?,
+            answers(&rt, rt.alloc(), &CHECK, input, &GOOD, &said) == Ok(true),
             "{input}"
         );
     }
-    Ok(())
 }
+
+/// Whether the program answers so to the smallest attempt and its log.
+fn is_told<R: Threads + Wait + Sync>(
+    rt: &R,
+    alloc: Global,
+    streams: &Streams<'_>,
+    said: &Said<'_>,
+) -> Result<bool, Mem> {
+    let input = input_of(
+        alloc,
+        attempts::SMALLEST_ATTEMPT,
+        attempts::SMALLEST_ATTEMPT_LOG,
+    )?;
+    gives(rt, alloc, &CHECK, input, streams, &Sought::Is(said))
+}
+
+/// The second of writes of three bytes fails.
+const WRITES: Streams<'static> = Streams {
+    read_chunk: 4096,
+    read_fails: &[],
+    write_chunk: 3,
+    write_fails: &[2],
+    error_fails: &[],
+};
+
+/// The first read fails.
+const READS: Streams<'static> = Streams {
+    read_chunk: 4096,
+    read_fails: &[1],
+    write_chunk: 4096,
+    write_fails: &[],
+    error_fails: &[],
+};
+
+const WRITE_FAULT: Said<'static> = Said {
+    status: 5,
+    out: "leg",
+    err: "write fault\n",
+};
+
+const READ_FAULT: Said<'static> = Said {
+    status: 4,
+    out: "",
+    err: "read fault\n",
+};
 
 /// Where a write fails, a front of the verdict was written; where a read fails, nothing was.
 #[test]
-fn failed_streams_are_told(rt: HostRuntime) -> Result<(), Fail> {
-    let alloc = rt.alloc();
-    let (file, log) = (attempts::SMALLEST_ATTEMPT, attempts::SMALLEST_ATTEMPT_LOG);
-    let write = Streams {
-        write_chunk: 3,
-        write_fails: &[2],
-        ..GOOD
-    };
-    let said = Said {
-        status: 5,
-        out: "leg",
-        err: "write fault\n",
-    };
-    assert!(rt; judges(&rt, alloc, file, log, &write, &said)?);
-    let read = Streams {
-        read_fails: &[1],
-        ..GOOD
-    };
-    let said = Said {
-        status: 4,
-        out: "",
-        err: "read fault\n",
-    };
-    assert!(rt; judges(&rt, alloc, file, log, &read, &said)?);
-    Ok(())
+fn failed_streams_are_told(rt: HostRuntime) {
+    assert!(rt; is_told(&rt, rt.alloc(), &WRITES, &WRITE_FAULT) == Ok(true));
+    assert!(rt; is_told(&rt, rt.alloc(), &READS, &READ_FAULT) == Ok(true));
 }

@@ -1,7 +1,7 @@
-use crate::tests::{GOOD, Said, given};
+use crate::tests::{GOOD, Said, Sought, gives};
+use sleep_base::Mem;
 use std::alloc::Global;
 use std::sync::Wait;
-use std::test::Fail;
 use std::thread::Threads;
 
 const LINES: &str = "\
@@ -82,6 +82,15 @@ const READ: [(&str, u32, Said<'static>); 5] = [
     ),
 ];
 
+/// Copies of these lines.
+fn copies_of(alloc: Global, lines: &str, copies: u32) -> Result<Vec<u8>, Mem> {
+    let mut input = Vec::new(alloc);
+    for _ in 0..copies {
+        input.extend_from_slice(lines.as_bytes())?;
+    }
+    Ok(input)
+}
+
 /// Whether the program answers so to copies of these lines.
 fn locks_say<R: Threads + Wait + Sync>(
     rt: &R,
@@ -89,23 +98,25 @@ fn locks_say<R: Threads + Wait + Sync>(
     lines: &str,
     copies: u32,
     said: &Said<'_>,
-) -> Result<bool, Fail> {
-    let mut input = Vec::new(alloc);
-    for _ in 0..copies {
-        input.extend_from_slice(lines.as_bytes())?;
-    }
-    let outcome = given(rt, alloc, &["sleep", "locks"], input, &GOOD)?;
-    Ok(outcome.is(said))
+) -> Result<bool, Mem> {
+    let input = copies_of(alloc, lines, copies)?;
+    gives(
+        rt,
+        alloc,
+        &["sleep", "locks"],
+        input,
+        &GOOD,
+        &Sought::Is(said),
+    )
 }
 
 /// Lines of each kind, each with its status and its texts.
 #[test]
-fn locks_are_answered(rt: HostRuntime) -> Result<(), Fail> {
-    for (lines, copies, said) in READ {
+fn locks_are_answered(rt: HostRuntime) {
+    for (lines, copies, said) in &READ {
         assert!(rt;
-            locks_say(&rt, rt.alloc(), lines, copies, &said)?,
+            locks_say(&rt, rt.alloc(), lines, *copies, said) == Ok(true),
             "{copies} of {lines}"
         );
     }
-    Ok(())
 }

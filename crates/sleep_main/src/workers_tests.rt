@@ -3,12 +3,12 @@
 use crate::generated_tests::lines;
 use crate::rows::attempts::{SMALLEST_ATTEMPT, SMALLEST_ATTEMPT_LOG};
 use crate::tests::{GOOD, Outcome, Said, given, given_with};
+use sleep_base::Mem;
 use sleep_model::Actor;
 use sleep_run::Gate;
 use std::alloc::Global;
 use std::sync::Wait;
 use std::sync::atomic::{AtomicBool, AtomicU64, Ordering};
-use std::test::Fail;
 use std::thread::{Threads, yield_now};
 
 /// How often a gate looks for what it waits for.
@@ -77,31 +77,31 @@ impl Race {
     }
 }
 
-/// Runs the task and the interrupt by five workers, through a gate.
-fn run_by_five<R: Threads + Wait + Sync>(
+/// Whether five workers run the task and the interrupt to their end, through a gate.
+fn is_run_by_five<R: Threads + Wait + Sync>(
     rt: &R,
     alloc: Global,
     gate: &Race,
-) -> Result<Outcome, Fail> {
+) -> Result<bool, Mem> {
     let words = ["sleep", "run", "--workers", "5"];
     let file = TASK_AND_INTERRUPT.as_bytes().to_vec(alloc)?;
-    given_with(rt, alloc, &words, file, &GOOD, gate)
+    let run = given_with(rt, alloc, &words, file, &GOOD, gate)?;
+    let is_so = run.ends_so(0, b"finished\n") && lines(run.out()) == 7 + 3;
+    drop(run);
+    Ok(is_so)
 }
 
 /// Reports are made while another holds the machine's lock.
 #[test]
-fn reports_pass_the_machines_lock(rt: HostRuntime) -> Result<(), Fail> {
+fn reports_pass_the_machines_lock(rt: HostRuntime) {
     let gate = Race {
         held: AtomicBool::new(false),
         passes: AtomicU64::new(0),
         saw_held: AtomicBool::new(false),
         saw_calls: AtomicBool::new(false),
     };
-    let run = run_by_five(&rt, rt.alloc(), &gate)?;
-    assert!(rt; run.ends_so(0, b"finished\n"));
-    assert_eq!(rt; lines(run.out()), 7 + 3);
+    assert!(rt; is_run_by_five(&rt, rt.alloc(), &gate) == Ok(true));
     assert!(rt; gate.was());
-    Ok(())
 }
 
 /// The first turns of some jobs wait for each other, and each job's turns are counted.
@@ -175,7 +175,7 @@ fn meets_well<R: Threads + Wait + Sync>(
     alloc: Global,
     words: &[&str],
     gate: &Meeting,
-) -> Result<bool, Fail> {
+) -> Result<bool, Mem> {
     let said = Said {
         status: 0,
         out: SMALLEST_ATTEMPT_LOG,
@@ -183,7 +183,9 @@ fn meets_well<R: Threads + Wait + Sync>(
     };
     let file = SMALLEST_ATTEMPT.as_bytes().to_vec(alloc)?;
     let outcome = given_with(rt, alloc, words, file, &GOOD, gate)?;
-    Ok(outcome.is(&said))
+    let is_so = outcome.is(&said);
+    drop(outcome);
+    Ok(is_so)
 }
 
 /// Words of runs, which of the first three jobs meet, and how often the first two have turns. Of two workers the first has
@@ -213,37 +215,60 @@ const MEETINGS: [(&[&str], [bool; 3], (u64, u64)); 5] = [
     ),
 ];
 
-/// Workers overlap, two and three at once.
-#[test]
-fn workers_meet(rt: HostRuntime) -> Result<(), Fail> {
-    for (n, (words, meets, turns)) in MEETINGS.iter().enumerate() {
-        let gate = Meeting::of(*meets);
-        assert!(rt; meets_well(&rt, rt.alloc(), words, &gate)?, "meeting {n}");
-        assert!(rt; gate.was(*turns), "meeting {n}");
-    }
-    Ok(())
-}
-
-/// Whether a run of many events by that number of workers writes that log.
-fn is_same_log<R: Threads + Wait + Sync>(
+/// Whether a run meets as its row says.
+fn is_meeting<R: Threads + Wait + Sync>(
     rt: &R,
     alloc: Global,
     words: &[&str],
-    log: &[u8],
-) -> Result<bool, Fail> {
+    meets: [bool; 3],
+    turns: (u64, u64),
+) -> Result<bool, Mem> {
+    let gate = Meeting::of(meets);
+    let is_well = meets_well(rt, alloc, words, &gate)?;
+    Ok(is_well && gate.was(turns))
+}
+
+/// Workers overlap, two and three at once.
+#[test]
+fn workers_meet(rt: HostRuntime) {
+    for (n, (words, meets, turns)) in MEETINGS.iter().enumerate() {
+        assert!(rt;
+            is_meeting(&rt, rt.alloc(), words, *meets, *turns) == Ok(true),
+            "meeting {n}"
+        );
+    }
+}
+
+/// What a run of many events by that number of workers writes.
+fn many_run<R: Threads + Wait + Sync>(
+    rt: &R,
+    alloc: Global,
+    workers: &str,
+) -> Result<Outcome, Mem> {
+    let words = ["sleep", "run", "--workers", workers];
     let file = MANY_EVENTS.as_bytes().to_vec(alloc)?;
-    let outcome = given(rt, alloc, words, file, &GOOD)?;
-    Ok(outcome.out() == log)
+    given(rt, alloc, &words, file, &GOOD)
+}
+
+/// Whether a run of many events by three workers writes that log.
+fn is_same_log<R: Threads + Wait + Sync>(rt: &R, alloc: Global, log: &[u8]) -> Result<bool, Mem> {
+    let outcome = many_run(rt, alloc, "3")?;
+    let is_same = outcome.out() == log;
+    drop(outcome);
+    Ok(is_same)
+}
+
+/// Whether one worker and three write the same log, which has a line for each entry.
+fn is_one_log<R: Threads + Wait + Sync>(rt: &R, alloc: Global) -> Result<bool, Mem> {
+    let one = many_run(rt, alloc, "1")?;
+    let is_same = is_same_log(rt, alloc, one.out()) == Ok(true);
+    let has_all = lines(one.out()) == 6_000 * 3 + 4;
+    drop(one);
+    Ok(is_same && has_all)
 }
 
 /// The log of one interrupt is the same for each number of workers, also where its text is made in slices.
 #[test]
-fn slices_are_one_log(rt: HostRuntime) -> Result<(), Fail> {
-    let alone = ["sleep", "run", "--workers", "1"];
-    let file = MANY_EVENTS.as_bytes().to_vec(rt.alloc())?;
-    let one = given(&rt, rt.alloc(), &alone, file, &GOOD)?;
-    assert_eq!(rt; lines(one.out()), 6_000 * 3 + 4);
-    let many = ["sleep", "run", "--workers", "3"];
-    assert!(rt; is_same_log(&rt, rt.alloc(), &many, one.out())?);
-    Ok(())
+fn slices_are_one_log(rt: HostRuntime) {
+    assert!(rt; is_one_log(&rt, rt.alloc()) == Ok(true));
 }

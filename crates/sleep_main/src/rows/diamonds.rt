@@ -1,7 +1,7 @@
 //! A hundred diamonds of devices: their machine file, and its log.
 
+use sleep_base::Mem;
 use std::alloc::Global;
-use std::test::Fail;
 
 /// The number of a device's diamond and its letter, in the order of their registration: a hundred diamonds, one below the
 /// other, and the last device of all.
@@ -18,7 +18,7 @@ fn diamond(place: u32) -> (&'static str, u32) {
 const DEVICES: u32 = 301;
 
 /// Adds the devices to a machine file.
-fn add_devices(file: &mut String) -> Result<(), Fail> {
+fn add_devices(file: &mut String) -> Result<(), Mem> {
     for place in 0..DEVICES {
         let (letter, i) = diamond(place);
         let comma = if place == 0 { "" } else { "," };
@@ -27,16 +27,15 @@ fn add_devices(file: &mut String) -> Result<(), Fail> {
     Ok(())
 }
 
+/// The links of a diamond: who supplies whom, and how many diamonds higher that is.
+const ENDS: [(&str, &str, u32); 4] = [("b", "a", 1), ("c", "a", 1), ("a", "b", 0), ("a", "c", 0)];
+
 /// Adds their links: a supplies b and c, and these supply the next a; the last diamond comes first.
-fn add_links(file: &mut String) -> Result<(), Fail> {
+fn add_links(file: &mut String) -> Result<(), Mem> {
     let mut comma = "";
     for i in (0..100u32).rev() {
-        for (from, to, over) in [
-            ("b", "a", i + 1),
-            ("c", "a", i + 1),
-            ("a", "b", i),
-            ("a", "c", i),
-        ] {
+        for (from, to, up) in &ENDS {
+            let over = i + *up;
             write!(
                 file,
                 "{comma}{{\"supplier\": \"{from}{i}\", \"consumer\": \"{to}{over}\"}}"
@@ -47,8 +46,7 @@ fn add_links(file: &mut String) -> Result<(), Fail> {
     Ok(())
 }
 
-/// The machine file of a hundred diamonds.
-pub(crate) fn diamonds_file(alloc: Global) -> Result<String, Fail> {
+pub(crate) fn diamonds_file(alloc: Global) -> Result<String, Mem> {
     let mut file = String::from_str(alloc, r#"{"version": 1, "devices": ["#)?;
     add_devices(&mut file)?;
     file.push_str(r#"], "links": ["#)?;
@@ -109,7 +107,7 @@ source autosleep 0 0 0 0 0 0 0\n\
 finished\n";
 
 /// Adds the lines of a device's callback at that time.
-fn add_callback(log: &mut String, at: &str, phase: &str, place: u32) -> Result<(), Fail> {
+fn add_callback(log: &mut String, at: &str, phase: &str, place: u32) -> Result<(), Mem> {
     let (letter, i) = diamond(place);
     write!(log, "{at} 0/0/0 task:w begin {phase} {letter}{i}\n")?;
     write!(log, "{at} 0/0/0 task:w end {phase} {letter}{i} 0\n")?;
@@ -117,8 +115,8 @@ fn add_callback(log: &mut String, at: &str, phase: &str, place: u32) -> Result<(
 }
 
 /// Adds the lines of all phases on the way down.
-fn add_down(log: &mut String) -> Result<(), Fail> {
-    for (phase, behind) in DOWN {
+fn add_down(log: &mut String) -> Result<(), Mem> {
+    for (phase, behind) in &DOWN {
         for place in (0..DEVICES).rev() {
             add_callback(log, "0", phase, place)?;
         }
@@ -128,8 +126,8 @@ fn add_down(log: &mut String) -> Result<(), Fail> {
 }
 
 /// Adds the lines of all phases on the way up.
-fn add_up(log: &mut String) -> Result<(), Fail> {
-    for (phase, behind) in UP {
+fn add_up(log: &mut String) -> Result<(), Mem> {
+    for (phase, behind) in &UP {
         for place in 0..DEVICES {
             add_callback(log, "1000", phase, place)?;
         }
@@ -139,7 +137,7 @@ fn add_up(log: &mut String) -> Result<(), Fail> {
 }
 
 /// Adds the lines by which all devices are prepared.
-fn add_prepared(log: &mut String) -> Result<(), Fail> {
+fn add_prepared(log: &mut String) -> Result<(), Mem> {
     for place in 0..DEVICES {
         let (letter, i) = diamond(place);
         write!(log, "0 0/0/0 task:w prepare {letter}{i} 0\n")?;
@@ -148,7 +146,7 @@ fn add_prepared(log: &mut String) -> Result<(), Fail> {
 }
 
 /// Adds the lines by which all are completed.
-fn add_completed(log: &mut String) -> Result<(), Fail> {
+fn add_completed(log: &mut String) -> Result<(), Mem> {
     for place in (0..DEVICES).rev() {
         let (letter, i) = diamond(place);
         write!(log, "1000 0/0/0 task:w complete {letter}{i}\n")?;
@@ -157,7 +155,7 @@ fn add_completed(log: &mut String) -> Result<(), Fail> {
 }
 
 /// Adds all lines of the log.
-fn add_lines(log: &mut String) -> Result<(), Fail> {
+fn add_lines(log: &mut String) -> Result<(), Mem> {
     add_prepared(log)?;
     log.push_str("0 0/0/0 task:w done prepare 0\n")?;
     add_down(log)?;
@@ -169,7 +167,7 @@ fn add_lines(log: &mut String) -> Result<(), Fail> {
 }
 
 /// The log of the diamonds.
-pub(crate) fn diamonds_log(alloc: Global) -> Result<String, Fail> {
+pub(crate) fn diamonds_log(alloc: Global) -> Result<String, Mem> {
     let mut log = String::from_str(alloc, FRONT)?;
     add_lines(&mut log)?;
     Ok(log)

@@ -1,7 +1,7 @@
 //! A laptop of sixty devices: its machine file, and its log.
 
+use sleep_base::Mem;
 use std::alloc::Global;
-use std::test::Fail;
 
 /// What stands in the file behind the links: the task that suspends three times, the tasks and the kernel
 /// thread that are frozen meanwhile, one that is not, and the keys that report while the laptop sleeps.
@@ -466,7 +466,7 @@ const ATTEMPTS: [(&str, &str, &str, &str); 3] = [
 ];
 
 /// Adds sixty devices, four below each. Two of three are asynchronous.
-fn add_devices(file: &mut String) -> Result<(), Fail> {
+fn add_devices(file: &mut String) -> Result<(), Mem> {
     for i in 1..60u32 {
         let parent = (i - 1) / 4;
         let kind = if i % 3 == 0 { "" } else { r#", "async": true"# };
@@ -479,7 +479,7 @@ fn add_devices(file: &mut String) -> Result<(), Fail> {
 }
 
 /// Adds their links: some need a supplier.
-fn add_links(file: &mut String) -> Result<(), Fail> {
+fn add_links(file: &mut String) -> Result<(), Mem> {
     let mut comma = "";
     for i in 0..25u32 {
         let over = i + 30;
@@ -493,7 +493,7 @@ fn add_links(file: &mut String) -> Result<(), Fail> {
 }
 
 /// The laptop's machine file.
-pub(crate) fn laptop_file(alloc: Global) -> Result<String, Fail> {
+pub(crate) fn laptop_file(alloc: Global) -> Result<String, Mem> {
     let mut file = String::from_str(alloc, r#"{"version": 1, "devices": [{"name": "d0"}"#)?;
     add_devices(&mut file)?;
     file.push_str(r#"], "cpus": 4, "sources": ["lid", "kbd", "net"], "links": ["#)?;
@@ -506,7 +506,7 @@ pub(crate) fn laptop_file(alloc: Global) -> Result<String, Fail> {
 const ORDER: [(u32, u32); 3] = [(0, 30), (55, 60), (30, 55)];
 
 /// Adds a text, with `head` in place of each `@`, and `phase` in place of each `%`.
-fn add(log: &mut String, text: &str, head: &str, phase: &str) -> Result<(), Fail> {
+fn add(log: &mut String, text: &str, head: &str, phase: &str) -> Result<(), Mem> {
     for letter in text.chars() {
         match letter {
             '@' => log.push_str(head)?,
@@ -518,9 +518,9 @@ fn add(log: &mut String, text: &str, head: &str, phase: &str) -> Result<(), Fail
 }
 
 /// Adds the lines by which all devices are prepared.
-fn add_prepared(log: &mut String, head: &str) -> Result<(), Fail> {
-    for (from, to) in ORDER {
-        for i in from..to {
+fn add_prepared(log: &mut String, head: &str) -> Result<(), Mem> {
+    for (from, to) in &ORDER {
+        for i in *from..*to {
             write!(log, "{head} task:sleepd prepare d{i} 0\n")?;
         }
     }
@@ -528,7 +528,7 @@ fn add_prepared(log: &mut String, head: &str) -> Result<(), Fail> {
 }
 
 /// Adds the lines by which all are completed.
-fn add_completed(log: &mut String, head: &str) -> Result<(), Fail> {
+fn add_completed(log: &mut String, head: &str) -> Result<(), Mem> {
     for (from, to) in ORDER.iter().rev() {
         for i in (*from..*to).rev() {
             write!(log, "{head} task:sleepd complete d{i}\n")?;
@@ -538,11 +538,11 @@ fn add_completed(log: &mut String, head: &str) -> Result<(), Fail> {
 }
 
 /// Adds the lines of an attempt on the way down, from the freeze to the sleep.
-fn add_down(log: &mut String, head: &str) -> Result<(), Fail> {
+fn add_down(log: &mut String, head: &str) -> Result<(), Mem> {
     add(log, FREEZE, head, "")?;
     add_prepared(log, head)?;
     add(log, "@ task:sleepd done prepare 0\n", head, "")?;
-    for (phase, behind) in PHASES_DOWN {
+    for (phase, behind) in &PHASES_DOWN {
         add(log, DOWN, head, phase)?;
         add(log, behind, head, phase)?;
     }
@@ -550,9 +550,9 @@ fn add_down(log: &mut String, head: &str) -> Result<(), Fail> {
 }
 
 /// Adds its lines on the way up, to the thaw.
-fn add_up(log: &mut String, head: &str) -> Result<(), Fail> {
+fn add_up(log: &mut String, head: &str) -> Result<(), Mem> {
     add(log, WAKE, head, "")?;
-    for (phase, behind) in PHASES_UP {
+    for (phase, behind) in &PHASES_UP {
         add(log, UP, head, phase)?;
         add(log, behind, head, phase)?;
     }
@@ -561,8 +561,8 @@ fn add_up(log: &mut String, head: &str) -> Result<(), Fail> {
 }
 
 /// Adds the lines of all attempts.
-fn add_attempts(log: &mut String) -> Result<(), Fail> {
-    for (down, asleep, up, behind) in ATTEMPTS {
+fn add_attempts(log: &mut String) -> Result<(), Mem> {
+    for (down, asleep, up, behind) in &ATTEMPTS {
         add_down(log, down)?;
         log.push_str(asleep)?;
         add_up(log, up)?;
@@ -572,7 +572,7 @@ fn add_attempts(log: &mut String) -> Result<(), Fail> {
 }
 
 /// The log of the laptop: the keys wake it twice, and the alarm wakes it once.
-pub(crate) fn laptop_log(alloc: Global) -> Result<String, Fail> {
+pub(crate) fn laptop_log(alloc: Global) -> Result<String, Mem> {
     let mut log = String::from_str(alloc, FRONT)?;
     add_attempts(&mut log)?;
     Ok(log)

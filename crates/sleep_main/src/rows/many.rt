@@ -1,7 +1,7 @@
 //! 65,536 events, which 16 bits do not count.
 
+use sleep_base::Mem;
 use std::alloc::Global;
-use std::test::Fail;
 
 /// The script but its last operation.
 const EVENTS: &str =
@@ -58,15 +58,23 @@ finished
 ";
 
 /// A task that saves a count, reports the events, and then does that.
-pub(crate) fn many_file(alloc: Global, last: &str) -> Result<String, Fail> {
+pub(crate) fn many_file(alloc: Global, last: &str) -> Result<String, Mem> {
     let mut file = String::from_str(alloc, EVENTS)?;
     file.push_str(last)?;
     file.push_str("]}]}")?;
     Ok(file)
 }
 
+/// The lines of an event, behind `n` others.
+fn add_event(log: &mut String, source: &str, n: u32) -> Result<(), Mem> {
+    write!(log, "0 0/{n}/0 task:w event {source} 0 soft\n")?;
+    write!(log, "0 0/{n}/0 task:w start {source}\n")?;
+    write!(log, "0 1/{n}/0 task:w finish {source}\n")?;
+    Ok(())
+}
+
 /// Adds the lines of the events.
-fn add_events(log: &mut String) -> Result<(), Fail> {
+fn add_events(log: &mut String) -> Result<(), Mem> {
     for n in 0..65_536u32 {
         let source = match n / 16_384 {
             0 => "a",
@@ -74,15 +82,13 @@ fn add_events(log: &mut String) -> Result<(), Fail> {
             2 => "c",
             _ => "d",
         };
-        write!(log, "0 0/{n}/0 task:w event {source} 0 soft\n")?;
-        write!(log, "0 0/{n}/0 task:w start {source}\n")?;
-        write!(log, "0 1/{n}/0 task:w finish {source}\n")?;
+        add_event(log, source, n)?;
     }
     Ok(())
 }
 
 /// Its log, which ends so.
-pub(crate) fn many_log(alloc: Global, end: &str) -> Result<String, Fail> {
+pub(crate) fn many_log(alloc: Global, end: &str) -> Result<String, Mem> {
     let mut log = String::from_str(alloc, "0 0/0/0 task:w read 0\n0 0/0/0 task:w save 0 ok\n")?;
     add_events(&mut log)?;
     log.push_str(end)?;
