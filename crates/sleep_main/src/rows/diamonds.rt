@@ -46,6 +46,7 @@ fn add_links(file: &mut String) -> Result<(), Mem> {
     Ok(())
 }
 
+/// The machine file of a hundred diamonds.
 pub(crate) fn diamonds_file(alloc: Global) -> Result<String, Mem> {
     let mut file = String::from_str(alloc, r#"{"version": 1, "devices": ["#)?;
     add_devices(&mut file)?;
