@@ -1,11 +1,11 @@
 #!/usr/bin/env python3
-"""Prints a machine file: N devices in a binary tree, and one task that does the same so many times.
+"""Prints a machine file: N devices in a binary tree, and one task that does the same TIMES times.
 
 usage: machine.py DEVICES [TIMES [PIECE]] [--async] [--links LINKS]
 
 Device i hangs below device (i - 1) / 2; with --async all devices are asynchronous. LINKS links go from an
 earlier device to a later one that does not hang below it, spread over the tree. The task's script is a PIECE,
-so many times:
+TIMES times:
 
   sleep     reads the count of events, saves it, and sleeps
   event     reports an event

@@ -3,7 +3,7 @@
 
 usage: stats.py [PROGRAM]
 
-The machine has 1,000 devices and 4,000 links. Its task sleeps 95 times, as often as a file of so many devices may ask; the
+The machine has 1,000 devices and 4,000 links. Its task sleeps 95 times, as often as a file of 1,000 devices may ask; the
 entries of that log stand in this one again, up to 2,000,000. The program tells of the log, and then it is given the same
 input with a line behind the log's end: that one it refuses once it has read all the others, and tells nothing. Prints the
 processor time of the best of some runs of both, and the ratio: counting and the longest chain shall take no longer than

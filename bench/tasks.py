@@ -65,7 +65,7 @@ def events(readers):
 
 
 def writers(count, times):
-    """So many tasks, each of which writes to autosleep so many times."""
+    """That number of tasks, each of which writes to autosleep that number of times."""
     write = {"op": "autosleep", "text": "off", "times": times}
     return {"version": 1, "actors": [{"name": f"w{i}", "kind": "user", "script": [write]} for i in range(count)]}
 

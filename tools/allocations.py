@@ -26,8 +26,8 @@ CRATE = ROOT / "crates" / "sleep_main"
 PROGRAM = CRATE / "out" / "sleep_main"
 WORDS = ["run", "--workers", "1"]
 NO_MEMORY = (8, b"", b"want of memory\n")
-LARGE = 4096  # An example of so many bytes makes more allocations than one wants to fail each in turn.
-PATIENCE = 3  # After so many numbers at which nothing failed the sweep ends: a failure may pass unseen.
+LARGE = 4096  # An example of that many bytes makes more allocations than one wants to fail each in turn.
+PATIENCE = 3  # After that many numbers at which nothing failed the sweep ends: a failure may pass unseen.
 
 # malloc and realloc that give nothing at the call with that number, and tell so once by a byte.
 FAILING = r"""

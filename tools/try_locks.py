@@ -4,7 +4,7 @@
 usage: tools/try_locks.py SEED INPUTS [PROGRAM]
 
 Without PROGRAM the second writing alone runs over the worked rows. With it, the program's command `locks` has to answer
-each of so many random inputs as the second writing does: with the same status, the same output and the same words on
+each of INPUTS random inputs as the second writing does: with the same status, the same output and the same words on
 standard error. Some inputs are hostile: without a last newline, with empty lines, with bytes that are no text, too long.
 Ends with status 1, and shows the first input where the two disagree.
 """

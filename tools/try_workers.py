@@ -23,7 +23,7 @@ STUCK, FULL = 6, 7  # The statuses of a run that is stuck, and of one whose sour
 
 
 def run_by(program, text, workers):
-    """The status and the log of a run by so many workers."""
+    """The status and the log of a run by that number of workers."""
     done = subprocess.run([program, "run", "--workers", str(workers)], input=text, capture_output=True)
     return done.returncode, done.stdout.decode()
 

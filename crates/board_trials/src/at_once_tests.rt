@@ -145,7 +145,7 @@ fn push_ladder(list: &mut Vec<Link>, from_end: bool) -> Result<(), Mem> {
     Ok(())
 }
 
-/// Adds to a list links from so many devices to a consumer, while it has fewer than 4,000.
+/// Adds to a list links from the first `count` devices to a consumer, while it has fewer than 4,000.
 fn push_suppliers(list: &mut Vec<Link>, count: u32, consumer: u32) -> Result<(), Mem> {
     for supplier in 0..count {
         if list.len() < 4000 {

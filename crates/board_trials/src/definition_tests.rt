@@ -7,7 +7,7 @@ use std::alloc::Global;
 use std::process::Abort;
 use std::test::Fail;
 
-/// A device, then all that depends on it, each with its own, so many levels deep.
+/// A device, then all that depends on it, each with its own, up to that number of levels.
 fn moved(
     levels: u32,
     parents: &[Option<u32>],

@@ -56,7 +56,7 @@ fn is_round(found: Round, wanted: &Round) -> bool {
     }
 }
 
-/// Whether so many of a group are left, and which first.
+/// Whether that number of a group is left, and that one first.
 fn are_left(freezer: &Freezer<'_>, group: Group, count: u32, first: Option<u32>) -> bool {
     let left = freezer.left(group);
     left.count == count && left.first == first

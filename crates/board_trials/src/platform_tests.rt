@@ -18,7 +18,7 @@ fn notifiers(alloc: Global, priorities: &[i32]) -> Result<Vec<Notifier>, Mem> {
     Ok(notifiers)
 }
 
-/// A machine of these notifiers and so many processors.
+/// A machine of these notifiers and that number of processors.
 fn machine(alloc: Global, notifiers: Vec<Notifier>, cpus: u32) -> Machine {
     Machine {
         alarm_ms: 1,
