@@ -2,7 +2,7 @@
 
 ghost use Rattle.std.specs.Prelude.{◌≡◌, ◌↔◌, true, IsTrue};
 ghost use Rattle.sleep_model.specs.Devices.{is_async_device};
-ghost use Rattle.sleep_model.specs.Rules.Walk.{BeginsAt, BeginsBeside, BeginsBy, CompletesAt, DoneAt, EndsAt, EndsBeside, EndsBy, IsDownDone, IsInside, IsNextUp, IsUpDone, KeepsWalk, PreparesAt, SchedulesAt};
+ghost use Rattle.sleep_model.specs.Rules.Walk.{BeginsAt, BeginsAsync, BeginsBy, CompletesAt, DoneAt, EndsAt, EndsAsync, EndsBy, IsDownDone, IsInside, IsNextUp, IsUpDone, KeepsWalk, PreparesAt, SchedulesAt};
 ghost use Rattle.phase_table.specs.Phases.{is_down};
 ghost use Rattle.check_past.specs.Passing.{journal_of};
 
@@ -64,8 +64,8 @@ fn schedules_at(past: &Passed<'_>, phase: Phase, device: u32, row: Option<Stage>
 }
 
 // Whether an asynchronous device begins now.
-fn begins_beside(past: &Passed<'_>, now: EventNow, phase: Phase, device: u32) -> bool
-    ensures { IsTrue result ↔ BeginsBeside past.now.machine (journal_of past.now) now phase device (is_down phase) }
+fn begins_async(past: &Passed<'_>, now: EventNow, phase: Phase, device: u32) -> bool
+    ensures { IsTrue result ↔ BeginsAsync past.now.machine (journal_of past.now) now phase device (is_down phase) }
 {
     if phase.is_down() {
         is_scheduled_down(past, phase, device)
@@ -122,15 +122,15 @@ fn begins_by(
         (is_async_device past.now.machine device) row }
 {
     if past.is_async(device) {
-        begins_beside(past, now, phase, device)
+        begins_async(past, now, phase, device)
     } else {
         begins_at(past, now, phase, device, row)
     }
 }
 
 // Whether an asynchronous device ends now.
-fn ends_beside(past: &Passed<'_>, phase: Phase, device: u32) -> bool
-    ensures { IsTrue result ↔ EndsBeside past.now.machine (journal_of past.now) phase device (is_down phase) }
+fn ends_async(past: &Passed<'_>, phase: Phase, device: u32) -> bool
+    ensures { IsTrue result ↔ EndsAsync past.now.machine (journal_of past.now) phase device (is_down phase) }
 {
     if phase.is_down() {
         matches!(past.stand(phase, device), Stand::Suspending)
@@ -167,7 +167,7 @@ fn ends_by(past: &Passed<'_>, phase: Phase, device: u32, row: Option<Stage>) -> 
         (is_async_device past.now.machine device) row }
 {
     if past.is_async(device) {
-        ends_beside(past, phase, device)
+        ends_async(past, phase, device)
     } else {
         ends_at(past, phase, device, row)
     }

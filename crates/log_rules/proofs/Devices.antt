@@ -38,7 +38,7 @@ use Rattle.sleep_model.specs.Rules.Questions.{is_maker, row_now, turn_of}
 use Rattle.sleep_model.specs.Rules.Reads.{ReadsActor}
 use Rattle.sleep_model.specs.Rules.Skip.{KeepsSkip, IsTurn, IsScheduledDown}
 use Rattle.sleep_model.specs.Rules.Steps.{IsDeviceStep, StepsOf}
-use Rattle.sleep_model.specs.Rules.Walk.{KeepsWalk, BeginsBeside, BeginsBy, EndsBy, EndsBeside}
+use Rattle.sleep_model.specs.Rules.Walk.{KeepsWalk, BeginsAsync, BeginsBy, EndsBy, EndsAsync}
 use Rattle.log_rules.proofs.Facts.{never, NoFroze, NoWake, freeze_else, wake_else}
 
 -- ---- what keeps all rules is due
@@ -52,7 +52,7 @@ works_beside : (b : Bool) (x w : AsyncWork) → cond b x Idle ≡ w → HasWork 
 works_beside true x w e h = refl
 works_beside false x w e h = absurd (subst HasWork (sym e) h)
 
-begin_back : (m : Machine) (past : List Entry) (now : EventNow) (p : Phase) (d : ℕ) (b : Bool) → BeginsBeside m past now p d b → cond b (after_device (waits_below m past p d) (Makes (turn_of m past now p d))) (after_device (waits_above m past (mirror p) d) (Makes (kind.Begin p d))) ≡ Makes (kind.Begin p d)
+begin_back : (m : Machine) (past : List Entry) (now : EventNow) (p : Phase) (d : ℕ) (b : Bool) → BeginsAsync m past now p d b → cond b (after_device (waits_below m past p d) (Makes (turn_of m past now p d))) (after_device (waits_above m past (mirror p) d) (Makes (kind.Begin p d))) ≡ Makes (kind.Begin p d)
 begin_back m past now p d true h = rw h.0.waits (ap Makes h.1)
 begin_back m past now p d false h = rw h.1 refl
 
@@ -111,7 +111,7 @@ skips : (m : Machine) (past : List Entry) (now : EventNow) (p : Phase) (d : ℕ)
 skips m past now p d cause w g e =
     (tt, (subst (λ (b : Bool). IsTurn m past p d b (row_now m past)) (sym g.beside) (turn_at m past p d w g), e), step_at d p (async_work m past d) (kind.Skip p d cause) g.work (refl, refl), tt)
 
-begins : (m : Machine) (past : List Entry) (now : EventNow) (p : Phase) (d : ℕ) → is_async_device m d ≡ true → async_work m past d ≡ Scheduled p → BeginsBeside m past now p d (is_down p) → (is_down p ≡ true → turn_of m past now p d ≡ kind.Begin p d) → Own m past now d (kind.Begin p d)
+begins : (m : Machine) (past : List Entry) (now : EventNow) (p : Phase) (d : ℕ) → is_async_device m d ≡ true → async_work m past d ≡ Scheduled p → BeginsAsync m past now p d (is_down p) → (is_down p ≡ true → turn_of m past now p d ≡ kind.Begin p d) → Own m past now d (kind.Begin p d)
 begins m past now p d b a h t =
     (subst (λ (x : Bool). BeginsBy m past now p d x (row_now m past)) (sym b) h, t, step_at d p (async_work m past d) (kind.Begin p d) a (refl, refl), tt)
 
@@ -120,7 +120,7 @@ end_answer m past now d p r w a e =
     let x : Makes (kind.End p d (device_error m past p d)) ≡ Makes (kind.End p d r) = subst (λ (z : AsyncWork). device_due m past now d z ≡ Makes (kind.End p d r)) a e in
     cc
 
-ends : (m : Machine) (past : List Entry) (now : EventNow) (p : Phase) (d : ℕ) (r : Option Errno) → is_async_device m d ≡ true → async_work m past d ≡ Inside p → EndsBeside m past p d (is_down p) → device_due m past now d (async_work m past d) ≡ Makes (kind.End p d r) → Own m past now d (kind.End p d r)
+ends : (m : Machine) (past : List Entry) (now : EventNow) (p : Phase) (d : ℕ) (r : Option Errno) → is_async_device m d ≡ true → async_work m past d ≡ Inside p → EndsAsync m past p d (is_down p) → device_due m past now d (async_work m past d) ≡ Makes (kind.End p d r) → Own m past now d (kind.End p d r)
 ends m past now p d r b a h e =
     ((subst (λ (x : Bool). EndsBy m past p d x (row_now m past)) (sym b) h, end_answer m past now d p r (async_work m past d) a e), tt, subst (λ (x : AsyncWork). IsDeviceStep d x (kind.End p d r)) (sym a) (refl, refl), tt)
 
@@ -130,11 +130,11 @@ own_made m past now d _ (DeviceMade.OwnFinds p w g f t b) e = skips m past now p
 own_made m past now d _ (DeviceMade.OwnLeaves p w g f t a) e = skips m past now p d skip.Direct w g (rw (f, t, a) refl)
 own_made m past now d _ (DeviceMade.OwnBegins p w g f t a) e =
     let turn : turn_of m past now p d ≡ kind.Begin p d = rw (f, t, a) refl in
-    begins m past now p d g.beside g.work (subst (BeginsBeside m past now p d) (sym (down_is p w)) (turn_at m past p d w g, turn)) (λ i. turn)
+    begins m past now p d g.beside g.work (subst (BeginsAsync m past now p d) (sym (down_is p w)) (turn_at m past p d w g, turn)) (λ i. turn)
 own_made m past now d _ (DeviceMade.OwnRises p w b a s n) e =
-    begins m past now p d b a (subst (BeginsBeside m past now p d) (sym (up_is p w)) (s, n)) (λ i. never (sym (up_is p w) ∙ i))
-own_made m past now d _ (DeviceMade.OwnEnds p r w b a s) e = ends m past now p d r b a (subst (EndsBeside m past p d) (sym (down_is p w)) s) e
-own_made m past now d _ (DeviceMade.OwnRose p r w b a s) e = ends m past now p d r b a (subst (EndsBeside m past p d) (sym (up_is p w)) s) e
+    begins m past now p d b a (subst (BeginsAsync m past now p d) (sym (up_is p w)) (s, n)) (λ i. never (sym (up_is p w) ∙ i))
+own_made m past now d _ (DeviceMade.OwnEnds p r w b a s) e = ends m past now p d r b a (subst (EndsAsync m past p d) (sym (down_is p w)) s) e
+own_made m past now d _ (DeviceMade.OwnRose p r w b a s) e = ends m past now p d r b a (subst (EndsAsync m past p d) (sym (up_is p w)) s) e
 
 -- the entry, at its place
 abbrev placed : List Entry → EventNow → Actor → Kind → Entry

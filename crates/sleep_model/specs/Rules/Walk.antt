@@ -55,9 +55,9 @@ SchedulesAt m past p d _ = ⊥
 -- ---- a callback begins
 
 -- an asynchronous device that was scheduled begins once all below it are through, or all above it are up (async_suspend, async_resume)
-abbrev pub BeginsBeside : Machine → List Entry → EventNow → Phase → ℕ → Bool → Type 0
-BeginsBeside m past now p d true = IsScheduledDown m past p d × (turn_of m past now p d ≡ kind.Begin p d)
-BeginsBeside m past now p d false = (stand_in m past (mirror p) d ≡ stand.Rescheduled) × (waits_above m past (mirror p) d ≡ None)
+abbrev pub BeginsAsync : Machine → List Entry → EventNow → Phase → ℕ → Bool → Type 0
+BeginsAsync m past now p d true = IsScheduledDown m past p d × (turn_of m past now p d ≡ kind.Begin p d)
+BeginsAsync m past now p d false = (stand_in m past (mirror p) d ≡ stand.Rescheduled) × (waits_above m past (mirror p) d ≡ None)
 
 -- the walk up stands at device d: no callback runs, none is left to be scheduled, d is the first that is down, and all above it are up (dpm_resume, dpm_wait_for_superior)
 pub record IsNextUp (m : Machine) (past : List Entry) (p : Phase) (d : ℕ) : Type 0 where
@@ -74,15 +74,15 @@ BeginsAt m past now p d _ = ⊥
 
 -- by whether the device is asynchronous (dpm_async_fn)
 abbrev pub BeginsBy : Machine → List Entry → EventNow → Phase → ℕ → Bool → Option Stage → Type 0
-BeginsBy m past now p d true row = BeginsBeside m past now p d (is_down p)
+BeginsBy m past now p d true row = BeginsAsync m past now p d (is_down p)
 BeginsBy m past now p d false row = BeginsAt m past now p d row
 
 -- ---- a callback ends
 
 -- an asynchronous device ends where it is inside its callback (async_suspend, async_resume)
-abbrev pub EndsBeside : Machine → List Entry → Phase → ℕ → Bool → Type 0
-EndsBeside m past p d true = stand_in m past p d ≡ stand.Suspending
-EndsBeside m past p d false = stand_in m past (mirror p) d ≡ stand.Resuming
+abbrev pub EndsAsync : Machine → List Entry → Phase → ℕ → Bool → Type 0
+EndsAsync m past p d true = stand_in m past p d ≡ stand.Suspending
+EndsAsync m past p d false = stand_in m past (mirror p) d ≡ stand.Resuming
 
 -- the maker is inside the callback of that device (dpm_run_callback)
 abbrev pub IsInside : ℕ → Option Callback → Type 0
@@ -97,7 +97,7 @@ EndsAt past p d _ = ⊥
 
 -- by whether the device is asynchronous (dpm_async_fn)
 abbrev pub EndsBy : Machine → List Entry → Phase → ℕ → Bool → Option Stage → Type 0
-EndsBy m past p d true row = EndsBeside m past p d (is_down p)
+EndsBy m past p d true row = EndsAsync m past p d (is_down p)
 EndsBy m past p d false row = EndsAt past p d row
 
 -- ---- a phase is done
