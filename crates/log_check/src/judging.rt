@@ -9,7 +9,7 @@ ghost use Rattle.log_check.specs.Verdicts.{IsVerdict};
 use crate::ending::{Verdict, bad, judge_end};
 use check_past::Passed;
 use check_rules::{first_broken, is_next_entry};
-use sleep_base::Mem;
+use sleep_base::{Mem, lost};
 use sleep_model::{Entry, Log, Machine};
 use std::alloc::Global;
 
@@ -44,10 +44,7 @@ pub fn check(alloc: Global, machine: &Machine, log: &Log) -> Result<Verdict, Mem
                 drop(past);
                 return verdict;
             }
-            Err(failed) => {
-                drop(past);
-                return Err(failed);
-            }
+            Err(_) => return Err(lost(past)),
         }
     }
     let verdict = judge_end(&past, log);
