@@ -15,7 +15,7 @@ use crate::said::{Said, is_stuck, write_said};
 use device_links::Links;
 use machine_file::write_machine;
 use program_ending::Ending;
-use sleep_base::{ByteSink, Mem};
+use sleep_base::{ByteSink, Mem, lost};
 use sleep_model::{Device, Log, Machine};
 use sleep_run::{OpenGate, RunFault, run_machine};
 use sleep_script::generate;
@@ -94,8 +94,7 @@ fn line_of<R: Threads + Wait + Sync>(
 {
     let machine = generate(alloc, seed, devices)?;
     let Ok(log) = log_of(rt, alloc, &machine) else {
-        drop(machine);
-        return Err(Mem);
+        return Err(lost(machine));
     };
     let stuck = is_stuck(&log.end);
     let counts = counts_of(&log);
