@@ -59,7 +59,7 @@ LOGS = [
     ("Failures", "syscore_step_fails", "The second of three syscore steps fails: the one before it resumes."),
     ("Failures", "platform_begin_fails", "The platform fails to begin: it is ended, and no device is prepared."),
     ("Failures", "platform_prepare_late_fails", "The platform fails in its last preparation: no processor and no interrupt is turned off."),
-    ("Failures", "notifier_fails", "A notifier fails: the one before it is told, and nothing is frozen."),
+    ("Failures", "notifier_fails", "A notifier fails: the one before it hears of that, and nothing is frozen."),
     ("Devices", "first_link", "A camera on a bus whose port needs a line."),
     ("Devices", "two_links", "The same, where the line needs a clock."),
     ("Devices", "asynchronous_child", "An asynchronous child of a synchronous parent."),

@@ -1,4 +1,7 @@
-"""The worked logs as tests of the program: written by tools/worked.py into crates/sleep_main/src/rows."""
+"""The worked logs as tests of the program: written by tools/worked.py into crates/sleep_main/src/rows.
+
+Each text is one literal on a line of its own, however long, since the gate plans memory by the lines of a crate.
+"""
 
 import json
 
@@ -27,14 +30,13 @@ pub(crate) const MACHINES: [(&str, u8, &str); {count}] = [
 {rows}];
 """
 
-ROW = '''
+ROW = """
 /// {says}
 {file}
 
 /// What the program writes for it.
-pub(crate) const {name}_LOG: &str = "\\
-{text}";
-'''
+{text}
+"""
 
 
 def status_of(log):
@@ -50,13 +52,24 @@ def table_row(log):
     return f"    ({', '.join(parts)}),\n"
 
 
+def literal(text):
+    """A text of several lines as a literal on one line."""
+    escaped = text.replace("\\", "\\\\").replace('"', '\\"').replace("\n", "\\n")
+    return f'"{escaped}"'
+
+
+def constant(name, value):
+    """A text's constant, with its value on the next line where it is too long for the first."""
+    line = f"pub(crate) const {name}: &str = {value};"
+    return line if len(line) <= WIDTH else line.replace("&str = ", "&str =\n    ", 1)
+
+
 def row(log):
     """A machine and its log as constants."""
     name, file = log.name.upper(), json.dumps(log.machine.tree, separators=(",", ":"))
-    line = f'pub(crate) const {name}: &str = r#"{file}"#;'
-    if len(line) > WIDTH:
-        line = line.replace("&str = ", "&str =\n    ", 1)
-    return ROW.format(says=log.says, name=name, file=line, text=log.text)
+    return ROW.format(
+        says=log.says, file=constant(name, f'r#"{file}"#'), text=constant(f"{name}_LOG", literal(log.text))
+    )
 
 
 def write_rows(logs, folder):
