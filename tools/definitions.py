@@ -42,7 +42,7 @@ are of the checker's account, by which `check` judges a log; no program stands o
 # What to read, in order: a question, and the definitions that answer it, each with its crate and module.
 READING = [
     ("What does a status of the program mean?", [("sleep_main", "Endings", ["Ended", "RunEnded", "RanFile", "Completes"]), ("program_ending", "Endings", ["status_of", "text_of"])]),
-    ("What is a run?", [("sleep_run", "Runs", ["IsRun", "IsFull"])]),
+    ("What is a run?", [("machine_rounds", "Runs", ["IsRun", "IsFull"])]),
     ("Which machine do these bytes spell?", [("machine_file", "Whole", ["machine_in", "SpellsWhole", "first_broken", "rule"])]),
     ("When is a log legal, and at its end?", [("sleep_model", "Legal", ["IsLegalLog", "IsLegal", "JournalPart", "JournalStep", "SourcePart", "JointStep", "Placed", "JumpStep", "IsFinishedLog", "IsStuckLog", "is_enabled"])]),
     ("Which entry is due of an actor?", [("sleep_model", "Due", ["due", "own_due", "script_due"]), ("sleep_model", "Steps", ["seat_due", "step_due", "read_due", "save_due", "state_due"]), ("sleep_model", "Autosleep", ["auto_due"]), ("sleep_model", "Attempt", ["attempt_due", "stage_due"])]),
@@ -94,7 +94,7 @@ SECTIONS = [
     ("sleep_script", "Generated machines", "own", ["Generated"]),
     ("command_line", "The words of the command line", "own", ["Words"]),
     ("log_text", "The grammar of a log, and its first bad line", "own", ["Grammar"]),
-    ("sleep_run", "A whole run", "own", ["Runs"]),
+    ("machine_rounds", "A whole run", "own", ["Runs"]),
     ("wake_locks", "Named locks", "`kernel/power/wakelock.c`", ["Standings", "Texts", "Locks", "Writes", "Expiries", "Counted"]),
     ("lock_lines", "The command `locks`", "`kernel/power/wakelock.c`", ["Lines", "Verbs", "Steps", "Answers", "Told", "Command"]),
     ("wakeup_source", "What a call adds to a source", "`drivers/base/power/wakeup.c`", ["SourceStates", "Told"]),

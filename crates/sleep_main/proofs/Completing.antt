@@ -6,7 +6,7 @@ use Rattle.sleep_base.specs.Faults.{Rose}
 use Rattle.sleep_model.specs.declared.machine.Machine.{Machine}
 use Rattle.machine_file.specs.Tree.{tree}
 use Rattle.machine_file.specs.Whole.{machine_in}
-use Rattle.sleep_run.specs.Runs.{IsFull}
+use Rattle.machine_rounds.specs.Runs.{IsFull}
 use Rattle.command_line.specs.declared.command.Command.{Command}
 use Rattle.command_line.specs.declared.command.Command.TheVariants.{Run, Gen, Soak, Check, Locks, Stats, Idle}
 use Rattle.program_ending.specs.declared.ending.Ending.{Ending}

@@ -3,9 +3,9 @@ use Rattle.std.proofs.Common.{◌≡◌, inr, ℕ, List, Some, refl, sym, subst}
 use Rattle.sleep_model.specs.declared.machine.Machine.{Machine}
 use Rattle.sleep_model.specs.Text.{text}
 use Rattle.machine_file.specs.Whole.{machine_in}
-use Rattle.sleep_run.specs.declared.run.RunFault.{RunFault}
-use Rattle.sleep_run.specs.declared.run.RunFault.TheVariants as fault
-use Rattle.sleep_run.specs.Runs.{Fails, IsFull}
+use Rattle.machine_rounds.specs.declared.run.RunFault.{RunFault}
+use Rattle.machine_rounds.specs.declared.run.RunFault.TheVariants as fault
+use Rattle.machine_rounds.specs.Runs.{Fails, IsFull}
 use Rattle.program_ending.specs.declared.ending.Ending.{Ending}
 use Rattle.program_ending.specs.declared.ending.Ending.TheVariants.{Done, Stuck, Illegal, NoForm, ReadFault, WriteFault, Refused, NoMemory}
 use Rattle.program_ending.specs.declared.refusal.Refusal.TheVariants.{SourceFull}

@@ -11,7 +11,7 @@ use Rattle.command_line.specs.declared.command.Command.{Command}
 use Rattle.command_line.specs.declared.command.Command.TheVariants.{Run, Gen, Soak, Check, Locks, Stats, Idle}
 use Rattle.machine_file.specs.Spelling.{spelling}
 use Rattle.sleep_script.specs.Generated.{generated}
-use Rattle.sleep_run.specs.Runs.{IsFull, IsRun}
+use Rattle.machine_rounds.specs.Runs.{IsFull, IsRun}
 use Rattle.sleep_main.specs.declared.counts.Counts.{Counts}
 use Rattle.program_ending.specs.declared.ending.Ending.{Ending}
 use Rattle.program_ending.specs.declared.ending.Ending.TheVariants.{Done, Stuck, Illegal, NoForm, ReadFault, WriteFault, Refused, NoMemory}

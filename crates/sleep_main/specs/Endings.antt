@@ -16,9 +16,9 @@ use Rattle.command_line.specs.declared.command.Command.TheVariants.{Run, Gen, So
 use Rattle.machine_file.specs.Spelling.{spelling}
 use Rattle.machine_file.specs.Whole.{machine_in, broken_at, broken_in}
 use Rattle.sleep_script.specs.Generated.{generated}
-use Rattle.sleep_run.specs.declared.run.RunFault.{RunFault}
-use Rattle.sleep_run.specs.declared.run.RunFault.TheVariants as fault
-use Rattle.sleep_run.specs.Runs.{IsRun, IsFull}
+use Rattle.machine_rounds.specs.declared.run.RunFault.{RunFault}
+use Rattle.machine_rounds.specs.declared.run.RunFault.TheVariants as fault
+use Rattle.machine_rounds.specs.Runs.{IsRun, IsFull}
 use Rattle.program_ending.specs.declared.ending.Ending.{Ending}
 use Rattle.program_ending.specs.declared.ending.Ending.TheVariants.{Done, Stuck, Illegal, NoForm, ReadFault, WriteFault, Refused, NoMemory}
 use Rattle.program_ending.specs.declared.refusal.Refusal.{Refusal}

@@ -7,7 +7,7 @@ ghost use Rattle.sleep_model.specs.Places.{places};
 ghost use Rattle.machine_file.specs.Reading.{links_among};
 ghost use Rattle.machine_file.specs.Spelling.{spelling};
 ghost use Rattle.sleep_script.specs.Generated.{generated};
-ghost use Rattle.sleep_run.specs.Runs.{IsRun};
+ghost use Rattle.machine_rounds.specs.Runs.{IsRun};
 ghost use Rattle.sleep_main.specs.Endings.{GenEnded, IsLineOf, SoakEnded, stream};
 
 use crate::counts::{count_line, counts_of};

@@ -4,7 +4,7 @@ ghost use Rattle.command_line.specs.Words.{IsInRange, command_of};
 ghost use Rattle.program_ending.specs.declared.ending.Ending.{Ending};
 ghost use Rattle.program_ending.specs.Endings.{status_of, text_of};
 ghost use Rattle.sleep_main.specs.Endings.{GivesRun, IsEndingOf, IsFullNamed, RunEnded, WritesLog, WritesText, Ended, Completes, Says, stream, streams};
-ghost use Rattle.sleep_run.specs.Runs.{Fails};
+ghost use Rattle.machine_rounds.specs.Runs.{Fails};
 
 use crate::generated::{soak_generated, write_generated};
 use crate::input::read_input;

@@ -1,17 +1,9 @@
-//! Runs a machine by workers: bursts of their turns, rounds over its actors, jumps of time, and the log of every step.
+//! Runs a machine by workers, to its end: the one call over the rounds and bursts of `machine_rounds`. It stands in a crate
+//! of its own, so that a wrong body of it is tried without proving those anew.
 #![tactic(auto)]
 
-mod asks;
-mod bursts;
-mod jobs;
-mod looks;
-mod pace;
-mod rest;
-mod rounds;
 mod run;
-mod tasks;
-mod waiters;
 
-pub use rounds::run_machine;
-pub use run::{RunEnd, RunFault};
+pub use machine_rounds::RunFault;
+pub use run::{RunEnd, run_machine};
 pub use run_world::{Gate, OpenGate};

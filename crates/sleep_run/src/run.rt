@@ -1,26 +1,20 @@
-//! A run of a machine, turn by turn.
+//! A whole run.
 
-ghost use Rattle.std.specs.Prelude.{◌≡◌, ◌≤◌, ◌<◌, ◌+◌, zero, suc, true, length, IfOk};
-ghost use Rattle.sleep_run.specs.declared.run.RunFault.TheVariants as fault;
+ghost use Rattle.std.specs.Prelude.{◌≡◌, ◌≤◌, reverse, IfOk, IfErr};
 ghost use Rattle.sleep_model.specs.Accepted.{IsAccepted};
-ghost use Rattle.sleep_run.specs.Refused.{run_fault};
+ghost use Rattle.sleep_model.specs.Order.{parents_of};
+ghost use Rattle.machine_rounds.specs.Runs.{Fails, IsRun};
 
-use crate::jobs::Jobs;
-use crate::waiters::Waiters;
 use apart_log::ApartLog;
 use device_links::Links;
-use event_word::EventTable;
-use fit_laws::{calls_are_ranged, kinds_are_ranged, moments_are_ranged};
 use machine_plans::MachinePlans;
-use run_objects::{SeatedCore, SeatedSource, seated_sources};
-use sleep_base::{Mem, lost};
-use sleep_core::{Core, CoreFault, CoreTurn};
-use sleep_model::{Actor, EventNow, Kind, Machine, Phase, SourceCall, Stamp, Why};
-use std::alloc::{AllocError, Global};
-use std::marker::Model;
+use machine_rounds::{Run, RunFault};
+use run_world::Gate;
+use sleep_base::lost;
+use sleep_model::Machine;
+use std::alloc::Global;
 use std::sync::Wait;
-use thiserror::Error;
-use wakeup_source::{CallBy, SourceFault};
+use std::thread::Threads;
 
 /// What a whole run gives.
 #[derive(Drop)]
@@ -28,348 +22,29 @@ pub struct RunEnd {
     pub log: ApartLog,
 }
 
-/// Why a run gives nothing.
-#[derive(Clone, Copy, Debug, PartialEq, Eq, Error)]
-pub enum RunFault {
-    /// The history of that source has no place left for a call.
-    #[error("the history of wakeup source {0} has no place left for a call")]
-    SourceFull(u32),
-    /// There was no memory.
-    #[error("out of memory")]
-    Mem,
-}
-
-impl From<AllocError> for RunFault {
-    ghost from_gives = { λ _ e. e ≡ fault.Mem };
-
-    fn from(_: AllocError) -> Self {
-        RunFault::Mem
-    }
-}
-
-impl From<Mem> for RunFault {
-    ghost from_gives = { λ _ e. e ≡ fault.Mem };
-
-    fn from(_: Mem) -> Self {
-        RunFault::Mem
-    }
-}
-
-impl From<CoreFault> for RunFault {
-    ghost from_gives = { λ _ e. e ≡ fault.Mem };
-
-    fn from(_: CoreFault) -> Self {
-        RunFault::Mem
-    }
-}
-
-/// What came of an actor's try.
-#[derive(Clone, Copy)]
-pub(crate) enum Tried {
-    /// It made entries.
-    Made,
-    /// It waits, for that.
-    Waits(Why),
-    /// It has nothing to do any more.
-    Gone,
-}
-
-/// A run of a machine, as far as it has come.
-#[derive(Drop)]
-pub(crate) struct Run<'m> {
-    pub(crate) machine: &'m Machine,
-    /// The event word.
-    pub(crate) table: EventTable,
-    /// The machine's core, with its seat at the word.
-    pub(crate) seated: SeatedCore<'m>,
-    /// The wakeup sources with their seats, `autosleep` last.
-    pub(crate) sources: Vec<SeatedSource>,
-    pub(crate) jobs: Jobs<'m>,
-    /// The last stamp that anybody made.
-    pub(crate) floor: Stamp,
-    pub(crate) waiters: Waiters,
-}
-
-impl<'m> Model for Run<'m> {
-    ghost use Rattle.sleep_run.specs.Runs.{RunState};
-
-    ghost Value = { RunState };
-
-    ghost use Rattle.sleep_run.specs.RunFields.{state, KeepsRun};
-
-    ghost view = { state };
-
-    ghost invariant = { KeepsRun };
-}
-
-/// Waits for ever unless that holds.
-pub(crate) fn wait_unless<R: Wait>(rt: &R, holds: bool)
-    ensures { holds ≡ true }
+/// Runs a machine to its end by 1 to 64 workers: with one, rounds on the caller's thread; with more, bursts
+/// on threads with rounds of the caller's own between them, and `gate` sees the workers' turns. `SourceFull` where
+/// the history of a source, which has 60,000 places, has fewer than four left for a call: only where the machine's calls
+/// may need that many places. `Mem` where there is no memory.
+#[tactic(auto, using(crate::proofs::Ended::run_of))]
+pub fn run_machine<R: Threads + Wait + Sync, G: Gate + Sync>(
+    rt: &R,
+    alloc: Global,
+    machine: &Machine,
+    links: Links,
+    workers: u8,
+    gate: &G,
+) -> Result<RunEnd, RunFault>
+    requires accepted { IsAccepted machine.now }
+    requires links { links ≡ record { parents = parents_of machine.now.devices; links = reverse machine.now.links } }
+    requires workers { 1 ≤ workers }
+    ensures ok { IfOk result (λ end. IsRun machine.now end.log) }
+    ensures fault { IfErr result (Fails machine.now) }
 {
-    if holds {
-        return;
-    }
-    for _ in rt.forever() {}
-    unreachable!()
-}
-
-/// Everybody is to be asked.
-fn all_waiters(alloc: Global, machine: &Machine) -> Result<Waiters, Mem>
-    requires { IsAccepted machine.now }
-{
-    Waiters::new(
-        alloc,
-        machine.actors.len(),
-        machine.marks.len(),
-        machine.devices.as_slice(),
-    )
-}
-
-/// Why a call on that source was refused.
-fn fault_of(fault: SourceFault, source: u32) -> RunFault
-    ensures { result ≡ run_fault fault source }
-{
-    match fault {
-        SourceFault::Full => RunFault::SourceFull(source),
-        SourceFault::Mem => RunFault::Mem,
-    }
-}
-
-/// A device is through with that phase: the devices that waited for it are right above it on the way down, right below it
-/// on the way up.
-fn waiting_for<'a>(core: &'a Core<'_>, phase: Phase, device: u32) -> &'a [u32] {
-    if phase.is_down() {
-        core.above(device)
-    } else {
-        core.below(device)
-    }
-}
-
-/// Wakes those of these devices that are scheduled in that phase and wait for none.
-#[inline(never)]
-fn wake_ready(core: &Core<'_>, waiters: &mut Waiters, phase: Phase, devices: &[u32]) {
-    for device in devices {
-        if core.is_ready(phase, *device) {
-            waiters.wake_device(*device);
-        }
-    }
-}
-
-impl<'m> Run<'m> {
-    ghost use Rattle.std.specs.Prelude.{◌≡◌, ◌≤◌, ◌<◌, ◌+◌, [], true, length, reverse, vec_len, Err, IfOk, OnOk, IfErr};
-    ghost use Rattle.sleep_model.specs.Accepted.{IsAccepted};
-    ghost use Rattle.sleep_model.specs.Calls.{calls_due};
-    ghost use Rattle.sleep_model.specs.Numbers.{time_of};
-    ghost use Rattle.sleep_model.specs.Order.{parents_of};
-    ghost use Rattle.sleep_model.specs.Sources.{expiry, has_expired, most_entries};
-    ghost use Rattle.event_word.specs.Seats.{AreNew, IsUntouched};
-    ghost use Rattle.sleep_state.specs.Places.{entries};
-    ghost use Rattle.sleep_core.specs.Cores.{IsActor};
-    ghost use Rattle.running_laws.specs.Running.{CallsNext, calls_made, histories, of_sources};
-    ghost use Rattle.run_objects.specs.Objects.{AreUncalled, seats_of};
-    ghost use Rattle.sleep_run.specs.declared.run.RunFault.TheVariants as fault;
-    ghost use Rattle.sleep_run.specs.Runs.{IsGoingOn, IsRefused, IsSame, IsSeen, entries_made};
-    ghost use Rattle.sleep_run.specs.Tries.{AfterAsking};
-    ghost use Rattle.sleep_run.specs.JobsOf.{first_jobs};
-
-    /// A run of these parts, in which nothing is done yet.
-    fn of_parts(
-        machine: &'m Machine,
-        table: EventTable,
-        seated: SeatedCore<'m>,
-        sources: Vec<SeatedSource>,
-        jobs: Jobs<'m>,
-        waiters: Waiters,
-    ) -> Self
-        requires accepted { IsAccepted machine.now }
-        requires core { seated.core ≡ record { machine = machine.now; past = [] } }
-        requires table { seated.seat.table_id ≡ table.desk.shared.table_id }
-        requires count { vec_len sources ≡ length machine.now.sources + 1 }
-        requires sources { AreUncalled sources.items }
-        requires seats { AreNew seated.seat (seats_of sources.items) }
-        requires jobs { jobs ≡ first_jobs machine.now }
-        ensures { result.machine ≡ machine.now }
-    {
-        Run {
-            machine,
-            table,
-            seated,
-            sources,
-            jobs,
-            floor: Stamp { pos: 0, tick: 0 },
-            waiters,
-        }
-    }
-
-    /// A run in which nothing is done yet.
-    pub(crate) fn new(alloc: Global, plans: &'m MachinePlans<'_>, links: Links) -> Result<Self, Mem>
-        requires accepted { IsAccepted plans.now }
-        requires links { links ≡ record { parents = parents_of plans.now.devices; links = reverse plans.now.links } }
-        ensures { IfOk result (λ run. run.machine ≡ plans.now) }
-    {
-        let machine = plans.machine();
-        let Ok((table, sources, look)) = seated_sources(alloc, machine.sources.len() as u32 + 1)
-        else {
-            return Err(lost(links));
-        };
-        let Ok(jobs) = Jobs::new(alloc, plans) else {
-            return Err(lost((table, sources, look, links)));
-        };
-        let Ok(waiters) = all_waiters(alloc, machine) else {
-            return Err(lost((table, sources, look, links, jobs)));
-        };
-        let Ok(core) = Core::new(alloc, plans, links) else {
-            return Err(lost((table, sources, look, jobs, waiters)));
-        };
-        let seated = SeatedCore::new(core, look);
-        Ok(Run::of_parts(machine, table, seated, sources, jobs, waiters))
-    }
-
-    /// The machine's core.
-    #[inline(always)]
-    pub(crate) fn core(&self) -> &Core<'m>
-        ensures is { result.now ≡ record { machine = self.now.machine; past = self.now.journal } }
-        ensures kept { IsGoingOn self.now }
-    {
-        self.seated.core()
-    }
-
-    /// Looks at the event word, at or behind all that was made.
-    pub(crate) fn look<R: Wait>(&mut self, rt: &R) -> EventNow
-        ensures same { IsSame self.old self.new }
-        ensures seen { IsSeen self.new result }
-    {
-        self.seated.look(rt, &self.table, self.floor.pos)
-    }
-
-    /// An actor makes the call on a source that is next, as a whole: its note, and all steps that it makes. `Mem` only
-    /// where the source has places left for it.
-    pub(crate) fn call<R: Wait>(
-        &mut self,
-        rt: &R,
-        who: Actor,
-        source: u32,
-        call: SourceCall,
-    ) -> Result<(), RunFault>
-        requires actor { IsActor self.old.machine who }
-        requires next { CallsNext self.old.machine self.old.journal self.old.sources who source call }
-        ensures machine { self.new.machine ≡ self.old.machine }
-        ensures made { OnOk result (entries_made self.old < entries_made self.new) }
-        ensures fault { IfErr result (IsRefused self.new) }
-        ensures want { result ≡ Err fault.Mem → length (of_sources self.old.sources source) + 4 ≤ most_entries }
-    {
-        let by = CallBy {
-            actor: who,
-            floor: self.floor,
-            now: self.core().time(),
-        };
-        moments_are_ranged(by.now);
-        calls_are_ranged(source, call);
-        let one = &mut self.sources[source as usize];
-        match one.call(rt, &self.table, by, call) {
-            Ok(stamp) => {
-                self.floor = stamp;
-                self.jobs.told_call(who, stamp);
-                self.waiters.wake_for_word();
-                Ok(())
-            }
-            Err(fault) => Err(fault_of(fault, source)),
-        }
-    }
-
-    /// The timer of a source ends the event in progress, whose moment has come. Refuses as `call`.
-    pub(crate) fn expire<R: Wait>(&mut self, rt: &R, source: u32) -> Result<(), RunFault>
-        requires there { source ≤ length self.old.machine.sources }
-        requires due { has_expired (expiry (histories self.old.sources source)) (time_of (entries self.old.journal)) ≡ true }
-        ensures machine { self.new.machine ≡ self.old.machine }
-        ensures made { OnOk result (entries_made self.old < entries_made self.new) }
-        ensures fault { IfErr result (IsRefused self.new) }
-        ensures want { result ≡ Err fault.Mem → length (of_sources self.old.sources source) + 4 ≤ most_entries }
-    {
-        let by = CallBy {
-            actor: Actor::Timer(source),
-            floor: self.floor,
-            now: self.core().time(),
-        };
-        moments_are_ranged(by.now);
-        let one = &mut self.sources[source as usize];
-        match one.call(rt, &self.table, by, SourceCall::Expire) {
-            Ok(stamp) => {
-                self.floor = stamp;
-                self.waiters.wake_for_word();
-                Ok(())
-            }
-            Err(fault) => Err(fault_of(fault, source)),
-        }
-    }
-
-    /// Wakes those that waited for a device, which is through with that phase and has nothing to do itself.
-    #[inline(always)]
-    fn wake_after_end(&mut self, phase: Phase, device: u32)
-        ensures { self.new ≡ self.old }
-    {
-        self.waiters.wake_maker(device);
-        if !self.waiters.are_in_step() {
-            self.waiters.device_waits(device);
-            let waiting = waiting_for(self.seated.core(), phase, device);
-            wake_ready(self.seated.core(), &mut self.waiters, phase, waiting);
-        }
-    }
-
-    /// Wakes those that may have something to do by an actor's entry.
-    #[inline(always)]
-    fn wake_after(&mut self, who: Actor, kind: Kind)
-        ensures { self.new ≡ self.old }
-    {
-        match kind {
-            Kind::Schedule(phase, device) => {
-                wake_ready(self.seated.core(), &mut self.waiters, phase, &[device]);
-            }
-            Kind::End(phase, device, _) | Kind::Skip(phase, device, _) => {
-                self.wake_after_end(phase, device);
-            }
-            Kind::Post(mark) => self.waiters.wake_for_mark(mark),
-            Kind::Over { .. } | Kind::AutoDone | Kind::AutoOff => {
-                let scripts = self.machine.actors.len() as u32;
-                self.waiters.wake_for_lock(who, scripts);
-            }
-            Kind::Freeze(_) | Kind::Thaw(_) | Kind::Wake { .. } => self.waiters.wake_scripts(),
-            Kind::Frozen | Kind::Exit => self.waiters.wake_for_word(),
-            _ => {}
-        }
-    }
-
-    /// A turn of an actor that has made its calls. What it made stands behind all entries.
-    #[inline(always)]
-    pub(crate) fn turn<R: Wait>(&mut self, rt: &R, who: Actor) -> Result<Tried, RunFault>
-        requires actor { IsActor self.old.machine who }
-        requires calls { calls_made self.old.machine self.old.sources who ≡ calls_due self.old.machine who (entries self.old.journal) }
-        ensures machine { self.new.machine ≡ self.old.machine }
-        ensures after { AfterAsking self.old self.new result }
-    {
-        // A journal is shorter than 2^63, so the job's number of turns stays in its range.
-        let _made = self.core().len();
-        let calls = self.jobs.calls(who);
-        let time = self.core().time();
-        let turn = self
-            .seated
-            .turn(rt, &self.table, who, calls, self.floor, time)?;
-        match turn {
-            CoreTurn::Did {
-                stamp,
-                kind,
-                attempt,
-            } => {
-                // What the fields are makes known here that their numbers are in range.
-                moments_are_ranged(time);
-                kinds_are_ranged(kind);
-                self.floor = stamp;
-                self.jobs.told_turn(who, stamp, kind, attempt);
-                self.wake_after(who, kind);
-                Ok(Tried::Made)
-            }
-            CoreTurn::NotYet(why) => Ok(Tried::Waits(why)),
-            CoreTurn::Done => Ok(Tried::Gone),
-        }
-    }
+    let Ok(plans) = MachinePlans::new(alloc, machine) else {
+        return Err(RunFault::from(lost(links)));
+    };
+    let run = Run::new(alloc, &plans, links)?;
+    let log = run.to_end(rt, alloc, workers, gate)?;
+    Ok(RunEnd { log })
 }

@@ -1,0 +1,184 @@
+-- Where a run rests, and how it ends.
+use Rattle.std.proofs.Common.{◌≡◌, ◌≤◌, ◌<◌, ◌+◌, ◌++◌, ◌∙◌, ◌⊎◌, inl, inr, ℕ, zero, suc, Bool, true, false, not, ◌&&◌, ◌||◌, List, [], ◌∷◌, length, reverse, drop, Option, Some, None, is_none, slice_get, Ok, refl, sym, ap, ap₂, subst, cond, append_assoc, arith}
+use Rattle.std.specs.List.{list_all}
+use Rattle.std.proofs.lemmas.List.{length-set, length-replicate, drop_all}
+use Rattle.sleep_model.specs.declared.entry.Actor.{Actor}
+use Rattle.sleep_model.specs.declared.entry.Actor.TheVariants as actor
+use Rattle.sleep_model.specs.declared.entry.Entry.{Entry}
+use Rattle.sleep_model.specs.declared.entry.JournalEntry.{JournalEntry}
+use Rattle.sleep_model.specs.declared.log.Log.{Log}
+use Rattle.sleep_model.specs.declared.log.LogEnd.{LogEnd}
+use Rattle.sleep_model.specs.declared.log.LogEnd.TheVariants.{Finished, Stuck}
+use Rattle.sleep_model.specs.declared.log.Stats.{Stats}
+use Rattle.sleep_model.specs.declared.log.Waiting.{Waiting}
+use Rattle.sleep_model.specs.declared.machine.Machine.{Machine}
+use Rattle.sleep_model.specs.declared.machine.Script.{Script}
+use Rattle.sleep_model.specs.declared.place.Due.{Due}
+use Rattle.sleep_model.specs.declared.place.Due.TheVariants.{Makes, Waits, Gone}
+use Rattle.sleep_model.specs.declared.place.Seat.{Seat}
+use Rattle.sleep_model.specs.declared.word.EventNow.{EventNow}
+use Rattle.sleep_model.specs.Accepted.{IsAccepted}
+use Rattle.sleep_model.specs.Attempt.{attempt_due}
+use Rattle.sleep_model.specs.Due.{due, own_due, all_gone}
+use Rattle.sleep_model.specs.Fits.{fits_stats}
+use Rattle.sleep_model.specs.Freezer.{freezing}
+use Rattle.sleep_model.specs.Legal.{IsLegalLog, IsFinishedLog, IsStuckLog, is_enabled, next_time, none_enabled, put_waiting, waiting, waiting_from}
+use Rattle.sleep_model.specs.Merge.{merge}
+use Rattle.sleep_model.specs.Numbers.{time_of}
+use Rattle.sleep_model.specs.Path.{maker, is_actor}
+use Rattle.sleep_model.specs.Places.{places}
+use Rattle.sleep_model.specs.Scripts.{entry_steps}
+use Rattle.sleep_model.specs.Seats.{SeatPart, seats, seats_after, seat_at, seat_part, first_seat}
+use Rattle.sleep_model.specs.Steps.{seat_due, task_due}
+use Rattle.sleep_state.specs.Places.{entries}
+use Rattle.sleep_laws.proofs.Closing.{ends_closed}
+use Rattle.sleep_laws.proofs.Held.{guarded_sleep}
+use Rattle.sleep_laws.proofs.Lawful.{laws_of_legal}
+use Rattle.fit_laws.specs.Ranged.{is_told}
+use Rattle.fit_laws.proofs.Fitted.{log_fits}
+use Rattle.wakeup_source.specs.SourceStates.{SourceState}
+use Rattle.machine_rounds.specs.declared.run.RunFault.{RunFault}
+use Rattle.machine_rounds.specs.declared.run.RunFault.TheVariants as fault
+use Rattle.running_laws.specs.Running.{histories, kept_histories, of_sources}
+use Rattle.running_laws.proofs.Ends.{running_ends, running_keeps, stats_are, told_all}
+use Rattle.machine_rounds.specs.Waits.{all_stats, waits_of}
+use Rattle.machine_rounds.specs.Runs.{AfterTry, EndsSo, Fails, IsClosed, IsHalted, IsRefused, IsRun, IsSame, IsSeen, RunState, entries_in, entries_made, is_resting}
+
+-- ---- tries
+
+-- where nothing was made there are as many entries
+pub made_same : (old new : RunState) → IsSame old new → entries_made new ≡ entries_made old
+made_same old new h = ap₂ (λ (j : List JournalEntry) (s : List SourceState). length j + entries_in s) h.journal h.sources
+
+pub same_then : (first second third : RunState) → IsSame first second → IsSame second third → IsSame first third
+same_then first second third h g = record {
+  machine = g.machine ∙ h.machine;
+  journal = g.journal ∙ h.journal;
+  sources = g.sources ∙ h.sources;
+  floor = g.floor ∙ h.floor;
+}
+
+-- a try behind another
+pub try_then : (first second third : RunState) (x y : Bool) → AfterTry first second (Ok x) → AfterTry second third (Ok y) → AfterTry first third (Ok (y || x))
+try_then first second third true true h g = omega (arith, h, g)
+try_then first second third false true h g = omega (arith, g, made_same first second h)
+try_then first second third true false h g = omega (arith, h, made_same second third g)
+try_then first second third false false h g = same_then first second third h g
+
+-- one actor more that is not enabled
+pub none_more : (m : Machine) (journal : List Entry) (of : ℕ → List Entry) (now : EventNow) (kind : ℕ → Actor) (n k : ℕ) (none on : Bool) → k ≡ suc n → none ≡ none_enabled m journal of now kind n
+    → on ≡ is_enabled m journal of now (kind n) → (not on && none) ≡ none_enabled m journal of now kind k
+none_more m journal of now kind n k none on next so is =
+    ap₂ (λ x y. not x && y) is so ∙ ap (none_enabled m journal of now kind) (sym next)
+
+-- ---- nobody goes on
+
+gone_false : (a : Bool) (o : Option Actor) → (a && is_none o) ≡ false → o ≡ None → a ≡ false
+gone_false true None h e = h
+gone_false false o h e = refl
+gone_false true (Some w) h e = absurd (cc)
+
+-- nobody goes on where the run is not over
+pub halted_of : (run : RunState) (word : EventNow) → (all_gone run.machine (entries run.journal) && is_none (maker (entries run.journal))) ≡ false → maker (entries run.journal) ≡ None → is_resting run word ≡ true
+    → next_time run.machine (entries run.journal) (histories run.sources) ≡ None → IsHalted run word
+halted_of run word going closed rests none = record { left = gone_false (all_gone run.machine (entries run.journal)) (maker (entries run.journal)) going closed; idle = rests; timeless = none }
+
+-- ---- the log
+
+-- a legal log that is over, whose fields were told
+run_of : (m : Machine) (log : Log) → IsAccepted m → IsLegalLog m log → (IsFinishedLog m log) ⊎ (IsStuckLog m log) → list_all (is_told m) (reverse log.entries) ≡ true → list_all fits_stats log.stats ≡ true → IsRun m log
+run_of m log acc legal over told ranged = record {
+  legal = legal;
+  over = over;
+  laws = laws_of_legal m (reverse log.entries) legal.legal;
+  guarded = guarded_sleep m acc.sources (reverse log.entries) legal.legal;
+  closed = ends_closed m acc log legal over;
+  fits = log_fits m acc log legal over told ranged;
+}
+
+-- with the closed table a run that is over ends in the log of its merge
+pub run_is : (run : RunState) → IsClosed run → (items : List Entry) (stats : List Stats) (end : LogEnd) (log : Log) → items ≡ merge (reverse run.journal) (kept_histories run.sources)
+    → stats ≡ all_stats run.sources (time_of (entries run.journal)) → EndsSo run end → log ≡ record { entries = items; stats = stats; end = end } → list_all fits_stats stats ≡ true → IsRun run.machine log
+run_is run k items stats end log merged counted over is ranged = subst (λ (l : Log). IsRun run.machine l) (sym is) (by end over)
+  where
+    m : Machine
+    m = run.machine
+
+    told : list_all (is_told m) (reverse items) ≡ true
+    told = subst (λ (xs : List Entry). list_all (is_told m) (reverse xs) ≡ true) (sym merged) (told_all m run.journal run.sources k.on.jobs k.on.running)
+
+    by : (end : LogEnd) → EndsSo run end → IsRun m (record { entries = items; stats = stats; end = end })
+    by Finished over =
+        let log : Log = record { entries = items; stats = stats; end = Finished } in
+        let ends = running_ends m run.journal run.sources k.on.jobs k.on.running k.laid.steps k.laid.looks k.laid.answer over.0 k.laid.laid (k.laid.seen over.0 over.1.seen) over.1.high log
+        (record { entries = merged; stats = counted ∙ stats_are m run.journal run.sources k.on.jobs k.on.running }) in
+        run_of m log k.on.running.accepted ends.0 (inl (ends.1 refl over.2)) told ranged
+    by (Stuck those) over =
+        let log : Log = record { entries = items; stats = stats; end = Stuck those } in
+        let ends = running_ends m run.journal run.sources k.on.jobs k.on.running k.laid.steps k.laid.looks k.laid.answer over.0 k.laid.laid (k.laid.seen over.0 over.1.seen) over.1.high log
+        (record { entries = merged; stats = counted ∙ stats_are m run.journal run.sources k.on.jobs k.on.running }) in
+        run_of m log k.on.running.accepted ends.0 (inr (ends.2 (ap Stuck over.3) over.2.left over.2.idle over.2.timeless)) told ranged
+
+-- why a run of which a call was refused gives nothing, by a look at what is the same run
+pub fault_is : (old run : RunState) (word : EventNow) (given : RunFault) → IsSame old run → IsSeen run word → IsClosed run → IsRefused old given → Fails old.machine given
+fault_is old run word (fault.SourceFull s) same seen k refused =
+    let keeps = running_keeps run.machine run.journal run.sources k.on.jobs k.on.running k.laid.steps k.laid.looks k.laid.answer word k.laid.laid (k.laid.seen word seen.seen) seen.high s in
+    (refused.0, omega (arith, refused.1, keeps, ap (λ (xs : List SourceState). length (of_sources xs s)) same.sources, ap (λ (m : Machine). places m s) same.machine))
+fault_is old run word fault.Mem same seen k refused = tt
+
+-- ---- who waits
+
+put_by : (b : Bool) (i : ℕ) (d : Due) (rest : List Waiting) → (b ≡ true → d ≡ Gone) → put_waiting b i d rest ≡ waits_of i d ++ rest
+put_by false i (Waits why) rest h = refl
+put_by false i Gone rest h = refl
+put_by false i (Makes k) rest h = refl
+put_by true i (Waits why) rest h = absurd (let no : Waits why ≡ Gone = h refl in cc)
+put_by true i Gone rest h = refl
+put_by true i (Makes k) rest h = refl
+
+-- nothing is due of a script that has exited, where no attempt is open
+exited_gone : (m : Machine) (past : List Entry) (now : EventNow) (i : ℕ) → maker past ≡ None → (seat_at (seats (length m.actors) past) i).exited ≡ true → due m past (actor.Script i) now ≡ Gone
+exited_gone m past now i closed exited =
+    ap (λ o. cond (is_actor (actor.Script i) o) (attempt_due m past now) (own_due m past (actor.Script i) now)) closed ∙ by_script (slice_get m.actors i)
+  where
+    by_script : (o : Option Script) → seat_due m past now (freezing m i past) o (seat_at (seats (length m.actors) past) i) ≡ Gone
+    by_script None = refl
+    by_script (Some s) = ap (λ b. cond b Gone (task_due m past now (freezing m i past) s.kind (seat_at (seats (length m.actors) past) i) (slice_get (entry_steps s) (seat_at (seats (length m.actors) past) i).done))) exited
+
+seats_step_len : (a : Actor) (part : SeatPart) (ss : List Seat) → length (seats_after a part ss) ≡ length ss
+seats_step_len (actor.Script i) part ss = length-set ss i _
+seats_step_len actor.Auto part ss = refl
+seats_step_len (actor.Dev d) part ss = refl
+seats_step_len (actor.Timer s) part ss = refl
+seats_step_len actor.Time part ss = refl
+
+pub seats_len : (n : ℕ) (past : List Entry) → length (seats n past) ≡ n
+seats_len n [] = length-replicate n first_seat
+seats_len n (e ∷ past) = seats_step_len e.actor (seat_part e.kind) (seats n past) ∙ seats_len n past
+
+drop_seat : (xs : List Seat) (i : ℕ) → i < length xs → drop i xs ≡ seat_at xs i ∷ drop (suc i) xs
+drop_seat [] i l = absurd (omega arith)
+drop_seat (x ∷ xs) zero l = refl
+drop_seat (x ∷ xs) (suc i) l = drop_seat xs i (omega (arith, l))
+
+-- the scripts from number i on that wait are that one, if it waits, and those behind it
+pub waits_more : (m : Machine) (past : List Entry) (now : EventNow) (i : ℕ) → maker past ≡ None → i < length m.actors
+    → waiting_from m past now i (drop i (seats (length m.actors) past)) ≡ waits_of i (due m past (actor.Script i) now) ++ waiting_from m past now (i + 1) (drop (i + 1) (seats (length m.actors) past))
+waits_more m past now i closed l =
+    let seat = seat_at (seats (length m.actors) past) i in
+    let further : suc i ≡ i + 1 = omega arith in
+    ap (waiting_from m past now i) (drop_seat (seats (length m.actors) past) i (omega (arith, l, seats_len (length m.actors) past)))
+    ∙ (ap (λ k. put_waiting seat.exited i (due m past (actor.Script i) now) (waiting_from m past now k (drop k (seats (length m.actors) past)))) further
+    ∙ put_by seat.exited i (due m past (actor.Script i) now) (waiting_from m past now (i + 1) (drop (i + 1) (seats (length m.actors) past))) (exited_gone m past now i closed))
+
+-- nobody stands behind the last
+pub waits_none : (m : Machine) (past : List Entry) (now : EventNow) (i : ℕ) → length m.actors ≤ i → waiting_from m past now i (drop i (seats (length m.actors) past)) ≡ []
+waits_none m past now i l = ap (waiting_from m past now i) (drop_all i (seats (length m.actors) past) (omega (arith, l, seats_len (length m.actors) past)))
+
+-- one script more is asked
+pub waits_go_on : (m : Machine) (past : List Entry) (now : EventNow) (i k : ℕ) (those new : List Waiting) (d : Due) → maker past ≡ None → i < length m.actors → k ≡ i + 1 → d ≡ due m past (actor.Script i) now → new ≡ those ++ waits_of i d
+    → those ++ waiting_from m past now i (drop i (seats (length m.actors) past)) ≡ waiting m past now → new ++ waiting_from m past now k (drop k (seats (length m.actors) past)) ≡ waiting m past now
+waits_go_on m past now i k those new d closed l next is added h =
+    ap₂ (λ (xs : List Waiting) (n : ℕ). xs ++ waiting_from m past now n (drop n (seats (length m.actors) past))) (added ∙ ap (λ x. those ++ waits_of i x) is) next
+    ∙ (append_assoc those (waits_of i (due m past (actor.Script i) now)) (waiting_from m past now (i + 1) (drop (i + 1) (seats (length m.actors) past)))
+    ∙ (ap (λ xs. those ++ xs) (sym (waits_more m past now i closed l)) ∙ h))

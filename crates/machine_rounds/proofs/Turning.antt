@@ -1,0 +1,46 @@
+-- A turn and a jump of a run.
+use Rattle.std.proofs.Common.{◌≡◌, ◌≤◌, ◌∙◌, suc, List, [], ◌∷◌, length, refl, sym, ap, subst, arith}
+use Rattle.sleep_model.specs.declared.entry.Actor.{Actor}
+use Rattle.sleep_model.specs.declared.entry.JournalEntry.{JournalEntry}
+use Rattle.sleep_model.specs.declared.machine.Machine.{Machine}
+use Rattle.sleep_model.specs.Legal.{JournalPart}
+use Rattle.sleep_state.specs.Places.{entries}
+use Rattle.event_word.specs.Seats.{AreAll, sources_of}
+use Rattle.sleep_core.specs.Cores.{CoreState, IsActor, with_entry}
+use Rattle.sleep_script.proofs.Following.{turns_few}
+use Rattle.run_objects.specs.Objects.{SeatedCoreState, seats_of}
+use Rattle.running_laws.specs.Running.{IsRunning}
+use Rattle.machine_rounds.specs.declared.run.Run.TheInside.{Inside}
+use Rattle.machine_rounds.specs.JobsOf.{job_at}
+use Rattle.machine_rounds.specs.RunFields.{KeepsRun}
+use Rattle.machine_rounds.specs.RunFields as fields
+use Rattle.machine_rounds.proofs.SeatsKept.{seats_same}
+
+module _ (r : Inside) (k : KeepsRun r) where
+  -- a look keeps the run where the core is the same
+  pub looked_machine : (new : SeatedCoreState) → new.core ≡ r.seated.core → new.core.machine ≡ r.machine.now
+  looked_machine new e = ap (λ (x : CoreState). x.machine) e ∙ k.machine_is
+
+  pub looked_running : (new : SeatedCoreState) → new.core ≡ r.seated.core → IsRunning r.machine.now new.core.past (fields.sources_of r.sources.items) (job_at r.jobs) r.floor
+  looked_running new e = subst (λ (x : CoreState). IsRunning r.machine.now x.past (fields.sources_of r.sources.items) (job_at r.jobs) r.floor) (sym e) k.running
+
+  -- all seats stay at the table
+  pub looked_table : (new : SeatedCoreState) → new.seat.table_id ≡ r.seated.seat.table_id → new.seat.table_id ≡ r.table.desk.shared.table_id
+  looked_table new e = e ∙ k.table
+
+  pub looked_seats : (new : SeatedCoreState) → new.seat.table_id ≡ r.seated.seat.table_id → sources_of new.seat ≡ sources_of r.seated.seat → AreAll new.seat (seats_of r.sources.items)
+  looked_seats new table sources = seats_same r.seated.seat new.seat (seats_of r.sources.items) table sources k.seats
+
+  -- the journal after an entry is legal
+  pub legal_after : (new : CoreState) (e : JournalEntry) → new ≡ with_entry r.seated.core e → JournalPart new.machine (entries new.past) → JournalPart r.machine.now (entries (e ∷ r.seated.core.past))
+  legal_after new e is h =
+      subst (λ (x : Machine). JournalPart x (entries (e ∷ r.seated.core.past))) (ap (λ (x : CoreState). x.machine) is ∙ k.machine_is)
+      (subst (λ (x : CoreState). JournalPart new.machine (entries x.past)) is h)
+
+  counted : (xs : List JournalEntry) → length (entries xs) ≡ length xs
+  counted [] = refl
+  counted (e ∷ xs) = ap suc (counted xs)
+
+  -- a job has ended no more turns than the journal has entries
+  pub few_turns : (who : Actor) → IsActor r.machine.now who → (job_at r.jobs who).turns ≤ length r.seated.core.past
+  few_turns who a = omega (arith, (k.running.jobs_are who a).turns_are, turns_few who (entries r.seated.core.past), counted r.seated.core.past)

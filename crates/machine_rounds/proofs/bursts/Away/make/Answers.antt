@@ -1,0 +1,31 @@
+use Rattle.std.proofs.Common.{◌+◌, ◌∙◌, ℕ, length, sym, ap, arith}
+use Rattle.machine_rounds.specs.TasksOf.{all_actors}
+use Rattle.machine_rounds.proofs.Away.{away_actors, away_few, away_ready, away_some, away_timely, away_turns, is_back_of}
+use Rattle.machine_rounds.proofs.bursts.Away.make.Goals as goal
+
+pub make_burst-requires-clause-ready : goal.make_burst-requires-clause-ready
+make_burst-requires-clause-ready g c = λ κs h. away_ready _ _ _ _ _ _ c.requires.away
+
+pub make_burst-requires-clause-timely : goal.make_burst-requires-clause-timely
+make_burst-requires-clause-timely g c = λ κs h. away_timely _ _ _ _ _ _ c.requires.away
+
+pub make_burst-requires-clause-actors : goal.make_burst-requires-clause-actors
+make_burst-requires-clause-actors g c =
+    let m = c.args.self.now.machine.now in
+    λ κs h.
+    c.deref.ensures.value ∙ (c.in-Ok.ensures
+    ∙ (ap (λ (n : ℕ). all_actors n c.len-2.result (c.len-3.result + 1)) c.len.ensures
+    ∙ (ap (λ (n : ℕ). all_actors (length m.actors) n (c.len-3.result + 1)) c.len-2.ensures
+    ∙ (ap (λ (n : ℕ). all_actors (length m.actors) (length m.devices) (n + 1)) c.len-3.ensures ∙ sym (away_actors _ _ _ _ _ _ c.requires.away)))))
+
+pub make_burst-requires-clause-turns : goal.make_burst-requires-clause-turns
+make_burst-requires-clause-turns g c = λ κs h. away_turns _ _ _ _ _ _ c.requires.away
+
+pub make_burst-requires-clause-some : goal.make_burst-requires-clause-some
+make_burst-requires-clause-some g c = λ κs h. (omega (arith, c.requires.workers), away_some _ _ _ _ _ _ c.requires.away)
+
+pub make_burst-requires-clause-few : goal.make_burst-requires-clause-few
+make_burst-requires-clause-few g c = λ κs h. away_few _ _ _ _ _ _ c.requires.away
+
+pub returns : goal.returns
+returns g c = is_back_of _ _ _ _ _ _ c.requires.away c.make_burst.result c.make_burst.ensures.burst c.make_burst.ensures.ready c.make_burst.ensures.kept

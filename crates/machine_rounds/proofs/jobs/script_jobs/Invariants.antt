@@ -1,0 +1,7 @@
+use Rattle.std.proofs.Common.{◌≡◌}
+use Rattle.sleep_model.specs.declared.entry.Actor.TheVariants.{Script}
+use Rattle.machine_rounds.specs.JobsOf.{first_jobs_of}
+use Rattle.machine_rounds.proofs.jobs.script_jobs.Given as goal
+
+abbrev pub invariant-loop-script : goal.invariant-loop-script
+invariant-loop-script l = l.jobs.items ≡ first_jobs_of l.plans Script l.script

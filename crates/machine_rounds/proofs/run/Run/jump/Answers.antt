@@ -1,0 +1,47 @@
+use Rattle.std.proofs.Common.{◌≡◌, ◌∙◌, List, ◌∷◌, sym, ap, subst, arith, nat_lt, true}
+use Rattle.std.proofs.lemmas.Bool.Decides.{nat_tests}
+use Rattle.sleep_model.specs.declared.entry.JournalEntry.{JournalEntry}
+use Rattle.sleep_model.specs.Legal.{JumpStep}
+use Rattle.sleep_state.specs.Places.{entries}
+use Rattle.event_word.specs.Seats.{AreAll, Token}
+use Rattle.sleep_core.specs.Cores.{CoreState, jump_entry}
+use Rattle.run_objects.specs.Objects.{seats_of}
+use Rattle.running_laws.specs.Running.{IsRunning, histories}
+use Rattle.running_laws.proofs.Kept.{last_known}
+use Rattle.running_laws.proofs.Turns.{running_jump}
+use Rattle.machine_rounds.specs.JobsOf.{job_at}
+use Rattle.machine_rounds.specs.RunFields.{sources_of}
+use Rattle.machine_rounds.specs.Runs.{IsSeen, RunState}
+use Rattle.machine_rounds.proofs.Turning.{legal_after}
+use Rattle.machine_rounds.proofs.run.Run.jump.Goals as goal
+
+pub invariant_of-self-2 : goal.invariant_of-self-2
+invariant_of-self-2 g c =
+    let r = c.self.inside in
+    let k = c.self.invariant in
+    let m = r.machine.now in
+    let journal = r.seated.core.past in
+    let sources = sources_of r.sources.items in
+    let new = c.jump.new.self in
+    let e : JournalEntry = jump_entry journal c.args.word c.args.to r.floor in
+    let ok = c.in_ok-self-inside.ensures.ok in
+    let step = subst (λ (x : RunState). JumpStep x.machine (entries x.journal) (histories x.sources) c.args.word c.args.to) (sym c.self.view_is) c.requires.least in
+    let seen = subst (λ (x : RunState). IsSeen x c.args.word) (sym c.self.view_is) c.requires.seen in
+    let past : new.core.past ≡ e ∷ journal = ap (λ (x : CoreState). x.past) ok.1 in
+    record {
+      machine_is = ap (λ (x : CoreState). x.machine) ok.1 ∙ k.machine_is;
+      running =
+          subst (λ (p : List JournalEntry). IsRunning m p sources (job_at r.jobs) c.in_ok-self-inside.field-0) (sym past)
+          (running_jump m journal sources (job_at r.jobs) k.running c.args.word c.args.to step seen.high (legal_after r k new.core e ok.1 c.in_ok-self-inside.ensures.legal)
+          c.in_ok-self-inside.field-0 ok.0 c.moments_are_ranged.ensures);
+      all_jobs = k.all_jobs;
+      table = ap (λ (t : Token). t.table_id) c.in_ok-self-inside.ensures.seat ∙ k.table;
+      seats = subst (λ (t : Token). AreAll t (seats_of r.sources.items)) (sym c.in_ok-self-inside.ensures.seat) k.seats;
+    }
+
+pub jump-requires-clause-last_tick : goal.jump-requires-clause-last_tick
+jump-requires-clause-last_tick g c =
+    let r = c.self.inside in
+    let known = last_known r.machine.now r.seated.core.past (sources_of r.sources.items) (job_at r.jobs) c.self.invariant.running in
+    let few : nat_lt r.floor.tick 18446744073709551615 ≡ true = c.wait_unless-2.ensures in
+    grind (arith, nat_tests)

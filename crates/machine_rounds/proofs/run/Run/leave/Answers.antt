@@ -1,0 +1,23 @@
+use Rattle.std.proofs.Common.{◌≡◌, ◌+◌, ◌∙◌, ℕ, length, sym, ap, arith}
+use Rattle.std.proofs.lemmas.List.{length-map}
+use Rattle.run_objects.specs.Objects.{SeatedSourceState}
+use Rattle.machine_rounds.specs.Runs.{RunState}
+use Rattle.machine_rounds.specs.TasksOf.{tasks_of}
+use Rattle.machine_rounds.proofs.run.Run.leave.Goals as goal
+
+pub returns-clause-away : goal.returns-clause-away
+returns-clause-away c =
+    let r = c.self.inside in
+    let k = c.self.invariant in
+    let count : length r.sources.items ≡ length r.machine.now.sources + 1 = sym (length-map r.sources.items (λ (s : SeatedSourceState). s.source)) ∙ k.running.sources_are.count in
+    let many : c.len.result ≡ length r.machine.now.sources + 1 = omega (arith, c.len.ensures, count) in
+    record {
+      jobs = r.jobs;
+      all_jobs = k.all_jobs;
+      machine_is = k.machine_is;
+      running = k.running;
+      tasks_are = c.in-Ok.ensures ∙ ap (λ (n : ℕ). tasks_of r.floor n r.jobs) many;
+      few = omega (arith, c.requires, ap (λ (s : RunState). length s.journal) c.self.view_is);
+      table_is = k.table;
+      seats = k.seats;
+    }

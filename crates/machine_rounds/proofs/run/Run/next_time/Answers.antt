@@ -1,0 +1,19 @@
+use Rattle.std.proofs.Common.{◌∙◌, Option, ℕ, sym, ap}
+use Rattle.sleep_model.specs.Legal.{journal_time, sooner}
+use Rattle.sleep_state.specs.Places.{entries}
+use Rattle.sleep_core.specs.Cores.{CoreState}
+use Rattle.running_laws.proofs.Asked.{closes}
+use Rattle.machine_rounds.proofs.run.Run.next_time.Goals as goal
+
+pub returns-clause-is : goal.returns-clause-is
+returns-clause-is c =
+    let s = c.args.self.now in
+    c.sooner.ensures
+    ∙ (ap (λ (o : Option ℕ). sooner o c.next_expiry.result) (c.next_time.ensures ∙ ap (λ (x : CoreState). journal_time x.machine (entries x.past)) c.core.ensures.is)
+    ∙ ap (sooner (journal_time s.machine (entries s.journal))) c.next_expiry.ensures)
+
+pub returns-clause-closed : goal.returns-clause-closed
+returns-clause-closed c word none rests =
+    let s = c.args.self.now in
+    let on = c.core.ensures.kept in
+    closes s.machine s.journal s.sources on.jobs on.running word (sym (returns-clause-is c) ∙ none) rests

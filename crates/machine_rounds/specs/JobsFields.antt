@@ -1,0 +1,18 @@
+-- What the fields of the jobs are.
+use Rattle.std.specs.Prelude.{◌≡◌, ◌<◌, ◌^◌, length}
+use Rattle.machine_rounds.specs.declared.jobs.Jobs.TheInside.{Inside}
+use Rattle.machine_rounds.specs.JobsOf.{JobsState, owing}
+
+-- the jobs as contracts see them
+abbrev pub jobs : Inside → JobsState
+jobs j = record { scripts = j.scripts.items; auto = j.auto; devices = j.devices.items }
+
+-- there are few, and it is counted how many have a call on a source to make
+pub record AreCounted (j : Inside) : Type 0 where
+  pub few_scripts : length j.scripts.items < 2 ^ 30
+  pub few_devices : length j.devices.items < 2 ^ 30
+  pub owing_is : j.owing ≡ owing (jobs j)
+
+-- what holds of the jobs between calls
+abbrev pub keeps : Inside → Type 0
+keeps j = AreCounted j

@@ -1,0 +1,151 @@
+-- A run of a machine, as far as it has come.
+use Rattle.std.specs.Prelude.{◌≡◌, ◌≤◌, ◌<◌, ◌+◌, ◌⊎◌, Bool, true, false, ℕ, List, [], ◌∷◌, length, reverse, Option, Some, None, Result, Ok, Err}
+use Rattle.std.specs.List.{list_any}
+use Rattle.sleep_model.specs.declared.entry.Actor.{Actor}
+use Rattle.sleep_model.specs.declared.entry.JournalEntry.{JournalEntry}
+use Rattle.sleep_model.specs.declared.log.Log.{Log}
+use Rattle.sleep_model.specs.declared.log.LogEnd.{LogEnd}
+use Rattle.sleep_model.specs.declared.log.LogEnd.TheVariants as end
+use Rattle.sleep_model.specs.declared.machine.Machine.{Machine}
+use Rattle.sleep_model.specs.declared.word.EventNow.{EventNow}
+use Rattle.sleep_model.specs.declared.word.Stamp.{Stamp}
+use Rattle.sleep_model.specs.Calls.{calls_due}
+use Rattle.sleep_model.specs.Due.{all_gone}
+use Rattle.sleep_model.specs.Fits.{IsWritable}
+use Rattle.sleep_model.specs.Laws.{Laws, GuardedSleep}
+use Rattle.sleep_model.specs.Legal.{IsLegalLog, IsFinishedLog, IsStuckLog, is_finished, is_idle, next_time, waiting}
+use Rattle.sleep_model.specs.Merge.{is_word}
+use Rattle.sleep_model.specs.Parts.{journal}
+use Rattle.sleep_model.specs.Path.{maker}
+use Rattle.sleep_model.specs.Places.{places}
+use Rattle.sleep_model.specs.Sources.{most_entries}
+use Rattle.sleep_model.specs.Word.{position}
+use Rattle.event_word.specs.Seats.{Token, floor_of, looked_of}
+use Rattle.sleep_state.specs.Places.{entries}
+use Rattle.sleep_core.specs.Cores.{IsActor}
+use Rattle.wakeup_source.specs.SourceStates.{SourceState}
+use Rattle.sleep_script.specs.Jobs.{JobState}
+use Rattle.running_laws.specs.Running.{IsRunning, calls_made, histories, kept_histories, of_sources}
+use Rattle.run_objects.specs.Closed.{IsLaidTable}
+use Rattle.machine_rounds.specs.declared.rest.Rest.{Rest}
+use Rattle.machine_rounds.specs.declared.rest.Rest.TheVariants.{GoesOn, Finished, Stuck}
+use Rattle.machine_rounds.specs.declared.run.RunFault.{RunFault}
+use Rattle.machine_rounds.specs.declared.run.RunFault.TheVariants as fault
+
+-- the machine of a run, its journal and its sources so far, the seat by which it looks at the event word, and the last stamp that anybody made
+pub record RunState : Type 0 where
+  pub machine : Machine
+  pub journal : List JournalEntry
+  pub sources : List SourceState
+  pub seat : Token
+  pub floor : Stamp
+
+-- how many entries these sources have
+abbrev pub entries_in : List SourceState → ℕ
+entries_in [] = 0
+entries_in (source ∷ sources) = length source.past + entries_in sources
+
+-- how many entries were made
+abbrev pub entries_made : RunState → ℕ
+entries_made run = length run.journal + entries_in run.sources
+
+-- a run goes on, as each actor's job does
+pub record IsGoingOn (run : RunState) : Type 0 where
+  pub jobs : Actor → JobState
+  pub running : IsRunning run.machine run.journal run.sources jobs run.floor
+
+-- nothing was made: at most the word was looked at
+pub record IsSame (old new : RunState) : Type 0 where
+  pub machine : new.machine ≡ old.machine
+  pub journal : new.journal ≡ old.journal
+  pub sources : new.sources ≡ old.sources
+  pub floor : new.floor ≡ old.floor
+
+-- the word was looked at last, at or behind all that was made
+pub record IsSeen (run : RunState) (word : EventNow) : Type 0 where
+  pub seen : list_any (is_word word) (looked_of run.seat) ≡ true
+  pub newest : position word ≡ floor_of run.seat
+  pub high : run.floor.pos ≤ position word
+
+-- the calls of a machine may fill a source: its history, which has `most_entries` places, may come to where fewer than four are left for a call and its expiry (own)
+abbrev pub IsFull : Machine → ℕ → Type 0
+IsFull m s = (s ≤ length m.sources) × (most_entries < places m s + 4)
+
+-- why a run gives nothing: a source is full, or memory ran out
+abbrev pub Fails : Machine → RunFault → Type 0
+Fails m (fault.SourceFull s) = IsFull m s
+Fails m fault.Mem = Unit {0}
+
+-- the table of the event word was closed, and lays all steps of the run
+pub record IsClosed (run : RunState) : Type 0 where
+  pub on : IsGoingOn run
+  pub laid : IsLaidTable (looked_of run.seat) (reverse run.journal) (kept_histories run.sources)
+
+-- a call on that source was refused: its history has fewer than four places left, or memory ran out
+abbrev pub IsRefused : RunState → RunFault → Type 0
+IsRefused run (fault.SourceFull s) =
+    (s ≤ length run.machine.sources) × (most_entries < length (of_sources run.sources s) + 4)
+IsRefused run fault.Mem = Unit {0}
+
+-- after a try, entries were made, or nothing has changed
+abbrev pub AfterTry : RunState → RunState → Result Bool RunFault → Type 0
+AfterTry old new (Ok true) = entries_made old < entries_made new
+AfterTry old new (Ok false) = IsSame old new
+AfterTry old new (Err fault) = IsRefused new fault
+
+-- nobody can make anything that sees that word
+abbrev pub is_resting : RunState → EventNow → Bool
+is_resting run word = is_idle run.machine (entries run.journal) (histories run.sources) word
+
+-- the run is over, by that word
+abbrev pub is_over : RunState → EventNow → Bool
+is_over run word = is_finished run.machine (entries run.journal) (histories run.sources) word
+
+-- nobody goes on, by that word: a script has not exited, no actor can make anything, and no moment is pending
+pub record IsHalted (run : RunState) (word : EventNow) : Type 0 where
+  pub left : all_gone run.machine (entries run.journal) ≡ false
+  pub idle : is_resting run word ≡ true
+  pub timeless : next_time run.machine (entries run.journal) (histories run.sources) ≡ None
+
+-- all is calm: no attempt is open, and each actor has made the calls on sources that are due
+pub record IsCalm (run : RunState) : Type 0 where
+  pub closed : maker (entries run.journal) ≡ None
+  pub made : (who : Actor) → IsActor run.machine who
+      → calls_made run.machine run.sources who ≡ calls_due run.machine who (entries run.journal)
+
+-- after a round that did nothing, time jumps, or somebody can go on after all; else the run is over
+abbrev pub AfterRest : RunState → RunState → Result Rest RunFault → Type 0
+AfterRest old new (Ok GoesOn) =
+    (entries_made old < entries_made new)
+    ⊎ (IsSame old new × ((word : EventNow) × IsSeen new word × (is_resting new word ≡ false)))
+AfterRest old new (Ok (Finished word)) = IsSame old new × IsSeen new word × (is_over new word ≡ true)
+AfterRest old new (Ok (Stuck word)) = IsSame old new × IsSeen new word × IsHalted new word
+AfterRest old new (Err fault) = IsRefused new fault
+
+-- after all rounds the run is over
+abbrev pub AfterAll : RunState → Result Rest RunFault → Type 0
+AfterAll run (Ok GoesOn) = ⊥
+AfterAll run (Ok (Finished word)) = IsSeen run word × (is_over run word ≡ true)
+AfterAll run (Ok (Stuck word)) = IsSeen run word × IsHalted run word
+AfterAll run (Err fault) = IsRefused run fault
+
+-- after rounds of the caller's own the run goes on, or is over
+abbrev pub AfterGoing : RunState → Result (Option Rest) RunFault → Type 0
+AfterGoing run (Ok None) = Unit {0}
+AfterGoing run (Ok (Some rest)) = AfterAll run (Ok rest)
+AfterGoing run (Err fault) = IsRefused run fault
+
+-- the run is over, and ends so, by a word that was looked at last
+abbrev pub EndsSo : RunState → LogEnd → Type 0
+EndsSo run end.Finished = (word : EventNow) × IsSeen run word × (is_over run word ≡ true)
+EndsSo run (end.Stuck those) =
+    (word : EventNow) × IsSeen run word × IsHalted run word × (those ≡ waiting run.machine (entries run.journal) word)
+
+-- the log of a whole run: it is legal, and over, and so the laws hold of it, and no attempt is open; it fits the machine, so that its text tells it, and where it is stuck names somebody
+pub record IsRun (m : Machine) (log : Log) : Type 0 where
+  pub legal : IsLegalLog m log
+  pub over : (IsFinishedLog m log) ⊎ (IsStuckLog m log)
+  pub laws : Laws m (journal (reverse log.entries))
+  pub guarded : GuardedSleep (reverse log.entries)
+  pub closed : maker (journal (reverse log.entries)) ≡ None
+  pub fits : IsWritable m log

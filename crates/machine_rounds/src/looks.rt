@@ -1,0 +1,92 @@
+//! What a run's core, its sources and its word say of all entries so far.
+
+use crate::run::Run;
+use sleep_model::{Actor, EventNow};
+use sleep_state::sooner;
+
+impl<'m> Run<'m> {
+    ghost use Rattle.std.specs.Prelude.{◌≡◌, ◌≤◌, ◌<◌, ◌+◌, ◌^◌, ◌&&◌, true, None, is_none, length};
+    ghost use Rattle.sleep_model.specs.Due.{all_gone};
+    ghost use Rattle.sleep_model.specs.declared.word.EventNow.{EventNow};
+    ghost use Rattle.sleep_model.specs.Legal.{is_enabled, next_time, next_expiry};
+    ghost use Rattle.sleep_model.specs.Numbers.{time_of};
+    ghost use Rattle.sleep_model.specs.Path.{maker};
+    ghost use Rattle.sleep_model.specs.Sources.{expiry, has_expired};
+    ghost use Rattle.sleep_state.specs.Places.{entries};
+    ghost use Rattle.sleep_core.specs.Cores.{IsActor};
+    ghost use Rattle.running_laws.specs.Running.{histories};
+    ghost use Rattle.machine_rounds.specs.Runs.{is_resting};
+
+    /// The time of the last jump in ms, else 0.
+    pub(crate) fn time(&self) -> u64
+        ensures is { result ≡ time_of (entries self.now.journal) }
+        ensures small { result ≤ 2 ^ 63 }
+    {
+        self.core().time()
+    }
+
+    /// Whether an actor can make something that sees this word.
+    pub(crate) fn is_enabled(&self, who: Actor, word: EventNow) -> bool
+        requires { IsActor self.now.machine who }
+        ensures { result ≡ is_enabled self.now.machine (entries self.now.journal) (histories self.now.sources) word who }
+    {
+        let calls = self.jobs.calls(who);
+        self.core().enabled(who, calls, word, self.core().time())
+    }
+
+    /// Whether every script has exited and no attempt is open.
+    pub(crate) fn is_whole(&self) -> bool
+        ensures { result ≡ (all_gone self.now.machine (entries self.now.journal) && is_none (maker (entries self.now.journal))) }
+    {
+        self.core().whole()
+    }
+
+    /// When the event in progress of a source ends by itself, in ms, if it does.
+    pub(crate) fn due_at(&self, source: u32) -> Option<u64>
+        requires { source ≤ length self.now.machine.sources }
+        ensures { result ≡ expiry (histories self.now.sources source) }
+    {
+        let one = &self.sources[source as usize];
+        one.source().due()
+    }
+
+    /// Whether the event in progress of a source is to end now.
+    pub(crate) fn has_expired(&self, source: u32) -> bool
+        requires { source ≤ length self.now.machine.sources }
+        ensures { result ≡ has_expired (expiry (histories self.now.sources source)) (time_of (entries self.now.journal)) }
+    {
+        match self.due_at(source) {
+            Some(at) => at <= self.time(),
+            None => false,
+        }
+    }
+
+    /// How many sources there are, `autosleep` among them.
+    pub(crate) fn sources(&self) -> u32
+        ensures { result ≡ length self.now.machine.sources + 1 }
+    {
+        // A look at the field makes the invariant known here: the machine has few sources.
+        let _ = &self.sources;
+        self.machine.sources.len() as u32 + 1
+    }
+
+    /// The least expiry of the sources.
+    fn next_expiry(&self) -> Option<u64>
+        ensures { result ≡ next_expiry (length self.now.machine.sources + 1) (histories self.now.sources) }
+    {
+        let mut next = None;
+        for source in 0..self.sources() {
+            next = sooner(self.due_at(source), next);
+        }
+        next
+    }
+
+    /// The next pending moment in ms, where there is one.
+    pub(crate) fn next_time(&self) -> Option<u64>
+        ensures is { result ≡ next_time self.now.machine (entries self.now.journal) (histories self.now.sources) }
+        // Where nobody can make anything and no moment is pending no attempt is open.
+        ensures closed { (word : EventNow) → result ≡ None → is_resting self.now word ≡ true → maker (entries self.now.journal) ≡ None }
+    {
+        sooner(self.core().next_time(), self.next_expiry())
+    }
+}

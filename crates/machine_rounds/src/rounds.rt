@@ -1,0 +1,253 @@
+//! Rounds over the actors, and a whole run.
+
+use crate::rest::Rest;
+use crate::run::{Run, RunFault, Tried};
+use apart_log::ApartLog;
+use run_world::Gate;
+use sleep_model::{Actor, Want, Why};
+use std::alloc::Global;
+use std::sync::Wait;
+use std::thread::Threads;
+
+impl<'m> Run<'m> {
+    ghost use Rattle.std.specs.Prelude.{◌≡◌, ◌≤◌, ◌<◌, length, IfSome, IfOk, IfErr};
+    ghost use Rattle.sleep_core.specs.Cores.{IsActor};
+    ghost use Rattle.machine_rounds.specs.Runs.{Fails, IsRefused, IsRun, IsSame, AfterTry, AfterAll};
+    ghost use Rattle.machine_rounds.specs.Tries.{AfterAsking};
+
+    /// An actor's try in a round: its next call on a source, else its turn. What the core answers to a turn.
+    #[inline(always)]
+    fn ask<R: Wait>(&mut self, rt: &R, who: Actor) -> Result<Tried, RunFault>
+        requires { IsActor self.old.machine who }
+        ensures machine { self.new.machine ≡ self.old.machine }
+        ensures after { AfterAsking self.old self.new result }
+    {
+        match self.jobs.next(who) {
+            Want::Source(source, call) => {
+                self.call(rt, who, source, call)?;
+                self.wake_readers(rt);
+                Ok(Tried::Made)
+            }
+            Want::Core => self.turn(rt, who),
+            Want::Nothing => Ok(Tried::Gone),
+        }
+    }
+
+    /// An actor that was woken for the autosleep lock has had its try.
+    fn pass_lock(&mut self, who: Actor, tried: &Tried)
+        ensures { self.new ≡ self.old }
+    {
+        let scripts = self.machine.actors.len() as u32;
+        let is_held = matches!(tried, Tried::Waits(Why::LockHeld));
+        self.waiters.had_lock_turn(who, is_held, scripts);
+    }
+
+    /// Wakes the readers of the count, where no event is in progress.
+    #[inline(always)]
+    fn wake_readers<R: Wait>(&mut self, rt: &R)
+        ensures { IsSame self.old self.new }
+    {
+        if self.waiters.has_readers() && self.look(rt).inpr == 0 {
+            self.waiters.wake_readers();
+        }
+    }
+
+    /// The try of an actor, which is not asked again until something may have ended its wait. Whether entries were made.
+    #[inline(always)]
+    fn ask_once<R: Wait>(&mut self, rt: &R, who: Actor) -> Result<bool, RunFault>
+        requires { IsActor self.old.machine who }
+        ensures machine { self.new.machine ≡ self.old.machine }
+        ensures after { AfterTry self.old self.new result }
+    {
+        let tried = self.ask(rt, who)?;
+        if self.waiters.has_lock_turn(who) {
+            self.pass_lock(who, &tried);
+        }
+        match tried {
+            Tried::Made => Ok(true),
+            Tried::Waits(why) => {
+                self.waiters.waits(who, why);
+                Ok(false)
+            }
+            Tried::Gone => {
+                self.waiters.is_gone(who);
+                Ok(false)
+            }
+        }
+    }
+
+    /// The first device from a number on that may have something to do.
+    #[inline(always)]
+    fn next_device(&self, from: u32) -> Option<Actor>
+        ensures { IfSome result (IsActor self.now.machine) }
+    {
+        let devices = self.machine.devices.len() as u32;
+        match self.waiters.next_device(from, devices) {
+            Some(device) => Some(Actor::Dev(device)),
+            None => None,
+        }
+    }
+
+    /// The first that may have something to do of the scripts from a number on, the autosleep work and the devices.
+    #[inline(always)]
+    fn next_from(&self, script: u32) -> Option<Actor>
+        ensures { IfSome result (IsActor self.now.machine) }
+    {
+        let scripts = self.machine.actors.len() as u32;
+        match self.waiters.next_script(script, scripts) {
+            Some(script) => Some(Actor::Script(script)),
+            None if self.waiters.asks_auto() => Some(Actor::Auto),
+            None => self.next_device(0),
+        }
+    }
+
+    /// The next behind an actor that may have something to do.
+    #[inline(always)]
+    fn next_after(&self, who: Actor) -> Option<Actor>
+        requires { IsActor self.now.machine who }
+        ensures { IfSome result (IsActor self.now.machine) }
+    {
+        match who {
+            Actor::Script(script) => self.next_from(script.saturating_add(1)),
+            Actor::Dev(device) => self.next_device(device.saturating_add(1)),
+            _ => self.next_device(0),
+        }
+    }
+
+    /// The tries of the scripts, the autosleep work and the devices that may have something to do, in order. One that is
+    /// alone with that is asked on: each such try is a round of its own. Whether entries were made.
+    #[inline(always)]
+    fn ask_actors<R: Wait>(&mut self, rt: &R) -> Result<bool, RunFault>
+        ensures machine { self.new.machine ≡ self.old.machine }
+        ensures after { AfterTry self.old self.new result }
+    {
+        let mut made = false;
+        let mut next = self.next_from(0);
+        for _ in 0..u64::MAX {
+            let Some(who) = next else {
+                break;
+            };
+            made = self.ask_once(rt, who)? | made;
+            if !self.waiters.is_alone(who) {
+                next = self.next_after(who);
+            }
+        }
+        Ok(made)
+    }
+
+    /// The try of a source's timer: it makes a call where its moment has come.
+    fn ask_timer<R: Wait>(&mut self, rt: &R, source: u32) -> Result<bool, RunFault>
+        requires { source ≤ length self.old.machine.sources }
+        ensures machine { self.new.machine ≡ self.old.machine }
+        ensures after { AfterTry self.old self.new result }
+    {
+        if self.has_expired(source) {
+            self.expire(rt, source)?;
+            self.wake_readers(rt);
+            Ok(true)
+        } else {
+            Ok(false)
+        }
+    }
+
+    /// The tries of all timers, by their sources. Whether entries were made.
+    fn ask_all_timers<R: Wait>(&mut self, rt: &R) -> Result<bool, RunFault>
+        ensures machine { self.new.machine ≡ self.old.machine }
+        ensures after { AfterTry self.old self.new result }
+    {
+        let mut made = false;
+        for source in 0..self.sources() {
+            made = self.ask_timer(rt, source)? | made;
+        }
+        Ok(made)
+    }
+
+    /// The tries of the timers, which are not asked again until time has jumped where none was due. Whether entries
+    /// were made.
+    #[inline(never)]
+    fn ask_timers<R: Wait>(&mut self, rt: &R) -> Result<bool, RunFault>
+        ensures machine { self.new.machine ≡ self.old.machine }
+        ensures after { AfterTry self.old self.new result }
+    {
+        let made = self.ask_all_timers(rt)?;
+        if !made {
+            self.waiters.timers_wait();
+        }
+        Ok(made)
+    }
+
+    /// One round: each actor that may have something to do gets one try, the scripts first, then the autosleep
+    /// work, the devices and the timers. Whether entries were made.
+    #[inline(always)]
+    pub(crate) fn round<R: Wait>(&mut self, rt: &R) -> Result<bool, RunFault>
+        ensures machine { self.new.machine ≡ self.old.machine }
+        ensures after { AfterTry self.old self.new result }
+    {
+        let by_actor = self.ask_actors(rt)?;
+        if self.waiters.asks_timers() {
+            let by_timer = self.ask_timers(rt)? | by_actor;
+            return Ok(by_timer);
+        }
+        Ok(by_actor)
+    }
+
+    /// Rounds, for as long as each makes entries. Whether the last one did.
+    pub(crate) fn rounds<R: Wait>(&mut self, rt: &R) -> Result<bool, RunFault>
+        ensures machine { self.new.machine ≡ self.old.machine }
+        ensures fault { IfErr result (IsRefused self.new) }
+    {
+        for _ in 0..u64::MAX {
+            if !self.round(rt)? {
+                return Ok(false);
+            }
+        }
+        Ok(true)
+    }
+
+    /// Rounds, and jumps of time between them, to the end.
+    fn all_rounds<R: Wait>(&mut self, rt: &R) -> Result<Rest, RunFault>
+        ensures machine { self.new.machine ≡ self.old.machine }
+        ensures after { AfterAll self.new result }
+    {
+        for _ in rt.forever() {
+            if self.rounds(rt)? {
+                continue;
+            }
+            match self.rest(rt)? {
+                Rest::GoesOn => {}
+                end => return Ok(end),
+            }
+        }
+        unreachable!()
+    }
+
+    /// All rounds, and the log of them.
+    fn finish<R: Wait>(mut self, rt: &R, alloc: Global) -> Result<ApartLog, RunFault>
+        ensures ok { IfOk result (λ log. IsRun self.entry.machine log) }
+        ensures fault { IfErr result (Fails self.entry.machine) }
+    {
+        match self.all_rounds(rt) {
+            Ok(rest) => Ok(self.into_log(alloc, rest)?),
+            Err(fault) => Err(self.into_fault(rt, alloc, fault)?),
+        }
+    }
+
+    /// The log of the whole run: one worker makes all rounds, several make bursts between rounds.
+    pub fn to_end<R: Threads + Wait + Sync, G: Gate + Sync>(
+        self,
+        rt: &R,
+        alloc: Global,
+        workers: u8,
+        gate: &G,
+    ) -> Result<ApartLog, RunFault>
+        requires { 1 ≤ workers }
+        ensures ok { IfOk result (λ log. IsRun self.entry.machine log) }
+        ensures fault { IfErr result (Fails self.entry.machine) }
+    {
+        if workers == 1 {
+            self.finish(rt, alloc)
+        } else {
+            self.finish_by(rt, alloc, workers, gate)
+        }
+    }
+}

@@ -1,6 +1,0 @@
-use Rattle.std.proofs.Common.{◌≡◌, take}
-use Rattle.sleep_run.specs.JobsOf.{owing_of}
-use Rattle.sleep_run.proofs.jobs.owing_among.Given as goal
-
-abbrev pub invariant-loop-job : goal.invariant-loop-job
-invariant-loop-job l = l.owing ≡ owing_of (take l.job-index l.jobs)

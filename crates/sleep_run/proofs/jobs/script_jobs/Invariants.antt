@@ -1,7 +1,0 @@
-use Rattle.std.proofs.Common.{◌≡◌}
-use Rattle.sleep_model.specs.declared.entry.Actor.TheVariants.{Script}
-use Rattle.sleep_run.specs.JobsOf.{first_jobs_of}
-use Rattle.sleep_run.proofs.jobs.script_jobs.Given as goal
-
-abbrev pub invariant-loop-script : goal.invariant-loop-script
-invariant-loop-script l = l.jobs.items ≡ first_jobs_of l.plans Script l.script

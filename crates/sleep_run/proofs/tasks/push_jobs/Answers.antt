@@ -1,6 +1,0 @@
-use Rattle.std.proofs.Common.{arith}
-use Rattle.std.proofs.lemmas.Grind.{common_steps}
-use Rattle.sleep_run.proofs.tasks.push_jobs.Goals as goal
-
-pub loop-job-preserved : goal.loop-job-preserved
-loop-job-preserved c = grind (arith, common_steps)

@@ -1,7 +1,0 @@
-use Rattle.std.proofs.Common.{◌≡◌, ◌++◌}
-use Rattle.sleep_model.specs.declared.entry.Actor.TheVariants as actor
-use Rattle.sleep_run.specs.TasksOf.{numbered}
-use Rattle.sleep_run.proofs.tasks.push_scripts.Given as goal
-
-abbrev pub invariant-loop-script : goal.invariant-loop-script
-invariant-loop-script l = l.actors.items ≡ l.fn.actors.items ++ numbered actor.Script l.script

@@ -1,6 +1,0 @@
-use Rattle.sleep_model.specs.declared.entry.Actor.TheVariants as actor
-use Rattle.sleep_run.proofs.Numbered.{one_more}
-use Rattle.sleep_run.proofs.tasks.push_sources.Goals as goal
-
-pub loop-source-preserved : goal.loop-source-preserved
-loop-source-preserved c = one_more actor.Timer _ _ _ _ c.loop-source.invariant c.in_ok-push.ensures.items

@@ -1,7 +1,0 @@
-use Rattle.std.proofs.Common.{◌≡◌, ◌++◌}
-use Rattle.sleep_model.specs.declared.entry.Actor.TheVariants as actor
-use Rattle.sleep_run.specs.TasksOf.{numbered}
-use Rattle.sleep_run.proofs.tasks.push_sources.Given as goal
-
-abbrev pub invariant-loop-source : goal.invariant-loop-source
-invariant-loop-source l = l.actors.items ≡ l.fn.actors.items ++ numbered actor.Timer l.source
