@@ -1,6 +1,6 @@
-//! Tests of what is kept of a machine: its devices and the links between them, where each device stands, what the phases,
-//! the platform and the freezer do next, and each part after an entry. They stand apart from the crates that they try, so
-//! that those are proved once. No program stands on this crate.
+//! Tests of what is kept of a machine: its devices and the links between them, where each device stands, the table of
+//! phases, what the phases, the platform and the freezer do next, and each part after an entry. They stand apart from the
+//! crates that they try, so that those are proved once. No program stands on this crate.
 #![tactic(auto)]
 
 #[cfg(test)]
@@ -25,5 +25,7 @@ mod row_tests;
 mod state_tests;
 #[cfg(test)]
 mod syscore_tests;
+#[cfg(test)]
+mod table_tests;
 #[cfg(test)]
 mod tree_tests;

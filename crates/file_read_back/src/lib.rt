@@ -5,9 +5,6 @@
 ghost use Rattle.machine_file.specs.Spelling.{AllReadBack};
 ghost use Rattle.file_read_back.specs.Laws.{AllGenerated, AllNamed, AllSpellAgain, AllTold, AllVersionsAlike};
 
-#[cfg(test)]
-mod tests;
-
 /// The value that is written for the machine of a value without a broken rule breaks none, and
 /// spells that machine.
 pub fn values_spell_again()

@@ -5,8 +5,6 @@ mod input;
 mod links;
 mod stats;
 mod telling;
-#[cfg(test)]
-mod tests;
 mod verdict;
 
 pub use input::{LogInput, MOST_MACHINE, read_log_input};

@@ -4,8 +4,6 @@
 pub mod laws;
 mod phase;
 mod table;
-#[cfg(test)]
-mod tests;
 
 pub use phase::{Phase, phases};
 pub use table::{CaseTable, PhaseRow};

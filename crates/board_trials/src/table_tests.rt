@@ -1,5 +1,4 @@
-use super::*;
-use std::test::Fail;
+use phase_table::{CaseTable, Phase, PhaseRow, phases};
 
 // A phase, its mirror and its name; whether it walks forward, whether devices go down in it, whether they come up, and
 // whether it tests for a wakeup.
@@ -68,44 +67,50 @@ const WHOLE_TABLE: [Row; 10] = [
     ),
 ];
 
+// Whether a phase has its mirror and its name, and walks, goes and tests as said.
+fn is_said(row: &Row) -> bool {
+    let (phase, mirror, name, [forward, down, up, checks]) = *row;
+    phase.mirror() == mirror
+        && mirror.mirror() == phase
+        && phase.forward() == forward
+        && mirror.forward() == !forward
+        && phase.is_down() == down
+        && phase.is_up() == up
+        && phase.checks_wakeup() == checks
+        && phase.name() == name
+        && Phase::of_name(name) == Some(phase)
+}
+
+// Whether a row of the table says this, and is found by its phase.
+fn is_row(table: &CaseTable<10>, found: &PhaseRow, row: &Row) -> bool {
+    let (phase, mirror, _, [forward, down, _, checks]) = *row;
+    let told = PhaseRow {
+        phase,
+        mirror,
+        forward,
+        down,
+        checks,
+    };
+    *found == told && table.row(phase) == Some(told)
+}
+
 /// Each phase stands once in the table, in the order of an attempt, with its mirror, the way it
 /// walks, whether devices go down in it, whether it tests for a wakeup, and its name.
 #[test]
 fn the_whole_table(rt: HostRuntime) {
     let table = phases();
-    for ((phase, mirror, name, [forward, down, up, checks]), row) in WHOLE_TABLE
-        .iter()
-        .copied()
-        .zip(table.rows)
-    {
-        assert_eq!(rt;
-            row,
-            PhaseRow {
-                phase,
-                mirror,
-                forward,
-                down,
-                checks
-            }
-        );
-        assert_eq!(rt; table.row(phase), Some(row));
-        assert_eq!(rt; phase.mirror(), mirror);
-        assert_eq!(rt; mirror.mirror(), phase);
-        assert_eq!(rt; phase.forward(), forward);
-        assert_eq!(rt; mirror.forward(), !forward);
-        assert_eq!(rt; phase.is_down(), down);
-        assert_eq!(rt; phase.is_up(), up);
-        assert_eq!(rt; phase.checks_wakeup(), checks);
-        assert_eq!(rt; phase.name(), name);
-        assert_eq!(rt; Phase::of_name(name), Some(phase));
+    for (row, found) in WHOLE_TABLE.iter().zip(table.rows.iter()) {
+        assert!(rt; is_row(&table, found, row) && is_said(row), "{}", row.2);
     }
 }
+
+const NO_NAMES: [&str; 5] = ["", "Prepare", "resume_", "noirq ", "enter"];
 
 /// Any other text names no phase.
 #[test]
 fn other_texts_name_no_phase(rt: HostRuntime) {
-    for text in ["", "Prepare", "resume_", "noirq ", "enter"] {
-        assert_eq!(rt; Phase::of_name(text), None, "{text}");
+    for text in &NO_NAMES {
+        assert!(rt; Phase::of_name(text).is_none(), "{text}");
     }
 }
 
@@ -121,6 +126,5 @@ fn a_table_gives_the_first_row(rt: HostRuntime) {
     let table = CaseTable {
         rows: [late, other],
     };
-    assert_eq!(rt; table.row(Phase::Late), Some(late));
-    assert_eq!(rt; table.row(suspend.phase), None);
+    assert!(rt; table.row(Phase::Late) == Some(late) && table.row(suspend.phase).is_none());
 }

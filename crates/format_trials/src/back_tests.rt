@@ -1,36 +1,52 @@
-use crate::{
+//! Machine files that are written and read back.
+
+use file_read_back::{
     generated_machines_read_back, machines_are_named, machines_read_back, texts_tell_logs,
     values_spell_again, versions_spell_alike,
 };
 use machine_file::{read_machine, write_machine};
+use sleep_base::Mem;
 use std::alloc::Global;
 use std::process::Abort;
-use std::test::Fail;
 
 // The file that is written for the machine of a file; no bytes where it is refused.
-fn rewritten(alloc: Global, file: &str) -> Result<Vec<u8>, Fail> {
+fn rewritten(alloc: Global, file: &str) -> Result<Vec<u8>, Mem> {
     match read_machine(alloc, file.as_bytes()) {
-        Ok(read) => Ok(write_machine(alloc, &read.machine)?),
+        Ok(read) => {
+            let written = write_machine(alloc, &read.machine);
+            drop(read);
+            written
+        }
         Err(_) => Ok(Vec::new(alloc)),
     }
 }
 
-// That a file is written so, with a newline, and that what is written is written so again.
-fn expect(rt: &impl Abort, alloc: Global, file: &str, text: &str) -> Result<(), Fail> {
-    let line = format!(in alloc; "{text}\n")?;
-    let once = rewritten(alloc, file)?;
-    assert!(rt; once.as_slice() == line.as_bytes(), "{file}");
-    let again = rewritten(alloc, line.as_str())?;
-    assert!(rt; again.as_slice() == line.as_bytes(), "{file}");
-    Ok(())
+// Whether that is written for a file.
+fn is_written(alloc: Global, file: &str, line: &str) -> Result<bool, Mem> {
+    let written = rewritten(alloc, file)?;
+    Ok(written.as_slice() == line.as_bytes())
+}
+
+// A text with a newline.
+fn line_of(alloc: Global, text: &str) -> Result<String, Mem> {
+    let mut line = String::from_str(alloc, text)?;
+    line.push('\n')?;
+    Ok(line)
+}
+
+// Whether a file is written so, with a newline, and what is written is written so again.
+fn is_kept(alloc: Global, file: &str, text: &str) -> Result<bool, Mem> {
+    let line = line_of(alloc, text)?;
+    let once = is_written(alloc, file, line.as_str()) == Ok(true);
+    let again = is_written(alloc, line.as_str(), line.as_str()) == Ok(true);
+    Ok(once && again)
 }
 
 // That each of these files is written so.
-fn expect_each(rt: &impl Abort, alloc: Global, files: &[(&str, &str)]) -> Result<(), Fail> {
+fn expect_each(rt: &impl Abort, alloc: Global, files: &[(&str, &str)]) {
     for (file, text) in files {
-        expect(rt, alloc, file, text)?;
+        assert!(rt; is_kept(alloc, file, text) == Ok(true), "{file}");
     }
-    Ok(())
 }
 
 /// The laws are calls that do nothing.
@@ -47,46 +63,46 @@ fn laws_are_called(rt: HostRuntime) {
 
 /// The generated machine of seed 0 with one device, which is written as one line.
 #[test]
-fn one_generated_device(rt: HostRuntime) -> Result<(), Fail> {
+fn one_generated_device(rt: HostRuntime) {
     let text =
         r#"{"actors":[{"kind":"user","name":"sleeper","repeat":4,"script":[{"op":"read"},{"op":"save"},{"if_saved":true,"op":"state","text":"mem"}]},{"kind":"irq","name":"line","script":[{"ms":289,"op":"sleep"},{"op":"event","source":"s2"},{"ms":677,"op":"sleep"},{"op":"event","source":"s0"},{"ms":904,"op":"sleep"},{"op":"event","source":"s1"},{"ms":428,"op":"sleep"},{"op":"event","source":"s2"}]}],"devices":[{"name":"d0"}],"sources":["s0","s1","s2"],"version":2}"#;
-    expect(&rt, rt.alloc(), text, text)
+    assert!(rt; is_kept(rt.alloc(), text, text) == Ok(true));
 }
 
 /// What has its default is left out, and so is an empty list; what has not is written. By hand.
 #[test]
-fn defaults_are_left_out(rt: HostRuntime) -> Result<(), Fail> {
-    expect_each(&rt, rt.alloc(), &DEFAULTS)
+fn defaults_are_left_out(rt: HostRuntime) {
+    expect_each(&rt, rt.alloc(), &DEFAULTS);
 }
 
 /// Files of examples/ and tools/worked, as Python's json writes them, part 1 of 4.
 #[test]
-fn files_part_1(rt: HostRuntime) -> Result<(), Fail> {
-    expect_each(&rt, rt.alloc(), &PART_1)
+fn files_part_1(rt: HostRuntime) {
+    expect_each(&rt, rt.alloc(), &PART_1);
 }
 
 /// Files of examples/ and tools/worked, as Python's json writes them, part 2 of 4.
 #[test]
-fn files_part_2(rt: HostRuntime) -> Result<(), Fail> {
-    expect_each(&rt, rt.alloc(), &PART_2)
+fn files_part_2(rt: HostRuntime) {
+    expect_each(&rt, rt.alloc(), &PART_2);
 }
 
 /// Files of examples/ and tools/worked, as Python's json writes them, part 3 of 4.
 #[test]
-fn files_part_3(rt: HostRuntime) -> Result<(), Fail> {
-    expect_each(&rt, rt.alloc(), &PART_3)
+fn files_part_3(rt: HostRuntime) {
+    expect_each(&rt, rt.alloc(), &PART_3);
 }
 
 /// Files of examples/ and tools/worked, as Python's json writes them, part 4 of 4.
 #[test]
-fn files_part_4(rt: HostRuntime) -> Result<(), Fail> {
-    expect_each(&rt, rt.alloc(), &PART_4)
+fn files_part_4(rt: HostRuntime) {
+    expect_each(&rt, rt.alloc(), &PART_4);
 }
 
 /// Links that are dormant or that scripts change, as files of version 2 have them.
 #[test]
-fn links_that_change(rt: HostRuntime) -> Result<(), Fail> {
-    expect_each(&rt, rt.alloc(), &CHANGES)
+fn links_that_change(rt: HostRuntime) {
+    expect_each(&rt, rt.alloc(), &CHANGES);
 }
 
 /// Files with defaults and empty lists, and what is written for them. By hand.

@@ -1,0 +1,159 @@
+//! The longest chain of devices at the end of a log.
+
+ghost use Rattle.std.specs.Prelude.{◌≡◌, true, None, Some, [], ◌∷◌};
+ghost use Rattle.std.specs.Bool.{OnTrue};
+ghost use Rattle.sleep_model.specs.declared.entry.Kind.TheVariants.{LinkAdd};
+ghost use Rattle.sleep_model.specs.Accepted.{IsAccepted};
+ghost use Rattle.sleep_model.specs.Order.{parents_of};
+ghost use Rattle.device_links.specs.Passes.{CanStand};
+ghost use Rattle.sleep_stats.specs.Linked.{added_by, added_links};
+
+use log_commands::{read_log_input, stats_of};
+use sleep_base::Mem;
+use sleep_model::{Kind, ListOf, Log, Machine};
+use sleep_stats::{Chain, certified, longest};
+use std::alloc::Global;
+
+/// A device below another, for which a log adds a supplier.
+const LINKED: &str = "\
+{\"version\":1,\"devices\":[{\"name\":\"a\"},{\"name\":\"b\"},{\"name\":\"c\",\"parent\":\"b\"}]}
+0 0/0/0 auto link a b 0
+source autosleep 0 0 0 0 0 0 0
+finished
+";
+
+/// How what is told of it ends.
+const CHAIN: &str = "chain 3 a b c\nlevel a 1\nlevel b 2\nlevel c 3\n";
+
+/// The devices of its longest chain, and the levels of all.
+const DEVICES: [u32; 3] = [0, 1, 2];
+
+const LEVELS: [u32; 3] = [1, 2, 3];
+
+/// The chain without its middle.
+const ENDS: [u32; 2] = [0, 2];
+
+// Whether a machine has three devices, the last below the second, and no links.
+fn has_devices(machine: &Machine) -> bool
+    ensures parents { OnTrue result (parents_of machine.now.devices ≡ None ∷ None ∷ Some 1 ∷ []) }
+    ensures links { OnTrue result (machine.now.links ≡ []) }
+{
+    match (machine.devices.as_slice(), machine.links.as_slice()) {
+        ([a, b, c], []) => matches!((a.parent, b.parent, c.parent), (None, None, Some(1))),
+        _ => false,
+    }
+}
+
+// Whether an entry adds a link from the first device to the second.
+fn is_added(kind: Kind) -> bool
+    ensures { OnTrue result (kind ≡ LinkAdd 0 1 None) }
+{
+    matches!(
+        kind,
+        Kind::LinkAdd {
+            supplier: 0,
+            consumer: 1,
+            r: None
+        }
+    )
+}
+
+// Whether a log does, and no more.
+fn adds_one(log: &Log) -> bool
+    ensures { OnTrue result (added_by [] log.now.entries ≡ record { supplier = 0; consumer = 1; active = true } ∷ []) }
+{
+    let mut reader = log.entries.reader();
+    let Some(entry) = reader.next() else {
+        return false;
+    };
+    is_added(entry.kind) && reader.next().is_none()
+}
+
+// Whether the machine is that of those devices and the log adds that link: then the links at its end stand.
+#[tactic(auto, using(crate::proofs::Chains::stand))]
+fn is_linked(machine: &Machine, log: &Log) -> bool
+    ensures { OnTrue result (CanStand (parents_of machine.now.devices) (added_links machine.now log.now)) }
+{
+    has_devices(machine) && adds_one(log)
+}
+
+// A chain of these devices, with the levels of all three.
+fn chain_of(alloc: Global, devices: &[u32]) -> Result<Chain, Mem> {
+    let devices = devices.to_vec(alloc)?;
+    let levels = LEVELS.to_vec(alloc)?;
+    Ok(Chain {
+        devices: ListOf::of_vec(devices),
+        levels: ListOf::of_vec(levels),
+    })
+}
+
+// Whether the chain is that of all three devices, with their levels.
+fn is_whole(chain: &Chain) -> bool {
+    chain.devices.as_slice() == DEVICES.as_slice() && chain.levels.as_slice() == LEVELS.as_slice()
+}
+
+// Whether the longest chain is that of all three devices, and is certified.
+fn is_longest_sure(alloc: Global, machine: &Machine, log: &Log) -> Result<bool, Mem>
+    requires accepted { IsAccepted machine.now }
+    requires stand { CanStand (parents_of machine.now.devices) (added_links machine.now log.now) }
+{
+    let chain = longest(alloc, machine, log)?;
+    let is_whole = is_whole(&chain);
+    let sure = certified(alloc, machine, log, &chain);
+    drop(chain);
+    Ok(is_whole && sure?)
+}
+
+// Whether the chain without its middle is certified.
+fn is_cut_sure(alloc: Global, machine: &Machine, log: &Log) -> Result<bool, Mem>
+    requires accepted { IsAccepted machine.now }
+    requires stand { CanStand (parents_of machine.now.devices) (added_links machine.now log.now) }
+{
+    let cut = chain_of(alloc, &ENDS)?;
+    let sure = certified(alloc, machine, log, &cut);
+    drop(cut);
+    sure
+}
+
+// Whether the first is so, and the second is not.
+fn are_told_apart(alloc: Global, machine: &Machine, log: &Log) -> bool
+    requires { IsAccepted machine.now }
+{
+    if !is_linked(machine, log) {
+        return false;
+    }
+    is_longest_sure(alloc, machine, log) == Ok(true)
+        && is_cut_sure(alloc, machine, log) == Ok(false)
+}
+
+// Whether both are so of the machine and the log of an input.
+fn are_told_apart_in(alloc: Global, input: &str) -> bool {
+    match read_log_input(alloc, input.as_bytes()) {
+        Ok(read) => {
+            let are_so = are_told_apart(alloc, &read.machine, &read.log);
+            drop(read);
+            are_so
+        }
+        Err(_) => false,
+    }
+}
+
+/// A longest chain is certified, and one without its middle is none.
+#[test]
+fn the_longest_chain_is_certified(rt: HostRuntime) {
+    assert!(rt; are_told_apart_in(rt.alloc(), LINKED));
+}
+
+// Whether what is told of an input ends so.
+fn is_told(alloc: Global, input: &str, end: &str) -> bool {
+    match stats_of(alloc, input.as_bytes()) {
+        Ok(text) => text.as_slice().ends_with(end.as_bytes()),
+        Err(_) => false,
+    }
+}
+
+/// What is told of it is told of the bytes.
+#[test]
+fn the_longest_chain_is_told(rt: HostRuntime) {
+    assert!(rt; is_told(rt.alloc(), LINKED, CHAIN));
+}
