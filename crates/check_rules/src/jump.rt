@@ -1,6 +1,6 @@
 //! Who is enabled, and which times are pending: where time jumps, and where a log is finished.
 
-ghost use Rattle.std.specs.Prelude.{◌≡◌, ◌↔◌, ◌<◌, ◌+◌, ◌&&◌, not, true, IsTrue, IfOk, length, nat_lt, option_copied, slice_get};
+ghost use Rattle.std.specs.Prelude.{◌≡◌, ◌↔◌, ◌<◌, ◌+◌, ◌&&◌, not, true, is_none, IsTrue, IfOk, length, nat_lt, option_copied, slice_get};
 ghost use Rattle.sleep_model.specs.declared.entry.Actor.TheVariants.{Dev, Script};
 ghost use Rattle.sleep_model.specs.Attempt.{freeze_since, sleep_of, sleeps_now};
 ghost use Rattle.sleep_model.specs.Calls.{calls_due, is_left, made};
@@ -8,6 +8,7 @@ ghost use Rattle.sleep_model.specs.Fits.{fits_actor};
 ghost use Rattle.sleep_model.specs.Freezer.{freezing};
 ghost use Rattle.sleep_model.specs.Legal.{JumpStep, alarm_at, deadline_at, is_enabled, is_finished, is_idle, is_made, next_expiry, next_sleep, next_time, none_enabled, none_expires, pending_nap, pending_sleep, sooner};
 ghost use Rattle.sleep_model.specs.Numbers.{numbers, time_of};
+ghost use Rattle.sleep_model.specs.Path.{maker};
 ghost use Rattle.sleep_model.specs.Rules.Questions.{seat_of};
 ghost use Rattle.sleep_model.specs.Sources.{history, owed};
 ghost use Rattle.check_past.specs.Passing.{journal_of, past_of};
@@ -155,21 +156,31 @@ fn is_idle(past: &Passed<'_>, now: EventNow) -> Result<bool, Mem>
     Ok(scripts && !work && devices && none_expires(past, past.journal_time()))
 }
 
+// Whether no attempt is open, and nobody can make anything, as the caller has found out.
+fn is_at_rest_if(past: &Passed<'_>, now: EventNow, idle: bool) -> bool
+    requires { idle ≡ is_idle past.now.machine (journal_of past.now) (λ s. history s (past_of past.now)) now }
+    ensures { result ≡ (is_none (maker (journal_of past.now))
+        && is_idle past.now.machine (journal_of past.now) (λ s. history s (past_of past.now)) now) }
+{
+    past.maker().is_none() && idle
+}
+
+/// Whether no attempt is open, and nobody can make anything: all that a finished log is but that every script has exited
+/// (`Passed::all_gone`). `Mem` where a moment is beyond all time, a number has no room, or if there is no memory for a walk.
+pub fn is_at_rest(past: &Passed<'_>, now: EventNow) -> Result<bool, Mem>
+    ensures { IfOk result (λ b. b ≡ (is_none (maker (journal_of past.now))
+        && is_idle past.now.machine (journal_of past.now) (λ s. history s (past_of past.now)) now)) }
+{
+    let idle = is_idle(past, now)?;
+    Ok(is_at_rest_if(past, now, idle))
+}
+
 // Whether every script has exited, no attempt is open, and nobody can make anything, as the caller has found out.
 fn is_finished_if(past: &Passed<'_>, now: EventNow, idle: bool) -> bool
     requires { idle ≡ is_idle past.now.machine (journal_of past.now) (λ s. history s (past_of past.now)) now }
     ensures { result ≡ is_finished past.now.machine (journal_of past.now) (λ s. history s (past_of past.now)) now }
 {
-    past.all_gone() && past.maker().is_none() && idle
-}
-
-/// Whether nobody can make anything, every script has exited, and no attempt is open. `Mem` where a moment is beyond all
-/// time, a number has no room, or if there is no memory for a walk.
-pub fn is_finished(past: &Passed<'_>, now: EventNow) -> Result<bool, Mem>
-    ensures { IfOk result (λ b. b ≡ is_finished past.now.machine (journal_of past.now) (λ s. history s (past_of past.now)) now) }
-{
-    let idle = is_idle(past, now)?;
-    Ok(is_finished_if(past, now, idle))
+    past.all_gone() && is_at_rest_if(past, now, idle)
 }
 
 // The lesser of two moments, where there are any.

@@ -23,7 +23,7 @@ mod walk;
 pub use answers::{keeps_answers, keeps_links, keeps_runtime};
 pub use entries::{enabled_entry, freezer_entry, path_entry, steps_entry, walk_entry};
 pub use judge::first_broken;
-pub use jump::is_finished;
+pub use jump::is_at_rest;
 pub use next::is_next_entry;
 pub use numbers::{keeps_attempts, keeps_numbers};
 pub use owed::keeps_owed;

@@ -7,10 +7,8 @@ use Rattle.sleep_model.specs.declared.log.Log.{Log}
 use Rattle.sleep_model.specs.declared.log.LogEnd.TheVariants.{Finished}
 use Rattle.sleep_model.specs.declared.log.Stats.{Stats}
 use Rattle.sleep_model.specs.declared.machine.Machine.{Machine}
-use Rattle.sleep_model.specs.declared.word.EventNow.{EventNow}
-use Rattle.sleep_model.specs.Legal.{IsFinishedLog, is_finished, is_finished_after, stats_of}
-use Rattle.sleep_model.specs.Numbers.{numbers, time_of}
-use Rattle.sleep_model.specs.Parts.{journal}
+use Rattle.sleep_model.specs.Legal.{IsFinishedLog, is_finished_after, stats_of}
+use Rattle.sleep_model.specs.Numbers.{time_of}
 use Rattle.sleep_model.specs.Sources.{history, stats_at}
 use Rattle.log_check.specs.Verdicts.{Differ}
 
@@ -47,9 +45,8 @@ differ_here m past told k x own each here same is own_is not_same = (here, same,
     one y h = cc
 
 -- a log that says that it is finished is, where what it says is so
-pub over : (m : Machine) (log : Log) (past : List Entry) (word : EventNow) (b : Bool) → past ≡ reverse log.entries → log.end ≡ Finished → word ≡ numbers past → b ≡ is_finished m (journal past) (λ s. history s past) word
-    → IsTrue b ↔ IsFinishedLog m log
-over m log past word b all says word_is is = (λ t. record { says = says; finished = sym same ∙ t }, λ f. same ∙ f.finished)
+pub over : (m : Machine) (log : Log) (past : List Entry) (b : Bool) → past ≡ reverse log.entries → log.end ≡ Finished → b ≡ is_finished_after m past → IsTrue b ↔ IsFinishedLog m log
+over m log past b all says is = (λ t. record { says = says; finished = sym same ∙ t }, λ f. same ∙ f.finished)
   where
     same : b ≡ is_finished_after m (reverse log.entries)
-    same = is ∙ (ap (is_finished m (journal past) (λ s. history s past)) word_is ∙ ap (is_finished_after m) all)
+    same = is ∙ ap (is_finished_after m) all

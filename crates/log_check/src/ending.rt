@@ -2,7 +2,7 @@
 
 ghost use Rattle.std.specs.Prelude.{◌≡◌, ◌≤◌, ◌↔◌, ◌+◌, IsTrue, IfOk, length, reverse};
 ghost use Rattle.log_check.specs.declared.ending.Verdict.TheVariants.{Bad};
-ghost use Rattle.sleep_model.specs.Legal.{IsFinishedLog, stats_of};
+ghost use Rattle.sleep_model.specs.Legal.{IsFinishedLog, is_finished_after, stats_of};
 ghost use Rattle.sleep_model.specs.Numbers.{time_of};
 ghost use Rattle.sleep_model.specs.Rules.Entry.{KeepsEach};
 ghost use Rattle.sleep_model.specs.Sources.{history, stats_at};
@@ -10,7 +10,7 @@ ghost use Rattle.check_past.specs.Passing.{past_of};
 ghost use Rattle.log_check.specs.Verdicts.{Differ, IsVerdict};
 
 use check_past::Passed;
-use check_rules::is_finished;
+use check_rules::is_at_rest;
 use sleep_base::Mem;
 use sleep_model::{Log, LogEnd, Stats};
 
@@ -79,6 +79,15 @@ fn first_wrong(past: &Passed<'_>, told: &[Stats]) -> Result<Option<usize>, Mem>
     Ok(None)
 }
 
+// Whether every script has exited, no attempt is open, and nobody can make anything. `Mem` where a moment is beyond all
+// time, a number has no room, or if there is no memory for a walk.
+fn is_finished(past: &Passed<'_>) -> Result<bool, Mem>
+    ensures { IfOk result (λ b. b ≡ is_finished_after past.now.machine (past_of past.now)) }
+{
+    let rests = is_at_rest(past, past.word())?;
+    Ok(past.all_gone() && rests)
+}
+
 // Whether the log says that it is finished, and is. `Mem` where a sum or a number has no room, or if there is no memory for
 // a walk.
 fn ends_finished(past: &Passed<'_>, log: &Log) -> Result<bool, Mem>
@@ -86,7 +95,7 @@ fn ends_finished(past: &Passed<'_>, log: &Log) -> Result<bool, Mem>
     ensures { IfOk result (λ b. IsTrue b ↔ IsFinishedLog past.now.machine log.now) }
 {
     match &log.end {
-        LogEnd::Finished => is_finished(past, past.word()),
+        LogEnd::Finished => is_finished(past),
         LogEnd::Stuck(_) => Ok(false),
     }
 }

@@ -5,4 +5,4 @@ use Rattle.log_check.proofs.ending.ends_finished.Goals as goal
 
 pub returns-in-Finished : goal.returns-in-Finished
 returns-in-Finished c =
-    IfOk-weaker c.is_finished.result _ _ (λ b is. over c.args.past.now.machine c.args.log.now (past_of c.args.past.now) c.word.result b c.requires c.in-Finished.is c.word.ensures is) c.is_finished.ensures
+    IfOk-weaker c.is_finished.result _ _ (λ b is. over c.args.past.now.machine c.args.log.now (past_of c.args.past.now) b c.requires c.in-Finished.is is) c.is_finished.ensures
