@@ -1,6 +1,6 @@
 //! Broken logs, each of which one law of sleep refuses at one entry, from the entries before it.
 //!
-//! `tools/worked.py` writes this file from `tools/worked/broken`.
+//! `tools/dev worked` writes this file from `tools/worked/broken`.
 
 ghost use Rattle.sleep_model.specs.Laws.{Owed, TakenOnce, NotOwedAlready, Restored, EntersDown};
 ghost use Rattle.log_trials.specs.Attempts.{parent_and_child_machine, smallest_attempt_machine};

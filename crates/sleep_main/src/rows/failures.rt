@@ -1,6 +1,6 @@
 //! Attempts in which a callback, a notifier, a syscore step or the platform fails.
 //!
-//! `tools/worked.py` writes this file from `tools/worked/`.
+//! `tools/dev worked` writes this file from `tools/worked/`.
 
 /// The machines, the status that each gives, and its log.
 pub(crate) const MACHINES: [(&str, u8, &str); 7] = [

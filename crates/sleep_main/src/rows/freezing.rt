@@ -1,6 +1,6 @@
 //! Tasks that are asked to freeze.
 //!
-//! `tools/worked.py` writes this file from `tools/worked/`.
+//! `tools/dev worked` writes this file from `tools/worked/`.
 
 /// The machines, the status that each gives, and its log.
 pub(crate) const MACHINES: [(&str, u8, &str); 4] = [

@@ -1,6 +1,6 @@
 //! Links that are dormant, and links that tasks add or set between attempts.
 //!
-//! `tools/worked.py` writes this file from `tools/worked/`.
+//! `tools/dev worked` writes this file from `tools/worked/`.
 
 /// The machines, the status that each gives, and its log.
 pub(crate) const MACHINES: [(&str, u8, &str); 5] = [
