@@ -37,7 +37,7 @@ def names():
     """Every name that code, definitions and tools give, and every word of the kernel that definitions cite."""
     found = set()
     for path in [*ROOT.glob("crates/*/src/**/*.rt"), *ROOT.glob("crates/*/specs/**/*.antt"), *ROOT.glob("crates/*/proofs/**/*.antt"),
-                 *ROOT.glob("tools/**/*.py"), *ROOT.glob("docs/FORMATS.md")]:
+                 *ROOT.glob("tools/**/*.py"), *ROOT.glob("python/**/*.py"), *ROOT.glob("docs/FORMATS.md")]:
         found |= set(re.findall(r"[A-Za-z_][A-Za-z0-9_]*", path.read_text()))
     return found
 

@@ -7,7 +7,7 @@ Most files are nearly right: one value exchanged, one byte changed, a member wit
 beside it. Status, standard output and standard error have to agree to the byte. Ends with status 1
 and writes the first file that differs to standard error where they don't.
 
-What is accepted is written down a second time in tools/second/rules.py, and what a run is in tools/second/run.py. Neither
+What is accepted is written down a second time in python/julampok/second/rules.py, and what a run is in python/julampok/second/run.py. Neither
 shares anything with the program, its definitions or its libraries but the rules in docs/FORMATS.md and
 docs/BEHAVIOUR.md.
 """
@@ -17,10 +17,10 @@ import pathlib
 import subprocess
 import sys
 
-from second.maker import Maker
-from second.rules import first_broken
-from second.run import Run
-from second.things import SourceFull
+from julampok.second.maker import Maker
+from julampok.second.rules import first_broken
+from julampok.second.run import Run
+from julampok.second.things import SourceFull
 
 ROOT = pathlib.Path(__file__).resolve().parent.parent
 PROGRAM = ROOT / "crates" / "sleep_main" / "out" / "sleep_main"

@@ -19,9 +19,9 @@ import json
 import pathlib
 import sys
 
-from real import names, trace
-from real.order import Comparison
-from timeline import machine, reading
+from julampok.kernel import names, trace
+from julampok.kernel.order import Comparison
+from julampok.drawing import machine, reading
 
 
 def compare(given):

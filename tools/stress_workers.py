@@ -3,8 +3,8 @@
 
 usage: tools/stress_workers.py MINUTES [PROGRAM]
 
-It goes round the machines of bench/ and between them tries random ones (tools/second/maker.py), each by 2, 4, 16 and 64
-workers. The program's own `check` reads each large log, and the second writing of a run (tools/second/follow.py) each log of
+It goes round the machines of bench/ and between them tries random ones (python/julampok/second/maker.py), each by 2, 4, 16 and 64
+workers. The program's own `check` reads each large log, and the second writing of a run (python/julampok/second/follow.py) each log of
 a random machine, with the run's status. Behind each large machine it prints how many logs there were, and how many of them
 differ from that of one worker. It stops at the first fault: it writes the machine, the log and why to
 standard error, and ends with status 1.
@@ -19,7 +19,7 @@ import time
 sys.path.append(str(pathlib.Path(__file__).resolve().parent.parent / "bench"))
 
 from machine import machine  # noqa: E402
-from second.maker import Maker  # noqa: E402
+from julampok.second.maker import Maker  # noqa: E402
 from tasks import one_source, sleepers  # noqa: E402
 from try_workers import FULL, PROGRAM, refusal, run_by  # noqa: E402
 from workers import lines  # noqa: E402

@@ -12,6 +12,7 @@ import sys
 import time
 
 TOOLS = pathlib.Path(__file__).resolve().parent
+PACKAGE = ["-m", "unittest", "discover", "-s", TOOLS.parent / "python" / "tests"]
 
 
 def main():
@@ -19,10 +20,12 @@ def main():
         sys.exit(__doc__)
     status = 0
     own = pathlib.Path(__file__).name
-    for path in [*sorted(path for path in TOOLS.glob("test_*.py") if path.name != own), TOOLS / "check_docs.py"]:
+    tests = [[path] for path in [*sorted(path for path in TOOLS.glob("test_*.py") if path.name != own), TOOLS / "check_docs.py"]]
+    for words in [PACKAGE, *tests]:
         begun = time.monotonic()
-        done = subprocess.run([sys.executable, path], stdout=subprocess.PIPE, stderr=subprocess.STDOUT, text=True)
-        print(f"{path.name}: {'failed' if done.returncode else 'passed'}, {time.monotonic() - begun:.1f} s", flush=True)
+        done = subprocess.run([sys.executable, *words], stdout=subprocess.PIPE, stderr=subprocess.STDOUT, text=True)
+        name = "python/tests" if words is PACKAGE else words[0].name
+        print(f"{name}: {'failed' if done.returncode else 'passed'}, {time.monotonic() - begun:.1f} s", flush=True)
         if done.returncode:
             status = 1
             print(done.stdout)

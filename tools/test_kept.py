@@ -1,5 +1,5 @@
 #!/usr/bin/env python3
-"""Tries tools/second/rules_kept.py: worked logs break no rule, and broken copies of them the rules that are named.
+"""Tries python/julampok/second/rules_kept.py: worked logs break no rule, and broken copies of them the rules that are named.
 
 usage: tools/test_kept.py
 """
@@ -9,10 +9,10 @@ import pathlib
 import random
 import sys
 
-from second.copies import entries_of
-from second.maker import Maker
-from second.run import Run
-from second.trial import Trial, first_broken
+from julampok.second.copies import entries_of
+from julampok.second.maker import Maker
+from julampok.second.run import Run
+from julampok.second.trial import Trial, first_broken
 
 WORKED = pathlib.Path(__file__).resolve().parent / "worked"
 SEED, MACHINES = 5, 60

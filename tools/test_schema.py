@@ -14,8 +14,8 @@ import random
 import re
 import unittest
 
-from second.maker import Maker
-from second.rules import OPERATIONS, PHASES, first_broken
+from julampok.second.maker import Maker
+from julampok.second.rules import OPERATIONS, PHASES, first_broken
 from try_rules import SEEDS, change
 
 ROOT = pathlib.Path(__file__).resolve().parent.parent

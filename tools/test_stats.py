@@ -1,5 +1,5 @@
 #!/usr/bin/env python3
-"""Tries tools/second/stats.py: two worked logs, and random ones whose longest chain is found by looking at all chains.
+"""Tries python/julampok/second/stats.py: two worked logs, and random ones whose longest chain is found by looking at all chains.
 
 usage: tools/test_stats.py
 """
@@ -7,9 +7,9 @@ usage: tools/test_stats.py
 import subprocess
 import sys
 
-from second.run import Run
-from second.stats import BadLinks, Chains
-from second.stats_logs import WORKED, Logs, expected, longest_by_all, told
+from julampok.second.run import Run
+from julampok.second.stats import BadLinks, Chains
+from julampok.second.stats_logs import WORKED, Logs, expected, longest_by_all, told
 
 TWO = {"version": 1, "devices": [{"name": "a"}, {"name": "b"}]}
 SEED, LOGS = 7, 300

@@ -4,7 +4,7 @@
 usage: tools/try_check.py SEED MACHINES [PROGRAM]
 
 Random machines are run by the second writing, in rounds and interleaved, and by their logs and broken copies of these the
-verdict is worked out by tools/second/rules_kept.py (the entries) and by tools/second/follow.py (the statistics and the
+verdict is worked out by python/julampok/second/rules_kept.py (the entries) and by python/julampok/second/follow.py (the statistics and the
 end). A copy has an entry dropped, doubled, moved, or changed in one word, with its times and numbers put right again or
 not; or a number of a source's line, the end, or a line that no log has. With PROGRAM its command `check` has to say the
 same to the byte, with status 0 or 1, also of the logs of tools/worked and of inputs that it refuses. Without PROGRAM it
@@ -18,13 +18,13 @@ import random
 import subprocess
 import sys
 
-from second.copies import broken_copies, entries_of, is_in_form
-from second.follow import Follower
-from second.maker import Maker
-from second.merged import Interleaved
-from second.run import Run
-from second.things import SourceFull
-from second.trial import first_broken
+from julampok.second.copies import broken_copies, entries_of, is_in_form
+from julampok.second.follow import Follower
+from julampok.second.maker import Maker
+from julampok.second.merged import Interleaved
+from julampok.second.run import Run
+from julampok.second.things import SourceFull
+from julampok.second.trial import first_broken
 
 WORKED = pathlib.Path(__file__).resolve().parent / "worked"
 MOST = 250  # How many entries a log has at most, since each is judged by a slow reading.

@@ -3,9 +3,9 @@
 
 usage: tools/try_definitions.py SEED MACHINES FOLDER [--interleaved]
 
-For each machine the log that tools/second/run.py writes has to be what the definitions alone make, with the
+For each machine the log that python/julampok/second/run.py writes has to be what the definitions alone make, with the
 same statistics and the same end, and each source has to have as many places: each is a law that the prover
-has to close. With --interleaved the log is a merged one of tools/second/merged.py: it has to be legal, to have
+has to close. With --interleaved the log is a merged one of python/julampok/second/merged.py: it has to be legal, to have
 its end, and to be what the journal and the histories are merged to. FOLDER is a clone of this
 repository of its own, made where it is not there; the laws take the place of its crate log_trials. Sixty
 machines take about a minute, once its libraries are checked. Ends with status 1 where a law stays open, and names it.
@@ -17,10 +17,10 @@ import sys
 
 import laws
 import worked
-from limits import AUTO_CYCLES
-from second.maker import Maker
-from second.merged import Interleaved
-from second.run import Run
+from julampok.limits import AUTO_CYCLES
+from julampok.second.maker import Maker
+from julampok.second.merged import Interleaved
+from julampok.second.run import Run
 
 LEAST, MOST = 12, 100  # How many entries a log has.
 A_MODULE = 25  # Logs in a module of specs/.

@@ -11,7 +11,7 @@ and how many is printed. Ends with status 1 where a log that is right is refused
 import random
 import sys
 
-from second.idle import Broken, Session, judge, line_of, text_by_rounds
+from julampok.second.idle import Broken, Session, judge, line_of, text_by_rounds
 
 BACK = """0 waker:0 hard
 1 idle begin

@@ -12,7 +12,7 @@ import pathlib
 import subprocess
 import sys
 
-from second.idle import Broken, judge, text_by_rounds
+from julampok.second.idle import Broken, judge, text_by_rounds
 
 PROGRAM = pathlib.Path(__file__).resolve().parent.parent / "crates" / "sleep_main" / "out" / "sleep_main"
 

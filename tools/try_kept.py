@@ -4,18 +4,18 @@
 usage: tools/try_kept.py SEED MACHINES
 
 Of each log, and of each copy in which one line is dropped, doubled, moved or changed, the first line that
-breaks a rule has to be the first that its actor does not make next (tools/second/follow.py), and a line that was
+breaks a rule has to be the first that its actor does not make next (python/julampok/second/follow.py), and a line that was
 changed in one field breaks first the rule that speaks of that field. Ends with status 1 where two differ.
 """
 
 import random
 import sys
 
-from second.copies import entries_of
-from second.maker import Maker
-from second.merged import Interleaved
-from second.run import Run
-from second.trial import Trial
+from julampok.second.copies import entries_of
+from julampok.second.maker import Maker
+from julampok.second.merged import Interleaved
+from julampok.second.run import Run
+from julampok.second.trial import Trial
 
 MOST = 400  # How many lines a log has at most.
 

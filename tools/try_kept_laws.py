@@ -4,7 +4,7 @@
 usage: tools/try_kept_laws.py SEED MACHINES FOLDER
 
 Of each copy the first line that breaks a rule, and of each log some lines that break none, have to break in
-crates/log_rules just the rules that tools/second/rules_kept.py names there: each is a law that the prover has to
+crates/log_rules just the rules that python/julampok/second/rules_kept.py names there: each is a law that the prover has to
 close. (A step of the word is left out: one rule of it asks for every source.) FOLDER is a clone of this repository
 of its own, made where it is not there; the laws take the place of its crate rule_trials. Ends with status 1
 where a law stays open, and names it.
@@ -17,12 +17,12 @@ import sys
 
 import laws
 import worked
-from second.copies import broken_copies, entries_of
-from second.maker import Maker
-from second.merged import Interleaved
-from second.place import Entry
-from second.run import Run
-from second.trial import first_broken
+from julampok.second.copies import broken_copies, entries_of
+from julampok.second.maker import Maker
+from julampok.second.merged import Interleaved
+from julampok.second.place import Entry
+from julampok.second.run import Run
+from julampok.second.trial import first_broken
 
 LEAST, MOST = 8, 70  # How many entries a log has.
 A_MODULE = 25  # Logs in a module of specs/.

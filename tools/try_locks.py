@@ -13,8 +13,8 @@ import random
 import subprocess
 import sys
 
-from limits import MOST_INPUT
-from second.locks import run
+from julampok.limits import MOST_INPUT
+from julampok.second.locks import run
 
 # ---- worked rows: an input, its status and its output
 

@@ -18,7 +18,7 @@ import random
 import subprocess
 import sys
 
-from second.rules import OPERATIONS, compact, first_broken, without_defaults
+from julampok.second.rules import OPERATIONS, compact, first_broken, without_defaults
 
 ROOT = pathlib.Path(__file__).resolve().parent.parent
 CRATE = ROOT / "crates" / "file_trials"

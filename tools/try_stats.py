@@ -13,9 +13,9 @@ import json
 import subprocess
 import sys
 
-from second.run import Run
-from second.stats import Chains, stats
-from second.stats_logs import WORKED, Logs, expected, longest_by_all, told
+from julampok.second.run import Run
+from julampok.second.stats import Chains, stats
+from julampok.second.stats_logs import WORKED, Logs, expected, longest_by_all, told
 
 
 def differs(tree, log, program):

@@ -4,7 +4,7 @@
 usage: tools/try_workers.py SEED MACHINES [PROGRAM [WORKERS ..]]
 
 Random machines are run by 2, 4, 16 and 64 workers, or by those that are named. Each log is followed line by line
-(tools/second/follow.py): each line has to be what its actor makes next, at the end nobody may be able to go on, and the
+(python/julampok/second/follow.py): each line has to be what its actor makes next, at the end nobody may be able to go on, and the
 statistics and the end have to be those of the lines. It prints how many logs differ from that of one worker, so that a
 battery in which the workers never raced is seen. Where a log is refused it writes the machine, the log and why to
 standard error, and ends with status 1.
@@ -15,8 +15,8 @@ import pathlib
 import subprocess
 import sys
 
-from second.follow import Follower
-from second.maker import Maker
+from julampok.second.follow import Follower
+from julampok.second.maker import Maker
 
 PROGRAM = pathlib.Path(__file__).resolve().parent.parent / "crates" / "sleep_main" / "out" / "sleep_main"
 STUCK, FULL = 6, 7  # The statuses of a run that is stuck, and of one whose source is full.

@@ -19,7 +19,7 @@ import sys
 
 import worked_refuted
 import worked_rows
-from limits import ERRORS
+from julampok.limits import ERRORS
 
 ROOT = pathlib.Path(__file__).resolve().parent.parent
 CRATE = ROOT / "crates" / "log_trials"

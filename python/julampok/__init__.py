@@ -1,0 +1,1 @@
+"""The tool for users: machine files, logs and traces of a suspend, run, checked, explained and drawn."""

@@ -1,0 +1,34 @@
+"""Draws a log as a page that a browser shows, as one picture, or as tracks for Perfetto.
+
+With the machine file the page shows parents and links as well, and who waited for whom. --svg N writes the picture of attempt
+N alone. --perfetto writes Trace Event JSON, which https://ui.perfetto.dev and chrome://tracing open: a track a device, task and
+source, and each entry a microsecond.
+"""
+
+from ..drawing.page import page, picture_of
+from ..drawing.perfetto import perfetto
+from ..errors import YES, CannotError
+from ..files import refuse_inputs, write_new
+from ..logs import add_log, read_story
+
+HELP = "draws a log as a page for a browser"
+EXAMPLE = "julampok draw --machine examples/order/laptop.json laptop.log -o laptop.html"
+
+
+def add_arguments(parser):
+    parser.add_argument("--machine", metavar="MACHINE", help="the machine file of the log")
+    parser.add_argument("--perfetto", action="store_true", help="writes Trace Event JSON for Perfetto instead of a page")
+    parser.add_argument("--svg", metavar="N", help="writes the picture of attempt N alone, as SVG")
+    parser.add_argument("-o", dest="output", metavar="FILE", default="-", help="the file to write; else standard output")
+    add_log(parser)
+
+
+def run(given):
+    if given.output != "-":
+        refuse_inputs(given.output, [given.log, given.machine])
+    draw = perfetto if given.perfetto else page if given.svg is None else picture_of(given.svg)
+    drawn = draw(read_story(given.log, given.machine))
+    if drawn is None:
+        raise CannotError(f"no attempt {given.svg}", given.log)
+    write_new(given.output, drawn, [given.log, given.machine])
+    return YES

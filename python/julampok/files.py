@@ -1,0 +1,151 @@
+"""Reads inputs and writes outputs: '-' is standard input or output, and a new file is whole or is not there."""
+
+import gzip
+import os
+import pathlib
+import shutil
+import sys
+import tempfile
+import zlib
+
+from .errors import CannotError
+
+GZIP = b"\x1f\x8b"
+
+
+def read_bytes(path):
+    """The bytes of a file, or of standard input for '-'; unpacked where gzip packed them. Raises CannotError."""
+    try:
+        data = sys.stdin.buffer.read() if str(path) == "-" else pathlib.Path(path).read_bytes()
+    except (OSError, ValueError, AttributeError) as fault:
+        raise CannotError(reason(fault), path) from None
+    if not data.startswith(GZIP):
+        return data
+    try:
+        return gzip.decompress(data)
+    except (OSError, EOFError, zlib.error) as fault:
+        raise CannotError(f"cannot be unpacked: {fault}", path) from None
+
+
+def reason(fault):
+    """What an error of the system says, without its number and the path."""
+    return getattr(fault, "strerror", None) or str(fault) or type(fault).__name__
+
+
+def read_text(path):
+    """The text of a file in UTF-8. Raises CannotError with the line of the first byte that is none."""
+    data = read_bytes(path)
+    try:
+        return data.decode()
+    except UnicodeDecodeError as fault:
+        raise CannotError("is no text in UTF-8", path, data.count(b"\n", 0, fault.start) + 1) from None
+
+
+def write_out(text):
+    """Writes text (or bytes) on standard output, quietly also where nobody reads any more. Raises CannotError."""
+    data = text if isinstance(text, bytes) else text.encode("utf-8", "surrogateescape")
+    try:
+        sys.stdout.flush()
+        sys.stdout.buffer.write(data)
+        sys.stdout.buffer.flush()
+    except BrokenPipeError:
+        silence()
+    except (OSError, ValueError, AttributeError) as fault:
+        silence()
+        raise CannotError(f"cannot be written: {reason(fault)}", "standard output") from None
+
+
+def silence():
+    """Standard output takes everything from here on, and nobody reads it."""
+    if sys.stdout is not sys.__stdout__:
+        return
+    try:
+        os.dup2(os.open(os.devnull, os.O_WRONLY), 1)
+    except OSError:
+        pass
+
+
+def is_same(one, two):
+    """Whether two paths lead to one file that is there."""
+    try:
+        return os.path.samefile(one, two)
+    except OSError:
+        return False
+
+
+def refuse_inputs(path, inputs):
+    """Raises CannotError where the output would replace one of the inputs."""
+    for given in inputs:
+        if given is not None and str(given) != "-" and is_same(path, given):
+            raise CannotError("is one of the inputs, so it is not written", path)
+
+
+def write_new(path, data, inputs=()):
+    """Writes the file as a whole: beside it first, then by a new name. '-' is standard output. Raises CannotError."""
+    if str(path) == "-":
+        write_out(data)
+        return
+    write_all({path: data}, inputs)
+
+
+def write_all(files, inputs=()):
+    """Writes several files, given as {path: data}, all or none: each beside its place, then all by their names."""
+    beside = {}
+    try:
+        for path in files:
+            refuse_inputs(path, inputs)
+            if pathlib.Path(path).is_dir():
+                raise CannotError("is a folder", path)
+        for path, data in files.items():
+            beside[path] = write_beside(pathlib.Path(path), data)
+        for path in files:
+            os.replace(beside.pop(path), os.path.realpath(path))
+    except OSError as fault:
+        raise CannotError(f"cannot be written: {reason(fault)}", path) from None
+    finally:
+        for left in beside.values():
+            pathlib.Path(left).unlink(missing_ok=True)
+
+
+def write_beside(path, data):
+    """Writes the data into a new file of the same folder, with the rights that a new file has; gives its path."""
+    path = pathlib.Path(os.path.realpath(path))
+    number, name = tempfile.mkstemp(prefix=f".{path.name[:80]}.", dir=path.parent)
+    try:
+        with os.fdopen(number, "wb") as file:
+            file.write(data if isinstance(data, bytes) else data.encode("utf-8", "surrogateescape"))
+            file.flush()
+            os.fsync(file.fileno())
+        os.chmod(name, path.stat().st_mode & 0o777 if path.exists() else 0o666 & ~mask())
+    except BaseException:
+        pathlib.Path(name).unlink(missing_ok=True)
+        raise
+    return name
+
+
+def mask():
+    """The rights that the process takes off new files."""
+    found = os.umask(0)
+    os.umask(found)
+    return found
+
+
+def write_folder(path, files, inputs=()):
+    """Writes a new folder with these files ({name: data}), all or none. Raises CannotError, also where it is there."""
+    path = pathlib.Path(path)
+    refuse_inputs(path, inputs)
+    made = None
+    try:
+        if path.exists() and (not path.is_dir() or any(path.iterdir())):
+            raise CannotError("is there already; a new folder is written", path)
+        made = pathlib.Path(tempfile.mkdtemp(prefix=f".{path.name[:80]}.", dir=path.parent))
+        for name, data in files.items():
+            (made / name).write_bytes(data if isinstance(data, bytes) else data.encode("utf-8", "surrogateescape"))
+        made.chmod(0o777 & ~mask())
+        made.replace(path)
+        made = None
+    except OSError as fault:
+        raise CannotError(f"cannot be written: {reason(fault)}", path) from None
+    finally:
+        if made is not None:
+            shutil.rmtree(made, ignore_errors=True)
