@@ -1,0 +1,1 @@
+"""What whoever works on this repository runs: `tools/dev COMMAND`."""

@@ -1,0 +1,1 @@
+"""Trying the wrong bodies that the gate passes over."""

@@ -1,0 +1,6 @@
+"""Where the repository's files stand."""
+
+import pathlib
+
+TOP = pathlib.Path(__file__).resolve().parent.parent.parent
+CRATES = TOP / "crates"
