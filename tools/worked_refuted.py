@@ -15,7 +15,7 @@ REFUTED = [
 HEAD = """\
 //! Broken logs, each of which one law of sleep refuses at one entry, from the entries before it.
 //!
-//! `tools/worked.py` writes this file from `tools/worked/broken`.
+//! `tools/dev worked` writes this file from `tools/worked/broken`.
 
 """
 

@@ -23,7 +23,7 @@ TUPLE = 60
 
 HEAD = """//! {says}
 //!
-//! `tools/worked.py` writes this file from `tools/worked/`.
+//! `tools/dev worked` writes this file from `tools/worked/`.
 
 /// The machines, the status that each gives, and its log.
 pub(crate) const MACHINES: [(&str, u8, &str); {count}] = [
