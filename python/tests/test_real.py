@@ -356,7 +356,7 @@ class Refusals(Scratch):
                 trace.read_trace(b"".join(lines[:count]))
 
     def test_no_trees(self):
-        self.refuse("no such file or folder", self.at / "nothing")
+        self.refuse("No such file or directory", self.at / "nothing")
         self.refuse("no folder 'devices', so this is no /sys", self.at)
         self.refuse("l: line 2: no folder of a device: 'x'", self.write("l", "/sys/devices/a\nx\n"))
         self.refuse("no device with a folder 'power'", self.write("l", ""))

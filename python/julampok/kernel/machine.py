@@ -45,7 +45,7 @@ class Builder:
 
     def take_device(self, device):
         thing = self.add(Thing(device.name, device.path))
-        thing.is_async, thing.may_wake, thing.is_suspended = device.is_async, device.may_wake, device.is_suspended
+        thing.is_async, thing.may_wake, thing.is_suspended = bool(device.is_async) and not self.tree.has_async_off, device.may_wake, device.is_suspended
         thing.parent = self.by_path.get(device.parent)
         thing.driver = " or ".join(word for word in (device.driver, device.subsystem) if word)
         self.by_path[device.path] = thing

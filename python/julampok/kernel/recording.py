@@ -69,10 +69,16 @@ class Device:
     line: int | None = None
     path: str | None = None
     listed_line: int | None = None
-    is_async: bool = False
+    is_async: bool = False  # As it ran: where no callback ran in another task than the attempt's, nobody was.
+    listed_async: bool | None = None  # As /sys or the list has it; None where neither does.
     may_wake: bool = False
-    is_suspended: bool = False
+    runtime_status: str | None = None  # As /sys has it; None where it is not told.
     has_callbacks: bool = False  # In some attempt it has a callback between prepare and complete.
+
+    @property
+    def is_suspended(self) -> bool:
+        """Whether /sys says that the device was runtime suspended."""
+        return self.runtime_status == "suspended"
 
     @property
     def shown(self) -> str:
@@ -297,6 +303,9 @@ class Recording:
     processors: int | None = None  # None: no input tells.
     processors_from: str = ""  # What told their number: a file and line, or which lines.
     tracer: str | None = None
+    trace_lines: list[str] = field(default_factory=list)  # The lines of the trace as they are, the first one at 0.
+    machine: str | None = None  # Maker and product, where dmesg, /sys or the trace's head tells.
+    date: str | None = None  # When it was recorded, where an input tells, as that has it.
     version: tuple[int, ...] = (6, 1, 192)
     version_text: str = "6.1.192"
     version_from: str = "by default"  # by default, --kernel, or the file and line of dmesg.

@@ -1,40 +1,63 @@
 """Reads the devices of a machine: from its /sys, a copy of it (a folder or a tar), or a list of device folders.
 
-What cannot be read is refused by its path, a list by the number of its line.
+What cannot be read is refused by its path, a line of a list by its number: each is a CannotError.
 """
 
 import errno
+import lzma
 import os
 import posixpath
 import re
 import tarfile
+import zlib
+
+from ..errors import CannotError
+from ..files import read_bytes, reason
 
 LISTED = re.compile(r"/sys/devices/(?P<path>\S.*?)(?: async=(?P<async>\w*))?(?: wakeup=(?P<wakeup>\w*))?(?: runtime=(?P<runtime>\w*))?")
+# What reading a file of /sys answers where it is not there, or where its device has nothing to say.
+NOT_TOLD = (errno.ENOENT, errno.ENOTDIR, errno.EINVAL, errno.EIO, errno.ENODEV, errno.ENXIO)
 # The files of /sys that are read; all others of a tar are passed over.
-READ = ("power/async", "power/wakeup", "power/runtime_status", "pm_async", "online", "name", "status", "sync_state_only")
+READ = (
+    "power/async", "power/wakeup", "power/runtime_status", "pm_async", "online", "name", "status", "sync_state_only", "sys_vendor",
+    "product_name")
+SWITCH = {"enabled": True, "disabled": False}  # What power/async says; None where it says nothing, or is not there.
 # Folders whose devices have no parent, though one holds the folder: the kernel hangs a bus's devices below its root.
 ROOTS = ("system", "virtual")
 
 
-class Refused(Exception):
-    """What was given is no /sys: the path or the line, and why."""
+Refused = CannotError  # (as `machine` names it)
 
 
 class Device:
-    """A device of a machine: its path below devices/, its parent's path, and what /sys says of its power."""
+    """A device of a machine: its path below devices/, its parent's path, and what /sys says of its power.
+
+    `is_async` and `runtime_status` are None where nothing tells; `line` is that of a list of devices.
+    """
 
     def __init__(self, path, parent):
         self.path, self.parent = path, parent
         self.name = posixpath.basename(path).replace("!", "/")
-        self.is_async = self.may_wake = self.is_suspended = False
+        self.is_async = self.runtime_status = self.line = None
+        self.may_wake = False
         self.driver = self.subsystem = ""
+
+    @property
+    def is_suspended(self):
+        """Whether /sys says that the device was runtime suspended."""
+        return self.runtime_status == "suspended"
 
 
 class Machine:
-    """What a tree tells: devices by path, links (supplier, consumer, is_dormant), sources, processors, and notes."""
+    """What a tree tells: devices by path, links (supplier, consumer, is_dormant), sources, processors, and notes.
+
+    `maker` is the machine's maker and product; it and `cpus` are None where nothing tells. `has_async_off` says that
+    /sys/power/pm_async is 0.
+    """
 
     def __init__(self):
         self.devices, self.links, self.sources, self.cpus, self.notes = {}, [], [], None, []
+        self.maker, self.has_async_off = None, False
 
 
 class Folder:
@@ -43,7 +66,7 @@ class Folder:
     def __init__(self, root):
         self.root = root
         if not os.path.isdir(os.path.join(root, "devices")):
-            raise Refused(f"{root}: no folder 'devices', so this is no /sys")
+            raise CannotError("no folder 'devices', so this is no /sys", root)
 
     def folders(self):
         """Each folder below devices/, parents first, with the names in it."""
@@ -59,7 +82,7 @@ class Folder:
             with os.scandir(os.path.join(self.root, path)) as found:
                 return [(entry.name, entry.is_dir(follow_symlinks=False)) for entry in found]
         except OSError as fault:
-            raise Refused(f"{os.path.join(self.root, path)}: {fault.strerror}") from None
+            raise CannotError(reason(fault), os.path.join(self.root, path)) from None
 
     def names(self, path):
         """The names in a folder; none where it is not there."""
@@ -71,33 +94,33 @@ class Folder:
             with open(os.path.join(self.root, path), "rb") as file:
                 return file.read(4096).decode("utf-8", "replace").strip("\0 \n")
         except OSError as fault:
-            if fault.errno in (errno.ENOENT, errno.ENOTDIR):
+            if fault.errno in NOT_TOLD:
                 return None
-            raise Refused(f"{os.path.join(self.root, path)}: {fault.strerror}") from None
+            raise CannotError(reason(fault), os.path.join(self.root, path)) from None
 
     def target(self, path):
         """What a symbolic link names; None where there is none."""
         try:
             return os.readlink(os.path.join(self.root, path))
         except OSError as fault:
-            if fault.errno in (errno.ENOENT, errno.ENOTDIR, errno.EINVAL):
+            if fault.errno in NOT_TOLD:
                 return None
-            raise Refused(f"{os.path.join(self.root, path)}: {fault.strerror}") from None
+            raise CannotError(reason(fault), os.path.join(self.root, path)) from None
 
 
 class Tar:
     """A copy of /sys in a tar, which is read where it lies."""
 
     def __init__(self, file):
-        self.file, self.inside, self.texts, self.targets = file, {}, {}, {}
+        self.root, self.inside, self.texts, self.targets = file, {}, {}, {}
         try:
             with tarfile.open(file) as tar:
                 for member in tar:
                     self.take(tar, member)
-        except (tarfile.TarError, EOFError) as fault:
-            raise Refused(f"{file}: {fault}") from None
+        except (tarfile.TarError, EOFError, OSError, zlib.error, lzma.LZMAError) as fault:
+            raise CannotError(f"a tar that cannot be read: {fault}", file) from None
         if "devices" not in self.inside:
-            raise Refused(f"{file}: no folder 'devices', so this is no /sys")
+            raise CannotError("a tar without a folder 'devices', so this is no /sys", file)
 
     def take(self, tar, member):
         path = re.sub(r"^(\./|/)*([^/]+/)?(?=devices(/|$)|power/|class/)", "", member.name, count=1).rstrip("/")
@@ -153,9 +176,9 @@ def count_of(text):
 def read_device(tree, path, machine):
     """Takes the device of a folder that has a power/."""
     device = Device(path, parent_of(path, machine.devices))
-    device.is_async = tree.text(f"devices/{path}/power/async") == "enabled"
+    device.is_async = SWITCH.get(tree.text(f"devices/{path}/power/async"))
     device.may_wake = tree.text(f"devices/{path}/power/wakeup") == "enabled"
-    device.is_suspended = tree.text(f"devices/{path}/power/runtime_status") == "suspended"
+    device.runtime_status = tree.text(f"devices/{path}/power/runtime_status") or None
     device.driver = posixpath.basename(tree.target(f"devices/{path}/driver") or "")
     device.subsystem = posixpath.basename(tree.target(f"devices/{path}/subsystem") or "")
     machine.devices[path] = device
@@ -167,7 +190,7 @@ def read_link(tree, path, machine):
     for end in ("supplier", "consumer"):
         target = tree.target(f"{path}/{end}")
         if target is None:
-            raise Refused(f"{path}/{end}: no symbolic link, which a device link has")
+            raise CannotError(f"{path}/{end} is no symbolic link, which a device link has", tree.root)
         ends.append(posixpath.normpath(posixpath.join(path, target)).partition("devices/")[2])
     if tree.text(f"{path}/sync_state_only") == "1":
         machine.notes.append(f"the link {posixpath.basename(path)} orders nothing (sync_state_only): left out")
@@ -217,10 +240,11 @@ def read_tree(tree):
     read_links(tree, links, suppliers, machine)
     machine.sources = read_sources(tree, sources)
     machine.cpus = count_of(tree.text("devices/system/cpu/online"))
-    if tree.text("power/pm_async") == "0":
+    machine.has_async_off = tree.text("power/pm_async") == "0"
+    if machine.has_async_off:
         machine.notes.append("pm_async is 0: no device is asynchronous")
-        for device in machine.devices.values():
-            device.is_async = False
+    made = [tree.text(f"devices/virtual/dmi/id/{name}") for name in ("sys_vendor", "product_name")]
+    machine.maker = " ".join(part for part in made if part) or None
     return machine
 
 
@@ -228,29 +252,46 @@ def read_list(file, data):
     """The machine of a list: a line a device folder, with async= and wakeup=, and runtime= if known."""
     machine, found = Machine(), {}
     for line, text in enumerate(data.decode("utf-8", "replace").splitlines(), 1):
+        if not text.strip() or text.startswith("#"):
+            continue
         listed = LISTED.fullmatch(text.strip())
         if listed is None:
-            raise Refused(f"{file}: line {line}: no folder of a device: {text[:80]!r}")
-        found[listed["path"].rstrip("/")] = listed
+            raise CannotError(f"no folder of a device: {text[:80]!r}", file, line)
+        found[listed["path"].rstrip("/")] = line, listed
     for path in sorted(found, key=natural):
-        device = Device(path, parent_of(path, machine.devices))
-        device.is_async, device.may_wake = found[path]["async"] == "enabled", found[path]["wakeup"] == "enabled"
-        device.is_suspended = found[path]["runtime"] == "suspended"
-        machine.devices[path] = device
+        line, listed = found[path]
+        device = machine.devices[path] = Device(path, parent_of(path, machine.devices))
+        device.line, device.is_async = line, SWITCH.get(listed["async"])
+        device.may_wake, device.runtime_status = listed["wakeup"] == "enabled", listed["runtime"] or None
     return machine
 
 
 def read_machine(file):
-    """The machine of a folder, a tar, or a list."""
+    """The machine of a folder, a tar, or a list. Raises CannotError."""
     if os.path.isdir(file):
         machine = read_tree(Folder(file))
-    elif not os.path.exists(file):
-        raise Refused(f"{file}: no such file or folder")
-    elif os.path.getsize(file) and tarfile.is_tarfile(file):
+    elif str(file) != "-" and os.path.isfile(file) and is_tar(file):
         machine = read_tree(Tar(file))
     else:
-        with open(file, "rb") as opened:
-            machine = read_list(file, opened.read())
+        machine = read_list(file, text_bytes(file))
     if not machine.devices:
-        raise Refused(f"{file}: no device with a folder 'power'")
+        raise CannotError("no device with a folder 'power'", file)
     return machine
+
+
+def is_tar(file):
+    """Whether a file is a tar, packed or not."""
+    try:
+        return os.path.getsize(file) > 0 and tarfile.is_tarfile(file)
+    except (OSError, EOFError, zlib.error, lzma.LZMAError):
+        return False
+
+
+def text_bytes(file, may_be_empty=False):
+    """The bytes of a file of text. Raises CannotError where they are none."""
+    data = read_bytes(file)
+    if b"\0" in data:
+        raise CannotError("a binary file, where text is meant", file, data.count(b"\n", 0, data.index(b"\0")) + 1)
+    if not data.strip() and not may_be_empty:
+        raise CannotError("is empty", file)
+    return data

@@ -1,0 +1,308 @@
+"""Reads a trace of the events `power:*`: typed events, and the whole attempts to sleep that they make up.
+
+What stands before the first whole attempt or behind the last one, because the trace begins or ends inside an attempt, is
+left out and noted. What is no whole trace is refused by the first line that shows it.
+"""
+
+import re
+from collections.abc import Callable
+
+from ..errors import CannotError
+from .lines import ASIDE, LONGEST, LOST, Head, nanoseconds, split_line
+from .recording import (Attempt, CallbackBegin, CallbackEnd, Clock, Device, Event, Note, SourceActivate, SourceDeactivate,
+                        SuspendResume)
+
+BEGIN = re.compile(r"(.*), parent: (.+?), ([a-z ]*\[(\w+)\])")
+END = re.compile(r"(.*), err=(-?\d+)")
+STEP = re.compile(r"(\w+)\[(-?\d+)\] (begin|end)")
+SOURCE = re.compile(r"(.*) state=0x([0-9a-f]+)")
+ENTERS = re.compile(r"suspend_resume: +suspend_enter\[\d+\] begin")
+# What a phase of each name has to say of its callbacks in `noirq driver [suspend]`: the first word, and the event in brackets.
+FIRST_WORDS = {"late": ("dpm_suspend_late",), "noirq": ("dpm_suspend_noirq", "dpm_resume_noirq"), "early": ("dpm_resume_early",)}
+# Events of devices that belong to a hibernation, by the value of their phase.
+HIBERNATION = {1: "freeze", 4: "hibernate", 8: "quiesce", 32: "thaw", 64: "restore", 128: "recover"}
+
+
+class Lines:
+    """The state of reading one trace. `read_trace` is what others use."""
+
+    def __init__(self, file: str, has_enters: bool):
+        self.file, self.has_enters = file, has_enters
+        self.head, self.clock = Head(), None
+        self.lines: list[str] = []
+        self.events: list[Event] = []
+        self.attempts: list[Attempt] = []
+        self.notes: list[Note] = []
+        self.devices: dict[tuple[str, str], Device] = {}  # By the words before `, parent:`, and the parent's name.
+        self.texts: dict[str, tuple] = {}  # What the text of a line says, for the many that come again.
+        self.strays: list[int] = []  # Lines of steps and callbacks outside of an attempt.
+        self.unknown: tuple[int, str] | None = None
+        self.last_time = 0
+        self.open_attempt: list[Event] | None = None
+        self.reset()
+        self.takers: dict[str, Callable] = {
+            "suspend_resume": self.take_step, "device_pm_callback_start": self.take_begin,
+            "device_pm_callback_end": self.take_end, "wakeup_source_activate": self.take_source,
+            "wakeup_source_deactivate": self.take_source}
+
+    def reset(self) -> None:
+        """Begins with nothing that is open."""
+        self.phases: list[SuspendResume] = []  # A failed late phase has early inside.
+        self.callbacks: dict[int, CallbackBegin] = {}  # The open ones, by pid.
+        self.is_freezing = self.is_frozen = False
+
+    # ---- lines
+
+    def take(self, line: int, text: str) -> None:
+        """Takes a line of the file. Raises CannotError where it is no line of a trace and stands in an attempt."""
+        parts = split_line(text) if len(text) <= LONGEST else None
+        if parts is None:
+            self.take_other(line, text)
+            return
+        taker = self.takers.get(parts[5])
+        if taker is not None:
+            task, pid, cpu, flags, stamp, event, said = parts
+            taker((line, task, int(pid), int(cpu), flags or "", self.time_of(line, stamp), stamp), said, event)
+
+    def take_other(self, line: int, text: str) -> None:
+        """Takes a line that is no event."""
+        if LOST.fullmatch(text):
+            if self.open_attempt is not None:
+                raise self.fault(line, f"the trace has lost events of the attempt that begins in line {self.open_attempt[0].line}: {text.strip()!r}")
+            self.notes.append(Note(f"the trace has lost events here, outside of a whole attempt: {text.strip()}", self.file, line))
+        elif len(text) <= LONGEST and ASIDE.fullmatch(text):
+            self.head.take(line, text)
+        elif self.open_attempt is not None:
+            raise self.fault(line, f"no line of a trace: {text[:80]!r}")
+        elif self.unknown is None:
+            self.unknown = line, text
+
+    def fault(self, line: int, text: str) -> CannotError:
+        """The error of a line."""
+        return CannotError(text, self.file, line)
+
+    def time_of(self, line: int, stamp: str) -> int | None:
+        """The time of an event; all events of a trace have to have one kind of it."""
+        time = nanoseconds(stamp)
+        clock = Clock.COUNTER if time is None else Clock.SECONDS
+        if self.clock is None:
+            self.clock = clock
+        elif clock != self.clock:
+            raise self.fault(line, f"the time {stamp} is of another kind than those above")
+        if time is not None:
+            if time < self.last_time and not any(note.text.startswith("the time goes back") for note in self.notes):
+                self.notes.append(Note("the time goes back here", self.file, line))
+            self.last_time = time
+        return time
+
+    # ---- steps of attempts
+
+    def take_step(self, head: tuple, said: str, _: str) -> None:
+        """Takes a `suspend_resume`."""
+        line = head[0]
+        found = STEP.fullmatch(said.strip())
+        if found is None:
+            raise self.fault(line, f"no step of an attempt: {said.strip()[:80]!r}")
+        event = SuspendResume(*head, found[1], int(found[2]), found[3] == "begin")
+        if event.is_begin and self.is_opening(event):
+            self.close(line)
+            self.open_attempt = []
+        if self.open_attempt is None:
+            self.strays.append(line)
+            return
+        self.open_attempt.append(event)
+        if event.phase is not None:
+            self.take_phase(event)
+        elif event.action == "freeze_processes":
+            self.is_freezing = event.is_begin
+            self.is_frozen = self.is_frozen or event.is_begin
+        elif event.action == "thaw_processes" and not event.is_begin:
+            self.is_frozen = False
+        if not event.is_begin and event.action in ("thaw_processes", "freeze_processes") and not self.is_frozen and not self.is_freezing:
+            self.close(line)
+
+    def is_opening(self, event: SuspendResume) -> bool:
+        """Whether a begin opens an attempt. Where the trace has no `suspend_enter` at all, the first step that it has does."""
+        if self.has_enters:
+            return event.action == "suspend_enter"
+        firsts = ("sync_filesystems", "freeze_processes", "dpm_prepare")
+        if event.action not in firsts or event.value in HIBERNATION:
+            return False
+        if self.open_attempt is None:
+            return True
+        done = {step.action for step in self.open_attempt if isinstance(step, SuspendResume)}
+        return bool(done.intersection(firsts[firsts.index(event.action):]))
+
+    def take_phase(self, event: SuspendResume) -> None:
+        """Takes the begin or end of a phase of devices."""
+        if event.is_begin:
+            if event.value in HIBERNATION:
+                raise self.fault(event.line, f"{event.action}[{event.value}] is of a hibernation, not of a suspend")
+            self.phases.append(event)
+            return
+        opened = self.phases.pop() if self.phases else None
+        if opened is None or opened.action != event.action:
+            raise self.fault(event.line, f"{event.action} ends without a begin")
+        if self.callbacks and not self.phases:
+            begin = min(self.callbacks.values(), key=lambda one: one.line)
+            raise self.fault(event.line, f"{event.action} ends before the callback of line {begin.line} ({begin.device.name})")
+
+    def close(self, line: int) -> None:
+        """Closes the attempt that is open, if one is, as a whole one."""
+        if self.open_attempt is None:
+            return
+        if (why := self.unfinished()) is not None:
+            raise self.fault(line, why)
+        state = next((step.value for step in self.open_attempt[:1] if step.action == "suspend_enter"), None)
+        self.attempts.append(Attempt(len(self.attempts) + 1, self.open_attempt, len(self.events), state))
+        self.events += self.open_attempt
+        self.open_attempt = None
+        self.reset()
+
+    def unfinished(self) -> str | None:
+        """What the open attempt still lacks; None where it may end here."""
+        if self.callbacks:
+            begin = min(self.callbacks.values(), key=lambda one: one.line)
+            return f"the callback of line {begin.line} ({begin.device.name}) has no end"
+        if self.phases:
+            return f"{self.phases[-1].action} of line {self.phases[-1].line} has no end"
+        if self.is_frozen or self.is_freezing:
+            return f"the attempt that begins in line {self.open_attempt[0].line} froze tasks and has no thaw_processes"
+        return None
+
+    # ---- callbacks
+
+    def take_begin(self, head: tuple, said: str, _: str) -> None:
+        """Takes a `device_pm_callback_start`."""
+        line, pid = head[0], head[2]
+        if self.open_attempt is None:
+            self.strays.append(line)
+            return
+        told = self.texts.get(said) or self.read_begin(line, said)
+        if not self.phases:
+            raise self.fault(line, f"a callback in no phase of devices: {said.strip()[:80]!r}")
+        if pid in self.callbacks:
+            raise self.fault(line, f"the callback of line {self.callbacks[pid].line} in the same task has no end yet")
+        device, operation, wanted = told
+        if wanted is not None and self.phases[-1].action not in wanted:
+            raise self.fault(line, f"a callback {operation!r} in {self.phases[-1].action}")
+        event = CallbackBegin(*head, device, self.phases[-1].phase, operation)
+        self.callbacks[pid] = event
+        self.open_attempt.append(event)
+
+    def read_begin(self, line: int, said: str) -> tuple:
+        """What the text of a begin tells: device, operation, and the phases in which it may stand (None: in any)."""
+        found = BEGIN.fullmatch(said.rstrip().removeprefix(" "))
+        if found is None:
+            raise self.fault(line, f"no begin of a callback: {said.strip()[:80]!r}")
+        words, parent, operation, verb = found.groups()
+        if verb not in ("suspend", "resume"):
+            raise self.fault(line, f"a callback of {verb!r}, which is not of a suspend")
+        device = self.devices.get((words, parent))
+        if device is None:
+            device = self.devices[words, parent] = Device(words, line=line)
+        wanted = FIRST_WORDS.get(operation.split(" ", 1)[0])
+        self.texts[said] = told = device, operation, wanted
+        return told
+
+    def take_end(self, head: tuple, said: str, _: str) -> None:
+        """Takes a `device_pm_callback_end`."""
+        line, pid = head[0], head[2]
+        if self.open_attempt is None:
+            self.strays.append(line)
+            return
+        told = self.texts.get(said)
+        if told is None:
+            found = END.fullmatch(said.rstrip().removeprefix(" "))
+            if found is None:
+                raise self.fault(line, f"no end of a callback: {said.strip()[:80]!r}")
+            self.texts[said] = told = found[1], int(found[2])
+        begin = self.callbacks.pop(pid, None)
+        if begin is None or begin.device.name != told[0]:
+            raise self.fault(line, f"a callback ends that did not begin in this task: {said.strip()[:80]!r}")
+        begin.end = event = CallbackEnd(*head, begin.device, begin.phase, told[1], begin)
+        self.open_attempt.append(event)
+
+    # ---- wakeup sources
+
+    def take_source(self, head: tuple, said: str, event: str) -> None:
+        """Takes a step of a wakeup source."""
+        found = SOURCE.fullmatch(said.strip())
+        if found is None:
+            raise self.fault(head[0], f"no step of a wakeup source: {said.strip()[:80]!r}")
+        kind = SourceActivate if event == "wakeup_source_activate" else SourceDeactivate
+        (self.events if self.open_attempt is None else self.open_attempt).append(kind(*head, found[1], int(found[2], 16)))
+
+    # ---- the end
+
+    def finish(self, last: int) -> None:
+        """Ends the trace after its last line: what is open there is cut off. Raises CannotError where no attempt is whole."""
+        if self.open_attempt is not None:
+            why = self.unfinished()
+            if why is None:
+                self.close(last)
+            elif self.attempts:
+                begins = self.open_attempt[0].line
+                self.notes.append(Note(f"the trace ends inside the attempt that begins in line {begins}: left out", self.file, last))
+            else:
+                raise self.fault(last, f"the trace ends inside its only attempt: {why}")
+        if not self.attempts:
+            raise self.no_attempt(last)
+        self.note_strays()
+
+    def no_attempt(self, last: int) -> CannotError:
+        """The error of a trace without a whole attempt."""
+        if self.strays:
+            return self.fault(self.strays[0], "the trace begins inside an attempt and has no whole one, which suspend_enter begins")
+        if self.unknown is not None:
+            return self.fault(self.unknown[0], f"no line of a trace: {self.unknown[1][:80]!r}")
+        if self.clock is None:
+            return CannotError("no trace: it has no event" if last else "is empty", self.file)
+        return CannotError("the trace has no attempt to sleep (no suspend_resume event)", self.file)
+
+    def note_strays(self) -> None:
+        """Notes lines that stand outside of the whole attempts."""
+        first = self.attempts[0].line
+        before = [line for line in self.strays if line < first]
+        after = [line for line in self.strays if line > first]
+        if before:
+            self.notes.append(Note(f"the trace begins inside an attempt: {len(before)} lines before line {first} are left out", self.file, before[0]))
+        if after:
+            self.notes.append(Note(f"{len(after)} lines of steps or callbacks outside of an attempt are left out, the first in line {after[0]}", self.file, after[0]))
+        if self.unknown is not None:
+            self.notes.append(Note(f"no line of a trace, outside of an attempt: {self.unknown[1][:80]!r}", self.file, self.unknown[0]))
+        if self.head.overwritten_line is not None:
+            self.notes.append(Note("the trace's buffer was too small: its oldest events are lost", self.file, self.head.overwritten_line))
+
+
+def text_of(file: str, data: bytes) -> str:
+    """The text of a trace. Raises CannotError for a binary file, with what to run for that of trace-cmd."""
+    if data.startswith(b"\x17\x08\x44tracing"):
+        name = "FILE" if str(file) == "-" else file
+        raise CannotError(f"a binary trace of trace-cmd: run 'trace-cmd report -i {name}' and give what it writes", file)
+    if b"\0" in data:
+        raise CannotError("a binary file, no text of a trace", file, data.count(b"\n", 0, data.index(b"\0")) + 1)
+    return data.decode("utf-8", "replace")
+
+
+def read_trace(file: str, data: bytes) -> Lines:
+    """The events and whole attempts of a trace. Devices are not yet told apart from their drivers. Raises CannotError."""
+    text = text_of(file, data)
+    lines = text.split("\n")
+    rest = lines.pop()
+    reader = Lines(file, ENTERS.search(text) is not None)
+    reader.lines = [*lines, rest] if rest else lines
+    for line, one in enumerate(lines, 1):
+        reader.take(line, one)
+    if rest:
+        take_rest(reader, len(lines) + 1, rest)
+    reader.finish(len(lines) + bool(rest))
+    return reader
+
+
+def take_rest(reader: Lines, line: int, text: str) -> None:
+    """Takes a last line without a newline: it may be cut off, so it counts only if it ends an attempt."""
+    if re.search(r"(thaw_processes|freeze_processes|sync_filesystems|suspend_enter)\[\d+\] (begin|end)$", text):
+        reader.take(line, text)
+    elif not ASIDE.fullmatch(text):
+        reader.notes.append(Note("the last line has no newline, so it may be cut off: left out", reader.file, line))

@@ -1,0 +1,205 @@
+"""Joins the devices that a trace names with those of /sys or of a list of devices, and finds the ends of links.
+
+A trace writes `DRIVER DEVICE, parent: PARENT`, where names may have spaces and are unique on their bus only. Here each device
+becomes one object, with its parent's object, its folder in /sys, and whether it was asynchronous as it ran.
+"""
+
+import posixpath
+from collections import defaultdict
+
+from . import tree as sys_tree
+from .recording import Attempt, CallbackBegin, Device, Note, Phase
+from .events import Lines
+
+SILENT = (Phase.PREPARE, Phase.COMPLETE)  # In these phases the kernel traces devices that have no callback, too.
+
+
+def split_words(words: str, known) -> tuple[str, str]:
+    """The driver and the device of the words before `, parent:`; `known` are names of devices that are known elsewhere."""
+    if words.startswith(" "):
+        return "", words[1:]
+    parts = words.split(" ")
+    if len(parts) == 1:
+        return "", words
+    splits = [(" ".join(parts[:at]), " ".join(parts[at:])) for at in range(1, len(parts))]
+    if (found := next((split for split in splits if split[1] in known), None)) is not None:
+        return found
+    return splits[0] if parts[0] == "platform" else splits[-1]  # (a device of this bus that has no driver)
+
+
+class Joiner:
+    """Gives the devices of a trace their names, parents and folders. `devices` is the result, in the order of the list."""
+
+    def __init__(self, lines: Lines | None, machine: sys_tree.Machine | None):
+        self.lines, self.machine = lines, machine
+        self.notes: list[Note] = []
+        self.parents: dict[Device, str | None] = {}  # The name of the parent, as the trace has it.
+        self.by_name: dict[str, list[Device]] = defaultdict(list)
+        self.by_path: dict[str, Device] = {}
+        self.rows: dict[str, list[sys_tree.Device]] = defaultdict(list)
+        for row in machine.devices.values() if machine else []:
+            self.rows[row.name].append(row)
+        traced = self.traced() if lines else []
+        for device in traced:
+            self.by_name[device.name].append(device)
+        for device in traced:
+            self.find_folder(device)
+        for row in machine.devices.values() if machine else []:
+            self.add_row(row)
+        for device in traced:
+            self.find_parent(device)
+        self.devices = self.in_order(traced)
+        self.settle_async()
+
+    # ---- names
+
+    def traced(self) -> list[Device]:
+        """The devices of the trace, each once, in the order of the longest prepare, then of their first lines."""
+        known = {parent for _, parent in self.lines.devices} | self.rows.keys()
+        for (words, parent), device in self.lines.devices.items():
+            device.driver, device.name = split_words(words, known)
+            self.parents[device] = None if parent == "none" else parent
+        attempts = self.lines.attempts
+        self.merge_twins(attempts)
+        prepared = max((attempt.callbacks(Phase.PREPARE) for attempt in attempts), key=len, default=[])
+        order = dict.fromkeys(begin.device for begin in prepared)
+        for attempt in attempts:
+            order |= dict.fromkeys(begin.device for begin in attempt.callbacks())
+        return list(order)
+
+    def merge_twins(self, attempts: list[Attempt]) -> None:
+        """Makes one of devices that differ in their driver alone and never stand in one attempt: the driver came or went."""
+        seen: dict[Device, set[int]] = defaultdict(set)
+        for attempt in attempts:
+            for begin in attempt.callbacks():
+                seen[begin.device].add(attempt.number)
+        kept: dict[tuple, list[Device]] = defaultdict(list)
+        same: dict[Device, Device] = {}
+        for device in seen:
+            twins = kept[device.name, self.parents[device]]
+            twin = next((other for other in twins if not seen[other] & seen[device]), None)
+            if twin is None:
+                twins.append(device)
+            else:
+                same[device] = twin
+                seen[twin] |= seen[device]
+        if same:
+            replace(attempts, same)
+
+    # ---- folders
+
+    def find_folder(self, device: Device) -> None:
+        """Finds the folder of a device of the trace, by its name, its parent's name, and where these are not enough its driver."""
+        name = self.parents[device]
+        rows = [row for row in self.rows.get(device.name, ()) if row.path not in self.by_path]
+        fitting = [row for row in rows if parent_name(row, self.machine) == name]
+        fitting = [row for row in fitting if self.is_below(row, name)] or fitting or rows[:2]
+        row = next((row for row in fitting if is_of(row, device.driver)), None)
+        if row is None and fitting:
+            row = next((row for row in fitting if not is_classed(row)), fitting[0])
+        if row is not None:
+            self.by_path[row.path] = device
+            take_row(device, row)
+
+    def is_below(self, row: sys_tree.Device, name: str | None) -> bool:
+        """Whether the folder above is that of a device of the trace, where the trace has one of that name with a folder."""
+        return row.parent in self.by_path or not any(device.path for device in self.by_name.get(name, ()))
+
+    def add_row(self, row: sys_tree.Device) -> None:
+        """Adds the device of a folder that the trace does not name."""
+        if row.path in self.by_path:
+            return
+        device = self.by_path[row.path] = Device(row.name, row.driver or row.subsystem)
+        device.parent = self.by_path.get(row.parent)
+        take_row(device, row)
+        self.by_name[device.name].append(device)
+
+    # ---- parents
+
+    def find_parent(self, device: Device) -> None:
+        """Gives a device of the trace its parent: the one of the folder above if it has the name, else the likeliest of that name."""
+        name = self.parents[device]
+        if name is None:
+            return
+        above = self.by_path.get(self.machine.devices[device.path].parent) if device.path is not None else None
+        if above is not None and above.name == name:
+            device.parent = above
+            return
+        found = [other for other in self.by_name.get(name, ()) if other is not device]
+        found = [other for other in found if other.line is not None] or found
+        found = [other for other in found if self.parents.get(other) != name] or found
+        if not found:
+            self.note(device, f"the parent {name} of {device.name} stands in no input: taken as having none")
+            return
+        before = [other for other in found if other.line is not None and other.line < device.line]
+        device.parent = (before or found)[-1]
+        if len(found) > 1:
+            self.note(device, f"{len(found)} devices are named {name}; the parent of {device.name} is taken to be {device.parent.shown}")
+
+    def note(self, device: Device, text: str) -> None:
+        """Notes something of a device at its first line."""
+        self.notes.append(Note(text, self.lines.file, device.line))
+
+    # ---- order, and who was asynchronous
+
+    def in_order(self, traced: list[Device]) -> list[Device]:
+        """The devices of the trace in their order, then those of folders alone; parents that no prepare shows come before."""
+        order: dict[Device, None] = {}
+        for device in [*traced, *self.by_path.values()]:
+            above = []
+            while device is not None and device not in order and device not in above:
+                above.append(device)
+                device = device.parent
+            order |= dict.fromkeys(reversed(above))
+        return list(order)
+
+    def settle_async(self) -> None:
+        """Says of each device whether it was asynchronous: by the tasks of its callbacks, and by the list where it had none."""
+        elsewhere, here = set(), set()
+        for attempt in self.lines.attempts if self.lines else []:
+            pid = attempt.events[0].pid
+            for begin in attempt.callbacks():
+                if begin.phase not in SILENT:
+                    (here if begin.pid == pid else elsewhere).add(begin.device)
+        for device in self.devices:
+            device.has_callbacks = device in here or device in elsewhere
+            is_listed = bool(device.listed_async) and (bool(elsewhere) or self.lines is None)
+            device.is_async = device in elsewhere or is_listed and device not in here
+            if is_listed and not device.is_async:
+                self.note(device, f"{device.shown} is listed as asynchronous, and its callbacks ran in the task of the attempt: taken as synchronous")
+
+
+def replace(attempts: list[Attempt], same: dict[Device, Device]) -> None:
+    """Puts the one device in the place of its twins in all callbacks."""
+    for attempt in attempts:
+        for begin in attempt.callbacks():
+            if begin.device in same:
+                begin.device = same[begin.device]
+                if begin.end is not None:
+                    begin.end.device = begin.device
+
+
+def parent_name(row: sys_tree.Device, machine: sys_tree.Machine) -> str | None:
+    """The name of the device above a folder; None where there is none."""
+    return machine.devices[row.parent].name if row.parent is not None else None
+
+
+def is_of(row: sys_tree.Device, driver: str) -> bool:
+    """Whether a folder's driver, bus or class is what the trace has before the name. The folder of a class may tell, too."""
+    return driver in (row.driver, row.subsystem) if row.driver or row.subsystem else driver == class_of(row)
+
+
+def class_of(row: sys_tree.Device) -> str:
+    """The folder that holds a device's folder: where it is no device itself, it is the device's class."""
+    return posixpath.basename(posixpath.dirname(row.path))
+
+
+def is_classed(row: sys_tree.Device) -> bool:
+    """Whether a folder stands in the folder of a class, below its parent's."""
+    return row.parent is not None and posixpath.dirname(row.path) != row.parent
+
+
+def take_row(device: Device, row: sys_tree.Device) -> None:
+    """Takes what /sys or the list says of a device."""
+    device.path, device.listed_line = row.path, row.line
+    device.listed_async, device.may_wake, device.runtime_status = row.is_async, row.may_wake, row.runtime_status
