@@ -4,11 +4,13 @@ What stands before the first whole attempt or behind the last one, because the t
 left out and noted. What is no whole trace is refused by the first line that shows it.
 """
 
+import contextlib
+import gc
 import re
 from collections.abc import Callable
 
 from ..errors import CannotError
-from .lines import ASIDE, LONGEST, LOST, Head, nanoseconds, split_line
+from .lines import ASIDE, LATENCY, LOST, PLAIN, Head, nanoseconds
 from .recording import (Attempt, CallbackBegin, CallbackEnd, Clock, Device, Event, Note, SourceActivate, SourceDeactivate,
                         SuspendResume)
 
@@ -37,7 +39,7 @@ class Lines:
         self.texts: dict[str, tuple] = {}  # What the text of a line says, for the many that come again.
         self.strays: list[int] = []  # Lines of steps and callbacks outside of an attempt.
         self.unknown: tuple[int, str] | None = None
-        self.last_time = 0
+        self.last_time, self.goes_back = 0, False
         self.open_attempt: list[Event] | None = None
         self.reset()
         self.takers: dict[str, Callable] = {
@@ -53,16 +55,21 @@ class Lines:
 
     # ---- lines
 
-    def take(self, line: int, text: str) -> None:
-        """Takes a line of the file. Raises CannotError where it is no line of a trace and stands in an attempt."""
-        parts = split_line(text) if len(text) <= LONGEST else None
-        if parts is None:
-            self.take_other(line, text)
-            return
-        taker = self.takers.get(parts[5])
-        if taker is not None:
-            task, pid, cpu, flags, stamp, event, said = parts
-            taker((line, task, int(pid), int(cpu), flags or "", self.time_of(line, stamp), stamp), said, event)
+    def take_lines(self, lines: list[str]) -> None:
+        """Takes the lines of the file. Raises CannotError where one is no line of a trace and stands in an attempt."""
+        layout, other, takers = PLAIN, LATENCY, self.takers
+        for line, text in enumerate(lines, 1):
+            found = layout.fullmatch(text)
+            if found is None:
+                found = other.fullmatch(text)
+                if found is None:
+                    self.take_other(line, text)
+                    continue
+                layout, other = other, layout
+            task, pid, cpu, flags, stamp, event, said = found.groups()
+            taker = takers.get(event)
+            if taker is not None:
+                taker((line, task, int(pid), int(cpu), flags or "", self.time_of(line, stamp), stamp), said, event)
 
     def take_other(self, line: int, text: str) -> None:
         """Takes a line that is no event."""
@@ -70,7 +77,7 @@ class Lines:
             if self.open_attempt is not None:
                 raise self.fault(line, f"the trace has lost events of the attempt that begins in line {self.open_attempt[0].line}: {text.strip()!r}")
             self.notes.append(Note(f"the trace has lost events here, outside of a whole attempt: {text.strip()}", self.file, line))
-        elif len(text) <= LONGEST and ASIDE.fullmatch(text):
+        elif ASIDE.fullmatch(text):
             self.head.take(line, text)
         elif self.open_attempt is not None:
             raise self.fault(line, f"no line of a trace: {text[:80]!r}")
@@ -84,16 +91,23 @@ class Lines:
     def time_of(self, line: int, stamp: str) -> int | None:
         """The time of an event; all events of a trace have to have one kind of it."""
         time = nanoseconds(stamp)
-        clock = Clock.COUNTER if time is None else Clock.SECONDS
-        if self.clock is None:
-            self.clock = clock
-        elif clock != self.clock:
-            raise self.fault(line, f"the time {stamp} is of another kind than those above")
-        if time is not None:
-            if time < self.last_time and not any(note.text.startswith("the time goes back") for note in self.notes):
-                self.notes.append(Note("the time goes back here", self.file, line))
-            self.last_time = time
+        if time is None:
+            if self.clock is not Clock.COUNTER:
+                self.settle_clock(line, stamp, Clock.COUNTER)
+            return None
+        if self.clock is not Clock.SECONDS:
+            self.settle_clock(line, stamp, Clock.SECONDS)
+        if time < self.last_time and not self.goes_back:
+            self.goes_back = True
+            self.notes.append(Note("the time goes back here", self.file, line))
+        self.last_time = time
         return time
+
+    def settle_clock(self, line: int, stamp: str, clock: Clock) -> None:
+        """Takes the clock of the first event; raises CannotError for a later one of another kind."""
+        if self.clock is not None:
+            raise self.fault(line, f"the time {stamp} is of another kind than those above")
+        self.clock = clock
 
     # ---- steps of attempts
 
@@ -288,21 +302,32 @@ def text_of(file: str, data: bytes) -> str:
 def read_trace(file: str, data: bytes) -> Lines:
     """The events and whole attempts of a trace. Devices are not yet told apart from their drivers. Raises CannotError."""
     text = text_of(file, data)
-    lines = text.split("\n")
-    rest = lines.pop()
+    lines = text.replace("\r\n", "\n").split("\n")
+    rest = "" if lines[-1] == "" else lines[-1]
+    if lines[-1] == "" or not ends_attempt(rest):
+        lines.pop()
     reader = Lines(file, ENTERS.search(text) is not None)
-    reader.lines = [*lines, rest] if rest else lines
-    for line, one in enumerate(lines, 1):
-        reader.take(line, one)
-    if rest:
-        take_rest(reader, len(lines) + 1, rest)
+    reader.lines = lines
+    with no_collection():
+        reader.take_lines(lines)
+    if rest and not ends_attempt(rest) and not ASIDE.fullmatch(rest):
+        reader.notes.append(Note("the last line has no newline, so it may be cut off: left out", file, len(lines) + 1))
     reader.finish(len(lines) + bool(rest))
     return reader
 
 
-def take_rest(reader: Lines, line: int, text: str) -> None:
-    """Takes a last line without a newline: it may be cut off, so it counts only if it ends an attempt."""
-    if re.search(r"(thaw_processes|freeze_processes|sync_filesystems|suspend_enter)\[\d+\] (begin|end)$", text):
-        reader.take(line, text)
-    elif not ASIDE.fullmatch(text):
-        reader.notes.append(Note("the last line has no newline, so it may be cut off: left out", reader.file, line))
+def ends_attempt(text: str) -> bool:
+    """Whether a last line without a newline is whole: it ends in the last word of a step that may end an attempt."""
+    return re.search(r"(thaw_processes|freeze_processes|sync_filesystems|suspend_enter)\[\d+\] (begin|end)$", text) is not None
+
+
+@contextlib.contextmanager
+def no_collection():
+    """Turns Python's collector off: it would look again and again at events, none of which can go."""
+    was_on = gc.isenabled()
+    gc.disable()
+    try:
+        yield
+    finally:
+        if was_on:
+            gc.enable()

@@ -64,14 +64,14 @@ class Joiner:
         prepared = max((attempt.callbacks(Phase.PREPARE) for attempt in attempts), key=len, default=[])
         order = dict.fromkeys(begin.device for begin in prepared)
         for attempt in attempts:
-            order |= dict.fromkeys(begin.device for begin in attempt.callbacks())
+            order |= dict.fromkeys(begin.device for begin in attempt.begins)
         return list(order)
 
     def merge_twins(self, attempts: list[Attempt]) -> None:
         """Makes one of devices that differ in their driver alone and never stand in one attempt: the driver came or went."""
         seen: dict[Device, set[int]] = defaultdict(set)
         for attempt in attempts:
-            for begin in attempt.callbacks():
+            for begin in attempt.begins:
                 seen[begin.device].add(attempt.number)
         kept: dict[tuple, list[Device]] = defaultdict(list)
         same: dict[Device, Device] = {}
@@ -158,7 +158,7 @@ class Joiner:
         elsewhere, here = set(), set()
         for attempt in self.lines.attempts if self.lines else []:
             pid = attempt.events[0].pid
-            for begin in attempt.callbacks():
+            for begin in attempt.begins:
                 if begin.phase not in SILENT:
                     (here if begin.pid == pid else elsewhere).add(begin.device)
         for device in self.devices:
@@ -172,7 +172,7 @@ class Joiner:
 def replace(attempts: list[Attempt], same: dict[Device, Device]) -> None:
     """Puts the one device in the place of its twins in all callbacks."""
     for attempt in attempts:
-        for begin in attempt.callbacks():
+        for begin in attempt.begins:
             if begin.device in same:
                 begin.device = same[begin.device]
                 if begin.end is not None:

@@ -15,7 +15,6 @@ LATENCY = re.compile(
 # Lines that are no events: comments, stack traces, what trace-cmd writes above and between, and empty ones.
 ASIDE = re.compile(r"\s*(#.*|=> .*|cpus=\d+|version *= *\S*|CPU \d+ is empty|trace-cmd: .*|CPU:\d+ \[SUBBUFFER START\].*)?\s*")
 LOST = re.compile(r"\s*CPU:\d+ \[(LOST \d+ EVENTS?|(\d+ )?EVENTS DROPPED)\]\s*")
-LONGEST = 4096  # No line of a trace is longer: ftrace's own buffer of a line has a page.
 
 PROCESSORS = re.compile(r"#P:(\d+)")
 TRACER = re.compile(r"# tracer: (\S+)")
@@ -67,20 +66,10 @@ def sysinfo_machine(text: str) -> str | None:
     return " ".join(members[name] for name in ("man", "plat") if members.get(name)) or None
 
 
-def split_line(text: str):
-    """The parts of an event's line: task, pid, cpu, flags or None, stamp, event, text after the event. None: no such line."""
-    if found := PLAIN.fullmatch(text):
-        return found.groups()
-    if found := LATENCY.fullmatch(text):
-        task, pid, cpu, flags, stamp, event, said = found.groups()
-        return task, pid, cpu, flags, stamp, event, said
-    return None
-
-
 def nanoseconds(stamp: str) -> int | None:
     """The time of a stamp in nanoseconds: seconds with a point, or microseconds with `us`; None for a counter."""
     whole, point, part = stamp.partition(".")
     if point:
-        return int(whole) * 1_000_000_000 + int(part[:9].ljust(9, "0"))
+        return int(whole + part) * 1000 if len(part) == 6 else int(whole + part[:9].ljust(9, "0"))
     whole, unit, _ = stamp.partition("us")
     return int(whole) * 1_000 if unit else None

@@ -262,6 +262,10 @@ class Attempt:
     first: int  # The place of its first event in the events of the recording.
     state: int | None
     told: Told | None = None
+    begins: list[CallbackBegin] = field(init=False)  # Its callbacks, in the order in which they began.
+
+    def __post_init__(self):
+        self.begins = [event for event in self.events if type(event) is CallbackBegin]
 
     @property
     def line(self) -> int:
@@ -275,12 +279,12 @@ class Attempt:
 
     def steps(self, action: str, is_begin: bool | None = None) -> list[SuspendResume]:
         """The steps of that action (both begins and ends where `is_begin` is None)."""
-        return [event for event in self.events if isinstance(event, SuspendResume) and event.action == action
+        return [event for event in self.events if type(event) is SuspendResume and event.action == action
                 and is_begin in (None, event.is_begin)]
 
     def callbacks(self, phase: Phase | None = None) -> list[CallbackBegin]:
         """The callbacks of a phase (of all where it is None), in the order in which they began."""
-        return [event for event in self.events if isinstance(event, CallbackBegin) and phase in (None, event.phase)]
+        return [event for event in self.begins if phase in (None, event.phase)]
 
 
 @dataclass(slots=True, eq=False)
