@@ -15,7 +15,7 @@ from command_tests import EXAMPLES, WORKED as FOLDER, julampok
 from julampok.second.maker import Maker
 from julampok.second.merged import Interleaved
 from julampok.second.run import Run
-from julampok.drawing import machine, page, reading, story
+from julampok.drawing import drawing, machine, of_log, packing, page, reading, story
 
 WORKED = sorted(FOLDER.glob("*.log"))
 LATER = sorted((EXAMPLES / "later").glob("*.json"))
@@ -130,51 +130,51 @@ NO_LINKS = [
 
 
 class Elements(html.parser.HTMLParser):
-    """The elements of a page that stand for entries, live and kept apart in folded parts."""
+    """The elements of pictures that stand for entries."""
 
     def __init__(self, text):
         super().__init__()
-        self.live, self.kept, self.lines = collections.Counter(), [], {}
-        self.numbers, self.is_title, self.is_kept = None, False, False
-        self.parts = collections.Counter()
+        self.live, self.lines, self.numbers, self.is_title = collections.Counter(), {}, None, False
         self.feed(text)
         self.close()
-        self.folded = [Elements(kept) for kept in self.kept]
 
     def handle_starttag(self, tag, attributes):
         given = dict(attributes)
-        self.parts[tag] += 1
         if "data-n" in given:
             self.numbers = [int(number) for number in given["data-n"].split()]
             self.live.update(self.numbers)
         self.is_title = tag == "title"
-        self.is_kept = tag == "script" and given.get("type") == "text/plain"
 
     def handle_endtag(self, tag):
-        self.is_title = self.is_kept = False
+        self.is_title = False
         self.numbers = None if tag == "rect" else self.numbers
 
     def handle_data(self, text):
-        if self.is_kept:
-            self.kept.append(text)
-        elif self.is_title and self.numbers is not None:
+        if self.is_title and self.numbers is not None:
             self.lines.update(zip(self.numbers, text.split("\n"), strict=True))
 
-    def all(self):
-        return sum((part.live for part in self.folded), self.live)
 
-    def told(self):
-        found = dict(self.lines)
-        for part in self.folded:
-            found |= part.lines
-        return found
+def told_by(text, tree=None):
+    """What a log tells, with its machine if given."""
+    log = reading.read_log(text.encode())
+    devices = machine.devices_seen(log) if tree is None else machine.read_machine(json.dumps(tree), log)
+    return story.Story(log, devices)
 
 
 def draw(text, tree=None):
-    """The page of a log, with its machine if given."""
-    log = reading.read_log(text.encode())
-    devices = machine.devices_seen(log) if tree is None else machine.read_machine(json.dumps(tree), log)
-    return page.page(story.Story(log, devices))
+    """The pictures of a log, one of each section."""
+    told = told_by(text, tree)
+    return "".join(drawing.Picture(told, *parts).alone("") for parts in told.sections_with_parts())
+
+
+def form(text, tree=None):
+    """The form of the page of a log."""
+    return of_log.page_of(told_by(text, tree), "some.log")
+
+
+def data_of(drawn):
+    """The data that a page holds for its script."""
+    return json.loads(re.search('<script type="application/json" id="data">(.*?)</script>', drawn, re.S)[1])
 
 
 def with_late_event(posts, script):
@@ -206,14 +206,22 @@ class Pages(unittest.TestCase):
     def check(self, name, text, drawn):
         entries = [line for line in text.split("\n") if line[:1].isdigit()]
         elements = Elements(drawn)
-        self.assertEqual(elements.all(), collections.Counter(range(1, len(entries) + 1)), name)
-        self.assertEqual(elements.told(), dict(enumerate(entries, 1)), name)
+        self.assertEqual(elements.live, collections.Counter(range(1, len(entries) + 1)), name)
+        self.assertEqual(elements.lines, dict(enumerate(entries, 1)), name)
+
+    def check_page(self, name, text, made):
+        """Each entry is one end of one mark, and the page holds the log whole."""
+        marks = [mark for attempt in made.attempts for mark in attempt.marks if not mark.is_span]
+        ends = collections.Counter(line for mark in marks for line in {mark.first, mark.last})
+        self.assertEqual(ends, collections.Counter(range(1, 1 + sum(line[:1].isdigit() for line in text.split("\n")))), name)
+        self.assertEqual("\n".join(packing.unpacked(data_of(page.page_html(made))["log"])) + "\n", text, name)
 
     def test_every_entry_stands_once_and_every_kind_does(self):
         kinds = set()
         for name, tree, text in machines_with_logs():
             self.check(name, text, draw(text, tree))
             self.check(name, text, draw(text))
+            self.check_page(name, text, form(text, tree))
             kinds |= {entry.kind for entry in reading.read_log(text.encode()).entries}
         self.assertEqual(kinds, {kind for forms in reading.SAYS.values() for kind in forms})
 
@@ -239,6 +247,8 @@ class Pages(unittest.TestCase):
         for given, waited in ((tree, WAITED + WALK_WAITED), (None, WALK_WAITED)):
             lines = re.findall(r'"join waits".*?waited for \w+: line (\d+) to line (\d+)<', draw(text, given))
             self.assertEqual(sorted((int(end), int(begin)) for end, begin in lines), sorted(waited))
+            ties = [(tie.first, tie.last) for attempt in form(text, given).attempts for tie in attempt.ties if tie.kind == "waits"]
+            self.assertEqual(sorted(ties), sorted(waited))
 
     def test_links_are_joined(self):
         for tree in (LINKED, None):
@@ -261,26 +271,30 @@ class Pages(unittest.TestCase):
         self.assertEqual(lanes_and_waits(later), (["codec", "clock", "fan"], []))
 
     def test_tables(self):
-        path = FOLDER / "event_stops_a_device.log"
-        drawn = draw(path.read_text())
-        cells = [re.findall("<td>(.*?)</td>", row) for row in re.findall("<tr>(<td>.*?)</tr>", drawn)]
+        drawn = page.page_html(form((FOLDER / "event_stops_a_device.log").read_text()))
+        cells = [re.findall("<td>(.*?)</td>", re.sub("</?a.*?>", "", row)) for row in re.findall("<tr>(<td>.*?)</tr>", drawn)]
         failed = ["dpm_suspend", "skip suspend disk pending (line 29)", "event lid from irq:k (line 26)"]
-        self.assertEqual(cells[0][2:8], ["task:w", "guarded by count 0", "EBUSY", *failed])
-        self.assertEqual(cells[1][3:9], ["plain", "entered, 0", "", "", "", "0 to 1000 ms, woken by the alarm"])
+        self.assertEqual(cells[0][2:8], ["task:w", "guarded by count 0", "stopped: EBUSY", *failed])
+        self.assertEqual(cells[1][3:9], ["plain", "slept", "", "", "", "0 to 1000 ms, woken by the alarm"])
         self.assertEqual(cells[2], ["lid", "1", "1", "0", "0", "0", "0", "0"])
 
-    def test_folded_parts_hold_no_elements(self):
-        text = (FOLDER / "event_stops_a_device.log").read_text()
-        elements = Elements(draw(text))
-        self.assertEqual((len(elements.live), len(elements.folded)), (0, 2))
-        alone = Elements(draw((FOLDER / "laptop.log").read_text()))
-        self.assertEqual((len(alone.live), len(alone.folded)), (1143, 0))
-
+    def test_what_stopped_it_stands_on_top(self):
+        """In the log line 26 is the event of lid from irq:k, and line 29 the test before disk that finds it."""
+        path = FOLDER / "event_stops_a_device.log"
+        made = form(path.read_text(), json.loads(path.with_suffix(".json").read_text()))
+        attempts = data_of(page.page_html(made))["attempts"]
+        texts, rows = data_of(page.page_html(made))["texts"], [row.name for row in made.rows]
+        title, top, is_folded, _ = attempts[0]["groups"][0]
+        self.assertEqual((texts[title], [rows[number] for number in top], is_folded), ("What stopped it, with its parents", ["disk", "irq:k", "lid"], 0))
+        drawn = page.page_html(made)
+        self.assertRegex(drawn, '<details class="attempt bad" id="attempt-1" open>')
+        self.assertRegex(drawn, '<details class="attempt good" id="attempt-2">')
+        self.assertIn('<a href="#L26">line 26</a>', drawn)
 
 class Refusals(unittest.TestCase):
     def refused(self, text, tree=None):
         with self.assertRaises(reading.Refused) as caught:
-            draw(text, tree)
+            told_by(text, tree)
         return int(re.match(r"line (\d+): ", str(caught.exception))[1])
 
     def test_a_log_that_is_cut_off(self):
@@ -316,13 +330,13 @@ class Refusals(unittest.TestCase):
         self.assertEqual(self.refused(LINKED_LOG.replace("link fan codec", "link fan rotor"), LINKED), 7)
         self.assertEqual(self.refused(LINKED_LOG.replace("state fan codec", "state rotor codec"), LINKED), 5)
         with self.assertRaises(machine.NoMachine):
-            draw(text, [])
+            told_by(text, [])
 
     def test_a_script_whose_end_is_cut_off(self):
         waits = [{"name": name, "kind": "user", "script": [{"op": "wait", "mark": "a"}]} for name in "wv"]
         tree = {"version": 1, "actors": waits}
         text = Run(tree).run()[0]
-        draw(text, tree)
+        told_by(text, tree)
         self.assertEqual(self.refused(text[:text.rindex("stuck")], tree), text.count("\n"))
 
     def run_it(self, *words, given=b""):
@@ -353,4 +367,4 @@ class Refusals(unittest.TestCase):
         self.assertEqual(self.run_it(FOLDER / "none.log")[0], 2)
         status, drawn, told = self.run_it()
         self.assertEqual((status, told), (0, ""))
-        self.assertEqual(Elements(drawn).parts["svg"], 0)
+        self.assertIn("The log is empty.", drawn)

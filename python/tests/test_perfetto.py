@@ -11,6 +11,7 @@ from julampok.second.maker import Maker
 from julampok.second.merged import Interleaved
 from julampok.second.run import Run
 from julampok.drawing import machine, reading, story
+from julampok.drawing.of_log import page_of
 from julampok.drawing.perfetto import perfetto
 
 WORKED = sorted(FOLDER.glob("*.log"))
@@ -21,7 +22,7 @@ FIELDS = {"M": {"name", "args"}, "X": {"name", "ts", "dur"}, "s": {"id", "ts", "
 
 def events_of(log, file):
     read = reading.read_log(log)
-    return json.loads(perfetto(story.Story(read, machine.read_machine(file, read))))["traceEvents"]
+    return json.loads(perfetto(page_of(story.Story(read, machine.read_machine(file, read)), "-")))["traceEvents"]
 
 
 def tracks_of(events):
@@ -87,7 +88,7 @@ class Rules(unittest.TestCase):
                 self.check(events_of(Interleaved(file, number).run()[0].encode(), json.dumps(file).encode()))
 
     def test_an_empty_log(self):
-        self.assertEqual(json.loads(perfetto(None))["traceEvents"], [])
+        self.assertEqual(json.loads(perfetto(page_of(None, "-")))["traceEvents"], [])
 
 
 class Content(unittest.TestCase):
@@ -97,23 +98,24 @@ class Content(unittest.TestCase):
         slices = {track: [name for *_, name in found[track]] for track in found}
         order = ["prepare {} 0", "suspend", "late", "noirq", "resume_noirq", "early", "resume", "complete {}"]
         for device in ("p", "c"):
-            self.assertEqual(slices["devices", device], [words.format(device) for words in order])
-        self.assertEqual(slices["attempts", "attempts"][:2], ["attempt 1: 0", "enter_state"])
-        ends = {device: [ts + dur for ts, dur, name in found["devices", device] if name == "suspend"] for device in ("p", "c")}
-        begins = [ts for ts, _, name in found["devices", "p"] if name == "suspend"]
+            self.assertEqual(slices["p", device], [words.format(device) for words in order])
+        self.assertEqual(slices["attempts", "stages"][:2], ["attempt 1: slept", "enter_state"])
+        ends = {device: [ts + dur for ts, dur, name in found["p", device] if name == "suspend"] for device in ("p", "c")}
+        begins = [ts for ts, _, name in found["p", "p"] if name == "suspend"]
         self.assertLessEqual(ends["c"][0], begins[0])
 
     def test_times(self):
         """The machine sleeps 1000 ms."""
-        asleep = [(ts, dur) for ts, dur, name in of_worked("parent_and_child")["attempts", "attempts"] if name == "asleep"]
+        asleep = [(ts, dur) for ts, dur, name in of_worked("parent_and_child")["attempts", "the attempt"] if name == "asleep"]
         self.assertTrue(all(ts + dur >= 1_000_000 and ts < 1000 for ts, dur in asleep) and asleep)
 
     def test_an_event_found(self):
+        """Device pci is the parent of nic, so its track stands in a group of its own name."""
         path = FOLDER / "callback_reports"
         events = events_of(path.with_suffix(".log").read_bytes(), path.with_suffix(".json").read_bytes())
         tracks = tracks_of(events)
         flows = {event["ph"]: tracks[event["pid"], event["tid"]] for event in events if event["name"] == "is found"}
-        self.assertEqual(flows, {"s": ("wakeup sources", "lan"), "f": ("devices", "pci")})
+        self.assertEqual(flows, {"s": ("wakeup sources", "lan"), "f": ("pci", "pci")})
 
     def test_long_logs(self):
         file = {"version": 1, "devices": [{"name": f"d{number}"} for number in range(300)]}

@@ -5,7 +5,11 @@ N alone. --perfetto writes Trace Event JSON, which https://ui.perfetto.dev and c
 source, and each entry a microsecond.
 """
 
-from ..drawing.page import page, picture_of
+import os
+
+from ..drawing.drawing import picture_of
+from ..drawing.of_log import page_of
+from ..drawing.page import page_html
 from ..drawing.perfetto import perfetto
 from ..errors import YES, CannotError
 from ..files import refuse_inputs, write_new
@@ -26,8 +30,11 @@ def add_arguments(parser):
 def run(given):
     if given.output != "-":
         refuse_inputs(given.output, [given.log, given.machine])
-    draw = perfetto if given.perfetto else page if given.svg is None else picture_of(given.svg)
-    drawn = draw(read_story(given.log, given.machine))
+    story = read_story(given.log, given.machine)
+    if given.svg is not None:
+        drawn = picture_of(given.svg)(story)
+    else:
+        drawn = (perfetto if given.perfetto else page_html)(page_of(story, os.path.basename(given.log)))
     if drawn is None:
         raise CannotError(f"no attempt {given.svg}", given.log)
     write_new(given.output, drawn, [given.log, given.machine])

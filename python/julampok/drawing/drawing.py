@@ -1,12 +1,13 @@
 """Draws a section of a log as SVG. Across goes the order of entries, in percent, so that a picture can be stretched."""
 
-import bisect
 import html
+import pathlib
 
 from . import reading
-from .joins import DOWN, LINKS, lane_of
-from .story import error_of, phase_of, stage_of
+from .joins import LINKS, lane_of
+from .story import error_of, phase_of, stages_of
 
+HERE = pathlib.Path(__file__).resolve().parent
 WIDTH = 1600  # For so many pixels the widths of columns are chosen.
 STRETCH = 1.6  # A narrow picture is stretched so far at most.
 STAGE, STEP, CALLBACK = 17, 13, 14  # Widths of an attempt's entry, of another's, and at most of a callback's.
@@ -157,7 +158,7 @@ class Picture:
         self.story, self.section, self.spans, self.joins = story, section, spans, joins
         self.entries = story.entries[section.first:section.end]
         self.columns = Columns(self.entries, section.first)
-        self.stages = self.find_stages()
+        self.stages = stages_of(story.entries, section.attempt) if section.attempt else []
         longest = max((len(self.label(stage)) for stage in self.stages), default=0)
         self.head = 14 + int(longest * LETTER * 0.72)
         self.verdicts, self.verdict_rows = self.find_verdicts()
@@ -172,20 +173,6 @@ class Picture:
         for join in self.joins:
             lanes |= {join.source: None, join.target: None}
         return [lane for lane in lanes if lane != ("time", "")]
-
-    def find_stages(self):
-        """The stages of the attempt: the kernel's name, first and last entry, and the error that ended it."""
-        stages, attempt = [], self.section.attempt
-        for place in range(attempt.first, attempt.last + 1) if attempt else []:
-            entry = self.story.entries[place]
-            name = stage_of(entry) if entry.kind in reading.ATTEMPT_STEPS else None
-            if name is not None:
-                if not stages or stages[-1][0] != name:
-                    stages.append([name, place, place, None])
-                stages[-1][2] = place
-                if error_of(entry) and (entry.kind != "end" or entry["phase"] in DOWN):
-                    stages[-1][3] = stages[-1][3] or error_of(entry)
-        return stages
 
     def find_verdicts(self):
         """What each test found, with its place and row, so that no words overlap; and how many rows there are."""
@@ -243,14 +230,6 @@ class Picture:
                 f'{style}<rect width="100%" height="100%" fill="#fff"/>\n<svg width="{NAMES}" height="{high}">{names}</svg>\n'
                 f'<svg x="{NAMES}" width="{wide - NAMES}" height="{high}">\n{lanes}\n</svg>\n</svg>\n')
 
-    def draw(self):
-        inside = self.drawn_lanes()
-        style = f"--base:{int(self.columns.total)}px;height:{self.lanes.bottom}px"
-        dense = " dense" * self.columns.is_dense + " fine" * self.columns.is_fine + " crowded" * self.columns.is_crowded
-        small = " small" * self.lanes.is_small
-        return (f'<svg class="names{small}" width="{NAMES}" height="{self.lanes.bottom}">{"".join(self.names())}</svg>'
-                f'<div class="scroll{dense}"><svg class="lanes" style="{style}">\n{inside}\n</svg></div>')
-
     def names(self):
         yield f'<text class="name rows" x="166" y="{self.head + TIME_ROW - 4}" text-anchor="end">time</text>'
         y = self.head + TIME_ROW - 4
@@ -274,7 +253,7 @@ class Picture:
     def draw_stages(self):
         top = self.head + TIME_ROW
         devices = [place for lane, place in self.lanes.places.items() if lane[0] == "device"]
-        ends = [stage[1] for stage in self.stages[1:]] + [stage[2] + 1 for stage in self.stages[-1:]]
+        ends = [stage.first for stage in self.stages[1:]] + [stage.last + 1 for stage in self.stages[-1:]]
         for stage, end in zip(self.stages, ends):
             name, first, last, error = stage
             x, width = self.columns.x(first), self.columns.x(last + 1) - self.columns.x(first)
@@ -417,17 +396,15 @@ class Picture:
         self.between.append(self.line("join calls", x, self.lanes.middle(lane_of(entry)), x, y, title))
 
 
-def pictures(story):
-    """Each section with what draws it, which takes its time."""
-    sections = story.sections()
-    starts = [section.first for section in sections]
-    spans, joins = [[] for _ in sections], [[] for _ in sections]
-    for span in story.spans.found:
-        last = len(story.entries) if span.last is None else span.last
-        at = bisect.bisect(starts, span.first) - 1
-        while at < len(sections) and sections[at].first <= last:
-            spans[at].append(span)
-            at += 1
-    for join in story.joins:
-        joins[bisect.bisect(starts, join.head) - 1].append(join)
-    return [Picture(story, *parts) for parts in zip(sections, spans, joins)]
+def picture_of(number):
+    """What draws the picture of that attempt of a log alone, as SVG; of a log without it, None."""
+
+    def drawn(story):
+        parts = [] if story is None else story.sections_with_parts()
+        of = next((part for part in parts if part[0].attempt and part[0].attempt.number == number), None)
+        if of is None:
+            return None
+        style = f"<style>\n{(HERE / 'picture.css').read_text()}</style>\n"
+        return Picture(story, *of).alone(style + (HERE / "patterns.svg").read_text())
+
+    return drawn

@@ -47,7 +47,8 @@ class Callers:
     def __init__(self):
         self.callbacks, self.calls, self.joins = {}, {}, []
         self.notes = {}  # The call of each step.
-        self.within = {}  # The device in whose callback a call is made.
+        self.within = {}  # In whose callback a call is made, in words, and the device.
+        self.callback_of = {}
 
     def see(self, place, entry):
         actor, kind = entry.actor, entry.kind
@@ -67,6 +68,7 @@ class Callers:
                 if device is not None:
                     lane = "device", device
                     self.within[place] = f"the callback of {device}"
+                    self.callback_of[place] = device
                 self.join(place, lane, ("source", entry["source"]), f"{lane[1]} reports")
         elif kind in STEPS:
             self.notes[place] = self.calls.get((actor, entry["source"]), place)

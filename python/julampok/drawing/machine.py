@@ -21,6 +21,7 @@ class Devices:
     def __init__(self, names):
         self.order, self.known = list(names), False
         self.depth = dict.fromkeys(self.order, 0)
+        self.parents = {}
         self.hung = {d: [] for d in self.order}  # Children, then consumers, those of dormant links among them.
         self.below = {d: [] for d in self.order}  # For these, and for those above, a device waits.
         self.above = {d: [] for d in self.order}
@@ -47,6 +48,7 @@ class Devices:
         self.below[parent].append(device)
         self.above[device].append(parent)
         self.depth[device] = self.depth[parent] + 1
+        self.parents[device] = parent
 
     def link(self, supplier, consumer, is_active=True):
         self.hung[supplier].append(consumer)

@@ -1,34 +1,416 @@
 "use strict";
-// Turns the picture that a folded section keeps as text into elements.
-function draw(section) {
-  const kept = section.querySelector('script[type="text/plain"]');
-  if (kept) {
-    section.querySelector(".chart").innerHTML = kept.textContent;
-    kept.remove();
+// Draws the charts of the attempts and the text of the log out of the data that the page holds. Nothing is loaded.
+const data = JSON.parse(document.getElementById("data").textContent);
+const GAP = 0.035, GAPS = 0.3, MOST_ZOOM = 15000, TICK = 95, MARGIN = 0.02, STEP = 0.25;
+const isTimed = data.unit === "ms", charts = new Map();
+const escaped = (text) => text.replace(/[&<>"]/g, (sign) => ({ "&": "&amp;", "<": "&lt;", ">": "&gt;", '"': "&quot;" })[sign]);
+const percent = (share) => `${(share * 100).toFixed(6)}%`;
+const grouped = (number, digits) => number.toLocaleString("en-US", { minimumFractionDigits: digits, maximumFractionDigits: digits });
+
+function lasting(size) {
+  if (!isTimed) return `${size} ${size === 1 ? "line" : "lines"}`;
+  const ms = size / 1000;
+  return `${grouped(ms, ms < 10 ? (ms < 1 ? 3 : 2) : ms < 100 ? 1 : 0)} ms`;
+}
+const moment = (time) => (isTimed ? `at ${grouped(time / 1000, 3)} ms` : `in line ${time}`);
+
+// An element with attributes, children and text; a text never becomes markup.
+function made(tag, attributes = {}, ...inside) {
+  const element = document.createElement(tag);
+  for (const [name, value] of Object.entries(attributes))
+    if (name === "onclick") element.addEventListener("click", value);
+    else element.setAttribute(name, value);
+  element.append(...inside);
+  return element;
+}
+
+// Where a time stands across, 0 to 1: stretches in which nothing happens are drawn narrow.
+class Axis {
+  constructor(attempt) {
+    const { begin, end, gaps } = attempt, narrow = Math.min(GAP, GAPS / Math.max(1, gaps.length));
+    const rest = Math.max(1, end - begin - gaps.reduce((sum, gap) => sum + gap[1] - gap[0], 0));
+    this.pieces = [];
+    let time = begin, share = 0;
+    const add = (to, wide, words) => {
+      if (to > time) this.pieces.push({ from: time, to, left: share, right: share + wide, words });
+      [time, share] = [to, share + (to > time ? wide : 0)];
+    };
+    for (const [from, to, words] of gaps) {
+      add(from, ((from - time) / rest) * (1 - narrow * gaps.length));
+      add(to, narrow, data.texts[words]);
+    }
+    add(Math.max(end, time + 1), ((Math.max(end, time + 1) - time) / rest) * (1 - narrow * gaps.length));
+  }
+  x(time) {
+    for (const piece of this.pieces)
+      if (time <= piece.to) {
+        const part = Math.max(0, (time - piece.from) / (piece.to - piece.from));
+        return piece.left + part * (piece.right - piece.left);
+      }
+    return 1;
   }
 }
-function zoom(button) {
-  const section = button.closest(".section"), scroll = section.querySelector(".scroll");
-  const middle = (scroll.scrollLeft + scroll.clientWidth / 2) / scroll.scrollWidth;
-  scroll.style.setProperty("--zoom", button.dataset.zoom);
-  scroll.classList.toggle("zoomed", button.dataset.zoom > 1);
-  scroll.scrollLeft = middle * scroll.scrollWidth - scroll.clientWidth / 2;
+
+// One of 1, 2 and 5 times a power of ten, at least so much.
+function niceStep(least) {
+  const power = 10 ** Math.floor(Math.log10(least));
+  return [1, 2, 5, 10].map((times) => times * power).find((step) => step >= least * 0.999);
 }
-function openNamed() {
-  const section = location.hash && document.getElementById(location.hash.slice(1));
-  if (section?.matches(".section")) {
-    draw(section);
-    section.open = true;
-    section.scrollIntoView();
+
+class Chart {
+  constructor(element, attempt) {
+    this.element = element;
+    this.attempt = attempt;
+    this.axis = new Axis(attempt);
+    this.zoom = 1;
+    this.from = 0;
+    this.rows = new Map();
+    this.collect();
+    element.innerHTML =
+      `<div class="head"><div class="row axis"><div class="name"></div><div class="lane"><div class="track ticks"></div></div></div>` +
+      `<div class="row"><div class="name"><small>stage</small></div><div class="lane"><div class="track stages">${this.stages()}</div></div></div></div>` +
+      `<div class="body"><div class="under"><div class="track">${this.tints()}</div></div><div class="over"><div class="track"></div></div>` +
+      attempt.groups.map((group, place) => this.group(group, place)).join("") + "</div>";
+    this.ticks = element.querySelector(".ticks");
+    this.lane = element.querySelector(".lane");
+    attempt.groups.forEach((group, place) => group[2] || this.fill(place));
+    this.show(0, 1);
+    this.tie();
+  }
+
+  // The marks of each row, and their totals.
+  collect() {
+    const { marks, path } = this.attempt;
+    this.of = new Map();
+    this.steps = new Map();
+    marks.row.forEach((row, place) => (this.of.get(row) || this.of.set(row, []).get(row)).push(place));
+    path.forEach((step, place) => step[0] >= 0 && this.steps.set(step[0], place + 1));
+  }
+  stages() {
+    return this.attempt.stages.map(([name, kind, begin, end, , , answer], place) => {
+      const left = this.axis.x(begin), words = `${data.texts[name]}${isTimed ? " " + lasting(end - begin) : ""}${answer ? ": " + data.texts[answer] : ""}`;
+      return `<button type="button" class="stage k-${data.texts[kind]}${answer ? " bad" : ""}" data-stage="${place}" tabindex="-1" ` +
+        `style="left:${percent(left)};width:${percent(this.axis.x(end) - left)}"><span>${escaped(words)}</span></button>`;
+    }).join("") + this.gapMarks(true);
+  }
+  tints() {
+    const bands = this.attempt.stages.filter((stage) => stage[1]).map(([, kind, begin, end]) =>
+      `<div class="tint k-${data.texts[kind]}" style="left:${percent(this.axis.x(begin))};width:${percent(this.axis.x(end) - this.axis.x(begin))}"></div>`);
+    return bands.join("") + this.gapMarks(false);
+  }
+  gapMarks(hasWords) {
+    return this.axis.pieces.filter((piece) => piece.words).map((piece) =>
+      `<div class="gap" style="left:${percent(piece.left)};width:${percent(piece.right - piece.left)}"${hasWords ? ` title="${escaped(piece.words)}"` : ""}>` +
+      `${hasWords ? escaped(piece.words) : ""}</div>`).join("");
+  }
+  group([title, , isFolded, tone], place) {
+    const words = escaped(data.texts[title]);
+    const head = isFolded ? `<button type="button" class="title" data-fold="${place}" aria-expanded="false">${words}</button>` : `<div class="title">${words}</div>`;
+    return `<div class="group ${data.texts[tone]}">${head}<div class="rows" data-group="${place}"${isFolded ? " hidden" : ""}></div></div>`;
+  }
+  // Draws the rows of a group, once.
+  fill(place) {
+    const inside = this.element.querySelector(`.rows[data-group="${place}"]`);
+    if (inside.childElementCount) return;
+    inside.innerHTML = this.attempt.groups[place][1].map((row) => this.row(row)).join("");
+    for (const element of inside.children) this.rows.set(Number(element.dataset.row), element);
+  }
+  row(number) {
+    const [, name, about, , depth] = data.rows[number], places = this.of.get(number) || [];
+    const total = isTimed ? places.reduce((sum, place) => sum + (this.attempt.marks.flags[place] & 1 ? this.attempt.marks.size[place] : 0), 0) : 0;
+    return `<div class="row" data-row="${number}"><button type="button" class="name" style="--deep:${Math.min(depth, 8)}"><span>${escaped(name)}</span>` +
+      `<small>${escaped(data.texts[about])}</small>${total ? `<b>${lasting(total)}</b>` : ""}</button>` +
+      `<div class="lane"><div class="track">${places.map((place) => this.mark(place)).join("")}</div></div></div>`;
+  }
+  mark(place) {
+    const { kind, begin, size, answer, flags } = this.attempt.marks, left = this.axis.x(begin[place]), step = this.steps.get(place);
+    const classes = `mark k-${data.texts[kind[place]]}${answer[place] ? " bad" : ""}${step ? " path" : ""}${flags[place] & 2 ? " open" : ""}${flags[place] & 4 ? " thin" : ""}`;
+    return `<i class="${classes}" data-mark="${place}"${step ? ` data-step="${step}"` : ""} style="left:${percent(left)};width:${percent(this.axis.x(begin[place] + size[place]) - left)}"></i>`;
+  }
+  about(place) {
+    const { row, kind, begin, size, first, last, words, answer, who, flags } = this.attempt.marks, texts = data.texts;
+    const lines = first[place] === last[place] ? `line ${first[place]}` : `lines ${first[place]} to ${last[place]}`;
+    const end = flags[place] & 2 ? "; no line tells its end" : "";
+    const what = texts[words[place]] || texts[kind[place]];
+    return `${data.rows[row[place]][1]}: ${what}${answer[place] ? " answered " + texts[answer[place]] : ""}\n` +
+      (isTimed ? `${moment(begin[place])}, ${lasting(size[place])}${end}\n` : "") + `${lines} of the ${data.linesOf}` + (who[place] ? `, run by ${texts[who[place]]}` : "");
+  }
+
+  // Shows the part from one share of the whole to another.
+  show(from, to) {
+    this.zoom = Math.min(MOST_ZOOM, Math.max(1, 1 / Math.max(1e-9, to - from)));
+    this.from = Math.max(0, Math.min(from, 1 - 1 / this.zoom));
+    this.element.style.setProperty("--zoom", this.zoom);
+    this.element.style.setProperty("--from", this.from);
+    this.drawTicks();
+  }
+  showTimes(begin, end) {
+    const from = this.axis.x(begin), to = this.axis.x(end), margin = (to - from) * MARGIN;
+    this.show(from - margin, to + margin);
+  }
+  scale(times, at = 0.5) {
+    const middle = this.from + at / this.zoom, wide = 1 / (this.zoom * times);
+    this.show(middle - at * wide, middle + (1 - at) * wide);
+  }
+  pan(part) {
+    const wide = 1 / this.zoom, from = Math.max(0, Math.min(1 - wide, this.from + part * wide));
+    this.show(from, from + wide);
+  }
+  drawTicks() {
+    const wide = this.lane.clientWidth * this.zoom, to = this.from + 1 / this.zoom, found = [];
+    for (const piece of this.axis.pieces) {
+      if (piece.words || piece.right < this.from || piece.left > to) continue;
+      const each = (piece.right - piece.left) / (piece.to - piece.from), step = Math.max(isTimed ? 0.1 : 1, niceStep(TICK / Math.max(1e-12, each * wide)));
+      const first = piece.from + Math.max(0, this.from - piece.left) / each, last = Math.min(piece.to, piece.from + (to - piece.left) / each);
+      for (let time = Math.ceil(first / step) * step; time <= last; time += step)
+        if ((piece.right - this.axis.x(time)) * wide > TICK / 2 || piece.to === last)
+          found.push(`<span class="tick" style="left:${percent(this.axis.x(time))}">${isTimed ? grouped(time / 1000, Math.max(0, 3 - Math.floor(Math.log10(step)))) + " ms" : `line ${time}`}</span>`);
+    }
+    this.ticks.innerHTML = found.join("");
+    for (const stage of this.element.querySelectorAll(".stage")) {
+      const left = (parseFloat(stage.style.left) / 100 - this.from) * wide, size = (parseFloat(stage.style.width) / 100) * wide;
+      stage.style.textIndent = left < 0 && left + size > 0 ? `${-left}px` : "";
+    }
+  }
+
+  // Lines between rows: those that tell why the attempt stopped, the longest path, and those of the chosen row.
+  tie(chosen = null) {
+    const heights = new Map(), lines = [], always = ["found", "woke", "stale", "left", "broken"];
+    const height = (row) => {
+      const element = this.rows.get(row);
+      if (!heights.has(row)) heights.set(row, element && element.offsetParent ? element.offsetTop + element.offsetHeight / 2 : null);
+      return heights.get(row);
+    };
+    const line = (kind, source, sourceAt, target, targetAt) => {
+      const above = height(source), below = height(target);
+      if (above !== null && below !== null)
+        lines.push(`<line class="tie ${kind}" x1="${percent(this.axis.x(sourceAt))}" y1="${above}" x2="${percent(this.axis.x(targetAt))}" y2="${below}" marker-end="url(#tip-${kind === "waits" ? "blue" : "red"})"/>`);
+    };
+    for (const [kind, source, sourceAt, target, targetAt] of this.attempt.ties)
+      if (always.includes(data.texts[kind]) || source === chosen || target === chosen) line(data.texts[kind], source, sourceAt, target, targetAt);
+    const { row, begin, size } = this.attempt.marks, path = this.attempt.path.map((step) => step[0]).filter((place) => place >= 0);
+    path.slice(1).forEach((place, before) => line("path", row[path[before]], begin[path[before]] + size[path[before]], row[place], begin[place]));
+    this.element.querySelector(".over .track").innerHTML = `<svg aria-hidden="true"><defs>` + ["blue:#0b4f9c", "red:#b8000e"].map((tip) => tip.split(":")).map(([name, colour]) =>
+      `<marker id="tip-${name}" viewBox="0 0 8 8" refX="7" refY="4" markerWidth="8" markerHeight="8" markerUnits="userSpaceOnUse" orient="auto"><path d="M0 0L8 4L0 8z" fill="${colour}"/></marker>`).join("") +
+      `</defs>${lines.join("")}</svg>`;
+  }
+  unfold(place, isOpen) {
+    if (isOpen) this.fill(place);
+    this.element.querySelector(`.rows[data-group="${place}"]`).hidden = !isOpen;
+    this.element.querySelector(`[data-fold="${place}"]`)?.setAttribute("aria-expanded", isOpen);
+    this.tie(chosen?.chart === this ? chosen.row : null);
+  }
+  // Makes a row visible, wherever it is folded.
+  reveal(number) {
+    const place = this.attempt.groups.findIndex((group) => group[1].includes(number));
+    if (place < 0) return null;
+    if (this.attempt.groups[place][2]) this.unfold(place, true);
+    const row = this.rows.get(number);
+    row.hidden = false;
+    return row;
   }
 }
-for (const section of document.querySelectorAll(".section"))
-  section.addEventListener("toggle", () => section.open && draw(section));
-document.addEventListener("click", (event) => event.target.dataset.zoom && zoom(event.target));
-document.addEventListener("mouseover", (event) => {
-  const title = event.target.closest("svg *")?.querySelector(":scope > title"), line = document.getElementById("line");
-  line.style.display = title ? "block" : "none";
-  line.textContent = title ? title.textContent : "";
+
+// ---- what is chosen
+
+let chosen = null;
+const panel = document.getElementById("panel"), tip = document.getElementById("tip");
+
+function chartOf(element) {
+  const found = element.closest(".attempt")?.querySelector(".chart");
+  return found ? drawn(found) : null;
+}
+function drawn(element) {
+  if (!charts.has(element)) charts.set(element, new Chart(element, data.attempts[element.dataset.attempt]));
+  return charts.get(element);
+}
+function choose(chart, number, isScrolled = false) {
+  forget();
+  const row = chart.reveal(number);
+  if (!row) return;
+  chosen = { chart, row: number };
+  row.classList.add("chosen");
+  if (isScrolled) {
+    row.scrollIntoView({ block: "center" });
+    row.querySelector(".name").focus({ preventScroll: true });
+  }
+  chart.tie(number);
+  const near = chart.attempt.ties.filter((tie) => data.texts[tie[0]] === "waits" && tie[3] === number);
+  for (const [, source, at] of near)
+    for (const place of chart.of.get(source) || [])
+      if (chart.attempt.marks.begin[place] <= at && at <= chart.attempt.marks.begin[place] + chart.attempt.marks.size[place])
+        chart.element.querySelector(`[data-mark="${place}"]`)?.classList.add("near");
+  tell(chart, number);
+}
+function forget() {
+  if (!chosen) return;
+  chosen.chart.rows.get(chosen.row)?.classList.remove("chosen");
+  for (const element of chosen.chart.element.querySelectorAll(".near")) element.classList.remove("near");
+  chosen.chart.tie();
+  chosen = null;
+  panel.hidden = true;
+}
+const lineLink = (line) => made("a", { href: `#L${line}` }, `line ${line}`);
+const goTo = (chart, row, words = data.rows[row][1]) => made("button", { type: "button", class: "go", onclick: () => choose(chart, row, true) }, words);
+
+// What is known of a row: where it hangs, its callbacks, whom it waited for and why, and who waited for it.
+function tell(chart, number) {
+  const [sort, name, about, parent, , notes] = data.rows[number], { marks, ties, path } = chart.attempt, texts = data.texts;
+  const close = made("button", { type: "button", class: "close", "aria-label": "close", onclick: forget }, "\u2715");
+  panel.replaceChildren(close, made("h2", {}, name), made("p", { class: "soft" }, [texts[sort], texts[about], ...notes.map((note) => texts[note])].filter(Boolean).join("; ")));
+  const above = [];
+  for (let at = parent; at >= 0 && above.length < 50; at = data.rows[at][3]) above.push(at);
+  if (above.length) panel.append(made("p", {}, "parents: ", ...above.flatMap((at, place) => (place ? [" < ", goTo(chart, at)] : [goTo(chart, at)]))));
+  const places = chart.of.get(number) || [], table = made("table");
+  table.append(made("tr", {}, ...(isTimed ? ["what", "began", "took", ""] : ["what", ""]).map((head) => made("th", {}, head))));
+  for (const place of places.slice(0, 300)) {
+    const step = chart.steps.get(place), what = (texts[marks.words[place]] || texts[marks.kind[place]]) + (marks.answer[place] ? `: ${texts[marks.answer[place]]}` : "");
+    const cells = [made("td", {}, what, step ? made("small", {}, ` longest path, ${step}`) : "")];
+    if (isTimed) cells.push(made("td", { class: "n" }, grouped(marks.begin[place] / 1000, 3)), made("td", { class: "n" }, lasting(marks.size[place])));
+    cells.push(made("td", {}, lineLink(marks.first[place]), marks.who[place] ? ` by ${texts[marks.who[place]]}` : ""));
+    table.append(made("tr", {}, ...cells));
+  }
+  panel.append(table);
+  if (places.length > 300) panel.append(made("p", {}, `and ${places.length - 300} more`));
+  const item = (tie) => made("li", {}, texts[tie[5]], " (", goTo(chart, tie[1] === number ? tie[3] : tie[1]), ", ", lineLink(tie[7]), ")");
+  const list = (title, found) => found.length && panel.append(made("h3", {}, title), made("ul", {}, ...found.slice(0, 200).map(item)));
+  const waits = ties.filter((tie) => texts[tie[0]] === "waits");
+  list("It waited", waits.filter((tie) => tie[3] === number));
+  list("These waited for it", waits.filter((tie) => tie[1] === number));
+  list("Also", ties.filter((tie) => texts[tie[0]] !== "waits" && (tie[1] === number || tie[3] === number)));
+  if (!waits.some((tie) => tie[3] === number || tie[1] === number)) panel.append(made("p", { class: "soft" }, data.texts[chart.attempt.noWaits]));
+  const steps = path.filter((step) => step[3] === number && step[2]);
+  if (steps.length) panel.append(made("h3", {}, "On the longest path"), made("ul", {}, ...steps.map((step) => made("li", {}, texts[step[2]]))));
+  panel.hidden = false;
+}
+
+// ---- the text of the log
+
+function drawText(details) {
+  const pre = details.querySelector("pre");
+  if (pre.childElementCount) return;
+  const pack = data[details.dataset.text], letter = details.dataset.letter, parts = [];
+  for (let first = 0; first < pack.lines.length; first += 200) {
+    const lines = pack.lines.slice(first, first + 200).map((line, place) => {
+      const text = line.replace(/[\u0100-\ud7ff]/g, (code) => pack.words[code.charCodeAt(0) - 256]), number = first + place + 1;
+      return `<a id="${letter}${number}" href="#${letter}${number}">${number}</a>${escaped(text)}`;
+    });
+    parts.push(`<div class="part">${lines.join("\n")}</div>`);
+  }
+  pre.innerHTML = parts.join("");
+}
+function goToHash() {
+  const name = decodeURIComponent(location.hash.slice(1)), text = /^([LG])\d+$/.exec(name);
+  if (text) {
+    const details = document.querySelector(`details.text[data-letter="${text[1]}"]`);
+    if (!details) return;
+    drawText(details);
+    details.open = true;
+    document.querySelector(".here")?.classList.remove("here");
+    const line = document.getElementById(name);
+    line?.classList.add("here");
+    line?.scrollIntoView({ block: "center" });
+  } else if (name) {
+    const element = document.getElementById(name);
+    if (element?.matches("details")) element.open = true;
+    element?.scrollIntoView();
+  }
+}
+
+// ---- search
+
+const search = document.getElementById("search"), count = document.getElementById("count");
+const matches = (number, words) => words.every((word) => `${data.rows[number][1]} ${data.texts[data.rows[number][2]]}`.toLowerCase().includes(word));
+
+function find() {
+  const words = search.value.toLowerCase().split(/\s+/).filter(Boolean);
+  let found = 0;
+  for (const chart of charts.values()) {
+    if (!chart.element.offsetParent) continue;
+    chart.attempt.groups.forEach(([, rows, isFolded], place) => {
+      const here = words.length ? rows.filter((row) => matches(row, words)) : [];
+      if (isFolded && words.length && here.length) chart.unfold(place, true);
+      else if (isFolded && !words.length) chart.unfold(place, false);
+      for (const row of rows) if (chart.rows.has(row)) chart.rows.get(row).hidden = words.length > 0 && !here.includes(row);
+      found += here.length;
+    });
+    chart.tie(chosen?.chart === chart ? chosen.row : null);
+  }
+  count.textContent = words.length ? `${found} found` : "";
+}
+const visibleNames = () => [...document.querySelectorAll(".attempt[open] .rows .name")].filter((name) => name.offsetParent);
+
+// ---- hands
+
+document.addEventListener("click", (event) => {
+  const target = event.target, chart = target.closest(".attempt") && chartOf(target);
+  const stage = target.closest("[data-stage]"), fold = target.closest("[data-fold]"), tool = target.closest("[data-tool]"), row = target.closest("[data-row]");
+  const link = target.closest('a[href^="#"]');
+  if (link && link.getAttribute("href") === location.hash) goToHash();
+  if (!chart && row) {
+    const first = document.querySelector(".attempt[open] .chart") || document.querySelector(".chart");
+    if (first) choose(drawn(first), Number(row.dataset.row), true);
+  } else if (!chart) return;
+  else if (stage) {
+    const [, , begin, end] = chart.attempt.stages[stage.dataset.stage];
+    chart.showTimes(begin, end);
+  } else if (fold) chart.unfold(Number(fold.dataset.fold), fold.getAttribute("aria-expanded") !== "true");
+  else if (tool) use(chart, tool.dataset.tool);
+  else if (row && target.closest(".name, .mark, .go")) choose(chart, Number(row.dataset.row), target.matches(".go"));
 });
-window.addEventListener("hashchange", openNamed);
-openNamed();
+function use(chart, tool) {
+  if (tool === "whole") chart.show(0, 1);
+  else if (tool === "in" || tool === "out") chart.scale(tool === "in" ? 2 : 0.5);
+  else chart.pan(tool === "left" ? -STEP : STEP);
+}
+const KEYS = { "+": "in", "=": "in", "-": "out", 0: "whole", ArrowLeft: "left", ArrowRight: "right" };
+document.addEventListener("keydown", (event) => {
+  if (event.ctrlKey || event.altKey || event.metaKey) return;
+  if (event.target === search) {
+    if (event.key === "Escape") { search.value = ""; find(); search.blur(); }
+    else if (event.key === "Enter" || event.key === "ArrowDown") { visibleNames()[0]?.focus(); event.preventDefault(); }
+    return;
+  }
+  const chart = chartOf(event.target) || chosen?.chart || [...charts.values()].find((other) => other.element.offsetParent);
+  if (event.key === "/") { search.focus(); event.preventDefault(); }
+  else if (event.key === "Escape") forget();
+  else if (chart && event.key in KEYS) { use(chart, KEYS[event.key]); event.preventDefault(); }
+  else if (event.target.matches(".name") && (event.key === "ArrowDown" || event.key === "ArrowUp")) {
+    const names = visibleNames();
+    names[names.indexOf(event.target) + (event.key === "ArrowDown" ? 1 : -1)]?.focus();
+    event.preventDefault();
+  }
+});
+document.addEventListener("mousemove", (event) => {
+  const mark = event.target.closest?.(".mark[data-mark]"), stage = event.target.closest?.(".stage");
+  tip.hidden = !mark && !stage;
+  if (tip.hidden) return;
+  tip.textContent = mark ? chartOf(mark).about(Number(mark.dataset.mark)) : stage.textContent;
+  tip.style.left = `${Math.min(event.clientX + 12, innerWidth - tip.offsetWidth - 8)}px`;
+  tip.style.top = `${event.clientY + 16 + tip.offsetHeight > innerHeight ? event.clientY - tip.offsetHeight - 8 : event.clientY + 16}px`;
+});
+document.addEventListener("wheel", (event) => {
+  const lane = event.ctrlKey && event.target.closest?.(".chart") && event.target.closest(".lane");
+  if (!lane) return;
+  const box = lane.getBoundingClientRect();
+  chartOf(lane).scale(event.deltaY < 0 ? 1.25 : 0.8, (event.clientX - box.left) / box.width);
+  event.preventDefault();
+}, { passive: false });
+let drag = null;
+document.addEventListener("pointerdown", (event) => {
+  const lane = event.button === 0 && event.target.closest?.(".chart") && event.target.closest(".lane");
+  drag = lane ? { chart: chartOf(lane), x: event.clientX, from: chartOf(lane).from, wide: lane.clientWidth } : null;
+});
+document.addEventListener("pointermove", (event) => {
+  if (!drag || !event.buttons) return;
+  const from = drag.from - (event.clientX - drag.x) / drag.wide / drag.chart.zoom;
+  if (Math.abs(event.clientX - drag.x) > 3) drag.chart.show(Math.max(0, Math.min(1 - 1 / drag.chart.zoom, from)), Math.max(0, Math.min(1 - 1 / drag.chart.zoom, from)) + 1 / drag.chart.zoom);
+});
+search.addEventListener("input", find);
+for (const details of document.querySelectorAll("details.attempt"))
+  details.addEventListener("toggle", () => details.open && details.querySelector(".chart") && drawn(details.querySelector(".chart")));
+for (const details of document.querySelectorAll("details.text")) details.addEventListener("toggle", () => details.open && drawText(details));
+for (const details of document.querySelectorAll("details.attempt[open]")) if (details.querySelector(".chart")) drawn(details.querySelector(".chart"));
+window.addEventListener("hashchange", goToHash);
+window.addEventListener("resize", () => { for (const chart of charts.values()) if (chart.element.offsetParent) { chart.drawTicks(); chart.tie(chosen?.chart === chart ? chosen.row : null); } });
+goToHash();

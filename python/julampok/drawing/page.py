@@ -1,195 +1,211 @@
-"""The page: headings, pictures, tables, and what they look like."""
+"""Writes the page of a recording or a log as one HTML file, which loads nothing: its texts, its data, and the script that draws it."""
 
 import html
 import pathlib
+import re
 
-from .drawing import Picture, pictures
-from .story import MORE, stage_of
+from .groups import groups_of
+from .model import PHASES, Tone, Unit, depths_of
+from .packing import Texts, packed, script_json
 
 HERE = pathlib.Path(__file__).resolve().parent
-STATISTICS = [
-    ("active_count", "became active"), ("event_count", "events"), ("expire_count", "expired"),
-    ("active_since", "active now, ms"), ("total_time", "active in all, ms"), ("max_time", "at most, ms"),
-    ("last_change", "last change at, ms"),
+SIGNS = {Tone.GOOD: "\u2713", Tone.BAD: "\u2717", Tone.OPEN: "?", Tone.PLAIN: "\u00b7"}
+LINES = re.compile(r"\b(log )?(lines?) (\d{1,9})(?: (to|and) (\d{1,9}))?")
+SLOWEST = 12  # So many devices stand in the table of the slowest.
+POLICY = "default-src 'none'; style-src 'unsafe-inline'; script-src 'unsafe-inline'"
+LEGEND = [
+    ("k-suspend", "suspend"), ("k-late", "late"), ("k-noirq", "noirq"), ("k-resume_noirq", "resume_noirq"), ("k-early", "early"),
+    ("k-resume", "resume"), ("k-prepare", "prepare, complete"), ("k-suspend path", "longest path, with its steps counted (red edge)"),
+    ("k-suspend bad", "answered an error (hatched, \u2717)"), ("k-event", "event of a wakeup source"),
 ]
-ATTEMPT_HEADS = ["attempt", "lines", "made by", "guard", "answer", "failed in", "what failed", "caused by",
-                 "asleep", "errors on the way up"]
-SHORT = [
-    "r R read waits, is over", "s S save", "w W state", "A a autosleep is set, the call is over", "Z sleeps", "z slept",
-    "p freeze point passed", "&gt; post", "&lt; got", "P runtime status", "F frozen", "X exit",
-    "+ a link is added", "^ v it becomes active, dormant", "K awake", "k relax", "E event", "[ start", "H hard",
-    "] finish", "T expired", "Q the autosleep work runs, or is queued again", "L it looks at the count again",
-    "O it is off", "! an error",
-]
-SHOWN = 3  # How many errors of the way up the table shows.
-ZOOMS = (1, 2, 4, 8, 16, 32, 64)
+TOOLS = [("left", "\u2039", "to the left"), ("right", "\u203a", "to the right"), ("in", "+", "zoom in"), ("out", "\u2212", "zoom out"),
+         ("whole", "whole", "the whole attempt")]
 
 
-def said(entry):
-    """What an entry says, without its time, word and actor."""
-    return entry.text.split(" ", 3)[3]
+def linked(text, page):
+    """A text as HTML, in which each 'line N' leads to that line of the log, if there is one."""
+
+    def link(found):
+        of_judged, word, first, joint, last = found.groups()
+        letter, count = ("G", len(page.judged)) if of_judged and page.judged else ("L", len(page.lines))
+        parts = [of_judged or "", anchor(letter, count, f"{word} {first}", int(first))]
+        parts += [f" {joint} ", anchor(letter, count, last, int(last))] if last else []
+        return "".join(parts)
+
+    return LINES.sub(link, html.escape(text))
 
 
-def answer_words(attempt):
-    return "entered, 0" if attempt.answer == "0" and attempt.entered is not None else attempt.answer
+def anchor(letter, count, words, number):
+    return f'<a href="#{letter}{number}">{words}</a>' if 1 <= number <= count else words
 
 
-def sleep_words(story, attempt):
-    if attempt.entered is None:
-        return "no"
-    first, last = story.entries[attempt.entered], story.entries[attempt.woke]
-    by = story.cause(attempt.woke) if attempt.woke in story.tests.found else f"the {last['by']}"
-    return f"{first.time} to {last.time} ms, woken by {by}"
+def items(texts, page, kind):
+    """A list of sentences; nothing for none."""
+    inside = "".join(f"<li>{linked(text, page)}</li>\n" for text in texts)
+    return f'<ul class="{kind}">\n{inside}</ul>\n' if texts else ""
 
 
-def failure_words(story, attempt):
-    """The stage that failed, what failed there first, and who caused it."""
-    if not attempt.failures:
-        return ["", "", ""]
-    place = attempt.failures[0]
-    entry, decider = story.entries[place], attempt.decider(story.entries)
-    what = f"{said(entry)} (line {entry.line})"
-    if decider != place:
-        last = story.entries[decider]
-        what += f"; the answer comes from {said(last)} (line {last.line})"
-    return [stage_of(entry), what, story.cause(place)]
+def ms(time):
+    """A time in microseconds as ms, with as many digits as one reads."""
+    size = time / 1000
+    return f"{size:,.{0 if size >= 100 else 1 if size >= 10 else 2 if size >= 1 else 3}f} ms"
 
 
-def late_words(story, attempt):
-    late = [f"{said(story.entries[place])} (line {place + 1})" for place in attempt.late_errors]
-    more = [f"and {len(late) - SHOWN} more"] if len(late) > SHOWN else []
-    return "; ".join(late[:SHOWN] + more)
+def verdict_part(page):
+    headline = f'<p class="headline"><span class="sign" aria-hidden="true">{SIGNS[page.tone]}</span> {linked(page.headline, page)}</p>\n'
+    return (f'<section class="verdict {page.tone.value}" aria-label="verdict">\n{headline}{items(page.details, page, "details")}</section>\n'
+            + (f"<details class=\"notes\"{' open' if len(page.notes) <= 4 else ''}><summary>{len(page.notes)} notes</summary>\n{items(page.notes, page, 'notes')}</details>\n" if page.notes else ""))
 
 
-def heading(story, section):
-    """What a section is, in a line."""
-    attempt = section.attempt
-    lines = f"lines {section.first + 1} to {section.end}"
-    lines += ", drawn in some seconds" if section.end - section.first > MORE else ""
-    if attempt is None:
-        return f"<b>Outside of attempts</b> <small>{lines}</small>"
-    if attempt.failures:
-        stage, what, cause = failure_words(story, attempt)
-        rest = f"{stage}: {what}, caused by {cause}"
-    else:
-        rest = f"asleep {sleep_words(story, attempt)}" if attempt.entered is not None else ""
-    answer = f'<b class="{"entered" if attempt.answer == "0" else "gave-up"}">{answer_words(attempt)}</b>'
-    what = f"<b>Attempt {attempt.number}</b>, {attempt.guard}: {answer}"
-    return f"{what} \u2014 {html.escape(rest)} <small>{lines}</small>"
+def strip(page, attempt):
+    """A button a stage, which zooms to it."""
+    buttons = []
+    for place, stage in enumerate(attempt.stages):
+        size = f" {ms(stage.end - stage.begin)}" if page.unit is Unit.TIME else ""
+        words = html.escape(f"{stage.name}{size}{': ' + stage.answer if stage.answer else ''}")
+        kind = f' class="bad"' if stage.answer else ""
+        swatch = f'<i class="k-{stage.kind}"></i>' if stage.kind else ""
+        buttons.append(f'<button type="button"{kind} data-stage="{place}">{swatch}{words}</button>')
+    tools = "".join(f'<button type="button" data-tool="{tool}" aria-label="{words}" title="{words}">{sign}</button>' for tool, sign, words in TOOLS)
+    return f'<div class="strip">{"".join(buttons)}<span class="tools">{tools}</span></div>\n'
 
 
-def name_of(section):
-    return f"attempt-{section.attempt.number}" if section.attempt else f"lines-{section.first + 1}"
+def slowest_table(page, attempt):
+    """The devices whose callbacks took longest, with each phase."""
+    if page.unit is not Unit.TIME:
+        return ""
+    times = {}
+    for mark in attempt.marks:
+        if mark.is_callback:
+            of = times.setdefault(mark.row, dict.fromkeys(PHASES, 0))
+            of[mark.kind] = of.get(mark.kind, 0) + mark.end - mark.begin
+    rows = sorted(times, key=lambda row: -sum(times[row].values()))[:SLOWEST]
+    if not rows:
+        return ""
+    shown = [phase for phase in PHASES if any(times[row][phase] >= 50 for row in rows)]
+    head = "".join(f"<th>{words}</th>" for words in ["device", "in all", *shown])
+    body = ""
+    for row in rows:
+        cells = [ms(sum(times[row].values()))] + [ms(times[row][phase]) if times[row][phase] else "" for phase in shown]
+        name = html.escape(page.rows[row].name) + (f" <small>{html.escape(page.rows[row].about)}</small>" if page.rows[row].about else "")
+        body += f'<tr data-row="{row}"><td><button type="button" class="go">{name}</button></td>' + "".join(f'<td class="n">{cell}</td>' for cell in cells) + "</tr>\n"
+    return f'<h3>Slowest devices</h3>\n<div class="scroll"><table><tr>{head}</tr>\n{body}</table></div>\n'
 
 
-def section_part(story, picture, is_open):
-    """A section: its heading, and its picture, which becomes elements when it is opened."""
-    section = picture.section
-    zooms = "".join(f'<button type="button" data-zoom="{zoom}">{zoom}\u00d7</button>' for zoom in ZOOMS)
-    drawn = picture.draw()
-    if is_open:
-        inside = f'<div class="chart">{drawn}</div>'
-    else:
-        inside = f'<div class="chart"></div><script type="text/plain">{drawn}</script>'
-    return (f'<details class="section" id="{name_of(section)}"{" open" if is_open else ""}>\n'
-            f"<summary>{heading(story, section)}</summary>\n"
-            f'<div class="zoom">zoom {zooms}</div>\n{inside}\n</details>\n')
+def path_part(page, attempt):
+    """The longest path in words."""
+    if not attempt.path:
+        return ""
+    steps = []
+    for place, step in enumerate(attempt.path, 1):
+        name = html.escape(page.rows[step.row].name) if step.row is not None else ""
+        button = f'<span data-row="{step.row}"><button type="button" class="go">{name}</button></span> ' if name else ""
+        took = attempt.marks[step.mark] if step.mark is not None else None
+        size = f" {ms(took.end - took.begin)}" if took and page.unit is Unit.TIME else ""
+        steps.append(f"<li value=\"{place}\">{button}{html.escape(step.phase)}{size}{'; ' + linked(step.words, page) if step.words else ''}</li>\n")
+    return f'<details{" open" if len(steps) <= 15 else ""}><summary>The longest path, {len(steps)} steps</summary><ol>\n{"".join(steps)}</ol></details>\n'
 
 
-def table(heads, rows, kind):
-    head = "".join(f"<th>{cell}</th>" for cell in heads)
-    body = "".join(f"<tr>{''.join(f'<td>{cell}</td>' for cell in row)}</tr>\n" for row in rows)
-    return f'<table class="{kind}"><thead><tr>{head}</tr></thead>\n<tbody>{body}</tbody></table>\n'
+def attempt_part(page, place, attempt, is_open):
+    """An attempt: what came out, why, its stages, its chart, and what was slow."""
+    name = f"attempt-{attempt.number}" if attempt.number is not None else f"lines-{attempt.first}"
+    head = f"Attempt {html.escape(attempt.number)}" if attempt.number is not None else "Outside of attempts"
+    sign = SIGNS[attempt.tone] + " " if attempt.number is not None else ""
+    answer = f': <span class="answer">{sign}{linked(attempt.answer, page)}</span>' if attempt.answer else ""
+    helps = "<h3>What would help</h3>\n" + items(attempt.helps, page, "helps") if attempt.helps else ""
+    return (f'<details class="attempt {attempt.tone.value}" id="{name}"{" open" if is_open else ""}>\n'
+            f"<summary><b>{head}</b>{answer} <small>lines {attempt.first} to {attempt.last}</small></summary>\n"
+            + items(attempt.causes, page, "causes") + items(attempt.notes, page, "notes") + strip(page, attempt)
+            + f'<div class="chart" data-attempt="{place}"></div>\n'
+            + path_part(page, attempt) + helps + slowest_table(page, attempt) + "</details>\n")
 
 
-def attempt_row(story, attempt):
-    words = [attempt.maker, attempt.guard, answer_words(attempt), *failure_words(story, attempt)]
-    words += [sleep_words(story, attempt), late_words(story, attempt)]
-    link = f'<a href="#attempt-{attempt.number}">{attempt.number}</a>'
-    return [link, f"{attempt.first + 1} to {attempt.last + 1}", *map(html.escape, words)]
+def table_part(table, page):
+    head = "".join(f"<th>{html.escape(words)}</th>" for words in table.heads)
+    body = "".join(f"<tr>{''.join(f'<td>{linked(cell, page)}</td>' for cell in row)}</tr>\n" for row in table.rows)
+    return f'<h2>{html.escape(table.title)}</h2>\n<div class="scroll"><table><tr>{head}</tr>\n{body}</table></div>\n'
 
 
-def tables(story):
-    """What each attempt answered, what each source counted, and how the run ended."""
-    parts = []
-    if story.attempts:
-        rows = [attempt_row(story, attempt) for attempt in story.attempts]
-        parts += ["<h2>Attempts</h2>\n", table(ATTEMPT_HEADS, rows, "attempts")]
-    heads = ["source"] + [f"{words}<br><small>{name}</small>" for name, words in STATISTICS]
-    rows = [[name, *numbers] for name, numbers in story.log.sources.items()]
-    parts += ["<h2>Wakeup sources</h2>\n", table(heads, rows, "sources"), f"<p>{end_words(story.log)}</p>\n"]
-    return "".join(parts)
-
-
-def end_words(log):
-    if log.finished:
-        return "The run is finished."
-    waits = [f"{who} waits for " + ("the end of an event" if why == "read" else why) for who, why in log.stuck.items()]
-    return f"<b>The run is stuck</b>: {'; '.join(waits)}."
-
-
-def summary(story):
-    entered = sum(attempt.entered is not None for attempt in story.attempts)
-    count = len(story.attempts)
-    time = story.entries[-1].time if story.entries else 0
-    known = "" if story.devices.known or not story.devices.order else (
-        " Give the machine file by <code>--machine</code> to see parents, links, and who waited for whom.")
-    return (f"<p>{len(story.entries)} entries, {time} ms, {count} attempt{'s' * (count != 1)} to sleep, of which "
-            f"{entered} entered. Across goes the order of entries, each in a column of its own; phases of devices take "
-            f'no time. Point at anything to see its line of the log. <a href="#legend">Legend</a>.{known}</p>\n')
+def text_part(title, key, letter, lines):
+    """A text that is folded until one opens it, or goes to one of its lines."""
+    if not lines:
+        return ""
+    return (f'<details class="text" id="{key}" data-text="{key}" data-letter="{letter}"><summary><b>{html.escape(title)}</b> '
+            f"<small>{len(lines)} lines</small></summary><pre></pre></details>\n")
 
 
 def legend():
-    """What the boxes and lines mean."""
-    items = [
-        ("bar p-suspend", "a callback, in the colour of its phase"), ("bar p-suspend failed", "it answered an error"),
-        ("mark schedule", "given out (asynchronous)"), ("mark skip-pending bad", "skipped: a wakeup is pending"),
-        ("mark skip-error", "skipped: an error stands"), ("span alone", "left alone (direct)"),
-        ("span active", "a source is active"), ("span frozen", "frozen"), ("span told", "told, stopped or off"),
-        ("span sleeping", "sleeps or waits"), ("mark", "an entry"), ("mark bad", "an entry with an error"),
-        ("night", "the machine sleeps"), ("span on", "autosleep is on"),
-    ]
-    lines = [
-        ("join found", "the event that a test found"), ("join waits", "to the device that was waited for"),
-        ("join calls", "a call on a source, for a status or on a link"), ("join left", "the task that did not freeze"),
-        ("join link", "from supplier to consumer: a link is added, or active again"),
-        ("join dormant", "it becomes dormant"), ("join refused", "it is refused"), ("jump", "time jumps"),
-    ]
-    drawn = [Picture.rect(kind, 0, 2, 100, 10) for kind, _ in items]
-    drawn += [Picture.line(kind, 0, 7, 100, 7) for kind, _ in lines]
-    pieces = "".join(f'<span><svg width="22" height="14">{shape}</svg> {words}</span> '
-                     for shape, (_, words) in zip(drawn, items + lines))
-    return (f'<details class="legend" id="legend" open><summary>Legend</summary>{pieces}<br>\n'
-            f"<small>In boxes without room for words: {'; '.join(SHORT)}.</small></details>\n")
+    pieces = "".join(f'<span><i class="mark {kind}"></i>{words}</span>' for kind, words in LEGEND)
+    return f'<div class="legend" id="legend">{pieces}</div>\n'
 
 
-def picture_of(number):
-    """What draws the picture of that attempt of a log alone, as SVG; of a log without it, None."""
-
-    def drawn(story):
-        shown = [] if story is None else [picture for picture in pictures(story) if picture.section.attempt]
-        of = next((picture for picture in shown if picture.section.attempt.number == number), None)
-        if of is None:
-            return None
-        style = f"<style>\n{(HERE / 'page.css').read_text()}</style>\n"
-        return of.alone(style + (HERE / "patterns.svg").read_text())
-
-    return drawn
+# ---- data
 
 
-def page(story):
-    """The page of a log; of an empty one, where nothing is told."""
-    style, script = (HERE / "page.css").read_text(), (HERE / "page.js").read_text()
-    parts = ['<!DOCTYPE html>\n<html lang="en"><head><meta charset="utf-8"><title>Timeline of a sleep log</title>\n',
-             f"<style>\n{style}</style></head>\n<body>\n<h1>Timeline of a sleep log</h1>\n"]
-    if story is None:
-        return "".join([*parts, "<p>The log is empty.</p>\n</body></html>\n"])
-    parts += [summary(story), (HERE / "patterns.svg").read_text()]
-    drawn = pictures(story)
-    shown = [picture for picture in drawn if picture.section.attempt] or drawn
-    shown = shown[0] if len(shown) == 1 and len(shown[0].entries) <= MORE else None
-    if len(drawn) > (shown is not None):
-        parts.append("<p>Open a part to draw it.</p>\n")
-    parts += [section_part(story, picture, picture is shown) for picture in drawn]
-    parts += [legend(), tables(story), '<div id="line"></div>\n', f"<script>\n{script}</script>\n</body></html>\n"]
+def columns_of(marks, base, texts):
+    """The marks in columns of numbers; times from the begin of the attempt."""
+    return {
+        "row": [mark.row for mark in marks], "kind": [texts.number(mark.kind) for mark in marks],
+        "begin": [mark.begin - base for mark in marks], "size": [max(0, mark.end - mark.begin) for mark in marks],
+        "first": [mark.first for mark in marks], "last": [mark.last for mark in marks],
+        "words": [texts.number(mark.words) for mark in marks], "answer": [texts.number(mark.answer) for mark in marks],
+        "who": [texts.number(mark.who) for mark in marks],
+        "flags": [mark.is_callback + 2 * mark.is_open + 4 * mark.is_span for mark in marks],
+    }
+
+
+def attempt_data(page, attempt, texts):
+    """An attempt for the script. Lines keep their numbers; times begin with the attempt."""
+    base = attempt.begin if page.unit is Unit.TIME else 0
+    return {
+        "begin": attempt.begin - base, "end": attempt.end - base, "noWaits": texts.number(attempt.no_waits),
+        "gaps": [[gap.begin - base, gap.end - base, texts.number(gap.words)] for gap in attempt.gaps],
+        "stages": [[texts.number(stage.name), texts.number(stage.kind), stage.begin - base, stage.end - base, stage.first, stage.last,
+                    texts.number(stage.answer)] for stage in attempt.stages],
+        "marks": columns_of(attempt.marks, base, texts),
+        "ties": [[texts.number(tie.kind), tie.source, tie.source_at - base, tie.target, tie.target_at - base, texts.number(tie.words),
+                  tie.first, tie.last] for tie in attempt.ties],
+        "path": [[-1 if step.mark is None else step.mark, texts.number(step.phase), texts.number(step.words), -1 if step.row is None else step.row]
+                 for step in attempt.path],
+        "groups": [[texts.number(group.title), group.rows, int(group.is_folded), texts.number(group.tone)] for group in groups_of(page, attempt)],
+    }
+
+
+def data_of(page):
+    """All that the script draws."""
+    texts, depths = Texts(), depths_of(page.rows)
+    rows = [[texts.number(row.sort.value), row.name, texts.number(row.about), -1 if row.parent is None else row.parent, depths[place],
+             [texts.number(note) for note in row.notes]] for place, row in enumerate(page.rows)]
+    attempts = [attempt_data(page, attempt, texts) for attempt in page.attempts]
+    return {"unit": page.unit.value, "linesOf": page.lines_of, "rows": rows, "attempts": attempts, "texts": texts.all,
+            "log": packed(page.lines), "judged": packed(page.judged)}
+
+
+def opened(page):
+    """The attempts that stand open: those that failed, and one that did not where it is alone; at most some of many."""
+    failed = [attempt for attempt in page.attempts if attempt.number is not None and attempt.tone is not Tone.GOOD][:3]
+    return failed or [attempt for attempt in page.attempts if attempt.number is not None][:1] or page.attempts[:1]
+
+
+def page_html(page):
+    """The page as HTML."""
+    shown = opened(page)
+    title = html.escape(page.title)
+    head = (f'<!DOCTYPE html>\n<html lang="en"><head><meta charset="utf-8">\n<meta http-equiv="Content-Security-Policy" content="{POLICY}">\n'
+            f'<meta name="viewport" content="width=device-width, initial-scale=1">\n<title>{title}</title>\n'
+            f"<style>\n{(HERE / 'page.css').read_text()}</style></head>\n<body>\n<h1>{title}</h1>\n")
+    known = SIGNS[Tone.PLAIN].join(f" {html.escape(words)} " for words in page.about)
+    about = f'<p class="about">{known}</p>\n' if known else ""
+    bar = ('<div class="bar"><label>search <input id="search" type="search" autocomplete="off" placeholder="device or driver"></label>'
+           '<output id="count" aria-live="polite"></output><small><kbd>/</kbd> search <kbd>\u2191</kbd> <kbd>\u2193</kbd> device '
+           '<kbd>Enter</kbd> whom it waited for <kbd>+</kbd> <kbd>\u2212</kbd> <kbd>\u2190</kbd> <kbd>\u2192</kbd> <kbd>0</kbd> zoom '
+           '<kbd>Esc</kbd> close</small></div>\n<noscript><p><b>The charts and the log are drawn by a script, which is switched off here.</b></p></noscript>\n')
+    parts = [head, about, verdict_part(page), bar if page.attempts else "", legend() if page.attempts else ""]
+    parts += [attempt_part(page, place, attempt, attempt in shown) for place, attempt in enumerate(page.attempts)]
+    parts += [table_part(table, page) for table in page.more]
+    parts.append(text_part(f"The {page.lines_of}", "log", "L", page.lines))
+    parts.append(text_part("The log that the checker judged", "judged", "G", page.judged))
+    parts.append('<aside class="panel" id="panel" aria-live="polite" aria-label="the chosen row" hidden></aside><div class="tip" id="tip" hidden></div>\n')
+    parts.append(f'<script type="application/json" id="data">{script_json(data_of(page))}</script>\n')
+    parts.append(f"<script>\n{(HERE / 'page.js').read_text()}</script>\n</body></html>\n")
     return "".join(parts)

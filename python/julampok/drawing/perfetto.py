@@ -1,131 +1,139 @@
-"""A log as Trace Event JSON, which Perfetto and chrome://tracing open: a track a device, task, source and the like.
+"""Writes the form of a page as Trace Event JSON, which Perfetto and chrome://tracing are made for.
 
-A phase of devices takes no time in a log, so each entry takes one microsecond here: it stands at its time in the log,
-or one microsecond after the entry before it, whichever is later.
+Times are those of the recording, in microseconds. A phase of devices takes no time in a log, so each of its entries takes one
+microsecond: it stands at its time in the log, or one microsecond after the entry before it, whichever is later.
+
+A group of tracks is a parent with a track for itself and for each device directly below it. Whatever is no device stands in
+groups before and behind them.
 """
 
 import json
 
-from .joins import ATTEMPT, lane_of
-from .page import said
-from .reading import ATTEMPT_STEPS
-from .story import error_of, stage_of
+from .model import Sort, Unit
 
-ENTRY = 1  # How many microseconds an entry takes.
-# The groups of tracks, from above to below, by the sort of a lane.
-GROUPS = {
-    "attempt": "attempts", "device": "devices", "actor": "tasks and interrupt lines", "source": "wakeup sources",
-    "notifier": "notifiers", "processors": "processors", "core": "syscore steps", "time": "time",
-}
-SPANS = {"given": "scheduled", "making": "makes the attempt", "alone": "left alone (direct)", "on": "autosleep is on"}
-FLOWS = {"found": "is found", "woke": "wakes", "stale": "makes stale", "waits": "is waited for", "left": "does not freeze"}
+STAGES = "attempts"
+NO_PARENT = "devices without a parent"
+OTHERS = {Sort.SOURCE: "wakeup sources", Sort.ATTEMPT: STAGES, Sort.TASK: "tasks and interrupt lines", Sort.NOTIFIER: "notifiers",
+          Sort.PROCESSOR: "processors", Sort.CORE: "syscore steps"}
+FLOWS = {"found": "is found", "woke": "wakes", "stale": "makes stale", "waits": "is waited for", "left": "does not freeze",
+         "broken": "had to come first"}
 
 
 class Tracks:
-    """The tracks: each lane has a group and a number in it."""
+    """The tracks: each has the number of its group, and one of its own."""
 
-    def __init__(self, story):
-        self.numbers, self.events = {}, []
-        for group, name in enumerate(GROUPS.values(), 1):
-            self.tell(group, 0, "process_name", name=name)
-            self.tell(group, 0, "process_sort_index", sort_index=group)
-        self.of(ATTEMPT)
-        for device in story.devices.order:
-            self.of(("device", device))
+    def __init__(self, page):
+        self.page, self.events, self.groups, self.numbers = page, [], {}, {}
+        self.parents = self.parents_with_names()
+        self.of_attempts = self.track(STAGES, "stages")
 
     def tell(self, group, number, what, **args):
         self.events.append({"ph": "M", "pid": group, "tid": number, "ts": 0, "name": what, "args": args})
 
-    def of(self, lane):
-        """The group and the number of a lane, which begins with its first use."""
-        if lane not in self.numbers:
-            sort, name = lane
-            group = list(GROUPS).index(sort) + 1
-            self.numbers[lane] = group, len(self.numbers) + 1
-            self.tell(*self.numbers[lane], "thread_name", name=name or GROUPS[sort])
-            self.tell(*self.numbers[lane], "thread_sort_index", sort_index=len(self.numbers))
-        return self.numbers[lane]
+    def track(self, group, name):
+        """A new track of a group, which begins with its first one."""
+        if group not in self.groups:
+            self.groups[group] = len(self.groups) + 1
+            self.tell(self.groups[group], 0, "process_name", name=group)
+            self.tell(self.groups[group], 0, "process_sort_index", sort_index=self.groups[group])
+        number = len(self.numbers) + 1
+        self.numbers[number] = group
+        self.tell(self.groups[group], number, "thread_name", name=name)
+        self.tell(self.groups[group], number, "thread_sort_index", sort_index=number)
+        return self.groups[group], number
+
+    def group_of(self, number):
+        """The group of a row: a parent's own one, that of its parent, or that of its sort."""
+        row = self.page.rows[number]
+        if row.sort is not Sort.DEVICE:
+            return OTHERS[row.sort]
+        above = number if number in self.parents else row.parent
+        return NO_PARENT if above is None else self.parents[above]
+
+    def parents_with_names(self):
+        """Each row that is a parent, with its group's name: numbered where an earlier parent has that name."""
+        found, counts = {}, {}
+        for number in sorted({row.parent for row in self.page.rows if row.parent is not None}):
+            name = shown(self.page.rows[number])
+            counts[name] = counts.get(name, 0) + 1
+            found[number] = name if counts[name] == 1 else f"{name} #{counts[name]}"
+        return found
 
 
-def moments(entries):
-    """When each entry stands, in microseconds; and the end of all."""
-    found, now = [], 0
-    for entry in entries:
-        now = max(now, entry.time * 1000)
-        found.append(now)
-        now += ENTRY
-    return found, now
+def shown(row):
+    """A row with its driver, if it has one."""
+    return f"{row.name} ({row.about})" if row.about else row.name
 
 
 class Writer:
-    """Writes the events of a story."""
+    """Writes the events of a page."""
 
-    def __init__(self, story):
-        self.story, self.entries, self.tracks = story, story.entries, Tracks(story)
-        self.moments, self.end = moments(story.entries)
+    def __init__(self, page):
+        self.page, self.tracks = page, Tracks(page)
         self.slices, self.flows = [], []
-        self.add_attempts()
-        self.add_spans()
-        self.add_entries()
-        self.add_flows()
-
-    def slice(self, lane, name, start, end, **args):
-        group, number = self.tracks.of(lane)
-        self.slices.append({"ph": "X", "pid": group, "tid": number, "ts": start, "dur": end - start, "name": name, "args": args})
-
-    def lane(self, entry):
-        """The lane of an entry; each processor has one of its own."""
-        lane = lane_of(entry)
-        return ("processors", f"processor {entry['cpu']}") if lane[0] == "processors" else lane
-
-    def add_attempts(self):
-        for attempt in self.story.attempts:
-            last = self.moments[attempt.last] + ENTRY
-            words = f"attempt {attempt.number}: {attempt.answer}"
-            self.slice(ATTEMPT, words, self.moments[attempt.first], last, guard=attempt.guard, maker=attempt.maker)
+        marked = {mark.row for attempt in page.attempts for mark in attempt.marks}
+        self.of_row = {number: self.tracks.track(self.tracks.group_of(number), shown(page.rows[number])) for number in self.in_groups(marked)}
+        for attempt in page.attempts:
             self.add_stages(attempt)
+            self.add_marks(attempt)
+            self.add_flows(attempt)
+
+    def in_groups(self, marked):
+        """The marked rows: what is no device, then each parent and what is directly below it."""
+        first = [number for number in sorted(marked) if self.page.rows[number].sort is Sort.SOURCE]
+        devices = [number for number in sorted(marked) if self.page.rows[number].sort is Sort.DEVICE]
+        rest = [number for number in sorted(marked) if self.page.rows[number].sort not in (Sort.SOURCE, Sort.DEVICE)]
+        return first + devices + rest
+
+    def at(self, time):
+        """When something begins, in microseconds."""
+        if self.page.unit is Unit.TIME or not self.page.moments:
+            return time
+        return self.page.moments[min(max(time - 1, 0), len(self.page.moments) - 1)]
+
+    def until(self, time, is_span=False):
+        """When something ends. In a log a span ends where its last line stands, and all else with its last line."""
+        if self.page.unit is Unit.TIME or not self.page.moments:
+            return time
+        return self.at(time) if is_span and time <= len(self.page.moments) else self.at(time - 1) + 1
+
+    def slice(self, track, name, start, end, **args):
+        group, number = track
+        self.slices.append({"ph": "X", "pid": group, "tid": number, "ts": start, "dur": max(0, end - start), "name": name, "args": args})
 
     def add_stages(self, attempt):
-        """The stages of an attempt: each goes on until another one begins."""
-        name, first, last = None, None, None
-        for place in [*range(attempt.first, attempt.last + 1), None]:
-            entry = None if place is None else self.entries[place]
-            stage = stage_of(entry) if entry is not None and entry.kind in ATTEMPT_STEPS else name
-            if name is not None and (place is None or stage != name):
-                self.slice(ATTEMPT, name, self.moments[first], self.moments[last] + ENTRY)
-                first = None
-            if entry is not None and stage is not None and entry.kind in ATTEMPT_STEPS:
-                name, first, last = stage, place if first is None else first, place
+        """The attempt, and in it its stages."""
+        if attempt.number is None:
+            return
+        spans = [(stage.begin, stage.end) for stage in attempt.stages] or [(attempt.begin, attempt.end)]
+        first, last = min(begin for begin, _ in spans), max(end for _, end in spans)
+        lines = f"{attempt.first} to {attempt.last}"
+        self.slice(self.tracks.of_attempts, f"attempt {attempt.number}: {attempt.answer}", self.at(first), self.until(last), lines=lines)
+        for stage in attempt.stages:
+            name = stage.name + (f": {stage.answer}" if stage.answer else "")
+            self.slice(self.tracks.of_attempts, name, self.at(stage.begin), self.until(stage.end), line=stage.first)
 
-    def add_spans(self):
-        for span in self.story.spans.found:
-            lane = self.lane(self.entries[span.first]) if span.lane[0] == "processors" else span.lane
-            lane = ("actor", "autosleep") if span.what == "on" else lane
-            last = self.end if span.last is None else self.moments[span.last]
-            self.slice(lane, SPANS.get(span.what, span.what), self.moments[span.first], last)
+    def add_marks(self, attempt):
+        for mark in attempt.marks:
+            name = mark.kind if mark.is_callback else mark.words or mark.kind
+            args = {"line": mark.first} | ({"task": mark.who} if mark.who else {}) | ({"answer": mark.answer} if mark.answer else {})
+            name += f": {mark.answer}" if mark.answer and mark.is_callback else ""
+            self.slice(self.of_row[mark.row], name, self.at(mark.begin), self.until(mark.end, mark.is_span), **args)
 
-    def add_entries(self):
-        """A slice an entry, and one for both ends of a callback."""
-        begun = {}
-        for place, entry in enumerate(self.entries):
-            start, end, args = self.moments[place], self.moments[place] + ENTRY, {"line": entry.line, "text": entry.text}
-            if entry.kind == "begin":
-                begun[entry["device"]] = start, entry.line
+    def add_flows(self, attempt):
+        """An arrow from who made another wait, or from an event, to whom it concerned, where both have a slice."""
+        ends = {}
+        for mark in attempt.marks:
+            ends.setdefault((mark.row, mark.first), self.at(mark.begin))
+            ends.setdefault((mark.row, mark.last), max(self.at(mark.begin), self.until(mark.end) - 1))
+        for tie in attempt.ties:
+            both = (("s", tie.source, tie.first), ("f", tie.target, tie.last))
+            if tie.kind not in FLOWS or not all((row, line) in ends for _, row, line in both):
                 continue
-            if entry.kind == "end":
-                start, args["line"] = begun.pop(entry["device"])
-                name = entry["phase"] + (f": {entry['answer']}" if error_of(entry) else "")
-            else:
-                name = said(entry)
-            self.slice(self.lane(entry), name, start, end, **args)
-
-    def add_flows(self):
-        """An arrow from who made another wait, or from an event, to whom it concerned."""
-        for number, join in enumerate((join for join in self.story.joins if join.what in FLOWS), 1):
-            ends = (("s", join.tail), ("f", join.head))
-            for kind, place in ends:
-                group, track = self.tracks.of(self.lane(self.entries[place]))
-                event = {"ph": kind, "id": number, "pid": group, "tid": track, "ts": self.moments[place], "name": FLOWS[join.what], "cat": "join"}
+            number = len(self.flows) // 2 + 1
+            for kind, row, line in both:
+                group, track = self.of_row[row]
+                event = {"ph": kind, "id": number, "pid": group, "tid": track, "ts": ends[row, line], "name": FLOWS[tie.kind], "cat": "join"}
                 self.flows.append(event | ({"bp": "e"} if kind == "f" else {}))
 
     def events(self):
@@ -134,8 +142,9 @@ class Writer:
         return self.tracks.events + slices + self.flows
 
 
-def perfetto(story):
-    """The JSON of a log; of an empty one, where nothing is told."""
-    events = [] if story is None else Writer(story).events()
+def perfetto(page):
+    """The JSON of a page's form; without events where it has no attempt."""
+    events = Writer(page).events() if page.attempts else []
     lines = ",\n".join(json.dumps(event) for event in events)
-    return f'{{"displayTimeUnit": "ms", "traceEvents": [\n{lines}\n]}}\n'
+    told = json.dumps({"title": page.title, "verdict": page.headline, "about": page.about})
+    return f'{{"displayTimeUnit": "ms", "otherData": {told}, "traceEvents": [\n{lines}\n]}}\n'

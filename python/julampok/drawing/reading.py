@@ -162,6 +162,7 @@ class Log:
 
     def __init__(self):
         self.entries, self.sources, self.stuck = [], {}, {}
+        self.ends = []  # The lines behind the entries.
         self.finished = False
 
     def take(self, line, text):
@@ -170,7 +171,9 @@ class Log:
             raise Refused(line, f"a line after the end of the log: {text[:80]!r}")
         if not self.sources and not text.startswith("source "):
             self.entries.append(entry_of(line, text))
-        elif "autosleep" not in self.sources:
+            return
+        self.ends.append(text)
+        if "autosleep" not in self.sources:
             self.take_source(line, text)
         elif text == "finished" and not self.stuck:
             self.finished = True

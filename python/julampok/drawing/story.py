@@ -1,5 +1,6 @@
 """What a log tells: its attempts with what failed, spans of time, and the sections that are drawn one by one."""
 
+import bisect
 import collections
 
 from .joins import ATTEMPT, DOWN, Callers, Join, Tests, Walks, lane_of
@@ -80,6 +81,25 @@ def error_of(entry):
         return entry["prepared"] if entry["prepared"] not in ("0", "1") else None
     answers = ("notify_prepare", "platform_down", "core_check", "core_suspend", "end")
     return entry["answer"] if kind in answers and entry["answer"] != "0" else None
+
+
+# A stage of an attempt: the kernel's name, its first and last place, and the error that ended it.
+Stage = collections.namedtuple("Stage", "name first last error")
+
+
+def stages_of(entries, attempt):
+    """The stages of an attempt, in their order."""
+    stages = []
+    for place in range(attempt.first, attempt.last + 1):
+        entry = entries[place]
+        name = stage_of(entry) if entry.kind in ATTEMPT_STEPS else None
+        if name is None:
+            continue
+        if not stages or stages[-1].name != name:
+            stages.append(Stage(name, place, place, None))
+        error = error_of(entry) if entry.kind != "end" or entry["phase"] in DOWN else None
+        stages[-1] = stages[-1]._replace(last=place, error=stages[-1].error or error)
+    return stages
 
 
 class Spans:
@@ -211,6 +231,21 @@ class Story:
             found[-1] = found[-1]._replace(end=end)
             start = end
         return found + [Section(at, min(at + MOST, end), None) for at in range(start, end, MOST)]
+
+    def sections_with_parts(self):
+        """Each section with the spans and the joins that are drawn in it."""
+        sections = self.sections()
+        starts = [section.first for section in sections]
+        spans, joins = [[] for _ in sections], [[] for _ in sections]
+        for span in self.spans.found:
+            last = len(self.entries) if span.last is None else span.last
+            at = bisect.bisect(starts, span.first) - 1
+            while at < len(sections) and sections[at].first <= last:
+                spans[at].append(span)
+                at += 1
+        for join in self.joins:
+            joins[bisect.bisect(starts, join.head) - 1].append(join)
+        return list(zip(sections, spans, joins))
 
     def cause(self, place):
         """Who caused what an entry tells."""

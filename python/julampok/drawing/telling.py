@@ -3,8 +3,8 @@
 import collections
 
 from .joins import ATTEMPT
-from .page import said
 from .story import PHASES, error_of, stage_of
+from .words import counted, said
 
 NAMED = 5  # How many devices of a phase are named.
 UP = ("resume_noirq", "early", "resume")
@@ -54,10 +54,6 @@ def cause_line(story, attempt):
         other = story.entries[decider]
         words += f"; the answer is that of '{said(other)}' (line {other.line})"
     return f"The cause: {words}."
-
-
-def counted(number, word):
-    return f"{number} {word}{'s' * (number != 1)}"
 
 
 def named(devices):
