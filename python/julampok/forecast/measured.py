@@ -1,0 +1,185 @@
+"""What one attempt of a recording measured: its list of devices as a plan, and how long each phase and each callback took."""
+
+from __future__ import annotations
+
+from dataclasses import dataclass
+
+from julampok.kernel.recording import Attempt, CallbackBegin, Clock, Device, Phase, Recording, SuspendResume
+
+from .plan import Plan, PlanLink
+
+WAY_DOWN = (Phase.SUSPEND, Phase.LATE, Phase.NOIRQ)
+WAY_UP = (Phase.RESUME_NOIRQ, Phase.EARLY, Phase.RESUME)
+TIMED = (*WAY_DOWN, *WAY_UP)
+UP_OF = dict(zip(WAY_DOWN, reversed(WAY_UP)))
+ONE_PASS_SINCE = (6, 1, 76)  # From this version on the walk on the way up gives out asynchronous devices as it comes to them.
+
+
+class NoTimesError(Exception):
+    """The attempt cannot be timed: why, and the line that shows it."""
+
+    def __init__(self, text, line=None):
+        super().__init__(text)
+        self.line = line
+
+
+@dataclass(slots=True)
+class MeasuredPhase:
+    """A phase as the trace has it. Times are nanoseconds; lists are by device."""
+
+    phase: Phase
+    begin: int
+    end: int
+    callbacks: list[CallbackBegin | None]
+    durations: list[int]
+    taken: frozenset[int] | None  # The devices that the walk came to; None: all.
+
+    @property
+    def total(self) -> int:
+        """How long the phase took."""
+        return self.end - self.begin
+
+
+@dataclass(slots=True)
+class Measured:
+    """An attempt with its times. `devices` has the device of each number of the plan; `slept` says that the machine entered sleep."""
+
+    attempt: Attempt
+    devices: list[Device]
+    plan: Plan
+    phases: dict[Phase, MeasuredPhase]
+    slept: bool
+    is_any_async: bool
+    is_one_pass: bool
+
+
+def attempts_with_phases(recording: Recording) -> list[Attempt]:
+    """The attempts that came to a phase of devices that has times."""
+    return [attempt for attempt in recording.attempts if any(step.phase in TIMED for step in steps_of(attempt))]
+
+
+def steps_of(attempt: Attempt) -> list[SuspendResume]:
+    """The steps of an attempt."""
+    return [event for event in attempt.events if isinstance(event, SuspendResume)]
+
+
+def choose_attempt(recording: Recording, number: int | None = None) -> Attempt:
+    """The attempt of that number; without one the first that slept, else the first that came to a phase of devices.
+
+    Raises:
+        NoTimesError: there is none.
+    """
+    if number is not None:
+        found = next((attempt for attempt in recording.attempts if attempt.number == number), None)
+        if found is None:
+            raise NoTimesError(f"there is no attempt {number}: the trace has {len(recording.attempts)}")
+        return found
+    whole = attempts_with_phases(recording)
+    if not whole:
+        raise NoTimesError("no attempt of the trace came to a phase of devices, so nothing has been timed")
+    return next((attempt for attempt in whole if attempt.steps("machine_suspend", True)), whole[0])
+
+
+def measure(recording: Recording, attempt: Attempt) -> Measured:
+    """The times of an attempt.
+
+    Raises:
+        NoTimesError: the clock of the trace counts and does not time, or the attempt has no list of devices or no phase.
+    """
+    if recording.clock is Clock.COUNTER:
+        raise NoTimesError("the clock of this trace is a counter, which has no times; record with 'echo boot > trace_clock' "
+                           "in /sys/kernel/tracing, or with 'trace-cmd record -C boot'", attempt.line)
+    devices = listed(attempt)
+    if not devices:
+        raise NoTimesError(f"attempt {attempt.number} prepared no device, so its list is not known", attempt.line)
+    numbers = {device: number for number, device in enumerate(devices)}
+    phases = {phase: found for phase in TIMED if (found := measure_phase(attempt, phase, numbers)) is not None}
+    if not phases:
+        raise NoTimesError(f"attempt {attempt.number} came to no phase of devices", attempt.line)
+    flags, is_any_async = asynchronous(attempt, devices, phases)
+    plan = make_plan(recording, devices, numbers, flags, phases)
+    slept = bool(attempt.steps("machine_suspend", True))
+    limit_taken(plan, phases, slept)
+    return Measured(attempt, devices, plan, phases, slept, is_any_async, recording.version[:3] >= ONE_PASS_SINCE)
+
+
+def listed(attempt: Attempt) -> list[Device]:
+    """The devices in the order of prepare, which is that of the kernel's list; each once."""
+    return list(dict.fromkeys(callback.device for callback in attempt.callbacks(Phase.PREPARE)))
+
+
+def measure_phase(attempt: Attempt, phase: Phase, numbers: dict[Device, int]) -> MeasuredPhase | None:
+    """The times of a phase; None where the attempt has none, or has its begin or end alone."""
+    steps = [step for step in steps_of(attempt) if step.phase is phase]
+    begin = next((step for step in steps if step.is_begin), None)
+    end = next((step for step in steps if not step.is_begin and begin is not None and step.line > begin.line), None)
+    if begin is None or end is None or None in (begin.time, end.time):
+        return None
+    found = MeasuredPhase(phase, begin.time, end_of(attempt, begin, end), [None] * len(numbers), [0] * len(numbers), None)
+    for callback in attempt.callbacks(phase):
+        number = numbers.get(callback.device)
+        if callback.end is None or number is None:
+            continue
+        found.callbacks[number] = found.callbacks[number] or callback
+        found.durations[number] += callback.end.time - callback.time
+    return found
+
+
+def end_of(attempt: Attempt, begin: SuspendResume, end: SuspendResume) -> int:
+    """When a phase ended. A late phase that failed has the way up inside it, before its own end."""
+    inside = (step for step in steps_of(attempt) if begin.line < step.line < end.line and step.phase in TIMED)
+    first = next(inside, end)
+    return first.time
+
+
+def asynchronous(attempt: Attempt, devices: list[Device], phases: dict[Phase, MeasuredPhase]) -> tuple[frozenset[int], bool]:
+    """The devices that were asynchronous in this attempt, and whether any was.
+
+    Asynchronous is who had a callback in another task than the attempt's. A device without callbacks is what /sys says of
+    it, if anybody was asynchronous at all.
+    """
+    maker = steps_of(attempt)[0].pid
+    apart, ran = set(), set()
+    for measured in phases.values():
+        for number, callback in enumerate(measured.callbacks):
+            if callback is not None:
+                ran.add(number)
+                if callback.pid != maker:
+                    apart.add(number)
+    said = {number for number, device in enumerate(devices) if device.is_async and number not in ran} if apart else set()
+    return frozenset(apart | said), bool(apart)
+
+
+def make_plan(recording: Recording, devices: list[Device], numbers: dict[Device, int], flags: frozenset[int],
+              phases: dict[Phase, MeasuredPhase]) -> Plan:
+    """The plan of an attempt's devices. A parent that is not in the list is passed by, up to one that is."""
+    ran = {number for measured in phases.values() for number, callback in enumerate(measured.callbacks) if callback is not None}
+    silent = {number for number, device in enumerate(devices) if number not in ran and may_be_left_alone(device)}
+    links = dict.fromkeys(PlanLink(numbers[link.supplier], numbers[link.consumer], link.is_dormant) for link in recording.links
+                          if link.supplier in numbers and link.consumer in numbers)
+    names = tuple(device.name for device in devices)
+    parents = tuple(parent_in_list(device, numbers) for device in devices)
+    return Plan(names, parents, tuple(links), tuple(range(len(devices))), flags, frozenset(silent))
+
+
+def may_be_left_alone(device: Device) -> bool:
+    """Whether nothing that is known of a device without callbacks keeps the kernel from leaving it alone."""
+    return not device.may_wake and getattr(device, "runtime_status", None) != "active"
+
+
+def parent_in_list(device: Device, numbers: dict[Device, int]) -> int | None:
+    """The nearest device above that is in the list: the kernel waits for the parent alone, which then is none of ours."""
+    return numbers.get(device.parent) if device.parent is not None else None
+
+
+def limit_taken(plan: Plan, phases: dict[Phase, MeasuredPhase], slept: bool) -> None:
+    """Sets which devices the walk came to, in the phase that turned the attempt around and in the one that undoes it."""
+    last = next((phase for phase in reversed(WAY_DOWN) if phase in phases), None)
+    if last is None or slept:
+        return
+    walk = list(reversed(plan.order))
+    began = [place for place, device in enumerate(walk) if phases[last].callbacks[device] is not None]
+    taken = frozenset(walk[: max(began, default=-1) + 1])
+    for phase in (last, UP_OF[last]):
+        if phase in phases:
+            phases[phase].taken = taken
