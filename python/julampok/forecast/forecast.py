@@ -51,7 +51,7 @@ class Wait:
     def words(self) -> str:
         """Why, in words."""
         if self.need is Need.WALK:
-            return f"after {self.other.shown}, which comes before it in the list"
+            return f"after {self.other.shown}, to which the walk over the list came before"
         first = f"waits for its {self.need}"
         if not self.through:
             return f"{first} {self.other.shown}"
