@@ -41,15 +41,25 @@ class MeasuredPhase:
 
 
 @dataclass(slots=True)
-class Measured:
-    """An attempt with its times. `devices` has the device of each number of the plan; `slept` says that the machine entered sleep."""
+class Listed:
+    """An attempt's devices, without any times. `devices` has the device of each number of the plan.
+
+    `callbacks` are by phase and device. `is_any_async` says that somebody ran in another task than the attempt's.
+    """
 
     attempt: Attempt
     devices: list[Device]
     plan: Plan
-    phases: dict[Phase, MeasuredPhase]
+    callbacks: dict[Phase, list[CallbackBegin | None]]
     slept: bool
     is_any_async: bool
+
+
+@dataclass(slots=True)
+class Measured(Listed):
+    """An attempt with its times."""
+
+    phases: dict[Phase, MeasuredPhase]
     is_one_pass: bool
 
 
@@ -80,6 +90,47 @@ def choose_attempt(recording: Recording, number: int | None = None) -> Attempt:
     return next((attempt for attempt in whole if attempt.steps("machine_suspend", True)), whole[0])
 
 
+def choose_listed(recording: Recording, number: int | None = None) -> Attempt:
+    """The attempt of that number; without one the first that slept, else the first that prepared devices.
+
+    Raises:
+        NoTimesError: there is none.
+    """
+    if number is not None:
+        return choose_attempt(recording, number)
+    prepared = [attempt for attempt in recording.attempts if attempt.callbacks(Phase.PREPARE)]
+    if not prepared:
+        raise NoTimesError("no attempt of the trace prepared devices, so their list is not known")
+    return next((attempt for attempt in prepared if attempt.steps("machine_suspend", True)), prepared[0])
+
+
+def list_devices(recording: Recording, attempt: Attempt) -> Listed:
+    """The devices of an attempt and who waits for whom.
+
+    Raises:
+        NoTimesError: the attempt prepared no device.
+    """
+    devices = list(dict.fromkeys(callback.device for callback in attempt.callbacks(Phase.PREPARE)))
+    if not devices:
+        raise NoTimesError(f"attempt {attempt.number} prepared no device, so its list is not known", attempt.line)
+    numbers = {device: number for number, device in enumerate(devices)}
+    callbacks = {phase: callbacks_of(attempt, phase, numbers) for phase in TIMED}
+    ran = {number for found in callbacks.values() for number, callback in enumerate(found) if callback is not None}
+    flags, is_any_async = asynchronous(attempt, devices, callbacks, ran)
+    plan = make_plan(recording, devices, numbers, flags, ran)
+    return Listed(attempt, devices, plan, callbacks, bool(attempt.steps("machine_suspend", True)), is_any_async)
+
+
+def callbacks_of(attempt: Attempt, phase: Phase, numbers: dict[Device, int]) -> list[CallbackBegin | None]:
+    """The callback of each device in a phase; None where it has none, or none that ended."""
+    found: list[CallbackBegin | None] = [None] * len(numbers)
+    for callback in attempt.callbacks(phase):
+        number = numbers.get(callback.device)
+        if number is not None and callback.end is not None:
+            found[number] = found[number] or callback
+    return found
+
+
 def measure(recording: Recording, attempt: Attempt) -> Measured:
     """The times of an attempt.
 
@@ -89,87 +140,59 @@ def measure(recording: Recording, attempt: Attempt) -> Measured:
     if recording.clock is Clock.COUNTER:
         raise NoTimesError("the clock of this trace is a counter, which has no times; record with 'echo boot > trace_clock' "
                            "in /sys/kernel/tracing, or with 'trace-cmd record -C boot'", attempt.line)
-    devices = listed(attempt)
-    if not devices:
-        raise NoTimesError(f"attempt {attempt.number} prepared no device, so its list is not known", attempt.line)
-    numbers = {device: number for number, device in enumerate(devices)}
-    phases = {phase: found for phase in TIMED if (found := measure_phase(attempt, phase, numbers)) is not None}
+    listed = list_devices(recording, attempt)
+    phases = {phase: found for phase in TIMED if (found := measure_phase(attempt, phase, listed.callbacks[phase])) is not None}
     if not phases:
         raise NoTimesError(f"attempt {attempt.number} came to no phase of devices", attempt.line)
-    flags, is_any_async = asynchronous(attempt, devices, phases)
-    plan = make_plan(recording, devices, numbers, flags, phases)
-    slept = bool(attempt.steps("machine_suspend", True))
-    limit_taken(plan, phases, slept)
-    return Measured(attempt, devices, plan, phases, slept, is_any_async, recording.version[:3] >= ONE_PASS_SINCE)
+    limit_taken(listed.plan, phases, listed.slept)
+    is_one_pass = recording.version[:3] >= ONE_PASS_SINCE
+    return Measured(listed.attempt, listed.devices, listed.plan, listed.callbacks, listed.slept, listed.is_any_async, phases, is_one_pass)
 
 
-def listed(attempt: Attempt) -> list[Device]:
-    """The devices in the order of prepare, which is that of the kernel's list; each once."""
-    return list(dict.fromkeys(callback.device for callback in attempt.callbacks(Phase.PREPARE)))
-
-
-def measure_phase(attempt: Attempt, phase: Phase, numbers: dict[Device, int]) -> MeasuredPhase | None:
+def measure_phase(attempt: Attempt, phase: Phase, callbacks: list[CallbackBegin | None]) -> MeasuredPhase | None:
     """The times of a phase; None where the attempt has none, or has its begin or end alone."""
     steps = [step for step in steps_of(attempt) if step.phase is phase]
     begin = next((step for step in steps if step.is_begin), None)
     end = next((step for step in steps if not step.is_begin and begin is not None and step.line > begin.line), None)
     if begin is None or end is None or None in (begin.time, end.time):
         return None
-    found = MeasuredPhase(phase, begin.time, end_of(attempt, begin, end), [None] * len(numbers), [0] * len(numbers), None)
-    for callback in attempt.callbacks(phase):
-        number = numbers.get(callback.device)
-        if callback.end is None or number is None:
-            continue
-        found.callbacks[number] = found.callbacks[number] or callback
-        found.durations[number] += callback.end.time - callback.time
-    return found
+    durations = [0 if callback is None else callback.end.time - callback.time for callback in callbacks]
+    return MeasuredPhase(phase, begin.time, end_of(attempt, begin, end), callbacks, durations, None)
 
 
 def end_of(attempt: Attempt, begin: SuspendResume, end: SuspendResume) -> int:
     """When a phase ended. A late phase that failed has the way up inside it, before its own end."""
     inside = (step for step in steps_of(attempt) if begin.line < step.line < end.line and step.phase in TIMED)
-    first = next(inside, end)
-    return first.time
+    return next(inside, end).time
 
 
-def asynchronous(attempt: Attempt, devices: list[Device], phases: dict[Phase, MeasuredPhase]) -> tuple[frozenset[int], bool]:
+def asynchronous(attempt: Attempt, devices: list[Device], callbacks: dict[Phase, list[CallbackBegin | None]],
+                 ran: set[int]) -> tuple[frozenset[int], bool]:
     """The devices that were asynchronous in this attempt, and whether any was.
 
     Asynchronous is who had a callback in another task than the attempt's. A device without callbacks is what /sys says of
     it, if anybody was asynchronous at all.
     """
     maker = steps_of(attempt)[0].pid
-    apart, ran = set(), set()
-    for measured in phases.values():
-        for number, callback in enumerate(measured.callbacks):
-            if callback is not None:
-                ran.add(number)
-                if callback.pid != maker:
-                    apart.add(number)
+    apart = {number for found in callbacks.values() for number, callback in enumerate(found)
+             if callback is not None and callback.pid != maker}
     said = {number for number, device in enumerate(devices) if device.is_async and number not in ran} if apart else set()
     return frozenset(apart | said), bool(apart)
 
 
-def make_plan(recording: Recording, devices: list[Device], numbers: dict[Device, int], flags: frozenset[int],
-              phases: dict[Phase, MeasuredPhase]) -> Plan:
-    """The plan of an attempt's devices. A parent that is not in the list is passed by, up to one that is."""
-    ran = {number for measured in phases.values() for number, callback in enumerate(measured.callbacks) if callback is not None}
-    silent = {number for number, device in enumerate(devices) if number not in ran and may_be_left_alone(device)}
+def make_plan(recording: Recording, devices: list[Device], numbers: dict[Device, int], flags: frozenset[int], ran: set[int]) -> Plan:
+    """The plan of an attempt's devices. A parent that is not in the list is none: nobody waits for it."""
+    silent = frozenset(number for number, device in enumerate(devices) if number not in ran and may_be_left_alone(device))
     links = dict.fromkeys(PlanLink(numbers[link.supplier], numbers[link.consumer], link.is_dormant) for link in recording.links
                           if link.supplier in numbers and link.consumer in numbers)
     names = tuple(device.name for device in devices)
-    parents = tuple(parent_in_list(device, numbers) for device in devices)
-    return Plan(names, parents, tuple(links), tuple(range(len(devices))), flags, frozenset(silent))
+    parents = tuple(None if device.parent is None else numbers.get(device.parent) for device in devices)
+    return Plan(names, parents, tuple(links), tuple(range(len(devices))), flags, silent)
 
 
 def may_be_left_alone(device: Device) -> bool:
     """Whether nothing that is known of a device without callbacks keeps the kernel from leaving it alone."""
     return not device.may_wake and getattr(device, "runtime_status", None) != "active"
-
-
-def parent_in_list(device: Device, numbers: dict[Device, int]) -> int | None:
-    """The nearest device above that is in the list: the kernel waits for the parent alone, which then is none of ours."""
-    return numbers.get(device.parent) if device.parent is not None else None
 
 
 def limit_taken(plan: Plan, phases: dict[Phase, MeasuredPhase], slept: bool) -> None:

@@ -8,6 +8,7 @@ from __future__ import annotations
 import enum
 from dataclasses import dataclass, replace
 from functools import cached_property
+from typing import Sequence
 
 
 class Need(enum.StrEnum):
@@ -18,6 +19,41 @@ class Need(enum.StrEnum):
     PARENT = "parent"
     SUPPLIER = "supplier"
     WALK = "list"  # The walk over the list came to it before, and had to end its callback first.
+
+
+def moved(children: Sequence[Sequence[int]], consumers: Sequence[Sequence[int]], device: int) -> list[int]:
+    """The device and all that hang below it, in the order in which a new link puts them to the end of the list.
+
+    The kernel moves the device, then its children and its consumers, each with what hangs below it. Of a device that it
+    moves more than once the last move counts, so this is the reverse of the order in which a search leaves them.
+    """
+    backward = lambda at: iter([*reversed(consumers[at]), *reversed(children[at])])
+    left, seen, todo = [], {device}, [(device, backward(device))]
+    while todo:
+        at, rest = todo[-1]
+        fresh = next((other for other in rest if other not in seen), None)
+        if fresh is None:
+            left.append(at)
+            todo.pop()
+        else:
+            seen.add(fresh)
+            todo.append((fresh, backward(fresh)))
+    return left[::-1]
+
+
+def order_after(parents: Sequence[int | None], links: Sequence[PlanLink]) -> list[int]:
+    """The list of devices that were registered in the order of their numbers, after links were made one by one."""
+    children, consumers = [[] for _ in parents], [[] for _ in parents]
+    for device, parent in enumerate(parents):
+        if parent is not None:
+            children[parent].append(device)
+    order = list(range(len(parents)))
+    for link in links:
+        consumers[link.supplier].append(link.consumer)
+        gone = moved(children, consumers, link.consumer)
+        kept = set(gone)
+        order = [device for device in order if device not in kept] + gone
+    return order
 
 
 class CycleError(Exception):
@@ -121,26 +157,8 @@ class Plan:
     # ---- what hangs below
 
     def moved(self, device: int) -> list[int]:
-        """The device and all that hang below it, in the order in which a new link puts them to the end of the list.
-
-        The kernel moves the device, then its children and its consumers, each with what hangs below it. Of a device that
-        it moves more than once the last move counts, so this is the reverse of the order in which a search leaves them.
-        """
-        left, seen = [], {device}
-        todo = [(device, iter(self._hung_backward(device)))]
-        while todo:
-            at, rest = todo[-1]
-            fresh = next((other for other in rest if other not in seen), None)
-            if fresh is None:
-                left.append(at)
-                todo.pop()
-            else:
-                seen.add(fresh)
-                todo.append((fresh, iter(self._hung_backward(fresh))))
-        return left[::-1]
-
-    def _hung_backward(self, device: int) -> list[int]:
-        return [*reversed(self.consumers[device]), *reversed(self.children[device])]
+        """The device and all that hang below it, in the order in which a new link puts them to the end of the list."""
+        return moved(self.children, self.consumers, device)
 
     def path_below(self, device: int, to: int, dormant: bool = False) -> list[tuple[int, Need | None]] | None:
         """The shortest way from a device down to another by children and consumers; None where there is none.
