@@ -17,34 +17,50 @@ NEAREST = 3  # The most names that a refusal offers.
 
 
 def find(devices: Sequence[Device], words: str) -> int:
-    """The number of the device that is named: by its name, by driver and name, as `NAME (DRIVER)`, or by its path.
+    """The number of the device that is named: by its name, as `DRIVER NAME`, `NAME (DRIVER)` or `PARENT/NAME`, or by its path.
+
+    Of several devices of one name the one that has callbacks is meant, if it is one.
 
     Raises:
         CannotError: no device has that name, or several have.
     """
-    path = words.removeprefix("/sys/").removeprefix("/").removeprefix("devices/").strip("/")
-    forms = lambda device: (device.name, device.shown, f"{device.driver} {device.name}".strip())
-    found = [number for number, device in enumerate(devices) if words in forms(device)]
+    found = [number for number, device in enumerate(devices) if words in (device.name, device.shown, with_driver(device))]
     if not found and "/" in words:
-        found = [number for number, device in enumerate(devices) if same_path(device, path)]
+        path = words.removeprefix("/sys/").removeprefix("/").removeprefix("devices/").strip("/")
+        found = [number for number, device in enumerate(devices) if path in (path_of(device), with_parent(device))]
+    busy = [number for number in found if devices[number].has_callbacks]
+    found = busy if len(busy) == 1 else found
     if len(found) == 1:
         return found[0]
     if found:
-        raise CannotError(f"{len(found)} devices are named {words!r}: {', or '.join(told_apart(devices, found))}")
+        raise CannotError(f"{len(found)} devices are named {words!r}: {' or '.join(told_apart(devices, found))}")
     raise CannotError(f"there is no device {words!r}; {nearest(devices, words)}")
 
 
-def same_path(device: Device, path: str) -> bool:
-    """Whether a device stands at that path below /sys/devices."""
-    return device.path is not None and device.path.removeprefix("/sys/").removeprefix("devices/").strip("/") == path
+def with_driver(device: Device) -> str:
+    """The device as a trace names it: its driver, then its name."""
+    return f"{device.driver} {device.name}".strip()
+
+
+def with_parent(device: Device) -> str:
+    """The device with its parent before it."""
+    return device.name if device.parent is None else f"{device.parent.name}/{device.name}"
+
+
+def path_of(device: Device) -> str | None:
+    """The folder of a device below /sys/devices; None where it is not known."""
+    return None if device.path is None else device.path.removeprefix("/sys/").removeprefix("devices/").strip("/")
 
 
 def told_apart(devices: Sequence[Device], numbers: Sequence[int]) -> list[str]:
-    """Words that name each of some devices alone: its driver and name, or its path."""
-    shown = [f"{devices[number].driver} {devices[number].name}".strip() for number in numbers]
-    is_plain = len(set(shown)) == len(shown) and all(words != devices[number].name for words, number in zip(shown, numbers))
-    plain = [words if is_plain else devices[number].path or words for words, number in zip(shown, numbers)]
-    return [repr(words) for words in plain]
+    """Words that name each of some devices of one name alone: with its driver, with its parent, or its path."""
+    forms = [[words(devices[number]) for number in numbers] for words in (with_driver, with_parent, path_of)]
+    found = []
+    for place, number in enumerate(numbers):
+        name = devices[number].name
+        fitting = (shown[place] for shown in forms if shown[place] not in (None, name) and shown.count(shown[place]) == 1)
+        found.append(repr(next(fitting, name)))
+    return found
 
 
 def nearest(devices: Sequence[Device], words: str) -> str:
@@ -99,7 +115,7 @@ def with_pm_async(measured: Measured, plan: Plan, is_on: bool, changes: list[str
 
 def listed_async(device: Device) -> bool:
     """Whether /sys or a list of devices says that a device asks to be asynchronous."""
-    return bool(getattr(device, "listed_async", device.is_async))
+    return bool(device.listed_async)
 
 
 def flag(devices: Sequence[Device], plan: Plan, number: int, is_async: bool, changes: list[str], notes: list[str]) -> Plan:

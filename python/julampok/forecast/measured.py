@@ -2,6 +2,7 @@
 
 from __future__ import annotations
 
+import re
 from dataclasses import dataclass
 
 from julampok.kernel.recording import Attempt, CallbackBegin, Clock, Device, Phase, Recording, SuspendResume
@@ -12,6 +13,7 @@ WAY_DOWN = (Phase.SUSPEND, Phase.LATE, Phase.NOIRQ)
 WAY_UP = (Phase.RESUME_NOIRQ, Phase.EARLY, Phase.RESUME)
 TIMED = (*WAY_DOWN, *WAY_UP)
 UP_OF = dict(zip(WAY_DOWN, reversed(WAY_UP)))
+DEBIAN_SINCE = 18
 ONE_PASS_SINCE = (6, 1, 76)  # From this version on the walk on the way up gives out asynchronous devices as it comes to them.
 
 
@@ -145,8 +147,17 @@ def measure(recording: Recording, attempt: Attempt) -> Measured:
     if not phases:
         raise NoTimesError(f"attempt {attempt.number} came to no phase of devices", attempt.line)
     limit_taken(listed.plan, phases, listed.slept)
-    is_one_pass = recording.version[:3] >= ONE_PASS_SINCE
+    is_one_pass = gives_out_in_passing(recording)
     return Measured(listed.attempt, listed.devices, listed.plan, listed.callbacks, listed.slept, listed.is_any_async, phases, is_one_pass)
+
+
+def gives_out_in_passing(recording: Recording) -> bool:
+    """Whether the walk on the way up gives out asynchronous devices as it comes to them, and not all of them first.
+
+    Debian's kernels name themselves 6.1.0-NUMBER whatever their version is: number 18 was the first that is 6.1.76.
+    """
+    debian = re.match(r"6\.1\.0-(\d+)-", recording.version_text)
+    return int(debian[1]) >= DEBIAN_SINCE if debian else recording.version[:3] >= ONE_PASS_SINCE
 
 
 def measure_phase(attempt: Attempt, phase: Phase, callbacks: list[CallbackBegin | None]) -> MeasuredPhase | None:
@@ -192,7 +203,7 @@ def make_plan(recording: Recording, devices: list[Device], numbers: dict[Device,
 
 def may_be_left_alone(device: Device) -> bool:
     """Whether nothing that is known of a device without callbacks keeps the kernel from leaving it alone."""
-    return not device.may_wake and getattr(device, "runtime_status", None) != "active"
+    return not device.may_wake and device.runtime_status != "active"
 
 
 def limit_taken(plan: Plan, phases: dict[Phase, MeasuredPhase], slept: bool) -> None:
