@@ -18,7 +18,7 @@ BEGIN = re.compile(r"(.*), parent: (.+?), ([a-z ]*\[(\w+)\])")
 END = re.compile(r"(.*), err=(-?\d+)")
 STEP = re.compile(r"(\w+)\[(-?\d+)\] (begin|end)")
 SOURCE = re.compile(r"(.*) state=0x([0-9a-f]+)")
-ENTERS = re.compile(r"suspend_resume: +suspend_enter\[\d+\] begin")
+ENTERS = re.compile(r"suspend_resume: +suspend_enter\[\d+\] ")
 # What a phase of each name has to say of its callbacks in `noirq driver [suspend]`: the first word, and the event in brackets.
 FIRST_WORDS = {"late": ("dpm_suspend_late",), "noirq": ("dpm_suspend_noirq", "dpm_resume_noirq"), "early": ("dpm_resume_early",)}
 # Events of devices that belong to a hibernation, by the value of their phase.
@@ -140,7 +140,7 @@ class Lines:
         if self.has_enters:
             return event.action == "suspend_enter"
         firsts = ("sync_filesystems", "freeze_processes", "dpm_prepare")
-        if event.action not in firsts or event.value in HIBERNATION:
+        if event.action not in firsts or event.value in HIBERNATION or self.strays and not self.attempts:
             return False
         if self.open_attempt is None:
             return True
@@ -266,6 +266,8 @@ class Lines:
 
     def no_attempt(self, last: int) -> CannotError:
         """The error of a trace without a whole attempt."""
+        if self.head.tracer in ("function_graph", "function"):
+            return CannotError(f"a trace of the tracer {self.head.tracer}, whose lines are not read: record with the tracer 'nop'", self.file)
         if self.strays:
             return self.fault(self.strays[0], "the trace begins inside an attempt and has no whole one, which suspend_enter begins")
         if self.unknown is not None:
@@ -280,13 +282,18 @@ class Lines:
         before = [line for line in self.strays if line < first]
         after = [line for line in self.strays if line > first]
         if before:
-            self.notes.append(Note(f"the trace begins inside an attempt: {len(before)} lines before line {first} are left out", self.file, before[0]))
+            self.notes.append(Note(f"the trace begins inside an attempt: {counted(before)} before line {first} left out", self.file, before[0]))
         if after:
-            self.notes.append(Note(f"{len(after)} lines of steps or callbacks outside of an attempt are left out, the first in line {after[0]}", self.file, after[0]))
+            self.notes.append(Note(f"steps or callbacks outside of an attempt: {counted(after)} left out, the first here", self.file, after[0]))
         if self.unknown is not None:
             self.notes.append(Note(f"no line of a trace, outside of an attempt: {self.unknown[1][:80]!r}", self.file, self.unknown[0]))
         if self.head.overwritten_line is not None:
             self.notes.append(Note("the trace's buffer was too small: its oldest events are lost", self.file, self.head.overwritten_line))
+
+
+def counted(lines: list[int]) -> str:
+    """How many lines there are, in words."""
+    return "1 line" if len(lines) == 1 else f"{len(lines)} lines"
 
 
 def text_of(file: str, data: bytes) -> str:

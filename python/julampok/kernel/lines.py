@@ -2,16 +2,16 @@
 
 Layouts that are read: the plain one of both programs (`TASK-PID [CPU] FLAGS TIME: EVENT: TEXT`, with or without a thread
 group and flags) and the latency layout of both (`TASK-PID CPUFLAGS TIME: EVENT: TEXT`, and tracefs's TIME in microseconds
-since the trace began, as `123us+`).
+since the trace began, as `123us+`). Lines of function tracers, whose text has no event, are passed over.
 """
 
 import re
 from dataclasses import dataclass
 
 PLAIN = re.compile(
-    r"\s*(\S.*?)-(\d+)\s+(?:\( *[\d-]+\)\s+)?\[(\d+)\]\s+(?:([^\s:\d(][^\s:]{2,8})\s+)?(\d+(?:\.\d+)?):\s+(?:\(\+\d+\)\s+)?(?:power:)?(\w+):(.*)")
+    r"\s*(\S.*?)-(\d+)\s+(?:\( *[\d-]+\)\s+)?\[(\d+)\]\s+(?:([^\s:\d(][^\s:]{2,8})\s+)?(\d+(?:\.\d+)?):(?:\s+\(\+\d+\))?(?:\s+(?:power:)?(\w+):)?(.*)")
 LATENCY = re.compile(
-    r"\s*(\S.*?)-(\d+)\s+(\d+)([^\s:\d][^\s:]{2,8})\s+(\d+(?:\.\d+)?|\d+us.?)\s*:\s+(?:\(\+\d+\)\s+)?(?:power:)?(\w+):(.*)")
+    r"\s*(\S.*?)-(\d+)\s+(\d+)([^\s:\d][^\s:]{2,8})\s+(\d+(?:\.\d+)?|\d+us.?)\s*:(?:\s+\(\+\d+\))?(?:\s+(?:power:)?(\w+):)?(.*)")
 # Lines that are no events: comments, stack traces, what trace-cmd writes above and between, and empty ones.
 ASIDE = re.compile(r"\s*(#.*|=> .*|cpus=\d+|version *= *\S*|CPU \d+ is empty|trace-cmd: .*|CPU:\d+ \[SUBBUFFER START\].*)?\s*")
 LOST = re.compile(r"\s*CPU:\d+ \[(LOST \d+ EVENTS?|(\d+ )?EVENTS DROPPED)\]\s*")

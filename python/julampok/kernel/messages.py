@@ -32,7 +32,7 @@ FACTS = [(fact, re.compile(pattern)) for fact, pattern in (
     (Fact.FREEZE_KERNEL_DONE, r"Freezing remaining freezable tasks (?:completed|\.\.\. .*done\.)"),
     (Fact.FREEZE_USER, r"Freezing user space processes"),
     (Fact.FREEZE_KERNEL, r"Freezing remaining freezable tasks"),
-    (Fact.TASK, r"task:(?P<words>.+?) +state:.*pid: *(?P<number>\d+)"),
+    (Fact.TASK, r"task:(?P<words>.+?) +state:.*?\bpid: *(?P<number>\d+)"),
     (Fact.CALLBACK_ERROR, DEVICE + r"dpm_run_callback\(\): .* returns (?P<number>-?\d+)"),
     (Fact.CALLBACK_ERROR, r"PM: dpm_run_callback\(\): .* returns (?P<number>-?\d+)(?P<words>)"),
     (Fact.DEVICE_FAILED, r"PM: Device (?P<words>.+) failed to (?P<verb>suspend|resume)(?P<info>[a-z ]*): error (?P<number>-?\d+)"),
@@ -139,7 +139,8 @@ def is_alike(attempt: Attempt, told_of: Told) -> bool:
         return False
     errors = {begin.end.error for begin in attempt.callbacks() if begin.end is not None}
     failed = {message.number for message in told_of.all(Fact.DEVICE_FAILED)}
-    return failed <= errors and len(told_of.all(Fact.CPU_OFFLINE)) in (0, len(attempt.steps("CPU_OFF", False)))
+    offline = {message.number for message in told_of.all(Fact.CPU_OFFLINE)}
+    return failed <= errors and (not offline or offline == {step.value for step in attempt.steps("CPU_OFF", False)})
 
 
 def join(file: str, attempts: list[Attempt], messages: list[Message]) -> list[Note]:
@@ -159,7 +160,7 @@ def join(file: str, attempts: list[Attempt], messages: list[Message]) -> list[No
             notes.append(Note(f"the messages are not those of the attempt in line {attempt.line} of the trace: not taken", file, line))
     if counts[0] != counts[1]:
         first = next((attempt.told.messages[0].line for attempt in attempts if attempt.told), None)
-        notes.append(Note(f"messages of {counts[1]} attempts, of which the trace has {counts[0]}: joined from here", file, first))
+        notes.append(Note(f"the messages tell of {counts[1]} attempts, the trace has {counts[0]}: joined from here", file, first))
     return notes
 
 

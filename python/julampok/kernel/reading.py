@@ -65,7 +65,15 @@ def read_inputs(trace, sys=None, devices=None, links=None, dmesg=None, kernel=No
     recording.date = lines.head.date
     settle_version(recording, lines, kernel)
     settle_processors(recording, lines, machine, sys)
+    note_end(recording)
     return recording
+
+
+def note_end(recording: Recording) -> None:
+    """Notes a last attempt that ends in front of the freeze: the trace may be cut off there, if dmesg does not have its exit."""
+    last = recording.attempts[-1]
+    if not last.steps("freeze_processes") and not last.steps("dpm_prepare") and not (last.told and last.told.is_whole):
+        recording.notes.append(Note("the last attempt ends here, before tasks freeze; or the trace does", recording.trace_file, last.last_line))
 
 
 def read_sys(path) -> tree.Machine:

@@ -289,7 +289,7 @@ class Attempt:
 
 @dataclass(slots=True, eq=False)
 class Recording:
-    """What the inputs tell. `events` are in the order of the file; of an attempt that is cut off none is among them.
+    """What the inputs tell. `events` are in the order of the file; of an attempt that is cut off only wakeup sources are there.
 
     `devices` are in the order of the kernel's list as far as prepare shows it, parents first where it does not; then those
     that only /sys or the list of devices has. `links` are in the order of their file.
