@@ -1,0 +1,271 @@
+"""The devices of a recording as the log needs them: who hangs below whom, and the order of the kernel's list in each attempt.
+
+The list is the order of prepare. Links move devices in it, and devices are registered while others stand there already, so
+the parents and links of a machine file alone do not give it. Dormant links, which move devices and let nobody wait, do.
+"""
+
+from __future__ import annotations
+
+from collections import deque
+from dataclasses import dataclass, field
+
+from ..errors import CannotError
+from ..limits import MOST, MOST_LINKS
+from ..kernel.recording import Attempt, CallbackBegin, Device, Note, Phase, Recording
+
+MOST_DEVICES = MOST["devices"]
+
+
+class OutOfOrder(Exception):
+    """The kernel did what no legal log has.
+
+    `line` is the line of the trace, `did` what the kernel did there, `first` what had to come first, `first_line` the line
+    in which that stands (None: in none), `because` the parents, links and places in the list that say so.
+    """
+
+    def __init__(self, line: int, did: str, first: str, first_line: int | None, because: list[str], entry: tuple | None = None):
+        super().__init__(f"line {line}: {did}; {first}")
+        self.line, self.did, self.first, self.first_line, self.because, self.entry = line, did, first, first_line, because, entry
+
+
+@dataclass(slots=True, eq=False)
+class Kin:
+    """Devices by their numbers: place in the machine file. `above` and `below` are who waits for whom, by links that count."""
+
+    devices: list[Device]
+    parents: list[int | None]
+    children: list[list[int]]
+    consumers: list[list[int]]  # Of all links, the oldest first: what the list's order follows.
+    above: list[list[int]]
+    below: list[list[int]]
+    is_async: list[bool]
+    links: list[tuple[int, int]] = field(default_factory=list)  # Suppliers and consumers that are no parents and children.
+    number: dict[Device, int] = field(default_factory=dict)
+
+    def hang(self, device: int, parent: int) -> None:
+        """Gives a device its parent."""
+        self.parents[device] = parent
+        self.children[parent].append(device)
+        self.above[device].append(parent)
+        self.below[parent].append(device)
+
+    def moved(self, device: int) -> list[int]:
+        """What a new link of this consumer moves to the end of the list: it, and all that hangs below it, in order."""
+        found, seen, stack = [], set(), [(device, None)]
+        while stack:
+            at, rest = stack[-1]
+            if rest is None:
+                if at in seen:
+                    stack.pop()
+                    continue
+                seen.add(at)
+                rest = [*self.children[at], *self.consumers[at]]
+                stack[-1] = at, rest
+            if rest:
+                stack.append((rest.pop(), None))
+            else:
+                found.append(at)
+                stack.pop()
+        return found[::-1]
+
+    def move(self, order: list[int], device: int) -> list[int]:
+        """The list after a new link of this consumer."""
+        last = self.moved(device)
+        taken = set(last)
+        return [one for one in order if one not in taken] + last
+
+
+def listed(recording: Recording) -> list[Device]:
+    """The devices of the kernel's list: those that a callback of the trace names, in the order of the list."""
+    return [device for device in recording.devices if device.line is not None]
+
+
+def join(recording: Recording) -> tuple[list[Device], dict[Device, list[Device]], list[Note]]:
+    """The devices that the machine gets, whom each waits for on the way up, and notes.
+
+    More than a machine file may have are brought down: leaves that never have a callback go, then devices without a callback
+    between others, whose waits are kept. Raises CannotError where devices with callbacks alone are too many.
+    """
+    devices = listed(recording)
+    here = set(devices)
+    above = {device: [device.parent] if device.parent in here else [] for device in devices}
+    for link in recording.links:
+        if not link.is_dormant and link.supplier in here and link.consumer in here:
+            above[link.consumer].append(link.supplier)
+    if len(devices) <= MOST_DEVICES:
+        return devices, above, []
+    kept = drop_leaves(devices, above)
+    kept, above = drop_between(kept, above)
+    if len(kept) > MOST_DEVICES:
+        raise CannotError(f"{len(kept)} devices have callbacks; a machine file has at most {MOST_DEVICES}", recording.trace_file)
+    text = f"{len(devices)} devices, more than the {MOST_DEVICES} of a machine file: {len(devices) - len(kept)} that never have a callback are left out, and whoever waited through them still waits"
+    return kept, above, [Note(text, recording.trace_file)]
+
+
+def drop_leaves(devices: list[Device], above: dict) -> list[Device]:
+    """The devices without those that have no callback and below which nobody has one."""
+    count = dict.fromkeys(devices, 0)
+    for found in above.values():
+        for one in found:
+            count[one] += 1
+    todo = deque(device for device in devices if count[device] == 0 and not device.has_callbacks)
+    gone = set()
+    while todo:
+        device = todo.popleft()
+        gone.add(device)
+        for one in above[device]:
+            count[one] -= 1
+            if count[one] == 0 and not one.has_callbacks:
+                todo.append(one)
+    return [device for device in devices if device not in gone]
+
+
+def drop_between(devices: list[Device], above: dict) -> tuple[list[Device], dict]:
+    """The devices without some that have no callback, whose needs go to those that waited for them."""
+    over = len(devices) - MOST_DEVICES
+    here = set(devices)
+    above = {device: [one for one in above[device] if one in here] for device in devices}
+    below = {device: [] for device in devices}
+    for device in devices:
+        for one in above[device]:
+            below[one].append(device)
+    silent = [device for device in devices if not device.has_callbacks]
+    silent.sort(key=lambda device: len(above[device]) * len(below[device]))
+    gone = set()
+    for device in silent[:max(0, over)]:
+        gone.add(device)
+        for one in below[device]:
+            others = [other for other in above[device] if other not in above[one]]
+            above[one] = [other for other in above[one] if other is not device] + others
+        for one in above[device]:
+            others = [other for other in below[device] if other not in below[one]]
+            below[one] = [other for other in below[one] if other is not device] + others
+    return [device for device in devices if device not in gone], above
+
+
+def settle(recording: Recording) -> tuple[Kin, list[Note]]:
+    """The kin of a recording, its devices in the order of the first list that the trace shows whole, parents first."""
+    devices, above, notes = join(recording)
+    order = first_order(recording, devices, above)
+    number = {device: place for place, device in enumerate(order)}
+    count = len(order)
+    kin = Kin(order, [None] * count, [[] for _ in order], [[] for _ in order], [[] for _ in order], [[] for _ in order],
+              [device.is_async for device in order], number=number)
+    for place, device in enumerate(order):
+        for one in dict.fromkeys(above[device]):
+            if one is device.parent:
+                kin.hang(place, number[one])
+            else:
+                kin.links.append((number[one], place))
+    return kin, notes
+
+
+def first_order(recording: Recording, devices: list[Device], above: dict) -> list[Device]:
+    """The devices in the order of the first prepare that shows a list, then the others; parents first."""
+    here, order = set(devices), {}
+    first = next((attempt for attempt in recording.attempts if attempt.callbacks(Phase.PREPARE)), None)
+    shown = [begin.device for begin in first.callbacks(Phase.PREPARE)] if first else []
+    for device in [*shown, *devices]:
+        chain = []
+        while device is not None and device in here and device not in order and device not in chain:
+            chain.append(device)
+            device = device.parent
+        order |= dict.fromkeys(reversed(chain))
+    return list(order)
+
+
+def prepared(attempt: Attempt, number: dict[Device, int]) -> list[tuple[int, CallbackBegin]]:
+    """The devices that an attempt prepares, each once, with the last line of its prepare."""
+    found = {}
+    for begin in attempt.callbacks(Phase.PREPARE):
+        if begin.device in number:
+            found.pop(number[begin.device], None)
+            found[number[begin.device]] = begin
+    return list(found.items())
+
+
+def target(order: list[int], shown: list[int]) -> list[int]:
+    """The list as an attempt shows it: its devices in their order; those that it does not show stay behind whom they stood behind."""
+    here = set(shown)
+    behind: dict[int | None, list[int]] = {}
+    last = None
+    for device in order:
+        if device in here:
+            last = device
+        else:
+            behind.setdefault(last, []).append(device)
+    found = list(behind.get(None, []))
+    for device in shown:
+        found.append(device)
+        found += behind.get(device, [])
+    return found
+
+
+def fixed(order: list[int], wanted: list[int]) -> int:
+    """How many devices at the front of the wanted list may stay where they are, since they stand in this order already."""
+    places = {device: place for place, device in enumerate(order)}
+    last = -1
+    for count, device in enumerate(wanted):
+        if places[device] < last:
+            return count
+        last = places[device]
+    return len(wanted)
+
+
+class Mover:
+    """Brings the machine's list to the order of each attempt, by links that are dormant."""
+
+    def __init__(self, kin: Kin):
+        self.kin = kin
+        self.order = list(range(len(kin.devices)))
+        self.stand = set()  # The links that stand.
+        self.next_supplier = [0] * len(kin.devices)
+        self.real: dict[int, list[int]] = {}
+        self.cycles: list[tuple[int, int]] = []  # Links that close a cycle, which are left out.
+        for supplier, consumer in kin.links:
+            self.real.setdefault(consumer, []).append(supplier)
+
+    def add(self, supplier: int, consumer: int, is_dormant: bool) -> dict:
+        """Adds a link, which moves its consumer; gives it."""
+        self.kin.consumers[supplier].append(consumer)
+        self.order = self.kin.move(self.order, consumer)
+        self.stand.add((supplier, consumer))
+        if not is_dormant:
+            self.kin.above[consumer].append(supplier)
+            self.kin.below[supplier].append(consumer)
+        return {"supplier": supplier, "consumer": consumer, "is_dormant": is_dormant}
+
+    def begin(self, wanted: list[int]) -> list[dict]:
+        """The links of the file, after which the list stands as wanted. Each link that counts is among them."""
+        places = {device: place for place, device in enumerate(wanted)}
+        first = min((places[consumer] for consumer in self.real), default=len(wanted))
+        found = []
+        for device in wanted[min(first, fixed(self.order, wanted)):]:
+            real = self.real.pop(device, [])
+            for supplier in real:
+                if self.hangs(supplier, device):
+                    self.cycles.append((supplier, device))
+                else:
+                    found.append(self.add(supplier, device, False))
+            if not real:
+                found += self.to_end(device)
+        return found
+
+    def to_end(self, device: int) -> list[dict]:
+        """A dormant link that moves a device to the end, where one can be made."""
+        for supplier in range(self.next_supplier[device], len(self.order)):
+            self.next_supplier[device] = supplier + 1
+            if supplier != device and (supplier, device) not in self.stand and not self.hangs(supplier, device):
+                return [self.add(supplier, device, True)]
+        return []
+
+    def hangs(self, device: int, above: int) -> bool:
+        """Whether a device hangs below another one."""
+        return bool(self.kin.children[above] or self.kin.consumers[above]) and device in self.kin.moved(above)
+
+    def change(self, wanted: list[int]) -> list[dict]:
+        """The links that a script adds between two attempts, after which the list stands as wanted."""
+        found = []
+        for device in wanted[fixed(self.order, wanted):]:
+            found += self.to_end(device)
+        return found
