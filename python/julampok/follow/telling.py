@@ -1,0 +1,206 @@
+"""Tells of one attempt what stopped it, in plain sentences. `line N` is a line of the trace, `dmesg line N` one of dmesg."""
+
+from __future__ import annotations
+
+import errno
+
+from ..kernel.recording import CallbackBegin, CallbackEnd, Fact, Phase, SourceActivate
+from .attempt import Following
+from .outcome import Guard, Outcome, Where, Why
+
+MOST_NAMED = 4  # Devices that one sentence names.
+PLATFORM = {Where.BEGIN: "begin", Where.PLATFORM_PREPARE: "prepare", Where.PREPARE_LATE: "prepare_late",
+            Where.IDLE_PREPARE: "prepare for suspend-to-idle"}
+TESTS = {"cpu": "The test before processor {} went off found it.", "core": "The test before the first step of the system core found it.",
+         "last": "The last test before the entry found it."}
+LEVELS = {Where.FROZEN: "freezer", Where.PLATFORM_PREPARE: "devices", Where.PREPARE_LATE: "platform", Where.CPUS: "processors",
+          Where.LAST: "core"}
+
+
+def error_text(number: int) -> str:
+    """An error as the trace has it, with its name: `-5 (EIO)`."""
+    name = errno.errorcode.get(-number)
+    return f"{number} ({name})" if name else str(number)
+
+
+def listed(names: list[str]) -> str:
+    """Names in a sentence."""
+    if len(names) > MOST_NAMED:
+        return f"{', '.join(names[:MOST_NAMED])} and {len(names) - MOST_NAMED} more"
+    return names[0] if len(names) == 1 else f"{', '.join(names[:-1])} and {names[-1]}" if names else ""
+
+
+class Teller:
+    """Tells of one attempt that was followed."""
+
+    def __init__(self, following: Following, names: dict[str, str]):
+        self.following, self.names = following, names
+        self.attempt, self.outcome = following.seen.attempt, following.outcome
+        self.told = self.attempt.told
+
+    # ---- the answer
+
+    def answer(self) -> str | None:
+        """What the write to state answered, as far as it is known; None where no input tells."""
+        outcome, seen = self.outcome, self.following.seen
+        if outcome.why in (Why.NOTHING, Why.PM_TEST):
+            return None if outcome.why == Why.NOTHING and outcome.or_else else "0"
+        if outcome.why in (Why.EVENT, Why.TIMEOUT):
+            return "EBUSY"
+        if outcome.why == Why.ERROR and outcome.where in (Where.PREPARE, Where.SUSPEND, Where.LATE, Where.NOIRQ):
+            return self.phase_error(seen.errors[self.phase()])
+        return None
+
+    def phase(self) -> Phase:
+        """The phase in which a callback answered an error."""
+        return {Where.PREPARE: Phase.PREPARE, Where.SUSPEND: Phase.SUSPEND, Where.LATE: Phase.LATE, Where.NOIRQ: Phase.NOIRQ}[self.outcome.where]
+
+    def phase_error(self, ends: list[CallbackEnd]) -> str:
+        """The error that a phase answers: a synchronous device's own, else the last one."""
+        own = [end for end in ends if not end.device.is_async]
+        number = (own or ends)[-1].error
+        return errno.errorcode.get(-number, str(number))
+
+    # ---- what stopped it
+
+    def sentences(self) -> list[str]:
+        """What stopped the attempt, and what was undone; where nothing did, that it slept."""
+        outcome = self.outcome
+        if outcome.why == Why.NOTHING:
+            return self.slept()
+        tellers = {Why.EVENT: self.by_event, Why.ERROR: self.by_error, Why.TIMEOUT: self.by_timeout, Why.NOT_TOLD: self.not_told,
+                   Why.PM_TEST: self.by_test}
+        found = tellers[outcome.why]()
+        if outcome.or_else:
+            found.append(f"It may also have been {outcome.or_else}: no input tells.")
+        return found + self.undone()
+
+    def slept(self) -> list[str]:
+        """An attempt that came to the bottom."""
+        if self.outcome.where == Where.IDLE:
+            line = self.following.seen.line("machine_suspend")
+            found = [f"The machine was in suspend-to-idle from line {line}." if line else "The machine came to suspend-to-idle, and an event kept it from idling."]
+            if self.outcome.or_else:
+                found.append(f"It may also have been {self.outcome.or_else}: no input tells.")
+            return found
+        found = [f"The machine slept, by line {self.following.seen.line('machine_suspend')}."]
+        events = [event for event in self.following.seen.events if event.line < self.following.seen.line("machine_suspend")]
+        if events:
+            found.append(f"{events[0].source} reported an event before, in line {events[0].line}: no saved count was in force, so no test found it.")
+        return found
+
+    def by_event(self) -> list[str]:
+        """An event stopped it."""
+        event, found = self.outcome.event, []
+        if event is None:
+            message = self.told.first(Fact.ACTIVE_SOURCE, Fact.LAST_SOURCE) if self.told else None
+            who = f"{message.words} (dmesg line {message.line})" if message else "a source that no input names"
+            found.append(f"An event of {who} stopped it; no line of the trace shows the event.")
+        else:
+            found.append(f"{event.source} reported an event in line {event.line}, {self.reporter(event)}.")
+        found.append(self.test())
+        found.append(self.guard())
+        return found
+
+    def reporter(self, event: SourceActivate) -> str:
+        """Who reported an event, and what went on meanwhile."""
+        callback = self.following.seen.reports.get(event)
+        if callback is not None:
+            return f"from the {callback.phase} callback of {callback.device.shown}, which began in line {callback.line}"
+        if event.is_in_interrupt:
+            who = "from a hard interrupt" if event.is_in_hardirq else "from a softirq"
+        else:
+            who = f"from the task {event.task}-{event.pid}"
+        if event.line < self.attempt.line:
+            return f"{who}, before the attempt began"
+        inside = [f"{begin.device.shown} in its {begin.phase} callback of line {begin.line}" for begin in self.inside(event.line)]
+        return f"{who}, with {listed(inside)}" if inside else who
+
+    def inside(self, line: int) -> list[CallbackBegin]:
+        """The callbacks that were open at a line."""
+        return [begin for begin in self.attempt.callbacks() if begin.line < line and begin.end is not None and begin.end.line > line]
+
+    def test(self) -> str:
+        """Which test found the event."""
+        kind, what = self.following.found or ("", "")
+        if kind == "freeze":
+            return f"The freezer found it: {self.tasks()}."
+        if kind in TESTS:
+            return TESTS[kind].format(self.processor(what) if kind == "cpu" else what)
+        return f"The test before the {kind} callback of {what} found it."
+
+    def processor(self, what: str) -> str:
+        """The number of a processor as the kernel has it."""
+        went = self.following.seen.cpus
+        on = next((went[-1] + 1 for _ in went[-1:]), int(what))
+        return str(on)
+
+    def guard(self) -> str:
+        """Whether a saved count or a hard event made the test find it."""
+        pending = self.told.first(Fact.WAKEUP_PENDING) if self.told else None
+        if self.outcome.guard == Guard.SAVED and pending is not None:
+            return f"A saved count was in force (dmesg line {pending.line})."
+        if not self.outcome.is_guard_told:
+            return "Whether a saved count or a hard event made the test find it is not told."
+        if self.outcome.guard == Guard.SAVED:
+            return "A saved count was in force, which the autosleep work saves before each attempt."
+        return "It was a hard event: dmesg has no 'Wakeup pending, aborting suspend', which a saved count writes."
+
+    def tasks(self) -> str:
+        """The tasks that did not freeze."""
+        names = [f"{message.words} (dmesg line {message.line})" for message in self.outcome.tasks]
+        kind = ("a kernel thread" if self.outcome.is_kernel else "a user task") if self.outcome.is_group_told else "user or kernel, not told"
+        if names:
+            return f"{listed(names)} had not frozen, {kind}" if len(names) == 1 else f"{listed(names)} had not frozen"
+        inside = [script.name for script in self.following.owner.journal.scripts if script.name in self.names]
+        return f"not all tasks had frozen ({kind})" if not inside else f"not all tasks had frozen ({kind})"
+
+    def by_error(self) -> list[str]:
+        """An error stopped it."""
+        outcome, seen = self.outcome, self.following.seen
+        if outcome.where in (Where.PREPARE, Where.SUSPEND, Where.LATE, Where.NOIRQ):
+            return [self.callback_error(end) for end in seen.errors[self.phase()]]
+        message = f" (dmesg line {outcome.message.line}: {outcome.message.text})" if outcome.message else ""
+        if outcome.where == Where.CPUS:
+            return [f"A processor did not go off{message}; its error is not told."]
+        return [f"A step of the system core failed{message}; its error is not told."]
+
+    def callback_error(self, end: CallbackEnd) -> str:
+        """A callback that answered an error."""
+        how = ", asynchronously" if end.device.is_async and end.phase != Phase.PREPARE else ""
+        return f"{end.device.shown} answered {error_text(end.error)} in {end.phase}{how}, line {end.line}."
+
+    def by_timeout(self) -> list[str]:
+        """Tasks did not freeze in time."""
+        line = f" (dmesg line {self.outcome.message.line})" if self.outcome.message else ""
+        return [f"Tasks did not freeze in time{line}: {self.tasks()}."]
+
+    def not_told(self) -> list[str]:
+        """A step failed of which no input tells the error."""
+        step = PLATFORM.get(self.outcome.where)
+        if step is not None:
+            return [f"The platform's {step} failed; its error is not told."]
+        if self.outcome.where == Where.NOTIFIERS:
+            return ["A notifier refused, or another step before tasks were frozen; which one and its error are not told."]
+        return [f"The attempt turned around {self.outcome.where}; why is not told."]
+
+    def by_test(self) -> list[str]:
+        """pm_test turned it around."""
+        message = f" (dmesg line {self.outcome.message.line})" if self.outcome.message else ""
+        return [f"pm_test '{LEVELS[self.outcome.where]}' turned it around{message}."]
+
+    # ---- what was undone
+
+    def undone(self) -> list[str]:
+        """What the kernel undid."""
+        found = []
+        for phase in (Phase.RESUME_NOIRQ, Phase.EARLY, Phase.RESUME, Phase.COMPLETE):
+            count = len(self.following.seen.begins.get(phase, ()))
+            if self.following.seen.has({Phase.RESUME_NOIRQ: "dpm_resume_noirq", Phase.EARLY: "dpm_resume_early", Phase.RESUME: "dpm_resume", Phase.COMPLETE: "dpm_complete"}[phase]):
+                found.append(f"{phase} ({count} {'device' if phase == Phase.COMPLETE else 'callback'}{'s' if count != 1 else ''})")
+        cpus = len(self.attempt.steps("CPU_ON", True))
+        if cpus:
+            found.insert(0, f"{cpus} processor{'s' if cpus != 1 else ''} on again")
+        if self.following.seen.has("thaw_processes"):
+            found.append("tasks thawed")
+        return [f"Undone: {', '.join(found)}."] if found else []

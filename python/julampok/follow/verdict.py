@@ -1,0 +1,244 @@
+"""What replay says of a recording: whether a legal log goes the kernel's own way, and what stopped each attempt."""
+
+from __future__ import annotations
+
+import re
+from collections.abc import Callable
+from dataclasses import dataclass, field
+
+from ..kernel.recording import Device, Note, Recording
+from .attempt import STAND_IN, Following
+from .family import OutOfOrder
+from .follower import Follower
+from .judge import Judge
+from .machine import fits, machine_of, table_of, written
+from .outcome import Guard, Where, Why
+from .telling import LEVELS, PLATFORM, Teller
+from .way import difference, way_of_trace, ways_of_log
+
+SINGLE_PASS = (6, 1, 76)  # From here on asynchronous devices are scheduled one by one on the way up too.
+FIRST, LAST = (6, 1), (6, 2)  # The versions whose rules are these.
+
+
+@dataclass(slots=True, frozen=True)
+class Broken:
+    """A step of the kernel that no legal log has."""
+
+    line: int
+    did: str
+    first: str
+    first_line: int | None
+    because: list[str]
+
+    @property
+    def words(self) -> str:
+        """The whole in one sentence."""
+        why = f": {'; '.join(self.because)}" if self.because else ""
+        return f"line {self.line}: {self.did}, but {self.first}{why}"
+
+
+@dataclass(slots=True, eq=False)
+class AttemptTold:
+    """What replay says of one attempt. `answer` None: no input tells. `stand_ins` say what the log has in place of what is not told."""
+
+    number: int
+    line: int
+    last_line: int
+    task: str
+    answer: str | None
+    sentences: list[str]
+    stand_ins: list[str] = field(default_factory=list)
+    judged_to: int | None = None  # The line down to which the kernel's own way was judged; None: the whole.
+    faults: list[int] = field(default_factory=list)  # Lines of callbacks that answered an error.
+    fault_devices: list[Device] = field(default_factory=list)
+
+
+@dataclass(slots=True, eq=False)
+class Replay:
+    """The verdict of a recording."""
+
+    is_legal: bool
+    is_own_way: bool
+    headline: str
+    judge: str  # Who judged the log.
+    judged: str  # What the judge said.
+    attempts: list[AttemptTold] = field(default_factory=list)
+    broken: list[Broken] = field(default_factory=list)
+    differs: list[str] = field(default_factory=list)
+    notes: list[Note] = field(default_factory=list)
+    log: bytes = b""
+    machine: bytes = b""
+    table: bytes = b""
+    origins: list[int] = field(default_factory=list)  # The line of the trace for each entry of the log.
+
+    @property
+    def status(self) -> int:
+        """0: legal, and the kernel's own way and answer; 1: not."""
+        return 0 if self.is_legal and self.is_own_way and not self.broken else 1
+
+
+def second_judge(machine: dict) -> Callable[[str], str]:
+    """Judges a log by the second writing: what it says of it."""
+    def judge(log: str) -> str:
+        run = Judge({"devices": [], "sources": [], "notifiers": []} | machine)
+        if run.accepts(log) and not run.is_stuck():
+            return "legal"
+        found = re.match(r"line (\d+)", run.why or "")
+        return f"illegal line {found[1]}" if found else f"illegal: {run.why or 'stuck'}"
+    return judge
+
+
+def replay(recording: Recording, judge=None) -> Replay:
+    """Follows a recording, and judges the log. `judge` is a `Program`, or None for the second writing. Raises CannotError."""
+    follower = Follower(recording)
+    broken = None
+    try:
+        text = follower.follow()
+    except OutOfOrder as found:
+        broken = found
+        text = broken_log(follower, found)
+    machine = machine_of(follower)
+    found = Replay(False, False, "", judge.name if judge else "the second writing", "", log=text.encode(), machine=written(machine),
+                   table=table_of(follower), origins=follower.journal.origins)
+    found.judged = judged(found, machine, judge, recording, text) if broken is None or broken.entry else "no log goes on here"
+    found.attempts = [told(following, recording) for following in follower.done[:len(follower.done) - (broken is not None)]]
+    found.notes = notes_of(recording, follower, found)
+    found.is_legal = found.judged == "legal"
+    if broken is not None:
+        found.is_legal = False
+        found.broken = [Broken(broken.line, broken.did, broken.first, broken.first_line, broken.because)]
+    else:
+        compare(found, follower, text)
+    found.headline = headline(found, recording)
+    return found
+
+
+def broken_log(follower: Follower, found: OutOfOrder) -> str:
+    """The log down to the step that no legal log has, with that step."""
+    if found.entry is not None:
+        follower.journal.line = found.line
+        follower.journal.put(*found.entry)
+    for script in follower.journal.scripts:
+        if script.nap is not None:
+            place, step, begun = script.nap
+            step["ms"], script.nap = 1, None
+            follower.journal.lines[place] += str(begun + 1)
+    return follower.journal.end()
+
+
+def judged(found: Replay, machine: dict, judge, recording: Recording, text: str) -> str:
+    """What the judge says of the log."""
+    if (why := fits(machine)):
+        from ..errors import CannotError
+        raise CannotError(f"the recording does not fit into a machine file: {why}", recording.trace_file)
+    if judge is None:
+        return second_judge(machine)(text)
+    return judge.check(found.machine, found.log, recording.trace_file).text
+
+
+# ---- one attempt
+
+
+def told(following: Following, recording: Recording) -> AttemptTold:
+    """What is said of an attempt."""
+    teller = Teller(following, {})
+    attempt, plan = following.seen.attempt, following.plan
+    first = attempt.events[0]
+    ends = [end for ends in following.seen.errors.values() for end in ends]
+    found = AttemptTold(attempt.number, attempt.line, attempt.last_line, f"{first.task}-{first.pid}", teller.answer(), teller.sentences(),
+                        stand_ins_of(following), faults=[end.begin.line for end in ends], fault_devices=[end.device for end in ends])
+    outcome = plan.outcome
+    if outcome.why in (Why.PM_TEST, Why.NOT_TOLD) or outcome.where == Where.IDLE or outcome.why == Why.ERROR and outcome.where in (Where.CPUS, Where.SYSCORE):
+        found.judged_to = judged_to(following)
+    return found
+
+
+def judged_to(following: Following) -> int:
+    """The last line of the way down, behind which a stand-in turns the log around."""
+    turn = following.seen.line("machine_suspend") or (following.outcome.turn.line if following.outcome.turn else None)
+    lines = [event.line for event in following.seen.attempt.events if turn is None or event.line < turn]
+    return lines[-1] if lines else following.seen.attempt.line
+
+
+def stand_ins_of(following: Following) -> list[str]:
+    """What the log has in place of what is not told, or of what no log has."""
+    outcome, found = following.outcome, []
+    for what, name in following.plan.stand_ins:
+        if what == "event":
+            found.append(f"an event of {name} in place of the one that no line shows")
+        elif outcome.where == Where.IDLE:
+            found.append(f"platform {name} answers {STAND_IN} in place of suspend-to-idle, which no log has")
+        elif outcome.why == Why.PM_TEST:
+            found.append(f"{what} {name} answers {STAND_IN} in place of pm_test, which no log has")
+        elif what == "platform":
+            found.append(f"platform {name} answers {STAND_IN}: its own error is not told")
+        elif what == "notifier":
+            found.append(f"notifier {name} answers {STAND_IN}: who refused and with which error is not told")
+        else:
+            found.append(f"{what} {name} answers {STAND_IN} in place of {'a processor that did not go off' if outcome.where == Where.CPUS else 'a step whose error is not told'}")
+    if outcome.where == Where.IDLE_PREPARE:
+        found.append("the last device of the list answers EBUSY in noirq, in place of the platform's prepare for suspend-to-idle, which no log has")
+    if outcome.where == Where.FREEZE and not outcome.tasks and following.plan.refusers:
+        found.append(f"task {following.plan.refusers[0].name} does not freeze: which tasks did not is not told")
+    return found
+
+
+# ---- the whole
+
+
+def compare(found: Replay, follower: Follower, text: str) -> None:
+    """Compares way and answer of each attempt."""
+    ways = ways_of_log(follower.journal.lines)
+    for following, said in zip(follower.done, found.attempts):
+        trace = way_of_trace(following.seen.attempt, follower.kin.number, follower.names)
+        log = ways[following.number]
+        stands_in = said.judged_to is not None
+        differs = difference(log, trace, stands_in)
+        if differs is not None:
+            found.differs.append(f"attempt {said.number}, line {differs[0]}: {differs[1]}")
+        elif not stands_in and said.answer != log.answer and not is_foreign(said.answer, log.answer, follower, following.number):
+            found.differs.append(f"attempt {said.number}, line {said.line}: the log answers {log.answer}, the kernel {said.answer}")
+    found.is_own_way = not found.differs
+
+
+def is_foreign(kernel: str | None, log: str | None, follower: Follower, number: int) -> bool:
+    """Whether the log's answer is written in place of an error that machine files do not have."""
+    return log == "EIO" and any(one.attempt == number for one in follower.foreign)
+
+
+def notes_of(recording: Recording, follower: Follower, found: Replay) -> list[Note]:
+    """What a user should know besides."""
+    notes = list(recording.notes) + follower.notes
+    file = recording.trace_file
+    if follower.planner.why_cut:
+        left = recording.attempts[0].number, follower.planner.attempts[0].number - 1
+        notes.append(Note(f"attempts {left[0]} to {left[1]} are left out: {follower.planner.why_cut}", file, recording.attempts[0].line))
+    for one in follower.foreign:
+        from .telling import error_text
+        notes.append(Note(f"{one.device.shown} answered {error_text(one.number)}, an error that machine files do not have: the log has EIO", file, one.line))
+    if not FIRST <= recording.version[:2] < LAST:
+        notes.append(Note(f"the rules are those of Linux 6.1; the recording is of {recording.version_text} ({recording.version_from})", file))
+    if not recording.is_async_listed and not any(device.is_async for device in follower.kin.devices):
+        notes.append(Note("no callback ran in another task than the attempt's, so no device is taken as asynchronous", file))
+    if recording.processors is None:
+        notes.append(Note(f"no input tells the number of processors: taken as {follower.cpus}", file))
+    plain = [following.number for following in follower.done if following.outcome.guard == Guard.PLAIN and following.outcome.why == Why.NOTHING]
+    if plain:
+        notes.append(Note("whether a count was saved for an attempt that slept leaves no line: the log saves none", file))
+    return notes
+
+
+def headline(found: Replay, recording: Recording) -> str:
+    """The verdict in one line."""
+    by = f"by {found.judge}" + (", which is tested and not proved" if found.judge == "the second writing" else "")
+    if found.broken:
+        said = "" if found.judged.startswith("no log") else f" ({found.judged})"
+        return f"not legal: {found.broken[0].words}. Judged {by}{said}."
+    if not found.is_legal:
+        return f"not legal: {found.judged}. Judged {by}."
+    if found.differs:
+        return f"legal, but not the kernel's own way: {found.differs[0]}. Judged {by}."
+    limits = [f"attempt {one.number} down to line {one.judged_to}" for one in found.attempts if one.judged_to is not None]
+    if limits:
+        return f"legal, by the kernel's own way: {', '.join(limits[:4])}{f' and {len(limits) - 4} more so' if len(limits) > 4 else ''}, where the log stands in. Judged {by}."
+    return f"legal, by the kernel's own way and with its answer. Judged {by}."
