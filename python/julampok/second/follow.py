@@ -29,7 +29,7 @@ class Follower(Stepwise):
     # ---- a line
 
     def is_idle(self):
-        return not self.owed and not any([next(job) for job in self.jobs])
+        return not self.owed and not self.round()
 
     def jump(self, line):
         time = int(line.split(" ")[0])

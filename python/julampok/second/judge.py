@@ -1,53 +1,56 @@
-"""Judges a log as the checker does: legal and finished, else the first bad line and the least rule that it breaks."""
+"""Judges a log as the checker does: legal and finished, else the first bad line and the least rule that it breaks.
 
-import re
+The second writing of a run follows the log, a line at a time; the rules, each by itself, name what a line breaks that it
+does not follow.
+"""
 
-from .copies import is_in_form
 from .follow import Follower
+from .grammar import Grammar
 from .place import Entry
-from .rules_kept import Kept
+from .rules_kept import STEPS, Kept
 
 GRAMMAR, SOURCE, END = 23, 22, 20
-NOTHING = {"devices": [], "sources": [], "notifiers": [], "actors": []}
 
 
-def judged(tree, text):
-    """The first bad line, from 1, and the number of the rule; None for a legal log that is finished."""
-    tree = NOTHING | tree
-    lines = text.split("\n")
-    entries, tail = parts(tree, lines)
-    place, run = Kept(tree), Follower(tree)
-    for number, line in enumerate(entries, 1):
-        e = Entry(line)
-        broken = place.breaks(e)
-        if broken:
-            return number, broken[0]
-        place.step(e)
-        run.allows(line)
-    return ending(run, len(entries), tail)
+class Judge:
+    """A log of a machine under judgement. The machine is one that is accepted."""
+
+    def __init__(self, tree, text):
+        self.tree = tree
+        self.entries, self.tail, self.unread = Grammar(tree).split(text)
+
+    def verdict(self, progress=None):
+        """The first bad line, from 1, and the number of the rule; None for a legal log that is finished."""
+        if self.unread is not None:
+            return self.unread, GRAMMAR
+        run = Follower(self.tree)
+        for at, line in enumerate(self.entries):
+            if not run.allows(line):
+                return at + 1, self.rule_at(at)
+            if progress is not None and at % 4096 == 0:
+                progress.at(at)
+        return self.ending(run)
+
+    def rule_at(self, at):
+        """The least rule that an entry breaks, behind those before it."""
+        place = Kept(self.tree)
+        for line in self.entries[:at]:
+            place.step(Entry(line))
+        broken = place.breaks(Entry(self.entries[at]))
+        return broken[0] if broken else STEPS
+
+    def ending(self, run):
+        """What is wrong behind legal entries."""
+        count = len(self.entries)
+        stats = [source.line(run.time) for source in run.sources]
+        for at, wanted in enumerate(stats):
+            if self.tail[at] != wanted:
+                return count + at + 1, SOURCE
+        if run.is_idle() and run.is_over() and self.tail[len(stats):] == ["finished"]:
+            return None
+        return count + len(stats) + 1, END
 
 
-def parts(tree, lines):
-    """The entries at the front of the lines, and what stands behind them."""
-    count = next((at for at, line in enumerate(lines) if not is_entry(tree, line)), len(lines))
-    return lines[:count], lines[count:]
-
-
-def is_entry(tree, line):
-    return re.match(r"\d+ \d+/\d+/\d+ \S+ \S", line) is not None and "/-" not in line and " -" not in line and is_in_form(tree, line)
-
-
-def ending(run, count, tail):
-    """The first bad line behind the entries."""
-    if tail == [""] or re.match(r"\d", tail[0]):
-        return count + 1, GRAMMAR
-    run.lines = []
-    sources = [line for line in run.end()[0].splitlines() if line.startswith("source ")]
-    for at, wanted in enumerate(sources):
-        if at >= len(tail) or tail[at] != wanted:
-            return count + at + 1, SOURCE if at < len(tail) and tail[at].startswith("source ") else GRAMMAR
-    is_over = run.is_idle() and run.is_over()
-    rest = tail[len(sources):]
-    if rest == ["finished", ""] and is_over:
-        return None
-    return count + len(sources) + 1, END
+def judged(tree, text, progress=None):
+    """The first bad line of a log's text, from 1, and the number of the rule; None for a legal log that is finished."""
+    return Judge(tree, text).verdict(progress)

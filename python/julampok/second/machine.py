@@ -41,35 +41,58 @@ class Machine:
         self.names = [d["name"] for d in devices]
         self.devices = {d["name"]: d for d in devices}
         self.order = list(self.names)
+        self.offspring = {d: [] for d in self.names}
+        for d in devices:
+            if "parent" in d:
+                self.offspring[d["parent"]].append(d["name"])
         self.links = {}  # Whether the link of a supplier and a consumer is active, the oldest first.
+        self.consumers, self.suppliers = {}, {}  # Of each device, by links of any state, the oldest first.
         for link in links:
             self.add_link(link["supplier"], link["consumer"], link.get("state", "active") == "active")
 
     def add_link(self, supplier, consumer, active):
         self.links[supplier, consumer] = active
-        moved = self.moved(consumer)
-        last = [d for at, d in enumerate(moved) if d not in moved[at + 1 :]]
-        self.order = [d for d in self.order if d not in last] + last
+        self.consumers.setdefault(supplier, []).append(consumer)
+        self.suppliers.setdefault(consumer, []).append(supplier)
+        last = self.moved(consumer)
+        moved = set(last)
+        self.order = [d for d in self.order if d not in moved] + last
 
     def is_async(self, d):
         return self.devices[d].get("async", False)
 
     def children(self, d):
-        return [name for name in self.names if self.devices[name].get("parent") == d]
+        return self.offspring[d]
 
     def below(self, d):
         """The devices that d waits for as it goes down: dormant links do not count."""
-        return self.children(d) + [to for (of, to), active in self.links.items() if of == d and active]
+        consumers = self.consumers.get(d)
+        return self.offspring[d] + [to for to in consumers if self.links[d, to]] if consumers else self.offspring[d]
 
     def above(self, d):
         """The devices that d waits for as it comes up."""
         parent = self.devices[d].get("parent")
-        suppliers = [of for (of, to), active in self.links.items() if to == d and active]
+        suppliers = [of for of in self.suppliers.get(d, ()) if self.links[of, d]]
         return suppliers if parent is None else [parent, *suppliers]
 
     def moved(self, d):
-        """The device and all that hang below it, as they go to the tail: children first, then consumers."""
-        found = [d]
-        for below in self.children(d) + [to for of, to in self.links if of == d]:
-            found += self.moved(below)
-        return found
+        """The device and all that hang below it, in the order that they have at the tail.
+
+        Each goes there with its children first, then its consumers, and whoever goes more than once stands at its last move.
+        So from the end each stands behind what was met last below it.
+        """
+        found, seen, todo = [], {d}, [(d, self.hanging(d))]
+        while todo:
+            device, left = todo[-1]
+            below = next((one for one in left if one not in seen), None)
+            if below is None:
+                found.append(device)
+                todo.pop()
+            else:
+                seen.add(below)
+                todo.append((below, self.hanging(below)))
+        return found[::-1]
+
+    def hanging(self, d):
+        """What hangs right below a device, by parents and links of any state, the last first."""
+        return reversed(self.offspring[d] + self.consumers.get(d, []))

@@ -4,6 +4,8 @@ It keeps what the rules ask of the entries before: the word, the saved count, th
 stands in each pair of phases, where each script is, what each source owes, and which calls each actor has left.
 """
 
+import collections
+
 from .machine import DOWN, NOTES, STEPS, UP, Machine
 
 BEHIND_DOWN = {"suspend": ("platform", "prepare"), "late": ("downs", "noirq"), "noirq": ("platform", "prepare_late")}
@@ -41,10 +43,14 @@ class Seat:
     def __init__(self, given):
         self.name, self.kind = given["name"], given["kind"]
         steps = [step for step in given.get("script", []) for _ in range(step.get("times", 1))]
-        self.pieces = [piece for step in steps * given.get("repeat", 1) for piece in pieces_of(step)]
+        self.calls = calls_by_turn(piece for step in steps * given.get("repeat", 1) for piece in pieces_of(step))
         self.ops = [step for step in steps * given.get("repeat", 1) if step["op"] not in ("awake", "relax", "event")]
         self.done, self.waits, self.last_read, self.saved, self.until = 0, False, 0, False, None
         self.exited = self.asked = self.frozen = False
+
+    def calls_behind(self, turn):
+        """The notes behind so many turns."""
+        return self.calls[turn] if turn < len(self.calls) else []
 
     @property
     def op(self):
@@ -52,6 +58,17 @@ class Seat:
 
     def next(self):
         self.done, self.waits, self.until = self.done + 1, False, None
+
+
+def calls_by_turn(pieces):
+    """The notes that stand right before each turn of a script's, and those behind the last one."""
+    found = [[]]
+    for piece in pieces:
+        if piece is None:
+            found.append([])
+        else:
+            found[-1].append(piece)
+    return found
 
 
 def is_mem(text):
@@ -119,7 +136,7 @@ class Place(Machine):
         self.marks = {}
         self.seats = {("irq:" if g["kind"] == "irq" else "task:") + g["name"]: Seat(g) for g in tree.get("actors", [])}
         self.sources = {name: SourceAt() for name in [*tree.get("sources", []), "autosleep"]}
-        self.left = {who: self.calls(seat, 0) for who, seat in self.seats.items()}
+        self.left = {who: collections.deque(seat.calls[0]) for who, seat in self.seats.items()}
         self.turns = dict.fromkeys(self.seats, 0)
         self.last = {}
 
@@ -168,16 +185,6 @@ class Place(Machine):
 
     # ---- calls
 
-    def calls(self, seat, turn):
-        """The notes that stand right before a turn of a script's, or behind the last."""
-        notes, k = [], 0
-        for piece in seat.pieces:
-            if piece is None:
-                k += 1
-            elif k == turn:
-                notes.append(piece)
-        return notes
-
     def is_inside(self, who):
         return any(s.owed and s.caller == who for s in self.sources.values())
 
@@ -196,7 +203,7 @@ class Place(Machine):
         source.entries += 1
         source.note(e.who, self.time, e.words)
         if self.left.get(e.who):
-            self.left[e.who].pop(0)
+            self.left[e.who].popleft()
 
     def move_source(self, e):
         source = self.sources[e.words[1]]
@@ -236,10 +243,10 @@ class Place(Machine):
     def move_calls(self, e):
         if e.verb == "begin":
             reports = self.answer("device", e.words[2], e.words[1])[1]
-            self.left.setdefault(e.who, []).extend(note_of(report) for report in reports)
+            self.left.setdefault(e.who, collections.deque()).extend(note_of(report) for report in reports)
         if e.who in self.seats and ends_turn(e):
             self.turns[e.who] += 1
-            self.left[e.who] += self.calls(self.seats[e.who], self.turns[e.who])
+            self.left[e.who] += self.seats[e.who].calls_behind(self.turns[e.who])
 
     def move_devices(self, e):
         w = e.words

@@ -5,6 +5,8 @@ counters that change, and a coroutine for each job, whose `yield` ends a turn an
 something. The file has to be one that is accepted.
 """
 
+import heapq
+
 from ..limits import ALARM_MS, AUTO_CYCLES, FREEZE_MS, MOST_ENTRIES, NAP_MS
 
 from .machine import DOWN, UP, Machine
@@ -31,9 +33,11 @@ class Run(Machine):
         self.off_direct, self.off_late = set(), set()
         self.prepared, self.down = {}, {phase: set() for phase in DOWN}
         self.phase = None
-        jobs = [self.script(task) for task in self.tasks] + [self.autosleep_work()]
-        jobs += [self.device_job(d) for d in self.names if self.is_async(d)]
-        self.jobs = jobs + [self.timer(source) for source in self.sources]
+        self.ready_jobs = [self.script(task) for task in self.tasks] + [self.autosleep_work()]
+        self.beside = {d: self.device_job(d) for d in self.names if self.is_async(d)}
+        self.places = {d: at for at, d in enumerate(self.names)}
+        self.timers = [(source, self.timer(source)) for source in self.sources]
+        self.jobs = [*self.ready_jobs, *self.beside.values(), *(job for _, job in self.timers)]
 
     # ---- entries
 
@@ -579,7 +583,7 @@ class Run(Machine):
     def skip(self, who, d, why):
         phase = self.phase
         self.put(who, f"skip {phase.name} {d} {why}")
-        phase.over.add(d)
+        self.is_through(d)
         if phase.name == "late":
             self.off_late.add(d)
         if why == "pending":
@@ -589,6 +593,14 @@ class Run(Machine):
             if phase.name == "suspend":
                 self.left_alone.add(d)
                 self.off_direct.add(d)
+
+    def is_through(self, d):
+        """The device is over in this phase: those that wait for it may go on."""
+        phase = self.phase
+        phase.end(d, self.places[d])
+        for waits in self.below(d) if phase.name in UP else self.above(d):
+            if waits in phase.scheduled and waits not in phase.over:
+                phase.wake(self.places[waits])
 
     def callback(self, who, d):
         phase = self.phase
@@ -601,7 +613,7 @@ class Run(Machine):
             self.call(who, report)
             yield True
         self.put(who, f"end {phase.name} {d} {result}")
-        phase.over.add(d)
+        self.is_through(d)
         if phase.name in UP:
             self.down[UP[phase.name]].discard(d)
         elif result == "0":
@@ -641,11 +653,11 @@ class Run(Machine):
             if phase.error != "0":
                 break
             if is_async:
-                phase.scheduled.add(d)
+                phase.schedule(d, self.places[d])
                 yield from self.told(who, f"schedule {name} {d}")
             else:
                 yield from self.take_down(who, d)
-        while phase.scheduled - phase.over:
+        while phase.going:
             yield False
         self.phase = None
         result = phase.own_error if phase.own_error != "0" else phase.error
@@ -657,17 +669,18 @@ class Run(Machine):
 
     def up_phase(self, who, name):
         phase = self.phase = Phase(name)
-        phase.members = [d for d in self.order if d in self.down[UP[name]]]
-        for d in phase.members:
+        members = [d for d in self.order if d in self.down[UP[name]]]
+        phase.members = set(members)
+        for d in members:
             if self.is_async(d):
-                phase.scheduled.add(d)
+                phase.schedule(d, self.places[d])
                 yield from self.told(who, f"schedule {name} {d}")
-        for d in phase.members:
+        for d in members:
             if not self.is_async(d):
                 while self.waits_above(d):
                     yield False
                 yield from self.callback(who, d)
-        while phase.scheduled - phase.over:
+        while phase.going:
             yield False
         self.phase = None
         if name == "resume":
@@ -705,6 +718,27 @@ class Run(Machine):
         if self.asleep is not None:
             yield self.asleep[1]
 
+    def round(self):
+        """A turn of each job that may have something to do; whether one did something."""
+        did = [next(job) for job in self.ready_jobs]
+        did.append(self.phase is not None and self.round_beside(self.phase))
+        for source, job in self.timers:
+            if source.expiry is not None and source.expiry <= self.time:
+                did.append(next(job))
+        return any(did)
+
+    def round_beside(self, phase):
+        """A turn of each asynchronous device that is no longer known to wait; whether one did something."""
+        did, phase.todo = False, sorted(phase.ready)
+        while phase.todo:
+            phase.now = heapq.heappop(phase.todo)
+            if next(self.beside[self.names[phase.now]]):
+                did = True
+            else:
+                phase.ready.discard(phase.now)
+        phase.now = len(self.names)
+        return did
+
     def is_over(self):
         """Whether each script has exited and no attempt is open."""
         return all(task.exited for task in self.tasks) and self.maker is None
@@ -712,8 +746,7 @@ class Run(Machine):
     def run(self):
         """The log's text, and whether it is stuck."""
         while True:
-            did = [next(job) for job in self.jobs]
-            if any(did):
+            if self.round():
                 continue
             pending = list(self.times())
             if self.is_over() or not pending:

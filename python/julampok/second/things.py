@@ -1,5 +1,7 @@
 """What a run keeps: sources, tasks and open phases."""
 
+import heapq
+
 
 class SourceFull(Exception):
     """A source has no room for a call."""
@@ -36,10 +38,34 @@ class Task:
 
 
 class Phase:
-    """A phase of devices that is open."""
+    """A phase of devices that is open.
+
+    Asynchronous devices that are scheduled are known by their places among all devices. `ready` are those that are not
+    known to wait for another device, `todo` those whose turn comes in this round, behind the place `now`.
+    """
 
     def __init__(self, name):
         self.name = name
-        self.scheduled, self.over, self.direct = set(), set(), set()
-        self.members = []
+        self.scheduled, self.over, self.direct, self.members = set(), set(), set(), set()
         self.error = self.own_error = "0"
+        self.going, self.ready, self.todo, self.now = 0, set(), [], -1
+
+    def schedule(self, d, place):
+        """An asynchronous device has its turn from here on."""
+        self.scheduled.add(d)
+        self.going += 1
+        self.wake(place)
+
+    def wake(self, place):
+        """The asynchronous device at that place may go on."""
+        if place not in self.ready:
+            self.ready.add(place)
+            if place > self.now:
+                heapq.heappush(self.todo, place)
+
+    def end(self, d, place):
+        """The device is over."""
+        self.over.add(d)
+        if d in self.scheduled:
+            self.going -= 1
+            self.ready.discard(place)
