@@ -8,7 +8,6 @@ from julampok.kernel.recording import Phase, Recording
 
 from .forecast import Forecast, Saving, Step, Times
 from .measured import TIMED, WAY_DOWN, WAY_UP
-from .plan import Need
 
 OF_WHAT = ("what the rules give is durations of callbacks over the order of devices: it knows no buses, no locks and no processors, "
            "and what passes between callbacks is not in it")
@@ -55,9 +54,11 @@ def note_line(note) -> str:
 
 def off_note(phase: Phase, times: Times, is_changed: bool) -> str:
     """That a phase took another time than the rules give, with both numbers, and the change in words."""
-    more = "more" if times.measured > times.rules else "less"
-    text = (f"{phase}: measured {shown(times.measured)} ms, the rules give {shown(times.rules)} ms, {shown(abs(times.measured - times.rules))} ms "
-            f"{more}: something that is in no rule took part (a processor, a bus, a lock, workers that began late)")
+    is_more = times.measured > times.rules
+    why = ("something that is in no rule took part: a processor, a bus, a lock, or workers that began late" if is_more else
+           "some device waited less than is taken here, so who is asynchronous, or a link, is not as the inputs tell")
+    text = (f"{phase}: measured {shown(times.measured)} ms, the rules give {shown(times.rules)} ms, "
+            f"{shown(abs(times.measured - times.rules))} ms off; {why}")
     return text + (f"; as a change, the forecast is {signed(times.change)} ms" if is_changed else "")
 
 
@@ -225,7 +226,3 @@ def best_sentence(saving: Saving) -> str:
     down, up = (way_change(saving.forecast, way) for way in (WAY_DOWN, WAY_UP))
     return f"{saving.device.shown} made asynchronous: suspend {signed(down)} ms, resume {signed(up)} ms by the rules"
 
-
-def need_words(need: Need | None) -> str:
-    """What a device is to the one that waits for it, in words."""
-    return "" if need is None else "comes before in the list" if need is Need.WALK else str(need)
