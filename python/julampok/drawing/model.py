@@ -137,6 +137,8 @@ class Attempt:
     culprits: list[int] = dataclasses.field(default_factory=list)  # Rows that stopped it.
     notes: list[str] = dataclasses.field(default_factory=list)
     helps: list[str] = dataclasses.field(default_factory=list)  # What would make it faster.
+    phases: list[list[str]] = dataclasses.field(default_factory=list)  # A phase, as measured, by the rules, and the difference.
+    phases_note: str = ""
     no_waits: str = "It waited for nobody, and nobody waited for it."  # What is said of a row without a wait.
 
 

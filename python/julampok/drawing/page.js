@@ -1,7 +1,7 @@
 "use strict";
 // Draws the charts of the attempts and the text of the log out of the data that the page holds. Nothing is loaded.
 const data = JSON.parse(document.getElementById("data").textContent);
-const GAP = 0.035, GAPS = 0.3, MOST_ZOOM = 15000, TICK = 95, MARGIN = 0.02, STEP = 0.25;
+const GAP = 0.035, GAPS = 0.3, MOST_ZOOM = 15000, TICK = 95, MARGIN = 0.02, STEP = 0.25, BLOCK = 40;
 const isTimed = data.unit === "ms", charts = new Map();
 const escaped = (text) => text.replace(/[&<>"]/g, (sign) => ({ "&": "&amp;", "<": "&lt;", ">": "&gt;", '"': "&quot;" })[sign]);
 const percent = (share) => `${(share * 100).toFixed(6)}%`;
@@ -51,6 +51,12 @@ class Axis {
   }
 }
 
+// Fills the blocks of rows that come near to what is seen.
+const nearness = new IntersectionObserver((entries) => {
+  for (const { target, isIntersecting } of entries) if (isIntersecting) charts.get(target.closest(".chart"))?.fill(target.block);
+}, { rootMargin: "600px" });
+const later = (work) => (window.requestIdleCallback ? requestIdleCallback(work, { timeout: 500 }) : setTimeout(work, 20));
+
 // One of 1, 2 and 5 times a power of ten, at least so much.
 function niceStep(least) {
   const power = 10 ** Math.floor(Math.log10(least));
@@ -65,6 +71,10 @@ class Chart {
     this.zoom = 1;
     this.from = 0;
     this.rows = new Map();
+    this.blocks = [];
+    this.blockOf = new Map();
+    this.sheet = document.head.appendChild(document.createElement("style")).sheet;
+    this.sheet.insertRule(`.chart[data-attempt="${element.dataset.attempt}"] .track {}`);
     this.collect();
     element.innerHTML =
       `<div class="head"><div class="row axis"><div class="name"></div><div class="lane"><div class="track ticks"></div></div></div>` +
@@ -73,9 +83,10 @@ class Chart {
       attempt.groups.map((group, place) => this.group(group, place)).join("") + "</div>";
     this.ticks = element.querySelector(".ticks");
     this.lane = element.querySelector(".lane");
-    attempt.groups.forEach((group, place) => group[2] || this.fill(place));
+    attempt.groups.forEach((group, place) => group[2] || this.lay(place));
     this.show(0, 1);
     this.tie();
+    this.fillRest();
   }
 
   // The marks of each row, and their totals.
@@ -84,7 +95,12 @@ class Chart {
     this.of = new Map();
     this.steps = new Map();
     marks.row.forEach((row, place) => (this.of.get(row) || this.of.set(row, []).get(row)).push(place));
-    path.forEach((step, place) => step[0] >= 0 && this.steps.set(step[0], place + 1));
+    const counts = new Map();
+    for (const [mark, phase] of path) {
+      if (mark < 0) continue;
+      counts.set(phase, (counts.get(phase) || 0) + 1);
+      this.steps.set(mark, counts.get(phase));
+    }
   }
   stages() {
     return this.attempt.stages.map(([name, kind, begin, end, , , answer], place) => {
@@ -108,12 +124,41 @@ class Chart {
     const head = isFolded ? `<button type="button" class="title" data-fold="${place}" aria-expanded="false">${words}</button>` : `<div class="title">${words}</div>`;
     return `<div class="group ${data.texts[tone]}">${head}<div class="rows" data-group="${place}"${isFolded ? " hidden" : ""}></div></div>`;
   }
-  // Draws the rows of a group, once.
-  fill(place) {
-    const inside = this.element.querySelector(`.rows[data-group="${place}"]`);
+  // Lays out the rows of a group in blocks, once. A block is filled when it comes near, or when there is time.
+  lay(place) {
+    const inside = this.element.querySelector(`.rows[data-group="${place}"]`), rows = this.attempt.groups[place][1];
     if (inside.childElementCount) return;
-    inside.innerHTML = this.attempt.groups[place][1].map((row) => this.row(row)).join("");
-    for (const element of inside.children) this.rows.set(Number(element.dataset.row), element);
+    for (let first = 0; first < rows.length; first += BLOCK) {
+      const block = { element: made("div", { class: "block" }), rows: rows.slice(first, first + BLOCK), group: place, isFilled: false };
+      block.element.style.setProperty("--rows", block.rows.length);
+      block.element.block = block;
+      for (const row of block.rows) this.blockOf.set(row, block);
+      this.blocks.push(block);
+      inside.append(block.element);
+      nearness.observe(block.element);
+    }
+  }
+  fill(block) {
+    if (block.isFilled) return;
+    block.isFilled = true;
+    nearness.unobserve(block.element);
+    block.element.innerHTML = block.rows.map((row) => this.row(row)).join("");
+    for (const element of block.element.children) this.rows.set(Number(element.dataset.row), element);
+  }
+  fillRest() {
+    const block = this.blocks.find((other) => !other.isFilled);
+    if (!block) return;
+    later(() => {
+      this.fill(block);
+      this.fillRest();
+    });
+  }
+  // The element of a row, wherever it is; null where its group is folded.
+  elementOf(row) {
+    const block = this.blockOf.get(row);
+    if (!block) return null;
+    this.fill(block);
+    return this.rows.get(row);
   }
   row(number) {
     const [, name, about, , depth] = data.rows[number], places = this.of.get(number) || [];
@@ -140,8 +185,7 @@ class Chart {
   show(from, to) {
     this.zoom = Math.min(MOST_ZOOM, Math.max(1, 1 / Math.max(1e-9, to - from)));
     this.from = Math.max(0, Math.min(from, 1 - 1 / this.zoom));
-    this.element.style.setProperty("--zoom", this.zoom);
-    this.element.style.setProperty("--from", this.from);
+    Object.assign(this.sheet.cssRules[0].style, { left: percent(-this.from * this.zoom), width: percent(this.zoom) });
     this.drawTicks();
   }
   showTimes(begin, end) {
@@ -177,7 +221,7 @@ class Chart {
   tie(chosen = null) {
     const heights = new Map(), lines = [], always = ["found", "woke", "stale", "left", "broken"];
     const height = (row) => {
-      const element = this.rows.get(row);
+      const element = heights.has(row) ? null : this.elementOf(row);
       if (!heights.has(row)) heights.set(row, element && element.offsetParent ? element.offsetTop + element.offsetHeight / 2 : null);
       return heights.get(row);
     };
@@ -188,25 +232,46 @@ class Chart {
     };
     for (const [kind, source, sourceAt, target, targetAt] of this.attempt.ties)
       if (always.includes(data.texts[kind]) || source === chosen || target === chosen) line(data.texts[kind], source, sourceAt, target, targetAt);
-    const { row, begin, size } = this.attempt.marks, path = this.attempt.path.map((step) => step[0]).filter((place) => place >= 0);
-    path.slice(1).forEach((place, before) => line("path", row[path[before]], begin[path[before]] + size[path[before]], row[place], begin[place]));
+    const { row, begin, size } = this.attempt.marks, path = this.attempt.path.filter((step) => step[0] >= 0);
+    path.slice(1).forEach(([place, phase], before) => {
+      const last = path[before][0];
+      if (path[before][1] === phase) line("path", row[last], begin[last] + size[last], row[place], begin[place]);
+    });
     this.element.querySelector(".over .track").innerHTML = `<svg aria-hidden="true"><defs>` + ["blue:#0b4f9c", "red:#b8000e"].map((tip) => tip.split(":")).map(([name, colour]) =>
       `<marker id="tip-${name}" viewBox="0 0 8 8" refX="7" refY="4" markerWidth="8" markerHeight="8" markerUnits="userSpaceOnUse" orient="auto"><path d="M0 0L8 4L0 8z" fill="${colour}"/></marker>`).join("") +
       `</defs>${lines.join("")}</svg>`;
   }
   unfold(place, isOpen) {
-    if (isOpen) this.fill(place);
+    if (isOpen) this.lay(place);
     this.element.querySelector(`.rows[data-group="${place}"]`).hidden = !isOpen;
     this.element.querySelector(`[data-fold="${place}"]`)?.setAttribute("aria-expanded", isOpen);
     this.tie(chosen?.chart === this ? chosen.row : null);
+    this.fillRest();
+  }
+  // Shows the rows with these words alone, all without words; gives how many there are.
+  find(words) {
+    const found = new Set();
+    this.attempt.groups.forEach(([, rows, isFolded], place) => {
+      const here = words.length ? rows.filter((row) => matches(row, words)) : [];
+      if (isFolded) this.unfold(place, here.length > 0);
+      for (const row of here) found.add(row);
+    });
+    for (const block of this.blocks) {
+      const here = words.length ? block.rows.filter((row) => found.has(row)) : block.rows;
+      block.element.hidden = here.length === 0;
+      block.element.style.setProperty("--rows", here.length);
+      if (words.length && here.length) this.fill(block);
+      if (block.isFilled) for (const row of block.rows) this.rows.get(row).hidden = words.length > 0 && !found.has(row);
+    }
+    return found.size;
   }
   // Makes a row visible, wherever it is folded.
   reveal(number) {
     const place = this.attempt.groups.findIndex((group) => group[1].includes(number));
     if (place < 0) return null;
     if (this.attempt.groups[place][2]) this.unfold(place, true);
-    const row = this.rows.get(number);
-    row.hidden = false;
+    const row = this.elementOf(number);
+    row.hidden = row.parentElement.hidden = false;
     return row;
   }
 }
@@ -247,8 +312,10 @@ function forget() {
   chosen.chart.rows.get(chosen.row)?.classList.remove("chosen");
   for (const element of chosen.chart.element.querySelectorAll(".near")) element.classList.remove("near");
   chosen.chart.tie();
+  chosen.chart.drawTicks();
   chosen = null;
   panel.hidden = true;
+  document.body.classList.remove("beside");
 }
 const lineLink = (line) => made("a", { href: `#L${line}` }, `line ${line}`);
 const goTo = (chart, row, words = data.rows[row][1]) => made("button", { type: "button", class: "go", onclick: () => choose(chart, row, true) }, words);
@@ -265,14 +332,14 @@ function tell(chart, number) {
   table.append(made("tr", {}, ...(isTimed ? ["what", "began", "took", ""] : ["what", ""]).map((head) => made("th", {}, head))));
   for (const place of places.slice(0, 300)) {
     const step = chart.steps.get(place), what = (texts[marks.words[place]] || texts[marks.kind[place]]) + (marks.answer[place] ? `: ${texts[marks.answer[place]]}` : "");
-    const cells = [made("td", {}, what, step ? made("small", {}, ` longest path, ${step}`) : "")];
+    const cells = [made("td", {}, what, step ? made("small", {}, ` ${step} on the longest path`) : "")];
     if (isTimed) cells.push(made("td", { class: "n" }, grouped(marks.begin[place] / 1000, 3)), made("td", { class: "n" }, lasting(marks.size[place])));
     cells.push(made("td", {}, lineLink(marks.first[place]), marks.who[place] ? ` by ${texts[marks.who[place]]}` : ""));
     table.append(made("tr", {}, ...cells));
   }
   panel.append(table);
   if (places.length > 300) panel.append(made("p", {}, `and ${places.length - 300} more`));
-  const item = (tie) => made("li", {}, texts[tie[5]], " (", goTo(chart, tie[1] === number ? tie[3] : tie[1]), ", ", lineLink(tie[7]), ")");
+  const item = (tie) => made("li", {}, goTo(chart, tie[1] === number ? tie[3] : tie[1]), `: ${texts[tie[5]]} (`, lineLink(tie[7]), ")");
   const list = (title, found) => found.length && panel.append(made("h3", {}, title), made("ul", {}, ...found.slice(0, 200).map(item)));
   const waits = ties.filter((tie) => texts[tie[0]] === "waits");
   list("It waited", waits.filter((tie) => tie[3] === number));
@@ -282,6 +349,8 @@ function tell(chart, number) {
   const steps = path.filter((step) => step[3] === number && step[2]);
   if (steps.length) panel.append(made("h3", {}, "On the longest path"), made("ul", {}, ...steps.map((step) => made("li", {}, texts[step[2]]))));
   panel.hidden = false;
+  document.body.classList.add("beside");
+  chart.drawTicks();
 }
 
 // ---- the text of the log
@@ -327,13 +396,7 @@ function find() {
   let found = 0;
   for (const chart of charts.values()) {
     if (!chart.element.offsetParent) continue;
-    chart.attempt.groups.forEach(([, rows, isFolded], place) => {
-      const here = words.length ? rows.filter((row) => matches(row, words)) : [];
-      if (isFolded && words.length && here.length) chart.unfold(place, true);
-      else if (isFolded && !words.length) chart.unfold(place, false);
-      for (const row of rows) if (chart.rows.has(row)) chart.rows.get(row).hidden = words.length > 0 && !here.includes(row);
-      found += here.length;
-    });
+    found += chart.find(words);
     chart.tie(chosen?.chart === chart ? chosen.row : null);
   }
   count.textContent = words.length ? `${found} found` : "";
@@ -411,6 +474,9 @@ for (const details of document.querySelectorAll("details.attempt"))
   details.addEventListener("toggle", () => details.open && details.querySelector(".chart") && drawn(details.querySelector(".chart")));
 for (const details of document.querySelectorAll("details.text")) details.addEventListener("toggle", () => details.open && drawText(details));
 for (const details of document.querySelectorAll("details.attempt[open]")) if (details.querySelector(".chart")) drawn(details.querySelector(".chart"));
+window.addEventListener("beforeprint", () => {
+  for (const chart of charts.values()) for (const block of chart.blocks) chart.fill(block);
+});
 window.addEventListener("hashchange", goToHash);
 window.addEventListener("resize", () => { for (const chart of charts.values()) if (chart.element.offsetParent) { chart.drawTicks(); chart.tie(chosen?.chart === chart ? chosen.row : null); } });
 goToHash();

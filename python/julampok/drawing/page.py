@@ -63,7 +63,7 @@ def strip(page, attempt):
     for place, stage in enumerate(attempt.stages):
         size = f" {ms(stage.end - stage.begin)}" if page.unit is Unit.TIME else ""
         words = html.escape(f"{stage.name}{size}{': ' + stage.answer if stage.answer else ''}")
-        kind = f' class="bad"' if stage.answer else ""
+        kind = ' class="bad"' if stage.answer else ""
         swatch = f'<i class="k-{stage.kind}"></i>' if stage.kind else ""
         buttons.append(f'<button type="button"{kind} data-stage="{place}">{swatch}{words}</button>')
     tools = "".join(f'<button type="button" data-tool="{tool}" aria-label="{words}" title="{words}">{sign}</button>' for tool, sign, words in TOOLS)
@@ -93,17 +93,35 @@ def slowest_table(page, attempt):
 
 
 def path_part(page, attempt):
-    """The longest path in words."""
+    """The longest path in words, phase by phase."""
     if not attempt.path:
         return ""
-    steps = []
-    for place, step in enumerate(attempt.path, 1):
-        name = html.escape(page.rows[step.row].name) if step.row is not None else ""
-        button = f'<span data-row="{step.row}"><button type="button" class="go">{name}</button></span> ' if name else ""
-        took = attempt.marks[step.mark] if step.mark is not None else None
-        size = f" {ms(took.end - took.begin)}" if took and page.unit is Unit.TIME else ""
-        steps.append(f"<li value=\"{place}\">{button}{html.escape(step.phase)}{size}{'; ' + linked(step.words, page) if step.words else ''}</li>\n")
-    return f'<details{" open" if len(steps) <= 15 else ""}><summary>The longest path, {len(steps)} steps</summary><ol>\n{"".join(steps)}</ol></details>\n'
+    phases = {}
+    for step in attempt.path:
+        phases.setdefault(step.phase, []).append(path_step(page, attempt, step))
+    lists = "".join(f"<h4>{html.escape(phase)}</h4><ol>\n{''.join(steps)}</ol>\n" for phase, steps in phases.items())
+    return f'<details{" open" if len(attempt.path) <= 20 else ""}><summary><b>The longest path</b></summary>\n<div class="columns">{lists}</div></details>\n'
+
+
+def path_step(page, attempt, step):
+    """A step of the longest path; what has no row of its own stands without a number."""
+    if step.row is None:
+        return f'<li class="rest">{linked(step.words, page)}</li>\n'
+    name = html.escape(page.rows[step.row].name)
+    took = attempt.marks[step.mark] if step.mark is not None else None
+    size = f" {ms(took.end - took.begin)}" if took and page.unit is Unit.TIME else ""
+    return (f'<li><span data-row="{step.row}"><button type="button" class="go">{name}</button></span>{size}'
+            f"{'; ' + linked(step.words, page) if step.words else ''}</li>\n")
+
+
+def phases_part(page, attempt):
+    """The phases as they were measured, and as the rules give them."""
+    if not attempt.phases:
+        return ""
+    head = "".join(f"<th>{words}</th>" for words in ("phase", "measured", "by the rules", "difference"))
+    body = "".join(f"<tr><td>{html.escape(row[0])}</td>{''.join(f'<td class=n>{html.escape(cell)}</td>' for cell in row[1:])}</tr>\n" for row in attempt.phases)
+    note = f"<p>{html.escape(attempt.phases_note)}</p>\n" if attempt.phases_note else ""
+    return f"<h3>Phases</h3>\n<table><tr>{head}</tr>\n{body}</table>\n{note}"
 
 
 def attempt_part(page, place, attempt, is_open):
@@ -117,7 +135,7 @@ def attempt_part(page, place, attempt, is_open):
             f"<summary><b>{head}</b>{answer} <small>lines {attempt.first} to {attempt.last}</small></summary>\n"
             + items(attempt.causes, page, "causes") + items(attempt.notes, page, "notes") + strip(page, attempt)
             + f'<div class="chart" data-attempt="{place}"></div>\n'
-            + path_part(page, attempt) + helps + slowest_table(page, attempt) + "</details>\n")
+            + helps + slowest_table(page, attempt) + phases_part(page, attempt) + path_part(page, attempt) + "</details>\n")
 
 
 def table_part(table, page):

@@ -1,0 +1,37 @@
+"""Makes one page of a recorded suspend: what stopped it, whether the kernel kept its own rules, what was slow, what would help.
+
+TRACE is an ftrace of the events power:*, as for replay and times. The page is one file that loads nothing: the verdict first,
+then each attempt with its stages, devices and longest path, and the trace with an anchor a line. A click on a stage zooms to it,
+a click on a device tells whom it waited for. With --perfetto the output is Trace Event JSON in place of the page.
+"""
+
+import os
+
+from ..drawing.page import page_html
+from ..drawing.perfetto import perfetto
+from ..drawing.reporting import report_of
+from ..errors import YES
+from ..files import refuse_inputs, write_new
+from ..kernel.reading import add_input_arguments, inputs_of, read_recording
+from ..program import add_program
+
+HELP = "makes one page of a recorded suspend: what stopped it, what was slow, what would help"
+EXAMPLE = "julampok report suspend.trace --dmesg suspend.dmesg -o suspend.html"
+
+
+def add_arguments(parser):
+    add_input_arguments(parser)
+    add_program(parser)
+    parser.add_argument("--perfetto", action="store_true", help="writes Trace Event JSON for Perfetto instead of a page")
+    parser.add_argument("-o", dest="output", metavar="FILE", default="-", help="the file to write; else standard output")
+
+
+def run(given):
+    inputs = inputs_of(given)
+    if given.output != "-":
+        refuse_inputs(given.output, inputs)
+    recording = read_recording(given)
+    name = "standard input" if given.trace == "-" else os.path.basename(given.trace)
+    page = report_of(recording, name, given)
+    write_new(given.output, (perfetto if given.perfetto else page_html)(page), inputs)
+    return YES
