@@ -13,7 +13,7 @@ from ..drawing.reporting import report_of
 from ..errors import YES
 from ..files import refuse_inputs, write_new
 from ..kernel.reading import add_input_arguments, inputs_of, read_recording
-from ..program import add_program
+from ..program import Second, add_program, chosen
 
 HELP = "makes one page of a recorded suspend: what stopped it, what was slow, what would help"
 EXAMPLE = "julampok report suspend.trace --dmesg suspend.dmesg -o suspend.html"
@@ -32,6 +32,7 @@ def run(given):
         refuse_inputs(given.output, inputs)
     recording = read_recording(given)
     name = "standard input" if given.trace == "-" else os.path.basename(given.trace)
-    page = report_of(recording, name, given)
+    judge = chosen(given)
+    page = report_of(recording, name, None if isinstance(judge, Second) else judge)
     write_new(given.output, (perfetto if given.perfetto else page_html)(page), inputs)
     return YES

@@ -157,6 +157,7 @@ class Page:
     lines: list[str]  # The trace or the log.
     lines_of: str = "trace"
     judged: list[str] = dataclasses.field(default_factory=list)  # The log that a checker judged, if another.
+    dmesg: list[str] = dataclasses.field(default_factory=list)  # The kernel's messages, each at its line.
     moments: list[int] = dataclasses.field(default_factory=list)  # Of a log: the microsecond of each line.
     notes: list[str] = dataclasses.field(default_factory=list)
     more: list["Table"] = dataclasses.field(default_factory=list)

@@ -224,8 +224,18 @@ def page_of(recording, name):
     while lines and not lines[-1]:
         lines.pop()
     notes = [note_words(note) for note in recording.notes]
-    page = Page(title_of(recording, name), about_of(recording, name), clock.unit, Tone.OPEN, "", [], rows.rows, attempts, lines, "trace", notes=notes)
+    page = Page(title_of(recording, name), about_of(recording, name), clock.unit, Tone.OPEN, "", [], rows.rows, attempts, lines, "trace",
+                dmesg=dmesg_lines(recording.messages), notes=notes)
     return page, rows, clock
+
+
+def dmesg_lines(messages):
+    """The kernel's messages with their times, each at the number of its line."""
+    lines = [""] * max((message.line for message in messages), default=0)
+    for message in messages:
+        stamp = f"[{message.time / 1e9:12.6f}] " if message.time is not None else ""
+        lines[message.line - 1] = stamp + message.text
+    return lines
 
 
 def about_of(recording, name):

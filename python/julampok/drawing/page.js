@@ -12,6 +12,7 @@ function lasting(size) {
   const ms = size / 1000;
   return `${grouped(ms, ms < 10 ? (ms < 1 ? 3 : 2) : ms < 100 ? 1 : 0)} ms`;
 }
+const answered = (answer) => (/^(E|-?\d)/.test(answer) ? ` answered ${answer}` : `, ${answer}`);
 const moment = (time) => (isTimed ? `at ${grouped(time / 1000, 3)} ms` : `in line ${time}`);
 
 // An element with attributes, children and text; a text never becomes markup.
@@ -177,7 +178,7 @@ class Chart {
     const lines = first[place] === last[place] ? `line ${first[place]}` : `lines ${first[place]} to ${last[place]}`;
     const end = flags[place] & 2 ? "; no line tells its end" : "";
     const what = texts[words[place]] || texts[kind[place]];
-    return `${data.rows[row[place]][1]}: ${what}${answer[place] ? " answered " + texts[answer[place]] : ""}\n` +
+    return `${data.rows[row[place]][1]}: ${what}${answer[place] ? answered(texts[answer[place]]) : ""}\n` +
       (isTimed ? `${moment(begin[place])}, ${lasting(size[place])}${end}\n` : "") + `${lines} of the ${data.linesOf}` + (who[place] ? `, run by ${texts[who[place]]}` : "");
   }
 
@@ -220,9 +221,12 @@ class Chart {
   // Lines between rows: those that tell why the attempt stopped, the longest path, and those of the chosen row.
   tie(chosen = null) {
     const heights = new Map(), lines = [], always = ["found", "woke", "stale", "left", "broken"];
+    const top = this.element.querySelector(".body").getBoundingClientRect().top;
     const height = (row) => {
-      const element = heights.has(row) ? null : this.elementOf(row);
-      if (!heights.has(row)) heights.set(row, element && element.offsetParent ? element.offsetTop + element.offsetHeight / 2 : null);
+      if (!heights.has(row)) {
+        const box = this.elementOf(row)?.getBoundingClientRect();
+        heights.set(row, box?.height ? (box.top + box.bottom) / 2 - top : null);
+      }
       return heights.get(row);
     };
     const line = (kind, source, sourceAt, target, targetAt) => {
@@ -369,7 +373,7 @@ function drawText(details) {
   pre.innerHTML = parts.join("");
 }
 function goToHash() {
-  const name = decodeURIComponent(location.hash.slice(1)), text = /^([LG])\d+$/.exec(name);
+  const name = decodeURIComponent(location.hash.slice(1)), text = /^([LGD])\d+$/.exec(name);
   if (text) {
     const details = document.querySelector(`details.text[data-letter="${text[1]}"]`);
     if (!details) return;

@@ -7,11 +7,14 @@ import re
 from .groups import groups_of
 from .model import PHASES, Tone, Unit, depths_of
 from .packing import Texts, packed, script_json
+from .words import counted
 
 HERE = pathlib.Path(__file__).resolve().parent
 SIGNS = {Tone.GOOD: "\u2713", Tone.BAD: "\u2717", Tone.OPEN: "?", Tone.PLAIN: "\u00b7"}
-LINES = re.compile(r"\b(log )?(lines?) (\d{1,9})(?: (to|and) (\d{1,9}))?")
-SLOWEST = 12  # So many devices stand in the table of the slowest.
+LINES = re.compile(r"\b(log |illegal |dmesg )?(lines?) (\d{1,9})(?: (to|and) (\d{1,9}))?")
+LETTERS = {"log ": "G", "illegal ": "G", "dmesg ": "D"}  # By which an anchor begins; L is the trace, or the log of draw.
+SLOWEST = 12  # So many devices stand in the table of the slowest,
+LEAST = 500  # each with callbacks of this many microseconds in all, and the phases in which one of them took so long.
 POLICY = "default-src 'none'; style-src 'unsafe-inline'; script-src 'unsafe-inline'"
 LEGEND = [
     ("k-suspend", "suspend"), ("k-late", "late"), ("k-noirq", "noirq"), ("k-resume_noirq", "resume_noirq"), ("k-early", "early"),
@@ -26,9 +29,10 @@ def linked(text, page):
     """A text as HTML, in which each 'line N' leads to that line of the log, if there is one."""
 
     def link(found):
-        of_judged, word, first, joint, last = found.groups()
-        letter, count = ("G", len(page.judged)) if of_judged and page.judged else ("L", len(page.lines))
-        parts = [of_judged or "", anchor(letter, count, f"{word} {first}", int(first))]
+        of_what, word, first, joint, last = found.groups()
+        letter = LETTERS.get(of_what, "L")
+        count = len({"L": page.lines, "G": page.judged, "D": page.dmesg}[letter])
+        parts = [of_what or "", anchor(letter, count, f"{word} {first}", int(first))]
         parts += [f" {joint} ", anchor(letter, count, last, int(last))] if last else []
         return "".join(parts)
 
@@ -53,8 +57,11 @@ def ms(time):
 
 def verdict_part(page):
     headline = f'<p class="headline"><span class="sign" aria-hidden="true">{SIGNS[page.tone]}</span> {linked(page.headline, page)}</p>\n'
-    return (f'<section class="verdict {page.tone.value}" aria-label="verdict">\n{headline}{items(page.details, page, "details")}</section>\n'
-            + (f"<details class=\"notes\"{' open' if len(page.notes) <= 4 else ''}><summary>{len(page.notes)} notes</summary>\n{items(page.notes, page, 'notes')}</details>\n" if page.notes else ""))
+    notes = ""
+    if page.notes:
+        is_open = " open" if len(page.notes) <= 4 else ""
+        notes = f"<details{is_open}><summary>{counted(len(page.notes), 'note')}</summary>\n{items(page.notes, page, 'notes')}</details>\n"
+    return f'<section class="verdict {page.tone.value}" aria-label="verdict">\n{headline}{items(page.details, page, "details")}</section>\n{notes}'
 
 
 def strip(page, attempt):
@@ -80,9 +87,10 @@ def slowest_table(page, attempt):
             of = times.setdefault(mark.row, dict.fromkeys(PHASES, 0))
             of[mark.kind] = of.get(mark.kind, 0) + mark.end - mark.begin
     rows = sorted(times, key=lambda row: -sum(times[row].values()))[:SLOWEST]
+    rows = [row for row in rows if sum(times[row].values()) >= LEAST] or rows[:3]
     if not rows:
         return ""
-    shown = [phase for phase in PHASES if any(times[row][phase] >= 50 for row in rows)]
+    shown = [phase for phase in PHASES if any(times[row][phase] >= LEAST for row in rows)]
     head = "".join(f"<th>{words}</th>" for words in ["device", "in all", *shown])
     body = ""
     for row in rows:
@@ -196,7 +204,7 @@ def data_of(page):
              [texts.number(note) for note in row.notes]] for place, row in enumerate(page.rows)]
     attempts = [attempt_data(page, attempt, texts) for attempt in page.attempts]
     return {"unit": page.unit.value, "linesOf": page.lines_of, "rows": rows, "attempts": attempts, "texts": texts.all,
-            "log": packed(page.lines), "judged": packed(page.judged)}
+            "log": packed(page.lines), "judged": packed(page.judged), "dmesg": packed(page.dmesg)}
 
 
 def opened(page):
@@ -222,7 +230,8 @@ def page_html(page):
     parts += [attempt_part(page, place, attempt, attempt in shown) for place, attempt in enumerate(page.attempts)]
     parts += [table_part(table, page) for table in page.more]
     parts.append(text_part(f"The {page.lines_of}", "log", "L", page.lines))
-    parts.append(text_part("The log that the checker judged", "judged", "G", page.judged))
+    parts.append(text_part("The kernel's messages (dmesg)", "dmesg", "D", page.dmesg))
+    parts.append(text_part("The log that was judged", "judged", "G", page.judged))
     parts.append('<aside class="panel" id="panel" aria-live="polite" aria-label="the chosen row" hidden></aside><div class="tip" id="tip" hidden></div>\n')
     parts.append(f'<script type="application/json" id="data">{script_json(data_of(page))}</script>\n')
     parts.append(f"<script>\n{(HERE / 'page.js').read_text()}</script>\n</body></html>\n")

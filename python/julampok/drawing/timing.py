@@ -95,7 +95,7 @@ def time_words(forecast):
     if not ways:
         ways = [(str(phase), times) for phase, times in forecast.phases.items()]
     words = ", ".join(f"{name} {times.measured / 1e6:,.0f} ms" for name, times in ways)
-    share = path_share(forecast, sum(times.measured for _, times in ways))
+    share = path_share(forecast, sum(times.measured for _, times in ways)) if forecast.measured.slept else ""
     return f"{words}; {share}" if share else words
 
 
