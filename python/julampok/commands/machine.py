@@ -1,89 +1,99 @@
-"""Makes a machine file of a real machine: of its /sys, of an ftrace of its power events, or of both.
+"""Makes a machine file of a real machine: of its /sys, or of a trace of its power events, or of both.
 
-SYS is /sys itself, a copy of it (a folder or a tar), or a list of device folders as
-'/sys/devices/pci0000:00/0000:00:1f.2 async=enabled wakeup=disabled', one a line. It gives devices with parents, flags,
-links, wakeup sources and processors. TRACE is an ftrace of the events power:suspend_resume,
-power:device_pm_callback_start, power:device_pm_callback_end, power:wakeup_source_activate and
-power:wakeup_source_deactivate, from tracefs or from 'trace-cmd report'. It gives the order of devices, those that SYS
-has not, what callbacks answered, which devices were direct-complete, and which events came in a callback. One of both
-has to be there. What the machine file cannot say is left out and told on standard error.
+SYS is /sys itself, or a copy of it (a folder or a tar); --devices takes a list of device folders in its place, a line each,
+as '/sys/devices/pci0000:00/0000:00:1f.2 async=enabled wakeup=disabled'. They give devices with parents and flags, links,
+wakeup sources and processors. --writer adds a task that writes 'mem' under a saved count.
+
+With --trace the file is the one of 'julampok replay': the kernel's list of devices, what callbacks answered, and the tasks
+and interrupt lines whose events the trace shows. Each of these takes turns of 'post' before its steps, so that a run of the
+file goes the way of the trace. What the file cannot say is left out and told on standard error.
 """
 
 import pathlib
+import sys
 
 from ..errors import YES, CannotError, one_line
-from ..files import read_bytes, read_text, refuse_inputs, write_all, write_out
-from ..kernel import names, trace, tree
+from ..files import refuse_inputs, write_all, write_out
 from ..kernel.machine import Builder, written
+from ..kernel.narrowing import branch, narrow
+from ..kernel.reading import add_side_arguments, device_named, read_and_join, read_machine_alone
 
 HELP = "makes a machine file of a real machine, of its /sys or a trace"
-EXAMPLE = "julampok machine --trace my.trace --writer -o my.json /sys"
+EXAMPLE = "julampok machine --trace my.trace -o my.json /sys"
 
 
 def add_arguments(parser):
-    parser.add_argument("--trace", metavar="TRACE", help="an ftrace of the machine's power events")
-    parser.add_argument("--links", metavar="LIST", help="a file with a line a device link, 'SUPPLIER CONSUMER' or 'SUPPLIER CONSUMER dormant'")
-    parser.add_argument("--branch", metavar="DEVICE", action="append", help="keeps this device, all below it, and all that these need")
-    parser.add_argument("--writer", action="store_true", help="adds a task that saves the count and writes 'mem', once for each attempt of TRACE")
+    parser.add_argument("--trace", metavar="TRACE", help="a trace of the machine's power events: text of tracefs or of 'trace-cmd report'")
+    add_side_arguments(parser)
+    parser.add_argument("--branch", metavar="DEVICE", action="append", default=[],
+                        help="keeps this device (its name, or its path below /sys/devices), all below it, and all that these need")
+    parser.add_argument("--writer", action="store_true", help="without TRACE: adds a task that saves the count and writes 'mem'")
     parser.add_argument("-o", dest="output", metavar="FILE", default="-",
                         help="the machine file to write, with the table of the real names beside it (.names); else standard output")
-    parser.add_argument("sys", metavar="SYS", nargs="?", help="/sys, a copy of it, or a list of devices")
 
 
 def run(given):
-    if given.sys is given.trace is None:
-        raise CannotError("wants SYS, or --trace TRACE, or both")
-    inputs = [given.trace, given.links, given.sys]
+    if given.sys is given.devices is given.trace is None:
+        raise CannotError("wants SYS, or --devices FILE, or --trace TRACE")
+    inputs = [given.trace, given.links, given.sys, given.devices, given.dmesg]
     table_file = None if given.output == "-" else str(pathlib.Path(given.output).with_suffix(".names"))
     for file in (given.output, table_file):
         if file not in (None, "-"):
             refuse_inputs(file, inputs)
-    file, table, notes = build(given)
+    file, table, notes = of_trace(given) if given.trace is not None else of_tree(given)
     if table_file is None:
         write_out(file)
     else:
         write_all({given.output: file, table_file: table}, inputs)
-    tell(notes)
+    for note in notes:
+        print(one_line(f"julampok machine: {CannotError(note.text, note.file, note.line)}"), file=sys.stderr)
     return YES
 
 
-def tell(notes):
-    """Writes what was left out on standard error."""
-    import sys
-    for note in notes:
-        print(one_line(f"julampok machine: {note}"), file=sys.stderr)
+def kept(given, recording, joiner):
+    """The recording, or the branches of it that the words name. Raises CannotError."""
+    named = []
+    for words in given.branch:
+        device = device_named(joiner, words)
+        if device is None:
+            raise CannotError(f"no device {words}")
+        named.append(device)
+    return narrow(recording, branch(recording, named)) if named else recording
 
 
-def read_links(path):
-    """The pairs of a list of links: supplier, consumer, and whether the link is dormant."""
-    pairs = []
-    for line, text in enumerate(read_text(path).splitlines(), 1):
-        words = text.split()
-        if words and len(words) != 2 and words[2:] != ["dormant"]:
-            raise CannotError(f"no link: {text[:80]!r}", path, line)
-        if words:
-            pairs.append((words[0], words[1], len(words) == 3))
-    return pairs
+def of_tree(given):
+    """The file of /sys or a list, its table, and notes."""
+    if given.dmesg is not None:
+        raise CannotError("--dmesg goes with --trace")
+    recording, joiner = read_machine_alone(given.sys, given.devices, given.links)
+    builder = Builder(kept(given, recording, joiner))
+    return written(builder.file(given.writer)), builder.table(), recording.notes + builder.notes
 
 
-def read_trace(path):
-    """The attempts of a trace."""
+def of_trace(given):
+    """The file of a trace that was followed, its table, and notes. Raises CannotError where it cannot be followed."""
+    from ..follow.family import OutOfOrder
+    from ..follow.follower import Follower
+    from ..follow.machine import fits, machine_of, table_of
+    from ..follow.machine import written as written_of_trace
+    from ..follow.pacing import paced
+    recording, joiner = read_and_join(given.trace, given.sys, given.devices, given.links, given.dmesg, given.kernel)
+    recording = kept(given, recording, joiner)
+    follower = Follower(recording)
     try:
-        return trace.read_trace(read_bytes(path))
-    except trace.Refused as refused:
-        raise CannotError(str(refused), path) from None
-
-
-def build(given):
-    """The file, its table, and notes on what was left out."""
-    try:
-        builder = Builder(given.sys and tree.read_machine(str(given.sys)), given.trace and read_trace(given.trace))
-        builder.take_tree_links()
-        builder.take_links(read_links(given.links) if given.links else [])
-        builder.sort_links()
-        if given.branch:
-            builder.cut(given.branch)
-        file, rows, sources = builder.build(given.writer)
-    except tree.Refused as refused:
-        raise CannotError(str(refused)) from None
-    return written(file), names.write_table(rows, sources), builder.notes
+        log = follower.follow()
+    except OutOfOrder as broken:
+        raise CannotError(f"{broken.did}; {broken.first}: no machine does that; 'julampok replay' tells more", given.trace, broken.line) from None
+    file = machine_of(follower)
+    if why := fits(file):
+        raise CannotError(why, given.trace)
+    refusers = {}
+    for plan in follower.plans:
+        for script in plan.refusers:
+            refusers.setdefault(script.name, []).append(plan.number)
+    file, is_same = paced(file, log, refusers)
+    notes = follower.notes
+    if not is_same:
+        from ..kernel.recording import Note
+        notes = [*notes, Note("a run of the file goes another way than the kernel did", given.trace)]
+    return written_of_trace(file), table_of(follower), notes

@@ -9,7 +9,7 @@ from collections import defaultdict
 
 from . import tree as sys_tree
 from .recording import Attempt, CallbackBegin, Device, Note, Phase
-from .events import Lines
+from .trace import Lines
 
 SILENT = (Phase.PREPARE, Phase.COMPLETE)  # In these phases the kernel traces devices that have no callback, too.
 
@@ -163,7 +163,7 @@ class Joiner:
                     (here if begin.pid == pid else elsewhere).add(begin.device)
         for device in self.devices:
             device.has_callbacks = device in here or device in elsewhere
-            is_listed = bool(device.listed_async) and (bool(elsewhere) or self.lines is None)
+            is_listed = bool(device.listed_async) and (bool(elsewhere) if self.lines else not self.machine.has_async_off)
             device.is_async = device in elsewhere or is_listed and device not in here
             if is_listed and not device.is_async:
                 self.note(device, f"{device.shown} is listed as asynchronous, and its callbacks ran in the task of the attempt: taken as synchronous")

@@ -10,7 +10,7 @@ from ..files import read_bytes
 from . import messages, tree
 from .joining import Joiner
 from .recording import Clock, Device, Link, Note, Recording
-from .events import Lines, read_trace
+from .trace import Lines, read_trace
 
 VERSION = "6.1.192"
 STATES = ("dormant", "active", "available", "probing", "unbinding", "none")
@@ -43,12 +43,17 @@ def inputs_of(given) -> list[str | None]:
 
 def read_inputs(trace, sys=None, devices=None, links=None, dmesg=None, kernel=None) -> Recording:
     """The recording of these files; each but the trace may be None. Raises CannotError."""
+    return read_and_join(trace, sys, devices, links, dmesg, kernel)[0]
+
+
+def read_and_join(trace, sys=None, devices=None, links=None, dmesg=None, kernel=None) -> tuple[Recording, Joiner]:
+    """The recording of these files, and what finds devices by their names or folders. Raises CannotError."""
     if sys is not None and devices is not None:
         raise CannotError("SYS and --devices both list the devices: give one of them")
     if [trace, sys, devices, links, dmesg].count("-") > 1:
         raise CannotError("only one input may be standard input ('-')")
     lines = read_trace(trace, read_bytes(trace))
-    machine = read_sys(sys) if sys is not None else read_devices(devices) if devices is not None else None
+    machine = tree.read_machine(devices if sys is None else sys) if [sys, devices] != [None, None] else None
     joiner = Joiner(lines, machine)
     recording = Recording(trace, lines.events, lines.attempts, lines.clock or Clock.COUNTER, joiner.devices)
     recording.tracer, recording.trace_lines = lines.head.tracer, lines.lines
@@ -66,7 +71,7 @@ def read_inputs(trace, sys=None, devices=None, links=None, dmesg=None, kernel=No
     settle_version(recording, lines, kernel)
     settle_processors(recording, lines, machine, sys)
     note_end(recording)
-    return recording
+    return recording, joiner
 
 
 def note_end(recording: Recording) -> None:
@@ -76,14 +81,18 @@ def note_end(recording: Recording) -> None:
         recording.notes.append(Note("the last attempt ends here, before tasks freeze; or the trace does", recording.trace_file, last.last_line))
 
 
-def read_sys(path) -> tree.Machine:
-    """The machine of /sys or of a copy of it; a list of devices is taken, too. Raises CannotError."""
-    return tree.read_machine(path)
-
-
-def read_devices(path) -> tree.Machine:
-    """The machine of a list of device folders. Raises CannotError."""
-    return tree.read_machine(path)
+def read_machine_alone(sys=None, devices=None, links=None) -> tuple[Recording, Joiner]:
+    """What /sys or a list of devices tells without a trace: a recording without attempts. Raises CannotError."""
+    if sys is not None and devices is not None:
+        raise CannotError("SYS and --devices both list the devices: give one of them")
+    machine = tree.read_machine(sys if sys is not None else devices)
+    joiner = Joiner(None, machine)
+    recording = Recording("", [], [], Clock.COUNTER, joiner.devices, machine=machine.maker)
+    take_machine(recording, joiner, machine, sys if sys is not None else devices)
+    if links is not None:
+        take_links(recording, joiner, links)
+    recording.processors = machine.cpus
+    return recording, joiner
 
 
 def take_machine(recording: Recording, joiner: Joiner, machine: tree.Machine, file: str) -> None:

@@ -1,198 +1,348 @@
-"""Reads an ftrace of the events `power:*`: attempts to sleep, their phases, callbacks, and events of wakeup sources.
+"""Reads a trace of the events `power:*`: typed events, and the whole attempts to sleep that they make up.
 
-What is no whole trace is refused by the number of the first line that shows it.
+What stands before the first whole attempt or behind the last one, because the trace begins or ends inside an attempt, is
+left out and noted. What is no whole trace is refused by the first line that shows it.
 """
 
+import contextlib
+import gc
+import itertools
 import re
+from collections.abc import Callable
 
-LINE = re.compile(
-    r"\s*(?P<task>.+)-(?P<pid>\d+)\s+(?:\([\d \-]+\)\s+)?\[\d+\]\s+(?:(?P<flags>[^\s:]+)\s+)?(?P<time>\d+(?:\.\d+)?):"
-    r"\s+(?P<event>\w+):\s?(?P<said>.*)"
-)
-# Lines that are no events: comments, what trace-cmd writes above and between, and empty ones.
-ASIDE = re.compile(r"\s*(#.*|cpus=\d+|version\s*=.*|CPU \d+ is empty|trace-cmd:.*|CPU:\d+ \[SUBBUFFER START\]|#+ CPU \d+ .*)?")
-LOST = re.compile(r"\s*CPU:\d+ \[(LOST \d+ EVENTS?|(\d+ )?EVENTS DROPPED)\]")
-START = re.compile(r"(?P<driver>.*?) ?(?P<device>\S+), parent: (?P<parent>.+), (?P<info>[a-z ]*)\[(?P<verb>\w+)\]")
-END = re.compile(r"(?P<driver>.*?) ?(?P<device>\S+), err=(?P<error>-?\d+)")
-STEP = re.compile(r"(?P<action>\w+)\[(?P<number>\d+)\] (?P<edge>begin|end)")
-SOURCE = re.compile(r"(?P<source>.+) state=0x(?P<state>[0-9a-f]+)")
-# The kernel's phases of devices, and ours.
-PHASES = {
-    "dpm_prepare": "prepare", "dpm_suspend": "suspend", "dpm_suspend_late": "late", "dpm_suspend_noirq": "noirq",
-    "dpm_resume_noirq": "resume_noirq", "dpm_resume_early": "early", "dpm_resume": "resume", "dpm_complete": "complete",
-}
+from ..errors import CannotError
+from .lines import ASIDE, LATENCY, LOST, PLAIN, Head, nanoseconds
+from .recording import (Attempt, CallbackBegin, CallbackEnd, Clock, Device, Event, Note, SourceActivate, SourceDeactivate,
+                        SuspendResume)
 
-
-class Refused(Exception):
-    """What was given is no whole trace: the number of a line, and why."""
-
-    def __init__(self, line, why):
-        super().__init__(f"line {line}: {why}")
+BEGIN = re.compile(r"(.*), parent: (.+?), ([a-z ]*\[(\w+)\])")
+END = re.compile(r"(.*), err=(-?\d+)")
+STEP = re.compile(r"(\w+)\[(-?\d+)\] (begin|end)")
+SOURCE = re.compile(r"(.*) state=0x([0-9a-f]+)")
+ENTERS = re.compile(r"suspend_resume: +suspend_enter\[\d+\] ")
+INDENT = re.compile(r"device_pm_callback_(?:start|end):( +)")
+SAMPLE = 4000  # Callbacks among which one has a driver, if any has.
+# What a phase of each name has to say of its callbacks in `noirq driver [suspend]`: the first word, and the event in brackets.
+FIRST_WORDS = {"late": ("dpm_suspend_late",), "noirq": ("dpm_suspend_noirq", "dpm_resume_noirq"), "early": ("dpm_resume_early",)}
+# Events of devices that belong to a hibernation, by the value of their phase.
+HIBERNATION = {1: "freeze", 4: "hibernate", 8: "quiesce", 32: "thaw", 64: "restore", 128: "recover"}
 
 
-class Callback:
-    """A callback: its phase, the lines of its start and end, and what it answered."""
+class Lines:
+    """The state of reading one trace. `read_trace` is what others use."""
 
-    __slots__ = ("phase", "device", "line", "end", "error", "pid")
+    def __init__(self, file: str, has_enters: bool, indent: str):
+        self.file, self.has_enters, self.indent = file, has_enters, indent
+        self.head, self.clock = Head(), None
+        self.lines: list[str] = []
+        self.events: list[Event] = []
+        self.attempts: list[Attempt] = []
+        self.notes: list[Note] = []
+        self.devices: dict[tuple[str, str], Device] = {}  # By the words before `, parent:`, and the parent's name.
+        self.texts: dict[str, tuple] = {}  # What the text of a line says, for the many that come again.
+        self.strays: list[int] = []  # Lines of steps and callbacks outside of an attempt.
+        self.unknown: tuple[int, str] | None = None
+        self.last_time, self.goes_back = 0, False
+        self.open_attempt: list[Event] | None = None
+        self.reset()
+        self.takers: dict[str, Callable] = {
+            "suspend_resume": self.take_step, "device_pm_callback_start": self.take_begin,
+            "device_pm_callback_end": self.take_end, "wakeup_source_activate": self.take_source,
+            "wakeup_source_deactivate": self.take_source}
 
-    def __init__(self, phase, device, line, pid):
-        self.phase, self.device, self.line, self.pid = phase, device, line, pid
-        self.end = self.error = None
+    def reset(self) -> None:
+        """Begins with nothing that is open."""
+        self.phases: list[SuspendResume] = []  # A failed late phase has early inside.
+        self.callbacks: dict[int, CallbackBegin] = {}  # The open ones, by pid.
+        self.is_freezing = self.is_frozen = False
 
+    # ---- lines
 
-class Call:
-    """A step of a wakeup source, and the callback that it came in, if the trace tells."""
+    def take_lines(self, lines: list[str]) -> None:
+        """Takes the lines of the file. Raises CannotError where one is no line of a trace and stands in an attempt."""
+        layout, other, takers = PLAIN, LATENCY, self.takers
+        for line, text in enumerate(lines, 1):
+            found = layout.fullmatch(text)
+            if found is None:
+                found = other.fullmatch(text)
+                if found is None:
+                    self.take_other(line, text)
+                    continue
+                layout, other = other, layout
+            task, pid, cpu, flags, stamp, event, said = found.groups()
+            taker = takers.get(event)
+            if taker is not None:
+                taker((line, task, int(pid), int(cpu), flags or "", self.time_of(line, stamp), stamp), said, event)
 
-    __slots__ = ("source", "is_start", "line", "time", "callback")
+    def take_other(self, line: int, text: str) -> None:
+        """Takes a line that is no event."""
+        if LOST.fullmatch(text):
+            if self.open_attempt is not None:
+                raise self.fault(line, f"the trace has lost events of the attempt that begins in line {self.open_attempt[0].line}: {text.strip()!r}")
+            self.notes.append(Note(f"the trace has lost events here, outside of a whole attempt: {text.strip()}", self.file, line))
+        elif ASIDE.fullmatch(text):
+            self.head.take(line, text)
+        elif self.open_attempt is not None:
+            raise self.fault(line, f"no line of a trace: {text[:80]!r}")
+        elif self.unknown is None:
+            self.unknown = line, text
 
-    def __init__(self, source, is_start, line, time, callback):
-        self.source, self.is_start, self.line, self.time, self.callback = source, is_start, line, time, callback
+    def fault(self, line: int, text: str) -> CannotError:
+        """The error of a line."""
+        return CannotError(text, self.file, line)
 
+    def time_of(self, line: int, stamp: str) -> int | None:
+        """The time of an event; all events of a trace have to have one kind of it."""
+        time = nanoseconds(stamp)
+        if time is None:
+            if self.clock is not Clock.COUNTER:
+                self.settle_clock(line, stamp, Clock.COUNTER)
+            return None
+        if self.clock is not Clock.SECONDS:
+            self.settle_clock(line, stamp, Clock.SECONDS)
+        if time < self.last_time and not self.goes_back:
+            self.goes_back = True
+            self.notes.append(Note("the time goes back here", self.file, line))
+        self.last_time = time
+        return time
 
-class Attempt:
-    """An attempt to sleep, as a trace shows it."""
+    def settle_clock(self, line: int, stamp: str, clock: Clock) -> None:
+        """Takes the clock of the first event; raises CannotError for a later one of another kind."""
+        if self.clock is not None:
+            raise self.fault(line, f"the time {stamp} is of another kind than those above")
+        self.clock = clock
 
-    def __init__(self, line):
-        self.line, self.last = line, line
-        self.phases = []  # Ours, in the order in which they began.
-        self.callbacks, self.calls = [], []
-        self.slept = None  # The line in which the machine entered sleep.
-        self.cpus = set()
-        self.is_frozen = False  # Tasks were asked to freeze, so a thaw has to come.
+    # ---- steps of attempts
 
-    def of_phase(self, phase):
-        return [callback for callback in self.callbacks if callback.phase == phase]
-
-
-class Trace:
-    """The attempts of a trace. A device is named by its driver, or bus, its name, and its parent's name."""
-
-    def __init__(self):
-        self.attempts, self.attempt = [], None
-        self.phases = []  # The open phases, with their lines; a failed late phase has early inside.
-        self.open = {}  # The open callbacks, by task.
-        self.devices = {}  # Each device that is known, with the line that told of it first.
-        self.by_name = {}
-
-    def take(self, line, text):
-        found = LINE.fullmatch(text)
+    def take_step(self, head: tuple, said: str, _: str) -> None:
+        """Takes a `suspend_resume`."""
+        line = head[0]
+        found = STEP.fullmatch(said.strip())
         if found is None:
-            self.take_other(line, text)
-        elif found["event"] == "suspend_resume":
-            self.take_step(line, found["said"].strip())
-        elif found["event"] == "device_pm_callback_start":
-            self.take_start(line, found["said"], found["pid"])
-        elif found["event"] == "device_pm_callback_end":
-            self.take_end(line, found["said"], found["pid"])
-        elif found["event"] in ("wakeup_source_activate", "wakeup_source_deactivate"):
-            self.take_source(line, found)
-
-    def take_other(self, line, text):
-        is_loss = LOST.match(text)
-        if is_loss and self.attempt is not None:
-            raise Refused(line, f"the trace has lost events of an attempt: {text[:80]!r}")
-        if not is_loss and not ASIDE.fullmatch(text):
-            raise Refused(line, f"no line of a trace: {text[:80]!r}")
-
-    def begin(self, line):
-        """Opens an attempt, which the next one ends where no thaw does."""
-        self.close(line)
-        self.attempt = Attempt(line)
-        self.attempts.append(self.attempt)
-
-    def close(self, line):
-        if self.open:
-            raise Refused(line, f"the callback of line {min(c.line for c in self.open.values())} has no end")
-        if self.phases:
-            raise Refused(line, f"{self.phases[-1][0]} of line {self.phases[-1][1]} has no end")
-        self.attempt = None
-
-    def take_step(self, line, said):
-        found = STEP.fullmatch(said)
-        if found is None:
-            raise Refused(line, f"no step of an attempt: {said[:80]!r}")
-        action, is_begin = found["action"], found["edge"] == "begin"
-        if is_begin and (action == "suspend_enter" or self.attempt is None and action == "dpm_prepare"):
-            self.begin(line)
-        if self.attempt is None:
-            if action in PHASES:
-                raise Refused(line, f"{action} in no attempt: the trace is cut off at its head")
+            raise self.fault(line, f"no step of an attempt: {said.strip()[:80]!r}")
+        event = SuspendResume(*head, found[1], int(found[2]), found[3] == "begin")
+        if event.is_begin and self.is_opening(event):
+            self.close(line)
+            self.open_attempt = []
+        if self.open_attempt is None:
+            self.strays.append(line)
             return
-        self.attempt.last = line
-        if action in PHASES:
-            self.take_phase(line, action, is_begin)
-        elif action == "machine_suspend" and is_begin:
-            self.attempt.slept = self.attempt.slept or line
-        elif action in ("CPU_OFF", "CPU_ON"):
-            self.attempt.cpus.add(int(found["number"]))
-        elif action == "freeze_processes":
-            self.attempt.is_frozen = True
-        elif action == "thaw_processes" and not is_begin:
+        self.open_attempt.append(event)
+        if event.phase is not None:
+            self.take_phase(event)
+        elif event.action == "freeze_processes":
+            self.is_freezing = event.is_begin
+            self.is_frozen = self.is_frozen or event.is_begin
+        elif event.action == "thaw_processes" and not event.is_begin:
+            self.is_frozen = False
+        if not event.is_begin and event.action in ("thaw_processes", "freeze_processes") and not self.is_frozen and not self.is_freezing:
             self.close(line)
 
-    def take_phase(self, line, action, is_begin):
-        if is_begin:
-            self.phases.append((action, line))
-            self.attempt.phases.append(PHASES[action])
-        elif not self.phases or self.phases.pop()[0] != action:
-            raise Refused(line, f"an end of {action} without its begin")
+    def is_opening(self, event: SuspendResume) -> bool:
+        """Whether a begin opens an attempt. Where the trace has no `suspend_enter` at all, the first step that it has does."""
+        if self.has_enters:
+            return event.action == "suspend_enter"
+        firsts = ("sync_filesystems", "freeze_processes", "dpm_prepare")
+        if event.action not in firsts or event.value in HIBERNATION or self.strays and not self.attempts:
+            return False
+        if self.open_attempt is None:
+            return True
+        done = {step.action for step in self.open_attempt if isinstance(step, SuspendResume)}
+        return bool(done.intersection(firsts[firsts.index(event.action):]))
 
-    def take_start(self, line, said, pid):
-        found = START.fullmatch(said.strip(" "))
-        if found is None:
-            raise Refused(line, f"no start of a callback: {said[:80]!r}")
-        if not self.phases:
-            raise Refused(line, f"a callback in no phase: {said[:80]!r}")
-        if pid in self.open:
-            raise Refused(line, f"the callback of line {self.open[pid].line} has no end")
-        parent = None if found["parent"] == "none" else found["parent"]
-        device = found["driver"].strip(), found["device"], parent
-        self.devices.setdefault(device, line)
-        callback = Callback(PHASES[self.phases[-1][0]], device, line, pid)
-        self.open[pid] = callback
-        self.attempt.callbacks.append(callback)
-
-    def take_end(self, line, said, pid):
-        found = END.fullmatch(said.strip(" "))
-        if found is None:
-            raise Refused(line, f"no end of a callback: {said[:80]!r}")
-        callback = self.open.pop(pid, None)
-        if callback is None or callback.device[1] != found["device"]:
-            raise Refused(line, f"an end of a callback without its start: {said[:80]!r}")
-        callback.end, callback.error = line, int(found["error"])
-
-    def take_source(self, line, found):
-        said = SOURCE.fullmatch(found["said"].strip())
-        if said is None:
-            raise Refused(line, f"no step of a wakeup source: {found['said'][:80]!r}")
-        if self.attempt is None:
+    def take_phase(self, event: SuspendResume) -> None:
+        """Takes the begin or end of a phase of devices."""
+        if event.is_begin:
+            if event.value in HIBERNATION:
+                raise self.fault(event.line, f"{event.action}[{event.value}] is of a hibernation, not of a suspend")
+            self.phases.append(event)
             return
-        callback = self.open.get(found["pid"])
-        if callback is None and len(self.open) == 1:
-            callback = next(iter(self.open.values()))
-        is_start = found["event"] == "wakeup_source_activate"
-        time = float(found["time"]) * 1000 if "." in found["time"] else None
-        self.attempt.calls.append(Call(said["source"], is_start, line, time, callback))
+        opened = self.phases.pop() if self.phases else None
+        if opened is None or opened.action != event.action:
+            raise self.fault(event.line, f"{event.action} ends without a begin")
+        if self.callbacks and not self.phases:
+            begin = min(self.callbacks.values(), key=lambda one: one.line)
+            raise self.fault(event.line, f"{event.action} ends before the callback of line {begin.line} ({begin.device.name})")
 
-    def order(self):
-        """The devices in the order of the first prepare that is whole, then the others; each with its first line."""
-        prepared = max((attempt.of_phase("prepare") for attempt in self.attempts), key=len, default=[])
-        found = {callback.device: callback.line for callback in prepared}
-        return found | {device: line for device, line in self.devices.items() if device not in found}
+    def close(self, line: int) -> None:
+        """Closes the attempt that is open, if one is, as a whole one."""
+        if self.open_attempt is None:
+            return
+        if (why := self.unfinished()) is not None:
+            raise self.fault(line, why)
+        state = next((step.value for step in self.open_attempt[:1] if step.action == "suspend_enter"), None)
+        self.attempts.append(Attempt(len(self.attempts) + 1, self.open_attempt, len(self.events), state))
+        self.events += self.open_attempt
+        self.open_attempt = None
+        self.reset()
+
+    def unfinished(self) -> str | None:
+        """What the open attempt still lacks; None where it may end here."""
+        if self.callbacks:
+            begin = min(self.callbacks.values(), key=lambda one: one.line)
+            return f"the callback of line {begin.line} ({begin.device.name}) has no end"
+        if self.phases:
+            return f"{self.phases[-1].action} of line {self.phases[-1].line} has no end"
+        if self.is_frozen or self.is_freezing:
+            return f"the attempt that begins in line {self.open_attempt[0].line} froze tasks and has no thaw_processes"
+        return None
+
+    # ---- callbacks
+
+    def take_begin(self, head: tuple, said: str, _: str) -> None:
+        """Takes a `device_pm_callback_start`."""
+        line, pid = head[0], head[2]
+        if self.open_attempt is None:
+            self.strays.append(line)
+            return
+        told = self.texts.get(said) or self.read_begin(line, said)
+        if not self.phases:
+            raise self.fault(line, f"a callback in no phase of devices: {said.strip()[:80]!r}")
+        if pid in self.callbacks:
+            raise self.fault(line, f"the callback of line {self.callbacks[pid].line} in the same task has no end yet")
+        device, operation, wanted = told
+        if wanted is not None and self.phases[-1].action not in wanted:
+            raise self.fault(line, f"a callback {operation!r} in {self.phases[-1].action}")
+        event = CallbackBegin(*head, device, self.phases[-1].phase, operation)
+        self.callbacks[pid] = event
+        self.open_attempt.append(event)
+
+    def read_begin(self, line: int, said: str) -> tuple:
+        """What the text of a begin tells: device, operation, and the phases in which it may stand (None: in any)."""
+        found = BEGIN.fullmatch(said.rstrip().removeprefix(self.indent))
+        if found is None:
+            raise self.fault(line, f"no begin of a callback: {said.strip()[:80]!r}")
+        words, parent, operation, verb = found.groups()
+        if verb not in ("suspend", "resume"):
+            raise self.fault(line, f"a callback of {verb!r}, which is not of a suspend")
+        device = self.devices.get((words, parent))
+        if device is None:
+            device = self.devices[words, parent] = Device(words, line=line)
+        wanted = FIRST_WORDS.get(operation.split(" ", 1)[0])
+        self.texts[said] = told = device, operation, wanted
+        return told
+
+    def take_end(self, head: tuple, said: str, _: str) -> None:
+        """Takes a `device_pm_callback_end`."""
+        line, pid = head[0], head[2]
+        if self.open_attempt is None:
+            self.strays.append(line)
+            return
+        told = self.texts.get(said)
+        if told is None:
+            found = END.fullmatch(said.rstrip().removeprefix(self.indent))
+            if found is None:
+                raise self.fault(line, f"no end of a callback: {said.strip()[:80]!r}")
+            self.texts[said] = told = found[1], int(found[2])
+        begin = self.callbacks.pop(pid, None)
+        if begin is None or begin.device.name != told[0]:
+            raise self.fault(line, f"a callback ends that did not begin in this task: {said.strip()[:80]!r}")
+        begin.end = event = CallbackEnd(*head, begin.device, begin.phase, told[1], begin)
+        self.open_attempt.append(event)
+
+    # ---- wakeup sources
+
+    def take_source(self, head: tuple, said: str, event: str) -> None:
+        """Takes a step of a wakeup source."""
+        found = SOURCE.fullmatch(said.strip())
+        if found is None:
+            raise self.fault(head[0], f"no step of a wakeup source: {said.strip()[:80]!r}")
+        kind = SourceActivate if event == "wakeup_source_activate" else SourceDeactivate
+        (self.events if self.open_attempt is None else self.open_attempt).append(kind(*head, found[1], int(found[2], 16)))
+
+    # ---- the end
+
+    def finish(self, last: int) -> None:
+        """Ends the trace after its last line: what is open there is cut off. Raises CannotError where no attempt is whole."""
+        if self.open_attempt is not None:
+            why = self.unfinished()
+            if why is None:
+                self.close(last)
+            elif self.attempts:
+                begins = self.open_attempt[0].line
+                self.notes.append(Note(f"the trace ends inside the attempt that begins in line {begins}: left out", self.file, last))
+            else:
+                raise self.fault(last, f"the trace ends inside its only attempt: {why}")
+        if not self.attempts:
+            raise self.no_attempt(last)
+        self.note_strays()
+
+    def no_attempt(self, last: int) -> CannotError:
+        """The error of a trace without a whole attempt."""
+        if self.head.tracer in ("function_graph", "function"):
+            return CannotError(f"a trace of the tracer {self.head.tracer}, whose lines are not read: record with the tracer 'nop'", self.file)
+        if self.strays:
+            return self.fault(self.strays[0], "the trace begins inside an attempt and has no whole one, which suspend_enter begins")
+        if self.unknown is not None:
+            return self.fault(self.unknown[0], f"no line of a trace: {self.unknown[1][:80]!r}")
+        if self.clock is None:
+            return CannotError("no trace: it has no event" if last else "is empty", self.file)
+        return CannotError("the trace has no attempt to sleep (no suspend_resume event)", self.file)
+
+    def note_strays(self) -> None:
+        """Notes lines that stand outside of the whole attempts."""
+        first = self.attempts[0].line
+        before = [line for line in self.strays if line < first]
+        after = [line for line in self.strays if line > first]
+        if before:
+            self.notes.append(Note(f"the trace begins inside an attempt: {counted(before)} before line {first} left out", self.file, before[0]))
+        if after:
+            self.notes.append(Note(f"steps or callbacks outside of an attempt: {counted(after)} left out, the first here", self.file, after[0]))
+        if self.unknown is not None:
+            self.notes.append(Note(f"no line of a trace, outside of an attempt: {self.unknown[1][:80]!r}", self.file, self.unknown[0]))
+        if self.head.overwritten_line is not None:
+            self.notes.append(Note("the trace's buffer was too small: its oldest events are lost", self.file, self.head.overwritten_line))
 
 
-def read_trace(data):
-    """The trace that the bytes tell."""
-    trace, lines = Trace(), data.split(b"\n")
-    rest = lines.pop()
-    for line, text in enumerate(lines, 1):
-        trace.take(line, text.decode("utf-8", "replace").rstrip("\r"))
-    if rest:
-        raise Refused(len(lines) + 1, "the trace is cut off in this line, which has no newline")
-    if (last := trace.attempt) is not None:
-        trace.close(len(lines) + 1)
-        if (last.phases or last.is_frozen) and last.phases[-1:] != ["complete"]:
-            raise Refused(len(lines) + 1, "the trace is cut off in an attempt")
-    if not trace.attempts:
-        raise Refused(len(lines) + 1, "the trace has no attempt to sleep")
-    return trace
+def counted(lines: list[int]) -> str:
+    """How many lines there are, in words."""
+    return "1 line" if len(lines) == 1 else f"{len(lines)} lines"
+
+
+def text_of(file: str, data: bytes) -> str:
+    """The text of a trace. Raises CannotError for a binary file, with what to run for that of trace-cmd."""
+    if data.startswith(b"\x17\x08\x44tracing"):
+        name = "FILE" if str(file) == "-" else file
+        raise CannotError(f"a binary trace of trace-cmd: run 'trace-cmd report -i {name}' and give what it writes", file)
+    if b"\0" in data:
+        raise CannotError("a binary file, no text of a trace", file, data.count(b"\n", 0, data.index(b"\0")) + 1)
+    return data.decode("utf-8", "replace")
+
+
+def read_trace(file: str, data: bytes) -> Lines:
+    """The events and whole attempts of a trace. Devices are not yet told apart from their drivers. Raises CannotError."""
+    text = text_of(file, data)
+    lines = text.replace("\r\n", "\n").split("\n")
+    rest = "" if lines[-1] == "" else lines[-1]
+    if lines[-1] == "" or not ends_attempt(rest):
+        lines.pop()
+    reader = Lines(file, ENTERS.search(text) is not None, indent_of(text))
+    reader.lines = lines
+    with no_collection():
+        reader.take_lines(lines)
+    if rest and not ends_attempt(rest) and not ASIDE.fullmatch(rest):
+        reader.notes.append(Note("the last line has no newline, so it may be cut off: left out", file, len(lines) + 1))
+    reader.finish(len(lines) + bool(rest))
+    return reader
+
+
+def indent_of(text: str) -> str:
+    """The spaces that stand before a driver. A device without one has one more, which tells it from its driver."""
+    return min((found[1] for found in itertools.islice(INDENT.finditer(text), SAMPLE)), key=len, default=" ")
+
+
+def ends_attempt(text: str) -> bool:
+    """Whether a last line without a newline is whole: it ends in the last word of a step that may end an attempt."""
+    return re.search(r"(thaw_processes|freeze_processes|sync_filesystems|suspend_enter)\[\d+\] (begin|end)$", text) is not None
+
+
+@contextlib.contextmanager
+def no_collection():
+    """Turns Python's collector off: it would look again and again at events, none of which can go."""
+    was_on = gc.isenabled()
+    gc.disable()
+    try:
+        yield
+    finally:
+        if was_on:
+            gc.enable()

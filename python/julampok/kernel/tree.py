@@ -26,9 +26,6 @@ SWITCH = {"enabled": True, "disabled": False}  # What power/async says; None whe
 ROOTS = ("system", "virtual")
 
 
-Refused = CannotError  # (as `machine` names it)
-
-
 class Device:
     """A device of a machine: its path below devices/, its parent's path, and what /sys says of its power.
 
@@ -41,12 +38,6 @@ class Device:
         self.is_async = self.runtime_status = self.line = None
         self.may_wake = False
         self.driver = self.subsystem = ""
-
-    @property
-    def is_suspended(self):
-        """Whether /sys says that the device was runtime suspended."""
-        return self.runtime_status == "suspended"
-
 
 class Machine:
     """What a tree tells: devices by path, links (supplier, consumer, is_dormant), sources, processors, and notes.
