@@ -32,9 +32,10 @@ class Foreign:
 class Follower:
     """A recording under way to a log."""
 
-    def __init__(self, recording: Recording):
+    def __init__(self, recording: Recording, as_async: set = frozenset()):
         self.recording, self.file = recording, recording.trace_file
         self.kin, self.notes = settle(recording)
+        self.kin.is_async = [device.is_async or device in as_async for device in self.kin.devices]
         given = Names()
         self.names = [given.give(device.name) for device in self.kin.devices]
         self.planner = Planner(recording, self.kin)

@@ -90,13 +90,8 @@ def second_judge(machine: dict) -> Callable[[str], str]:
 
 def replay(recording: Recording, judge=None) -> Replay:
     """Follows a recording, and judges the log. `judge` is a `Program`, or None for the second writing. Raises CannotError."""
-    follower = Follower(recording)
-    broken = None
-    try:
-        text = follower.follow()
-    except OutOfOrder as found:
-        broken = found
-        text = broken_log(follower, found)
+    follower, broken = followed(recording)
+    text = follower.journal.end() if broken is None else broken_log(follower, broken)
     machine = machine_of(follower)
     found = Replay(False, False, "", judge.name if judge else "the second writing", "", log=text.encode(), machine=written(machine),
                    table=table_of(follower), origins=follower.journal.origins)
@@ -111,6 +106,32 @@ def replay(recording: Recording, judge=None) -> Replay:
         compare(found, follower, text)
     found.headline = headline(found, recording)
     return found
+
+
+def followed(recording: Recording) -> tuple[Follower, OutOfOrder | None]:
+    """Follows a recording, and gives the step that no legal log has, where there is one.
+
+    Whether a device that never has a callback is asynchronous is told by no trace. Where no list tells, they are first taken as
+    synchronous; if the kernel's order is not legal so, as asynchronous, which lets the kernel do more.
+    """
+    follower = Follower(recording)
+    try:
+        follower.follow()
+        return follower, None
+    except OutOfOrder as found:
+        broken = found
+    unknown = [device for device in follower.kin.devices if device.listed_async is None and not device.has_callbacks]
+    if not unknown:
+        return follower, broken
+    again = Follower(recording, set(unknown))
+    text = f"no input tells which devices without a callback are asynchronous: {len(unknown)} are taken as that, since the kernel's order is not legal else"
+    try:
+        again.follow()
+        again.note(text)
+        return again, None
+    except OutOfOrder as found:
+        again.note(text)
+        return again, found
 
 
 def broken_log(follower: Follower, found: OutOfOrder) -> str:
