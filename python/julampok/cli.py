@@ -12,8 +12,9 @@ import sys
 import traceback
 
 from . import commands
-from .errors import CANNOT, CannotError, one_line
-from .files import silence, write_out
+from .errors import CANNOT, CannotError
+from .files import LATER, say, say_all, silence, write_out
+from .progress import Progress
 
 HEAD = "What a machine does that goes to sleep as Linux 6.1 does: run it, check its log, explain and draw it."
 FOOT = "Statuses: 0 yes; 1 no; 2 the words are wrong, or an input is missing or broken. 'julampok COMMAND --help' has more."
@@ -83,23 +84,18 @@ def fault_line(fault):
     return f"a fault of julampok itself, which its maintainers want to know: {type(fault).__name__} at {place}: {fault}"
 
 
-def say(name, text):
-    """Writes one line on standard error; where that is closed nothing can be said."""
-    try:
-        print(one_line(f"{name}: {text}"), file=sys.stderr, flush=True)
-    except (OSError, ValueError, AttributeError):
-        pass
-
-
 def main(words=None):
     """Runs the command that the words name, and gives its status."""
     words = sys.argv[1:] if words is None else words
     name = "julampok"
+    LATER.clear()
     try:
         given = parser_for(words).parse_args(words)
         name = f"julampok {given.command}"
-        status = module_of(given.command).run(given)
-        write_out("")
+        with Progress(given.command):
+            status = module_of(given.command).run(given)
+            write_out("")
+        say_all()
         return status
     except CannotError as error:
         named = next((word for word in words if not word.startswith("-")), None)

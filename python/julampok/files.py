@@ -8,16 +8,19 @@ import sys
 import tempfile
 import zlib
 
-from .errors import CannotError
+from .errors import CannotError, one_line
+from .progress import current
 
 GZIP = b"\x1f\x8b"
 
 
 def read_bytes(path):
     """The bytes of a file, or of standard input for '-'; unpacked where gzip packed them. Raises CannotError."""
+    if str(path) == "-" and sys.stdin is None:
+        raise CannotError("is closed", path)
     try:
         data = sys.stdin.buffer.read() if str(path) == "-" else pathlib.Path(path).read_bytes()
-    except (OSError, ValueError, AttributeError) as fault:
+    except (OSError, ValueError) as fault:
         raise CannotError(reason(fault), path) from None
     if not data.startswith(GZIP):
         return data
@@ -44,15 +47,40 @@ def read_text(path):
 def write_out(text):
     """Writes text (or bytes) on standard output, quietly also where nobody reads any more. Raises CannotError."""
     data = text if isinstance(text, bytes) else text.encode("utf-8", "surrogateescape")
+    current().erase()
+    if sys.stdout is None:
+        raise CannotError("is closed", "standard output")
     try:
         sys.stdout.flush()
         sys.stdout.buffer.write(data)
         sys.stdout.buffer.flush()
     except BrokenPipeError:
         silence()
-    except (OSError, ValueError, AttributeError) as fault:
+    except (OSError, ValueError) as fault:
         silence()
         raise CannotError(f"cannot be written: {reason(fault)}", "standard output") from None
+
+
+def say(name, text):
+    """Writes one line on standard error; where that is closed nothing can be said."""
+    try:
+        print(one_line(f"{name}: {text}"), file=sys.stderr, flush=True)
+    except (OSError, ValueError, AttributeError):
+        pass
+
+
+LATER = []  # What is said once the command has done its work.
+
+
+def say_later(name, text):
+    """Says one line on standard error after the command's work, and nothing where that fails: then the reason alone is said."""
+    LATER.append((name, text))
+
+
+def say_all():
+    """Says what was kept for the end."""
+    while LATER:
+        say(*LATER.pop(0))
 
 
 def silence():
@@ -74,10 +102,12 @@ def is_same(one, two):
 
 
 def refuse_inputs(path, inputs):
-    """Raises CannotError where the output would replace one of the inputs."""
+    """Raises CannotError where the output would replace one of the inputs, or has no folder to stand in."""
     for given in inputs:
         if given is not None and str(given) != "-" and is_same(path, given):
             raise CannotError("is one of the inputs, so it is not written", path)
+    if not pathlib.Path(path).absolute().parent.is_dir():
+        raise CannotError("cannot be written: its folder is not there", path)
 
 
 def write_new(path, data, inputs=()):

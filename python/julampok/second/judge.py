@@ -28,7 +28,7 @@ class Judge:
             if not run.allows(line):
                 return at + 1, self.rule_at(at)
             if progress is not None and at % 4096 == 0:
-                progress.at(at)
+                progress.at(at, len(self.entries))
         return self.ending(run)
 
     def rule_at(self, at):

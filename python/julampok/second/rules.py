@@ -1,5 +1,6 @@
 """The rules of machine files, and how an accepted file's machine is written: a second writing of both."""
 
+import collections
 import json
 import re
 
@@ -126,24 +127,65 @@ def at(member, place):
     return f"{member}[{place}]"
 
 
-def repeated(names):
-    return next((place for place, found in enumerate(names) if found in names[:place]), None)
-
-
 def first_not(member, items, test):
-    """The place of the first item that does not pass; the test sees the items before it."""
-    return next((at(member, place) for place, item in enumerate(items) if not test(item, items[:place])), None)
+    """The place of the first item that does not pass."""
+    return next((at(member, place) for place, item in enumerate(items) if not test(item)), None)
 
 
-def closes_cycle(link, before, devices):
-    below, todo = set(), [link["consumer"]]
-    while todo:
-        device = todo.pop()
-        if device not in below:
-            below.add(device)
-            todo += [child["name"] for child in devices if child.get("parent") == device]
-            todo += [other["consumer"] for other in before if other["supplier"] == device]
-    return link["supplier"] in below
+def first_again(member, keys, taken=()):
+    """The place of the first key that is taken, or was there before."""
+    seen = set(taken)
+    for place, key in enumerate(keys):
+        if key in seen:
+            return at(member, place)
+        seen.add(key)
+    return None
+
+
+def first_late_parent(devices):
+    """The place of the first device whose parent does not stand before it."""
+    seen = set()
+    for place, device in enumerate(devices):
+        if "parent" in device and device["parent"] not in seen:
+            return at("devices", place)
+        seen.add(device["name"])
+    return None
+
+
+def hanging(devices, links):
+    """Of each device what hangs right below it, by parents and links."""
+    below = {device["name"]: [] for device in devices}
+    for device in devices:
+        if "parent" in device:
+            below[device["parent"]].append(device["name"])
+    for link in links:
+        below[link["supplier"]].append(link["consumer"])
+    return below
+
+
+def has_cycle(devices, links):
+    """Whether somebody depends on itself, by parents and links."""
+    below = hanging(devices, links)
+    above = collections.Counter(one for those in below.values() for one in those)
+    free, gone = [name for name in below if not above[name]], 0
+    while free:
+        gone += 1
+        for one in below[free.pop()]:
+            above[one] -= 1
+            if not above[one]:
+                free.append(one)
+    return gone < len(below)
+
+
+def first_in_cycle(devices, links):
+    """The place of the first link that closes a cycle with those before it: found by halving, since later ones open none."""
+    if not has_cycle(devices, links):
+        return None
+    good, bad = 0, len(links)  # So many links have no cycle, and so many have one.
+    while bad - good > 1:
+        middle = (good + bad) // 2
+        good, bad = (good, middle) if has_cycle(devices, links[:middle]) else (middle, bad)
+    return at("links", bad - 1)
 
 
 def form_rules(file):
@@ -153,31 +195,29 @@ def form_rules(file):
     yield 4, next((member for member, test in forms.items() if member in file and not test(file[member])), None)
     lists = [(member, file.get(member, [])) for member in LISTS]
     too_new = lambda member, item: file["version"] == 1 and member == "links" and "state" in item
-    in_form = lambda member: lambda item, _: ITEMS[member](item) and not too_new(member, item)
+    in_form = lambda member: lambda item: ITEMS[member](item) and not too_new(member, item)
     places = (first_not(member, items, in_form(member)) for member, items in lists)
     yield 5, next(filter(None, places), None)
     yield 6, next((member for member, items in lists if len(items) > MOST[member]), None)
     named = ("name", "parent", "supplier", "consumer")
     names_of = lambda item: [item] if text(item) else [item[member] for member in named if member in item]
-    places = (first_not(member, items, lambda item, _: all(map(name, names_of(item)))) for member, items in lists)
+    places = (first_not(member, items, lambda item: all(map(name, names_of(item)))) for member, items in lists)
     yield 7, next(filter(None, places), None)
 
 
 def thing_rules(file):
     devices, links = file.get("devices", []), file.get("links", [])
-    names = [device["name"] for device in devices]
-    yield 8, first_not("devices", names, lambda found, before: found not in before)
-    parents = lambda device, before: "parent" not in device or device["parent"] in [d["name"] for d in before]
-    yield 9, first_not("devices", devices, parents)
-    yield 10, first_not("links", links, lambda link, _: link["supplier"] in names and link["consumer"] in names)
+    names = {device["name"] for device in devices}
+    yield 8, first_again("devices", [device["name"] for device in devices])
+    yield 9, first_late_parent(devices)
+    yield 10, first_not("links", links, lambda link: link["supplier"] in names and link["consumer"] in names)
     ends = [(link["supplier"], link["consumer"]) for link in links]
-    yield 11, first_not("links", ends, lambda pair, before: pair[0] != pair[1] and pair not in before)
-    yield 12, first_not("links", links, lambda link, before: not closes_cycle(link, before, devices))
-    distinct = lambda found, before: found not in before
+    yield 11, first_again("links", ends, {(name, name) for name in names})
+    yield 12, first_in_cycle(devices, links)
     notifiers = [notifier["name"] for notifier in file.get("notifiers", [])]
-    yield 13, first_not("syscore", file.get("syscore", []), distinct) or first_not("notifiers", notifiers, distinct)
-    yield 14, first_not("sources", file.get("sources", []), lambda found, before: found not in before + ["autosleep"])
-    yield 15, first_not("actors", [actor["name"] for actor in file.get("actors", [])], distinct)
+    yield 13, first_again("syscore", file.get("syscore", [])) or first_again("notifiers", notifiers)
+    yield 14, first_again("sources", file.get("sources", []), {"autosleep"})
+    yield 15, first_again("actors", [actor["name"] for actor in file.get("actors", [])])
 
 
 def operations_of(file):
@@ -191,31 +231,30 @@ def is_allowed(actor, found):
 
 
 def script_rules(file):
-    sources, devices = file.get("sources", []), [device["name"] for device in file.get("devices", [])]
+    sources, devices = {None, *file.get("sources", [])}, {None, *(device["name"] for device in file.get("devices", []))}
     first = lambda test: next((place for place, actor, found in operations_of(file) if not test(actor, found)), None)
     yield 16, first(lambda actor, found: operation(found, file["version"]))
     yield 17, first(is_allowed)
-    reports = lambda answer, _: all(found["source"] in sources for found in answer.get("reports", []))
-    unknown = first(lambda actor, found: found.get("source") in [None, *sources])
+    reports = lambda answer: all(found["source"] in sources for found in answer.get("reports", []))
+    unknown = first(lambda actor, found: found.get("source") in sources)
     yield 18, unknown or first_not("answers", file.get("answers", []), reports)
     ends = ("device", "supplier", "consumer")
-    yield 19, first(lambda actor, found: all(found.get(end) in [None, *devices] for end in ends))
+    yield 19, first(lambda actor, found: all(found.get(end) in devices for end in ends))
 
 
 def answer_rules(file):
     answers = file.get("answers", [])
-    names = lambda member: [item["name"] for item in file.get(member, [])]
-    things = {"device": names("devices"), "syscore": file.get("syscore", []), "notifier": names("notifiers"), "platform": PLATFORM}
+    names = lambda member: {item["name"] for item in file.get(member, [])}
+    things = {"device": names("devices"), "syscore": set(file.get("syscore", [])), "notifier": names("notifiers"), "platform": PLATFORM}
     is_device = lambda answer: answer["what"] == "device"
     is_prepare = lambda answer: is_device(answer) and answer["phase"] == "prepare"
-    there = lambda answer, _: answer["name"] in things[answer["what"]] and ("phase" in answer) == is_device(answer)
+    there = lambda answer: answer["name"] in things[answer["what"]] and ("phase" in answer) == is_device(answer)
     yield 20, first_not("answers", answers, there)
     allowed = lambda answer: [0, "EIO", "EBUSY", "ENODEV", "EINVAL", 1 if is_prepare(answer) else "EAGAIN"]
-    yield 21, first_not("answers", answers, lambda answer, _: answer.get("ret", 0) in allowed(answer))
+    yield 21, first_not("answers", answers, lambda answer: answer.get("ret", 0) in allowed(answer))
     most = lambda answer: MOST_OF_ONE if is_device(answer) and not is_prepare(answer) else 0
-    yield 22, first_not("answers", answers, lambda answer, _: len(answer.get("reports", [])) <= most(answer))
-    key = lambda answer: [answer.get(member) for member in ("what", "name", "phase", "attempt")]
-    yield 23, first_not("answers", [key(answer) for answer in answers], lambda found, before: found not in before)
+    yield 22, first_not("answers", answers, lambda answer: len(answer.get("reports", [])) <= most(answer))
+    yield 23, first_again("answers", [tuple(map(answer.get, ("what", "name", "phase", "attempt"))) for answer in answers])
 
 
 def amount_rules(file):

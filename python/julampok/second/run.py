@@ -743,10 +743,12 @@ class Run(Machine):
         """Whether each script has exited and no attempt is open."""
         return all(task.exited for task in self.tasks) and self.maker is None
 
-    def run(self):
+    def run(self, progress=None):
         """The log's text, and whether it is stuck."""
         while True:
             if self.round():
+                if progress is not None:
+                    progress.at(len(self.lines))
                 continue
             pending = list(self.times())
             if self.is_over() or not pending:
