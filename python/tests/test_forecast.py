@@ -105,7 +105,7 @@ class Kernel(unittest.TestCase):
         for name in names():
             if (measured := measured_of(name)) is None:
                 continue
-            for change in (None, *list(range(0, len(measured.devices), 90))):
+            for change in (None, len(measured.devices) - 3):
                 plan = measured.plan if change is None else measured.plan.with_flag(change, change not in measured.plan.asynchronous)
                 given = logs.log_names(plan)
                 follower = Follower(logs.machine_of(plan, given))
