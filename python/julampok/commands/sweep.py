@@ -13,14 +13,12 @@ Status 0: no rule is broken. Status 1: one is.
 """
 
 import json
-import os
 
 from ..errors import NO, YES, CannotError
 from ..files import read_bytes, read_text, write_out
-from ..forecast import expecting, logs, machines, sweeping
+from ..forecast import expecting, logs, machines, matching, sweeping
 from ..forecast.measured import TIMED, NoTimesError, choose_attempt, choose_listed, list_devices, measure
 from ..forecast.telling import ms, shown
-from ..kernel.names import Finder, Refused, Row, read_table
 from ..kernel.reading import read_inputs
 from ..limits import LONGEST_MS
 from ..progress import Progress
@@ -99,16 +97,16 @@ def of_trace(given):
         listed = list_devices(recording, attempt)
     except NoTimesError as refused:
         raise CannotError(str(refused), given.machine, refused.line) from None
-    names = logs.log_names(listed.plan)
-    tree = logs.machine_of(listed.plan, names) | {"actors": [sweeping.WRITER]}
-    if not logs.fits(tree):
-        raise CannotError("the machine has more devices or links than a machine file may have", given.machine)
+    devices, plan, _ = logs.that_fit(listed.devices, listed.plan, {})
+    names = logs.log_names(plan)
+    tree = logs.machine_of(plan, names) | {"actors": [sweeping.WRITER]}
     tree["cpus"] = min(recording.processors or 1, 64)
     try:
         measured = measure(recording, attempt)
     except NoTimesError:
         return tree, None
-    return tree, by_name(measured, names)
+    kept = dict(zip(devices, names))
+    return tree, by_name(measured, [kept.get(device) for device in measured.devices])
 
 
 def durations_of_file(given, tree):
@@ -118,23 +116,10 @@ def durations_of_file(given, tree):
         measured = measure(recording, choose_attempt(recording))
     except NoTimesError as refused:
         raise CannotError(str(refused), given.trace, refused.line) from None
-    as_traced = lambda device: (device.driver, device.name, device.parent.name if device.parent else None)
-    finder = Finder(rows_of(given, tree), [as_traced(device) for device in measured.devices])
-    rows = [finder.row_of(as_traced(device)) for device in measured.devices]
-    if not any(rows):
+    names = matching.names_in_machine(matching.rows_of(tree, given.machine), measured.devices)
+    if not any(names):
         raise CannotError(f"no device of the trace is one of {given.machine}", given.trace)
-    return by_name(measured, [row and row.name for row in rows])
-
-
-def rows_of(given, tree):
-    """The rows of the table of names beside the machine file; without one each name is the real one."""
-    table = os.path.splitext(given.machine)[0] + ".names"
-    if given.machine == "-" or not os.path.exists(table):
-        return [Row(device["name"], device["name"], device.get("parent"), "", None) for device in tree.get("devices", [])]
-    try:
-        return read_table(read_bytes(table))
-    except Refused as refused:
-        raise CannotError(str(refused), table) from None
+    return by_name(measured, names)
 
 
 def by_name(measured, names):

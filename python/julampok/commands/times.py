@@ -18,7 +18,6 @@ from ..files import write_folder, write_out
 from ..forecast import choosing, logs, telling
 from ..forecast.forecast import best
 from ..forecast.measured import NoTimesError, choose_attempt, measure
-from ..kernel.names import Row, write_table
 from ..kernel.reading import add_input_arguments, read_recording
 
 HELP = "shows what was slow in a kernel's trace, and what a change would save"
@@ -67,12 +66,7 @@ def run(given):
 
 def order_files(forecast):
     """The forecast's order: the machine file, its log, and the table of names. Raises CannotError for too many devices."""
-    plan, names = forecast.plan, logs.log_names(forecast.plan)
-    machine = logs.machine_of(plan, names)
-    if not logs.fits(machine):
-        raise CannotError("the machine has more devices or links than a machine file may have")
-    devices = forecast.measured.devices
-    rows = [Row(names[number], device.name, device.parent and device.parent.name, device.driver, device.path)
-            for number, device in enumerate(devices)]
-    return {"machine.json": json.dumps(machine, indent=1) + "\n", "machine.log": logs.log_of(plan, names, forecast.timings),
-            "machine.names": write_table(rows, {})}
+    devices, plan, timings = logs.that_fit(forecast.measured.devices, forecast.plan, forecast.timings)
+    names = logs.log_names(plan)
+    return {"machine.json": json.dumps(logs.machine_of(plan, names), indent=1) + "\n", "machine.log": logs.log_of(plan, names, timings),
+            "machine.names": logs.table_of(devices, names)}

@@ -5,14 +5,16 @@ The order is that of forecasts: the begins and ends of each phase. The log is wh
 
 from __future__ import annotations
 
-from typing import Iterator, Mapping
+from typing import Iterable, Iterator, Mapping
 
-from julampok.kernel.names import Names
-from julampok.kernel.recording import Phase
+from julampok.errors import CannotError
+from julampok.kernel.names import Names, Row, write_table
+from julampok.kernel.recording import Device, Link, Phase
+from julampok.kernel.thinning import thin
 from julampok.limits import ALARM_MS, MOST
 
 from .measured import WAY_DOWN
-from .plan import Plan
+from .plan import Plan, PlanLink
 from .simulate import Timing, simulate
 
 MAKER = "task:writer"
@@ -48,9 +50,38 @@ def machine_of(plan: Plan, names: list[str]) -> dict:
     return {member: value for member, value in file.items() if value != []}
 
 
-def fits(file: dict) -> bool:
-    """Whether a machine file may have as many devices and links."""
-    return all(len(file.get(member, [])) <= MOST[member] for member in ("devices", "links"))
+def that_fit(devices: list[Device], plan: Plan, timings: Mapping[Phase, Timing],
+             stay: Iterable[int] = ()) -> tuple[list[Device], Plan, dict[Phase, Timing]]:
+    """What of devices, plan and timings a machine file has room for: devices without callbacks go where there are too many.
+
+    The waits of those that go are carried on by links. `stay` are devices that do not go. Raises CannotError where too many
+    devices have callbacks.
+    """
+    if len(devices) <= MOST["devices"] and len(plan.links) + len(devices) <= MOST["links"]:
+        return devices, plan, dict(timings)
+    ordered = [devices[number] for number in plan.order]
+    links = [Link(devices[link.supplier], devices[link.consumer], link.is_dormant) for link in plan.links]
+    staying = {device for device in devices if device.has_callbacks} | {devices[number] for number in stay}
+    thinned = thin(ordered, links, staying, MOST["devices"] - 1)
+    numbers = {device: number for number, device in enumerate(thinned.devices)}
+    of_old = {number: numbers[device] for number, device in enumerate(devices) if device in numbers}
+    parents = (thinned.parents[device] for device in thinned.devices)
+    kept = Plan(
+        tuple(device.name for device in thinned.devices), tuple(None if parent is None else numbers[parent] for parent in parents),
+        tuple(dict.fromkeys(PlanLink(numbers[link.supplier], numbers[link.consumer], link.is_dormant) for link in thinned.links)),
+        tuple(range(len(numbers))), frozenset(of_old[number] for number in plan.asynchronous if number in of_old),
+        frozenset(of_old[number] for number in plan.silent if number in of_old))
+    if len(kept.links) + len(numbers) > MOST["links"]:
+        raise CannotError(f"the machine has more than the {MOST['links']} links that a machine file may have")
+    return thinned.devices, kept, {phase: renumbered(timing, of_old) for phase, timing in timings.items()}
+
+
+def renumbered(timing: Timing, of_old: Mapping[int, int]) -> Timing:
+    """The times of the devices that have new numbers."""
+    olds = sorted(of_old, key=of_old.get)
+    walk = [of_old[number] for number in timing.walk if number in of_old]
+    took = lambda times: [times[old] for old in olds]
+    return Timing(walk, took(timing.came), took(timing.begin), took(timing.end), [None] * len(olds), timing.total)
 
 
 def parents_first(plan: Plan) -> list[int]:
@@ -80,6 +111,12 @@ def device_of(plan: Plan, names: list[str], device: int) -> dict:
 def link_of(names: list[str], supplier: int, consumer: int, is_dormant: bool) -> dict:
     link = {"supplier": names[supplier], "consumer": names[consumer]}
     return link | ({"state": "dormant"} if is_dormant else {})
+
+
+def table_of(devices: list[Device], names: list[str]) -> str:
+    """The table of the names of machine and log, and the real ones."""
+    rows = (Row(name, device.name, device.parent and device.parent.name, device.driver, device.path) for name, device in zip(names, devices))
+    return write_table(rows, {})
 
 
 # ---- the log

@@ -6,8 +6,6 @@ import json
 from dataclasses import dataclass, field
 from typing import Callable, Iterator, Sequence
 
-from julampok.errors import CannotError
-from julampok.kernel.names import Row, write_table
 from julampok.kernel.recording import Device, Phase
 
 from . import always, logs, machines
@@ -173,14 +171,13 @@ def of_machine(subject: Subject, first: int, second: int):
 
 def of_plan(subject: Subject, first: int, second: int):
     """One undisturbed attempt of the devices, with the order in suspend."""
-    plan, names = subject.plan, logs.log_names(subject.plan)
-    machine = logs.machine_of(plan, names)
-    if not logs.fits(machine):
-        raise CannotError("the machine has more devices or links than a machine file may have, so no log is made of it")
-    log = logs.log_of(plan, names, {Phase.SUSPEND: always.other_order(plan, first)})
-    rows = [Row(names[number], device.name, device.parent and device.parent.name, device.driver, device.path)
-            for number, device in enumerate(subject.devices)]
-    return json.dumps(machine, indent=1) + "\n", log, names, write_table(rows, {})
+    timings = {Phase.SUSPEND: always.other_order(subject.plan, first)}
+    devices, plan, timings = logs.that_fit(subject.devices, subject.plan, timings, (first, second))
+    names = logs.log_names(plan)
+    of_device = dict(zip(devices, names))
+    log = logs.log_of(plan, names, timings)
+    machine = json.dumps(logs.machine_of(plan, names), indent=1) + "\n"
+    return machine, log, [of_device.get(device) for device in subject.devices], logs.table_of(devices, names)
 
 
 def shown_lines(log: str, first: str, second: str) -> Iterator[str]:
