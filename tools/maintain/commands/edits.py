@@ -16,7 +16,7 @@ import tempfile
 from maintain.edits.copying import copy_of, set_aside, wrong_bodies
 from maintain.edits.crates import changed_since, crates_of, with_below
 from maintain.edits.outcomes import tried_of
-from maintain.errors import CannotError
+from julampok.errors import CannotError
 from maintain.places import TOP
 
 HELP = "tries the wrong bodies that the gate passes over"

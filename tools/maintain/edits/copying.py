@@ -8,7 +8,7 @@ import pathlib
 import shutil
 import sys
 
-from maintain.errors import CannotError
+from julampok.errors import CannotError
 
 ASIDE = ".edit.md"
 # What stands in a checkout beside crates/ and is read by rt.

@@ -2,7 +2,7 @@
 
 import subprocess
 
-from maintain.errors import CannotError
+from julampok.errors import CannotError
 
 
 def crates_of(top):

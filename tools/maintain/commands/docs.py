@@ -1,0 +1,30 @@
+"""Writes the pages of definitions; with --check, checks all pages.
+
+docs/DEFINITIONS.md and docs/DEFINITIONS_ASIDE.md are made of the comment lines of the crates' specs/. --check says which of both
+is old, and which link, file, crate, name or command of README.md and docs/ is not there; it then ends with status 1.
+"""
+
+from julampok.files import write_all
+from maintain.docs.definitions import pages
+from maintain.docs.names import all_broken
+from maintain.places import TOP
+
+HELP = "writes the pages of definitions, or checks all pages"
+EXAMPLE = "tools/dev docs --check"
+
+
+def add_arguments(parser):
+    """The words of the command."""
+    parser.add_argument("--check", action="store_true", help="writes nothing, and checks all pages")
+
+
+def run(given):
+    """Writes the pages that are old, or says what is wrong with any page."""
+    old = {path: text for path, text in pages() if not path.is_file() or path.read_text() != text}
+    if not given.check:
+        write_all(old)
+        print("".join(f"{path.relative_to(TOP)} is written\n" for path in old), end="")
+        return 0
+    wrong = [f"{path.relative_to(TOP)}: is old; `tools/dev docs` writes it" for path in old] + all_broken()
+    print("".join(f"{what}\n" for what in wrong), end="")
+    return 1 if wrong else 0

@@ -1,0 +1,34 @@
+"""Writes the worked logs as the crates have them.
+
+tools/worked/ has for each log its machine file NAME.json and its text NAME.log, worked out apart from the program; the table
+in tools/maintain/worked/table.py says what each shows. A machine becomes the value that its file spells, an entry a line. What
+is written: in crates/log_trials the values, a module a subject, the laws that each log is legal, is what one worker writes
+and has its text, and the logs of tools/worked/broken with the laws that refuse them; in crates/sleep_main the same machines
+and logs as tests of the program.
+"""
+
+from julampok.files import write_all
+from maintain.places import CRATES
+from maintain.worked.files import all_files
+
+HELP = "writes the worked logs as terms, laws and tests of the crates"
+EXAMPLE = "tools/dev worked --check"
+
+
+def add_arguments(parser):
+    """The words of the command."""
+    parser.add_argument("--check", action="store_true", help="writes nothing; status 1 where a file is not as it would be written")
+
+
+def run(given):
+    """Writes each file that is not as it has to be, or names it."""
+    found = {CRATES / path: text for path, text in all_files().items()}
+    old = {path: text for path, text in found.items() if not path.is_file() or path.read_text(encoding="utf-8") != text}
+    if not given.check:
+        for path in old:
+            path.parent.mkdir(parents=True, exist_ok=True)
+        write_all(old)
+    for path in old:
+        print(f"{path.relative_to(CRATES.parent)} {'is old' if given.check else 'is written'}")
+    print(f"{len(old)} of {len(found)} files {'are old' if given.check else 'are written'}")
+    return 1 if given.check and old else 0

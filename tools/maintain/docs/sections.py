@@ -1,0 +1,148 @@
+"""What the pages of definitions have: their heads, what to read in which order, and a section for each subject."""
+
+HEAD = """# Definitions
+
+What sleep is, in the words that contracts use. Each definition stands in a crate's `specs/`, with one
+comment line. They speak of one list of entries, looking backward: `past` is the entries before a place,
+the newest first. The code keeps words, flags, cursors and counters instead, and the proofs say that both
+agree.
+
+The last column names the function or field of Linux 6.1 that a definition states; "own" means that
+the kernel has none. `tools/dev docs` writes this page from the comment lines.
+
+## What a reader has to trust
+
+Whoever believes these, with the definitions that they cite, knows what the headline says. They stand here in
+reading order, from "the program wrote a legal log" down to the rule that decides an entry. The sections behind have
+every definition that the headline's clauses come to, then those of the laws of sleep, of the rules of a log, of the merge
+and of running threads. What no promise comes to, as invariants and the steps of proofs, is in the crates' `specs/` and not
+here. The checker's account and a library have [a page of their own](DEFINITIONS_ASIDE.md).
+"""
+
+ASIDE_HEAD = """# Definitions aside
+
+No clause of the program comes to these, so nobody has to trust them to believe what the program promises. The first sections
+are of the checker's account, by which `check` judges a log; no program stands on the crate of the last. The tables are as on
+[the page of the program's definitions](DEFINITIONS.md), and `tools/dev docs` writes both.
+"""
+
+# What to read, in order: a question, and the definitions that answer it, each with its crate and module.
+READING = [
+    ("What does a status of the program mean?", [("sleep_main", "Endings", ["Ended", "RunEnded", "RanFile", "Completes"]), ("program_ending", "Endings", ["status_of", "text_of"])]),
+    ("What is a run?", [("machine_rounds", "Runs", ["IsRun", "IsFull"])]),
+    ("Which machine do these bytes spell?", [("machine_file", "Whole", ["machine_in", "SpellsWhole", "first_broken", "rule"])]),
+    ("When is a log legal, and at its end?", [("sleep_model", "Legal", ["IsLegalLog", "IsLegal", "JournalPart", "JournalStep", "SourcePart", "JointStep", "Placed", "JumpStep", "IsFinishedLog", "IsStuckLog", "is_enabled"])]),
+    ("Which entry is due of an actor?", [("sleep_model", "Due", ["due", "own_due", "script_due"]), ("sleep_model", "Steps", ["seat_due", "step_due", "read_due", "save_due", "state_due"]), ("sleep_model", "Autosleep", ["auto_due"]), ("sleep_model", "Attempt", ["attempt_due", "stage_due"])]),
+    ("Which stage follows, and where does a failure lead?", [("sleep_model", "Table", ["stage_after", "behind", "after_done"])]),
+    ("What do devices do?", [("sleep_model", "Stands", ["stands", "stand_after"]), ("sleep_model", "Devices", ["down_due", "taken", "up_due", "device_due", "is_direct_now", "phase_error"]), ("sleep_model", "Order", ["order", "below", "above"])]),
+    ("What counts as a wakeup?", [("sleep_model", "Numbers", ["numbers"]), ("sleep_model", "Guard", ["in_force", "pending", "forgotten"]), ("sleep_model", "Sources", ["makes", "SourceStep", "expiry"])]),
+    ("Who freezes?", [("sleep_model", "Freezer", ["freezings", "left"])]),
+    ("What does every legal log keep?", [("sleep_model", "Laws", ["Laws", "LawsAt", "DependentsFirst", "SuppliersFirst", "Restored", "Owed", "TakenOnce", "NotOwedAlready", "EntersDown", "UndisturbedEnters", "AnswersFailure", "FoundPending", "InOrder", "GuardedSleep"])]),
+    ("When does `check` say legal, and of which line does it speak else?", [("log_commands", "Judging", ["IsJudged", "IsVerdictOf"]), ("log_check", "Verdicts", ["IsVerdict"]), ("sleep_model", "Rules/Verdict", ["IsGood", "IsFirstBad"])]),
+    ("How is a log written?", [("sleep_model", "Text", ["text", "entry_line", "body"])]),
+    ("What does suspend-to-idle promise?", [("idle_loop", "IdleLogs", ["IsIdleRun", "IsIdleLog", "MayMake", "IsOver", "NoneIsLost"])]),
+    ("What do threads promise?", [("run_world", "Told", ["AfterReport", "AfterCoreTurn"]), ("burst_tasks", "Bursts", ["IsBurst"]), ("burst_laws", "Serial", ["IsSerial"]), ("burst_laws", "Keeping", ["BurstsGoOn"])]),
+]
+
+# The rules of a log, each by itself, in reading order.
+RULES = "Questions Numbers Attempts Reads Walk Skip Runtime Owed Freezer Path Answers Restored Steps Enabled Source Links All Entry Verdict Law".split()
+
+# A section: its crate, its title, what of the kernel it is about, and its modules.
+SECTIONS = [
+    ("sleep_model", "The event word", "`drivers/base/power/wakeup.c`", ["Word", "Numbers"]),
+    ("sleep_model", "Wakeup sources", "`drivers/base/power/wakeup.c`", ["Parts", "Sources"]),
+    ("sleep_model", "What callbacks answer", "`include/linux/pm.h`", ["Answers"]),
+    ("sleep_model", "The saved count and pending wakeups", "`drivers/base/power/wakeup.c`", ["Guard"]),
+    ("sleep_model", "The machine that a file may spell", "`drivers/base/core.c`", ["Accepted"]),
+    ("sleep_model", "Scripts", "own", ["Scripts", "Seats", "Calls", "Marks"]),
+    ("sleep_model", "The freezer", "`kernel/power/process.c`, `kernel/freezer.c`", ["Freezer"]),
+    ("sleep_model", "The autosleep lock", "`kernel/power/autosleep.c`", ["Lock"]),
+    ("sleep_model", "The autosleep work", "`kernel/power/autosleep.c`", ["Autosleep"]),
+    ("sleep_model", "Runtime status", "`drivers/base/power/runtime.c`", ["Runtime"]),
+    ("sleep_model", "The order of devices", "`drivers/base/power/main.c`, `drivers/base/core.c`", ["Order", "Links"]),
+    ("phase_table", "The ten phases", "`drivers/base/power/main.c`", ["Phases"]),
+    ("sleep_model", "Where devices stand", "`drivers/base/power/main.c`", ["Walk", "Stands"]),
+    ("sleep_model", "The phases of devices", "`drivers/base/power/main.c`", ["Devices"]),
+    ("sleep_model", "Notifiers, processors, interrupts, the core and the platform", "`kernel/power/suspend.c`, `drivers/base/syscore.c`, `kernel/cpu.c`", ["Notifiers"]),
+    ("sleep_model", "The table of an attempt", "`kernel/power/suspend.c`", ["Table"]),
+    ("sleep_model", "An attempt, stage by stage", "`kernel/power/suspend.c`", ["Path", "Attempt"]),
+    ("sleep_model", "What a task does next", "`kernel/power/main.c`", ["Tasks", "Steps"]),
+    ("sleep_model", "What is due", "own", ["Due"]),
+    ("sleep_model", "Legal logs", "own", ["Legal"]),
+    ("sleep_model", "The laws of sleep", "`drivers/base/power/main.c`, `kernel/power/suspend.c`", ["Laws"]),
+    ("sleep_laws", "What the laws are proved of", "own", ["Laws", "Linked", "Ends"]),
+    ("sleep_model", "The rules of a log, each by itself", "`kernel/power/suspend.c`, `drivers/base/power/main.c`", [f"Rules/{rule}" for rule in RULES]),
+    ("sleep_model", "The one log of separate histories", "own", ["Merge"]),
+    ("sleep_model", "Which logs can be written, and how many places a source needs", "own", ["Fits", "Places"]),
+    ("sleep_model", "The text of a log", "own", ["NameBytes", "Text"]),
+    ("sleep_base", "The outside", "`include/uapi/asm-generic/errno-base.h`, for errors; the rest is own", ["Errno", "Faults", "Calls", "Streams", "Whole"]),
+    ("machine_file", "Accepted bytes: the first broken rule, and the machine that is spelled", "`include/linux/pm.h`, `drivers/base/core.c`; most is own", ["Whole", "Members", "Places", "Form", "Names", "Devices", "Operations", "Answering", "Limits", "Tree", "Look", "Rules", "Spelled"]),
+    ("machine_file", "How a machine is written", "own", ["Spelling"]),
+    ("sleep_script", "Generated machines", "own", ["Generated"]),
+    ("command_line", "The words of the command line", "own", ["Words"]),
+    ("log_text", "The grammar of a log, and its first bad line", "own", ["Grammar"]),
+    ("machine_rounds", "A whole run", "own", ["Runs"]),
+    ("wake_locks", "Named locks", "`kernel/power/wakelock.c`", ["Standings", "Texts", "Locks", "Writes", "Expiries", "Counted"]),
+    ("lock_lines", "The command `locks`", "`kernel/power/wakelock.c`", ["Lines", "Verbs", "Steps", "Answers", "Told", "Command"]),
+    ("wakeup_source", "What a call adds to a source", "`drivers/base/power/wakeup.c`", ["SourceStates", "Told"]),
+    ("device_links", "Links as they stand", "`drivers/base/core.c`", ["Linked", "Kept"]),
+    ("sleep_stats", "What a log counts, and its longest chain", "`include/linux/suspend.h`, `drivers/base/power/main.c`", ["Counting", "Linked", "Chains"]),
+    ("log_commands", "The command `stats`", "`kernel/power/main.c`", ["Input", "Taking", "Telling", "Stats"]),
+    ("log_check", "The verdict on a log", "own", ["Verdicts"]),
+    ("log_commands", "The command `check`", "own", ["Judging"]),
+    ("program_ending", "Statuses and their texts", "own", ["Endings", "Telling"]),
+    ("idle_loop", "Suspend-to-idle", "`kernel/power/suspend.c`", ["IdleLogs", "Laws"]),
+    ("idle_merge", "The idler's journal and the hard events", "`kernel/power/suspend.c`", ["Merging"]),
+    ("idle_lines", "The command `idle`", "own", ["Lines"]),
+    ("sleep_main", "How the program ends", "own", ["Endings", "Counting"]),
+    ("sleep_pool", "Jobs that are lent to workers", "own", ["Turns"]),
+    ("turn_lock", "Locks in one table", "own", ["Books", "Passes"]),
+    ("run_laws", "What the passes of a burst made", "own", ["Passes"]),
+    ("run_world", "The world of a burst", "own", ["Objects", "Roots", "Told", "Calling"]),
+    ("burst_tasks", "The tasks of a burst, and what it came to", "own", ["Acts", "Bursts"]),
+    ("world_workers", "A worker of a burst, and what goes into it", "own", ["Tries", "Workers", "Bursts"]),
+    ("burst_laws", "A burst as acts in an order", "own", ["Courses", "Serial", "Keeping"]),
+]
+
+# What the two clauses of the program name.
+PROGRAM = [
+    ("sleep_main", "Endings", ["Ended", "Completes", "Says", "stream", "streams"]),
+    ("program_ending", "Endings", ["status_of", "text_of"]),
+    ("command_line", "Words", ["command_of"]),
+]
+
+# What the other promises name: the laws of sleep, the rules, the machine that is accepted, the one log, suspend-to-idle, threads.
+PROMISED = [
+    ("sleep_model", "Laws", ["Laws", "GuardedSleep"]),
+    ("sleep_laws", "Laws", ["HoldsOfAll", "HoldsAtEntries", "HoldsOfJournals"]),
+    ("sleep_laws", "Linked", ["LinksStay", "AllInOrder"]),
+    ("sleep_laws", "Ends", ["AllRestClosed", "AllEndClosed"]),
+    ("sleep_model", "Rules/Entry", ["OneForLists", "OneForEntries", "LegalIsKept", "LegalIsKeptThroughout"]),
+    ("sleep_model", "Rules/Law", ["OneForAll", "OneForScripts", "OneForWork", "OneForDevices", "OneForMakers", "OwedFollows"]),
+    ("sleep_model", "Rules/Verdict", ["GoodHasNone", "FirstBadIsOne"]),
+    ("sleep_model", "Accepted", ["IsAccepted"]),
+    ("sleep_model", "Merge", ["merge", "rises", "IsFit"]),
+    ("machine_file", "Spelling", ["AllReadBack"]),
+    ("lock_lines", "Told", ["AgreeAfter"]),
+    ("idle_loop", "Laws", ["LosesNone", "SleepsOverNone"]),
+    ("idle_merge", "Merging", ["Merges", "MergesToLegal"]),
+    ("sleep_pool", "Turns", ["AllWent", "Went", "FirstsWent", "PartsEnded", "part_size"]),
+    ("turn_lock", "Passes", ["Holds", "gained", "made_of", "number_of", "had_by"]),
+    ("run_laws", "Passes", ["LogSaysWho"]),
+    ("run_world", "Told", ["AfterReport", "AfterCoreTurn"]),
+    ("run_world", "Objects", ["IsWorldPass"]),
+    ("burst_tasks", "Bursts", ["IsBurst"]),
+    ("world_workers", "Bursts", ["HaveGone", "AreReady"]),
+    ("burst_laws", "Courses", ["CoursesGoOn"]),
+    ("burst_laws", "Serial", ["BurstsAreSerial"]),
+    ("burst_laws", "Keeping", ["BurstsGoOn"]),
+]
+
+# The same of crates to whose definitions no clause of the program comes; each of them is listed.
+ASIDE = [
+    ("check_order", "The checker's order of devices", "`drivers/base/core.c`", ["Visited"]),
+    ("check_account", "What the checker keeps of a journal", "`kernel/power/suspend.c`, `kernel/power/process.c`, `drivers/base/power/main.c`", ["Accounts", "Boards"]),
+    ("check_sources", "What the checker keeps of wakeup sources", "`drivers/base/power/wakeup.c`", ["Kept", "Owing"]),
+    ("check_calls", "What the checker keeps of the calls on sources", "own", ["Places", "Calling"]),
+    ("device_tree", "Devices by name", "`drivers/base/core.c`, `drivers/base/power/runtime.c`", ["Refusal", "Requests"]),
+]

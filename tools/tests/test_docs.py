@@ -1,0 +1,82 @@
+"""Tests of the pages: what they name is there, and the pages of definitions are as they are made of the definitions now."""
+
+import pathlib
+import tempfile
+import unittest
+import unittest.mock
+
+from dev_tests import ROOT, dev
+from maintain.docs import names
+from maintain.docs.definitions import kernel_of, pages, sentence
+from maintain.docs.reached import reached
+
+
+class Pages(unittest.TestCase):
+    def test_what_pages_name(self):
+        self.assertEqual(names.all_broken(), [])
+
+    def test_pages_of_definitions(self):
+        for path, text in pages():
+            self.assertEqual(path.read_text(), text, f"{path.name} is old: `tools/dev docs` writes it")
+
+    def test_the_command(self):
+        done = dev("docs", "--check")
+        self.assertEqual((done.status, done.out, done.err), (0, "", ""))
+
+
+class Broken(unittest.TestCase):
+    """Each kind of thing that a page may name and that is not there."""
+
+    def found(self, text):
+        with tempfile.TemporaryDirectory(dir=ROOT / "docs", prefix="test-") as folder:
+            page = pathlib.Path(folder, "PAGE.md")
+            page.write_text(f"# A heading\n\n{text}\n")
+            return [what.split(":", 2)[1:] for what in names.broken(page)]
+
+    def test_each_kind(self):
+        for text, what in (
+            ("[a](nothing.md)", "no file nothing.md"),
+            ("[a](#nothing)", "no heading #nothing"),
+            ("[a](../../README.md#nothing)", "no heading ../../README.md#nothing"),
+            ("`nothing.rt`", "no file nothing.rt"),
+            ("`tools/nothing/at_all.py`", "no file tools/nothing/at_all.py"),
+            ("`no_such_function_anywhere`", "no name no_such_function_anywhere"),
+            ("`Nothing::at_all_of_it`", "no name Nothing::at_all_of_it"),
+            ("`no_such_thing` in `wakeup_guard`", "no no_such_thing in wakeup_guard"),
+            ("`tools/dev nothing NAME`", "no command tools/dev nothing"),
+            ("    ./julampok nothing my.json", "no command ./julampok nothing"),
+        ):
+            with self.subTest(text):
+                self.assertIn(["3", f" {what}"], self.found(text))
+
+    def test_what_is_there(self):
+        for text in ("[a](#a-heading)", "[a](../../README.md)", "[a](https://nowhere.example/x.md)", "`wakeup_guard`", "`limits.py`",
+                     "`python/julampok/limits.py`", "`kernel/power/main.c`", "`.edit.md`", "`*.py`", "`tools/dev edits NAME`", "`./julampok run`"):
+            with self.subTest(text):
+                self.assertEqual(self.found(text), [])
+
+    def test_crates(self):
+        order = names.order_of_crates()
+        with unittest.mock.patch.object(names, "order_of_crates", lambda: [order[1], order[0], *order[2:]]):
+            self.assertEqual(len(list(names.misplaced())), 1)
+        self.assertEqual(list(names.uses_below()), [])
+
+
+class Definitions(unittest.TestCase):
+    def test_sentences(self):
+        self.assertEqual(sentence("the count of it | all"), "The count of it \\| all.")
+        self.assertEqual(sentence("a to z"), "a to z.")
+        self.assertEqual(sentence("whether it is pending (pm_wakeup_pending)"), "Whether it is pending.")
+        self.assertEqual(kernel_of("whether it is pending (pm_wakeup_pending)"), "`pm_wakeup_pending`")
+        self.assertEqual(kernel_of("nothing of the kernel"), "")
+
+    def test_what_is_reached(self):
+        first = ("sleep_model", "Guard", "pending")
+        found = reached([first])
+        self.assertIn(first, found)
+        self.assertGreater(len(found), 1)
+        self.assertEqual(reached([("sleep_model", "Guard", "no_such_definition")]), set())
+
+
+if __name__ == "__main__":
+    unittest.main()

@@ -1,0 +1,85 @@
+"""Tests of `tools/dev worked`: the crates have the worked logs as the command writes them."""
+
+import pathlib
+import tempfile
+import unittest
+import unittest.mock
+
+from dev_tests import ROOT, WORKED, dev
+from maintain.commands import worked
+from maintain.worked.files import all_files
+from maintain.worked.proofs import cuts
+from maintain.worked.table import LOGS, MODULES, TEXTS
+from maintain.worked.terms import Machine, entry_term, whole
+
+
+class Files(unittest.TestCase):
+    def test_the_crates_have_them(self):
+        for path, text in all_files().items():
+            self.assertEqual((ROOT / "crates" / path).read_text(), text, f"{path} is old: `tools/dev worked` writes it")
+
+    def test_each_worked_log_is_in_the_table(self):
+        self.assertEqual({name for _, name, _ in LOGS}, {path.stem for path in WORKED.glob("*.log")})
+        self.assertLessEqual({module for module, _, _ in LOGS}, set(MODULES))
+        self.assertLessEqual(set(TEXTS), {name for _, name, _ in LOGS})
+
+    def test_texts_stand_on_one_line(self):
+        rows = {path: text for path, text in all_files().items() if "/rows/" in path}
+        texts = sum(line.strip().startswith('"') or '_LOG: &str = "' in line for text in rows.values() for line in text.splitlines())
+        self.assertGreater(texts, 40)
+        self.assertFalse([path for path, text in rows.items() if '"\\\n' in text])
+
+
+class Command(unittest.TestCase):
+    def setUp(self):
+        folder = tempfile.TemporaryDirectory()
+        self.addCleanup(folder.cleanup)
+        self.crates = pathlib.Path(folder.name, "crates")
+        self.crates.mkdir()
+        patch = unittest.mock.patch.object(worked, "CRATES", self.crates)
+        patch.start()
+        self.addCleanup(patch.stop)
+
+    def test_writing_and_checking(self):
+        done = dev("worked", "--check")
+        self.assertEqual((done.status, list(self.crates.iterdir())), (1, []))
+        self.assertIn("crates/sleep_main/src/rows/links.rt is old", done.out)
+        self.assertEqual(dev("worked").status, 0)
+        self.assertEqual((self.crates / "sleep_main/src/rows/links.rt").read_text(), all_files()["sleep_main/src/rows/links.rt"])
+        done = dev("worked", "--check")
+        self.assertEqual((done.status, done.out.split(" ")[0]), (0, "0"))
+        (self.crates / "log_trials/src/whole.rt").write_text("something else\n")
+        done = dev("worked", "--check")
+        self.assertEqual((done.status, done.out.splitlines()[0]), (1, "crates/log_trials/src/whole.rt is old"))
+
+
+class Terms(unittest.TestCase):
+    """Terms by hand."""
+
+    MACHINE = Machine({"version": 1, "devices": [{"name": "p"}, {"name": "c", "parent": "p", "async": True}], "sources": ["lid"],
+                       "actors": [{"name": "w", "kind": "user", "script": [{"op": "read"}, {"op": "save", "count": 3}]}]})
+
+    def test_entries(self):
+        for line, term in (
+            ("0 0/0/0 task:w read 0", "entry 0 (word 0 0 0) (actor.Script 0) (kind.Read 0)"),
+            ("5 1/2/0 dev:c begin suspend c", "entry 5 (word 1 2 0) (actor.Dev 1) (kind.Begin phase.Suspend 1)"),
+            ("5 1/2/0 timer:lid expire lid", "entry 5 (word 1 2 0) (actor.Timer 0) (kind.Expire 0)"),
+            ("0 0/0/0 task:w end noirq p EIO", "entry 0 (word 0 0 0) (actor.Script 0) (kind.End phase.Noirq 0 (Some EIO))"),
+            ("0 0/0/0 time jump", "entry 0 (word 0 0 0) actor.Time kind.Jump"),
+        ):
+            self.assertEqual(entry_term(self.MACHINE, line), term)
+        with self.assertRaises(ValueError):
+            entry_term(self.MACHINE, "0 0/0/0 task:w fly")
+
+    def test_machines(self):
+        term = self.MACHINE.term()
+        self.assertIn('devices = device (codes "p") None 0 ∷ device (codes "c") (Some 0) 1 ∷ []', term)
+        self.assertIn("once (op.Save (Some 3))", term)
+
+    def test_numbers(self):
+        self.assertEqual((whole(0), whole(7), whole(-1), whole(-5)), ("(pos 0)", "(pos 7)", "(negsuc 0)", "(negsuc 4)"))
+        self.assertEqual(list(cuts(200)), [150, 75, 0])
+
+
+if __name__ == "__main__":
+    unittest.main()
