@@ -154,19 +154,30 @@ class Joiner:
         return list(order)
 
     def settle_async(self) -> None:
-        """Says of each device whether it was asynchronous: by the tasks of its callbacks, and by the list where it had none."""
+        """Says of each device whether it was asynchronous: by the tasks of its callbacks, and by the list where it had none.
+
+        A device that is in no list and had no callback is taken as asynchronous, if any was: the walk over the kernel's list
+        waits at a synchronous one, and what may not be so must not make the kernel's order wrong.
+        """
         elsewhere, here = set(), set()
         for attempt in self.lines.attempts if self.lines else []:
             pid = attempt.events[0].pid
             for begin in attempt.begins:
                 if begin.phase not in SILENT:
                     (here if begin.pid == pid else elsewhere).add(begin.device)
+        is_on = bool(elsewhere) if self.lines else not self.machine.has_async_off
+        unknown = []
         for device in self.devices:
             device.has_callbacks = device in here or device in elsewhere
-            is_listed = bool(device.listed_async) and (bool(elsewhere) if self.lines else not self.machine.has_async_off)
-            device.is_async = device in elsewhere or is_listed and device not in here
+            is_listed = is_on and bool(device.listed_async)
+            is_unknown = self.lines is not None and is_on and device.listed_async is None and not device.has_callbacks
+            device.is_async = device in elsewhere or is_unknown or is_listed and device not in here
+            unknown += [device] * is_unknown
             if is_listed and not device.is_async:
                 self.note(device, f"{device.shown} is listed as asynchronous, and its callbacks ran in the task of the attempt: taken as synchronous")
+        if unknown and not any(device.listed_async is not None for device in self.devices):
+            self.notes.append(Note(f"{len(unknown)} devices without callbacks may be asynchronous or not, which no input tells: taken as asynchronous, "
+                                   "so that nobody is made to wait by their place in the list", self.lines.file))
 
 
 def replace(attempts: list[Attempt], same: dict[Device, Device]) -> None:

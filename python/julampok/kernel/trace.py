@@ -12,8 +12,8 @@ from collections.abc import Callable
 
 from ..errors import CannotError
 from .lines import ASIDE, LATENCY, LOST, PLAIN, Head, nanoseconds
-from .recording import (Attempt, CallbackBegin, CallbackEnd, Clock, Device, Event, Note, SourceActivate, SourceDeactivate,
-                        SuspendResume)
+from .recording import (Attempt, CallbackBegin, CallbackEnd, Clock, Device, Event, Note, Phase, SourceActivate,
+                        SourceDeactivate, SuspendResume)
 
 BEGIN = re.compile(r"(.*), parent: (.+?), ([a-z ]*\[(\w+)\])")
 END = re.compile(r"(.*), err=(-?\d+)")
@@ -39,6 +39,8 @@ class Lines:
         self.attempts: list[Attempt] = []
         self.notes: list[Note] = []
         self.devices: dict[tuple[str, str], Device] = {}  # By the words before `, parent:`, and the parent's name.
+        self.heads: dict[str, tuple] = {}  # Task, pid, cpu and flags, by what stands before the time.
+        self.layouts = [PLAIN, LATENCY]  # The one that the last line was of comes first.
         self.texts: dict[str, tuple] = {}  # What the text of a line says, for the many that come again.
         self.strays: list[int] = []  # Lines of steps and callbacks outside of an attempt.
         self.unknown: tuple[int, str] | None = None
@@ -47,32 +49,54 @@ class Lines:
         self.reset()
         self.takers: dict[str, Callable] = {
             "suspend_resume": self.take_step, "device_pm_callback_start": self.take_begin,
-            "device_pm_callback_end": self.take_end, "wakeup_source_activate": self.take_source,
-            "wakeup_source_deactivate": self.take_source}
+            "device_pm_callback_end": self.take_end, "wakeup_source_activate": self.take_activate,
+            "wakeup_source_deactivate": self.take_deactivate}
 
     def reset(self) -> None:
         """Begins with nothing that is open."""
         self.phases: list[SuspendResume] = []  # A failed late phase has early inside.
+        self.phase: Phase | None = None  # The innermost one.
         self.callbacks: dict[int, CallbackBegin] = {}  # The open ones, by pid.
         self.is_freezing = self.is_frozen = False
 
     # ---- lines
 
     def take_lines(self, lines: list[str]) -> None:
-        """Takes the lines of the file. Raises CannotError where one is no line of a trace and stands in an attempt."""
-        layout, other, takers = PLAIN, LATENCY, self.takers
+        """Takes the lines of the file. Raises CannotError where one is no line of a trace and stands in an attempt.
+
+        What stands before a time comes again and again, so it is read once; and a line is split where it is a plain one.
+        """
+        heads, takers = self.heads, self.takers
         for line, text in enumerate(lines, 1):
-            found = layout.fullmatch(text)
-            if found is None:
-                found = other.fullmatch(text)
-                if found is None:
-                    self.take_other(line, text)
+            parts = text.split(": ", 2)
+            if len(parts) == 3:
+                head, event, said = parts
+                left, _, stamp = head.rpartition(" ")
+                who = heads.get(left)
+                if who is not None and event.isidentifier():
+                    taker = takers.get(event)
+                    if taker is not None:
+                        taker(line, who, self.time_of(line, stamp), stamp, said)
                     continue
-                layout, other = other, layout
-            task, pid, cpu, flags, stamp, event, said = found.groups()
-            taker = takers.get(event)
-            if taker is not None:
-                taker((line, task, int(pid), int(cpu), flags or "", self.time_of(line, stamp), stamp), said, event)
+            self.take_by_pattern(line, text)
+
+    def take_by_pattern(self, line: int, text: str) -> None:
+        """Takes a line of any layout, and keeps what stands before its time."""
+        found = self.layouts[0].fullmatch(text)
+        if found is None:
+            found = self.layouts[1].fullmatch(text)
+            if found is None:
+                self.take_other(line, text)
+                return
+            self.layouts.reverse()
+        task, pid, cpu, flags, stamp, event, said = found.groups()
+        who = task, int(pid), int(cpu), flags or ""
+        left, _, rest = text.partition(": ")[0].rpartition(" ")
+        if rest == stamp:
+            self.heads[left] = who
+        taker = self.takers.get(event)
+        if taker is not None:
+            taker(line, who, self.time_of(line, stamp), stamp, said.removeprefix(" "))
 
     def take_other(self, line: int, text: str) -> None:
         """Takes a line that is no event."""
@@ -93,18 +117,25 @@ class Lines:
 
     def time_of(self, line: int, stamp: str) -> int | None:
         """The time of an event; all events of a trace have to have one kind of it."""
-        time = nanoseconds(stamp)
-        if time is None:
+        if stamp.isdecimal():
             if self.clock is not Clock.COUNTER:
                 self.settle_clock(line, stamp, Clock.COUNTER)
             return None
         if self.clock is not Clock.SECONDS:
             self.settle_clock(line, stamp, Clock.SECONDS)
+        whole, _, part = stamp.partition(".")
+        time = int(whole + part) * 1000 if len(part) == 6 and part.isdecimal() and whole.isdecimal() else self.other_time(line, stamp)
         if time < self.last_time and not self.goes_back:
             self.goes_back = True
             self.notes.append(Note("the time goes back here", self.file, line))
         self.last_time = time
         return time
+
+    def other_time(self, line: int, stamp: str) -> int:
+        """The time of a stamp that has not six digits behind its point."""
+        if not re.fullmatch(r"\d+\.\d+|\d+us.?", stamp):
+            raise self.fault(line, f"no time: {stamp[:80]!r}")
+        return nanoseconds(stamp)
 
     def settle_clock(self, line: int, stamp: str, clock: Clock) -> None:
         """Takes the clock of the first event; raises CannotError for a later one of another kind."""
@@ -114,13 +145,12 @@ class Lines:
 
     # ---- steps of attempts
 
-    def take_step(self, head: tuple, said: str, _: str) -> None:
+    def take_step(self, line: int, who: tuple, time: int | None, stamp: str, said: str) -> None:
         """Takes a `suspend_resume`."""
-        line = head[0]
         found = STEP.fullmatch(said.strip())
         if found is None:
             raise self.fault(line, f"no step of an attempt: {said.strip()[:80]!r}")
-        event = SuspendResume(*head, found[1], int(found[2]), found[3] == "begin")
+        event = SuspendResume(line, *who, time, stamp, found[1], int(found[2]), found[3] == "begin")
         if event.is_begin and self.is_opening(event):
             self.close(line)
             self.open_attempt = []
@@ -156,10 +186,12 @@ class Lines:
             if event.value in HIBERNATION:
                 raise self.fault(event.line, f"{event.action}[{event.value}] is of a hibernation, not of a suspend")
             self.phases.append(event)
+            self.phase = event.phase
             return
         opened = self.phases.pop() if self.phases else None
         if opened is None or opened.action != event.action:
             raise self.fault(event.line, f"{event.action} ends without a begin")
+        self.phase = self.phases[-1].phase if self.phases else None
         if self.callbacks and not self.phases:
             begin = min(self.callbacks.values(), key=lambda one: one.line)
             raise self.fault(event.line, f"{event.action} ends before the callback of line {begin.line} ({begin.device.name})")
@@ -189,21 +221,20 @@ class Lines:
 
     # ---- callbacks
 
-    def take_begin(self, head: tuple, said: str, _: str) -> None:
+    def take_begin(self, line: int, who: tuple, time: int | None, stamp: str, said: str) -> None:
         """Takes a `device_pm_callback_start`."""
-        line, pid = head[0], head[2]
         if self.open_attempt is None:
             self.strays.append(line)
             return
-        told = self.texts.get(said) or self.read_begin(line, said)
+        device, operation, wanted = self.texts.get(said) or self.read_begin(line, said)
+        task, pid, cpu, flags = who
         if not self.phases:
             raise self.fault(line, f"a callback in no phase of devices: {said.strip()[:80]!r}")
         if pid in self.callbacks:
             raise self.fault(line, f"the callback of line {self.callbacks[pid].line} in the same task has no end yet")
-        device, operation, wanted = told
         if wanted is not None and self.phases[-1].action not in wanted:
             raise self.fault(line, f"a callback {operation!r} in {self.phases[-1].action}")
-        event = CallbackBegin(*head, device, self.phases[-1].phase, operation)
+        event = CallbackBegin(line, task, pid, cpu, flags, time, stamp, device, self.phase, operation)
         self.callbacks[pid] = event
         self.open_attempt.append(event)
 
@@ -222,33 +253,47 @@ class Lines:
         self.texts[said] = told = device, operation, wanted
         return told
 
-    def take_end(self, head: tuple, said: str, _: str) -> None:
+    def take_end(self, line: int, who: tuple, time: int | None, stamp: str, said: str) -> None:
         """Takes a `device_pm_callback_end`."""
-        line, pid = head[0], head[2]
         if self.open_attempt is None:
             self.strays.append(line)
             return
-        told = self.texts.get(said)
-        if told is None:
-            found = END.fullmatch(said.rstrip().removeprefix(self.indent))
-            if found is None:
-                raise self.fault(line, f"no end of a callback: {said.strip()[:80]!r}")
-            self.texts[said] = told = found[1], int(found[2])
+        words, error = self.texts.get(said) or self.read_end(line, said)
+        task, pid, cpu, flags = who
         begin = self.callbacks.pop(pid, None)
-        if begin is None or begin.device.name != told[0]:
+        if begin is None or begin.device.name != words:
             raise self.fault(line, f"a callback ends that did not begin in this task: {said.strip()[:80]!r}")
-        begin.end = event = CallbackEnd(*head, begin.device, begin.phase, told[1], begin)
+        begin.end = event = CallbackEnd(line, task, pid, cpu, flags, time, stamp, begin.device, begin.phase, error, begin)
         self.open_attempt.append(event)
+
+    def read_end(self, line: int, said: str) -> tuple:
+        """What the text of an end tells: driver and device, and what the callback answered."""
+        found = END.fullmatch(said.rstrip().removeprefix(self.indent))
+        if found is None:
+            raise self.fault(line, f"no end of a callback: {said.strip()[:80]!r}")
+        self.texts[said] = told = found[1], int(found[2])
+        return told
 
     # ---- wakeup sources
 
-    def take_source(self, head: tuple, said: str, event: str) -> None:
-        """Takes a step of a wakeup source."""
+    def take_activate(self, line: int, who: tuple, time: int | None, stamp: str, said: str) -> None:
+        """Takes a `wakeup_source_activate`."""
+        self.take_source(SourceActivate(line, *who, time, stamp, *self.read_source(line, said)))
+
+    def take_deactivate(self, line: int, who: tuple, time: int | None, stamp: str, said: str) -> None:
+        """Takes a `wakeup_source_deactivate`."""
+        self.take_source(SourceDeactivate(line, *who, time, stamp, *self.read_source(line, said)))
+
+    def read_source(self, line: int, said: str) -> tuple[str, int]:
+        """What the text of a wakeup source's step tells: its name, and the word of events."""
         found = SOURCE.fullmatch(said.strip())
         if found is None:
-            raise self.fault(head[0], f"no step of a wakeup source: {said.strip()[:80]!r}")
-        kind = SourceActivate if event == "wakeup_source_activate" else SourceDeactivate
-        (self.events if self.open_attempt is None else self.open_attempt).append(kind(*head, found[1], int(found[2], 16)))
+            raise self.fault(line, f"no step of a wakeup source: {said.strip()[:80]!r}")
+        return found[1], int(found[2], 16)
+
+    def take_source(self, event: Event) -> None:
+        """Takes a step of a wakeup source, inside or outside of an attempt."""
+        (self.events if self.open_attempt is None else self.open_attempt).append(event)
 
     # ---- the end
 
@@ -327,8 +372,8 @@ def read_trace(file: str, data: bytes) -> Lines:
 
 
 def indent_of(text: str) -> str:
-    """The spaces that stand before a driver. A device without one has one more, which tells it from its driver."""
-    return min((found[1] for found in itertools.islice(INDENT.finditer(text), SAMPLE)), key=len, default=" ")
+    """The spaces before a driver, behind the first one. A device without a driver has one more, which tells it from that."""
+    return min((found[1] for found in itertools.islice(INDENT.finditer(text), SAMPLE)), key=len, default=" ")[1:]
 
 
 def ends_attempt(text: str) -> bool:
