@@ -69,10 +69,13 @@ class Joiner:
 
     def merge_twins(self, attempts: list[Attempt]) -> None:
         """Makes one of devices that differ in their driver alone and never stand in one attempt: the driver came or went."""
+        named = {(device.name, parent) for device, parent in self.parents.items()}
+        if len(named) == len(self.parents):
+            return
         seen: dict[Device, set[int]] = defaultdict(set)
         for attempt in attempts:
-            for begin in attempt.begins:
-                seen[begin.device].add(attempt.number)
+            for device in {begin.device: None for begin in attempt.begins}:
+                seen[device].add(attempt.number)
         kept: dict[tuple, list[Device]] = defaultdict(list)
         same: dict[Device, Device] = {}
         for device in seen:
@@ -162,9 +165,9 @@ class Joiner:
         elsewhere, here = set(), set()
         for attempt in self.lines.attempts if self.lines else []:
             pid = attempt.events[0].pid
-            for begin in attempt.begins:
-                if begin.phase not in SILENT:
-                    (here if begin.pid == pid else elsewhere).add(begin.device)
+            loud = [begin for begin in attempt.begins if begin.phase not in SILENT]
+            here.update(begin.device for begin in loud if begin.pid == pid)
+            elsewhere.update(begin.device for begin in loud if begin.pid != pid)
         is_on = bool(elsewhere) if self.lines else not self.machine.has_async_off
         unknown = []
         for device in self.devices:

@@ -263,9 +263,11 @@ class Attempt:
     state: int | None
     told: Told | None = None
     begins: list[CallbackBegin] = field(init=False)  # Its callbacks, in the order in which they began.
+    own_steps: list[SuspendResume] = field(init=False)  # Its steps, in their order.
 
     def __post_init__(self):
         self.begins = [event for event in self.events if type(event) is CallbackBegin]
+        self.own_steps = [event for event in self.events if type(event) is SuspendResume]
 
     @property
     def line(self) -> int:
@@ -279,8 +281,7 @@ class Attempt:
 
     def steps(self, action: str, is_begin: bool | None = None) -> list[SuspendResume]:
         """The steps of that action (both begins and ends where `is_begin` is None)."""
-        return [event for event in self.events if type(event) is SuspendResume and event.action == action
-                and is_begin in (None, event.is_begin)]
+        return [step for step in self.own_steps if step.action == action and is_begin in (None, step.is_begin)]
 
     def callbacks(self, phase: Phase | None = None) -> list[CallbackBegin]:
         """The callbacks of a phase (of all where it is None), in the order in which they began."""
