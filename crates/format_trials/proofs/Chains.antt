@@ -1,5 +1,5 @@
 -- The links at the end of a log that adds one between the first two of three devices.
-use Rattle.std.proofs.Common.{◌≡◌, ℕ, List, [], ◌∷◌, Option, Some, None, refl, arith}
+use Rattle.std.proofs.Common.{◌≡◌, ℕ, true, List, [], ◌∷◌, Option, Some, None, refl, arith}
 use Rattle.sleep_model.specs.declared.entry.Entry.{Entry}
 use Rattle.sleep_model.specs.declared.machine.Link.{Link}
 use Rattle.device_links.specs.Passes.{CanStand}

@@ -1,6 +1,6 @@
 //! The longest chain of devices at the end of a log.
 
-ghost use Rattle.std.specs.Prelude.{◌≡◌, None, Some, [], ◌∷◌};
+ghost use Rattle.std.specs.Prelude.{◌≡◌, true, None, Some, [], ◌∷◌};
 ghost use Rattle.std.specs.Bool.{OnTrue};
 ghost use Rattle.sleep_model.specs.declared.entry.Kind.TheVariants.{LinkAdd};
 ghost use Rattle.sleep_model.specs.Accepted.{IsAccepted};
