@@ -216,16 +216,19 @@ class Following:
     def prepare(self) -> bool:
         """The prepare phase; False where it failed."""
         self.take("dpm_prepare")
-        shown = {device for device, _ in prepared(self.seen.attempt, self.kin.number)}
-        place, error = 0, "0"
+        shown = set(prepared(self.seen.begins.get(Phase.PREPARE, {}), self.kin.number))
+        place, error, number = 0, "0", self.kin.number
         while not self.is_phase_end("dpm_prepare"):
             item = self.items[self.at]
             self.at += 1
-            if not isinstance(item, CallbackEnd) or item.error == EAGAIN or item.device not in self.kin.number:
+            if type(item) is not CallbackEnd or item.error == EAGAIN or item.device not in number:
                 continue
-            device = self.kin.number[item.device]
+            device = number[item.device]
             self.journal.line = item.line
-            place = self.prepare_up_to(device, place, shown, item)
+            if place < len(self.order) and self.order[place] == device:
+                place += 1
+            else:
+                place = self.prepare_up_to(device, place, shown, item)
             error = self.owner.error(device, Phase.PREPARE, item, self.number) if item.error < 0 else "0"
             self.prepare_one(device, error)
         if error == "0":
@@ -265,17 +268,18 @@ class Following:
 
     def is_phase_end(self, action: str, early: str = "") -> bool:
         """Whether the next item ends the phase; steps of sources before it are followed."""
-        while self.at < len(self.items):
-            item = self.items[self.at]
-            if isinstance(item, SuspendResume):
-                if item.action == action and not item.is_begin or early and item.action == early and item.is_begin:
-                    self.journal.line = item.line
-                    return True
-            elif isinstance(item, (SourceActivate, SourceDeactivate)):
-                self.source(item)
-            else:
+        items = self.items
+        for at in range(self.at, len(items)):
+            item = items[at]
+            kind = type(item)
+            if kind is CallbackBegin or kind is CallbackEnd:
+                self.at = at
                 return False
-            self.at += 1
+            if kind is not SuspendResume:
+                self.source(item)
+            elif item.action == action and not item.is_begin or early and item.action == early and item.is_begin:
+                self.at, self.journal.line = at, item.line
+                return True
         raise OutOfOrder(self.seen.attempt.last_line, "the attempt ended", f"{action} had to end first", None, [])
 
     def down(self, phase: Phase, action: str) -> bool:
@@ -332,17 +336,22 @@ class Following:
 
     def callbacks(self, walk, phase: Phase, action: str, early: str = "") -> None:
         """Follows the callbacks of a phase up to its end."""
+        number, journal, error = self.kin.number, self.journal, self.owner.error
         while not self.is_phase_end(action, early):
-            item = self.items[self.at]
-            self.at += 1
-            device = self.kin.number.get(item.device)
-            if device is None:
-                continue
-            self.journal.line = item.line
-            if isinstance(item, CallbackBegin):
-                walk.begin(device, item)
-            else:
-                walk.end(device, self.owner.error(device, phase, item, self.number))
+            for at in range(self.at, len(self.items)):
+                item = self.items[at]
+                kind = type(item)
+                if kind is not CallbackBegin and kind is not CallbackEnd:
+                    break
+                self.at = at + 1
+                device = number.get(item.device)
+                if device is None:
+                    continue
+                journal.line = item.line
+                if kind is CallbackBegin:
+                    walk.begin(device, item)
+                else:
+                    walk.end(device, "0" if item.error == 0 else error(device, phase, item, self.number))
 
     def up(self, phase: Phase, action: str) -> None:
         """A phase on the way back."""
@@ -362,7 +371,7 @@ class Following:
             item = self.items[self.at]
             self.at += 1
             device = self.kin.number.get(item.device)
-            if device is None or not isinstance(item, CallbackBegin):
+            if device is None or type(item) is not CallbackBegin:
                 continue
             self.journal.line = item.line
             self.complete_down_to(device, later, item)
@@ -373,18 +382,17 @@ class Following:
 
     def complete_down_to(self, device: int, later: dict, item: CallbackBegin) -> None:
         """Completes the devices behind a device in the list that have no line here, then it."""
-        shown = item.device.shown
         while self.prepared:
             other = self.prepared.pop()
             if other != device and other in later:
-                first, line = self.kin.devices[other].shown, later[other].line
+                shown, first, line = item.device.shown, self.kin.devices[other].shown, later[other].line
                 because = [f"{first} was prepared after {shown}, and complete goes the other way"]
                 entry = self.who, f"complete {self.names[device]}"
                 raise OutOfOrder(item.line, f"{shown} was completed", f"{first} had to be completed first, which it is in line {line}", line, because, entry)
             self.put(self.who, f"complete {self.names[other]}")
             if other == device:
                 return
-        raise OutOfOrder(item.line, f"{shown} was completed", "it was not prepared, or was completed already", None, [],
+        raise OutOfOrder(item.line, f"{item.device.shown} was completed", "it was not prepared, or was completed already", None, [],
                          (self.who, f"complete {self.names[device]}"))
 
     # ---- from processors to the entry

@@ -174,14 +174,9 @@ def first_order(recording: Recording, devices: list[Device], above: dict) -> lis
     return list(order)
 
 
-def prepared(attempt: Attempt, number: dict[Device, int]) -> list[tuple[int, CallbackBegin]]:
-    """The devices that an attempt prepares, each once, with the last line of its prepare."""
-    found = {}
-    for begin in attempt.callbacks(Phase.PREPARE):
-        if begin.device in number:
-            found.pop(number[begin.device], None)
-            found[number[begin.device]] = begin
-    return list(found.items())
+def prepared(begins: dict[Device, CallbackBegin], number: dict[Device, int]) -> list[int]:
+    """The devices that an attempt prepares, in the order of its list; `begins` are the callbacks of prepare."""
+    return [number[device] for device in begins if device in number]
 
 
 def target(order: list[int], shown: list[int]) -> list[int]:

@@ -65,7 +65,7 @@ class Follower:
     def plan_lists(self) -> None:
         """Finds the links of the file and those that are added between attempts, so that the list is each attempt's."""
         wanted, self.changes = list(range(len(self.kin.devices))), []
-        shown = [[device for device, _ in prepared(plan.attempt, self.kin.number)] for plan in self.plans]
+        shown = [prepared(plan.seen.begins.get(Phase.PREPARE, {}), self.kin.number) for plan in self.plans]
         first = next((one for one in shown if one), [])
         wanted = target(wanted, first)
         self.links = self.mover.begin(wanted)

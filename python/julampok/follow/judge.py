@@ -58,7 +58,7 @@ class Judge(Follower):
     def leap(self, line):
         """Time passes, where nobody can go on and it goes to the least time that somebody waits for."""
         time = int(line.split(" ", 1)[0])
-        if self.owed or any([turn() for turn in self.turns.values()]) or self.is_over() or min(self.times(), default=None) != time:
+        if not self.is_idle() or self.is_over() or min(self.times(), default=None) != time:
             return False
         self.time, self.line = time, line
         self.set_head()
@@ -88,69 +88,3 @@ class Judge(Follower):
         elif log != self.end()[0]:
             self.why = "the statistics or the end are not those of the lines"
         return self.why is None
-
-    # ---- devices and links
-
-    def set_devices(self, devices, links):
-        self.kids = {d["name"]: [] for d in devices}
-        self.parents = {d["name"]: [d["parent"]] if "parent" in d else [] for d in devices}
-        self.all_consumers = {d["name"]: [] for d in devices}
-        for d in devices:
-            if "parent" in d:
-                self.kids[d["parent"]].append(d["name"])
-        self.asynchronous = {d["name"] for d in devices if d.get("async", False)}
-        self.forget()
-        super().set_devices(devices, links)
-
-    def forget(self):
-        """Links have changed: the tables are made anew as they are asked for."""
-        self.tables_below, self.tables_above = {}, None
-
-    def is_async(self, d):
-        return d in self.asynchronous
-
-    def add_link(self, supplier, consumer, active):
-        self.links[supplier, consumer] = active
-        self.all_consumers[supplier].append(consumer)
-        self.forget()
-        last = self.moved(consumer)
-        taken = set(last)
-        self.order = [d for d in self.order if d not in taken] + last
-
-    def children(self, d):
-        return self.kids[d]
-
-    def below(self, d):
-        found = self.tables_below.get(d)
-        if found is None:
-            found = self.tables_below[d] = self.kids[d] + [to for to in self.all_consumers[d] if self.links[d, to]]
-        return found
-
-    def above(self, d):
-        if self.tables_above is None:
-            self.tables_above = {name: list(parents) for name, parents in self.parents.items()}
-            for (supplier, consumer), active in self.links.items():
-                if active:
-                    self.tables_above[consumer].append(supplier)
-        return self.tables_above[d]
-
-    def moved(self, d):
-        """What a link of this consumer moves, each device where it comes last."""
-        found, seen, stack = [], {d}, [(d, [*self.kids[d], *self.all_consumers[d]])]
-        while stack:
-            at, rest = stack[-1]
-            while rest and rest[-1] in seen:
-                rest.pop()
-            if rest:
-                below = rest.pop()
-                seen.add(below)
-                stack.append((below, [*self.kids[below], *self.all_consumers[below]]))
-            else:
-                found.append(at)
-                stack.pop()
-        return found[::-1]
-
-    def op_link_state(self, task, step):
-        for did in super().op_link_state(task, step):
-            self.forget()
-            yield did

@@ -105,23 +105,30 @@ def survey(attempt: Attempt) -> Survey:
     last: dict[int, int] = {}  # The last line of each task.
     inside: dict[int, CallbackBegin] = {}
     counts: dict[CallbackBegin, int] = {}
+    begins: dict = {}
     for event in attempt.events:
-        if isinstance(event, (SourceActivate, SourceDeactivate)):
+        kind, pid = type(event), event.pid
+        if kind is CallbackBegin:
+            phase = event.phase
+            if begins is not found.begins.get(phase):
+                begins = found.begins.setdefault(phase, {})
+            begins[event.device] = event
+            if phase not in SILENT:
+                inside[pid] = event
+                if phase in TESTED and found.turn is None:
+                    found.tests.append((event, last.get(pid, 0)))
+        elif kind is CallbackEnd:
+            inside.pop(pid, None)
+            if event.error and is_error(event):
+                found.errors.setdefault(event.phase, []).append(event)
+        elif kind is SuspendResume:
+            take_step(found, event)
+            if found.turn is None and is_behind_test(event):
+                found.tests.append((event, last.get(pid, 0)))
+        else:
             take_source(found, event, inside, counts)
             continue
-        if isinstance(event, CallbackBegin):
-            found.begins.setdefault(event.phase, {})[event.device] = event
-            if event.phase not in SILENT:
-                inside[event.pid] = event
-        elif isinstance(event, CallbackEnd):
-            inside.pop(event.pid, None)
-            if is_error(event):
-                found.errors.setdefault(event.phase, []).append(event)
-        else:
-            take_step(found, event)
-        if found.turn is None and is_behind_test(event):
-            found.tests.append((event, last.get(event.pid, 0)))
-        last[event.pid] = event.line
+        last[pid] = event.line
     found.barrier = max((before for _, before in found.tests), default=0)
     return found
 
@@ -152,12 +159,8 @@ def take_source(found: Survey, event: Event, inside: dict, counts: dict) -> None
         found.reports[event] = callback
 
 
-def is_behind_test(event: Event) -> bool:
+def is_behind_test(event: SuspendResume) -> bool:
     """Whether a test for an event, which found none, stands right before this step."""
-    if isinstance(event, CallbackBegin):
-        return event.phase in TESTED
-    if not isinstance(event, SuspendResume):
-        return False
     if event.is_begin:
         return event.action == "CPU_OFF" or event.action == "machine_suspend" and event.value != 1
     return event.action == "syscore_suspend"

@@ -146,22 +146,26 @@ class Down:
     def begin(self, device: int, event: CallbackBegin) -> None:
         """A callback begins. Raises OutOfOrder where it may not."""
         self.go()
-        shown = self.stage.kin.devices[device].shown
-        did = f"{shown} began its callback of {self.name}"
+        is_next = self.is_scheduled[device] or self.place >= 0 and self.stage.order[self.place] == device
+        is_late = self.is_over[device] or self.is_inside[device] or self.error != "0"
+        if is_late or not is_next or self.left[device] > 0 or self.is_tested and self.stage.journal.is_pending():
+            self.refuse(device, event, is_next)
+        self.is_inside[device] = True
+        self.put(self.who(device), f"begin {self.name} {self.stage.names[device]}")
+
+    def refuse(self, device: int, event: CallbackBegin, is_next: bool) -> None:
+        """Says why a callback may not begin."""
+        did = f"{self.stage.kin.devices[device].shown} began its callback of {self.name}"
         entry = self.who(device), f"begin {self.name} {self.stage.names[device]}"
         if self.is_over[device] or self.is_inside[device]:
             raise OutOfOrder(event.line, did, "it had its callback of this phase already", None, [], entry)
         if self.error != "0":
             raise OutOfOrder(event.line, did, f"an error stood in this phase ({self.error}), after which nobody begins", None, [], entry)
-        if self.is_tested and self.stage.journal.is_pending():
-            raise OutOfOrder(event.line, did, "its test had to find the event that came before", None, [], entry)
-        is_next = self.is_scheduled[device] or self.place >= 0 and self.stage.order[self.place] == device
         if self.left[device] > 0:
             self.refuse_below(device, event, did, entry)
         if not is_next:
             self.refuse_walk(device, event, did, entry)
-        self.is_inside[device] = True
-        self.put(*entry)
+        raise OutOfOrder(event.line, did, "its test had to find the event that came before", None, [], entry)
 
     def end(self, device: int, answer: str) -> None:
         """A callback ends."""
@@ -313,6 +317,15 @@ class Up:
     def begin(self, device: int, event: CallbackBegin) -> None:
         """A callback begins. Raises OutOfOrder where it may not."""
         self.go()
+        left = self.left.get(device)
+        is_late = device in self.is_over or device in self.inside
+        if left != 0 or is_late or not self.stage.kin.is_async[device] and self.walk[self.place] != device:
+            self.refuse(device, event)
+        self.inside.add(device)
+        self.put(self.who(device), f"begin {self.name} {self.stage.names[device]}")
+
+    def refuse(self, device: int, event: CallbackBegin) -> None:
+        """Says why a callback may not begin."""
         kin = self.stage.kin
         did = f"{kin.devices[device].shown} began its callback of {self.name}"
         entry = self.who(device), f"begin {self.name} {self.stage.names[device]}"
@@ -320,14 +333,8 @@ class Up:
             raise OutOfOrder(event.line, did, "it had not gone down in this attempt", None, [], entry)
         if device in self.is_over or device in self.inside:
             raise OutOfOrder(event.line, did, "it had its callback of this phase already", None, [], entry)
-        if self.left[device] > 0:
-            other, because = self.blocker(device)
-            raise OutOfOrder(event.line, did, *self.words_of(other), because, entry)
-        if not kin.is_async[device] and self.walk[self.place] != device:
-            other, because = self.walk_blocker(device)
-            raise OutOfOrder(event.line, did, *self.words_of(other), because, entry)
-        self.inside.add(device)
-        self.put(*entry)
+        other, because = self.blocker(device) if self.left[device] > 0 else self.walk_blocker(device)
+        raise OutOfOrder(event.line, did, *self.words_of(other), because, entry)
 
     def end(self, device: int, answer: str) -> None:
         """A callback ends; an error changes nothing else."""

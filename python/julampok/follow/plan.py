@@ -15,6 +15,7 @@ from .outcome import SILENT, Decider, Guard, Outcome, Survey, Where, Why, arrang
 MOST_LINES = 200  # Interrupt lines of their own; further sources share one.
 MOST_TASKS = 40  # Tasks of their own; further ones share one.
 CALL_PLACES = 5  # The most places of a source that one call needs.
+STEPS = (SourceActivate, SourceDeactivate)
 NOT_TOLD = "not-told"  # The name of a task or source of which no input tells the name.
 
 
@@ -46,7 +47,7 @@ def is_auto(attempt: Attempt) -> bool:
 
 def is_step(event: Event) -> bool:
     """Whether an event is a step of a wakeup source."""
-    return isinstance(event, (SourceActivate, SourceDeactivate))
+    return type(event) in STEPS
 
 
 def kept_attempts(recording: Recording, devices: int) -> tuple[list[Attempt], str]:
@@ -238,8 +239,9 @@ class Planner:
 
     def with_callbacks(self) -> dict[Phase, set[int]]:
         """The devices that have a callback in each phase in some attempt."""
-        found: dict[Phase, set[int]] = {}
+        found: dict[Phase, set] = {}
         for seen in self.surveys:
             for phase, begins in seen.begins.items():
-                found.setdefault(phase, set()).update(self.kin.number[device] for device in begins if device in self.kin.number)
-        return found
+                found.setdefault(phase, set()).update(begins.keys())
+        number = self.kin.number
+        return {phase: {number[device] for device in devices if device in number} for phase, devices in found.items()}
