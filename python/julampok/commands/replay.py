@@ -13,7 +13,7 @@ from ..files import write_folder, write_out
 from ..follow.showing import as_json, as_text
 from ..follow.verdict import replay
 from ..kernel.reading import add_input_arguments, inputs_of, read_recording
-from ..program import Second, add_program, chosen
+from ..program import add_program, chosen
 
 HELP = "follows a kernel's trace to a whole log, and judges it"
 EXAMPLE = "julampok replay my.trace --devices my.devices --links my.links --dmesg my.dmesg"
@@ -29,7 +29,7 @@ def add_arguments(parser):
 def run(given):
     recording = read_recording(given)
     judge = chosen(given)
-    found = replay(recording, None if isinstance(judge, Second) else judge)
+    found = replay(recording, judge)
     text = as_text(found, recording)
     if given.output is not None:
         files = {"machine.json": found.machine, "followed.log": found.log, "names.txt": found.table, "verdict.txt": text.encode("utf-8", "surrogateescape")}

@@ -20,6 +20,23 @@ STAND_IN = "EBUSY"  # What a stand-in answers.
 MIRRORS = {"suspend": "resume", "late": "early", "noirq": "resume_noirq"}
 
 
+class Unexplained(CannotError):
+    """A phase stopped, and of the devices as they are taken to be nobody can have made it stop."""
+
+
+class Mute:
+    """A journal that keeps nothing, to find out how far a phase goes."""
+
+    @staticmethod
+    def put(who: str, body: str) -> None:
+        """Makes no entry."""
+
+    @staticmethod
+    def is_pending() -> bool:
+        """No test finds anything."""
+        return False
+
+
 class Following:
     """Follows one attempt. `owner` is the follower of the whole recording, which has the journal and the machine."""
 
@@ -288,7 +305,10 @@ class Following:
         where = {Phase.SUSPEND: Where.SUSPEND, Phase.LATE: Where.LATE, Phase.NOIRQ: Where.NOIRQ}[phase]
         fails = self.outcome.where == where
         begins = self.traced(phase)
-        walk = Down(self.stage(), phase.value, begins, *self.reach(phase, begins, fails))
+        reach, keeps = self.reach(phase, begins, fails)
+        if fails and self.outcome.why == Why.EVENT and self.is_exhausted(phase, begins, reach, keeps):
+            keeps = keeps | self.spare(begins.keys() | self.traced(Phase(MIRRORS[phase.value])).keys(), reach)
+        walk = Down(self.stage(), phase.value, begins, reach, keeps)
         self.callbacks(walk, phase, action, "dpm_resume_early" if phase == Phase.LATE else "")
         if fails and self.outcome.why == Why.EVENT:
             self.owner.stop_event(self)
@@ -302,7 +322,7 @@ class Following:
         if walk.found_at is not None:
             self.found = phase.value, self.kin.devices[walk.found_at].shown
         if fails and answer == "0":
-            raise CannotError(f"{action} stopped here, and neither the trace nor dmesg tells why", self.owner.file, self.journal.line)
+            raise Unexplained(f"{action} stopped here, and neither the trace nor dmesg tells why", self.owner.file, self.journal.line)
         return answer == "0"
 
     def stop_noirq(self) -> None:
@@ -333,6 +353,33 @@ class Following:
         needed = begins.keys() | mirror.keys()
         places = [place for place, device in enumerate(self.order) if device in needed]
         return places[0] if places else len(self.order), self.owner.with_callback(phase) - needed
+
+    def is_exhausted(self, phase: Phase, begins: dict, reach: int, keeps: set[int]) -> bool:
+        """Whether nobody would be left to test once all callbacks of the phase are over, if all others came as early as they may."""
+        stage = self.stage()
+        stage.journal = Mute()
+        walk = Down(stage, phase.value, begins, reach, keeps)
+        try:
+            for item in self.items[self.at:]:
+                device = self.kin.number.get(item.device) if isinstance(item, (CallbackBegin, CallbackEnd)) and item.phase == phase else None
+                if device is not None and isinstance(item, CallbackBegin):
+                    walk.begin(device, item)
+                elif device is not None:
+                    walk.end(device, "0" if item.error == 0 else STAND_IN)
+        except OutOfOrder:
+            return False
+        walk.go()
+        return walk.place < 0 and all(walk.is_over)
+
+    def spare(self, needed: set[int], reach: int) -> set[int]:
+        """Asynchronous devices without a line that nobody waits for who came before the event: one of them may have found it."""
+        todo = [device for place, device in enumerate(self.order) if device in needed or place >= reach and not self.kin.is_async[device]]
+        waited = set(todo)
+        while todo:
+            fresh = [below for below in self.kin.below[todo.pop()] if below not in waited]
+            waited.update(fresh)
+            todo += fresh
+        return {device for device in self.order if self.kin.is_async[device] and device not in waited}
 
     def callbacks(self, walk, phase: Phase, action: str, early: str = "") -> None:
         """Follows the callbacks of a phase up to its end."""

@@ -6,12 +6,12 @@ the parents and links of a machine file alone do not give it. Dormant links, whi
 
 from __future__ import annotations
 
-from collections import deque
 from dataclasses import dataclass, field
 
 from ..errors import CannotError
-from ..limits import MOST, MOST_LINKS
-from ..kernel.recording import Attempt, CallbackBegin, Device, Note, Phase, Recording
+from ..kernel.recording import CallbackBegin, Device, Note, Phase, Recording
+from ..kernel.thinning import Thinned, must_stay, thin
+from ..limits import MOST
 
 MOST_DEVICES = MOST["devices"]
 
@@ -41,6 +41,7 @@ class Kin:
     is_async: list[bool]
     links: list[tuple[int, int]] = field(default_factory=list)  # Suppliers and consumers that are no parents and children.
     number: dict[Device, int] = field(default_factory=dict)
+    through: dict[tuple[int, int], tuple[Device, ...]] = field(default_factory=dict)  # Devices left out, through which a wait goes.
 
     def hang(self, device: int, parent: int) -> None:
         """Gives a device its parent."""
@@ -80,96 +81,53 @@ def listed(recording: Recording) -> list[Device]:
     return [device for device in recording.devices if device.line is not None]
 
 
-def join(recording: Recording) -> tuple[list[Device], dict[Device, list[Device]], list[Note]]:
-    """The devices that the machine gets, whom each waits for on the way up, and notes.
+def settle(recording: Recording) -> tuple[Kin, list[Note]]:
+    """The kin of a recording, its devices in the order of the first list that the trace shows, parents first.
 
-    More than a machine file may have are brought down: leaves that never have a callback go, then devices without a callback
-    between others, whose waits are kept. Raises CannotError where devices with callbacks alone are too many.
+    Of more devices than a machine file may have, those without callbacks are left out and their waits kept. Raises CannotError
+    where those with callbacks alone are too many.
     """
     devices = listed(recording)
     here = set(devices)
-    above = {device: [device.parent] if device.parent in here else [] for device in devices}
-    for link in recording.links:
-        if not link.is_dormant and link.supplier in here and link.consumer in here:
-            above[link.consumer].append(link.supplier)
-    if len(devices) <= MOST_DEVICES:
-        return devices, above, []
-    kept = drop_leaves(devices, above)
-    kept, above = drop_between(kept, above)
-    if len(kept) > MOST_DEVICES:
-        raise CannotError(f"{len(kept)} devices have callbacks; a machine file has at most {MOST_DEVICES}", recording.trace_file)
-    text = f"{len(devices)} devices, more than the {MOST_DEVICES} of a machine file: {len(devices) - len(kept)} that never have a callback are left out, and whoever waited through them still waits"
-    return kept, above, [Note(text, recording.trace_file)]
+    links = [link for link in recording.links if not link.is_dormant and link.supplier in here and link.consumer in here]
+    try:
+        found = thin(devices, links, must_stay(recording))
+    except CannotError as error:
+        raise CannotError(error.text, recording.trace_file) from None
+    notes = []
+    if found.left_out:
+        text = (f"{len(devices)} devices, more than the {MOST_DEVICES} of a machine file: {len(found.left_out)} that never have a callback "
+                "are left out, and whoever waited through them still waits")
+        notes.append(Note(text, recording.trace_file))
+    return kin_of(recording, found, here), notes
 
 
-def drop_leaves(devices: list[Device], above: dict) -> list[Device]:
-    """The devices without those that have no callback and below which nobody has one."""
-    count = dict.fromkeys(devices, 0)
-    for found in above.values():
-        for one in found:
-            count[one] += 1
-    todo = deque(device for device in devices if count[device] == 0 and not device.has_callbacks)
-    gone = set()
-    while todo:
-        device = todo.popleft()
-        gone.add(device)
-        for one in above[device]:
-            count[one] -= 1
-            if count[one] == 0 and not one.has_callbacks:
-                todo.append(one)
-    return [device for device in devices if device not in gone]
-
-
-def drop_between(devices: list[Device], above: dict) -> tuple[list[Device], dict]:
-    """The devices without some that have no callback, whose needs go to those that waited for them."""
-    over = len(devices) - MOST_DEVICES
-    here = set(devices)
-    above = {device: [one for one in above[device] if one in here] for device in devices}
-    below = {device: [] for device in devices}
-    for device in devices:
-        for one in above[device]:
-            below[one].append(device)
-    silent = [device for device in devices if not device.has_callbacks]
-    silent.sort(key=lambda device: len(above[device]) * len(below[device]))
-    gone = set()
-    for device in silent[:max(0, over)]:
-        gone.add(device)
-        for one in below[device]:
-            others = [other for other in above[device] if other not in above[one]]
-            above[one] = [other for other in above[one] if other is not device] + others
-        for one in above[device]:
-            others = [other for other in below[device] if other not in below[one]]
-            below[one] = [other for other in below[one] if other is not device] + others
-    return [device for device in devices if device not in gone], above
-
-
-def settle(recording: Recording) -> tuple[Kin, list[Note]]:
-    """The kin of a recording, its devices in the order of the first list that the trace shows whole, parents first."""
-    devices, above, notes = join(recording)
-    order = first_order(recording, devices, above)
+def kin_of(recording: Recording, found: Thinned, here: set[Device]) -> Kin:
+    """The kin of the devices that are kept."""
+    parents = {device: parent if parent in here else None for device, parent in found.parents.items()}
+    order = first_order(recording, found.devices, parents)
     number = {device: place for place, device in enumerate(order)}
-    count = len(order)
-    kin = Kin(order, [None] * count, [[] for _ in order], [[] for _ in order], [[] for _ in order], [[] for _ in order],
+    kin = Kin(order, [None] * len(order), [[] for _ in order], [[] for _ in order], [[] for _ in order], [[] for _ in order],
               [device.is_async for device in order], number=number)
+    kin.through = {(number[upper], number[lower]): devices for (upper, lower), devices in found.through.items()}
     for place, device in enumerate(order):
-        for one in dict.fromkeys(above[device]):
-            if one is device.parent:
-                kin.hang(place, number[one])
-            else:
-                kin.links.append((number[one], place))
-    return kin, notes
+        if parents[device] is not None:
+            kin.hang(place, number[parents[device]])
+    ends = dict.fromkeys((number[link.supplier], number[link.consumer]) for link in found.links)
+    kin.links = [(supplier, consumer) for supplier, consumer in ends if supplier != consumer and kin.parents[consumer] != supplier]
+    return kin
 
 
-def first_order(recording: Recording, devices: list[Device], above: dict) -> list[Device]:
+def first_order(recording: Recording, devices: list[Device], parents: dict[Device, Device | None]) -> list[Device]:
     """The devices in the order of the first prepare that shows a list, then the others; parents first."""
     here, order = set(devices), {}
-    first = next((attempt for attempt in recording.attempts if attempt.callbacks(Phase.PREPARE)), None)
-    shown = [begin.device for begin in first.callbacks(Phase.PREPARE)] if first else []
+    prepares = ([begin.device for begin in attempt.begins if begin.phase == Phase.PREPARE] for attempt in recording.attempts)
+    shown = next((devices for devices in prepares if devices), [])
     for device in [*shown, *devices]:
         chain = []
         while device is not None and device in here and device not in order and device not in chain:
             chain.append(device)
-            device = device.parent
+            device = parents[device]
         order |= dict.fromkeys(reversed(chain))
     return list(order)
 

@@ -33,6 +33,9 @@ class Stage:
 def joined(kin: Kin, above: int, below: int) -> str:
     """Why one device waits for another: by its parent, or by a link."""
     upper, lower = kin.devices[above].shown, kin.devices[below].shown
+    through = kin.through.get((above, below))
+    if through:
+        return f"{lower} hangs below {upper}, over {', '.join(device.shown for device in through)}"
     return f"{upper} is the parent of {lower}" if kin.parents[below] == above else f"{lower} has a link to its supplier {upper}"
 
 

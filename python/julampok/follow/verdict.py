@@ -2,21 +2,21 @@
 
 from __future__ import annotations
 
-import re
-from collections.abc import Callable
+import gc
 from dataclasses import dataclass, field
 
+from ..errors import CannotError
 from ..kernel.recording import Device, Note, Recording
-from .attempt import STAND_IN, Following
+from ..program import Second
+from .attempt import STAND_IN, Following, Unexplained
 from .family import OutOfOrder
 from .follower import Follower
 from .judge import Judge
 from .machine import fits, machine_of, table_of, written
 from .outcome import Guard, Where, Why
-from .telling import LEVELS, PLATFORM, Teller
+from .telling import Teller, error_text
 from .way import difference, way_of_trace, ways_of_log
 
-SINGLE_PASS = (6, 1, 76)  # From here on asynchronous devices are scheduled one by one on the way up too.
 FIRST, LAST = (6, 1), (6, 2)  # The versions whose rules are these.
 
 
@@ -77,24 +77,27 @@ class Replay:
         return 0 if self.is_legal and self.is_own_way and not self.broken else 1
 
 
-def second_judge(machine: dict) -> Callable[[str], str]:
-    """Judges a log by the second writing: what it says of it."""
-    def judge(log: str) -> str:
-        run = Judge({"devices": [], "sources": [], "notifiers": []} | machine)
-        if run.accepts(log) and not run.is_stuck():
-            return "legal"
-        found = re.match(r"line (\d+)", run.why or "")
-        return f"illegal line {found[1]}" if found else f"illegal: {run.why or 'stuck'}"
-    return judge
-
-
 def replay(recording: Recording, judge=None) -> Replay:
-    """Follows a recording, and judges the log. `judge` is a `Program`, or None for the second writing. Raises CannotError."""
+    """Follows a recording, and judges the log; `judge` is one of `program`, None: the second writing. Raises CannotError."""
+    was_on = gc.isenabled()
+    gc.disable()  # (much is made and nothing let go, so that looking for garbage takes half of the time)
+    try:
+        return replayed(recording, judge)
+    finally:
+        if was_on:
+            gc.enable()
+
+
+def replayed(recording: Recording, judge) -> Replay:
+    """Follows a recording, and judges the log."""
     follower, broken = followed(recording)
     text = follower.journal.end() if broken is None else broken_log(follower, broken)
     machine = machine_of(follower)
-    found = Replay(False, False, "", judge.name if judge else "the second writing", "", log=text.encode(), machine=written(machine),
-                   table=table_of(follower), origins=follower.journal.origins)
+    if (why := fits(machine)):
+        raise CannotError(f"the recording does not fit into a machine file: {why}", recording.trace_file)
+    judge = judge or Second()
+    found = Replay(False, False, "", judge.name, "", log=text.encode(), machine=written(machine), table=table_of(follower),
+                   origins=follower.journal.origins)
     found.judged = judged(found, machine, judge, recording, text) if broken is None or broken.entry else "no log goes on here"
     found.attempts = [told(following, recording) for following in follower.done[:len(follower.done) - (broken is not None)]]
     found.notes = notes_of(recording, follower, found)
@@ -109,28 +112,31 @@ def replay(recording: Recording, judge=None) -> Replay:
 
 
 def followed(recording: Recording) -> tuple[Follower, OutOfOrder | None]:
-    """Follows a recording, and gives the step that no legal log has, where there is one.
+    """Follows a recording, and gives the step that no legal log has, where there is one. Raises CannotError.
 
-    Whether a device that never has a callback is asynchronous is told by no trace. Where no list tells, they are first taken as
-    synchronous; if the kernel's order is not legal so, as asynchronous, which lets the kernel do more.
+    Whether a device that never has a callback is asynchronous is told by no trace. Such devices are first taken as the inputs
+    tell, else as synchronous; if the kernel's order is not legal so, as asynchronous, which lets the kernel do more.
     """
     follower = Follower(recording)
     try:
         follower.follow()
         return follower, None
     except OutOfOrder as found:
-        broken = found
-    unknown = [device for device in follower.kin.devices if device.listed_async is None and not device.has_callbacks]
-    if not unknown:
+        broken, failure = found, None
+    except Unexplained as found:
+        broken, failure = None, found
+    open_ones = {device for device, is_async in zip(follower.kin.devices, follower.kin.is_async)
+                 if not is_async and device.listed_async is not False and not device.has_callbacks}
+    if not open_ones:
+        if failure is not None:
+            raise failure
         return follower, broken
-    again = Follower(recording, set(unknown))
-    text = f"no input tells which devices without a callback are asynchronous: {len(unknown)} are taken as that, since the kernel's order is not legal else"
+    again = Follower(recording, open_ones)
+    again.note(f"of {len(open_ones)} devices without a callback no input tells whether they ran asynchronously: taken so, since the kernel's order is not legal else")
     try:
         again.follow()
-        again.note(text)
         return again, None
     except OutOfOrder as found:
-        again.note(text)
         return again, found
 
 
@@ -148,12 +154,11 @@ def broken_log(follower: Follower, found: OutOfOrder) -> str:
 
 
 def judged(found: Replay, machine: dict, judge, recording: Recording, text: str) -> str:
-    """What the judge says of the log."""
-    if (why := fits(machine)):
-        from ..errors import CannotError
-        raise CannotError(f"the recording does not fit into a machine file: {why}", recording.trace_file)
-    if judge is None:
-        return second_judge(machine)(text)
+    """What the judge says of the log. Of the second writing the quick judge is asked first, which tells no rule."""
+    if isinstance(judge, Second):
+        run = Judge(machine)
+        if run.accepts(text) and not run.is_stuck():
+            return "legal"
     return judge.check(found.machine, found.log, recording.trace_file).text
 
 
@@ -235,7 +240,6 @@ def notes_of(recording: Recording, follower: Follower, found: Replay) -> list[No
         left = recording.attempts[0].number, follower.planner.attempts[0].number - 1
         notes.append(Note(f"attempts {left[0]} to {left[1]} are left out: {follower.planner.why_cut}", file, recording.attempts[0].line))
     for one in follower.foreign:
-        from .telling import error_text
         notes.append(Note(f"{one.device.shown} answered {error_text(one.number)}, an error that machine files do not have: the log has EIO", file, one.line))
     if not FIRST <= recording.version[:2] < LAST:
         notes.append(Note(f"the rules are those of Linux 6.1; the recording is of {recording.version_text} ({recording.version_from})", file))
@@ -251,7 +255,7 @@ def notes_of(recording: Recording, follower: Follower, found: Replay) -> list[No
 
 def headline(found: Replay, recording: Recording) -> str:
     """The verdict in one line."""
-    by = f"by {found.judge}" + (", which is tested and not proved" if found.judge == "the second writing" else "")
+    by = f"by {found.judge}" + (", which is tested and not proved" if found.judge == Second.name else "")
     if found.broken:
         said = "" if found.judged.startswith("no log") else f" ({found.judged})"
         return f"not legal: {found.broken[0].words}. Judged {by}{said}."
