@@ -91,6 +91,7 @@ class Following:
 
     def source(self, event) -> None:
         """A step of a wakeup source."""
+        self.journal.line = event.line
         callback = self.seen.reports.get(event)
         if callback is not None and callback.device in self.kin.number:
             self.owner.report(event, callback, self.number, self.who)
@@ -451,31 +452,38 @@ class Following:
 
     def processors(self) -> None:
         """Takes processors off, goes through the core, and puts them on again."""
-        count = self.owner.cpus
+        is_event = self.outcome.where == Where.CPUS and self.outcome.why == Why.EVENT
+        most = self.owner.cpus - (2 if is_event else 1)
+        went = 0
         while self.is_next("CPU_OFF"):
-            self.off.append(len(self.off) + 1)
-            if len(self.off) < count:
-                self.put(self.who, f"cpu off {len(self.off)}")
+            went += 1
+            self.take_off(went, most)
             self.at += 1
             if self.is_next("CPU_OFF", False):
                 self.at += 1
-        self.off = self.off[:count - 1]
-        is_event = self.outcome.where == Where.CPUS and self.outcome.why == Why.EVENT
         if is_event:
+            self.step()
             self.owner.stop_event(self)
             self.journal.find()
-            self.error, self.found = "EBUSY", ("cpu", str(len(self.off) + 1))
+            self.error, self.found = "EBUSY", ("cpu", str(went + 1))
             self.put(self.who, f"cpu EBUSY {len(self.off) + 1}")
         else:
-            while len(self.off) < count - 1:
-                self.off.append(len(self.off) + 1)
-                self.put(self.who, f"cpu off {len(self.off)}")
+            for cpu in range(went + 1, most + 1):
+                self.take_off(cpu, most)
             self.core()
+        if went != len(self.off) and self.outcome.where != Where.CPUS:
+            self.plan.stand_ins.append(("processors", f"{len(self.off)} processors go off; the kernel took {went} off"))
         self.step()
         for cpu in self.off:
             self.put(self.who, f"cpu on {cpu}")
         while self.is_next("CPU_ON") or self.is_next("CPU_ON", False):
             self.at += 1
+
+    def take_off(self, number: int, most: int) -> None:
+        """A processor goes off, where the machine has that many."""
+        if number <= most:
+            self.off.append(number)
+            self.put(self.who, f"cpu off {number}")
 
     def core(self) -> None:
         """From interrupts that go off to interrupts that come on."""

@@ -25,7 +25,7 @@ def as_text(found: Replay, recording: Recording) -> str:
 
 def attempt_lines(one: AttemptTold) -> list[str]:
     """The lines of an attempt."""
-    answer = "the write's answer is not told" if one.answer is None else f"the write answered {one.answer}"
+    answer = "its answer is not told" if one.answer is None else f"answered {one.answer}"
     lines = [f"Attempt {one.number}, lines {one.line} to {one.last_line}, by {one.task}: {answer}."]
     lines += [f"  {text}" for text in one.sentences]
     if one.judged_to is not None:

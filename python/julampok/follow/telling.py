@@ -33,8 +33,8 @@ def listed(names: list[str]) -> str:
 class Teller:
     """Tells of one attempt that was followed."""
 
-    def __init__(self, following: Following, names: dict[str, str]):
-        self.following, self.names = following, names
+    def __init__(self, following: Following):
+        self.following = following
         self.attempt, self.outcome = following.seen.attempt, following.outcome
         self.told = self.attempt.told
 
@@ -80,14 +80,21 @@ class Teller:
         if self.outcome.where == Where.IDLE:
             line = self.following.seen.line("machine_suspend")
             found = [f"The machine was in suspend-to-idle from line {line}." if line else "The machine came to suspend-to-idle, and an event kept it from idling."]
+            found += self.after_sleep(line) if line else []
             if self.outcome.or_else:
                 found.append(f"It may also have been {self.outcome.or_else}: no input tells.")
             return found
         found = [f"The machine slept, by line {self.following.seen.line('machine_suspend')}."]
+        found += self.after_sleep(self.following.seen.first["machine_suspend", True].line)
         events = [event for event in self.following.seen.events if event.line < self.following.seen.line("machine_suspend")]
         if events:
             found.append(f"{events[0].source} reported an event before, in line {events[0].line}: no saved count was in force, so no test found it.")
         return found
+
+    def after_sleep(self, line: int) -> list[str]:
+        """The first event behind the entry."""
+        event = next((event for event in self.following.seen.events if event.line > line), None)
+        return [f"The first event after that is one of {event.source} in line {event.line}, {self.place(event)}."] if event else []
 
     def by_event(self) -> list[str]:
         """An event stopped it."""
@@ -107,14 +114,18 @@ class Teller:
         callback = self.following.seen.reports.get(event)
         if callback is not None:
             return f"from the {callback.phase} callback of {callback.device.shown}, which began in line {callback.line}"
-        if event.is_in_interrupt:
-            who = "from a hard interrupt" if event.is_in_hardirq else "from a softirq"
-        else:
-            who = f"from the task {event.task}-{event.pid}"
+        who = self.place(event)
         if event.line < self.attempt.line:
             return f"{who}, before the attempt began"
         inside = [f"{begin.device.shown} in its {begin.phase} callback of line {begin.line}" for begin in self.inside(event.line)]
         return f"{who}, with {listed(inside)}" if inside else who
+
+    @staticmethod
+    def place(event: SourceActivate) -> str:
+        """What the kernel was in as it reported an event."""
+        if event.is_in_interrupt:
+            return "from a hard interrupt" if event.is_in_hardirq else "from a softirq"
+        return f"from the task {event.task}-{event.pid}"
 
     def inside(self, line: int) -> list[CallbackBegin]:
         """The callbacks that were open at a line."""
@@ -140,6 +151,10 @@ class Teller:
         pending = self.told.first(Fact.WAKEUP_PENDING) if self.told else None
         if self.outcome.guard == Guard.SAVED and pending is not None:
             return f"A saved count was in force (dmesg line {pending.line})."
+        freeze = self.following.seen.line("freeze_processes")
+        if self.outcome.guard == Guard.SAVED and self.outcome.event is not None and freeze is not None and self.outcome.event.line < freeze \
+                and not self.following.plan.maker is None:
+            return f"A saved count was in force: what came before line {freeze}, in which the freeze begins, no other test finds."
         if not self.outcome.is_guard_told:
             return "Whether a saved count or a hard event made the test find it is not told."
         if self.outcome.guard == Guard.SAVED:
@@ -152,8 +167,10 @@ class Teller:
         kind = ("a kernel thread" if self.outcome.is_kernel else "a user task") if self.outcome.is_group_told else "user or kernel, not told"
         if names:
             return f"{listed(names)} had not frozen, {kind}" if len(names) == 1 else f"{listed(names)} had not frozen"
-        inside = [script.name for script in self.following.owner.journal.scripts if script.name in self.names]
-        return f"not all tasks had frozen ({kind})" if not inside else f"not all tasks had frozen ({kind})"
+        writer = next((event for event in self.following.seen.events if event.source == "autosleep"), None)
+        if writer is not None:
+            return f"{writer.task}-{writer.pid} had not frozen, which waited in its write to /sys/power/autosleep"
+        return f"not all tasks had frozen ({kind})"
 
     def by_error(self) -> list[str]:
         """An error stopped it."""

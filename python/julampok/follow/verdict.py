@@ -156,6 +156,7 @@ def broken_log(follower: Follower, found: OutOfOrder) -> str:
 def judged(found: Replay, machine: dict, judge, recording: Recording, text: str) -> str:
     """What the judge says of the log. Of the second writing the quick judge is asked first, which tells no rule."""
     if isinstance(judge, Second):
+        judge.accepted(found.machine, recording.trace_file)
         run = Judge(machine)
         if run.accepts(text) and not run.is_stuck():
             return "legal"
@@ -167,7 +168,7 @@ def judged(found: Replay, machine: dict, judge, recording: Recording, text: str)
 
 def told(following: Following, recording: Recording) -> AttemptTold:
     """What is said of an attempt."""
-    teller = Teller(following, {})
+    teller = Teller(following)
     attempt, plan = following.seen.attempt, following.plan
     first = attempt.events[0]
     ends = [end for ends in following.seen.errors.values() for end in ends]
@@ -190,7 +191,9 @@ def stand_ins_of(following: Following) -> list[str]:
     """What the log has in place of what is not told, or of what no log has."""
     outcome, found = following.outcome, []
     for what, name in following.plan.stand_ins:
-        if what == "event":
+        if what == "processors":
+            found.append(f"{name}, since a machine file has one number of processors, at most 64, for all attempts")
+        elif what == "event":
             found.append(f"an event of {name} in place of the one that no line shows")
         elif outcome.where == Where.IDLE:
             found.append(f"platform {name} answers {STAND_IN} in place of suspend-to-idle, which no log has")
@@ -219,7 +222,7 @@ def compare(found: Replay, follower: Follower, text: str) -> None:
         trace = way_of_trace(following.seen.attempt, follower.kin.number, follower.names)
         log = ways[following.number]
         stands_in = said.judged_to is not None
-        differs = difference(log, trace, stands_in)
+        differs = difference(log, trace, stands_in, any(what == "processors" for what, _ in following.plan.stand_ins))
         if differs is not None:
             found.differs.append(f"attempt {said.number}, line {differs[0]}: {differs[1]}")
         elif not stands_in and said.answer != log.answer and not is_foreign(said.answer, log.answer, follower, following.number):

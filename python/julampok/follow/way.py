@@ -76,14 +76,15 @@ def take_begin(way: Way, event: CallbackBegin, number: dict, names: list[str]) -
     lines.append(event.line)
 
 
-def difference(log: Way, trace: Way, stands_in: bool) -> tuple[int, str] | None:
+def difference(log: Way, trace: Way, stands_in: bool, has_other_count: bool = False) -> tuple[int, str] | None:
     """The first difference of two ways: the line of the trace, and what differs; None where there is none.
 
-    Where something stands in for the bottom of the attempt, processors and the entry are not compared.
+    Where something stands in for the bottom of the attempt, processors and the entry are not compared; nor are processors
+    where the machine file cannot have their number.
     """
     if sorted(log.phases) != sorted(trace.phases) and not stands_in:
         return trace.line, f"the log has the phases {', '.join(log.phases)}; the kernel had {', '.join(trace.phases)}"
-    if not stands_in and log.processors != trace.processors:
+    if not stands_in and not has_other_count and log.processors != trace.processors:
         return trace.line, f"the log takes {log.processors} processors off; the kernel took {trace.processors}"
     if not stands_in and log.has_entered != trace.has_entered:
         return trace.line, f"the log {'sleeps' if log.has_entered else 'does not sleep'}; the kernel {'slept' if trace.has_entered else 'did not'}"

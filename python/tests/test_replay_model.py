@@ -1,0 +1,92 @@
+"""replay on traces of a model of a kernel, which knows what it did: it is called legal, and what stopped it is found."""
+
+import os
+import random
+import tempfile
+import unittest
+
+import command_tests  # (which puts the package on the path)
+from julampok.follow.verdict import replay
+from julampok.kernel.reading import read_inputs
+from kernel_model import Kernel
+
+assert command_tests
+PLACES = ["notifiers", "user", "kernel", "begin", "prepare", "prepare_late", "cpu1", "cpu2", "core"]
+LEVELS = ["freezer", "devices", "platform", "processors", "core"]
+KINDS = ["none", "event", "event", "hard", "soft", "report", "error", "prepare", "platform", "notifier", "core", "pm_test", "refuse", "s2idle"]
+ANSWERS = {0: "0", -5: "EIO", -16: "EBUSY", -19: "ENODEV", -110: "ETIMEDOUT", -12: "ENOMEM", None: None}
+
+
+class Trial:
+    """One machine of the model, and its attempts."""
+
+    def __init__(self, seed):
+        self.dice = random.Random(seed)
+        pick = self.dice.choice
+        self.kernel = Kernel(seed, pick([1, 3, 8, 14, 30]), pm_async=self.dice.random() < 0.7, cpus=pick([1, 2, 3, 4]),
+                             single_pass=self.dice.random() < 0.5, debug=self.dice.random() < 0.8)
+        self.kinds = [pick(KINDS) for _ in range(pick([1, 2, 2, 3]))]
+        for kind in self.kinds:
+            self.attempt(kind)
+        self.kernel.attempt()
+
+    def callback(self):
+        """A callback on the way down; a place where there is none."""
+        found = [(d.name, phase) for d in self.kernel.list for phase in ("suspend", "late", "noirq") if phase in d.callbacks]
+        return self.dice.choice(found or ["begin"])
+
+    def attempt(self, kind):
+        """An attempt of a kind."""
+        pick, length = self.dice.choice, self.dice.choice([0, 0, 3])
+        plans = {
+            "event": lambda: {pick([*PLACES, *[self.callback()] * 6]): ("event", "lid", False, length)},
+            "hard": lambda: {pick([*PLACES[3:], *[self.callback()] * 6]): ("event", "lid", True, length)},
+            "soft": lambda: {pick([PLACES[0], *PLACES[3:], *[self.callback()] * 6]): ("event", "lid", False, length)},
+            "report": lambda: {self.callback(): ("report",)},
+            "error": lambda: {self.callback(): ("error", pick([-5, -16, -19, -110, -12]))},
+            "prepare": lambda: {(pick(self.kernel.list).name, "prepare"): ("error", pick([-5, -16, -12]))},
+            "platform": lambda: {"platform " + pick(["begin", "prepare", "prepare_late"]): True},
+            "notifier": lambda: {"notifier": True}, "core": lambda: {"core step": True},
+        }
+        plan = plans.get(kind, dict)()
+        if kind in ("error", "report"):
+            plan.pop("begin", None)  # (a machine without a callback)
+        more = {"pm_test": {"pm_test": pick(LEVELS)}, "refuse": {"refuses": pick(["user", "kernel"])}, "s2idle": {"state": 1}}.get(kind, {})
+        saved = kind == "event" or kind in ("report", "s2idle") and self.dice.random() < 0.5
+        self.kernel.attempt(saved, plan, **more)
+
+    def replay(self, folder, without=()):
+        """The verdict on the model's files, but for those left out."""
+        kernel = self.kernel
+        texts = {"trace": kernel.trace(), "devices": kernel.devices(), "links": kernel.link_list(), "dmesg": kernel.dmesg()}
+        paths = {}
+        for name, text in texts.items():
+            if name not in without:
+                paths[name] = os.path.join(folder, name)
+                with open(paths[name], "w") as file:
+                    file.write(text)
+        return replay(read_inputs(**paths))
+
+
+class Model(unittest.TestCase):
+    """Whatever the model does is legal."""
+
+    SEEDS = range(60)
+
+    def test_all(self):
+        with tempfile.TemporaryDirectory() as folder:
+            for seed in self.SEEDS:
+                trial = Trial(seed)
+                with self.subTest(seed, kinds=trial.kinds):
+                    found = trial.replay(folder)
+                    self.assertEqual(found.status, 0, found.headline)
+                    self.assertEqual([one.answer for one in found.attempts], [ANSWERS[one] for one in trial.kernel.truth])
+
+    def test_less_told(self):
+        with tempfile.TemporaryDirectory() as folder:
+            for seed in self.SEEDS:
+                trial = Trial(seed)
+                without = [("dmesg",), ("devices",), ("dmesg", "devices")][seed % 3]
+                with self.subTest(seed, kinds=trial.kinds, without=without):
+                    found = trial.replay(folder, without)
+                    self.assertEqual(found.status, 0, found.headline)
