@@ -26,7 +26,6 @@ pub struct RunEnd {
 /// on threads with rounds of the caller's own between them, and `gate` sees the workers' turns. `SourceFull` where
 /// the history of a source, which has 60,000 places, has fewer than four left for a call: only where the machine's calls
 /// may need that many places. `Mem` where there is no memory.
-#[tactic(auto, using(crate::proofs::Ended::run_of))]
 pub fn run_machine<R: Threads + Wait + Sync, G: Gate + Sync>(
     rt: &R,
     alloc: Global,
