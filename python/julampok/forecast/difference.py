@@ -12,7 +12,7 @@ from typing import Iterator, Mapping, NamedTuple
 
 from julampok.kernel.recording import PHASES, Attempt, CallbackBegin, Device, Phase, Recording, SuspendResume
 
-from .measured import TIMED, WAY_DOWN, Listed, Measured, NoTimesError, list_devices, measure
+from .measured import TIMED, WAY_DOWN, Listed, Measured, NoTimesError, last_needed, list_devices, measure
 
 STEPS = {*PHASES, "suspend_enter", "sync_filesystems", "freeze_processes", "CPU_OFF", "CPU_ON", "syscore_suspend", "syscore_resume",
          "machine_suspend", "resume_console", "thaw_processes"}
@@ -214,23 +214,11 @@ def broken_waits(side: Side) -> Iterator[tuple[tuple[Phase, Key, Key], int]]:
     if side.listed is None:
         return
     for phase, callbacks in side.listed.callbacks.items():
-        needed = last_needed(side.listed, phase)
+        needed = last_needed(side.listed.plan, callbacks, phase)
         for number, callback in enumerate(callbacks):
             last = needed[number] if callback is not None else None
             if last is not None and last.end.line > callback.line:
                 yield (phase, side.key(callback.device), side.key(last.device)), callback.line
-
-
-def last_needed(listed: Listed, phase: Phase) -> list[CallbackBegin | None]:
-    """For each device the callback that ended last among those it has to wait for, also by way of devices without one."""
-    plan, callbacks = listed.plan, listed.callbacks[phase]
-    is_down = phase in WAY_DOWN
-    found: list[CallbackBegin | None] = [None] * len(callbacks)
-    for number in reversed(plan.order) if is_down else plan.order:
-        needs = plan.below[number] if is_down else () if number in plan.direct else plan.above[number]
-        waited = [callbacks[other] or found[other] for other, _ in needs]
-        found[number] = max((one for one in waited if one is not None), key=lambda one: one.end.line, default=None)
-    return found
 
 
 # ---- devices and times

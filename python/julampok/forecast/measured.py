@@ -3,7 +3,7 @@
 from __future__ import annotations
 
 import re
-from dataclasses import dataclass
+from dataclasses import dataclass, replace
 
 from julampok.kernel.recording import Attempt, CallbackBegin, Clock, Device, Phase, Recording, SuspendResume
 
@@ -120,6 +120,9 @@ def list_devices(recording: Recording, attempt: Attempt) -> Listed:
     ran = {number for found in callbacks.values() for number, callback in enumerate(found) if callback is not None}
     flags, is_any_async = asynchronous(attempt, devices, callbacks, ran)
     plan = make_plan(recording, devices, numbers, flags, ran)
+    if is_any_async:
+        unknown = {number for number, device in enumerate(devices) if device.listed_async is None and number not in ran}
+        plan = replace(plan, asynchronous=flags | passed_by(plan, callbacks, unknown))
     return Listed(attempt, devices, plan, callbacks, bool(attempt.steps("machine_suspend", True)), is_any_async)
 
 
@@ -182,13 +185,38 @@ def asynchronous(attempt: Attempt, devices: list[Device], callbacks: dict[Phase,
     """The devices that were asynchronous in this attempt, and whether any was.
 
     Asynchronous is who had a callback in another task than the attempt's. A device without callbacks is what /sys says of
-    it, if anybody was asynchronous at all.
+    it, if anybody was asynchronous at all; where that tells nothing it is synchronous, as devices are by default.
     """
     maker = steps_of(attempt)[0].pid
     apart = {number for found in callbacks.values() for number, callback in enumerate(found)
              if callback is not None and callback.pid != maker}
-    said = {number for number, device in enumerate(devices) if device.is_async and number not in ran} if apart else set()
+    said = {number for number, device in enumerate(devices) if device.listed_async and number not in ran} if apart else set()
     return frozenset(apart | said), bool(apart)
+
+
+def passed_by(plan: Plan, callbacks: dict[Phase, list[CallbackBegin | None]], unknown: set[int]) -> set[int]:
+    """The devices of those unknown ones that were asynchronous: the walk went on while they had to wait for another device."""
+    found = set()
+    for phase in TIMED:
+        needed, soonest = last_needed(plan, callbacks[phase], phase), None
+        for number in plan.order if phase in WAY_DOWN else reversed(plan.order):  # From the end of the walk to its begin.
+            callback = callbacks[phase][number]
+            if callback is not None and number not in plan.asynchronous:
+                soonest = callback.line if soonest is None else min(soonest, callback.line)
+            elif number in unknown and None not in (needed[number], soonest) and needed[number].end.line > soonest:
+                found.add(number)
+    return found
+
+
+def last_needed(plan: Plan, callbacks: list[CallbackBegin | None], phase: Phase) -> list[CallbackBegin | None]:
+    """For each device the callback that ended last among those it has to wait for, also by way of devices without one."""
+    is_down = phase in WAY_DOWN
+    found: list[CallbackBegin | None] = [None] * len(callbacks)
+    for number in reversed(plan.order) if is_down else plan.order:
+        needs = plan.below[number] if is_down else () if number in plan.direct else plan.above[number]
+        waited = [callbacks[other] or found[other] for other, _ in needs]
+        found[number] = max((one for one in waited if one is not None), key=lambda one: one.end.line, default=None)
+    return found
 
 
 def make_plan(recording: Recording, devices: list[Device], numbers: dict[Device, int], flags: frozenset[int], ran: set[int]) -> Plan:

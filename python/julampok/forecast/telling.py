@@ -11,6 +11,7 @@ from .measured import TIMED, WAY_DOWN, WAY_UP
 
 OF_WHAT = ("what the rules give is durations of callbacks over the order of devices: it knows no buses, no locks and no processors, "
            "and what passes between callbacks is not in it")
+OF_OTHERS = "may be asynchronous or not"  # In a note of the reading on devices without callbacks, of which forecasts think otherwise.
 LEAST_SHOWN = 1_000_000  # Callbacks that are shorter, in nanoseconds, are told together unless all are asked for.
 
 
@@ -39,12 +40,13 @@ def notes_of(recording: Recording, forecast: Forecast, more: Sequence[str] = ())
         found.append(off_note(phase, times, bool(forecast.changes)))
     found += failed_notes(forecast)
     if not recording.is_async_listed and forecast.measured.is_any_async:
-        found.append("neither SYS nor --devices tells who is asynchronous: devices without callbacks are taken as synchronous")
+        found.append("neither SYS nor --devices tells who is asynchronous: a device without callbacks is taken as synchronous, "
+                     "as devices are by default, unless the walk passed it while it had to wait")
     if not forecast.measured.is_one_pass:
         found.append(f"version {recording.version_text}: before 6.1.76 all asynchronous devices are given out first on the way up")
     elif recording.version[:2] != (6, 1):
         found.append(f"the rules are those of 6.1; this kernel is {recording.version_text}, which may give out devices in another order")
-    return found + [note_line(note) for note in recording.notes]
+    return found + [note_line(note) for note in recording.notes if OF_OTHERS not in note.text]
 
 
 def note_line(note) -> str:
@@ -55,8 +57,8 @@ def note_line(note) -> str:
 def off_note(phase: Phase, times: Times, is_changed: bool) -> str:
     """That a phase took another time than the rules give, with both numbers, and the change in words."""
     is_more = times.measured > times.rules
-    why = ("something that is in no rule took part: a processor, a bus, a lock, or workers that began late" if is_more else
-           "some device waited less than is taken here, so who is asynchronous, or a link, is not as the inputs tell")
+    why = ("something took part that is in no rule (a processor, a bus, a lock, workers that began late) or that no input tells (a link)"
+           if is_more else "some device waited less than is taken here, so who is asynchronous, or a link, is not as the inputs tell")
     text = (f"{phase}: measured {shown(times.measured)} ms, the rules give {shown(times.rules)} ms, "
             f"{shown(abs(times.measured - times.rules))} ms off; {why}")
     return text + (f"; as a change, the forecast is {signed(times.change)} ms" if is_changed else "")
