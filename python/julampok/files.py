@@ -46,7 +46,7 @@ def read_text(path):
 
 def write_out(text):
     """Writes text (or bytes) on standard output, quietly also where nobody reads any more. Raises CannotError."""
-    data = text if isinstance(text, bytes) else text.encode("utf-8", "surrogateescape")
+    data = as_bytes(text)
     current().erase()
     if sys.stdout is None:
         raise CannotError("is closed", "standard output")
@@ -127,14 +127,29 @@ def write_all(files, inputs=()):
             if pathlib.Path(path).is_dir():
                 raise CannotError("is a folder", path)
         for path, data in files.items():
-            beside[path] = write_beside(pathlib.Path(path), data)
-        for path in files:
-            os.replace(beside.pop(path), os.path.realpath(path))
+            if is_special(path):
+                pathlib.Path(path).write_bytes(as_bytes(data))
+            else:
+                beside[path] = write_beside(pathlib.Path(path), data)
+        for path in list(beside):
+            os.replace(beside[path], os.path.realpath(path))
+            del beside[path]
     except OSError as fault:
         raise CannotError(f"cannot be written: {reason(fault)}", path) from None
     finally:
         for left in beside.values():
             pathlib.Path(left).unlink(missing_ok=True)
+
+
+def is_special(path):
+    """Whether a device or a pipe stands there, which is written into and never replaced."""
+    path = pathlib.Path(path)
+    return path.exists() and not path.is_file()
+
+
+def as_bytes(data):
+    """The bytes of data that may be text."""
+    return data if isinstance(data, bytes) else data.encode("utf-8", "surrogateescape")
 
 
 def write_beside(path, data):
@@ -143,7 +158,7 @@ def write_beside(path, data):
     number, name = tempfile.mkstemp(prefix=f".{path.name[:80]}.", dir=path.parent)
     try:
         with os.fdopen(number, "wb") as file:
-            file.write(data if isinstance(data, bytes) else data.encode("utf-8", "surrogateescape"))
+            file.write(as_bytes(data))
             file.flush()
             os.fsync(file.fileno())
         os.chmod(name, path.stat().st_mode & 0o777 if path.exists() else 0o666 & ~mask())
@@ -170,7 +185,7 @@ def write_folder(path, files, inputs=()):
             raise CannotError("is there already; a new folder is written", path)
         made = pathlib.Path(tempfile.mkdtemp(prefix=f".{path.name[:80]}.", dir=path.parent))
         for name, data in files.items():
-            (made / name).write_bytes(data if isinstance(data, bytes) else data.encode("utf-8", "surrogateescape"))
+            (made / name).write_bytes(as_bytes(data))
         made.chmod(0o777 & ~mask())
         made.replace(path)
         made = None

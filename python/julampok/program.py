@@ -106,7 +106,8 @@ class Program:
             return Ran(b"", False, said)
         if status not in (FINISHED, STUCK):
             raise self.refused(status, said, machine, file)
-        if not log.endswith(b"\n"):
+        end = log[log.rfind(b"\n", 0, -1) + 1:]
+        if not (end == b"finished\n" if status == FINISHED else end.startswith(b"stuck ")):
             raise CannotError("wrote no log, so it is not the program", self.path)
         return Ran(log, status == FINISHED)
 

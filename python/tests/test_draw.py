@@ -366,5 +366,4 @@ class Refusals(unittest.TestCase):
         self.assertEqual(self.run_it("--machine", WORKED[0], WORKED[0])[0], 2)
         self.assertEqual(self.run_it(FOLDER / "none.log")[0], 2)
         status, drawn, told = self.run_it()
-        self.assertEqual((status, told), (0, ""))
-        self.assertIn("The log is empty.", drawn)
+        self.assertEqual((status, drawn, told), (2, "", "julampok draw: standard input:1: an empty log\n"))

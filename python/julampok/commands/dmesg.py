@@ -14,7 +14,7 @@ from ..files import write_out
 from ..logs import add_log, read_story
 
 HELP = "writes what dmesg, wakeup_sources and suspend_stats would show"
-EXAMPLE = "julampok dmesg --only dmesg laptop.log"
+EXAMPLE = "julampok dmesg --only dmesg examples/workers/two-lines-stopped.log"
 HEADINGS = {
     "wakeup_sources": "/sys/kernel/debug/wakeup_sources", "suspend_stats": "/sys/kernel/debug/suspend_stats",
     "dmesg": "dmesg",

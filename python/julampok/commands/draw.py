@@ -16,7 +16,7 @@ from ..files import refuse_inputs, write_new
 from ..logs import add_log, read_story
 
 HELP = "draws a log as a page for a browser"
-EXAMPLE = "julampok draw --machine examples/order/laptop.json laptop.log -o laptop.html"
+EXAMPLE = "julampok draw --machine examples/workers/two-lines.json examples/workers/two-lines-slept.log -o two-lines.html"
 
 
 def add_arguments(parser):
@@ -31,6 +31,8 @@ def run(given):
     if given.output != "-":
         refuse_inputs(given.output, [given.log, given.machine])
     story = read_story(given.log, given.machine)
+    if story is None:
+        raise CannotError("an empty log", given.log, 1)
     if given.svg is not None:
         drawn = picture_of(given.svg)(story)
     else:

@@ -11,7 +11,7 @@ from ..files import write_out
 from ..logs import add_log, read_story
 
 HELP = "tells why each attempt to sleep failed"
-EXAMPLE = "julampok explain --machine examples/order/laptop.json laptop.log"
+EXAMPLE = "julampok explain --machine examples/workers/two-lines.json examples/workers/two-lines-stopped.log"
 
 
 def add_arguments(parser):
