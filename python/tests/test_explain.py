@@ -97,3 +97,16 @@ class Refusals(unittest.TestCase):
         self.refuse(":1: the machine has no task:w", log, "--machine", EXAMPLES / "order" / "laptop.json")
         self.refuse("test_explain.py: this is no machine file", log, "--machine", __file__)
         self.refuse("nothing: No such file or directory", b"", "/nothing")
+
+
+class AsJson(unittest.TestCase):
+    def test_a_failed_attempt(self):
+        done = julampok("explain", "--json", "--machine", WORKED / "callback_fails_in_noirq.json", WORKED / "callback_fails_in_noirq.log")
+        found = json.loads(done.out)
+        attempt = found["failed"][0]
+        self.assertEqual((done.status, found["slept"], attempt["answer"], attempt["failed_in"], attempt["failed_line"]), (0, 0, "EIO", "dpm_suspend_noirq", 29))
+        self.assertIn("device c answered EIO", attempt["says"]["cause"])
+
+    def test_no_failure(self):
+        done = julampok("explain", "--json", WORKED / "parent_and_child.log")
+        self.assertEqual(json.loads(done.out), {"slept": 1, "failed": []})

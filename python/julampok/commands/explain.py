@@ -5,6 +5,9 @@ what was undone; and where the attempt waited longest, in entries, for whom. Onl
 device waited for which.
 """
 
+import json
+
+from ..drawing.story import stage_of
 from ..drawing.telling import told
 from ..errors import YES, CannotError
 from ..files import write_out
@@ -16,6 +19,7 @@ EXAMPLE = "julampok explain --machine examples/workers/two-lines.json examples/w
 
 def add_arguments(parser):
     parser.add_argument("--machine", metavar="MACHINE", help="the machine file of the log")
+    parser.add_argument("--json", action="store_true", help="writes the explanation as JSON")
     add_log(parser)
 
 
@@ -23,8 +27,30 @@ def run(given):
     story = read_story(given.log, given.machine)
     if story is None:
         raise CannotError("an empty log", given.log, 1)
-    write_out(explained(story))
+    write_out(json.dumps(as_json(story)) + "\n" if given.json else explained(story))
     return YES
+
+
+def as_json(story):
+    """What is told of a log, for programs: each attempt that failed, and how often the machine slept."""
+    failed = [attempt for attempt in story.attempts if attempt.answer != "0"]
+    return {"slept": slept(story), "failed": [attempt_json(story, *both) for both in zip(failed, told(story))]}
+
+
+def attempt_json(story, attempt, text):
+    """What is told of an attempt; lines are those of the log."""
+    answer, cause, undone, wait = text.split("\n")
+    first = story.entries[attempt.failures[0]] if attempt.failures else None
+    return {
+        "attempt": attempt.number, "by": attempt.maker, "answer": attempt.answer, "line": attempt.last + 1,
+        "failed_in": first and stage_of(first), "failed_line": first and first.line,
+        "says": {"answer": answer, "cause": cause, "undone": undone, "wait": wait},
+    }
+
+
+def slept(story):
+    """How often the machine slept."""
+    return sum(attempt.entered is not None for attempt in story.attempts)
 
 
 def explained(story):
@@ -32,5 +58,5 @@ def explained(story):
     parts = list(told(story))
     if parts:
         return "\n\n".join(parts) + "\n"
-    slept = sum(attempt.entered is not None for attempt in story.attempts)
-    return f"No attempt failed. The machine slept {slept} time{'s' * (slept != 1)}.\n"
+    count = slept(story)
+    return f"No attempt failed. The machine slept {count} time{'s' * (count != 1)}.\n"
