@@ -4,6 +4,7 @@ The script of the page undoes it, and so does `unpacked` for the tests.
 """
 
 import collections
+import itertools
 import json
 import re
 
@@ -39,6 +40,27 @@ def unpacked(pack):
     """The lines that were packed."""
     words = pack["words"]
     return [re.sub(f"[{chr(FIRST)}-{chr(LAST)}]", lambda found: words[ord(found[0]) - FIRST], line) for line in pack["lines"]]
+
+
+def column(numbers):
+    """A column of numbers, in the shortest of three forms: as it is, as runs of equal ones, or as differences."""
+    runs = []
+    for number in numbers:
+        if runs and runs[-2] == number:
+            runs[-1] += 1
+        else:
+            runs += [number, 1]
+    steps = [number - before for number, before in zip(numbers, [0, *numbers])]
+    return min([numbers, {"runs": runs}, {"steps": steps}], key=lambda form: len(json.dumps(form)))
+
+
+def column_numbers(form):
+    """The numbers of a column."""
+    if isinstance(form, list):
+        return form
+    if "runs" in form:
+        return [number for number, count in zip(form["runs"][::2], form["runs"][1::2]) for _ in range(count)]
+    return list(itertools.accumulate(form["steps"]))
 
 
 class Texts:

@@ -1,6 +1,6 @@
 "use strict";
 // Draws the charts of the attempts and the text of the log out of the data that the page holds. Nothing is loaded.
-const data = JSON.parse(document.getElementById("data").textContent);
+const data = unpacked(JSON.parse(document.getElementById("data").textContent));
 const GAP = 0.035, GAPS = 0.3, MOST_ZOOM = 15000, TICK = 95, MARGIN = 0.02, STEP = 0.25, BLOCK = 40;
 const isTimed = data.unit === "ms", charts = new Map();
 const escaped = (text) => text.replace(/[&<>"]/g, (sign) => ({ "&": "&amp;", "<": "&lt;", ">": "&gt;", '"': "&quot;" })[sign]);
@@ -14,6 +14,31 @@ function lasting(size) {
 }
 const answered = (answer) => (/^(E|-?\d)/.test(answer) ? ` answered ${answer}` : `, ${answer}`);
 const moment = (time) => (isTimed ? `at ${grouped(time / 1000, 3)} ms` : `in line ${time}`);
+
+// The lines of a text whose words are in a table, from one to another; and the numbers of a column.
+function linesOf(pack, from = 0, to = pack.lines.length) {
+  return pack.lines.slice(from, to).map((line) => line.replace(/[\u0100-\ud7ff]/g, (code) => pack.words[code.charCodeAt(0) - 256]));
+}
+function numbersOf(column) {
+  if (Array.isArray(column)) return column;
+  const numbers = [];
+  if (column.steps) for (const step of column.steps) numbers.push((numbers.at(-1) ?? 0) + step);
+  else for (let place = 0; place < column.runs.length; place += 2) for (let count = column.runs[place + 1]; count > 0; count--) numbers.push(column.runs[place]);
+  return numbers;
+}
+function unpacked(data) {
+  data.texts = linesOf(data.texts);
+  for (const attempt of data.attempts)
+    for (const table of [attempt.marks, attempt.ties])
+      for (const name in table) table[name] = numbersOf(table[name]);
+  for (const { marks } of data.attempts) marks.last = marks.first.map((first, place) => first + marks.more[place]);
+  for (const attempt of data.attempts) {
+    const { kind, source, sourceAt, target, targetAt, words, last } = attempt.ties;
+    attempt.ties = kind.map((_, place) => ({ kind: data.texts[kind[place]], source: source[place], sourceAt: sourceAt[place],
+      target: target[place], targetAt: targetAt[place], words: data.texts[words[place]], last: last[place] }));
+  }
+  return data;
+}
 
 // An element with attributes, children and text; a text never becomes markup.
 function made(tag, attributes = {}, ...inside) {
@@ -234,8 +259,8 @@ class Chart {
       if (above !== null && below !== null)
         lines.push(`<line class="tie ${kind}" x1="${percent(this.axis.x(sourceAt))}" y1="${above}" x2="${percent(this.axis.x(targetAt))}" y2="${below}" marker-end="url(#tip-${kind === "waits" ? "blue" : "red"})"/>`);
     };
-    for (const [kind, source, sourceAt, target, targetAt] of this.attempt.ties)
-      if (always.includes(data.texts[kind]) || source === chosen || target === chosen) line(data.texts[kind], source, sourceAt, target, targetAt);
+    for (const { kind, source, sourceAt, target, targetAt } of this.attempt.ties)
+      if (always.includes(kind) || source === chosen || target === chosen) line(kind, source, sourceAt, target, targetAt);
     const { row, begin, size } = this.attempt.marks, path = this.attempt.path.filter((step) => step[0] >= 0);
     path.slice(1).forEach(([place, phase], before) => {
       const last = path[before][0];
@@ -304,10 +329,10 @@ function choose(chart, number, isScrolled = false) {
     row.querySelector(".name").focus({ preventScroll: true });
   }
   chart.tie(number);
-  const near = chart.attempt.ties.filter((tie) => data.texts[tie[0]] === "waits" && tie[3] === number);
-  for (const [, source, at] of near)
+  const near = chart.attempt.ties.filter((tie) => tie.kind === "waits" && tie.target === number);
+  for (const { source, sourceAt } of near)
     for (const place of chart.of.get(source) || [])
-      if (chart.attempt.marks.begin[place] <= at && at <= chart.attempt.marks.begin[place] + chart.attempt.marks.size[place])
+      if (chart.attempt.marks.begin[place] <= sourceAt && sourceAt <= chart.attempt.marks.begin[place] + chart.attempt.marks.size[place])
         chart.element.querySelector(`[data-mark="${place}"]`)?.classList.add("near");
   tell(chart, number);
 }
@@ -343,13 +368,13 @@ function tell(chart, number) {
   }
   panel.append(table);
   if (places.length > 300) panel.append(made("p", {}, `and ${places.length - 300} more`));
-  const item = (tie) => made("li", {}, goTo(chart, tie[1] === number ? tie[3] : tie[1]), `: ${texts[tie[5]]} (`, lineLink(tie[7]), ")");
+  const item = (tie) => made("li", {}, goTo(chart, tie.source === number ? tie.target : tie.source), `: ${tie.words} (`, lineLink(tie.last), ")");
   const list = (title, found) => found.length && panel.append(made("h3", {}, title), made("ul", {}, ...found.slice(0, 200).map(item)));
-  const waits = ties.filter((tie) => texts[tie[0]] === "waits");
-  list("It waited", waits.filter((tie) => tie[3] === number));
-  list("These waited for it", waits.filter((tie) => tie[1] === number));
-  list("Also", ties.filter((tie) => texts[tie[0]] !== "waits" && (tie[1] === number || tie[3] === number)));
-  if (!waits.some((tie) => tie[3] === number || tie[1] === number)) panel.append(made("p", { class: "soft" }, data.texts[chart.attempt.noWaits]));
+  const own = ties.filter((tie) => tie.source === number || tie.target === number), waits = own.filter((tie) => tie.kind === "waits");
+  list("It waited", waits.filter((tie) => tie.target === number));
+  list("These waited for it", waits.filter((tie) => tie.source === number));
+  list("Also", own.filter((tie) => tie.kind !== "waits"));
+  if (!waits.length) panel.append(made("p", { class: "soft" }, texts[chart.attempt.noWaits]));
   const steps = path.filter((step) => step[3] === number && step[2]);
   if (steps.length) panel.append(made("h3", {}, "On the longest path"), made("ul", {}, ...steps.map((step) => made("li", {}, texts[step[2]]))));
   panel.hidden = false;
@@ -364,8 +389,8 @@ function drawText(details) {
   if (pre.childElementCount) return;
   const pack = data[details.dataset.text], letter = details.dataset.letter, parts = [];
   for (let first = 0; first < pack.lines.length; first += 200) {
-    const lines = pack.lines.slice(first, first + 200).map((line, place) => {
-      const text = line.replace(/[\u0100-\ud7ff]/g, (code) => pack.words[code.charCodeAt(0) - 256]), number = first + place + 1;
+    const lines = linesOf(pack, first, first + 200).map((text, place) => {
+      const number = first + place + 1;
       return `<a id="${letter}${number}" href="#${letter}${number}">${number}</a>${escaped(text)}`;
     });
     parts.push(`<div class="part">${lines.join("\n")}</div>`);

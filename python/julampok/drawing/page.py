@@ -6,7 +6,7 @@ import re
 
 from .groups import groups_of
 from .model import PHASES, Tone, Unit, depths_of
-from .packing import Texts, packed, script_json
+from .packing import Texts, column, packed, script_json
 from .words import counted
 
 HERE = pathlib.Path(__file__).resolve().parent
@@ -170,14 +170,25 @@ def legend():
 
 def columns_of(marks, base, texts):
     """The marks in columns of numbers; times from the begin of the attempt."""
-    return {
+    found = {
         "row": [mark.row for mark in marks], "kind": [texts.number(mark.kind) for mark in marks],
         "begin": [mark.begin - base for mark in marks], "size": [max(0, mark.end - mark.begin) for mark in marks],
-        "first": [mark.first for mark in marks], "last": [mark.last for mark in marks],
+        "first": [mark.first for mark in marks], "more": [mark.last - mark.first for mark in marks],
         "words": [texts.number(mark.words) for mark in marks], "answer": [texts.number(mark.answer) for mark in marks],
         "who": [texts.number(mark.who) for mark in marks],
         "flags": [mark.is_callback + 2 * mark.is_open + 4 * mark.is_span for mark in marks],
     }
+    return {name: column(numbers) for name, numbers in found.items()}
+
+
+def ties_of(ties, base, texts):
+    """The ties in columns of numbers."""
+    found = {
+        "kind": [texts.number(tie.kind) for tie in ties], "source": [tie.source for tie in ties], "sourceAt": [tie.source_at - base for tie in ties],
+        "target": [tie.target for tie in ties], "targetAt": [tie.target_at - base for tie in ties],
+        "words": [texts.number(tie.words) for tie in ties], "last": [tie.last for tie in ties],
+    }
+    return {name: column(numbers) for name, numbers in found.items()}
 
 
 def attempt_data(page, attempt, texts):
@@ -189,8 +200,7 @@ def attempt_data(page, attempt, texts):
         "stages": [[texts.number(stage.name), texts.number(stage.kind), stage.begin - base, stage.end - base, stage.first, stage.last,
                     texts.number(stage.answer)] for stage in attempt.stages],
         "marks": columns_of(attempt.marks, base, texts),
-        "ties": [[texts.number(tie.kind), tie.source, tie.source_at - base, tie.target, tie.target_at - base, texts.number(tie.words),
-                  tie.first, tie.last] for tie in attempt.ties],
+        "ties": ties_of(attempt.ties, base, texts),
         "path": [[-1 if step.mark is None else step.mark, texts.number(step.phase), texts.number(step.words), -1 if step.row is None else step.row]
                  for step in attempt.path],
         "groups": [[texts.number(group.title), group.rows, int(group.is_folded), texts.number(group.tone)] for group in groups_of(page, attempt)],
@@ -203,7 +213,7 @@ def data_of(page):
     rows = [[texts.number(row.sort.value), row.name, texts.number(row.about), -1 if row.parent is None else row.parent, depths[place],
              [texts.number(note) for note in row.notes]] for place, row in enumerate(page.rows)]
     attempts = [attempt_data(page, attempt, texts) for attempt in page.attempts]
-    return {"unit": page.unit.value, "linesOf": page.lines_of, "rows": rows, "attempts": attempts, "texts": texts.all,
+    return {"unit": page.unit.value, "linesOf": page.lines_of, "rows": rows, "attempts": attempts, "texts": packed(texts.all),
             "log": packed(page.lines), "judged": packed(page.judged), "dmesg": packed(page.dmesg)}
 
 
