@@ -284,7 +284,7 @@ class Pages(unittest.TestCase):
         made = form(path.read_text(), json.loads(path.with_suffix(".json").read_text()))
         attempts = data_of(page.page_html(made))["attempts"]
         texts, rows = packing.unpacked(data_of(page.page_html(made))["texts"]), [row.name for row in made.rows]
-        title, top, is_folded, _ = attempts[0]["groups"][0]
+        title, top, is_folded, *_ = attempts[0]["groups"][0]
         self.assertEqual((texts[title], [rows[number] for number in top], is_folded), ("What stopped it, with its parents", ["disk", "irq:k", "lid"], 0))
         drawn = page.page_html(made)
         self.assertRegex(drawn, '<details class="attempt bad" id="attempt-1" open>')

@@ -2,15 +2,19 @@
 """
 
 import collections
+import gzip
 import json
 import os
+import re
 import unittest
 
+import recordings
 from command_tests import WORKED as FOLDER, julampok_apart
 from julampok.second.maker import Maker
 from julampok.second.merged import Interleaved
 from julampok.second.run import Run
-from julampok.drawing import machine, reading, story
+from julampok.drawing import machine, of_recording, reading, story
+from julampok.kernel.reading import read_inputs
 from julampok.drawing.of_log import page_of
 from julampok.drawing.perfetto import perfetto
 
@@ -23,6 +27,16 @@ FIELDS = {"M": {"name", "args"}, "X": {"name", "ts", "dur"}, "s": {"id", "ts", "
 def events_of(log, file):
     read = reading.read_log(log)
     return json.loads(perfetto(page_of(story.Story(read, machine.read_machine(file, read)), "-")))["traceEvents"]
+
+
+def events_of_recording(name):
+    page, rows, clock = of_recording.page_of(read_inputs(**recordings.inputs(name)), name)
+    return json.loads(perfetto(page))["traceEvents"]
+
+
+def open_trace(name):
+    with gzip.open(recordings.file_of(name, "trace"), "rt") as file:
+        return file.read().split("\n")
 
 
 def tracks_of(events):
@@ -87,6 +101,12 @@ class Rules(unittest.TestCase):
             with self.subTest(number):
                 self.check(events_of(Interleaved(file, number).run()[0].encode(), json.dumps(file).encode()))
 
+    def test_recordings(self):
+        """All recordings of a real kernel, those with times and those with a counter."""
+        for name in recordings.names():
+            with self.subTest(name):
+                self.check(events_of_recording(name))
+
     def test_an_empty_log(self):
         self.assertEqual(json.loads(perfetto(page_of(None, "-")))["traceEvents"], [])
 
@@ -108,6 +128,21 @@ class Content(unittest.TestCase):
         """The machine sleeps 1000 ms."""
         asleep = [(ts, dur) for ts, dur, name in of_worked("parent_and_child")["attempts", "the attempt"] if name == "asleep"]
         self.assertTrue(all(ts + dur >= 1_000_000 and ts < 1000 for ts, dur in asleep) and asleep)
+
+    def test_real_times_and_parents(self):
+        """By lines 481 and 483 of whatif-gpu-sync gpu's suspend callback takes 60.328280 to 60.478517 s; panel is below gpu, gpu below soc."""
+        events = events_of_recording("whatif-gpu-sync")
+        tracks, found = tracks_of(events), collections.defaultdict(list)
+        for event in events:
+            if event["ph"] == "X":
+                found[tracks[event["pid"], event["tid"]]].append(event)
+        gpu = next(event for event in found["gpu (dpmt)", "gpu (dpmt)"] if event["name"] == "suspend")
+        first = min(event["ts"] for event in events if event["ph"] == "X")
+        line = next(line for line in open_trace("whatif-gpu-sync") if "suspend_enter[3] begin" in line)
+        begun = 60_328_280 - round(float(re.search(r"(\d+\.\d+): suspend_resume", line)[1]) * 1e6)
+        self.assertEqual((gpu["ts"] - first, gpu["dur"]), (begun, 60_478_517 - 60_328_280))
+        self.assertIn(("gpu (dpmt)", "panel (dpmt)"), found)
+        self.assertIn(("soc (dpmt)", "wlan (dpmt)"), found)
 
     def test_an_event_found(self):
         """Device pci is the parent of nic, so its track stands in a group of its own name."""

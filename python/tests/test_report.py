@@ -85,11 +85,12 @@ class Recordings(unittest.TestCase):
             self.assertIs(whole.tone, Tone.GOOD)
 
     def test_marks_are_the_callbacks_of_the_trace(self):
-        """In whatif-gpu-sync the suspend callback of gpu begins at 19.683264 and ends at 19.833342 s by its lines."""
+        """By lines 481 and 483 of whatif-gpu-sync the suspend callback of gpu takes 60.328280 to 60.478517 s."""
         whole = form("whatif-gpu-sync")
         starts = {place: line for place, line in enumerate(whole.lines, 1) if "device_pm_callback_start" in line}
         marks = {mark.first: mark for mark in whole.attempts[0].marks if mark.is_callback}
         self.assertEqual(set(marks), set(starts))
+        self.assertEqual((marks[481].last, marks[481].end - marks[481].begin), (483, 60_478_517 - 60_328_280))
         for place, mark in marks.items():
             begin, end = (float(re.search(r"(\d+\.\d+): device", whole.lines[line - 1])[1]) for line in (mark.first, mark.last))
             self.assertAlmostEqual((mark.end - mark.begin) / 1e6, end - begin, places=5, msg=place)

@@ -18,6 +18,7 @@ class Group:
     rows: list[int]
     is_folded: bool = False
     tone: str = ""
+    is_tree: bool = False  # Rows stand moved in, by how many parents they have.
 
 
 def has_work(mark):
@@ -36,10 +37,10 @@ def groups_of(page, attempt):
         Group("What stopped it, with its parents", taken(left, with_parents(page, attempt.culprits)), tone="bad"),
         Group("The longest path", taken(left, [step.row for step in attempt.path if step.row is not None])),
         Group("Wakeup sources", taken(left, of_sort(page, left, Sort.SOURCE, marked))),
-        Group("Devices", taken(left, of_sort(page, left, Sort.DEVICE, working))),
+        Group("Devices", taken(left, of_sort(page, left, Sort.DEVICE, working)), is_tree=True),
     ]
     quiet = taken(left, of_sort(page, left, Sort.DEVICE, left))
-    groups.append(Group(f"{counted(len(quiet), 'device')} without a callback", quiet, is_folded=True))
+    groups.append(Group(f"{counted(len(quiet), 'device')} without a callback", quiet, is_folded=True, is_tree=True))
     groups += [Group(title, taken(left, of_sort(page, left, sort, marked))) for sort, title in OTHERS]
     return [group for group in groups if group.rows]
 

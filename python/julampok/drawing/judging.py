@@ -9,6 +9,7 @@ from .of_recording import note_words
 
 LINE = re.compile(r"(?<!dmesg )\bline (\d+)")
 FOUND = re.compile(r"callback of (.+) found it")
+PROVED = "the proved program"
 UP = ("resume_noirq", "early", "resume", "complete")
 
 
@@ -17,6 +18,8 @@ def add_verdict(page, rows, recording, judge):
     try:
         found = replay(recording, judge)
     except CannotError as refused:
+        if judge is not None and refused.file == judge.path:
+            raise
         page.tone = Tone.OPEN
         page.details.append(f"The trace could not be followed: {refused_words(refused)}. What stands below is what the trace itself tells.")
         return "could not be followed"
@@ -44,7 +47,7 @@ def refused_words(refused):
 def verdict_words(found):
     """The verdict in a few words."""
     if found.status == 0:
-        return f"legal by {'the proved checker' if found.judge != 'the second writing' else 'the second writing'}"
+        return f"legal by {'the proved checker' if found.judge == PROVED else found.judge}"
     if found.broken:
         return f"not legal: {found.broken[0].did} (line {found.broken[0].line}), but {found.broken[0].first}"
     return "not legal" if not found.is_legal else "legal, but not the kernel's own way"

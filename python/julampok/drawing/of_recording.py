@@ -138,7 +138,7 @@ def stages_of(clock, attempt):
         if event.is_begin:
             following = attempt.events[min(place + 1, len(attempt.events) - 1)]
             name = f"{event.action}[{event.value}]" if event.action in ("CPU_OFF", "CPU_ON") else event.action
-            opened[key] = Stage(name, str(event.phase or ""), clock.at(event), clock.until(following), event.line, event.line)
+            opened[key] = Stage(name, str(event.phase or ""), clock.at(event), max(clock.at(event), clock.at(following)), event.line, event.line)
             stages.append(opened[key])
         elif key in opened:
             stage = opened.pop(key)

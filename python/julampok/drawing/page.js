@@ -168,7 +168,7 @@ class Chart {
     if (block.isFilled) return;
     block.isFilled = true;
     nearness.unobserve(block.element);
-    block.element.innerHTML = block.rows.map((row) => this.row(row)).join("");
+    block.element.innerHTML = block.rows.map((row) => this.row(row, this.attempt.groups[block.group][4])).join("");
     for (const element of block.element.children) this.rows.set(Number(element.dataset.row), element);
   }
   fillRest() {
@@ -186,10 +186,10 @@ class Chart {
     this.fill(block);
     return this.rows.get(row);
   }
-  row(number) {
+  row(number, isTree) {
     const [, name, about, , depth] = data.rows[number], places = this.of.get(number) || [];
     const total = isTimed ? places.reduce((sum, place) => sum + (this.attempt.marks.flags[place] & 1 ? this.attempt.marks.size[place] : 0), 0) : 0;
-    return `<div class="row" data-row="${number}"><button type="button" class="name" style="--deep:${Math.min(depth, 8)}"><span>${escaped(name)}</span>` +
+    return `<div class="row" data-row="${number}"><button type="button" class="name" style="--deep:${isTree ? Math.min(depth, 8) : 0}"><span>${escaped(name)}</span>` +
       `<small>${escaped(data.texts[about])}</small>${total ? `<b>${lasting(total)}</b>` : ""}</button>` +
       `<div class="lane"><div class="track">${places.map((place) => this.mark(place)).join("")}</div></div></div>`;
   }

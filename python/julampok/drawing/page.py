@@ -203,7 +203,7 @@ def attempt_data(page, attempt, texts):
         "ties": ties_of(attempt.ties, base, texts),
         "path": [[-1 if step.mark is None else step.mark, texts.number(step.phase), texts.number(step.words), -1 if step.row is None else step.row]
                  for step in attempt.path],
-        "groups": [[texts.number(group.title), group.rows, int(group.is_folded), texts.number(group.tone)] for group in groups_of(page, attempt)],
+        "groups": [[texts.number(group.title), group.rows, int(group.is_folded), texts.number(group.tone), int(group.is_tree)] for group in groups_of(page, attempt)],
     }
 
 

@@ -6,6 +6,7 @@ from ..forecast.telling import best_sentence
 from .model import Step, Tie
 
 LEAST = 1_000_000  # Steps of the path that are shorter, in nanoseconds, are told together.
+LEAST_WAIT = 10_000  # How long a shorter wait was is not told.
 LEAST_SHARE = 0.05  # A device with a smaller share of the whole is not named in the headline.
 NAMED = 3
 HELPS = 5
@@ -49,7 +50,7 @@ def add_waits(made, rows, clock, forecast):
             if None in (wait.callback, wait.other_callback) or wait.other_callback.end is None:
                 continue
             end = wait.other_callback.end
-            words = f"{phase}: {wait.words}; by the rules {shown_ms(wait.waited)}"
+            words = f"{phase}: {wait.words}" + (f"; by the rules for {shown_ms(wait.waited)}" if wait.waited >= LEAST_WAIT else "")
             made.ties.append(Tie("waits", rows.of(wait.other), clock.until(end), rows.of(wait.device), clock.at(wait.callback), words,
                                  end.line, wait.callback.line))
 
