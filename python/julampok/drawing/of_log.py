@@ -156,14 +156,15 @@ def end_words(log):
 
 
 def headline_of(story):
-    """The attempts of a log in a line."""
-    slept = sum(attempt.entered is not None for attempt in story.attempts)
+    """The attempts of a log in a line, with what stopped the first one that was stopped."""
     failed = [attempt for attempt in story.attempts if attempt.answer != "0"]
-    words = f"{counted(len(story.attempts), 'attempt')} to sleep: {slept} slept, {len(failed)} stopped"
-    if failed:
-        stage, what, cause = failure_words(story, failed[0])
-        words += f"; attempt {failed[0].number} by {cause} in {stage}" if stage else ""
-    return words
+    count = len(story.attempts)
+    if not failed:
+        return "No attempt to sleep" if not count else "The machine slept" if count == 1 else f"{count} attempts to sleep: the machine slept each time"
+    stage, _, cause = failure_words(story, failed[0])
+    why = f" in {stage} by {cause}" if stage else ", and no entry tells why"
+    words = f"({failed[0].answer}){why}"
+    return f"Stopped {words}" if count == 1 else f"{count} attempts to sleep, {len(failed)} of them stopped; attempt {failed[0].number} {words}"
 
 
 def moments_of(entries):

@@ -2,7 +2,7 @@
 // Draws the charts of the attempts and the text of the log out of the data that the page holds. Nothing is loaded.
 const data = unpacked(JSON.parse(document.getElementById("data").textContent));
 const GAP = 0.035, GAPS = 0.3, MOST_ZOOM = 15000, TICK = 95, MARGIN = 0.02, STEP = 0.25, BLOCK = 40;
-const isTimed = data.unit === "ms", charts = new Map();
+const isTimed = data.unit === "ms", charts = new Map(), DEVICE = data.texts.indexOf("device");
 const escaped = (text) => text.replace(/[&<>"]/g, (sign) => ({ "&": "&amp;", "<": "&lt;", ">": "&gt;", '"': "&quot;" })[sign]);
 const percent = (share) => `${(share * 100).toFixed(6)}%`;
 const grouped = (number, digits) => number.toLocaleString("en-US", { minimumFractionDigits: digits, maximumFractionDigits: digits });
@@ -195,8 +195,10 @@ class Chart {
   }
   mark(place) {
     const { kind, begin, size, answer, flags } = this.attempt.marks, left = this.axis.x(begin[place]), step = this.steps.get(place);
-    const classes = `mark k-${data.texts[kind[place]]}${answer[place] ? " bad" : ""}${step ? " path" : ""}${flags[place] & 2 ? " open" : ""}${flags[place] & 4 ? " thin" : ""}`;
-    return `<i class="${classes}" data-mark="${place}"${step ? ` data-step="${step}"` : ""} style="left:${percent(left)};width:${percent(this.axis.x(begin[place] + size[place]) - left)}"></i>`;
+    const isLabelled = data.rows[this.attempt.marks.row[place]][0] !== DEVICE && !(flags[place] & 4);
+    const label = isLabelled ? `<span>${escaped(data.texts[this.attempt.marks.words[place]].split(/[ ,]/)[0])}</span>` : "";
+    const classes = `mark k-${data.texts[kind[place]]}${answer[place] ? " bad" : ""}${step ? " path" : ""}${flags[place] & 2 ? " open" : ""}${flags[place] & 4 ? " thin" : ""}${isLabelled ? " labelled" : ""}`;
+    return `<i class="${classes}" data-mark="${place}"${step ? ` data-step="${step}"` : ""} style="left:${percent(left)};width:${percent(this.axis.x(begin[place] + size[place]) - left)}">${label}</i>`;
   }
   about(place) {
     const { row, kind, begin, size, first, last, words, answer, who, flags } = this.attempt.marks, texts = data.texts;

@@ -18,9 +18,11 @@ LEAST = 500  # each with callbacks of this many microseconds in all, and the pha
 POLICY = "default-src 'none'; style-src 'unsafe-inline'; script-src 'unsafe-inline'"
 LEGEND = [
     ("k-suspend", "suspend"), ("k-late", "late"), ("k-noirq", "noirq"), ("k-resume_noirq", "resume_noirq"), ("k-early", "early"),
-    ("k-resume", "resume"), ("k-prepare", "prepare, complete"), ("k-suspend path", "longest path, with its steps counted (red edge)"),
-    ("k-suspend bad", "answered an error (hatched, \u2717)"), ("k-event", "event of a wakeup source"),
+    ("k-resume", "resume"), ("k-prepare", "prepare, complete"), ("k-active", "event of a wakeup source"),
 ]
+OTHER_KINDS = {"k-prepare": ("complete",), "k-active": ("event", "awake", "hard")}
+LEGEND_PATH = [("k-suspend path", "longest path: a red edge, and its steps counted")]
+LEGEND_ERROR = [("k-suspend bad", "answered an error: hatched, with \u2717")]
 TOOLS = [("left", "\u2039", "to the left"), ("right", "\u203a", "to the right"), ("in", "+", "zoom in"), ("out", "\u2212", "zoom out"),
          ("whole", "whole", "the whole attempt")]
 
@@ -160,8 +162,13 @@ def text_part(title, key, letter, lines):
             f"<small>{len(lines)} lines</small></summary><pre></pre></details>\n")
 
 
-def legend():
-    pieces = "".join(f'<span><i class="mark {kind}"></i>{words}</span>' for kind, words in LEGEND)
+def legend(page):
+    """What colours and marks mean, of those that the page has."""
+    kinds = {mark.kind for attempt in page.attempts for mark in attempt.marks}
+    shown = [(kind, words) for kind, words in LEGEND if kinds & {kind.removeprefix("k-"), *OTHER_KINDS.get(kind, ())}]
+    shown += [(kind, words) for kind, words in LEGEND_PATH if any(attempt.path for attempt in page.attempts)]
+    shown += [(kind, words) for kind, words in LEGEND_ERROR if any(mark.answer for attempt in page.attempts for mark in attempt.marks)]
+    pieces = "".join(f'<span><i class="mark {kind}"></i>{words}</span>' for kind, words in shown)
     return f'<div class="legend" id="legend">{pieces}</div>\n'
 
 
@@ -236,7 +243,7 @@ def page_html(page):
            '<output id="count" aria-live="polite"></output><small><kbd>/</kbd> search <kbd>\u2191</kbd> <kbd>\u2193</kbd> device '
            '<kbd>Enter</kbd> whom it waited for <kbd>+</kbd> <kbd>\u2212</kbd> <kbd>\u2190</kbd> <kbd>\u2192</kbd> <kbd>0</kbd> zoom '
            '<kbd>Esc</kbd> close</small></div>\n<noscript><p><b>The charts and the log are drawn by a script, which is switched off here.</b></p></noscript>\n')
-    parts = [head, about, verdict_part(page), bar if page.attempts else "", legend() if page.attempts else ""]
+    parts = [head, about, verdict_part(page), bar if page.attempts else "", legend(page) if page.attempts else ""]
     parts += [attempt_part(page, place, attempt, attempt in shown) for place, attempt in enumerate(page.attempts)]
     parts += [table_part(table, page) for table in page.more]
     parts.append(text_part(f"The {page.lines_of}", "log", "L", page.lines))
