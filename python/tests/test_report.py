@@ -3,6 +3,7 @@
 What is expected stands in the recordings' README, or is read in their traces.
 """
 
+import html
 import html.parser
 import json
 import re
@@ -11,7 +12,7 @@ import unittest
 from pathlib import Path
 
 import recordings
-from command_tests import julampok
+from command_tests import EXAMPLES, ROOT, julampok
 from julampok.drawing import groups, packing, page
 from julampok.drawing.model import Sort, Tone, Unit
 from julampok.drawing.reporting import report_of
@@ -182,6 +183,25 @@ class Recordings(unittest.TestCase):
                 placed = [number for group in told["groups"] for number in group[1]]
                 self.assertEqual(len(placed), len(set(placed)), name)
                 self.assertLessEqual({mark.row for mark in attempt.marks}, set(placed), name)
+
+
+class Example(unittest.TestCase):
+    def test_the_pair(self):
+        """The page says what the second recording of the pair shows: gpu made asynchronous saves 445 - 324 and 349 - 279 ms."""
+        told, folder = (ROOT / "docs" / "EXAMPLES.md").read_text(), EXAMPLES / "real"
+        one, two = (folder / f"whatif-gpu-{kind}.trace" for kind in ("sync", "async"))
+        words = ("--devices", one.with_suffix(".devices"), "--dmesg", one.with_suffix(".dmesg"))
+        drawn = html.unescape(julampok("report", one, *words).out)
+        help_words = re.search(r'says the page: "(.*?)"', told, re.S)[1].replace("\n", " ")
+        self.assertIn(help_words, drawn)
+        saved = [float(number) for number in re.findall(r"-([\d.]+) ms", help_words)]
+        for saving, before, after in zip(saved, WHAT_IF["whatif-gpu-sync"], WHAT_IF["whatif-gpu-async"]):
+            self.assertAlmostEqual(saving, before - after, delta=5)
+        forecast = json.loads(julampok("times", one, "--devices", one.with_suffix(".devices"), "--async", "gpu", "--json").out)
+        second = json.loads(julampok("times", two, "--devices", two.with_suffix(".devices"), "--json").out)
+        for way in ("suspend", "resume"):
+            numbers = [*(forecast[way][name] for name in ("measured_ms", "rules_ms", "forecast_ms")), second[way]["measured_ms"]]
+            self.assertIn(f"| {way} | {' | '.join(f'{number:.1f}' for number in numbers)} |", told)
 
 
 class Others(unittest.TestCase):
