@@ -43,6 +43,8 @@ class Ways(unittest.TestCase):
     def test_slower(self):
         _, said = diff("whatif-gpu-async", "whatif-gpu-sync")
         self.assertEqual([phase["phase"] for phase in said["phases"] if phase["slower"]], ["suspend", "early", "resume"])
+        suspend = next(phase for phase in said["phases"] if phase["phase"] == "suspend")
+        self.assertEqual((suspend["path_a"], suspend["path_b"]), (["wlan", "panel", "gpu", "soc"], ["wlan", "panel", "gpu", "disk", "nvme", "soc"]))
         _, said = diff("whatif-gpu-async", "whatif-gpu-sync", "--by", "60")
         self.assertEqual([phase["phase"] for phase in said["phases"] if phase["slower"]], ["suspend"])
 

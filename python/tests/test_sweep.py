@@ -10,7 +10,7 @@ from command_tests import EXAMPLES, julampok
 from recordings import inputs
 
 from julampok.commands import sweep as command
-from julampok.forecast.sweeping import Event, Sweep
+from julampok.forecast.sweeping import Event, Sweep, real_words
 from julampok.second.follow import Follower
 from julampok.second.maker import Maker
 from julampok.second.rules import first_broken
@@ -29,7 +29,7 @@ def sweep_of(name):
     """The sweep of a recording, by its callbacks' times."""
     found = inputs(name)
     given = types.SimpleNamespace(machine=found["trace"], trace=None, devices=found["devices"], links=found["links"])
-    tree, durations = command.subject(given)
+    tree, durations, _ = command.subject(given)
     return Sweep(tree, Event(), 1, durations)
 
 
@@ -136,6 +136,15 @@ class Expected(unittest.TestCase):
         self.assertEqual((done.status, done.err), (0, ""))
         self.assertRegex(done.out, r"\ATAP version 13\n1\.\.\d+\nok 1 - ")
         self.assertNotIn("not ok", done.out)
+
+    def test_real_names(self):
+        """A device of a trace is shown by its real name, which machine files cannot spell."""
+        found = inputs("irq-suspend")
+        given = types.SimpleNamespace(machine=found["trace"], trace=None, devices=found["devices"], links=found["links"])
+        real = command.subject(given)[2]
+        for words, shown in (("begin suspend 0000.00.01.1", "begin suspend 0000:00:01.1"), ("prepare lnxsystm.00 1", "prepare LNXSYSTM:00 1"),
+                             ("late lnxsystm.00", "late LNXSYSTM:00"), ("cpu 1", "cpu 1"), ("platform end", "platform end")):
+            self.assertEqual(real_words(words, real), shown)
 
     def test_broken(self):
         done = self.swept("suspend: found by suspend *\n")

@@ -24,7 +24,7 @@ MOST_TOLD = 10  # The most callbacks and partings that are shown as text.
 
 
 def milliseconds(text):
-    """A number of milliseconds, 0 or more."""
+    """A number of milliseconds, 0 or more. Raises ValueError."""
     found = float(text)
     if not 0 <= found < 1e12:
         raise ValueError(text)
@@ -72,7 +72,8 @@ def differ(given):
 def as_json(found, slower, is_same):
     """All that differs, for a script."""
     parting = lambda one: {"what": one.words, "line_a": one.line_a, "line_b": one.line_b}
-    phase = lambda one: {"attempt": one.attempt, "phase": str(one.phase), "a_ms": ms(one.a), "b_ms": ms(one.b), "change_ms": ms(one.b - one.a), "slower": one in slower}
+    phase = lambda one: {"attempt": one.attempt, "phase": str(one.phase), "a_ms": ms(one.a), "b_ms": ms(one.b), "change_ms": ms(one.b - one.a),
+                         "slower": one in slower, "path_a": one.path_a, "path_b": one.path_b}
     callback = lambda one: {"attempt": one[0], "phase": str(one[1]), "device": one[2], "a_ms": ms(one[3]), "b_ms": ms(one[4]), "change_ms": ms(one[4] - one[3])}
     said = {"same": is_same, "parts": parting(found.partings[0]) if found.partings else None, "partings": [parting(one) for one in found.partings]}
     said |= {"phases": [phase(one) for one in found.phases], "callbacks": [callback(one) for one in found.callbacks], "notes": found.notes}
@@ -86,6 +87,9 @@ def as_text(found, slower, is_same, by):
     if len(found.partings) > MOST_TOLD:
         lines.append(f"  and {len(found.partings) - MOST_TOLD} places more")
     lines += phases_text(found, slower)
+    for one in slower:
+        paths = [" > ".join(path) or "none of a millisecond" for path in (one.path_a, one.path_b)]
+        lines.append(f"  longest path of {one.phase}: {paths[0]}" + (" in both" if paths[0] == paths[1] else f" in A, {paths[1]} in B"))
     for attempt, phase, device, a, b in found.callbacks[:MOST_TOLD]:
         lines.append(f"  attempt {attempt}, {phase} of {device}: {shown(a)} ms, then {shown(b)} ms ({signed(b - a)})")
     lines += [f"note: {note}" for note in found.notes]

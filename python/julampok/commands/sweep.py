@@ -52,15 +52,17 @@ def add_arguments(parser):
 
 def run(given):
     rules = expecting.read_rules(read_text(given.expect), given.expect) if given.expect is not None else []
-    tree, durations = subject(given)
+    tree, durations, real = subject(given)
     if durations is None and (rule := next((rule for rule in rules if rule.needs_times), None)) is not None:
         raise CannotError(f"{rule.claim!r} needs the times of a trace: give --trace", given.expect, rule.line)
     sweep = sweeping.Sweep(tree, sweeping.Event(given.ms, given.hard), given.attempt, durations)
-    idle = next((rule for rule in rules if not any(map(rule.is_about, sweep.places))), None)
+    places = [sweeping.real_place(place, real) for place in sweep.places]
+    idle = next((rule for rule in rules if not any(map(rule.is_about, places))), None)
     if idle is not None:
         raise CannotError(f"no place of the attempt is {idle.places!r}", given.expect, idle.line)
     with Progress("tries places", len(sweep.groups())) as progress:
         found = sweep.outcomes(given.jobs or sweeping.processors(), progress)
+    found = [(place, sweeping.real_outcome(outcome, real)) for place, (_, outcome) in zip(places, found)]
     broken = [[rule for rule in rules if rule.is_about(place) and not rule.holds(outcome)] for place, outcome in found]
     write_out(as_json(sweep, found, broken, durations) if given.json else as_tap(sweep, found, broken, durations))
     return NO if any(broken) else YES
@@ -70,11 +72,11 @@ def run(given):
 
 
 def subject(given):
-    """The machine, and how long each callback takes, by phase and device; None where no trace tells."""
+    """The machine, how long each callback takes, by phase and device, or None, and the real names of a trace's devices."""
     data = read_bytes(given.machine)
     if machines.is_machine(data):
         tree = machines.read_machine(data, given.machine)
-        return tree, durations_of_file(given, tree) if given.trace is not None else no_times(given)
+        return tree, durations_of_file(given, tree) if given.trace is not None else no_times(given), {}
     if given.trace is not None:
         raise CannotError("is no machine file; with a trace in its place there is no --trace", given.machine)
     return of_trace(given)
@@ -100,13 +102,14 @@ def of_trace(given):
     devices, plan, _ = logs.that_fit(listed.devices, listed.plan, {})
     names = logs.log_names(plan)
     tree = logs.machine_of(plan, names) | {"actors": [sweeping.WRITER]}
+    real = {name: device.name for name, device in zip(names, devices)}
     tree["cpus"] = min(recording.processors or 1, 64)
     try:
         measured = measure(recording, attempt)
     except NoTimesError:
-        return tree, None
+        return tree, None, real
     kept = dict(zip(devices, names))
-    return tree, by_name(measured, [kept.get(device) for device in measured.devices])
+    return tree, by_name(measured, [kept.get(device) for device in measured.devices]), real
 
 
 def durations_of_file(given, tree):

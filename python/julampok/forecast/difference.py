@@ -12,6 +12,7 @@ from typing import Iterator, Mapping, NamedTuple
 
 from julampok.kernel.recording import PHASES, Attempt, CallbackBegin, Device, Phase, Recording, SuspendResume
 
+from .forecast import Forecast
 from .measured import TIMED, WAY_DOWN, Listed, Measured, NoTimesError, last_needed, list_devices, measure
 
 STEPS = {*PHASES, "suspend_enter", "sync_filesystems", "freeze_processes", "CPU_OFF", "CPU_ON", "syscore_suspend", "syscore_resume",
@@ -50,6 +51,8 @@ class PhaseTimes:
     phase: Phase
     a: int
     b: int
+    path_a: list[str]  # The devices on its longest path whose callbacks took a millisecond or more.
+    path_b: list[str]
 
 
 @dataclass(slots=True)
@@ -243,11 +246,12 @@ def tell_devices(number: int, a: Side, b: Side, found: Difference) -> None:
 
 def compare_times(number: int, a: Side, b: Side, found: Difference) -> None:
     """Adds how long each phase took, and the callbacks whose length changed, most first."""
-    changed = []
+    changed, forecasts = [], [Forecast(side.measured, side.measured.plan) for side in (a, b)]
     for phase in TIMED:
         if phase not in a.measured.phases or phase not in b.measured.phases:
             continue
-        found.phases.append(PhaseTimes(number, phase, a.measured.phases[phase].total, b.measured.phases[phase].total))
+        paths = [[step.device.name for step in forecast.path(phase) if step.length >= LEAST_TOLD] for forecast in forecasts]
+        found.phases.append(PhaseTimes(number, phase, a.measured.phases[phase].total, b.measured.phases[phase].total, *paths))
         lengths = [lengths_of(side, phase) for side in (a, b)]
         for key, length in lengths[0].items():
             if key in lengths[1] and abs(lengths[1][key] - length) >= LEAST_TOLD:

@@ -119,11 +119,20 @@ def list_devices(recording: Recording, attempt: Attempt) -> Listed:
     callbacks = {phase: callbacks_of(attempt, phase, numbers) for phase in TIMED}
     ran = {number for found in callbacks.values() for number, callback in enumerate(found) if callback is not None}
     flags, is_any_async = asynchronous(attempt, devices, callbacks, ran)
-    plan = make_plan(recording, devices, numbers, flags, ran)
+    slept = bool(attempt.steps("machine_suspend", True))
+    plan = make_plan(recording, devices, numbers, flags, ran | not_reached(callbacks, slept))
     if is_any_async:
         unknown = {number for number, device in enumerate(devices) if device.listed_async is None and number not in ran}
         plan = replace(plan, asynchronous=flags | passed_by(plan, callbacks, unknown))
-    return Listed(attempt, devices, plan, callbacks, bool(attempt.steps("machine_suspend", True)), is_any_async)
+    return Listed(attempt, devices, plan, callbacks, slept, is_any_async)
+
+
+def not_reached(callbacks: dict[Phase, list[CallbackBegin | None]], slept: bool) -> set[int]:
+    """The devices to which a suspend phase that stopped may not have come, so that they may have callbacks."""
+    if slept or any(callback is not None for phase in (Phase.LATE, Phase.NOIRQ) for callback in callbacks[phase]):
+        return set()
+    first = next((number for number, callback in enumerate(callbacks[Phase.SUSPEND]) if callback is not None), len(callbacks[Phase.SUSPEND]))
+    return set(range(first))
 
 
 def callbacks_of(attempt: Attempt, phase: Phase, numbers: dict[Device, int]) -> list[CallbackBegin | None]:
@@ -219,9 +228,9 @@ def last_needed(plan: Plan, callbacks: list[CallbackBegin | None], phase: Phase)
     return found
 
 
-def make_plan(recording: Recording, devices: list[Device], numbers: dict[Device, int], flags: frozenset[int], ran: set[int]) -> Plan:
+def make_plan(recording: Recording, devices: list[Device], numbers: dict[Device, int], flags: frozenset[int], loud: set[int]) -> Plan:
     """The plan of an attempt's devices. A parent that is not in the list is none: nobody waits for it."""
-    silent = frozenset(number for number, device in enumerate(devices) if number not in ran and may_be_left_alone(device))
+    silent = frozenset(number for number, device in enumerate(devices) if number not in loud and may_be_left_alone(device))
     links = dict.fromkeys(PlanLink(numbers[link.supplier], numbers[link.consumer], link.is_dormant) for link in recording.links
                           if link.supplier in numbers and link.consumer in numbers)
     names = tuple(device.name for device in devices)

@@ -24,6 +24,7 @@ class Subject:
     phases: list[set[int]]  # For each phase on the way down the devices that have a callback.
     measured: Measured | None = None
     tree: dict | None = None
+    notes: list[str] = field(default_factory=list)
 
     @classmethod
     def of_recording(cls, listed: Listed, measured: Measured | None) -> Subject:
@@ -33,7 +34,9 @@ class Subject:
     @classmethod
     def of_machine(cls, tree: dict) -> Subject:
         plan, devices = machines.plan_of(tree)
-        return cls(devices, plan, [set(range(len(devices)))], tree=tree)
+        changes = any(step["op"] in ("link", "link_state") for actor in tree.get("actors", []) for step in actor.get("script", []))
+        notes = ["scripts of the machine change links; this is by the links of the file, before any script"] if changes else []
+        return cls(devices, plan, [set(range(len(devices)))], tree=tree, notes=notes)
 
     def shown(self, number: int) -> str:
         """A device with its driver; one without callbacks is told as such."""
@@ -65,7 +68,7 @@ class Told:
 
     @property
     def text(self) -> str:
-        return "".join(f"{line}\n" for line in self.lines)
+        return "".join(f"{line}\n" for line in [*self.lines, *(f"note: {note}" for note in self.json.get("notes", []))])
 
 
 def answer(subject: Subject, first: int, second: int, judge: Callable) -> Told:
@@ -73,7 +76,7 @@ def answer(subject: Subject, first: int, second: int, judge: Callable) -> Told:
     found = always.ask(subject.plan, first, second)
     names = subject.devices[first].name, subject.devices[second].name
     said = {"first": names[0], "second": names[1], "always": found.is_always, "by": found.by and str(found.by)}
-    told = Told(found.is_always, said)
+    told = Told(found.is_always, said | ({"notes": subject.notes} if subject.notes else {}))
     shown = subject.shown(first), subject.shown(second)
     if found.by is always.By.NEEDS:
         take_path(subject, found, told, shown)

@@ -354,3 +354,28 @@ def take_undone(words: Sequence[str], found: Outcome) -> None:
         found.undone_others.append(" ".join(words))
     elif words[0] == "platform" and len(words) == 2 or words == ["irqs", "on"]:
         found.undone_others.append(" ".join(words))
+
+
+# ---- real names
+
+
+def real_words(words: str, real: Mapping[str, str]) -> str:
+    """An entry, or what found an event, with the real name of its device."""
+    parts = words.split(" ")
+    place = 1 if parts[0] in ("prepare", "complete", *TESTED) else 2 if parts[0] in ("schedule", "begin", "end", "skip") else None
+    if place is not None and place < len(parts):
+        parts[place] = real.get(parts[place], parts[place])
+    return " ".join(parts)
+
+
+def real_place(place: Place, real: Mapping[str, str]) -> Place:
+    """A place with the real name of its device."""
+    return replace(place, body=real_words(place.body, real)) if real else place
+
+
+def real_outcome(outcome: Outcome, real: Mapping[str, str]) -> Outcome:
+    """An outcome with the real names of its devices."""
+    if not real:
+        return outcome
+    undone = {phase: [real.get(name, name) for name in names] for phase, names in outcome.undone.items()}
+    return replace(outcome, found_by=real_words(outcome.found_by, real), undone=undone)
