@@ -275,6 +275,26 @@ class Attempts(Case):
         self.assertIsNone(recording.attempt_of(event))
         self.assertEqual([recording.events[attempt.first] for attempt in recording.attempts], [attempt.events[0] for attempt in recording.attempts])
 
+    def test_a_second_task_is_refused(self):
+        """A second task writes a state while the first one's attempt is open; or after it ended before the freeze."""
+        lines = by_hand().splitlines()
+        other = tracefs(("other", 71, 1, ".....", "1.000003", "suspend_resume", "suspend_enter[3] begin"))
+        for place in (5, 7, 8):
+            recording = self.read("\n".join([*lines[:place], other, *lines[place:]]) + "\n")
+            self.assertEqual([(attempt.line, attempt.last_line) for attempt in recording.attempts], [(5, 35)])
+            self.assertEqual([note.line for note in notes(recording) if "EBUSY" in note.text], [place + 1])
+        later = [tracefs(("other", 71, *step[2:])) if step[1] == 70 else tracefs(step) for step in STEPS]
+        recording = self.read("\n".join([*lines[:7], *later]) + "\n")
+        self.assertEqual([(attempt.line, attempt.events[0].pid) for attempt in recording.attempts], [(5, 70), (8, 71)])
+
+    def test_a_buffer_that_was_too_small(self):
+        """The oldest events of one processor are lost, those of the other are not: the first attempt lacks a callback's begin."""
+        text = without(self.twice(), 20)
+        self.refuse(20, "did not begin", text)
+        recording = self.read(text.replace("30/30", "30/90"))
+        self.assertEqual([attempt.line for attempt in recording.attempts], [34])
+        self.assertIn("lacks events", recording.notes[0].text)
+
     def test_hibernation_is_no_suspend(self):
         self.refuse(11, "hibernation", by_hand().replace("dpm_prepare[2]", "dpm_prepare[1]"))
 
@@ -569,6 +589,15 @@ class Messages(Case):
         self.assertEqual(self.read(by_hand()).version_text, "6.1.192")
         self.assertEqual([version_numbers(text) for text in ("6.1.0-30-amd64", "6.12-rc3", "v5.15.7", "next")], [(6, 1, 0), (6, 12), (5, 15, 7), None])
         self.refuse(None, "no version of a kernel", by_hand(), kernel="new")
+
+    def test_dates(self):
+        """The time of day of the entry, in the layouts that have one; else the day of boot."""
+        ends = "{0}PM: suspend entry (deep)\n{0}PM: suspend exit\n"
+        for head, date in (("[Tue Dec  1 10:20:30 2026] ", "Tue Dec  1 10:20:30 2026"), ("2026-12-01T10:20:30,123456+00:00 ", "2026-12-01T10:20:30,123456+00:00"),
+                           ("2026-12-01T10:20:30+01:00 box kernel: ", "2026-12-01T10:20:30+01:00"), ("[  12.0] ", None)):
+            self.assertEqual(self.read(by_hand(), dmesg=ends.format(head)).date, date)
+        boot = "[    1.0] rtc_cmos 00:04: setting system clock to 2026-12-01T10:00:00 UTC (1796119200)\n"
+        self.assertEqual(self.read(by_hand(), dmesg=boot + ends.format("[  12.0] ")).date, "booted 2026-12-01T10:00:00")
 
     def test_no_messages(self):
         recording = self.read(by_hand(), dmesg="[    1.0] hello\n")

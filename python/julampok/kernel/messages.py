@@ -12,8 +12,8 @@ from .recording import Attempt, Fact, Message, Note, Phase, Told
 # What stands before a message: level, facility, time, caller, or the host and `kernel:` of a journal.
 KMSG = re.compile(r"\d+,\d+,(?P<micros>\d+),[^;]*;(?P<text>.*)")
 PREFIX = re.compile(
-    r"(?:<\d+>)?(?:\w+ *:\w+ *: *)?(?:\[ *(?P<time>\d+\.\d+)\]|\[[A-Z][a-z]{2} [A-Z][a-z]{2} [ \d]\d [\d:]+ \d{4}\]|\d{4}-\d\d-\d\dT\S+"
-    r"|[A-Z][a-z]{2} [ \d]\d [\d:.]+)?(?: *\[ *[TC]\d+\])?:? ?(?:\S+ kernel: (?:\[ *(?P<inner>\d+\.\d+)\] )?)? *(?P<text>.*)")
+    r"(?:<\d+>)?(?:\w+ *:\w+ *: *)?(?:\[ *(?P<time>\d+\.\d+)\]|\[(?P<date>[A-Z][a-z]{2} [A-Z][a-z]{2} [ \d]\d [\d:]+ \d{4})\]"
+    r"|(?P<day>\d{4}-\d\d-\d\dT\S+)|[A-Z][a-z]{2} [ \d]\d [\d:.]+)?(?: *\[ *[TC]\d+\])?:? ?(?:\S+ kernel: (?:\[ *(?P<inner>\d+\.\d+)\] )?)? *(?P<text>.*)")
 DEVICE = r"(?P<words>.+?): (?:PM: )?"
 PHASES = {
     ("", "suspend"): Phase.SUSPEND, ("late ", "suspend"): Phase.LATE, ("noirq ", "suspend"): Phase.NOIRQ,
@@ -58,6 +58,7 @@ FACTS = [(fact, re.compile(pattern)) for fact, pattern in (
 HINT = re.compile(r"suspend|PM: |Freezing|task:|prepared|CPU|resume|Linux version")
 ONE_LINE_FREEZE = {Fact.FREEZE_USER_DONE: Fact.FREEZE_USER, Fact.FREEZE_KERNEL_DONE: Fact.FREEZE_KERNEL}
 DMI = re.compile(r"DMI: (.+?)(?:, BIOS .*)?")
+CLOCK_SET = re.compile(r".*setting system clock to (\d{4}-\d\d-\d\d[T ]\S+)")
 DEBIAN_VERSION = re.compile(r"Linux version .* Debian (\d+\.\d+\.\d+)")
 # What the messages of an attempt must have for it to have got further than the freeze.
 DEVICES = (Fact.PHASE_COMPLETE, Fact.PHASE_FAILED, Fact.DEVICE_FAILED, Fact.CPU_OFFLINE, Fact.SUSPEND_FAILED)
@@ -173,6 +174,15 @@ def machine_of(messages: list[Message]) -> str | None:
     """The machine's maker and product, where the messages have the line `DMI:`."""
     found = (DMI.fullmatch(message.text) for message in messages)
     return next((one[1] for one in found if one is not None), None)
+
+
+def date_of(messages: list[Message], lines: list[str]) -> str | None:
+    """When the attempts were made: the time of day of the first one's entry, else the day of boot; None where neither is told."""
+    entry = next((message for message in messages if message.fact == Fact.ENTRY), None)
+    if entry is not None and (found := PREFIX.fullmatch(lines[entry.line - 1])) and (found["date"] or found["day"]):
+        return found["date"] or found["day"].rstrip(":")
+    clock = (CLOCK_SET.match(message.text) for message in messages)
+    return next((f"booted {found[1]}" for found in clock if found is not None), None)
 
 
 def version_of(messages: list[Message]) -> tuple[str, int] | None:

@@ -64,14 +64,21 @@ def read_and_join(trace, sys=None, devices=None, links=None, dmesg=None, kernel=
     if links is not None:
         take_links(recording, joiner, links)
     if dmesg is not None:
-        recording.dmesg_file, recording.messages = dmesg, messages.read_messages(dmesg, read_bytes(dmesg))
-        recording.notes += messages.join(dmesg, recording.attempts, recording.messages)
+        take_messages(recording, dmesg)
     recording.machine = lines.head.machine or messages.machine_of(recording.messages) or (machine and machine.maker)
-    recording.date = lines.head.date
+    recording.date = lines.head.date or recording.date
     settle_version(recording, lines, kernel)
     settle_processors(recording, lines, machine, sys)
     note_end(recording)
     return recording, joiner
+
+
+def take_messages(recording: Recording, file: str) -> None:
+    """Takes dmesg: what it tells of the attempts, and when they were made."""
+    data = read_bytes(file)
+    recording.dmesg_file, recording.messages = file, messages.read_messages(file, data)
+    recording.notes += messages.join(file, recording.attempts, recording.messages)
+    recording.date = messages.date_of(recording.messages, data.decode("utf-8", "replace").split("\n"))
 
 
 def note_end(recording: Recording) -> None:

@@ -64,10 +64,27 @@ class Lines:
     def take_lines(self, lines: list[str]) -> None:
         """Takes the lines of the file. Raises CannotError where one is no line of a trace and stands in an attempt.
 
-        What stands before a time comes again and again, so it is read once; and a line is split where it is a plain one.
+        Where the buffer has lost its oldest events, those of one processor may reach back further than those of another. So
+        an attempt that lacks some there, before the first whole one, is left out.
         """
+        begin = 1
+        while begin <= len(lines):
+            try:
+                self.take_from(lines, begin)
+                return
+            except CannotError as error:
+                if self.head.overwritten_line is None or self.attempts or self.open_attempt is None:
+                    raise
+                first = self.open_attempt[0].line
+                self.notes.append(Note(f"the attempt that begins in line {first} lacks events, as the buffer lost its oldest ones: left out", self.file, error.line))
+                self.strays.append(error.line)
+                self.open_attempt, begin = None, error.line + 1
+                self.reset()
+
+    def take_from(self, lines: list[str], begin: int) -> None:
+        """Takes the lines from one on. What stands before a time comes again and again, so it is read once."""
         heads, takers = self.heads, self.takers
-        for line, text in enumerate(lines, 1):
+        for line, text in enumerate(itertools.islice(lines, begin - 1, None), begin):
             parts = text.split(": ", 2)
             if len(parts) == 3:
                 head, event, said = parts
@@ -152,6 +169,9 @@ class Lines:
             raise self.fault(line, f"no step of an attempt: {said.strip()[:80]!r}")
         event = SuspendResume(line, *who, time, stamp, found[1], int(found[2]), found[3] == "begin")
         if event.is_begin and self.is_opening(event):
+            if self.is_refused(event):
+                self.notes.append(Note(f"{event.task}-{event.pid} wrote a state while an attempt was open, which the kernel refuses (EBUSY)", self.file, line))
+                return
             self.close(line)
             self.open_attempt = []
         if self.open_attempt is None:
@@ -179,6 +199,18 @@ class Lines:
             return True
         done = {step.action for step in self.open_attempt if isinstance(step, SuspendResume)}
         return bool(done.intersection(firsts[firsts.index(event.action):]))
+
+    def is_refused(self, event: SuspendResume) -> bool:
+        """Whether a `suspend_enter` is that of a second task, while the attempt of another one goes on."""
+        if self.open_attempt is None or self.open_attempt[0].pid == event.pid:
+            return False
+        if self.unfinished() is not None:
+            return True
+        for text in itertools.islice(self.lines, event.line, None):
+            found = PLAIN.fullmatch(text) or LATENCY.fullmatch(text)
+            if found is not None and found[6] == "suspend_resume":
+                return int(found[2]) == self.open_attempt[0].pid
+        return False
 
     def take_phase(self, event: SuspendResume) -> None:
         """Takes the begin or end of a phase of devices."""
