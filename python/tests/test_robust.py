@@ -26,7 +26,7 @@ ROWS = [
     ("trace", "machine", "--trace", BAD), ("sys", "machine", BAD), ("trace", "replay", BAD), ("sys", "replay", TRACE, BAD),
     ("trace", "times", BAD), ("trace", "diff", TRACE, BAD), ("trace", "report", BAD), ("trace", "order", BAD, "d6", "d5"),
     ("machine", "sweep", BAD),
-    *[(option, command, TRACE, f"--{option}", BAD) for option in ("devices", "links", "dmesg") for command in ("replay", "times")],
+    *[(option, command, TRACE, f"--{option}", BAD) for option in ("devices", "links", "dmesg") for command in ("replay", "times", "report")],
 ]
 
 
