@@ -70,11 +70,19 @@ def rows(name, found):
     return [(name, str(one.number), f"{one.line} to {one.last_line}", one.answer or "not told", said(one)) for one in found.attempts]
 
 
+def table():
+    """The text of the table, and where it begins and ends in the page."""
+    text = REAL.read_text()
+    begin = text.index("| recording | what was recorded |")
+    end = text.index("\n\n", begin)
+    return text[begin:end], begin, end
+
+
 def page_rows():
     """The rows that the page has, without what was recorded."""
-    table = re.findall(r"^\| (`[\w-]+`|) \| [^|]* \| (\d*) \| ([\d to]*) \| ([^|]*) \| (.*) \|$", REAL.read_text(), re.M)
+    table_rows = re.findall(r"^\| (`[\w-]+`|) \| [^|]* \| (\d*) \| ([\d to]*) \| ([^|]*) \| (.*) \|$", table()[0], re.M)
     found, name = [], ""
-    for first, *rest in table:
+    for first, *rest in table_rows:
         name = first.strip("`") or name
         found.append((name, *(cell.strip() for cell in rest)))
     return found
@@ -172,20 +180,30 @@ class Samples(unittest.TestCase):
 def write_page():
     """Writes the table of REAL.md anew, with what was recorded as it stands there."""
     text = REAL.read_text()
-    what = dict(re.findall(r"^\| `([\w-]+)` \| ([^|]*) \|", text, re.M))
+    own, begin, end = table()
+    what = dict(re.findall(r"^\| `([\w-]+)` \| ([^|]*) \|", own, re.M))
     Recordings.setUpClass()
     lines = []
     for name in KNOWN:
         for place, row in enumerate(rows(name, Recordings.found[name])):
             head = (f"`{name}`", what.get(name, "")) if place == 0 else ("", "")
             lines.append(f"| {' | '.join((*head, *row[1:]))} |")
-    begin = text.index("| recording |")
-    end = text.index("\n\n", begin)
     REAL.write_text(text[:begin] + "| recording | what was recorded | attempt | lines | answer | what `replay` says |\n|---|---|---|---|---|---|\n" + "\n".join(lines) + text[end:])
+
+
+def write_samples():
+    """Writes anew what replay says of the samples in EXAMPLES.md."""
+    page = ROOT / "docs" / "EXAMPLES.md"
+    text = page.read_text()
+    for words, told in Samples.TOLD:
+        with inside(EXAMPLES / "real"):
+            text = text.replace(told, julampok(*words.split()).out)
+    page.write_text(text)
 
 
 if __name__ == "__main__":
     if sys.argv[1:] == ["--write"]:
         write_page()
+        write_samples()
     else:
         unittest.main()
