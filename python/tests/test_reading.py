@@ -603,6 +603,8 @@ class Messages(Case):
         recording = self.read(by_hand(), dmesg="[    1.0] hello\n")
         self.assertIn("no message of an attempt", notes(recording)[0].text)
         self.refuse(None, "is empty", by_hand(), dmesg="\n")
+        self.refuse(2, "no messages of the kernel: '{'", by_hand(), dmesg='\n{\n  "version": 1\n}\n')
+        self.refuse(1, "no messages of the kernel: '# A page'", by_hand(), dmesg="# A page\n\nof something else.\n")
         self.refuse(1, "binary", by_hand(), dmesg=b"\0\0")
 
 

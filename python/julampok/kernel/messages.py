@@ -109,7 +109,10 @@ def read_messages(file: str, data: bytes) -> list[Message]:
     if not data.strip():
         raise CannotError("is empty", file)
     lines = data.decode("utf-8", "replace").split("\n")
-    return [message for line, text in enumerate(lines, 1) if text for message in messages_of(line, text.rstrip("\r"))]
+    found = [message for line, text in enumerate(lines, 1) if text.strip() for message in messages_of(line, text.rstrip("\r"))]
+    if not any(message.fact is not None or message.text != lines[message.line - 1].strip() for message in found):
+        raise CannotError(f"no messages of the kernel: {found[0].text[:80]!r}", file, found[0].line)
+    return found
 
 
 def cut(file: str, messages: list[Message]) -> list[Told]:
