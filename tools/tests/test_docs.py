@@ -20,8 +20,11 @@ class Pages(unittest.TestCase):
             self.assertEqual(path.read_text(), text, f"{path.name} is old: `tools/dev docs` writes it")
 
     def test_the_command(self):
-        done = dev("docs", "--check")
-        self.assertEqual((done.status, done.out, done.err), (0, "", ""))
+        with unittest.mock.patch("maintain.commands.docs.pages", lambda: [(ROOT / "docs" / "DEFINITIONS.md", "another text\n")]):
+            with unittest.mock.patch("maintain.commands.docs.all_broken", lambda: ["docs/X.md:3: no file y.rt"]):
+                done = dev("docs", "--check")
+        said = "docs/DEFINITIONS.md: is old; `tools/dev docs` writes it\ndocs/X.md:3: no file y.rt\n"
+        self.assertEqual((done.status, done.out, done.err), (1, said, ""))
 
 
 class Broken(unittest.TestCase):

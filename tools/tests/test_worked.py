@@ -1,5 +1,6 @@
 """Tests of `tools/dev worked`: the crates have the worked logs as the command writes them."""
 
+import functools
 import pathlib
 import tempfile
 import unittest
@@ -7,10 +8,15 @@ import unittest.mock
 
 from dev_tests import ROOT, WORKED, dev
 from maintain.commands import worked
-from maintain.worked.files import all_files
+from maintain.worked.entries import entry_term
+from maintain.worked import files
+from maintain.worked.machine import Machine
 from maintain.worked.proofs import cuts
 from maintain.worked.table import LOGS, MODULES, TEXTS
-from maintain.worked.terms import Machine, entry_term, whole
+from maintain.worked.terms import whole
+
+
+all_files = functools.cache(files.all_files)
 
 
 class Files(unittest.TestCase):
@@ -36,9 +42,9 @@ class Command(unittest.TestCase):
         self.addCleanup(folder.cleanup)
         self.crates = pathlib.Path(folder.name, "crates")
         self.crates.mkdir()
-        patch = unittest.mock.patch.object(worked, "CRATES", self.crates)
-        patch.start()
-        self.addCleanup(patch.stop)
+        for patch in (unittest.mock.patch.object(worked, "CRATES", self.crates), unittest.mock.patch.object(worked, "all_files", all_files)):
+            patch.start()
+            self.addCleanup(patch.stop)
 
     def test_writing_and_checking(self):
         done = dev("worked", "--check")

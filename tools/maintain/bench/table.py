@@ -231,6 +231,7 @@ def workers_row(name, make, most):
     data = lambda clock: clock.file(make)
 
     def differing(clock):
+        """How many logs by four workers are another than the one by one worker."""
         logs = [clock.output(many, clock.file(make)) for _ in range(LOGS)]
         return f"{sum(log != clock.log(make) for log in logs)} of {LOGS} logs differ"
 

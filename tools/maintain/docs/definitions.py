@@ -45,6 +45,11 @@ def definitions(path):
         comment = (f"{comment} {said[3:]}" if comment else said[3:]) if is_comment else None
 
 
+def module_file(crate, module):
+    """The file of a module of definitions."""
+    return CRATES / crate / "specs" / f"{module}.antt"
+
+
 def each_of(rows):
     """The definitions of such rows, each as its crate, its module and its name."""
     return [(crate, module, name) for crate, module, names in rows for name in names]
@@ -58,11 +63,8 @@ def unlisted():
 
 def section(crate, title, kernel, modules, shown):
     """The lines of a section; of its definitions it has those that are shown, all where that is None."""
-    rows = []
-    for module in modules:
-        for name, comment in definitions(CRATES / crate / "specs" / f"{module}.antt"):
-            if shown is None or (crate, module, name) in shown:
-                rows.append((name, comment))
+    found = [(module, *row) for module in modules for row in definitions(module_file(crate, module))]
+    rows = [(name, comment) for module, name, comment in found if shown is None or (crate, module, name) in shown]
     names = ", ".join(f"`{module}`" for module in modules)
     wide = kernel != "own" and any(CITED.search(comment) for _, comment in rows)
     yield f"\n## {title}\n"
@@ -78,13 +80,13 @@ def reading():
     yield "\n| question | definition | what it says | Linux 6.1 |"
     yield "|---|---|---|---|"
     for question, answers in READING:
-        for crate, module, names in answers:
-            said = dict(definitions(CRATES / crate / "specs" / f"{module}.antt"))
-            for name in names:
-                if name not in said:
-                    raise CannotError(f"no {name}", f"crates/{crate}/specs/{module}.antt")
-                yield f"| {question} | `{name}` (`{crate}`, `{module}`) | {sentence(said[name])} | {kernel_of(said[name])} |"
-                question = ""
+        asked = [question]
+        for crate, module, name in each_of(answers):
+            said = dict(definitions(module_file(crate, module))).get(name)
+            if said is None:
+                raise CannotError(f"no {name}", module_file(crate, module))
+            shown = asked.pop() if asked else ""
+            yield f"| {shown} | `{name}` (`{crate}`, `{module}`) | {sentence(said)} | {kernel_of(said)} |"
 
 
 def page(lines, sections, shown):
@@ -96,7 +98,7 @@ def page(lines, sections, shown):
 def pages():
     """The pages, each with its file."""
     for crate, module, name in unlisted():
-        raise CannotError(f"{name} is on no page", f"crates/{crate}/specs/{module}.antt")
+        raise CannotError(f"{name} is on no page", module_file(crate, module))
     trusted = [(crate, module, names) for _, answers in READING for crate, module, names in answers]
     shown = reached(each_of([*PROGRAM, *PROMISED, *trusted]))
     yield DOCS / "DEFINITIONS.md", page([HEAD.rstrip("\n"), *reading()], SECTIONS, shown)

@@ -185,9 +185,8 @@ def misplaced():
 def broken(page):
     """What is not there of a page, each with its place."""
     for number, line in enumerate(page.read_text().split("\n"), 1):
-        for find in (broken_links, broken_names, broken_places, broken_commands):
-            for what in find(page, line):
-                yield f"{page.relative_to(TOP)}:{number}: {what}"
+        found = (what for find in (broken_links, broken_names, broken_places, broken_commands) for what in find(page, line))
+        yield from (f"{page.relative_to(TOP)}:{number}: {what}" for what in found)
 
 
 def all_broken():

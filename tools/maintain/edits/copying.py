@@ -82,13 +82,8 @@ def without_out(crates):
     return lambda folder, names: ["out"] if pathlib.Path(folder).parent == crates else []
 
 
-def copy_of(checkout, room, names, below, added=()):
-    """Copies the checkout's crates to a new folder in room, and returns it.
-
-    names: the crates whose wrong bodies have their names back there, and get those added (paths of files).
-    below: the crates of which it takes over what rt kept, so that rt need not prove them again.
-    """
-    copy = pathlib.Path(room) / "copy"
+def copy_files(checkout, copy):
+    """Copies what rt reads of a checkout, without what it keeps."""
     try:
         shutil.copytree(checkout / "crates", copy / "crates", symlinks=True, ignore=without_out(checkout / "crates"))
         for name in BESIDE:
@@ -96,6 +91,16 @@ def copy_of(checkout, room, names, below, added=()):
                 shutil.copyfile(checkout / name, copy / name)
     except (OSError, shutil.Error) as error:
         raise CannotError(f"{checkout} cannot be copied to {copy}: {error}") from None
+
+
+def copy_of(checkout, room, names, below, added=()):
+    """Copies the checkout's crates to a new folder in room, and returns it.
+
+    names: the crates whose wrong bodies have their names back there, and get those added (paths of files).
+    below: the crates of which it takes over what rt kept, so that rt need not prove them again.
+    """
+    copy = pathlib.Path(room) / "copy"
+    copy_files(checkout, copy)
     for name in names:
         give_names_back(copy / "crates" / name)
         add_bodies(copy / "crates" / name, added)

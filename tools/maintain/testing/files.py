@@ -14,7 +14,7 @@ from maintain.testing.results import Results
 
 FOLDERS = (TOP / "python" / "tests", TOP / "tools" / "tests")
 IN_A_BROWSER = TOP / "tools" / "tests" / "browser_pages.py"
-LONGEST = 300  # Seconds that the tests of a file may take.
+LONGEST = 900  # Seconds that the tests of a file may take, also where the computer does other things.
 
 
 @dataclass(frozen=True)

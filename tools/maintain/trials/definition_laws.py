@@ -15,9 +15,11 @@ from julampok.second.maker import Maker
 from julampok.second.merged import Interleaved
 from julampok.second.run import Run
 from maintain.trials import clones
-from maintain.worked import modules, terms
+from maintain.worked import modules
+from maintain.worked.entries import entry_term
 from maintain.worked.laws import ghost_uses
 from maintain.worked.logs import Worked
+from maintain.worked.terms import listed
 
 LEAST, MOST = 12, 100  # How many entries a log has.
 A_MODULE = 25  # Logs in a module of specs/.
@@ -37,23 +39,31 @@ def most_attempts(tree):
     return sum(times for op, times in made if op == "state") + cycles
 
 
+def places_of_step(step, source):
+    """How many places of a source's history a step needs each time that it is made."""
+    return (call_places(step) if step.get("source") == source else 0) + 4 * (step["op"] == source == "autosleep")
+
+
+def places_of_scripts(tree, source):
+    """How many places of a source's history the scripts may need."""
+    steps = [(step, step.get("times", 1) * actor.get("repeat", 1)) for actor in tree["actors"] for step in actor["script"]]
+    return sum(times * places_of_step(step, source) for step, times in steps)
+
+
+def places_of_answers(tree, source):
+    """How many places of a source's history the reports of callbacks may need: of an attempt's own answer, else of the general one."""
+    answers, total = tree.get("answers", []), 0
+    things = [(a["what"], a["name"], a.get("phase"), a.get("attempt")) for a in answers]
+    needed = [sum(call_places(report) for report in a.get("reports", []) if report["source"] == source) for a in answers]
+    for number in range(1, most_attempts(tree) + 1):
+        own = [(*thing[:3], number) for thing in things]
+        total += sum(places for places, thing, one in zip(needed, things, own) if thing == one or (thing[3] is None and one not in things))
+    return total
+
+
 def places_of(tree, source):
     """How many places a source's history may need."""
-    total = 0
-    for actor in tree["actors"]:
-        for step in actor["script"]:
-            times = step.get("times", 1) * actor.get("repeat", 1)
-            if step.get("source") == source:
-                total += times * call_places(step)
-            if step["op"] == "autosleep" and source == "autosleep":
-                total += times * 4
-    things = [(a["what"], a["name"], a.get("phase"), a.get("attempt")) for a in tree.get("answers", [])]
-    for number in range(1, most_attempts(tree) + 1):
-        for answer, thing in zip(tree.get("answers", []), things):
-            own = (*thing[:3], number)
-            if thing == own or (thing[3] is None and own not in things):
-                total += sum(call_places(r) for r in answer.get("reports", []) if r["source"] == source)
-    return total
+    return places_of_scripts(tree, source) + places_of_answers(tree, source)
 
 
 @dataclass(frozen=True)
@@ -102,7 +112,7 @@ pub fn {log.name}_is_made()
 
 def stamped(log):
     """The entries of a merged log as they were made, with their ticks."""
-    items = [f"ticked {event[2]} ({terms.entry_term(log.machine, event[-1])})" for event in log.events] + ["[]"]
+    items = [f"ticked {event[2]} ({entry_term(log.machine, event[-1])})" for event in log.events] + ["[]"]
     listed = "\n    ∷ ".join(items)
     name = f"{log.name}_stamped"
     return f"-- its entries as they were made\nabbrev pub {name} : List JournalEntry\n{name} =\n    {listed}\n"
@@ -112,7 +122,7 @@ def law(log):
     """What the definitions have to make of a machine."""
     machine, end = f"{log.name}_machine", "IsStuckLog" if log.stuck else "IsFinishedLog"
     m = log.machine
-    places = terms.listed([str(places_of(m.tree, source)) for source in m.sources])
+    places = listed([str(places_of(m.tree, source)) for source in m.sources])
     return f"""
 pub fn {log.name}_is_made()
     ensures made {{ one_worker {machine} {len(log.lines) + 1} ≡ {log.name}_entries }}

@@ -2,21 +2,20 @@
 
 import copy
 import json
+import pathlib
 
 from julampok.second.rules import OPERATIONS, first_broken
 
-SEEDS = [
-    json.loads(file)
-    for file in (
-        '{"version":1,"devices":[{"name":"a"},{"name":"b","parent":"a"},{"name":"c"}],"links":[{"supplier":"c","consumer":"b"},{"supplier":"a","consumer":"c"}],"syscore":["t","u"],"notifiers":[{"name":"n"},{"name":"m","priority":3}],"sources":["s","r"]}',
-        '{"version":1,"devices":[{"name":"a"},{"name":"b"}],"sources":["s"],"actors":[{"name":"w","kind":"user","script":[{"op":"read"},{"op":"save","count":1},{"op":"state","text":"mem","times":1000},{"op":"autosleep","text":"x"},{"op":"runtime","device":"a","to":"suspended"}]},{"name":"k","kind":"irq","repeat":9,"script":[{"op":"sleep","ms":5},{"op":"awake","source":"s"},{"op":"post","mark":"x"},{"op":"event","source":"s","ms":7}]}]}',
-        '{"version":1,"devices":[{"name":"a"}],"syscore":["t"],"notifiers":[{"name":"n"}],"sources":["s"],"answers":[{"what":"device","name":"a","phase":"late","reports":[{"call":"awake","source":"s"}]},{"what":"device","name":"a","phase":"prepare","ret":1},{"what":"syscore","name":"t","ret":"EIO","attempt":2},{"what":"notifier","name":"n","ret":"EAGAIN"},{"what":"platform","name":"begin","ret":"EBUSY"}]}',
-        '{"version":2,"devices":[{"name":"a"},{"name":"b","parent":"a"},{"name":"c"}],"links":[{"supplier":"c","consumer":"b","state":"dormant"},{"supplier":"a","consumer":"c","state":"active"}],"actors":[{"name":"w","kind":"user","script":[{"op":"link","supplier":"c","consumer":"a","times":1000},{"op":"link_state","supplier":"a","consumer":"c","to":"dormant"}]},{"name":"k","kind":"kthread","repeat":2,"script":[{"op":"link_state","supplier":"c","consumer":"b","to":"active"}]}]}',
-    )
-]
-VALUES = [0, 1, 2, 3, -1, 17, 64, 1000, 1001, 2001, 20_000, 86_400_001, 4_294_967_296, True, False, None, "", "A", "a", "b", "c", "s", "t", "n", [], {}]
-VALUES += ["user", "irq", "kthread", "late", "prepare", "suspended", "EIO", "EAGAIN", "EINTR", "mem", "autosleep", "device", "platform", "active", "dormant", *OPERATIONS]
-NAMES = "version name parent async runtime supplier consumer state to priority kind repeat script phase attempt ret reports call source ms hard op times count text mark fly".split()
+SEEDS = [json.loads(path.read_text()) for path in sorted((pathlib.Path(__file__).parent / "seeds").glob("*.json"))]
+NUMBERS = [0, 1, 2, 3, -1, 17, 64, 1000, 1001, 2001, 20_000, 86_400_001, 4_294_967_296]
+WORDS = (
+    "A a b c s t n user irq kthread late prepare suspended EIO EAGAIN EINTR mem autosleep device platform active dormant"
+).split()
+VALUES = [*NUMBERS, True, False, None, "", [], {}, *WORDS, *OPERATIONS]
+MEMBERS = (
+    "version name parent async runtime supplier consumer state to priority kind repeat script phase attempt ret reports call "
+    "source ms hard op times count text mark fly"
+).split()
 
 
 def parts_of(value):
@@ -36,7 +35,7 @@ def change(file, draw):
     if way == 0 and keys:
         del part[draw.choice(keys)]
     elif way == 1 and isinstance(part, dict):
-        part[draw.choice(NAMES)] = value
+        part[draw.choice(MEMBERS)] = value
     elif way == 1 and keys:
         part.insert(draw.randrange(len(part) + 1), copy.deepcopy(draw.choice(part)))
     elif way == 2 and keys and isinstance(part, list):

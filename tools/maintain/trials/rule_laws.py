@@ -15,7 +15,9 @@ from julampok.second.place import Entry
 from julampok.second.run import Run
 from julampok.second.trial import first_broken
 from maintain.trials import clones
-from maintain.worked import modules, terms
+from maintain.worked import modules
+from maintain.worked.entries import entry_term
+from maintain.worked.machine import Machine
 
 LEAST, MOST = 8, 70  # How many entries a log has.
 A_MODULE = 25  # Logs in a module of specs/.
@@ -35,12 +37,12 @@ class Judged:
 
     def __init__(self, name, tree, lines, rules):
         self.name, self.lines, self.rules = name, lines, rules
-        self.machine = terms.Machine(tree)
+        self.machine = Machine(tree)
 
     def pieces(self):
         """The definitions of the machine and of the entries."""
         yield f"-- a random machine\nabbrev pub {self.name}_machine : Machine\n{self.name}_machine = {self.machine.term()}\n"
-        items = [terms.entry_term(self.machine, line) for line in self.lines]
+        items = [entry_term(self.machine, line) for line in self.lines]
         yield modules.list_text(f"{self.name}_entries", "its entries up to one that is judged", items)
 
     def law(self):

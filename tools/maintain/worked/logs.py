@@ -5,7 +5,9 @@ import json
 from julampok.errors import CannotError
 from julampok.files import reason
 from maintain.places import WORKED
-from maintain.worked.terms import Machine, entry_term, inner, stats_term, waiting_term
+from maintain.worked.entries import entry_term, stats_term, waiting_term
+from maintain.worked.machine import Machine
+from maintain.worked.terms import inner
 
 
 def text_of(path):
