@@ -17,7 +17,7 @@ from julampok import cli
 
 BAD = "BAD"
 MACHINE, LOG, TRACE = WORKED / "parent_and_child.json", WORKED / "parent_and_child.log", ROOT / "python" / "tests" / "samples" / "s3.trace"
-KINDS = ("machine", "log", "trace", "links", "devices", "dmesg", "sys", "page")
+KINDS = ("machine", "log", "trace", "links", "devices", "dmesg", "sys", "page", "subject", "rules")
 # The words of each command, with what kind of file is bad there.
 ROWS = [
     ("machine", "run", BAD), ("machine", "check", BAD, LOG), ("log", "check", MACHINE, BAD),
@@ -25,7 +25,7 @@ ROWS = [
     ("log", "dmesg", BAD), ("machine", "why", BAD), ("machine", "why", "machine: rule 9: devices[1]", BAD), ("log", "why", MACHINE, BAD),
     ("trace", "machine", "--trace", BAD), ("sys", "machine", BAD), ("trace", "replay", BAD), ("sys", "replay", TRACE, BAD),
     ("trace", "times", BAD), ("trace", "diff", TRACE, BAD), ("trace", "report", BAD), ("trace", "order", BAD, "d6", "d5"),
-    ("machine", "sweep", BAD),
+    ("subject", "sweep", BAD), ("trace", "sweep", MACHINE, "--trace", BAD), ("rules", "sweep", MACHINE, "--expect", BAD), ("trace", "diff", BAD, TRACE),
     *[(option, command, TRACE, f"--{option}", BAD) for option in ("devices", "links", "dmesg") for command in ("replay", "times", "report")],
 ]
 
@@ -56,6 +56,7 @@ def given_files(folder):
 RIGHT = {
     "machine": {"a machine"}, "log": {"a log"}, "trace": {"a trace", "cut trace"}, "sys": set(), "devices": {"empty", "newlines", "gzip of nothing"},
     "links": {"empty", "newlines", "gzip of nothing", "json list"}, "dmesg": set(),
+    "subject": {"a machine", "a trace", "cut trace"}, "rules": set(),
 }
 ANY_TEXT = {"dmesg"}
 

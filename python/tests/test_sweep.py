@@ -137,6 +137,11 @@ class Expected(unittest.TestCase):
         self.assertRegex(done.out, r"\ATAP version 13\n1\.\.\d+\nok 1 - ")
         self.assertNotIn("not ok", done.out)
 
+    def test_example(self):
+        folder = EXAMPLES / "order"
+        done = julampok("sweep", folder / "laptop.json", "--jobs", "1", "--expect", folder / "laptop.rules")
+        self.assertEqual((done.status, done.err), (0, ""))
+
     def test_real_names(self):
         """A device of a trace is shown by its real name, which machine files cannot spell."""
         found = inputs("irq-suspend")

@@ -18,7 +18,7 @@ from ..forecast.telling import ms, shown, signed, table
 from ..kernel.reading import read_inputs
 
 HELP = "compares two traces: where their ways part, and what became slower"
-EXAMPLE = "julampok diff before.trace after.trace --by 20"
+EXAMPLE = "julampok diff examples/real/whatif-gpu-sync.trace examples/real/whatif-gpu-async.trace"
 UNTESTED = 125  # What 'git bisect run' skips.
 MOST_TOLD = 10  # The most callbacks and partings that are shown as text.
 

@@ -21,7 +21,7 @@ from ..kernel.reading import add_input_arguments, read_recording
 from ..program import add_program, chosen
 
 HELP = "says whether a device is always down before another, and why"
-EXAMPLE = "julampok order suspend.trace --links suspend.links disk ctl"
+EXAMPLE = "julampok order examples/real/order.trace --links examples/real/order.links disk ctl"
 
 
 def add_arguments(parser):

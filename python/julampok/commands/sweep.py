@@ -24,7 +24,7 @@ from ..limits import LONGEST_MS
 from ..progress import Progress
 
 HELP = "tries an event at each place of an attempt: which test finds it"
-EXAMPLE = "julampok sweep examples/order/laptop.json --expect lab.rules"
+EXAMPLE = "julampok sweep examples/order/laptop.json --expect examples/order/laptop.rules"
 
 
 def number(least, most):

@@ -21,7 +21,7 @@ from ..forecast.measured import NoTimesError, choose_attempt, measure
 from ..kernel.reading import add_input_arguments, read_recording
 
 HELP = "shows what was slow in a kernel's trace, and what a change would save"
-EXAMPLE = "julampok times suspend.trace --devices suspend.devices --async gpu --best 3"
+EXAMPLE = "julampok times examples/real/whatif-gpu-sync.trace --devices examples/real/whatif-gpu-sync.devices --async gpu --best 3"
 
 
 def count(text):
