@@ -106,7 +106,8 @@ class Words(unittest.TestCase):
     def test_wrong_by(self):
         for by in ("-1", "x", "nan", "inf"):
             with self.subTest(by):
-                self.assertEqual(julampok("diff", file_of("order", "trace"), file_of("order", "trace"), "--by", by).status, 2)
+                words = ("diff", file_of("order", "trace"), file_of("order", "trace"), f"--by={by}")
+                self.assertEqual([julampok(*words, *more).status for more in ((), ("--bisect",))], [2, 125])
 
 
 if __name__ == "__main__":

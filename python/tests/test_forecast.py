@@ -13,6 +13,7 @@ from recordings import file_of, names, words
 from julampok.forecast import logs
 from julampok.forecast.forecast import Forecast, best, total
 from julampok.forecast.measured import TIMED, NoTimesError, choose_attempt, measure
+from julampok.forecast.plan import PlanLink, order_after
 from julampok.kernel.reading import read_inputs
 from julampok.second.follow import Follower
 
@@ -84,6 +85,21 @@ class Kernel(unittest.TestCase):
                     with self.subTest(way, recording=f"{kind}-{one}"):
                         said = times(f"whatif-gpu-{kind}-{one}", word, "gpu")[way]
                         self.assertLessEqual(abs(said["forecast_ms"] - said["rules_ms"] - sign * change), WITHIN_MEDIANS)
+
+    def test_two_passes_are_not_what_this_kernel_did(self):
+        """The recording is of 6.1.192, which gives devices out as the walk comes to them; before 6.1.76 all came first."""
+        off = {version: {phase["phase"] for phase in times("slow-async-one", "--kernel", version)["phases"] if phase["measured_ms"] - phase["rules_ms"] > 20}
+               for version in ("6.1", "6.1.75", "6.1.76", "6.1.192")}
+        self.assertEqual(off, {"6.1": {"early", "resume"}, "6.1.75": {"early", "resume"}, "6.1.76": set(), "6.1.192": set()})
+
+    def test_list_after_links(self):
+        """The devices were registered in this order, then the links were made: the kernel's list is that of the trace."""
+        registered = "soc pcie nvme disk usb hub cam kbd i2c pmic gpu panel snd".split()
+        measured = measured_of("slow-sync-one")
+        found = {device.name: device for device in measured.devices if device.driver == "dpmt"}
+        parents = [registered.index(found[name].parent.name) if found[name].parent else None for name in registered]
+        links = [PlanLink(*(registered.index(measured.plan.names[end]) for end in (link.supplier, link.consumer))) for link in measured.plan.links]
+        self.assertEqual([registered[number] for number in order_after(parents, links)], list(found))
 
     def test_path(self):
         path = [step for step in times("whatif-gpu-sync")["path"] if step["phase"] == "suspend" and step["ms"] > 1]

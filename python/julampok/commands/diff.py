@@ -24,10 +24,13 @@ MOST_TOLD = 10  # The most callbacks and partings that are shown as text.
 
 
 def milliseconds(text):
-    """A number of milliseconds, 0 or more. Raises ValueError."""
-    found = float(text)
+    """A number of milliseconds, 0 or more. Raises CannotError, so that --bisect has its status for it, too."""
+    try:
+        found = float(text)
+    except ValueError:
+        found = -1.0
     if not 0 <= found < 1e12:
-        raise ValueError(text)
+        raise CannotError(f"--by {text}: no number of milliseconds")
     return found
 
 
@@ -36,7 +39,7 @@ def add_arguments(parser):
     parser.add_argument("b", metavar="B", help="the trace that is held against it")
     for kind, what in (("devices", "list of devices"), ("links", "list of links")):
         parser.add_argument(f"--{kind}", metavar="FILE", action="append", default=[], help=f"the {what} of both, or given twice: that of A, then that of B")
-    parser.add_argument("--by", metavar="MS", type=milliseconds, default=20.0, help="how much longer a phase of B may take (default: 20 ms)")
+    parser.add_argument("--by", metavar="MS", default="20", help="how much longer a phase of B may take (default: 20 ms)")
     parser.add_argument("--bisect", action="store_true", help="status 125 in place of 2, for 'git bisect run'")
     parser.add_argument("--json", action="store_true", help="writes all as JSON")
 
@@ -53,6 +56,7 @@ def run(given):
 
 def differ(given):
     """The status, after what the recordings differ in was written."""
+    by = milliseconds(given.by)
     sides = [(one[0] if one else None, one[-1] if one else None) for one in (given.devices, given.links)]
     if any(len(one) > 2 for one in (given.devices, given.links)):
         raise CannotError("--devices and --links are given once, or once for A and once for B")
@@ -63,9 +67,9 @@ def differ(given):
         if not recording.attempts:
             raise CannotError("the trace has no whole attempt", recording.trace_file)
     found = compare(a, b)
-    slower = found.slower(round(given.by * 1e6))
+    slower = found.slower(round(by * 1e6))
     is_same = not found.partings and not slower
-    write_out(as_json(found, slower, is_same) if given.json else as_text(found, slower, is_same, given.by))
+    write_out(as_json(found, slower, is_same) if given.json else as_text(found, slower, is_same, by))
     return YES if is_same else NO
 
 
@@ -74,7 +78,8 @@ def as_json(found, slower, is_same):
     parting = lambda one: {"what": one.words, "line_a": one.line_a, "line_b": one.line_b}
     phase = lambda one: {"attempt": one.attempt, "phase": str(one.phase), "a_ms": ms(one.a), "b_ms": ms(one.b), "change_ms": ms(one.b - one.a),
                          "slower": one in slower, "path_a": one.path_a, "path_b": one.path_b}
-    callback = lambda one: {"attempt": one[0], "phase": str(one[1]), "device": one[2], "a_ms": ms(one[3]), "b_ms": ms(one[4]), "change_ms": ms(one[4] - one[3])}
+    callback = lambda one: {"attempt": one[0], "phase": str(one[1]), "device": one[2], "a_ms": ms(one[3]), "b_ms": ms(one[4]),
+                            "change_ms": ms(one[4] - one[3])}
     said = {"same": is_same, "parts": parting(found.partings[0]) if found.partings else None, "partings": [parting(one) for one in found.partings]}
     said |= {"phases": [phase(one) for one in found.phases], "callbacks": [callback(one) for one in found.callbacks], "notes": found.notes}
     return json.dumps(said, indent=2) + "\n"
@@ -109,5 +114,6 @@ def phases_text(found, slower):
     if not found.phases:
         return []
     rows = [("ms", "A", "B", "change", "")]
-    rows += [(f"  attempt {one.attempt}, {one.phase}", shown(one.a), shown(one.b), signed(one.b - one.a), "slower" if one in slower else "") for one in found.phases]
+    rows += [(f"  attempt {one.attempt}, {one.phase}", shown(one.a), shown(one.b), signed(one.b - one.a), "slower" if one in slower else "")
+             for one in found.phases]
     return table(rows).splitlines()

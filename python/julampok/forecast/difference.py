@@ -17,6 +17,7 @@ from .measured import TIMED, WAY_DOWN, Listed, Measured, NoTimesError, last_need
 
 STEPS = {*PHASES, "suspend_enter", "sync_filesystems", "freeze_processes", "CPU_OFF", "CPU_ON", "syscore_suspend", "syscore_resume",
          "machine_suspend", "resume_console", "thaw_processes"}
+MOST_NAMED = 8  # The most devices that a note names.
 LEAST_TOLD = 1_000_000  # Callbacks whose length changed less, in nanoseconds, are not told.
 
 Key = tuple[str, ...]
@@ -235,7 +236,8 @@ def tell_devices(number: int, a: Side, b: Side, found: Difference) -> None:
     for name, mine, others in (("A", *keys), ("B", *reversed(keys))):
         alone = [key_words(key) for key in mine if key not in others]
         if alone:
-            found.notes.append(f"attempt {number}: {len(alone)} devices are in {name} alone: {', '.join(alone[:8])}{' and more' if len(alone) > 8 else ''}")
+            more = " and more" if len(alone) > MOST_NAMED else ""
+            found.notes.append(f"attempt {number}: {len(alone)} devices are in {name} alone: {', '.join(alone[:MOST_NAMED])}{more}")
     for key in keys[0]:
         if key in keys[1]:
             flags = [keys[at][key] in side.listed.plan.asynchronous for at, side in enumerate((a, b))]

@@ -206,8 +206,8 @@ def luck_text(subject: Subject, numbers: Sequence[int]) -> str:
     """A line a pair: the device that is down first, the other, and who holds the walk."""
     lines = []
     for first, second, holders in luck_pairs(subject, numbers):
-        held = ", ".join(subject.devices[number].shown for number in holders)
-        lines.append(f"{subject.devices[first].shown}  before  {subject.devices[second].shown}  while {held} {'is' if len(holders) == 1 else 'or one of these is'} synchronous\n")
+        held = " or ".join(subject.devices[number].shown for number in holders)
+        lines.append(f"{subject.devices[first].shown}  before  {subject.devices[second].shown}  while {held} is synchronous\n")
     return "".join(lines) + f"{len(lines)} pairs of devices with callbacks go down in one order by the list alone\n"
 
 
