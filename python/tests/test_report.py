@@ -3,6 +3,7 @@
 What is expected stands in the recordings' README, or is read in their traces.
 """
 
+import functools
 import html
 import html.parser
 import json
@@ -33,6 +34,7 @@ MOST_BYTES = 3_000_000
 NAMES = '<img src=x onerror="alert(1)">&amp;'
 
 
+@functools.cache
 def form(name, without=()):
     """The page's form of a recording, judged by the second writing."""
     return report_of(read_inputs(**recordings.inputs(name, without)), f"{name}.trace")
