@@ -242,6 +242,12 @@ class Attempts(Case):
         self.refuse(None, "has no event", HEAD)
         self.refuse(None, "is empty", "")
 
+    def test_events_that_were_not_recorded(self):
+        lines = by_hand().splitlines()
+        self.refuse(5, "no event suspend_resume", "\n".join([*lines[:4], *(line for line in lines if "callback" in line)]) + "\n")
+        recording = self.read("\n".join(line for line in lines if "callback" not in line) + "\n")
+        self.assertIn("has no callback", recording.notes[0].text)
+
     def test_end_without_newline(self):
         self.assertEqual(len(self.read(by_hand()[:-1]).attempts), 1)
         self.refuse(34, "ends inside its only attempt", by_hand()[:-5])
@@ -416,6 +422,18 @@ class Devices(Case):
             self.assertEqual([device.parent for device in recording.devices[3:]], [disk] * 3)
         paths = {device.driver: device.path for device in recording.devices[3:]}
         self.assertEqual(paths, {"scsi_disk": folders[4], "bsg": folders[3], "block": folders[5]})
+
+    def test_a_folder_elsewhere(self):
+        """A device whose parent is another one in the list takes a folder of its name only if that is left over, and the only one."""
+        folders = lambda *paths: "".join(f"/sys/devices/{path} async=enabled wakeup=\n" for path in paths)
+        steps = [*STEPS[:7], STEPS[7], STEPS[8]]
+        for parent in ("none", "dock"):
+            steps += [(*STEPS[7][:6], f"usb pad, parent: {parent}, [suspend]"), (*STEPS[8][:6], "usb pad, err=0")]
+        text = by_hand(steps=[*steps, STEPS[13], *STEPS[-2:]])
+        for paths, wanted in ((("dock", "dock/pad"), {"dock": "dock/pad", None: None}), (("dock", "dock/pad", "hub", "hub/pad"), {"dock": "dock/pad", None: "hub/pad"}),
+                              (("dock", "hub", "hub/pad", "bus", "bus/pad"), {"dock": None, None: None})):
+            recording = self.read(text, devices=folders(*paths))
+            self.assertEqual({device.parent and device.parent.name: device.path for device in recording.devices if device.name == "pad" and device.line}, wanted)
 
     def test_a_driver_that_comes(self):
         """A device whose driver came between two attempts is one device."""

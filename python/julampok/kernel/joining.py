@@ -43,7 +43,11 @@ class Joiner:
         for device in traced:
             self.by_name[device.name].append(device)
         for device in traced:
-            self.find_folder(device)
+            self.find_folder(device, self.likely_folders(device))
+        for device in traced:
+            if device.path is None:
+                left = self.free_folders(device)
+                self.find_folder(device, left if len(left) == 1 else [])
         for row in machine.devices.values() if machine else []:
             self.add_row(row)
         for device in traced:
@@ -91,15 +95,21 @@ class Joiner:
 
     # ---- folders
 
-    def find_folder(self, device: Device) -> None:
-        """Finds the folder of a device of the trace, by its name, its parent's name, and where these are not enough its driver."""
+    def free_folders(self, device: Device) -> list[sys_tree.Device]:
+        """The folders of that name which no device has yet."""
+        return [row for row in self.rows.get(device.name, ()) if row.path not in self.by_path]
+
+    def likely_folders(self, device: Device) -> list[sys_tree.Device]:
+        """The free folders whose device above has the name of the parent, and is the parent if that has a folder."""
         name = self.parents[device]
-        rows = [row for row in self.rows.get(device.name, ()) if row.path not in self.by_path]
-        fitting = [row for row in rows if parent_name(row, self.machine) == name]
-        fitting = [row for row in fitting if self.is_below(row, name)] or fitting or rows[:2]
-        row = next((row for row in fitting if is_of(row, device.driver)), None)
-        if row is None and fitting:
-            row = next((row for row in fitting if not is_classed(row)), fitting[0])
+        rows = [row for row in self.free_folders(device) if parent_name(row, self.machine) == name]
+        return [row for row in rows if self.is_below(row, name)] or rows
+
+    def find_folder(self, device: Device, rows: list[sys_tree.Device]) -> None:
+        """Gives a device of the trace one of these folders: of several the one of its driver, else one that is not in a class."""
+        row = next((row for row in rows if is_of(row, device.driver)), None)
+        if row is None and rows:
+            row = next((row for row in rows if not is_classed(row)), rows[0])
         if row is not None:
             self.by_path[row.path] = device
             take_row(device, row)

@@ -348,6 +348,8 @@ class Lines:
         """The error of a trace without a whole attempt."""
         if self.head.tracer in ("function_graph", "function"):
             return CannotError(f"a trace of the tracer {self.head.tracer}, whose lines are not read: record with the tracer 'nop'", self.file)
+        if self.strays and not any("suspend_resume:" in text for text in self.lines):
+            return self.fault(self.strays[0], "the trace has no event suspend_resume, which tells where attempts and phases begin: record it, too")
         if self.strays:
             return self.fault(self.strays[0], "the trace begins inside an attempt and has no whole one, which suspend_enter begins")
         if self.unknown is not None:
@@ -359,6 +361,8 @@ class Lines:
     def note_strays(self) -> None:
         """Notes lines that stand outside of the whole attempts."""
         first = self.attempts[0].line
+        if not any(attempt.begins for attempt in self.attempts) and any(attempt.steps("dpm_prepare") for attempt in self.attempts):
+            self.notes.append(Note("the trace has no callback: device_pm_callback_start and device_pm_callback_end were not recorded", self.file))
         before = [line for line in self.strays if line < first]
         after = [line for line in self.strays if line > first]
         if before:
