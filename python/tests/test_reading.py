@@ -423,6 +423,26 @@ class Devices(Case):
         paths = {device.driver: device.path for device in recording.devices[3:]}
         self.assertEqual(paths, {"scsi_disk": folders[4], "bsg": folders[3], "block": folders[5]})
 
+    def test_a_parent_of_which_there_are_two(self):
+        """Without a list, of two devices named pad the parent is the one with which the trace keeps the order."""
+        prepare = [STEPS[7], STEPS[8]]
+        for words, parent in (("acpi pad", "dock"), ("platform pad", "none"), ("input key", "pad")):
+            prepare += [(*STEPS[7][:6], f"{words}, parent: {parent}, [suspend]"), (*STEPS[8][:6], f"{words}, err=0")]
+        names = {"acpi pad": "dock", "platform pad": "none", "input key": "pad"}
+        for order in (("input key", "acpi pad", "platform pad"), ("platform pad", "input key", "acpi pad")):
+            suspend = []
+            for words in order:
+                suspend += [(*STEPS[7][:6], f"{words}, parent: {names[words]}, bus [suspend]"), (*STEPS[8][:6], f"{words}, err=0")]
+            recording = self.read(by_hand(steps=[*STEPS[:7], *prepare, *STEPS[13:15], *suspend, STEPS[17], *STEPS[-2:]]))
+            key = recording.devices[-1]
+            self.assertEqual((key.name, key.parent.driver), ("key", "platform" if order[0] == "input key" else "acpi"))
+            self.assertTrue(any("is one of several" in note.text for note in recording.notes))
+
+    def test_parents_that_are_in_no_input(self):
+        recording = self.read(without(by_hand(), *range(12, 16)))
+        self.assertEqual([device.parent for device in recording.devices], [None])
+        self.assertIn("the parent Fixed MDIO bus.0 of a,b:01 stands in no input", recording.notes[0].text)
+
     def test_a_folder_elsewhere(self):
         """A device whose parent is another one in the list takes a folder of its name only if that is left over, and the only one."""
         folders = lambda *paths: "".join(f"/sys/devices/{path} async=enabled wakeup=\n" for path in paths)
@@ -568,6 +588,14 @@ class Messages(Case):
         recording = read_inputs(recordings.file_of("irq-suspend", "trace"), dmesg=self.file(long + short))
         self.assertEqual(recording.attempts[0].told.first(Fact.LAST_SOURCE).words, "lid")
         self.assertIn("3 attempts, the trace has 1", notes(recording)[-1].text)
+
+    def test_a_processor_that_does_not_go(self):
+        """One processor fails to go off: its step stands in the trace, and no message that it is offline."""
+        dmesg = gzip.decompress(pathlib.Path(recordings.file_of("cpu-off", "dmesg")).read_bytes())
+        broken = dmesg.replace(b"smpboot: CPU 1 is now offline", b"Error taking CPU1 down: -16")
+        told = read_inputs(recordings.file_of("cpu-off", "trace"), dmesg=self.file(broken)).attempts[0].told
+        self.assertEqual((told.first(Fact.CPU_ERROR).number, told.first(Fact.CPU_OFFLINE)), (1, None))
+        self.assertIsNone(read_inputs(recordings.file_of("cpu-off", "trace"), dmesg=self.file(dmesg.replace(b"CPU 1 is", b"CPU 3 is"))).attempts[0].told)
 
     def test_messages_of_another_attempt(self):
         recording = read_inputs(recordings.file_of("irq-suspend", "trace"), dmesg=recordings.file_of("s2idle", "dmesg"))

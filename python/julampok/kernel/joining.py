@@ -11,6 +11,7 @@ from . import tree as sys_tree
 from .recording import Attempt, CallbackBegin, Device, Note, Phase
 from .trace import Lines
 
+CHILDREN_FIRST = (Phase.SUSPEND, Phase.LATE, Phase.NOIRQ, Phase.COMPLETE)
 SILENT = (Phase.PREPARE, Phase.COMPLETE)  # In these phases the kernel traces devices that have no callback, too.
 
 
@@ -33,6 +34,9 @@ class Joiner:
     def __init__(self, lines: Lines | None, machine: sys_tree.Machine | None):
         self.lines, self.machine = lines, machine
         self.notes: list[Note] = []
+        self.orphans: list[tuple[Device, str]] = []  # Devices whose parent, of this name, stands in no input.
+        self.guessed: list[tuple[Device, str]] = []  # Devices whose parent is one of several of this name.
+        self.spans: list | None = None
         self.parents: dict[Device, str | None] = {}  # The name of the parent, as the trace has it.
         self.by_name: dict[str, list[Device]] = defaultdict(list)
         self.by_path: dict[str, Device] = {}
@@ -52,6 +56,7 @@ class Joiner:
             self.add_row(row)
         for device in traced:
             self.find_parent(device)
+        self.tell_parents()
         self.devices = self.in_order(traced)
         self.settle_async()
 
@@ -142,12 +147,33 @@ class Joiner:
         found = [other for other in found if other.line is not None] or found
         found = [other for other in found if self.parents.get(other) != name] or found
         if not found:
-            self.note(device, f"the parent {name} of {device.name} stands in no input: taken as having none")
+            self.orphans.append((device, name))
             return
         before = [other for other in found if other.line is not None and other.line < device.line]
-        device.parent = (before or found)[-1]
+        likely = [*reversed(before), *(other for other in reversed(found) if other not in before)]
+        device.parent = likely[0]
         if len(found) > 1:
-            self.note(device, f"{len(found)} devices are named {name}; the parent of {device.name} is taken to be {device.parent.shown}")
+            device.parent = next((other for other in likely if self.is_in_order(other, device)), likely[0])
+            self.guessed.append((device, name))
+
+    def is_in_order(self, parent: Device, child: Device) -> bool:
+        """Whether each phase of the trace has the two in the order of a parent and its child."""
+        if self.spans is None:
+            self.spans = spans_of(self.lines.attempts)
+        for phase, spans in self.spans:
+            if parent in spans and child in spans:
+                first, second = (child, parent) if phase in CHILDREN_FIRST else (parent, child)
+                if spans[first][1] > spans[second][0]:
+                    return False
+        return True
+
+    def tell_parents(self) -> None:
+        """Notes whose parents stand in no input, and whose are guessed: how many, and the first one."""
+        for pairs, text in ((self.orphans, "stands in no input: taken as having none"), (self.guessed, "is one of several devices of that name: taken to be the one before it with which the trace keeps the order")):
+            if pairs:
+                device, name = pairs[0]
+                more = f" (and so for {len(pairs) - 1} more)" if len(pairs) > 1 else ""
+                self.note(device, f"the parent {name} of {device.name} {text}{more}")
 
     def note(self, device: Device, text: str) -> None:
         """Notes something of a device at its first line."""
@@ -191,6 +217,15 @@ class Joiner:
         if unknown and not any(device.listed_async is not None for device in self.devices):
             self.notes.append(Note(f"{len(unknown)} devices without callbacks may be asynchronous or not, which no input tells: taken as asynchronous, "
                                    "so that nobody is made to wait by their place in the list", self.lines.file))
+
+
+def spans_of(attempts: list[Attempt]) -> list[tuple[Phase, dict[Device, tuple[int, int]]]]:
+    """For each phase of each attempt the lines in which the callback of each device begins and ends."""
+    found: dict[tuple[int, Phase], dict] = defaultdict(dict)
+    for attempt in attempts:
+        for begin in attempt.begins:
+            found[attempt.number, begin.phase][begin.device] = begin.line, begin.end.line
+    return [(phase, spans) for (_, phase), spans in found.items()]
 
 
 def replace(attempts: list[Attempt], same: dict[Device, Device]) -> None:

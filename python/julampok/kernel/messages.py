@@ -144,7 +144,7 @@ def is_alike(attempt: Attempt, told_of: Told) -> bool:
     errors = {begin.end.error for begin in attempt.callbacks() if begin.end is not None}
     failed = {message.number for message in told_of.all(Fact.DEVICE_FAILED)}
     offline = {message.number for message in told_of.all(Fact.CPU_OFFLINE)}
-    return failed <= errors and (not offline or offline == {step.value for step in attempt.steps("CPU_OFF", False)})
+    return failed <= errors and offline <= {step.value for step in attempt.steps("CPU_OFF")}  # (one may have failed to go)
 
 
 def join(file: str, attempts: list[Attempt], messages: list[Message]) -> list[Note]:
