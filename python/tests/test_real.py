@@ -7,6 +7,7 @@ import re
 import tarfile
 import tempfile
 import unittest
+from unittest import mock
 
 import recordings
 from command_tests import SAMPLES, julampok
@@ -112,6 +113,15 @@ class RealTraces(Scratch):
         answer = {"what": "device", "name": "d5", "phase": "noirq", "attempt": 1, "ret": "EIO"}
         self.assertEqual((machine["answers"], [device["name"] for device in machine["devices"]]), ([answer], PREPARED))
         self.assertIn("end noirq d5 EIO", self.run_of(machine))
+
+    def test_more_steps_than_a_file_may_have(self):
+        """Of two attempts the last one is kept, where the turns of both are too many."""
+        with mock.patch("julampok.follow.pacing.MOST_STEPS", 1500):
+            machine, _, told = self.make(*self.words("two-cycles"))
+        self.assertIn("2 attempts, of which the file has the last 1", told)
+        log = self.run_of(machine)
+        self.assertIn("event key", log)
+        self.assertEqual(re.findall("over .*", log), ["over 1 EBUSY"])
 
     def test_a_broken_order(self):
         self.refuse("order-broken.trace.gz:490: ctl (dpmt) began its callback of suspend; disk", *self.words("order-broken"))

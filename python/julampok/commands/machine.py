@@ -6,7 +6,7 @@ wakeup sources and processors. --writer adds a task that writes 'mem' under a sa
 
 With --trace the file is the one of 'julampok replay': the kernel's list of devices, what callbacks answered, and the tasks
 and interrupt lines whose events the trace shows. Each of these takes turns of 'post' before its steps, so that a run of the
-file goes the way of the trace. What the file cannot say is left out and told on standard error.
+file by one worker goes the way of the trace. What the file cannot say is left out and told on standard error.
 """
 
 import pathlib
@@ -14,9 +14,15 @@ import sys
 
 from ..errors import YES, CannotError, one_line
 from ..files import refuse_inputs, write_all, write_out
+from ..follow.family import OutOfOrder
+from ..follow.follower import Follower
+from ..follow.machine import fits, machine_of, table_of
+from ..follow.machine import written as written_of_trace
+from ..follow.pacing import paced
 from ..kernel.machine import Builder, written
-from ..kernel.narrowing import branch, narrow
+from ..kernel.narrowing import branch, last_attempts, narrow
 from ..kernel.reading import add_side_arguments, device_named, read_and_join, read_machine_alone
+from ..kernel.recording import Note
 
 HELP = "makes a machine file of a real machine, of its /sys or a trace"
 EXAMPLE = "julampok machine --trace my.trace -o my.json /sys"
@@ -72,28 +78,32 @@ def of_tree(given):
 
 def of_trace(given):
     """The file of a trace that was followed, its table, and notes. Raises CannotError where it cannot be followed."""
-    from ..follow.family import OutOfOrder
-    from ..follow.follower import Follower
-    from ..follow.machine import fits, machine_of, table_of
-    from ..follow.machine import written as written_of_trace
-    from ..follow.pacing import paced
     recording, joiner = read_and_join(given.trace, given.sys, given.devices, given.links, given.dmesg, given.kernel)
     recording = kept(given, recording, joiner)
+    whole, notes = len(recording.attempts), []
+    while True:
+        follower, file, is_same = followed(recording)
+        if is_same is not None or len(recording.attempts) == 1:
+            break
+        recording = last_attempts(recording, len(recording.attempts) * 2 // 3)
+        notes = [Note(f"{whole} attempts, of which the file has the last {len(recording.attempts)}: more steps than a machine file may have", given.trace)]
+    if not is_same:
+        notes.append(Note("a run of the file goes another way than the kernel did", given.trace))
+    return written_of_trace(file), table_of(follower), follower.notes + notes
+
+
+def followed(recording):
+    """A recording that was followed, its machine file, and whether a run of that goes its way (None: it has too many steps)."""
     follower = Follower(recording)
     try:
         log = follower.follow()
     except OutOfOrder as broken:
-        raise CannotError(f"{broken.did}; {broken.first}: no machine does that; 'julampok replay' tells more", given.trace, broken.line) from None
+        raise CannotError(f"{broken.did}; {broken.first}: no machine does that; 'julampok replay' tells more", recording.trace_file, broken.line) from None
     file = machine_of(follower)
     if why := fits(file):
-        raise CannotError(why, given.trace)
+        raise CannotError(why, recording.trace_file)
     refusers = {}
     for plan in follower.plans:
         for script in plan.refusers:
             refusers.setdefault(script.name, []).append(plan.number)
-    file, is_same = paced(file, log, refusers)
-    notes = follower.notes
-    if not is_same:
-        from ..kernel.recording import Note
-        notes = [*notes, Note("a run of the file goes another way than the kernel did", given.trace)]
-    return written_of_trace(file), table_of(follower), notes
+    return follower, *paced(file, log, refusers)

@@ -119,21 +119,22 @@ def stand_firm(file: dict, places: dict, refusers: dict[str, list], log: str) ->
                 places[actor["name"]][at] = place_before_attempt(log, number)
 
 
-def paced(file: dict, log: str, refusers: dict[str, list[int]] | None = None) -> tuple[dict, bool]:
+def paced(file: dict, log: str, refusers: dict[str, list[int]] | None = None) -> tuple[dict, bool | None]:
     """The machine file with turns before its steps, and whether a plain run of it goes the way of the log.
 
-    `refusers` has the attempts in which a script, by its name, did not freeze though it could.
+    `refusers` has the attempts in which a script, by its name, did not freeze though it could. With more steps than a
+    machine file may have the file is as it was given, and None stands in place of the answer.
     """
-    file = copy.deepcopy(file)
-    places = places_of(file, log)
-    stand_firm(file, places, refusers or {}, log)
-    run = Paced(file, places)
+    whole = copy.deepcopy(file)
+    places = places_of(whole, log)
+    stand_firm(whole, places, refusers or {}, log)
+    run = Paced(whole, places)
     run.run()
-    for actor in file.get("actors", []):
+    for actor in whole.get("actors", []):
         actor["script"] = with_posts(actor["script"], run.posts[actor["name"]])
-    if sum(steps_of(actor) for actor in file.get("actors", [])) > MOST_STEPS:
-        return file, False
-    return file, way_of(Run(file).run()[0]) == way_of(log)
+    if sum(steps_of(actor) for actor in whole.get("actors", [])) > MOST_STEPS:
+        return file, None
+    return whole, way_of(Run(whole).run()[0]) == way_of(log)
 
 
 def with_posts(steps: list[dict], posts: list[int]) -> list[dict]:

@@ -1,4 +1,4 @@
-"""Keeps branches of the devices of a recording: each device that is named, all below it, and all that these need."""
+"""Keeps a part of a recording: branches of its devices, each with all below it and all that these need; or its last attempts."""
 
 from __future__ import annotations
 
@@ -45,3 +45,12 @@ def narrow(recording: Recording, kept: set[Device]) -> Recording:
         recording, events=events + recording.events[at:], attempts=attempts,
         devices=[device for device in recording.devices if device in kept],
         links=[link for link in recording.links if link.supplier in kept and link.consumer in kept])
+
+
+def last_attempts(recording: Recording, count: int) -> Recording:
+    """The recording with its last attempts alone, and with what wakeup sources did after the ones that are left out."""
+    before = recording.attempts[-count - 1]
+    begin = before.first + len(before.events)
+    attempts = [Attempt(number, attempt.events, attempt.first - begin, attempt.state, attempt.told)
+                for number, attempt in enumerate(recording.attempts[-count:], 1)]
+    return dataclasses.replace(recording, events=recording.events[begin:], attempts=attempts)
