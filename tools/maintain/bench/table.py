@@ -7,11 +7,12 @@ import functools
 import json
 import pathlib
 import random
+import sys
 from collections.abc import Callable
 from dataclasses import dataclass
 
 from julampok.errors import CannotError
-from maintain.bench import copier, machines
+from maintain.bench import copier, machines, traces
 from maintain.bench.clock import LOGS, RUN, Spent, run_of
 
 # As many attempts as a file may ask for, so that the start of the process weighs little.
@@ -261,6 +262,18 @@ def workers(files=()):
     return [workers_row(*row) for row in rows]
 
 
+# ---- recordings
+
+
+def recordings():
+    """A trace of a real kernel of 250,000 lines that is followed and judged, divided by reading it line by line in Python."""
+    python = lambda clock: sys.executable
+    start = Spent(("-c", traces.PLAIN), lambda clock: b"", program=python)
+    plain = Spent(("-c", traces.PLAIN), lambda clock: traces.long_trace(), program=python, less=start)
+    follow = Spent(traces.words("replay"), lambda clock: traces.long_trace(), program=lambda clock: str(traces.ROOT / "julampok"))
+    return [Row("replay", follow, (plain,), 100)]
+
+
 BENCHES = {
     "attempts": attempts,
     "tasks": tasks,
@@ -271,4 +284,5 @@ BENCHES = {
     "locks": locks,
     "idle": idle,
     "workers": workers,
+    "recordings": recordings,
 }
