@@ -96,7 +96,9 @@ def colours(data):
 
 
 @unittest.skipIf(CHROMIUM is None, "no Chromium is here; Debian has it as the package chromium")
-class Pages(unittest.TestCase):
+class Browser(unittest.TestCase):
+    """What tests in a browser share: a folder, and how a page is opened and looked at."""
+
     def setUp(self):
         folder = tempfile.TemporaryDirectory(ignore_cleanup_errors=True)
         self.addCleanup(folder.cleanup)
@@ -126,6 +128,8 @@ class Pages(unittest.TestCase):
         done = subprocess.run([ROOT / "julampok", *map(str, words)], capture_output=True, text=True)
         self.assertEqual(done.returncode, 0, done.stderr)
 
+
+class Pages(Browser):
     def test_pages_of_worked_logs(self):
         for name, told in TOLD.items():
             with self.subTest(name):

@@ -123,8 +123,8 @@ class Found(unittest.TestCase):
         self.assertEqual(len(set(names)), len(names))
 
     def test_a_browser_is_asked_for(self):
-        self.assertNotIn(files.IN_A_BROWSER, files.test_files())
-        self.assertEqual(files.test_files(["browser"], in_a_browser=True), [files.IN_A_BROWSER])
+        self.assertFalse(set(files.IN_A_BROWSER) & set(files.test_files()))
+        self.assertEqual(sorted(files.test_files(["tests/browser"], in_a_browser=True)), files.IN_A_BROWSER)
 
 
 if __name__ == "__main__":

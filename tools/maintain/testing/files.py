@@ -13,7 +13,7 @@ from maintain.places import TOP
 from maintain.testing.results import Results
 
 FOLDERS = (TOP / "python" / "tests", TOP / "tools" / "tests")
-IN_A_BROWSER = TOP / "tools" / "tests" / "browser_pages.py"
+IN_A_BROWSER = sorted((TOP / "tools" / "tests").glob("browser_*.py"))
 LONGEST = 900  # Seconds that the tests of a file may take, also where the computer does other things.
 
 
@@ -34,7 +34,7 @@ class Ran:
 
 def test_files(names=(), in_a_browser=False):
     """The files of tests whose paths have one of these names in them, all where there are none; the longest files first."""
-    found = [path for folder in FOLDERS for path in folder.rglob("test*.py")] + [IN_A_BROWSER] * in_a_browser
+    found = [path for folder in FOLDERS for path in folder.rglob("test*.py")] + IN_A_BROWSER * in_a_browser
     chosen = [path for path in found if not names or any(name in os.path.relpath(path, TOP) for name in names)]
     return sorted(chosen, key=lambda path: (-path.stat().st_size, path))
 
