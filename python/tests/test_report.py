@@ -114,8 +114,9 @@ class Recordings(unittest.TestCase):
         for name, (answer, words, top) in STOPPED.items():
             whole = form(name)
             attempt = whole.attempts[-1]
-            self.assertEqual((whole.tone, attempt.tone), (Tone.BAD, Tone.BAD), name)
-            self.assertIn(f"stopped ({answer})", whole.headline, name)
+            self.assertEqual((whole.tone, attempt.tone), (Tone.GOOD, Tone.BAD), name)
+            self.assertTrue(whole.headline.startswith("Legal by the second writing"), name)
+            self.assertTrue(whole.stop.startswith(f"Stopped ({answer}): "), (name, whole.stop))
             self.assertTrue(all(word in " ".join(attempt.causes) for word in words), (name, attempt.causes))
             self.assertLessEqual(set(top), set(rows_of(attempt, whole, "What stopped it")), name)
             drawn = page.page_html(whole)
@@ -125,6 +126,8 @@ class Recordings(unittest.TestCase):
         """The first one slept, so it is folded; the second one was stopped while wlan was in its callback."""
         whole = form("two-cycles")
         self.assertEqual([attempt.tone for attempt in whole.attempts], [Tone.GOOD, Tone.BAD])
+        self.assertRegex(whole.headline, "^Legal by the second writing; 2 attempts; attempt 1: suspend [0-9]+ ms, resume [0-9]+ ms; ")
+        self.assertRegex(whole.stop, r"^Attempt 2 stopped \(EBUSY\): key reported an event in line 1659, from a hard interrupt, with wlan ")
         drawn = page.page_html(whole)
         self.assertRegex(drawn, '<details class="attempt good" id="attempt-1">')
         self.assertRegex(drawn, '<details class="attempt bad" id="attempt-2" open>')

@@ -33,8 +33,7 @@ def add_verdict(page, rows, recording, judge):
             add_told(made, rows, told, recording)
     for broken in found.broken:
         add_broken(page, rows, broken, recording)
-    stopped = any(attempt.tone is Tone.BAD for attempt in page.attempts)
-    page.tone = Tone.GOOD if found.status == 0 and not stopped else Tone.BAD
+    page.tone = Tone.GOOD if found.status == 0 else Tone.BAD
     return verdict_words(found)
 
 

@@ -144,7 +144,10 @@ class Attempt:
 
 @dataclasses.dataclass(slots=True)
 class Page:
-    """All that a page shows. The headline is the verdict in a line; `details` say more, a sentence each."""
+    """All that a page shows. The headline is the verdict in a line; `details` say more, a sentence each.
+
+    `tone` is that of the headline. `stop` says in a line what stopped an attempt, if one was stopped.
+    """
 
     title: str
     about: list[str]  # Machine, kernel, date and file.
@@ -156,6 +159,7 @@ class Page:
     attempts: list[Attempt]
     lines: list[str]  # The trace or the log.
     lines_of: str = "trace"
+    stop: str = ""
     judged: list[str] = dataclasses.field(default_factory=list)  # The log that a checker judged, if another.
     dmesg: list[str] = dataclasses.field(default_factory=list)  # The kernel's messages, each at its line.
     moments: list[int] = dataclasses.field(default_factory=list)  # Of a log: the microsecond of each line.

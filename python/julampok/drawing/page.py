@@ -57,13 +57,19 @@ def ms(time):
     return f"{size:,.{0 if size >= 100 else 1 if size >= 10 else 2 if size >= 1 else 3}f} ms"
 
 
+def headline(page, tone, text):
+    return f'<p class="headline {tone.value}"><span class="sign" aria-hidden="true">{SIGNS[tone]}</span> {linked(text, page)}</p>\n'
+
+
 def verdict_part(page):
-    headline = f'<p class="headline"><span class="sign" aria-hidden="true">{SIGNS[page.tone]}</span> {linked(page.headline, page)}</p>\n'
+    """The verdict, what stopped an attempt, and notes."""
+    heads = headline(page, page.tone, page.headline) + (headline(page, Tone.BAD, page.stop) if page.stop else "")
+    tone = Tone.BAD if page.stop else page.tone
     notes = ""
     if page.notes:
         is_open = " open" if len(page.notes) <= 4 else ""
         notes = f"<details{is_open}><summary>{counted(len(page.notes), 'note')}</summary>\n{items(page.notes, page, 'notes')}</details>\n"
-    return f'<section class="verdict {page.tone.value}" aria-label="verdict">\n{headline}{items(page.details, page, "details")}</section>\n{notes}'
+    return f'<section class="verdict {tone.value}" aria-label="verdict">\n{heads}{items(page.details, page, "details")}</section>\n{notes}'
 
 
 def strip(page, attempt):

@@ -146,5 +146,5 @@ def perfetto(page):
     """The JSON of a page's form; without events where it has no attempt."""
     events = Writer(page).events() if page.attempts else []
     lines = ",\n".join(json.dumps(event) for event in events)
-    told = json.dumps({"title": page.title, "verdict": page.headline, "about": page.about})
+    told = json.dumps({"title": page.title, "verdict": page.headline, "stop": page.stop, "about": page.about})
     return f'{{"displayTimeUnit": "ms", "otherData": {told}, "traceEvents": [\n{lines}\n]}}\n'

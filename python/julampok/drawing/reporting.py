@@ -1,10 +1,8 @@
 """Puts together the page of a recording: what its trace tells, what was judged of it, and its times."""
 
 from .judging import add_verdict
-from .model import Tone
 from .of_recording import page_of
 from .timing import add_times
-from .words import counted
 
 
 def report_of(recording, name, judge=None):
@@ -15,19 +13,33 @@ def report_of(recording, name, judge=None):
     for attempt in page.attempts:
         words = times.get(int(attempt.number))
         attempt.answer += f"; {words}" if words and attempt.answer else words or ""
-    page.headline = headline_of(page, verdict)
+    page.headline, page.stop = headline_of(page, verdict), stop_of(page, verdict)
     return page
 
 
 def headline_of(page, verdict):
-    """The verdict, and behind it what stopped an attempt, or else the times of one that slept."""
-    stopped = [attempt for attempt in page.attempts if attempt.tone is Tone.BAD]
+    """The verdict, and behind it the times of an attempt that slept."""
     words = [verdict[0].upper() + verdict[1:]]
     if len(page.attempts) > 1:
-        words.append(f"{counted(len(page.attempts), 'attempt')}, {len(stopped) or 'none'} of them stopped")
-    for attempt in (stopped or page.attempts)[:1]:
-        said = attempt.answer.removeprefix("not legal; ").removeprefix("slept; ")
-        if stopped and attempt.causes and not verdict.startswith("not legal"):
-            said = f"{said.partition(';')[0].replace(': ', ' (')}): {attempt.causes[0].rstrip('.')}"
-        words.append(f"attempt {attempt.number} {said}" if len(page.attempts) > 1 else said)
-    return "; ".join(word for word in words if word)
+        words.append(f"{len(page.attempts)} attempts")
+    slept = next((attempt for attempt in page.attempts if "slept; " in attempt.answer), None)
+    if slept is not None:
+        said = slept.answer.removeprefix("not legal; ").removeprefix("slept; ")
+        words.append(f"attempt {slept.number}: {said}" if len(page.attempts) > 1 else said)
+    return "; ".join(words)
+
+
+def stop_of(page, verdict):
+    """What stopped the first attempt that was stopped."""
+    stopped = [attempt for attempt in page.attempts if "stopped" in attempt.answer]
+    if not stopped:
+        return ""
+    first = stopped[0]
+    answer = first.answer.removeprefix("not legal; ").partition(";")[0].removeprefix("stopped: ")
+    causes = [cause for cause in first.causes if not cause.startswith("Not legal")]
+    why = f": {causes[0].rstrip('.')}" if causes else ""
+    count = len(page.attempts)
+    if count == 1:
+        return f"Stopped ({answer}){why}"
+    many = f"{'All' if len(stopped) == count else len(stopped)} of {count} attempts stopped; attempt" if len(stopped) > 1 else "Attempt"
+    return f"{many} {first.number} ({answer}){why}" if len(stopped) > 1 else f"Attempt {first.number} stopped ({answer}){why}"
