@@ -94,7 +94,7 @@ class Teller:
     def after_sleep(self, line: int) -> list[str]:
         """The first event behind the entry."""
         event = next((event for event in self.following.seen.events if event.line > line), None)
-        return [f"The first event after that is one of {event.source} in line {event.line}, {self.place(event)}."] if event else []
+        return [f"The first event after it is of {event.source}, line {event.line}, {self.place(event)}."] if event else []
 
     def by_event(self) -> list[str]:
         """An event stopped it."""

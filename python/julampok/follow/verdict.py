@@ -250,7 +250,8 @@ def notes_of(recording: Recording, follower: Follower, found: Replay) -> list[No
         notes.append(Note("no callback ran in another task than the attempt's, so no device is taken as asynchronous", file))
     if recording.processors is None:
         notes.append(Note(f"no input tells the number of processors: taken as {follower.cpus}", file))
-    plain = [following.number for following in follower.done if following.outcome.guard == Guard.PLAIN and following.outcome.why == Why.NOTHING]
+    whole = follower.done[:len(found.attempts)]
+    plain = [following.number for following in whole if following.outcome.guard == Guard.PLAIN and following.outcome.why == Why.NOTHING]
     if plain:
         notes.append(Note("whether a count was saved for an attempt that slept leaves no line: the log saves none", file))
     return notes
