@@ -12,7 +12,8 @@ DOWN = {"suspend": "dpm_suspend", "late": "dpm_suspend_late", "noirq": "dpm_susp
 UP = {"noirq": ("resume_noirq", "dpm_resume_noirq"), "late": ("early", "dpm_resume_early"), "suspend": ("resume", "dpm_resume")}
 WORDS = {"suspend": "bus [suspend]", "late": "late bus [suspend]", "noirq": "noirq bus [suspend]",
          "resume_noirq": "noirq bus [resume]", "early": "early bus [resume]", "resume": "bus [resume]"}
-MAIN = 98
+MAIN = 98  # The task that writes to state, unless another one does.
+WORKER = 21  # The kernel's worker that makes the attempts of autosleep.
 
 
 class Device:
@@ -43,7 +44,7 @@ class Kernel:
         self.check = False
         self.hard = False
         self.time = 1_000_000
-        self.threads, self.later, self.pid = [], [], 200
+        self.threads, self.pid, self.main, self.names = [], 200, MAIN, {0: "<idle>", MAIN: "runner", WORKER: "kworker/u4:1"}
         self.make(devices)
 
     # ---- the machine
@@ -92,12 +93,12 @@ class Kernel:
 
     def write(self, pid, said, flags="....."):
         self.time += self.dice.randint(1, 40)
-        name = "runner" if pid == MAIN else "<idle>" if pid == 0 else "kworker/u4:1"
+        name = self.names.get(pid, "kworker/u4:2")
         cpu = self.dice.randrange(max(1, self.cpus))
         self.lines.append(f"          {name}-{pid} [{cpu:03}] {flags} {self.time // 1000000:5}.{self.time % 1000000:06}: {said}")
 
-    def step(self, action, edge, value=0, pid=MAIN):
-        self.write(pid, f"suspend_resume: {action}[{value}] {edge}")
+    def step(self, action, edge, value=0):
+        self.write(self.main, f"suspend_resume: {action}[{value}] {edge}")
 
     def say(self, text, is_debug=False):
         if self.debug or not is_debug:
@@ -162,7 +163,7 @@ class Kernel:
                 self.threads.append(self.worker(self.suspend(device, phase, True, self.pid)))
                 yield
             else:
-                error = yield from self.suspend(device, phase, False, MAIN)
+                error = yield from self.suspend(device, phase, False, self.main)
             if error or self.async_error:
                 break
         while self.open:
@@ -242,7 +243,7 @@ class Kernel:
                     self.schedule_up(device, phase, name)
                     yield
             else:
-                yield from self.resume(device, phase, name, False, MAIN)
+                yield from self.resume(device, phase, name, False, self.main)
         while self.open:
             yield
         self.step(action, "end", 16)
@@ -262,6 +263,47 @@ class Kernel:
                 yield from self.callback(device, name, pid)
             del device.went[phase]
         device.done = True
+
+    # ---- what happens between attempts
+
+    def source(self, name, is_start, pid=MAIN):
+        """A task makes a source active, or ends that."""
+        self.inpr, self.count = (self.inpr + 1, self.count) if is_start else (self.inpr - 1, self.count + 1)
+        self.write(pid, f"wakeup_source_{'activate' if is_start else 'deactivate'}: {name} state={hex(self.count << 16 | self.inpr)}", "d....")
+
+    def write_autosleep(self):
+        """A task writes to /sys/power/autosleep."""
+        self.source("autosleep", True)
+        self.source("autosleep", False)
+
+    def autosleep(self, plan=None):
+        """An attempt of the autosleep work."""
+        self.main = WORKER
+        answer = self.attempt(True, plan)
+        self.main = MAIN
+        return answer
+
+    def by_another(self, name, pid, **given):
+        """An attempt of another task."""
+        self.names[pid], self.main = name, pid
+        answer = self.attempt(**given)
+        self.main = MAIN
+        return answer
+
+    def register(self, name):
+        """A device is registered, below one that is there."""
+        device = Device(name, self.dice.choice([None, *self.list]))
+        device.callbacks = {"suspend", "resume"} if self.dice.random() < 0.5 else set()
+        device.is_async = self.dice.random() < 0.5
+        self.list.append(device)
+
+    def register_again(self):
+        """A device below which nothing hangs goes and comes again."""
+        leaves = [device for device in self.list if not device.children and not device.consumers and not device.suppliers]
+        if leaves:
+            device = self.dice.choice(leaves)
+            self.list.remove(device)
+            self.list.append(device)
 
     # ---- an attempt
 
@@ -366,10 +408,10 @@ class Kernel:
             device.went, device.direct = {}, False
         for device in list(self.list):
             parent = device.parent.name if device.parent else "none"
-            self.write(MAIN, f"device_pm_callback_start: {device.label}, parent: {parent}, [suspend]")
+            self.write(self.main, f"device_pm_callback_start: {device.label}, parent: {parent}, [suspend]")
             planned = self.plan.get((device.name, "prepare"))
             error = planned[1] if planned else 0
-            self.write(MAIN, f"device_pm_callback_end: {device.label}, err={error}")
+            self.write(self.main, f"device_pm_callback_end: {device.label}, err={error}")
             if error:
                 self.say(f"drv {device.name}: PM: not prepared for power transition: code {error}")
                 break
@@ -386,8 +428,8 @@ class Kernel:
         for device in reversed(self.list):
             if device.went.get("prepared"):
                 parent = device.parent.name if device.parent else "none"
-                self.write(MAIN, f"device_pm_callback_start: {device.label}, parent: {parent}, [resume]")
-                self.write(MAIN, f"device_pm_callback_end: {device.label}, err=0")
+                self.write(self.main, f"device_pm_callback_start: {device.label}, parent: {parent}, [resume]")
+                self.write(self.main, f"device_pm_callback_end: {device.label}, err=0")
                 yield
         self.step("dpm_complete", "end", 16)
 

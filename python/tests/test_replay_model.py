@@ -20,15 +20,16 @@ ANSWERS = {0: "0", -5: "EIO", -16: "EBUSY", -19: "ENODEV", -110: "ETIMEDOUT", -1
 class Trial:
     """One machine of the model, and its attempts."""
 
-    def __init__(self, seed):
+    def __init__(self, seed, count=0):
         self.dice = random.Random(seed)
         pick = self.dice.choice
         self.kernel = Kernel(seed, pick([1, 3, 8, 14, 30]), pm_async=self.dice.random() < 0.7, cpus=pick([1, 2, 3, 4]),
                              single_pass=self.dice.random() < 0.5, debug=self.dice.random() < 0.8)
-        self.kinds = [pick(KINDS) for _ in range(pick([1, 2, 2, 3]))]
+        self.kinds = [] if count else [pick(KINDS) for _ in range(pick([1, 2, 2, 3]))]
         for kind in self.kinds:
             self.attempt(kind)
         self.kernel.attempt()
+        self.live(count)
 
     def callback(self):
         """A callback on the way down; a place where there is none."""
@@ -55,6 +56,28 @@ class Trial:
         saved = kind == "event" or kind in ("report", "s2idle") and self.dice.random() < 0.5
         self.kernel.attempt(saved, plan, **more)
 
+    def live(self, count):
+        """Attempts of several tasks and of autosleep, and between them locks that are held and devices that come."""
+        kernel, pick, is_auto, is_held = self.kernel, self.dice.choice, False, False
+        for number in range(count):
+            what = pick(["register", "again", "lock", "attempt", "other", "auto"])
+            if what == "register":
+                kernel.register(f"new{number}")
+            elif what == "again":
+                kernel.register_again()
+            elif what == "lock" and not is_auto:
+                is_held = not is_held
+                kernel.source("a", is_held)
+            elif what == "attempt" and not is_auto:
+                self.attempt(pick(["none", "soft", "error", "hard", "refuse"]))
+            elif what == "other" and not is_auto:
+                kernel.by_another("rtcwake", 90)
+            elif what == "auto" and not is_held:
+                kernel.write_autosleep()
+                for _ in range(0 if is_auto else pick([1, 2, 3])):
+                    kernel.autosleep(pick([{}, {"begin": ("event", "lid", False, 0)}, {"platform prepare": True}]))
+                is_auto = not is_auto
+
     def replay(self, folder, without=()):
         """The verdict on the model's files, but for those left out."""
         kernel = self.kernel
@@ -78,6 +101,15 @@ class Model(unittest.TestCase):
             for seed in self.SEEDS:
                 trial = Trial(seed)
                 with self.subTest(seed, kinds=trial.kinds):
+                    found = trial.replay(folder)
+                    self.assertEqual(found.status, 0, found.headline)
+                    self.assertEqual([one.answer for one in found.attempts], [ANSWERS[one] for one in trial.kernel.truth])
+
+    def test_several(self):
+        with tempfile.TemporaryDirectory() as folder:
+            for seed in range(1000, 1040):
+                trial = Trial(seed, 8)
+                with self.subTest(seed):
                     found = trial.replay(folder)
                     self.assertEqual(found.status, 0, found.headline)
                     self.assertEqual([one.answer for one in found.attempts], [ANSWERS[one] for one in trial.kernel.truth])

@@ -83,7 +83,7 @@ class Following:
         """Takes the next step, which has to be this one. Raises OutOfOrder."""
         step = self.step()
         if step is None or step.action != action or step.is_begin != is_begin:
-            line = step.line if step else self.seen.attempt.last_line
+            line = step.line if step else self.seen.last_line
             did = f"the kernel went on with {step.action}[{step.value}] {'begin' if step.is_begin else 'end'}" if step else "the attempt ended"
             raise OutOfOrder(line, did, f"{action} {'begin' if is_begin else 'end'} had to come first{place}", None, [])
         self.at += 1
@@ -116,7 +116,7 @@ class Following:
             if self.owner.has_refuser:
                 self.put(self.who, f"notify {REFUSER} post")
         self.step()
-        self.journal.line = self.seen.attempt.last_line
+        self.journal.line = self.seen.last_line
         self.put(self.who, f"over {self.number} {self.error}")
 
     def freeze(self) -> None:
@@ -298,7 +298,7 @@ class Following:
             elif item.action == action and not item.is_begin or early and item.action == early and item.is_begin:
                 self.at, self.journal.line = at, item.line
                 return True
-        raise OutOfOrder(self.seen.attempt.last_line, "the attempt ended", f"{action} had to end first", None, [])
+        raise OutOfOrder(self.seen.last_line, "the attempt ended", f"{action} had to end first", None, [])
 
     def down(self, phase: Phase, action: str) -> bool:
         """A phase on the way to sleep; False where it stopped the attempt."""

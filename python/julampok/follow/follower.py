@@ -196,7 +196,7 @@ class Follower:
         if plan.maker is not None:
             journal.has_acted(plan.maker)
             return
-        is_last = plan is self.planner.autos[-1]
+        is_last = plan is self.plans[-1]
         journal.put("auto", "after busy" if journal.inpr else f"after {journal.visible}")
         if journal.inpr == 0 and journal.visible == journal.saved_count:
             journal.put("auto", f"sleep_d {journal.time + NAP_MS}")
@@ -205,6 +205,7 @@ class Follower:
                 journal.put("auto", "slept")
         if not is_last:
             journal.put("auto", "again")
+        if plan is not self.planner.autos[-1]:
             return
         self.keeps_on = self.planner.keeper.is_inside
         if not self.keeps_on:

@@ -79,6 +79,7 @@ class Survey:
     """What one look over an attempt finds."""
 
     attempt: Attempt
+    items: list[Event]  # The attempt's events, without steps of sources behind its last own one.
     first: dict[tuple[str, bool], SuspendResume] = field(default_factory=dict)
     cpus: list[int] = field(default_factory=list)  # Of CPU_OFF, in order.
     begins: dict[Phase, dict] = field(default_factory=dict)  # By device.
@@ -88,6 +89,11 @@ class Survey:
     tests: list[tuple[Event, int]] = field(default_factory=list)  # Passed tests: the event behind it, the task's line before it.
     turn: Event | None = None
     barrier: int = 0  # An event of an earlier line would have been found by a test that found none.
+
+    @property
+    def last_line(self) -> int:
+        """The line in which the attempt ends."""
+        return self.items[-1].line
 
     def has(self, action: str, is_begin: bool = True) -> bool:
         """Whether the attempt has that step."""
@@ -101,12 +107,15 @@ class Survey:
 
 def survey(attempt: Attempt) -> Survey:
     """Looks over the events of an attempt."""
-    found = Survey(attempt)
+    count = len(attempt.events)
+    while count > 1 and isinstance(attempt.events[count - 1], (SourceActivate, SourceDeactivate)):
+        count -= 1
+    found = Survey(attempt, attempt.events if count == len(attempt.events) else attempt.events[:count])
     last: dict[int, int] = {}  # The last line of each task.
     inside: dict[int, CallbackBegin] = {}
     counts: dict[CallbackBegin, int] = {}
     begins: dict = {}
-    for event in attempt.events:
+    for event in found.items:
         kind, pid = type(event), event.pid
         if kind is CallbackBegin:
             phase = event.phase
@@ -264,7 +273,7 @@ class Decider:
         later = next((event for event in self.seen.events), None)
         if later is None or later.pid == turn.pid and not later.is_in_interrupt:
             return []
-        between = [event for event in self.seen.attempt.events if turn.line < event.line < later.line and event.pid == turn.pid]
+        between = [event for event in self.seen.items if turn.line < event.line < later.line and event.pid == turn.pid]
         return [later] if len(between) <= 2 else []
 
     def outcome(self, guard: Guard, event: SourceActivate, save_line: int | None = None) -> Outcome:
@@ -424,8 +433,8 @@ def arranged(seen: Survey, outcome: Outcome) -> list[Event]:
         if phase != Phase.PREPARE:
             delay_errors(seen, phase, ends, keys)
     if not keys:
-        return seen.attempt.events
-    return sorted(seen.attempt.events, key=lambda event: keys.get(event, (event.line, 0, 0)))
+        return seen.items
+    return sorted(seen.items, key=lambda event: keys.get(event, (event.line, 0, 0)))
 
 
 def move_begins(seen: Survey, stop: SourceActivate, keys: dict) -> None:
@@ -447,7 +456,7 @@ def delay_errors(seen: Survey, phase: Phase, ends: list[CallbackEnd], keys: dict
     last: dict[int, int] = {}
     waiting: list[CallbackEnd] = []
     errors = set(ends)
-    for event in seen.attempt.events:
+    for event in seen.items:
         if isinstance(event, (SourceActivate, SourceDeactivate)):
             continue
         if isinstance(event, CallbackBegin) and event.phase == phase:

@@ -88,8 +88,8 @@ class Planner:
         self.texts: dict[Event, str] = {}  # What each write to autosleep said, by its first step.
         self.surveys = [survey(attempt) for attempt in self.attempts]
         self.plans = [self.plan(seen) for seen in self.surveys]
-        last = self.attempts[-1]
-        self.after = [event for event in recording.events[last.first + len(last.events):] if is_step(event)]
+        last = self.surveys[-1]
+        self.after = [event for event in recording.events[last.attempt.first + len(last.items):] if is_step(event)]
         self.take_steps(self.after, {})
         self.settle_autosleep()
 
@@ -124,7 +124,7 @@ class Planner:
         earlier = self.take_steps(before, {})
         is_active = any(found is not None for found in self.active.values())
         outcome = Decider(seen, self.recording.clock, is_auto(attempt), is_active, earlier, self.recording.processors).decide()
-        self.take_steps([event for event in attempt.events if is_step(event)], seen.reports)
+        self.take_steps([event for event in seen.items if is_step(event)], seen.reports)
         maker = None if is_auto(attempt) else self.task_of(attempt.events[0])
         if maker is not None:
             maker.left += 1
@@ -141,10 +141,12 @@ class Planner:
 
     def end_before(self, attempt: Attempt) -> int:
         """The place in the recording's events behind the attempt before."""
-        at = attempt.number - 2
-        if at < 0:
+        at = attempt.number - self.attempts[0].number - 1
+        if at >= 0:
+            return self.surveys[at].attempt.first + len(self.surveys[at].items)
+        if attempt.number == 1:
             return 0
-        other = self.recording.attempts[at]
+        other = self.recording.attempts[attempt.number - 2]
         return other.first + len(other.events)
 
     def take_steps(self, events: list[Event], reports: dict) -> list[tuple[SourceActivate, bool]]:
@@ -177,7 +179,7 @@ class Planner:
         """The tasks that did not freeze: those that dmesg names, else one that stands in."""
         outcome = plan.outcome
         kind = "kthread" if outcome.is_kernel else "user"
-        inside = {event.task for event in plan.attempt.events if is_step(event) and event.source == AUTOSLEEP}
+        inside = {event.task for event in plan.seen.items if is_step(event) and event.source == AUTOSLEEP}
         names = [message.words for message in outcome.tasks if message.words not in inside]
         if not outcome.tasks and not inside:
             names = [NOT_TOLD]

@@ -172,7 +172,7 @@ def told(following: Following, recording: Recording) -> AttemptTold:
     attempt, plan = following.seen.attempt, following.plan
     first = attempt.events[0]
     ends = [end for ends in following.seen.errors.values() for end in ends]
-    found = AttemptTold(attempt.number, attempt.line, attempt.last_line, f"{first.task}-{first.pid}", teller.answer(), teller.sentences(),
+    found = AttemptTold(attempt.number, attempt.line, following.seen.last_line, f"{first.task}-{first.pid}", teller.answer(), teller.sentences(),
                         stand_ins_of(following), faults=[end.begin.line for end in ends], fault_devices=[end.device for end in ends])
     outcome = plan.outcome
     if outcome.why in (Why.PM_TEST, Why.NOT_TOLD) or outcome.where == Where.IDLE or outcome.why == Why.ERROR and outcome.where in (Where.CPUS, Where.SYSCORE):
@@ -183,7 +183,7 @@ def told(following: Following, recording: Recording) -> AttemptTold:
 def judged_to(following: Following) -> int:
     """The last line of the way down, behind which a stand-in turns the log around."""
     turn = following.seen.line("machine_suspend") or (following.outcome.turn.line if following.outcome.turn else None)
-    lines = [event.line for event in following.seen.attempt.events if turn is None or event.line < turn]
+    lines = [event.line for event in following.seen.items if turn is None or event.line < turn]
     return lines[-1] if lines else following.seen.attempt.line
 
 
