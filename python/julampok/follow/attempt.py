@@ -352,8 +352,8 @@ class Following:
             return 0, set()
         mirror = self.traced(Phase(MIRRORS[phase.value]))
         needed = begins.keys() | mirror.keys()
-        places = [place for place, device in enumerate(self.order) if device in needed]
-        return places[0] if places else len(self.order), self.owner.with_callback(phase) - needed
+        reach = next((place for place, device in enumerate(self.order) if device in needed), len(self.order))
+        return reach, self.spare(needed, reach) & self.owner.with_callback(phase) & self.traced(Phase.PREPARE).keys()
 
     def is_exhausted(self, phase: Phase, begins: dict, reach: int, keeps: set[int]) -> bool:
         """Whether nobody would be left to test once all callbacks of the phase are over, if all others came as early as they may."""
