@@ -9,6 +9,7 @@ from __future__ import annotations
 from ..second.follow import Follower
 from ..second.machine import STEPS
 
+NO_ANSWER = "0", ()
 NOTHING = {"devices": [], "sources": [], "notifiers": [], "actors": []}
 
 
@@ -16,10 +17,20 @@ class Judge(Follower):
     """A machine under way, whose turns a log gives."""
 
     def __init__(self, tree):
-        self.line, self.is_right, self.head = "", False, ""
+        self.line, self.is_right, self.head, self.last = "", False, "", ""
         super().__init__(NOTHING | tree)
         self.turns = {who: job.__next__ for who, job in self.labelled.items()}
+        self.given = {}  # What a thing answers, by the attempt; None: in all others.
+        for (what, name, phase, attempt), answer in self.answers.items():
+            self.given.setdefault((what, name, phase), {})[attempt] = str(answer.get("ret", 0)), answer.get("reports", [])
         self.set_head()
+
+    def answer(self, what, name, phase=None):
+        """What the callback of a thing returns and reports in this attempt."""
+        found = self.given.get((what, name, phase))
+        if found is None:
+            return NO_ANSWER
+        return found.get(self.attempts) or found.get(None) or NO_ANSWER
 
     # ---- entries
 
@@ -29,14 +40,13 @@ class Judge(Follower):
 
     def put(self, who, body):
         """An entry is made: it has to be the line that is judged, which nobody else has made."""
-        said = f"{self.head}{who} {body}"
+        self.last = said = f"{self.head}{who} {body}"
         self.is_right = said == self.line
         self.line = None
-        self.said = [said]
 
     def allows(self, line):
         """Whether the line is what its actor makes next; if so it is made."""
-        self.line, self.is_right, self.said = line, False, []
+        self.line, self.is_right = line, False
         parts = line.split(" ", 4)
         if len(parts) < 4:
             return False
@@ -49,9 +59,7 @@ class Judge(Follower):
             self.set_head()
         elif who == "time" and verb == "jump":
             return self.leap(line)
-        elif who in self.owed or who not in self.turns:
-            return False
-        else:
+        elif who in self.turns and not (self.owed and who in self.owed):
             self.turns[who]()
         return self.is_right
 
@@ -74,7 +82,7 @@ class Judge(Follower):
         allows = self.allows
         for at in range(ends):
             if not allows(lines[at]):
-                self.why = f"line {at + 1} is not what its actor makes next, which is {self.said}"
+                self.why = f"line {at + 1} is not what its actor makes next, which is {self.last!r}"
                 return False
         return self.accepts_end(log, lines[:ends])
 

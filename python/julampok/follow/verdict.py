@@ -219,7 +219,7 @@ def compare(found: Replay, follower: Follower, text: str) -> None:
     """Compares way and answer of each attempt."""
     ways = ways_of_log(follower.journal.lines)
     for following, said in zip(follower.done, found.attempts):
-        trace = way_of_trace(following.seen.attempt, follower.kin.number, follower.names)
+        trace = way_of_trace(following.seen, follower.kin.number, follower.names)
         log = ways[following.number]
         stands_in = said.judged_to is not None
         differs = difference(log, trace, stands_in, any(what == "processors" for what, _ in following.plan.stand_ins))

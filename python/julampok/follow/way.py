@@ -7,9 +7,11 @@ from __future__ import annotations
 
 from dataclasses import dataclass, field
 
-from ..kernel.recording import Attempt, CallbackBegin, Phase, SuspendResume
+from ..kernel.recording import PHASES
+from .outcome import Survey
 
 SILENT = ("prepare", "complete")
+RARE = ("attempt", "done", "cpu", "enter", "over")
 
 
 @dataclass(slots=True, eq=False)
@@ -24,56 +26,56 @@ class Way:
     answer: str | None = None
     line: int = 0  # Where the attempt begins in the trace.
 
+    def take(self, phase: str, device: str) -> None:
+        """Takes the begin of a device in a phase."""
+        begins = self.begins.get(phase)
+        if begins is None:
+            begins = self.begins[phase] = []
+        begins.append(device)
+
 
 def ways_of_log(lines: list[str]) -> dict[int, Way]:
     """The ways of a log's attempts, by their numbers."""
     found: dict[int, Way] = {}
     way = Way()
     for line in lines:
-        words = line.split(" ")[3:]
-        if words[0] == "attempt":
-            way = found[int(words[1])] = Way()
-        elif words[0] == "begin":
-            way.begins.setdefault(words[1], []).append(words[2])
-        elif words[0] in SILENT:
-            way.begins.setdefault(words[0], []).append(words[1])
-        elif words[0] == "done":
-            way.phases.append(words[1])
-        elif words[0] == "cpu" and words[1] == "off":
-            way.processors += 1
-        elif words == ["enter"]:
-            way.has_entered = True
-        elif words[0] == "over":
-            way.answer = words[2]
+        words = line.split(" ")
+        verb = words[3]
+        if verb == "begin":
+            way.take(words[4], words[5])
+        elif verb in SILENT:
+            way.take(verb, words[4])
+        elif verb in RARE:
+            if verb == "attempt":
+                way = found[int(words[4])] = Way()
+            take_rare(way, words[3:])
     return found
 
 
-def way_of_trace(attempt: Attempt, number: dict, names: list[str]) -> Way:
+def take_rare(way: Way, words: list[str]) -> None:
+    """Takes an entry of an attempt that is no device's."""
+    if words[0] == "done":
+        way.phases.append(words[1])
+    elif words[:2] == ["cpu", "off"]:
+        way.processors += 1
+    elif words == ["enter"]:
+        way.has_entered = True
+    elif words[0] == "over":
+        way.answer = words[2]
+
+
+def way_of_trace(seen: Survey, number: dict, names: list[str]) -> Way:
     """The way of an attempt of the trace, its devices by their names in the log."""
-    way = Way(line=attempt.line)
-    for event in attempt.events:
-        if isinstance(event, CallbackBegin):
-            take_begin(way, event, number, names)
-        elif isinstance(event, SuspendResume) and event.is_begin:
-            if event.phase is not None:
-                way.phases.append(event.phase.value)
-            elif event.action == "CPU_OFF":
-                way.processors += 1
-            elif event.action == "machine_suspend" and event.value != 1:
-                way.has_entered = True
+    way = Way(line=seen.attempt.line)
+    way.phases = [PHASES[action].value for action, is_begin in seen.first if is_begin and action in PHASES]
+    way.processors = len(seen.cpus)
+    entry = seen.first.get(("machine_suspend", True))
+    way.has_entered = entry is not None and entry.value != 1
+    for phase, begins in seen.begins.items():
+        here = [begin for device, begin in begins.items() if device in number]
+        way.begins[phase.value] = [names[number[begin.device]] for begin in here]
+        way.lines[phase.value] = [begin.line for begin in here]
     return way
-
-
-def take_begin(way: Way, event: CallbackBegin, number: dict, names: list[str]) -> None:
-    """Takes a callback. A prepare that is made again counts where it is made last."""
-    if event.device not in number:
-        return
-    name, phase = names[number[event.device]], event.phase.value
-    begins, lines = way.begins.setdefault(phase, []), way.lines.setdefault(phase, [])
-    if event.phase == Phase.PREPARE and begins and begins[-1] == name:
-        return
-    begins.append(name)
-    lines.append(event.line)
 
 
 def difference(log: Way, trace: Way, stands_in: bool, has_other_count: bool = False) -> tuple[int, str] | None:
