@@ -12,6 +12,7 @@ EAGAIN = -11
 SECOND = 1_000_000_000
 SILENT = (Phase.PREPARE, Phase.COMPLETE)
 TESTED = (Phase.SUSPEND, Phase.LATE)
+STOPPED = (Phase.SUSPEND, Phase.LATE, Phase.NOIRQ)  # Phases in which an error keeps others from beginning.
 TURNS = ("thaw_processes", "dpm_resume_noirq", "dpm_resume_early", "dpm_resume", "CPU_ON", "syscore_resume")
 MOST_REPORTS = 16
 
@@ -82,6 +83,7 @@ class Survey:
     items: list[Event]  # The attempt's events, without steps of sources behind its last own one.
     first: dict[tuple[str, bool], SuspendResume] = field(default_factory=dict)
     cpus: list[int] = field(default_factory=list)  # Of CPU_OFF, in order.
+    on: set[int] = field(default_factory=set)  # Of CPU_ON: the kernel puts on again what went off.
     begins: dict[Phase, dict] = field(default_factory=dict)  # By device.
     errors: dict[Phase, list[CallbackEnd]] = field(default_factory=dict)
     events: list[SourceActivate] = field(default_factory=list)
@@ -154,6 +156,8 @@ def take_step(found: Survey, event: SuspendResume) -> None:
     found.first.setdefault((event.action, event.is_begin), event)
     if event.action == "CPU_OFF" and event.is_begin:
         found.cpus.append(event.value)
+    elif event.action == "CPU_ON" and event.is_begin:
+        found.on.add(event.value)
     if found.turn is None and event.is_begin and event.action in TURNS:
         found.turn = event
 
@@ -390,7 +394,7 @@ class Decider:
             return self.plain(Where.CPUS, Why.PM_TEST, debug)
         if (aborted := self.message(Fact.CPU_ABORTED)) is not None:
             return self.event(Where.CPUS, aborted)
-        if (failed := self.message(Fact.CPU_ERROR)) is not None:
+        if (failed := self.message(Fact.CPU_ERROR)) is not None or self.seen.cpus[-1] not in self.seen.on:
             return self.plain(Where.CPUS, Why.ERROR, failed)
         all_went = self.processors is not None and len(self.seen.cpus) >= self.processors - 1
         if self.stopper is not None and not all_went:
@@ -430,7 +434,7 @@ def arranged(seen: Survey, outcome: Outcome) -> list[Event]:
     if outcome.why == Why.EVENT and outcome.event is not None and outcome.turn is not None:
         hold_event(seen, outcome, keys)
     for phase, ends in seen.errors.items():
-        if phase != Phase.PREPARE:
+        if phase in STOPPED:
             delay_errors(seen, phase, ends, keys)
     if not keys:
         return seen.items

@@ -3,6 +3,7 @@
 from __future__ import annotations
 
 import errno
+import re
 
 from ..kernel.recording import CallbackBegin, CallbackEnd, Fact, Phase, SourceActivate
 from .attempt import Following
@@ -49,7 +50,14 @@ class Teller:
             return "EBUSY"
         if outcome.why == Why.ERROR and outcome.where in (Where.PREPARE, Where.SUSPEND, Where.LATE, Where.NOIRQ):
             return self.phase_error(seen.errors[self.phase()])
-        return None
+        number = self.processor_error() if outcome.why == Why.ERROR else None
+        return errno.errorcode.get(-number, str(number)) if number else None
+
+    def processor_error(self) -> int | None:
+        """The error of a processor that did not go off, where dmesg tells it."""
+        message = self.outcome.message
+        found = re.search(r"down: (-\d+)$", message.text) if message is not None and self.outcome.where == Where.CPUS else None
+        return int(found[1]) if found else None
 
     def phase(self) -> Phase:
         """The phase in which a callback answered an error."""
@@ -179,7 +187,9 @@ class Teller:
             return [self.callback_error(end) for end in seen.errors[self.phase()]]
         message = f" (dmesg line {outcome.message.line}: {outcome.message.text})" if outcome.message else ""
         if outcome.where == Where.CPUS:
-            return [f"A processor did not go off{message}; its error is not told."]
+            number = self.processor_error()
+            error = f"with {error_text(number)}" if number else "; its error is not told"
+            return [f"Processor {seen.cpus[-1]} did not go off{message}{' ' if number else ''}{error}."]
         return [f"A step of the system core failed{message}; its error is not told."]
 
     def callback_error(self, end: CallbackEnd) -> str:
