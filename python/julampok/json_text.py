@@ -25,6 +25,9 @@ EXPECTED = {
 }
 
 
+CLOSING = {"first": "]", "item end": "]", "first key": "}", "member end": "}"}
+
+
 class NoJson(Exception):
     """The bytes are no JSON: the line and the column, both from 1, and what is wrong there."""
 
@@ -100,54 +103,83 @@ def places(text):
 
     Raises NoJson at the first letter that JSON does not have there. An element comes before the list or object around it.
     """
-    path, opened, keys, wanted, at = [], [], [], "value", SPACE.match(text).end()
-    while wanted != "end":
-        found = TOKEN.match(text, at)
+    walk = Walk(text)
+    while walk.wanted != "end":
+        value = walk.step()
+        if value is not None:
+            yield value
+    if walk.at < len(text):
+        raise unexpected(text, walk.at, "end", [])
+
+
+class Walk:
+    """A way through a JSON text, a token at a time: what is open, the path to what stands here, and what has to come."""
+
+    def __init__(self, text):
+        self.text, self.at = text, SPACE.match(text).end()
+        self.opened = []  # The lists and objects around: their first letter, and where it stands.
+        self.path, self.keys = [], []  # Of each of them the member or number, and where the member's name stands.
+        self.wanted = "value"
+
+    def step(self):
+        """Goes past the next token; gives the value that ends there, if one does."""
+        found = TOKEN.match(self.text, self.at)
         kind, token = (found.lastgroup, found.group()) if found else (None, None)
-        wanted_now, begin = wanted, at
-        if wanted in ("key", "first key") and kind == "text":
-            check_text(text, token, at)
-            path.append(json.loads(token))
-            keys.append(at)
-            wanted = "colon"
-        elif wanted == "colon" and token == ":":
-            wanted = "value"
-        elif wanted in ("value", "first") and token in ("{", "["):
-            if len(opened) == DEEPEST:
-                raise fault(text, at, f"lists and objects stand more than {DEEPEST} deep in each other")
-            opened.append((token, at))
-            wanted = "first key" if token == "{" else "first"
-            if token == "[":
-                path.append(0)
-                keys.append(None)
-        elif wanted in ("value", "first") and kind in ("text", "number", "word"):
-            check_value(text, kind, token, at)
-            yield tuple(path), begin, found.end(), keys[-1] if keys else None
-            wanted = behind(opened)
-        elif wanted == "item end" and token == ",":
-            path[-1] += 1
-            wanted = "value"
-        elif wanted == "member end" and token == ",":
-            path.pop()
-            keys.pop()
-            wanted = "key"
-        elif (wanted in ("first", "item end") and token == "]") or (wanted in ("first key", "member end") and token == "}"):
-            if wanted != "first key":
-                path.pop()
-                keys.pop()
-            _, begin = opened.pop()
-            yield tuple(path), begin, found.end(), keys[-1] if keys else None
-            wanted = behind(opened)
+        begin, value = self.at, None
+        if self.wanted in ("value", "first") and kind in ("text", "number", "word"):
+            check_value(self.text, kind, token, self.at)
+            value = self.ended(begin, found.end())
+        elif self.wanted in ("value", "first") and token in ("{", "["):
+            self.open(token)
+        elif token is not None and token == CLOSING.get(self.wanted):
+            value = self.close(found.end())
+        elif not self.between(kind, token):
+            raise unexpected(self.text, self.at, self.wanted, self.opened)
+        self.at = SPACE.match(self.text, found.end()).end()
+        return value
+
+    def between(self, kind, token):
+        """Takes a member's name, a colon or a comma where one has to come."""
+        if self.wanted in ("key", "first key") and kind == "text":
+            check_text(self.text, token, self.at)
+            self.path.append(json.loads(token))
+            self.keys.append(self.at)
+            self.wanted = "colon"
+        elif self.wanted == "colon" and token == ":":
+            self.wanted = "value"
+        elif self.wanted == "item end" and token == ",":
+            self.path[-1] += 1
+            self.wanted = "value"
+        elif self.wanted == "member end" and token == ",":
+            self.leave()
+            self.wanted = "key"
         else:
-            raise unexpected(text, at, wanted_now, opened)
-        at = SPACE.match(text, found.end()).end()
-    if at < len(text):
-        raise unexpected(text, at, "end", opened)
+            return False
+        return True
 
+    def open(self, token):
+        if len(self.opened) == DEEPEST:
+            raise fault(self.text, self.at, f"lists and objects stand more than {DEEPEST} deep in each other")
+        self.opened.append((token, self.at))
+        self.wanted = "first key" if token == "{" else "first"
+        if token == "[":
+            self.path.append(0)
+            self.keys.append(None)
 
-def behind(opened):
-    """What has to come behind a value."""
-    return "end" if not opened else "member end" if opened[-1][0] == "{" else "item end"
+    def close(self, end):
+        if self.wanted != "first key":
+            self.leave()
+        _, begin = self.opened.pop()
+        return self.ended(begin, end)
+
+    def leave(self):
+        self.path.pop()
+        self.keys.pop()
+
+    def ended(self, begin, end):
+        """A value that ends here; what has to come behind it."""
+        self.wanted = "end" if not self.opened else "member end" if self.opened[-1][0] == "{" else "item end"
+        return tuple(self.path), begin, end, self.keys[-1] if self.keys else None
 
 
 def lone_half(token):
@@ -183,12 +215,7 @@ def check_value(text, kind, token, at):
 def unexpected(text, at, wanted, opened):
     """What is wrong at a letter."""
     if at >= len(text):
-        if not text.strip():
-            return fault(text, at, "the file is empty")
-        kind, begin = opened[-1] if opened else ("", 0)
-        line, column = place_at(text, begin)
-        name = {"{": "object", "[": "list"}.get(kind, "value")
-        return fault(text, at, f"the file ends inside the {name} that begins in line {line}, column {column}; {EXPECTED[wanted]} is missing")
+        return early_end(text, wanted, opened)
     letter = text[at]
     if letter == '"' and wanted in ("value", "first", "key", "first key"):
         return open_text(text, at)
@@ -196,19 +223,31 @@ def unexpected(text, at, wanted, opened):
         return fault(text, at, "a byte order mark stands before the text; JSON has none")
     word = re.match(r"[\w.+-]{1,40}", text[at:at + 40])
     said = word.group() if word and letter not in "+." else letter
-    hint = FOUND.get(letter, "")
+    hint = hint_of(said, letter, wanted, opened)
+    return fault(text, at, f"expected {EXPECTED[wanted]}, found {said!r}{'; ' * bool(hint)}{hint}")
+
+
+def early_end(text, wanted, opened):
+    """What is missing at the end of a file."""
+    if not text.strip():
+        return fault(text, len(text), "the file is empty")
+    kind, begin = opened[-1] if opened else ("", 0)
+    line, column = place_at(text, begin)
+    name = {"{": "object", "[": "list"}.get(kind, "value")
+    return fault(text, len(text), f"the file ends inside the {name} that begins in line {line}, column {column}; {EXPECTED[wanted]} is missing")
+
+
+def hint_of(said, letter, wanted, opened):
+    """What may have been meant by what JSON does not have."""
     if re.fullmatch(r"-?0\d+", said):
-        hint = "a number has no 0 before it"
-    elif said in WORDS:
-        hint = f"JSON spells it '{WORDS[said]}'" if WORDS[said] else "JSON has no such value"
-    elif word and wanted in ("key", "first key"):
-        hint = "a member's name stands in double quotes"
-    elif letter in "}]" and wanted in ("key", "value") and opened:
-        hint = "the ',' before it is one too many"
-    elif wanted == "end":
-        hint = "the file is one value, and it ended before this"
-    hint = f"; {hint}" if hint else ""
-    return fault(text, at, f"expected {EXPECTED[wanted]}, found {said!r}{hint}")
+        return "a number has no 0 before it"
+    if said in WORDS:
+        return f"JSON spells it '{WORDS[said]}'" if WORDS[said] else "JSON has no such value"
+    if wanted in ("key", "first key") and re.match(r"[\w-]", letter):
+        return "a member's name stands in double quotes"
+    if letter in "}]" and wanted in ("key", "value") and opened:
+        return "the ',' before it is one too many"
+    return FOUND.get(letter, "the file is one value, and it ended before this" if wanted == "end" else "")
 
 
 def open_text(text, at):
