@@ -41,12 +41,13 @@ def version():
     """The number in pyproject.toml, or that of the installed package."""
     import pathlib
     import tomllib
+    from importlib import metadata
     file = pathlib.Path(__file__).resolve().parents[2] / "pyproject.toml"
     try:
-        return tomllib.loads(file.read_text())["project"]["version"]
+        project = tomllib.loads(file.read_text())["project"]
     except (OSError, KeyError, ValueError):
-        from importlib import metadata
-        return metadata.version("julampok")
+        project = {}
+    return project["version"] if project.get("name") == "julampok" else metadata.version("julampok")
 
 
 class Version(argparse.Action):

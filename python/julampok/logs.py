@@ -22,6 +22,8 @@ def read_log_file(path):
 
 def read_story(path, machine=None):
     """The story of a log, with its machine file where one is given; None for an empty log. Raises CannotError."""
+    if str(path) == str(machine) == "-":
+        raise CannotError("standard input can be the machine or the log, not both")
     log = read_log_file(path)
     if log is None:
         return None

@@ -172,7 +172,29 @@ def why_nothing(judge, tree, line, who):
         return "its source has no event whose end has come"
     if who.startswith("dev:"):
         return device_words(run, who[4:])
+    return maker_words(run) if who == run.maker else script_words(run, task)
+
+
+def maker_words(run):
+    """For whom whoever makes the attempt waits."""
+    if run.phase is not None:
+        waits = sorted(run.phase.scheduled - run.phase.over, key=run.places.__getitem__)
+        return f"in {run.phase.name} it waits for {quoted(waits[:5], 'and')}" if waits else f"it waits for a device in {run.phase.name}"
+    if run.deadline is not None:
+        left = [task.name for task in run.tasks if task.asked and not task.frozen and not task.exited]
+        return f"the freeze waits for {quoted(left[:5], 'and')}, until {run.deadline} ms"
     return "it waits"
+
+
+def script_words(run, task):
+    """For what a script waits."""
+    if task is None:
+        return "the autosleep work has nothing to do, or waits"
+    if task.until is not None:
+        return f"it sleeps until {task.until} ms"
+    if run.lock is not None and run.lock != task.label:
+        return f"{run.lock} holds the lock"
+    return f"it waits for the {task.waits_for}" if task.waits_for and task.waits_for.startswith("mark") else "it waits until no event is in progress"
 
 
 def device_words(run, d):
