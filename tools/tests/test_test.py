@@ -52,6 +52,12 @@ class Counted(unittest.TestCase):
         self.assertIn("failed test_a.T.test_one:", out)
         self.assertIn("AssertionError: 1 != 2", out)
 
+    def test_a_test_that_says_too_much(self):
+        self.write("test_a.py", case("def test_one(self): self.fail('x' * 100_000)\ndef test_two(self): self.fail('y\\n' * 10_000)"))
+        status, last, out = self.run_tests()
+        self.assertEqual((status, last), (1, "0 passed, 2 failed"))
+        self.assertLess(len(out), 5000)
+
     def test_parts_of_a_test_count_once(self):
         self.write("test_a.py", case('''
             def test_one(self):

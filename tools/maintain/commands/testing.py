@@ -15,6 +15,7 @@ from maintain.trials.subject import whole
 
 HELP = "runs the tests of both tools"
 EXAMPLE = "tools/dev test draw why"
+MOST_LINES, MOST_LETTERS = 60, 400  # Of what a test that failed said.
 
 
 def add_arguments(parser):
@@ -24,17 +25,23 @@ def add_arguments(parser):
     parser.add_argument("--jobs", type=whole, default=len(os.sched_getaffinity(0)), help="how many files at once (default: the processors, %(default)s)")
 
 
+def shown(text):
+    """The end of what a test said, and the beginning of each of its lines, shifted to the right."""
+    lines = text.strip().splitlines()[-MOST_LINES:]
+    return "".join(f"    {line if len(line) <= MOST_LETTERS else line[:MOST_LETTERS] + '..'}\n" for line in lines)
+
+
 def tell(ran):
     """Prints a line on a file, and what its tests said that failed or were skipped."""
     results = ran.results
     word = "FAILED" if results.failed else "passed"
-    print(f"{word} {ran.name}: {results.line()}, {ran.seconds:.1f} s", flush=True)
+    print(f"{word} {ran.name}: {results.line()}, {ran.seconds:.1f} s, {results.processor:.1f} s of a processor", flush=True)
     for name, why in results.skipped.items():
         print(f"  skipped {name}: {why}")
     for name, why in results.failed.items():
-        print(f"  failed {name}:\n" + "".join(f"    {line}\n" for line in why.splitlines()), end="")
+        print(f"  failed {name}:\n{shown(why)}", end="")
     if results.failed and ran.printed.strip():
-        print("  it printed:\n" + "".join(f"    {line}\n" for line in ran.printed.splitlines()[-40:]), end="", flush=True)
+        print(f"  it printed:\n{shown(ran.printed)}", end="", flush=True)
 
 
 def run(given):

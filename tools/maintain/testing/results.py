@@ -12,6 +12,7 @@ class Results:
     passed: int = 0
     failed: dict = field(default_factory=dict)
     skipped: dict = field(default_factory=dict)
+    processor: float = 0.0  # Seconds of a processor that they took, with the programs that they ran.
 
     @property
     def count(self):
@@ -23,6 +24,7 @@ class Results:
         self.passed += other.passed
         self.failed |= other.failed
         self.skipped |= other.skipped
+        self.processor += other.processor
 
     def line(self):
         """The line at the end of all."""
