@@ -276,10 +276,10 @@ class Kernel:
         self.source("autosleep", True)
         self.source("autosleep", False)
 
-    def autosleep(self, plan=None):
+    def autosleep(self, plan=None, **given):
         """An attempt of the autosleep work."""
         self.main = WORKER
-        answer = self.attempt(True, plan)
+        answer = self.attempt(True, plan, **given)
         self.main = MAIN
         return answer
 

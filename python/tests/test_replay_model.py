@@ -13,7 +13,7 @@ from kernel_model import Kernel
 assert command_tests
 PLACES = ["notifiers", "user", "kernel", "begin", "prepare", "prepare_late", "cpu1", "cpu2", "core"]
 LEVELS = ["freezer", "devices", "platform", "processors", "core"]
-KINDS = ["none", "event", "event", "hard", "soft", "report", "error", "prepare", "platform", "notifier", "core", "pm_test", "refuse", "s2idle"]
+KINDS = ["none", "event", "event", "hard", "soft", "report", "error", "prepare", "platform", "notifier", "core", "pm_test", "refuse", "s2idle", "up"]
 ANSWERS = {0: "0", -5: "EIO", -16: "EBUSY", -19: "ENODEV", -110: "ETIMEDOUT", -12: "ENOMEM", None: None}
 
 
@@ -36,6 +36,11 @@ class Trial:
         found = [(d.name, phase) for d in self.kernel.list for phase in ("suspend", "late", "noirq") if phase in d.callbacks]
         return self.dice.choice(found or ["begin"])
 
+    def up_error(self):
+        """A callback on the way up that answers an error, which changes nothing."""
+        found = [(d.name, phase) for d in self.kernel.list for phase in ("resume_noirq", "early", "resume") if phase in d.callbacks]
+        return {self.dice.choice(found): ("error", -5)} if found else {}
+
     def attempt(self, kind):
         """An attempt of a kind."""
         pick, length = self.dice.choice, self.dice.choice([0, 0, 3])
@@ -46,6 +51,7 @@ class Trial:
             "report": lambda: {self.callback(): ("report",)},
             "error": lambda: {self.callback(): ("error", pick([-5, -16, -19, -110, -12]))},
             "prepare": lambda: {(pick(self.kernel.list).name, "prepare"): ("error", pick([-5, -16, -12]))},
+            "up": lambda: self.up_error(),
             "platform": lambda: {"platform " + pick(["begin", "prepare", "prepare_late"]): True},
             "notifier": lambda: {"notifier": True}, "core": lambda: {"core step": True},
         }
@@ -75,7 +81,8 @@ class Trial:
             elif what == "auto" and not is_held:
                 kernel.write_autosleep()
                 for _ in range(0 if is_auto else pick([1, 2, 3])):
-                    kernel.autosleep(pick([{}, {"begin": ("event", "lid", False, 0)}, {"platform prepare": True}]))
+                    kernel.autosleep(pick([{}, {"begin": ("event", "lid", False, 0)}, {"platform prepare": True}]),
+                                     refuses=pick([None, None, "user"]))
                 is_auto = not is_auto
 
     def replay(self, folder, without=()):

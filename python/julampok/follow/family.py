@@ -20,8 +20,11 @@ class OutOfOrder(Exception):
     """The kernel did what no legal log has.
 
     `line` is the line of the trace, `did` what the kernel did there, `first` what had to come first, `first_line` the line
-    in which that stands (None: in none), `because` the parents, links and places in the list that say so.
+    in which that stands (None: in none), `because` the parents, links and places in the list that say so, `entry` the step as
+    a log has it, and `is_by_list` says that the place in the list alone keeps the device waiting.
     """
+
+    is_by_list = False
 
     def __init__(self, line: int, did: str, first: str, first_line: int | None, because: list[str], entry: tuple | None = None):
         super().__init__(f"line {line}: {did}; {first}")

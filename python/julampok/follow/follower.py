@@ -159,6 +159,8 @@ class Follower:
         journal = self.journal
         if plan.is_saved or plan.outcome.guard != Guard.SAVED:
             return
+        if plan.maker is not None and journal.is_checking and not (journal.has_moved() and plan.seen.tests):
+            return  # (the count of an attempt that did not get past the freeze is still in force)
         if not journal.may_save():
             if plan.maker is None:
                 raise CannotError("the autosleep work began an attempt while an event was in progress", self.file, plan.attempt.line)
@@ -175,12 +177,24 @@ class Follower:
         journal.put(plan.maker.label, f"read {journal.visible}")
         journal.put(plan.maker.label, f"save {journal.save()} ok")
 
+    def let_count_go(self, plan: Plan) -> None:
+        """A count of an earlier attempt is no longer in force, where an event moved it and no test of this attempt found that."""
+        journal = self.journal
+        if not journal.has_moved() or plan.outcome.why == Why.EVENT:
+            return
+        count = journal.visible + 1
+        plan.maker.steps.append({"op": "save", "count": count})
+        journal.put(plan.maker.label, f"save {count} EINVAL")
+        journal.is_checking = False
+        self.note("the count of an earlier attempt was in force no longer: in the log a save that fails ends that", plan.attempt.line)
+
     def open_attempt(self, following: Following) -> None:
         """The first entry of an attempt."""
         plan, journal = following.plan, self.journal
         self.save(plan)
         if plan.maker is not None:
             journal.act(plan.maker)
+            self.let_count_go(plan)
             plan.maker.steps.append({"op": "state", "text": "mem"})
         journal.maker = plan.maker
         guard = f"guarded {journal.saved_count}" if journal.is_checking else "plain"

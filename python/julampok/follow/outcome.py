@@ -182,17 +182,24 @@ def is_behind_test(event: SuspendResume) -> bool:
 # ---- how it ended
 
 
+def since_write(earlier: list[tuple[SourceActivate, bool]]) -> list[tuple[SourceActivate, bool]]:
+    """The activations behind the last write to autosleep: its work saves the count only after that."""
+    last = max((place for place, (event, _) in enumerate(earlier) if event.source == "autosleep"), default=-1)
+    return earlier[last + 1:]
+
+
 class Decider:
     """Decides how one attempt ended.
 
     `active` says whether a source was active as the attempt began; `earlier` are the activations since the attempt before,
-    each with whether no other source was active then.
+    each with whether no other source was active then; `expected` are the devices that have a suspend callback in some attempt.
     """
 
     def __init__(self, seen: Survey, clock: Clock, is_auto: bool, active: bool, earlier: list[tuple[SourceActivate, bool]],
-                 processors: int | None):
-        self.seen, self.clock, self.is_auto, self.active, self.earlier = seen, clock, is_auto, active, earlier
-        self.processors = processors
+                 processors: int | None, expected: set):
+        self.seen, self.clock, self.is_auto, self.active = seen, clock, is_auto, active
+        self.earlier = since_write(earlier) if is_auto else earlier
+        self.processors, self.expected = processors, expected
         self.told = seen.attempt.told
         self.stopper = self.find_stopper()
 
@@ -247,15 +254,22 @@ class Decider:
     def event(self, where: Where, message: Message | None = None, or_else: str = "") -> Outcome:
         """The outcome of a test that found an event."""
         pending = self.message(Fact.WAKEUP_PENDING)
-        found = self.stopper or Outcome(where, Why.EVENT, self.seen.turn, guard=Guard.SAVED, is_guard_told=pending is not None)
+        found = self.stopper or self.unseen()
         found.where, found.why, found.message, found.or_else = where, Why.EVENT, message or pending, or_else
         return found
 
     # ---- the event that stopped it
 
+    def unseen(self) -> Outcome:
+        """An event of which the trace has no line."""
+        pending, irq = self.message(Fact.WAKEUP_PENDING), self.message(Fact.TRIGGERED_IRQ)
+        is_told = self.is_auto or pending is not None or irq is not None or self.told is not None and self.told.has_debug_messages
+        guard = Guard.PLAIN if is_told and pending is None and not self.is_auto else Guard.SAVED
+        return Outcome(Where.SUSPEND, Why.EVENT, self.seen.turn, guard, is_told)
+
     def find_stopper(self) -> Outcome | None:
         """The event that a test may have found, with what made the test find it; None where the trace has none."""
-        if self.seen.turn is None:
+        if self.seen.turn is None or self.message(Fact.TRIGGERED_IRQ) and not self.message(Fact.WAKEUP_PENDING):
             return None
         saved, hard = self.saved(), None if self.is_auto else self.hard()
         pending = self.message(Fact.WAKEUP_PENDING)
@@ -354,9 +368,14 @@ class Decider:
             return self.event(Where.SUSPEND)
         if self.is_whole or self.completed(Phase.SUSPEND):
             return self.plain(Where.PLATFORM_PREPARE, Why.NOT_TOLD, self.completed(Phase.SUSPEND))
-        if self.stopper is not None:
-            return self.event(Where.SUSPEND, None, "a failure of the platform's prepare, or pm_test")
+        if self.stopper is not None or self.is_cut_short():
+            return self.event(Where.SUSPEND, None, "" if self.is_cut_short() else "a failure of the platform's prepare, or pm_test")
         return self.plain(Where.PLATFORM_PREPARE, Why.NOT_TOLD, None, "pm_test, or a test that found an event of which the trace has no line")
+
+    def is_cut_short(self) -> bool:
+        """Whether a device was prepared that has a suspend callback in another attempt, and here none and none of resume."""
+        here = self.seen.begins.get(Phase.SUSPEND, {}).keys() | self.seen.begins.get(Phase.RESUME, {}).keys()
+        return bool((self.expected & self.seen.begins.get(Phase.PREPARE, {}).keys()) - here)
 
     def failed(self, phase: Phase) -> Message | None:
         """The message that a phase was aborted."""
@@ -376,7 +395,8 @@ class Decider:
     def before_processors(self) -> Outcome:
         """Noirq went well, and nothing came behind it."""
         if (debug := self.message(Fact.SUSPEND_DEBUG)) is not None:
-            return self.plain(Where.PREPARE_LATE, Why.PM_TEST, debug)
+            where = Where.CPUS if self.text("Disabling non-boot CPUs") else Where.PREPARE_LATE
+            return self.plain(where, Why.PM_TEST, debug)
         if self.seen.attempt.state == 1 or self.message(Fact.SUSPEND_TO_IDLE):
             idle = self.message(Fact.SUSPEND_TO_IDLE)
             return self.plain(Where.IDLE, Why.NOTHING, idle, "" if idle else "a failure of the platform, or pm_test")

@@ -224,7 +224,9 @@ class Down:
     def refuse_walk(self, device: int, event: CallbackBegin, did: str, entry: tuple) -> None:
         """Says what the walk had to take before it came to a device."""
         other, because = self.walk_blocker(device, [])
-        raise OutOfOrder(event.line, did, *self.words_of(other), because, entry)
+        found = OutOfOrder(event.line, did, *self.words_of(other), because, entry)
+        found.is_by_list = self.stage.kin.is_async[device]
+        raise found
 
     def words_of(self, device: int) -> tuple[str, int | None]:
         """What a device had to do first, and the line in which it did."""

@@ -87,6 +87,7 @@ class Planner:
         self.first_active: list[str] = []  # Sources that were active before the first line that names them.
         self.texts: dict[Event, str] = {}  # What each write to autosleep said, by its first step.
         self.surveys = [survey(attempt) for attempt in self.attempts]
+        self.expected = set().union(*(seen.begins.get(Phase.SUSPEND, {}).keys() for seen in self.surveys))
         self.plans = [self.plan(seen) for seen in self.surveys]
         last = self.surveys[-1]
         self.after = [event for event in recording.events[last.attempt.first + len(last.items):] if is_step(event)]
@@ -123,7 +124,8 @@ class Planner:
         before = [event for event in self.recording.events[begin:attempt.first] if is_step(event)]
         earlier = self.take_steps(before, {})
         is_active = any(found is not None for found in self.active.values())
-        outcome = Decider(seen, self.recording.clock, is_auto(attempt), is_active, earlier, self.recording.processors).decide()
+        outcome = Decider(seen, self.recording.clock, is_auto(attempt), is_active, earlier, self.recording.processors,
+                          self.expected).decide()
         self.take_steps([event for event in seen.items if is_step(event)], seen.reports)
         maker = None if is_auto(attempt) else self.task_of(attempt.events[0])
         if maker is not None:
@@ -189,8 +191,10 @@ class Planner:
 
     def stand_in_event(self, plan: Plan) -> None:
         """An event that stopped an attempt and that no line shows: a source of its own makes it."""
-        message = plan.attempt.told.first(Fact.ACTIVE_SOURCE, Fact.LAST_SOURCE) if plan.attempt.told else None
-        name = message.words if message else NOT_TOLD
+        told = plan.attempt.told
+        message = told.first(Fact.ACTIVE_SOURCE, Fact.LAST_SOURCE) if told and told.first(Fact.WAKEUP_PENDING) else None
+        irq = told.first(Fact.TRIGGERED_IRQ) if told else None
+        name = message.words if message else f"IRQ {irq.number}" if irq else NOT_TOLD
         self.sources[name] = None
         self.line_of(name).left += 1
         plan.stand_ins.append(("event", name))

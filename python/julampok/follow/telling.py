@@ -108,7 +108,10 @@ class Teller:
         """An event stopped it."""
         event, found = self.outcome.event, []
         if event is None:
-            message = self.told.first(Fact.ACTIVE_SOURCE, Fact.LAST_SOURCE) if self.told else None
+            pending, irq = (self.told.first(Fact.WAKEUP_PENDING), self.told.first(Fact.TRIGGERED_IRQ)) if self.told else (None, None)
+            message = self.told.first(Fact.ACTIVE_SOURCE, Fact.LAST_SOURCE) if pending else None
+            if message is None and irq is not None:
+                return [f"IRQ {irq.number} stopped it (dmesg line {irq.line}): a hard event without a source, of which the trace has no line.", self.test()]
             who = f"{message.words} (dmesg line {message.line})" if message else "a source that no input names"
             found.append(f"An event of {who} stopped it; no line of the trace shows the event.")
         else:

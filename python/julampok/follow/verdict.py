@@ -18,6 +18,7 @@ from .telling import Teller, error_text
 from .way import difference, way_of_trace, ways_of_log
 
 FIRST, LAST = (6, 1), (6, 2)  # The versions whose rules are these.
+ASYNC_FIRST = (6, 16)  # From here on asynchronous devices begin before the walk comes to their place in the list.
 
 
 @dataclass(slots=True, frozen=True)
@@ -48,6 +49,7 @@ class AttemptTold:
     answer: str | None
     sentences: list[str]
     stand_ins: list[str] = field(default_factory=list)
+    is_sure: bool = True  # Whether the inputs leave no other reading of what stopped it, and so of its answer.
     judged_to: int | None = None  # The line down to which the kernel's own way was judged; None: the whole.
     faults: list[int] = field(default_factory=list)  # Lines of callbacks that answered an error.
     fault_devices: list[Device] = field(default_factory=list)
@@ -91,6 +93,9 @@ def replay(recording: Recording, judge=None) -> Replay:
 def replayed(recording: Recording, judge) -> Replay:
     """Follows a recording, and judges the log."""
     follower, broken = followed(recording)
+    if broken is not None and broken.is_by_list and recording.version >= ASYNC_FIRST:
+        raise CannotError(f"{broken.did}, but {broken.first}: so by the rules of Linux 6.1; since 6.16, and so in {recording.version_text} "
+                          f"({recording.version_from}), asynchronous devices do not wait for their place in the list", recording.trace_file, broken.line)
     text = follower.journal.end() if broken is None else broken_log(follower, broken)
     machine = machine_of(follower)
     if (why := fits(machine)):
@@ -148,8 +153,9 @@ def broken_log(follower: Follower, found: OutOfOrder) -> str:
     for script in follower.journal.scripts:
         if script.nap is not None:
             place, step, begun = script.nap
-            step["ms"], script.nap = 1, None
-            follower.journal.lines[place] += str(begun + 1)
+            until = max(follower.journal.time, begun + 1)
+            step["ms"], script.nap = until - begun, None
+            follower.journal.lines[place] += str(until)
     return follower.journal.end()
 
 
@@ -173,7 +179,7 @@ def told(following: Following, recording: Recording) -> AttemptTold:
     first = attempt.events[0]
     ends = [end for ends in following.seen.errors.values() for end in ends]
     found = AttemptTold(attempt.number, attempt.line, following.seen.last_line, f"{first.task}-{first.pid}", teller.answer(), teller.sentences(),
-                        stand_ins_of(following), faults=[end.begin.line for end in ends], fault_devices=[end.device for end in ends])
+                        stand_ins_of(following), not plan.outcome.or_else, faults=[end.begin.line for end in ends], fault_devices=[end.device for end in ends])
     outcome = plan.outcome
     if outcome.why in (Why.PM_TEST, Why.NOT_TOLD) or outcome.where == Where.IDLE or outcome.why == Why.ERROR and outcome.where in (Where.CPUS, Where.SYSCORE):
         found.judged_to = judged_to(following)
@@ -270,4 +276,6 @@ def headline(found: Replay, recording: Recording) -> str:
     limits = [f"attempt {one.number} down to line {one.judged_to}" for one in found.attempts if one.judged_to is not None]
     if limits:
         return f"legal, by the kernel's own way: {', '.join(limits[:4])}{f' and {len(limits) - 4} more so' if len(limits) > 4 else ''}, where the log stands in. Judged {by}."
+    if not all(one.is_sure for one in found.attempts):
+        return f"legal, by the kernel's own way. Judged {by}."
     return f"legal, by the kernel's own way and with its answer. Judged {by}."
