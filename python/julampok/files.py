@@ -3,6 +3,7 @@
 import gzip
 import os
 import pathlib
+import re
 import shutil
 import sys
 import tempfile
@@ -28,6 +29,21 @@ def read_bytes(path):
         return gzip.decompress(data)
     except (OSError, EOFError, zlib.error) as fault:
         raise CannotError(f"cannot be unpacked: {fault}", path) from None
+
+
+# What a file of another kind begins with.
+KINDS = [
+    (re.compile(rb"\d+ \d+/\d+/\d+ \S+ \w"), "a log"), (re.compile(rb"# tracer:|cpus=\d+\n|\s*\S.*-\d+ +(\([\d -]+\) +)?\[\d+\]"), "a trace"),
+    (re.compile(rb"\s*[\[{]"), "JSON"), (re.compile(rb"\x7fELF|MZ"), "a program"), (re.compile(rb"\x89PNG|\xff\xd8\xff|GIF8"), "a picture"),
+    (re.compile(rb"\s*<(!DOCTYPE|html|svg|\?xml)"), "a page"), (re.compile(rb"\x17\x08\x44tracing"), "a trace.dat, of which 'trace-cmd report' makes a trace"),
+    (re.compile(rb"#!"), "a script"), (re.compile(rb"(\[ *\d+\.\d+\] |<\d+>)"), "a kernel's messages"),
+]
+
+
+def looks_like(data, but=""):
+    """A part of a sentence that says what kind of file the bytes look like; nothing where that is not known, or the kind wanted."""
+    found = next((kind for expression, kind in KINDS if expression.match(data[:4096])), None)
+    return f"; this looks like {found}" if found and found != but else ""
 
 
 def reason(fault):

@@ -42,6 +42,7 @@ def place_at(text, at):
 
 
 def fault(text, at, why):
+    """The refusal of a letter, by its place in the text."""
     return NoJson(*place_at(text, at), why)
 
 
@@ -77,6 +78,7 @@ def whole(digits):
 
 
 def fraction(digits):
+    """A number that is no whole one. Raises ValueError where it is too great."""
     value = float(digits)
     if math.isinf(value):
         raise ValueError(digits)
@@ -84,6 +86,7 @@ def fraction(digits):
 
 
 def refuse(word):
+    """Refuses NaN and its like, which are no JSON."""
     raise ValueError(word)
 
 
@@ -158,6 +161,7 @@ class Walk:
         return True
 
     def open(self, token):
+        """Goes into a list or an object."""
         if len(self.opened) == DEEPEST:
             raise fault(self.text, self.at, f"lists and objects stand more than {DEEPEST} deep in each other")
         self.opened.append((token, self.at))
@@ -167,12 +171,14 @@ class Walk:
             self.keys.append(None)
 
     def close(self, end):
+        """Goes out of a list or an object, which is the value that ends there."""
         if self.wanted != "first key":
             self.leave()
         _, begin = self.opened.pop()
         return self.ended(begin, end)
 
     def leave(self):
+        """Leaves the element or the member that the way stood in."""
         self.path.pop()
         self.keys.pop()
 
@@ -206,6 +212,7 @@ def check_text(text, token, at):
 
 
 def check_value(text, kind, token, at):
+    """Raises NoJson where a text or a number is one that the program does not read."""
     if kind == "text":
         check_text(text, token, at)
     if kind == "number" and math.isinf(float(token)):

@@ -4,7 +4,7 @@ from .drawing.machine import NoMachine, devices_seen, read_machine
 from .drawing.reading import Refused, read_log
 from .drawing.story import Story
 from .errors import CannotError
-from .files import read_bytes
+from .files import looks_like, read_bytes
 
 
 def add_log(parser):
@@ -14,10 +14,12 @@ def add_log(parser):
 
 def read_log_file(path):
     """The log of a file; None for a text without a line. Raises CannotError."""
+    data = read_bytes(path)
     try:
-        return read_log(read_bytes(path))
+        return read_log(data)
     except Refused as refused:
-        raise CannotError(refused.why, path, refused.line) from None
+        kind = looks_like(data, "a log") if refused.line == 1 else ""
+        raise CannotError(f"{refused.why}{kind}", path, refused.line) from None
 
 
 def read_story(path, machine=None):

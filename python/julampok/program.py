@@ -7,7 +7,7 @@ import re
 import subprocess
 
 from .errors import CannotError, one_line
-from .files import reason, say_later
+from .files import looks_like, reason, say_later
 from .json_text import NoJson, read_json
 from .limits import MOST_INPUT
 from .progress import current
@@ -63,7 +63,7 @@ def read_machine_json(machine, file):
     try:
         return read_json(machine)
     except NoJson as wrong:
-        raise CannotError(f"machine: rule 1: json (column {wrong.column}: {wrong.why})", file, wrong.line) from None
+        raise CannotError(f"machine: rule 1: json (column {wrong.column}: {wrong.why}{looks_like(machine, 'JSON')})", file, wrong.line) from None
 
 
 def refusal(said, machine, file):

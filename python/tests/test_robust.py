@@ -123,6 +123,16 @@ class BadInputs(unittest.TestCase):
                 self.refused(julampok(*words), words)
 
 
+    def test_what_it_looks_like(self):
+        """A file of another kind is told to be that."""
+        for words, kind in ((("run", LOG), "a log"), (("run", TRACE), "a trace"), (("explain", MACHINE), "JSON"), (("why", LOG), "a log"),
+                            (("check", MACHINE, MACHINE), "JSON"), (("check", LOG, MACHINE), "a log"), (("run", self.files["png"]), "a picture"),
+                            (("draw", self.files["program"]), "a program"), (("dmesg", self.files["page"]), "a page")):
+            done = julampok(*words)
+            self.refused(done, words)
+            self.assertIn(f"; this looks like {kind}", done.err)
+
+
 class Outputs(unittest.TestCase):
     def setUp(self):
         self.folder = tempfile.TemporaryDirectory()

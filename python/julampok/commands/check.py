@@ -8,7 +8,7 @@ so on standard error. Status 2: the text is no log, or the log is cut off.
 import json
 
 from ..errors import NO, YES, CannotError
-from ..files import read_bytes, write_out
+from ..files import looks_like, read_bytes, write_out
 from ..program import add_program, chosen
 from ..refusals.log_lines import cut_off
 
@@ -41,4 +41,4 @@ def refuse_no_log(log, found, file):
     if found.rule == GRAMMAR:
         why = cut_off(log.decode("utf-8", "replace"), found.line)
         if why is not None:
-            raise CannotError(f"{why} ({found.text})", file, found.line)
+            raise CannotError(f"{why} ({found.text}){looks_like(log, 'a log')}", file, found.line)

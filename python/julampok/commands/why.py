@@ -11,7 +11,7 @@ import json
 import os
 
 from ..errors import NO, YES, CannotError
-from ..files import read_bytes, write_out
+from ..files import looks_like, read_bytes, write_out
 from ..refusals import endings, log_lines, machine_files
 from ..json_text import NoJson, read_json
 
@@ -114,7 +114,7 @@ def broken_file(told, data, file):
     try:
         tree = read_json(data)
     except NoJson as wrong:
-        return CannotError(f"no JSON: {wrong.why} (column {wrong.column})", file, wrong.line)
+        return CannotError(f"no JSON: {wrong.why} (column {wrong.column}){looks_like(data, 'JSON')}", file, wrong.line)
     if isinstance(tree, dict) and "version" in tree:
         return None
     return CannotError("no machine file: it has no 'version'" if isinstance(tree, dict) else "no machine file: it is no object", file, 1)

@@ -17,10 +17,12 @@ class Form:
 
 
 def one_of(*words):
+    """The form of a text that is one of these."""
     return Form(word(*words), quoted(words), words)
 
 
 def from_to(least, most):
+    """The form of a whole number in a range."""
     return Form(number(least, most), f"a whole number from {least:,} to {most:,}")
 
 

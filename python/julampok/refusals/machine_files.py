@@ -94,6 +94,7 @@ def points(tree, rule, place):
 
 
 def value_at(tree, path):
+    """The value that stands at a path."""
     for key in path:
         tree = tree[key]
     return tree
@@ -105,6 +106,7 @@ def named_at(member, at):
 
 
 def top_points(tree, path):
+    """Rule 2: members that a machine file has not."""
     if not isinstance(tree, dict):
         return [Point(f"the file is {kind_of(tree)}, and has to be an object", ())]
     found = object_points({member: 0 for member in tree}, {}, ANYTHING, (), "a machine file")
@@ -113,6 +115,7 @@ def top_points(tree, path):
 
 
 def member_at_top(tree, path):
+    """Rules 3 and 4: a member that lacks, or has another form."""
     member = path[0]
     if member not in tree:
         return [Point(f"the file has no '{member}'; write \"version\": 1, or 2 for links that are dormant or that scripts change", ())]
@@ -120,6 +123,7 @@ def member_at_top(tree, path):
 
 
 def element_points(tree, path):
+    """Rule 5: what keeps an element from its form."""
     member, value = path[0], value_at(tree, path)
     what, required, optional = ELEMENTS[member]
     if required is None:
@@ -133,12 +137,14 @@ def element_points(tree, path):
 
 
 def length_points(tree, path):
+    """Rule 6: the first element too many."""
     member = path[0]
     most, count = MOST[member], len(tree[member])
     return [Point(f"'{member}' has {count:,} elements, and may have {most:,}; this is the first too many", (member, most))]
 
 
 def misspelled(tree, path):
+    """Rule 7: the letter that no name has."""
     value = value_at(tree, path)
     if isinstance(value, str):
         return name_points(value, path)
@@ -147,10 +153,12 @@ def misspelled(tree, path):
 
 
 def name_of(item):
+    """The name of an element, which may be the element itself."""
     return item if isinstance(item, str) else item["name"]
 
 
 def same_name(tree, path):
+    """Rules 8 and 13 to 15: who has the name already."""
     member, at = path
     name = name_of(tree[member][at])
     own = path if isinstance(tree[member][at], str) else (*path, "name")
@@ -162,6 +170,7 @@ def same_name(tree, path):
 
 
 def parent_points(tree, path):
+    """Rule 9: where the parent stands, or the nearest device."""
     at, devices = path[1], tree["devices"]
     parent, name = devices[at]["parent"], devices[at]["name"]
     later = next((place for place, device in enumerate(devices) if device["name"] == parent), None)
@@ -175,10 +184,12 @@ def parent_points(tree, path):
 
 
 def device_names(tree):
+    """The names of all devices."""
     return [device["name"] for device in tree.get("devices", [])]
 
 
 def end_points(tree, path):
+    """Rule 10: which end is no device, and the nearest."""
     link, names = value_at(tree, path), device_names(tree)
     known = set(names)
     return [Point(f"the {end} '{link[end]}' is no device{near_words(link[end], names)}", (*path, end))
@@ -186,6 +197,7 @@ def end_points(tree, path):
 
 
 def link_points(tree, path):
+    """Rule 11: the link that stands already."""
     link = value_at(tree, path)
     if link["supplier"] == link["consumer"]:
         return [Point(f"the link joins '{link['supplier']}' with itself", path)]
@@ -229,6 +241,7 @@ def way(below, begin, end):
 
 
 def operation_at(tree, path):
+    """Rule 16: what keeps an operation from its form."""
     return operation_points(value_at(tree, path), tree["version"], path)
 
 
@@ -236,6 +249,7 @@ WHO = {"user": "only tasks of user space ('user')", "task": "only tasks, not int
 
 
 def kind_points(tree, path):
+    """Rule 17: which operations the kind of an actor may make."""
     step, actor = value_at(tree, path), tree["actors"][path[1]]
     may = [op for op in rules.OPERATIONS if rules.is_allowed(actor, {"op": op}) and (tree["version"] == 2 or op not in rules.CHANGES)]
     text = f"'{actor['name']}' is of the kind '{actor['kind']}', and {WHO[rules.OPERATIONS[step['op']][2]]} may {step['op']!r}"
@@ -243,6 +257,7 @@ def kind_points(tree, path):
 
 
 def source_points(tree, path):
+    """Rule 18: the source that is not there, and the nearest."""
     value, sources = value_at(tree, path), tree.get("sources", [])
     known = set(sources)
     if path[0] == "actors":
@@ -254,6 +269,7 @@ def source_points(tree, path):
 
 
 def device_points(tree, path):
+    """Rule 19: the device that is not there, and the nearest."""
     value, names = value_at(tree, path), device_names(tree)
     known = set(names)
     return [Point(f"the file has no device '{value[end]}'{near_words(value[end], names)}", (*path, end))
@@ -261,6 +277,7 @@ def device_points(tree, path):
 
 
 def thing_points(tree, path):
+    """Rule 20: the thing that is not there, and the nearest; or a phase too many or too few."""
     answer = value_at(tree, path)
     names = {"device": device_names(tree), "syscore": tree.get("syscore", []), "platform": rules.PLATFORM,
              "notifier": [one["name"] for one in tree.get("notifiers", [])]}[answer["what"]]
@@ -275,6 +292,7 @@ def thing_points(tree, path):
 
 
 def ret_points(tree, path):
+    """Rule 21: what the thing may return."""
     answer = value_at(tree, path)
     is_prepare = answer.get("phase") == "prepare"
     may = ["EIO", "EBUSY", "ENODEV", "EINVAL", *([] if is_prepare else ["EAGAIN"])]
@@ -283,6 +301,7 @@ def ret_points(tree, path):
 
 
 def report_points(tree, path):
+    """Rule 22: who may report, and how often."""
     answer = value_at(tree, path)
     count = len(answer["reports"])
     if answer["what"] != "device":
@@ -295,6 +314,7 @@ def report_points(tree, path):
 
 
 def same_answer(tree, path):
+    """Rule 23: the answer that stands already."""
     key = lambda answer: tuple(map(answer.get, ("what", "name", "phase", "attempt")))
     own = value_at(tree, path)
     first = next(place for place, answer in enumerate(tree["answers"]) if key(answer) == key(own))
