@@ -77,7 +77,8 @@ def add_told(made, rows, told, recording):
         made.answer = "slept" if made.answer == "slept" else "turned around, answer 0"
         return
     made.tone = Tone.BAD
-    made.answer = f"stopped: {told.answer or 'its answer is not told'}"
+    is_sure = getattr(told, "is_sure", True)
+    made.answer = f"stopped: {told.answer or 'its answer is not told'}{'' if is_sure else ', if this stopped it'}"
     lines = [int(number) for sentence in told.sentences[:2] for number in LINE.findall(sentence)] + told.faults
     at_fault = [mark for mark in made.marks if mark.first in set(lines)]
     made.culprits = [rows.of(device) for device in told.fault_devices]
