@@ -176,6 +176,17 @@ class Layouts(Case):
         key = next(event for event in self.read(by_hand(report)).events if isinstance(event, SourceActivate))
         self.assertEqual((key.flags, key.is_in_hardirq, key.is_in_interrupt), ("", None, None))
 
+    def test_flags_of_a_kernel_for_real_time(self):
+        """Their third letter is that of a lazy reschedule, as the comments say, and the fourth that of interrupts."""
+        columns = ("irqs-off/BH-disabled", "need-resched", "need-resched-lazy", "hardirq/softirq", "preempt-depth", "preempt-lazy-depth", "migrate-disable")
+        head = HEAD + "".join(f"#  {'|' * place} / _----=> {name}\n" for place, name in enumerate(columns))
+        wide = [(*step[:3], f"{step[3][:2]}.{step[3][2:4]}..", *step[4:]) for step in STEPS]
+        for text in (by_hand(head=head, steps=wide), by_hand(steps=wide)):
+            recording = self.read(text)
+            key, off = (event for event in recording.events if isinstance(event, (SourceActivate, SourceDeactivate)))
+            self.assertEqual((key.is_in_hardirq, off.is_in_hardirq, off.is_in_softirq), (True, False, True))
+            self.assertFalse(recording.attempts[0].begins[0].is_in_interrupt)
+
     def test_counter_has_no_times(self):
         recording = self.read(by_hand(steps=[(*step[:4], str(number), *step[5:]) for number, step in enumerate(STEPS, 7)]))
         self.assertEqual((recording.clock, recording.events[0].time, recording.events[0].stamp), (Clock.COUNTER, None, "7"))

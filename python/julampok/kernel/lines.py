@@ -6,7 +6,7 @@ since the trace began, as `123us+`). Lines of function tracers, whose text has n
 """
 
 import re
-from dataclasses import dataclass
+from dataclasses import dataclass, field
 
 PLAIN = re.compile(
     r"\s*(\S.*?)-(\d+)\s+(?:\( *[\d-]+\)\s+)?\[(\d+)\]\s+(?:([^\s:\d(][^\s:]{2,8})\s+)?(\d+(?:\.\d+)?):(?:\s+\(\+\d+\))?(?:\s+(?:power:)?(\w+):)?(.*)")
@@ -23,6 +23,7 @@ LATENCY_VERSION = re.compile(r"# \S+ latency trace v\S+ on (\d+\.\d+\S*)")
 # The first line that sleepgraph writes: time of the test, host, mode, kernel.
 SLEEPGRAPH = re.compile(r"# (?:suspend|command|freeze|standby|mem)-(\d{6}-\d{6}) (\S+) (\S+) (\d+\.\d+\S*)")
 SYSINFO = re.compile(r"# sysinfo \| (.*)")
+COLUMN = re.compile(r"# .*_-+=> (\S+)")  # What a letter of the flags means; the comments name one after the other.
 
 
 @dataclass(slots=True)
@@ -36,6 +37,7 @@ class Head:
     version_line: int | None = None
     machine: str | None = None
     date: str | None = None
+    columns: list[str] = field(default_factory=list)  # What the letters of the flags mean.
     overwritten_line: int | None = None  # Says that more entries were written than the buffer has.
 
     def take(self, line: int, text: str) -> None:
@@ -44,6 +46,8 @@ class Head:
             self.processors, self.processors_line = int(found[1]), line
         if found := TRACER.match(text):
             self.tracer = found[1]
+        if found := COLUMN.match(text):
+            self.columns.append(found[1])
         if found := ENTRIES.match(text):
             self.overwritten_line = line if int(found[1]) < int(found[2]) else None
         if found := LATENCY_VERSION.match(text):
@@ -52,6 +56,13 @@ class Head:
             self.version, self.version_line, self.date = found[4], line, date_of(found[1])
         if found := SYSINFO.match(text):
             self.machine = sysinfo_machine(found[1])
+
+
+    def flags_of(self, flags: str) -> str:
+        """The flags without the column of a lazy reschedule, which kernels for real time have before that of interrupts."""
+        columns = [name for name in self.columns if name != "CPU#"]
+        interrupt = next((place for place, name in enumerate(columns) if name.startswith("hardirq")), 3 if len(flags) > 6 else 2)
+        return flags[:2] + flags[interrupt:]
 
 
 def date_of(stamp: str) -> str:

@@ -99,7 +99,7 @@ class Link:
 
 @dataclass(slots=True, eq=False)
 class Event:
-    """A line of the trace. `flags` are those of ftrace, "" where the trace has none.
+    """A line of the trace. `flags` are those of ftrace, without a lazy reschedule's; "" where the trace has none.
 
     `time` is nanoseconds, None with a counter; `stamp` is the time or count as the trace writes it.
     """

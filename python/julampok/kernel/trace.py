@@ -107,7 +107,7 @@ class Lines:
                 return
             self.layouts.reverse()
         task, pid, cpu, flags, stamp, event, said = found.groups()
-        who = task, int(pid), int(cpu), flags or ""
+        who = task, int(pid), int(cpu), self.head.flags_of(flags) if flags else ""
         left, _, rest = text.partition(": ")[0].rpartition(" ")
         if rest == stamp:
             self.heads[left] = who
