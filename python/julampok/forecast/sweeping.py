@@ -20,6 +20,9 @@ NAME = "sweep"  # Of the source and of the interrupt line, with a number where t
 # Entries that may come out otherwise after an event; of these `begin` and `skip` in two phases alone.
 TESTS = {"save", "saved", "unsaved", "read", "cpu", "syscore", "enter", "freeze", "froze", "wake", "run", "after", "attempt"}
 TESTED = ("suspend", "late")
+# Steps of other tasks and lines that neither look at the event word nor are waited for, but where a freezer or a sleeper waits.
+ASIDE = {"post", "got", "pass", "sleep", "sleep_d", "slept", "exit"}
+WAITING = {"freeze", "asleep"}
 WRITER = {"name": "writer", "kind": "user", "script": [{"op": "read"}, {"op": "save"}, {"op": "state", "text": "mem", "if_saved": True}]}
 # The stage that begins behind an entry.
 STAGES = {
@@ -195,17 +198,18 @@ class Sweep:
         """The places, those with one outcome together."""
         found: list[list[Place]] = []
         for place in self.places:
-            if found and not self.is_looked_at(place.line):
+            if found and not self.is_looked_at(place):
                 found[-1].append(place)
             else:
                 found.append([place])
         return found
 
-    def is_looked_at(self, line: int) -> bool:
-        """Whether somebody may look at the event word or at time in an entry."""
-        who, words = self.owners[line], self.bodies[line].split(" ")
+    def is_looked_at(self, place: Place) -> bool:
+        """Whether somebody may look at the event word or at time in the entry before a place."""
+        who, words = self.owners[place.line], place.body.split(" ")
         is_test = words[0] in TESTS or words[0] in ("begin", "skip") and words[1] in TESTED
-        return is_test or who != self.maker and not who.startswith("dev:")
+        is_aside = words[0] in ASIDE and place.stage not in WAITING
+        return is_test or who != self.maker and not who.startswith("dev:") and not is_aside
 
     def machine(self, place: Place) -> dict:
         """The machine with the event at a place: its interrupt line sleeps until that moment."""
