@@ -30,7 +30,8 @@ def parser_of_all():
     commands = parser.add_subparsers(dest="command", metavar="COMMAND", required=True, parser_class=Parser)
     for name in COMMANDS:
         module = module_of(name)
-        own = commands.add_parser(name, help=module.HELP, description=module.__doc__, epilog=f"example:\n  {module.EXAMPLE}", **layout)
+        example = f"example:\n  {module.EXAMPLE}"
+        own = commands.add_parser(name, help=module.HELP, description=module.__doc__, epilog=example, **layout)
         module.add_arguments(own)
     return parser
 

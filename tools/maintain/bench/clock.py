@@ -57,7 +57,8 @@ class Clock:
         """What the program writes of an input."""
         done = subprocess.run([self.program, *words], input=data, capture_output=True)
         if done.returncode not in wanted:
-            raise CannotError(f"{' '.join(words)} ended with status {done.returncode}: {done.stderr.decode(errors='replace')[:200]}", self.program)
+            said = done.stderr.decode(errors="replace")[:200]
+            raise CannotError(f"{' '.join(words)} ended with status {done.returncode}: {said}", self.program)
         return done.stdout
 
     def once(self, words, given, spent):
@@ -72,7 +73,8 @@ class Clock:
         took = time.monotonic() - begun
         done.returncode = os.waitstatus_to_exitcode(status)
         if done.returncode != spent.wanted:
-            raise CannotError(f"{' '.join(map(str, words[1:]))} ended with status {done.returncode}, where {spent.wanted} is due", words[0])
+            said = " ".join(map(str, words[1:]))
+            raise CannotError(f"{said} ended with status {done.returncode}, where {spent.wanted} is due", words[0])
         return took if spent.is_wall else used.ru_utime + used.ru_stime
 
     def best(self, spent):

@@ -4,6 +4,7 @@ Where nothing says how large a ratio may be, there is no most. Ratios carry over
 """
 
 import functools
+import itertools
 import json
 import pathlib
 import random
@@ -122,19 +123,26 @@ def links():
     return rows
 
 
+STATES_TAKEN, STATES_TIMES = 99, 1000  # How many links a task takes in turn, and how often.
+STATES = {"stays": ("active", "active"), "changes": ("dormant", "active")}
+
+
+def state_of(pairs, states):
+    """The time of a state that a task sets, where these links stand, less that of the machine whose task does nothing."""
+    make = functools.partial(machines.set_states, pairs, states, STATES_TAKEN, STATES_TIMES)
+    less = run_of(functools.partial(machines.set_states, pairs, (), STATES_TAKEN, STATES_TIMES))
+    return run_of(make, less=less, each=lambda clock: STATES_TAKEN * len(states) * STATES_TIMES)
+
+
 def link_states():
     """Each state of a link that a task sets, where 4,000 links stand, divided by the same where 40 do."""
-    rows, taken, times = [], 99, 1000
-    for kind in (machines.spread, machines.star):
-        for name, states in (("stays", ("active", "active")), ("changes", ("dormant", "active"))):
-            spents = []
-            for count in (40, 4000):
-                make = functools.partial(machines.set_states, kind(count), states, taken, times)
-                less = run_of(functools.partial(machines.set_states, kind(count), (), taken, times))
-                spents.append(run_of(make, less=less, each=lambda clock, number=taken * len(states) * times: number))
-            # Where one device has more links, a state that changes may take longer, by their number.
-            most = None if kind is machines.star and name == "changes" else 2
-            rows += against(spents[0], [(f"{kind.__name__} {name}, {count} links", spent, most) for count, spent in zip((40, 4000), spents)])
+    rows = []
+    for kind, name in itertools.product((machines.spread, machines.star), STATES):
+        few, many = (state_of(kind(count), STATES[name]) for count in (40, 4000))
+        # Where one device has more links, a state that changes may take longer, by their number.
+        most = None if kind is machines.star and name == "changes" else 2
+        row = f"{kind.__name__} {name}"
+        rows += against(few, [(f"{row}, 40 links", few, most), (f"{row}, {len(kind(4000))} links", many, most)])
     return rows
 
 
@@ -256,7 +264,8 @@ def workers(files=()):
     if files:
         return [workers_row(pathlib.Path(file).stem, functools.partial(read_tree, file), None) for file in files]
     rows = [("lines", functools.partial(machines.lines, 64, 3_125), 0.6)]
-    rows += [(f"{devices} devices", functools.partial(machines.tree, devices, times, is_async=True), 1.3) for devices, times in ATTEMPTS]
+    trees = ((devices, functools.partial(machines.tree, devices, times, is_async=True)) for devices, times in ATTEMPTS)
+    rows += [(f"{devices} devices", make, 1.3) for devices, make in trees]
     rows += [("1000 devices, 4000 links", functools.partial(machines.tree, 1000, 95, is_async=True, links=4000), 1.3)]
     rows += [("in step", machines.in_step, None), ("apart", machines.apart, None)]
     return [workers_row(*row) for row in rows]

@@ -8,10 +8,9 @@ a ratio is greater than it may be. A busy computer makes ratios wrong.
 import argparse
 import tempfile
 
-from julampok.program import BUILT
 from maintain.bench.clock import RUNS, Clock
 from maintain.bench.table import BENCHES, workers
-from maintain.trials.subject import find_program, whole
+from maintain.trials.subject import add_program, find_program, whole
 
 HELP = "measures the program, by ratios of times"
 EXAMPLE = "tools/dev bench attempts links"
@@ -29,9 +28,10 @@ def bench_name(text):
 def add_arguments(parser):
     """The words of the command."""
     parser.add_argument("names", metavar="NAME", nargs="*", type=bench_name, help=f"of {', '.join(BENCHES)} (default: all)")
-    parser.add_argument("--program", metavar="FILE", default=str(BUILT), help="the program (default: the one that is built in this clone)")
+    add_program(parser)
     parser.add_argument("--runs", type=whole, default=RUNS, help="of how many runs the least time is taken (default: %(default)s)")
-    parser.add_argument("--machine", metavar="FILE", action="append", default=[], help="of `workers`: a machine file in place of its own machines")
+    own = "of `workers`: a machine file in place of its own machines"
+    parser.add_argument("--machine", metavar="FILE", action="append", default=[], help=own)
 
 
 def time_text(seconds):

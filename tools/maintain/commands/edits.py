@@ -28,11 +28,14 @@ def add_arguments(parser):
     parser.add_argument("names", metavar="NAME", nargs="*", help="a crate")
     parser.add_argument("--since", metavar="COMMIT", help="the crates whose src/ changed since that commit")
     parser.add_argument("--all", action="store_true", help="each crate that has wrong bodies set aside")
-    parser.add_argument("--also", metavar="FILE", type=pathlib.Path, action="append", default=[], help="a further wrong body of the one crate")
+    also = "a further wrong body of the one crate"
+    parser.add_argument("--also", metavar="FILE", type=pathlib.Path, action="append", default=[], help=also)
     parser.add_argument("--ci", action="store_true", help="by `rt ci NAME`, which begins with what rt ci proved before")
     parser.add_argument("--list", action="store_true", help="only says which would be tried")
-    parser.add_argument("--folder", type=pathlib.Path, help="where the copy is made for a while; on the checkout's file system it takes little room")
-    parser.add_argument("--checkout", metavar="FOLDER", type=pathlib.Path, default=TOP, help="another checkout than the one this file stands in")
+    folder = "where the copy is made for a while; on the checkout's file system it takes little room"
+    parser.add_argument("--folder", type=pathlib.Path, help=folder)
+    checkout = "another checkout than the one that this tool stands in"
+    parser.add_argument("--checkout", metavar="FOLDER", type=pathlib.Path, default=TOP, help=checkout)
 
 
 def chosen(given, uses):

@@ -22,7 +22,8 @@ def add_arguments(parser):
     """The words of the command."""
     parser.add_argument("names", metavar="NAME", nargs="*", help="only the files whose path has this in it")
     parser.add_argument("--browser", action="store_true", help="opens each shipped page in headless Chromium, too")
-    parser.add_argument("--jobs", type=whole, default=len(os.sched_getaffinity(0)), help="how many files at once (default: the processors, %(default)s)")
+    jobs = "how many files at once (default: the processors, %(default)s)"
+    parser.add_argument("--jobs", type=whole, default=len(os.sched_getaffinity(0)), help=jobs)
 
 
 def shown(text):

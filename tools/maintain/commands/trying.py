@@ -26,7 +26,8 @@ def add_arguments(parser):
         text = textwrap.fill(text, 110)
         example = f"example:\n  tools/dev try {name} --seed 2" + (" --folder ../clone" if subject.by.name == "PROVER" else "")
         layout = argparse.RawDescriptionHelpFormatter
-        own = subjects.add_parser(name, help=subject.says, description=text, epilog=example, formatter_class=layout, allow_abbrev=False)
+        own = subjects.add_parser(
+            name, help=subject.says, description=text, epilog=example, formatter_class=layout, allow_abbrev=False)
         add_words(subject, own)
 
 

@@ -28,20 +28,90 @@ are of the checker's account, by which `check` judges a log; no program stands o
 
 # What to read, in order: a question, and the definitions that answer it, each with its crate and module.
 READING = [
-    ("What does a status of the program mean?", [("sleep_main", "Endings", ["Ended", "RunEnded", "RanFile", "Completes"]), ("program_ending", "Endings", ["status_of", "text_of"])]),
+    (
+        "What does a status of the program mean?",
+        [
+            ("sleep_main", "Endings", ["Ended", "RunEnded", "RanFile", "Completes"]),
+            ("program_ending", "Endings", ["status_of", "text_of"]),
+        ],
+    ),
     ("What is a run?", [("machine_rounds", "Runs", ["IsRun", "IsFull"])]),
     ("Which machine do these bytes spell?", [("machine_file", "Whole", ["machine_in", "SpellsWhole", "first_broken", "rule"])]),
-    ("When is a log legal, and at its end?", [("sleep_model", "Legal", ["IsLegalLog", "IsLegal", "JournalPart", "JournalStep", "SourcePart", "JointStep", "Placed", "JumpStep", "IsFinishedLog", "IsStuckLog", "is_enabled"])]),
-    ("Which entry is due of an actor?", [("sleep_model", "Due", ["due", "own_due", "script_due"]), ("sleep_model", "Steps", ["seat_due", "step_due", "read_due", "save_due", "state_due"]), ("sleep_model", "Autosleep", ["auto_due"]), ("sleep_model", "Attempt", ["attempt_due", "stage_due"])]),
+    (
+        "When is a log legal, and at its end?",
+        [
+            (
+                "sleep_model",
+                "Legal",
+                [
+                    "IsLegalLog", "IsLegal", "JournalPart", "JournalStep", "SourcePart", "JointStep", "Placed", "JumpStep",
+                    "IsFinishedLog", "IsStuckLog", "is_enabled",
+                ],
+            ),
+        ],
+    ),
+    (
+        "Which entry is due of an actor?",
+        [
+            ("sleep_model", "Due", ["due", "own_due", "script_due"]),
+            ("sleep_model", "Steps", ["seat_due", "step_due", "read_due", "save_due", "state_due"]),
+            ("sleep_model", "Autosleep", ["auto_due"]),
+            ("sleep_model", "Attempt", ["attempt_due", "stage_due"]),
+        ],
+    ),
     ("Which stage follows, and where does a failure lead?", [("sleep_model", "Table", ["stage_after", "behind", "after_done"])]),
-    ("What do devices do?", [("sleep_model", "Stands", ["stands", "stand_after"]), ("sleep_model", "Devices", ["down_due", "taken", "up_due", "device_due", "is_direct_now", "phase_error"]), ("sleep_model", "Order", ["order", "below", "above"])]),
-    ("What counts as a wakeup?", [("sleep_model", "Numbers", ["numbers"]), ("sleep_model", "Guard", ["in_force", "pending", "forgotten"]), ("sleep_model", "Sources", ["makes", "SourceStep", "expiry"])]),
+    (
+        "What do devices do?",
+        [
+            ("sleep_model", "Stands", ["stands", "stand_after"]),
+            ("sleep_model", "Devices", ["down_due", "taken", "up_due", "device_due", "is_direct_now", "phase_error"]),
+            ("sleep_model", "Order", ["order", "below", "above"]),
+        ],
+    ),
+    (
+        "What counts as a wakeup?",
+        [
+            ("sleep_model", "Numbers", ["numbers"]),
+            ("sleep_model", "Guard", ["in_force", "pending", "forgotten"]),
+            ("sleep_model", "Sources", ["makes", "SourceStep", "expiry"]),
+        ],
+    ),
     ("Who freezes?", [("sleep_model", "Freezer", ["freezings", "left"])]),
-    ("What does every legal log keep?", [("sleep_model", "Laws", ["Laws", "LawsAt", "DependentsFirst", "SuppliersFirst", "Restored", "Owed", "TakenOnce", "NotOwedAlready", "EntersDown", "UndisturbedEnters", "AnswersFailure", "FoundPending", "InOrder", "GuardedSleep"])]),
-    ("When does `check` say legal, and of which line does it speak else?", [("log_commands", "Judging", ["IsJudged", "IsVerdictOf"]), ("log_check", "Verdicts", ["IsVerdict"]), ("sleep_model", "Rules/Verdict", ["IsGood", "IsFirstBad"])]),
+    (
+        "What does every legal log keep?",
+        [
+            (
+                "sleep_model",
+                "Laws",
+                [
+                    "Laws", "LawsAt", "DependentsFirst", "SuppliersFirst", "Restored", "Owed", "TakenOnce", "NotOwedAlready",
+                    "EntersDown", "UndisturbedEnters", "AnswersFailure", "FoundPending", "InOrder", "GuardedSleep",
+                ],
+            ),
+        ],
+    ),
+    (
+        "When does `check` say legal, and of which line does it speak else?",
+        [
+            ("log_commands", "Judging", ["IsJudged", "IsVerdictOf"]),
+            ("log_check", "Verdicts", ["IsVerdict"]),
+            ("sleep_model", "Rules/Verdict", ["IsGood", "IsFirstBad"]),
+        ],
+    ),
     ("How is a log written?", [("sleep_model", "Text", ["text", "entry_line", "body"])]),
-    ("What does suspend-to-idle promise?", [("idle_loop", "IdleLogs", ["IsIdleRun", "IsIdleLog", "MayMake", "IsOver", "NoneIsLost"])]),
-    ("What do threads promise?", [("run_world", "Told", ["AfterReport", "AfterCoreTurn"]), ("burst_tasks", "Bursts", ["IsBurst"]), ("burst_laws", "Serial", ["IsSerial"]), ("burst_laws", "Keeping", ["BurstsGoOn"])]),
+    (
+        "What does suspend-to-idle promise?",
+        [("idle_loop", "IdleLogs", ["IsIdleRun", "IsIdleLog", "MayMake", "IsOver", "NoneIsLost"])],
+    ),
+    (
+        "What do threads promise?",
+        [
+            ("run_world", "Told", ["AfterReport", "AfterCoreTurn"]),
+            ("burst_tasks", "Bursts", ["IsBurst"]),
+            ("burst_laws", "Serial", ["IsSerial"]),
+            ("burst_laws", "Keeping", ["BurstsGoOn"]),
+        ],
+    ),
 ]
 
 # The rules of a log, each by itself, in reading order.
@@ -63,7 +133,12 @@ SECTIONS = [
     ("phase_table", "The ten phases", "`drivers/base/power/main.c`", ["Phases"]),
     ("sleep_model", "Where devices stand", "`drivers/base/power/main.c`", ["Walk", "Stands"]),
     ("sleep_model", "The phases of devices", "`drivers/base/power/main.c`", ["Devices"]),
-    ("sleep_model", "Notifiers, processors, interrupts, the core and the platform", "`kernel/power/suspend.c`, `drivers/base/syscore.c`, `kernel/cpu.c`", ["Notifiers"]),
+    (
+        "sleep_model",
+        "Notifiers, processors, interrupts, the core and the platform",
+        "`kernel/power/suspend.c`, `drivers/base/syscore.c`, `kernel/cpu.c`",
+        ["Notifiers"],
+    ),
     ("sleep_model", "The table of an attempt", "`kernel/power/suspend.c`", ["Table"]),
     ("sleep_model", "An attempt, stage by stage", "`kernel/power/suspend.c`", ["Path", "Attempt"]),
     ("sleep_model", "What a task does next", "`kernel/power/main.c`", ["Tasks", "Steps"]),
@@ -71,22 +146,50 @@ SECTIONS = [
     ("sleep_model", "Legal logs", "own", ["Legal"]),
     ("sleep_model", "The laws of sleep", "`drivers/base/power/main.c`, `kernel/power/suspend.c`", ["Laws"]),
     ("sleep_laws", "What the laws are proved of", "own", ["Laws", "Linked", "Ends"]),
-    ("sleep_model", "The rules of a log, each by itself", "`kernel/power/suspend.c`, `drivers/base/power/main.c`", [f"Rules/{rule}" for rule in RULES]),
+    (
+        "sleep_model",
+        "The rules of a log, each by itself",
+        "`kernel/power/suspend.c`, `drivers/base/power/main.c`",
+        [f"Rules/{rule}" for rule in RULES],
+    ),
     ("sleep_model", "The one log of separate histories", "own", ["Merge"]),
     ("sleep_model", "Which logs can be written, and how many places a source needs", "own", ["Fits", "Places"]),
     ("sleep_model", "The text of a log", "own", ["NameBytes", "Text"]),
-    ("sleep_base", "The outside", "`include/uapi/asm-generic/errno-base.h`, for errors; the rest is own", ["Errno", "Faults", "Calls", "Streams", "Whole"]),
-    ("machine_file", "Accepted bytes: the first broken rule, and the machine that is spelled", "`include/linux/pm.h`, `drivers/base/core.c`; most is own", ["Whole", "Members", "Places", "Form", "Names", "Devices", "Operations", "Answering", "Limits", "Tree", "Look", "Rules", "Spelled"]),
+    (
+        "sleep_base",
+        "The outside",
+        "`include/uapi/asm-generic/errno-base.h`, for errors; the rest is own",
+        ["Errno", "Faults", "Calls", "Streams", "Whole"],
+    ),
+    (
+        "machine_file",
+        "Accepted bytes: the first broken rule, and the machine that is spelled",
+        "`include/linux/pm.h`, `drivers/base/core.c`; most is own",
+        [
+            "Whole", "Members", "Places", "Form", "Names", "Devices", "Operations", "Answering", "Limits", "Tree", "Look",
+            "Rules", "Spelled",
+        ],
+    ),
     ("machine_file", "How a machine is written", "own", ["Spelling"]),
     ("sleep_script", "Generated machines", "own", ["Generated"]),
     ("command_line", "The words of the command line", "own", ["Words"]),
     ("log_text", "The grammar of a log, and its first bad line", "own", ["Grammar"]),
     ("machine_rounds", "A whole run", "own", ["Runs"]),
     ("wake_locks", "Named locks", "`kernel/power/wakelock.c`", ["Standings", "Texts", "Locks", "Writes", "Expiries", "Counted"]),
-    ("lock_lines", "The command `locks`", "`kernel/power/wakelock.c`", ["Lines", "Verbs", "Steps", "Answers", "Told", "Command"]),
+    (
+        "lock_lines",
+        "The command `locks`",
+        "`kernel/power/wakelock.c`",
+        ["Lines", "Verbs", "Steps", "Answers", "Told", "Command"],
+    ),
     ("wakeup_source", "What a call adds to a source", "`drivers/base/power/wakeup.c`", ["SourceStates", "Told"]),
     ("device_links", "Links as they stand", "`drivers/base/core.c`", ["Linked", "Kept"]),
-    ("sleep_stats", "What a log counts, and its longest chain", "`include/linux/suspend.h`, `drivers/base/power/main.c`", ["Counting", "Linked", "Chains"]),
+    (
+        "sleep_stats",
+        "What a log counts, and its longest chain",
+        "`include/linux/suspend.h`, `drivers/base/power/main.c`",
+        ["Counting", "Linked", "Chains"],
+    ),
     ("log_commands", "The command `stats`", "`kernel/power/main.c`", ["Input", "Taking", "Telling", "Stats"]),
     ("log_check", "The verdict on a log", "own", ["Verdicts"]),
     ("log_commands", "The command `check`", "own", ["Judging"]),
@@ -141,7 +244,12 @@ PROMISED = [
 # The same of crates to whose definitions no clause of the program comes; each of them is listed.
 ASIDE = [
     ("check_order", "The checker's order of devices", "`drivers/base/core.c`", ["Visited"]),
-    ("check_account", "What the checker keeps of a journal", "`kernel/power/suspend.c`, `kernel/power/process.c`, `drivers/base/power/main.c`", ["Accounts", "Boards"]),
+    (
+        "check_account",
+        "What the checker keeps of a journal",
+        "`kernel/power/suspend.c`, `kernel/power/process.c`, `drivers/base/power/main.c`",
+        ["Accounts", "Boards"],
+    ),
     ("check_sources", "What the checker keeps of wakeup sources", "`drivers/base/power/wakeup.c`", ["Kept", "Owing"]),
     ("check_calls", "What the checker keeps of the calls on sources", "own", ["Places", "Calling"]),
     ("device_tree", "Devices by name", "`drivers/base/core.c`, `drivers/base/power/runtime.c`", ["Refusal", "Requests"]),

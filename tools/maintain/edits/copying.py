@@ -41,7 +41,10 @@ def link_proof(one, other):
 
 
 def take_kept(checkout, copy, name):
-    """Gives the copy what rt kept of a crate in the checkout, and returns whether it could. It stays valid, since rt holds it to the text."""
+    """Gives the copy what rt kept of a crate in the checkout, and returns whether it could.
+
+    It stays valid in the copy, since rt holds it to the crate's text.
+    """
     for kind in KEPT:
         source, target = (top / "crates" / name / "out" / kind for top in (checkout, copy))
         try:

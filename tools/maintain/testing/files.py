@@ -48,8 +48,8 @@ def run_file(path):
         told = pathlib.Path(folder, "results")
         words = [sys.executable, "-m", "maintain.testing.child", path, told]
         try:
-            how = {"stdin": subprocess.DEVNULL, "stdout": subprocess.PIPE, "stderr": subprocess.STDOUT, "text": True, "errors": "replace"}
-            done = subprocess.run(words, cwd=TOP, env=env, timeout=LONGEST, **how)
+            streams = {"stdin": subprocess.DEVNULL, "stdout": subprocess.PIPE, "stderr": subprocess.STDOUT}
+            done = subprocess.run(words, cwd=TOP, env=env, timeout=LONGEST, text=True, errors="replace", **streams)
             printed, why = done.stdout, f"its process ended with status {done.returncode}"
         except subprocess.TimeoutExpired as late:
             printed, why = (late.stdout or b"").decode(errors="replace"), f"it took more than {LONGEST} seconds"

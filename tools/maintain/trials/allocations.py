@@ -70,7 +70,8 @@ class End:
 
 def add_arguments(parser):
     """Which files are run, and over what."""
-    parser.add_argument("files", metavar="FILE", nargs="*", help="a machine file (default: the small ones of examples/, and the stored input of sleep_main)")
+    small = "a machine file (default: the small ones of examples/, and the stored input of sleep_main)"
+    parser.add_argument("files", metavar="FILE", nargs="*", help=small)
     parser.add_argument("--kit", action="store_true", help="by `rt try`, which builds the program itself")
 
 

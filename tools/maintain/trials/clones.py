@@ -26,7 +26,8 @@ def check(crate, *words):
     try:
         ran = subprocess.run(["rt", "check", *words], cwd=crate, capture_output=True, text=True, errors="replace")
     except OSError as error:
-        raise CannotError(f"{error.strerror}; the toolchain's folder bin/ has to stand on PATH", "rt") from None
+        why = f"{error.strerror}; the toolchain's folder bin/ has to stand on PATH"
+        raise CannotError(why, "rt") from None
     return ran.returncode, ran.stdout + ran.stderr
 
 

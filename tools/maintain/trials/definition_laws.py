@@ -51,13 +51,17 @@ def places_of_scripts(tree, source):
 
 
 def places_of_answers(tree, source):
-    """How many places of a source's history the reports of callbacks may need: of an attempt's own answer, else of the general one."""
+    """How many places of a source's history the reports of callbacks may need.
+
+    In each attempt a callback's own answer for that attempt counts, else its general one.
+    """
     answers, total = tree.get("answers", []), 0
     things = [(a["what"], a["name"], a.get("phase"), a.get("attempt")) for a in answers]
     needed = [sum(call_places(report) for report in a.get("reports", []) if report["source"] == source) for a in answers]
     for number in range(1, most_attempts(tree) + 1):
         own = [(*thing[:3], number) for thing in things]
-        total += sum(places for places, thing, one in zip(needed, things, own) if thing == one or (thing[3] is None and one not in things))
+        counts = [thing == one or (thing[3] is None and one not in things) for thing, one in zip(things, own)]
+        total += sum(places for places, is_given in zip(needed, counts) if is_given)
     return total
 
 

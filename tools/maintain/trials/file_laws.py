@@ -39,7 +39,8 @@ def laws(files):
     """A module with a law for each twenty files."""
     for start in range(0, len(files), A_LAW):
         clauses = "".join(clause(place, file) for place, file in enumerate(files[start : start + A_LAW]))
-        yield f"\n/// Files {start} and on.\n#[tactic(auto, unfolding(crate::proofs::Reading::reading))]\npub fn files_{start}()\n{clauses}{{}}\n"
+        tactic = "#[tactic(auto, unfolding(crate::proofs::Reading::reading))]"
+        yield f"\n/// Files {start} and on.\n{tactic}\npub fn files_{start}()\n{clauses}{{}}\n"
 
 
 def batches(given):

@@ -100,7 +100,8 @@ def runs(given):
     words = ["idle", *map(str, sizes_of(given)), "--workers", str(given.workers)]
     for _ in range(given.count):
         status, text, said = answer(given.program, words, b"")
-        yield text.decode("utf-8", "backslashreplace") if status == 0 else f"status {status}\n{said.decode('utf-8', 'backslashreplace')}"
+        told = text if status == 0 else b"status %d\n" % status + said
+        yield told.decode("utf-8", "backslashreplace")
 
 
 def run_judged(text, given):

@@ -51,10 +51,17 @@ def add_arguments(subject, parser):
     parser.add_argument("--seed", type=int, default=1, help="where the random numbers begin (default: %(default)s)")
     parser.add_argument("--count", type=whole, default=subject.count, help=f"how many {subject.unit} (default: %(default)s)")
     if subject.by is By.PROGRAM:
-        parser.add_argument("--program", metavar="FILE", default=str(BUILT), help="the program (default: the one that is built in this clone)")
+        add_program(parser)
     if subject.by is By.PROVER:
-        parser.add_argument("--folder", required=True, help="a clone of this repository for the trial alone, made where it is not there")
+        clone = "a clone of this repository for the trial alone, made where it is not there"
+        parser.add_argument("--folder", required=True, help=clone)
     subject.add_arguments(parser)
+
+
+def add_program(parser):
+    """The word that names the program."""
+    built = "the program (default: the one that is built in this clone)"
+    parser.add_argument("--program", metavar="FILE", default=str(BUILT), help=built)
 
 
 def whole(text):
@@ -67,13 +74,15 @@ def whole(text):
 def find_program(given):
     """Makes the program's path whole; raises CannotError where no program is there."""
     if not os.path.isfile(given.program) or not os.access(given.program, os.X_OK):
-        raise CannotError("no program that can be run; `rt run` in crates/sleep_main builds it, --program names another", given.program)
+        how = "`rt run` in crates/sleep_main builds it, --program names another"
+        raise CannotError(f"no program that can be run; {how}", given.program)
     given.program = os.path.abspath(given.program)
 
 
 def shown(value):
     """A text, bytes or any value, cut where it is long."""
-    text = value.decode("utf-8", "backslashreplace") if isinstance(value, bytes) else value if isinstance(value, str) else repr(value)
+    text = value.decode("utf-8", "backslashreplace") if isinstance(value, bytes) else value
+    text = text if isinstance(text, str) else repr(text)
     return text if len(text) <= MOST_SHOWN else text[:MOST_SHOWN] + f".. ({len(text)} letters)"
 
 

@@ -35,7 +35,8 @@ class Run:
 
 def add_workers(parser):
     """By how many workers each machine is run."""
-    parser.add_argument("--workers", type=whole, action="append", help="a number of workers, again for more (default: 2, 4, 16, 64)")
+    numbers = "a number of workers, again for more (default: 2, 4, 16, 64)"
+    parser.add_argument("--workers", type=whole, action="append", help=numbers)
 
 
 def runs_of(tree, given, is_large=False):
