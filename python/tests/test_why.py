@@ -157,6 +157,18 @@ class Files(Scratch):
         self.assertIn("device-8888", shown[2])
         self.assertEqual(shown[2][shown[3].index("^"):][:13], '"device-8888"')
 
+    def test_long_names_and_paths(self):
+        """What is told stays short, whatever the file has."""
+        for file in ('{"version": 1, "%s": 1}' % ("x" * 1_000_000), json.dumps({"version": 1} | {f"m{number}": 1 for number in range(50_000)}),
+                     '{"version": 1, "devices": [{"name": "%s"}]}' % ("x" * 1_000_000),
+                     json.dumps({"version": 1, "devices": [{"name": "a", "runtime": "x" * 1_000_000}]})):
+            told = self.told(file)
+            self.assertLess(len(told), 6000)
+        devices = [{"name": f"d{number}"} | ({"parent": f"d{number - 1}"} if number else {}) for number in range(1000)]
+        told = self.told(json.dumps({"version": 1, "devices": devices, "links": [{"supplier": "d999", "consumer": "d0"}]}))
+        self.assertIn("d999 -> d0 -> d1 -> d2 -> d3 -> d4 -> d5 -> d6 -> d7 -> d8 -> .. -> d990", told)
+        self.assertTrue(told.endswith("and 980 more\n"), told[-200:])
+
     def test_another_file_than_said(self):
         good = self.write("good.json", '{"version": 1}')
         self.tell("machine: rule 9: devices[1]", good, status=2)

@@ -5,7 +5,7 @@ import re
 
 from ..limits import LONGEST_MS, MOST_ENTRIES, MOST_INPUT, MOST_LINKS
 from .machine_files import way
-from .points import Told, near_words, numbered, quoted
+from .points import MOST, Told, arrows, near_words, numbered, quoted
 
 MOST_LOG = 1 << 28  # The bytes of a machine and a log together.
 SAID = re.compile(
@@ -97,8 +97,8 @@ def ties(what, tree, text):
         if what == "cycle" and ends not in stand and (ends[0] == ends[1] or way(below, ends[1], ends[0])):
             steps = way(below, ends[1], ends[0])
             names = [*ends, *(step[1] for step in steps)]
-            more = [(None, None, f"'{upper}' is {kind} of '{lower}'", []) for upper, lower, _, kind in steps]
-            return Told(TIES[what], [(number, None, f"the cycle is {' -> '.join(names)}", [f"{number:6}  {line[:100]}"]), *more])
+            more = [(None, None, f"'{upper}' is {kind} of '{lower}'", []) for upper, lower, _, kind in steps[:MOST]]
+            return Told(TIES[what], [(number, None, f"the cycle is {arrows(names)}", [f"{number:6}  {line[:100]}"]), *more])
         if ends not in stand:
             stand.add(ends)
             below[ends[0]].append((ends[1], None, "a supplier"))

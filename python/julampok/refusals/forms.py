@@ -1,10 +1,11 @@
 """The form of each member of a machine file: what it has to be, in words, with the test of it."""
 
 import dataclasses
+import itertools
 
 from ..limits import ANSWERED, ERRORS, LONGEST_MS, MOST_CPUS, MOST_TIMES, WORD
 from ..second.rules import CHANGES, LISTS, OPERATIONS, PHASES, is_list, number, report, short_text, text, truth, word
-from .points import Point, near_words, quoted, shown
+from .points import MOST, Point, cut, near_words, quoted, shown
 
 
 @dataclasses.dataclass
@@ -74,8 +75,8 @@ def object_points(value, required, optional, path, what):
     if not isinstance(value, dict):
         return [Point(f"{what} has to be an object, and this is {kind_of(value)}", path)]
     known = required | optional
-    found = [Point(f"{what} has no member '{member}'{near_words(member, known)}",
-                   (*path, member), True) for member in value if member not in known]
+    unknown = itertools.islice((member for member in value if member not in known), MOST)
+    found = [Point(f"{what} has no member '{cut(member)}'{near_words(member, known)}", (*path, member), True) for member in unknown]
     found += [Point(f"{what} lacks its member '{member}', {form.says}", path) for member, form in required.items() if member not in value]
     for member, form in known.items():
         if member in value and not form.test(value[member]):

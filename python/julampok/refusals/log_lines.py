@@ -5,7 +5,7 @@ import re
 from ..second import grammar
 from ..second.follow import Follower
 from ..second.judge import END, GRAMMAR, SOURCE, Judge
-from .points import Told, near_words, quoted
+from .points import Told, cut, near_words, quoted
 
 RULES = {
     2: "What a new link, or another state of a link, is answered.",
@@ -244,13 +244,13 @@ def entry_words(book, given):
     if found is None:
         return ["an entry is 'TIME IN_PROGRESS/REGISTERED/HARD ACTOR WHAT', with single spaces and plain numbers"]
     if found[5] not in book.actors:
-        return [f"the machine has no actor '{found[5]}'{near_words(found[5], book.actors)}"]
+        return [f"the machine has no actor '{cut(found[5])}'{near_words(found[5], book.actors)}"]
     said = found[6]
     if book.is_said(said):
         return ["a number at its front is too great"]
     verb = said.split(" ")[0]
     if verb not in grammar.COMPILED:
-        return [f"no entry begins with '{verb}'{near_words(verb, grammar.COMPILED)}"]
+        return [f"no entry begins with '{cut(verb)}'{near_words(verb, grammar.COMPILED)}"]
     forms = [form for form in re.split(r"[|\n]", grammar.FORMS) if form.split(" ")[0] == verb]
     return [*unknown_names(book, said, forms), f"'{verb}' stands as {quoted([plain(form) for form in forms])}"]
 
@@ -274,7 +274,7 @@ def unknown_names(book, said, forms):
         for word, field in zip(words, fields):
             kind = field[1] if grammar.FIELD.fullmatch(field) else None
             if kind in book.names and word not in book.names[kind]:
-                return [f"the machine has no {THINGS[kind]} '{word}'{near_words(word, sorted(book.names[kind]))}"]
+                return [f"the machine has no {THINGS[kind]} '{cut(word)}'{near_words(word, sorted(book.names[kind]))}"]
     return []
 
 

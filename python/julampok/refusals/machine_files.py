@@ -7,7 +7,7 @@ from ..json_text import NoJson, decoded, read_json
 from ..limits import AUTO_CYCLES, MOST, MOST_INPUT, MOST_LINKS, MOST_OF_ONE, MOST_REPORTS, MOST_SEEN, MOST_STEPS
 from ..second import rules
 from .forms import ELEMENTS, TOP, Form, kind_of, member_points, name_points, object_points, operation_points
-from .points import Point, Told, located, near_words, numbered, quoted, shown_line
+from .points import Point, arrows, Told, located, near_words, numbered, quoted, shown_line
 
 RULES = {
     1: "The file is no JSON that the program reads.",
@@ -218,7 +218,7 @@ def cycle_points(tree, path):
     link = value_at(tree, path)
     steps = way(below, link["consumer"], link["supplier"])
     names = [link["supplier"], link["consumer"], *(step[1] for step in steps)]
-    found = [Point(f"the link closes a cycle: {' -> '.join(names)}; each has to go down after the next one", path)]
+    found = [Point(f"the link closes a cycle: {arrows(names)}; each has to go down after the next one", path)]
     for upper, lower, place, what in steps:
         found.append(Point(f"'{upper}' is {what} of '{lower}'", place))
     return found

@@ -6,6 +6,8 @@ import difflib
 from ..json_text import place_at, places
 
 WIDE = 100  # So many letters of a line are shown.
+LONGEST = 60  # So many letters of a name.
+MOST = 20  # So many sentences, and steps of a path, are told.
 
 
 @dataclasses.dataclass
@@ -46,6 +48,7 @@ def spans_of(text, wanted):
 
 def located(text, points):
     """The sentences of points with their places in a JSON text."""
+    points, more = points[:MOST], len(points) - MOST
     spans = spans_of(text, {point.path for point in points})
     found = []
     for point in points:
@@ -56,7 +59,13 @@ def located(text, points):
         begin, end = place_of(text, point, span)
         line, column = place_at(text, begin)
         found.append((line, column, point.text, shown_line(text, begin, end)))
-    return found
+    return found + [(None, None, f"and {more:,} more", [])] * (more > 0)
+
+
+def arrows(names):
+    """A path by its names; of a long one its first and last."""
+    names = [*names[:MOST // 2], "..", *names[-MOST // 2:]] if len(names) > MOST else names
+    return " -> ".join(names)
 
 
 def place_of(text, point, span):
@@ -88,6 +97,11 @@ def shown_line(text, begin, end):
 # ---- words
 
 
+def cut(name):
+    """A name that may be of any length, as a sentence has it."""
+    return name if len(name) <= LONGEST else f"{name[:LONGEST]} .."
+
+
 def quoted(names, last="or"):
     """Names in a row, each in quotes: 'a', 'b' or 'c'."""
     names = [f"'{name}'" for name in names]
@@ -99,7 +113,7 @@ def nearest(name, names):
     lower = {}
     for one in names:
         lower.setdefault(one.lower(), one)
-    found = difflib.get_close_matches(name.lower(), lower, n=3, cutoff=0.6) if isinstance(name, str) else []
+    found = difflib.get_close_matches(name.lower(), lower, n=3, cutoff=0.6) if isinstance(name, str) and len(name) <= 2 * LONGEST else []
     return [lower[one] for one in found]
 
 
@@ -125,7 +139,7 @@ def shown(value):
         kind = "a list" if isinstance(value, list) else "an object"
         return f"{kind} of {len(value):,}" if value else f"an empty {kind[2:].strip()}"
     if isinstance(value, str):
-        return f"the text {value[:60]!r}" + " .." * (len(value) > 60)
+        return f"the text {value[:LONGEST]!r}" + " .." * (len(value) > LONGEST)
     return f"the number {value}"
 
 
