@@ -1,7 +1,8 @@
-"""Draws a log as a page that a browser shows, as one picture, or as tracks for Perfetto.
+"""Draws a log as a page that a browser shows, as one picture, or as tracks.
 
-With the machine file the page shows parents and links as well, and who waited for whom. --svg N writes the picture of attempt
-N alone. --perfetto writes Trace Event JSON, which https://ui.perfetto.dev and chrome://tracing open: a track a device, task and
+The page has what stopped an attempt on top, then each attempt with its stages and rows, and the log with an anchor a line. With
+the machine file it shows parents and links as well, and who waited for whom. --svg N writes the picture of attempt N alone.
+--perfetto writes Trace Event JSON, the format of Perfetto: a group of tracks for each parent, a track for each device, task and
 source, and each entry a microsecond.
 """
 

@@ -132,7 +132,7 @@ class Chart {
     return this.attempt.stages.map(([name, kind, begin, end, , , answer], place) => {
       const left = this.axis.x(begin), words = `${data.texts[name]}${isTimed ? " " + lasting(end - begin) : ""}${answer ? ": " + data.texts[answer] : ""}`;
       return `<button type="button" class="stage k-${data.texts[kind]}${answer ? " bad" : ""}" data-stage="${place}" tabindex="-1" ` +
-        `style="left:${percent(left)};width:${percent(this.axis.x(end) - left)}"><span>${escaped(words)}</span></button>`;
+        `style="left:${percent(left)};width:${percent(Math.max(0, this.axis.x(end) - left))}"><span>${escaped(words)}</span></button>`;
     }).join("") + this.gapMarks(true);
   }
   tints() {
@@ -393,7 +393,8 @@ function drawText(details) {
   for (let first = 0; first < pack.lines.length; first += 200) {
     const lines = linesOf(pack, first, first + 200).map((text, place) => {
       const number = first + place + 1;
-      return `<a id="${letter}${number}" href="#${letter}${number}">${number}</a>${escaped(text)}`;
+      const told = letter === "G" ? escaped(text).replace(/\(line (\d+)\)$/, '<a class="to" href="#L$1">(line $1)</a>') : escaped(text);
+      return `<a id="${letter}${number}" href="#${letter}${number}">${number}</a>${told}`;
     });
     parts.push(`<div class="part">${lines.join("\n")}</div>`);
   }

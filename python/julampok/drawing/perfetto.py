@@ -1,4 +1,4 @@
-"""Writes the form of a page as Trace Event JSON, which Perfetto and chrome://tracing are made for.
+"""Writes the form of a page as Trace Event JSON, the format of Perfetto.
 
 Times are those of the recording, in microseconds. A phase of devices takes no time in a log, so each of its entries takes one
 microsecond: it stands at its time in the log, or one microsecond after the entry before it, whichever is later.
