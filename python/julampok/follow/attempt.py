@@ -32,6 +32,10 @@ class Mute:
         """Makes no entry."""
 
     @staticmethod
+    def add(text: str) -> None:
+        """Makes no entry."""
+
+    @staticmethod
     def is_pending() -> bool:
         """No test finds anything."""
         return False
@@ -229,7 +233,7 @@ class Following:
 
     def stage(self) -> Stage:
         """What the phases share."""
-        return Stage(self.journal, self.kin, self.names, self.who, self.order, [], self.plan.direct, self.owner)
+        return Stage(self.journal, self.kin, self.names, self.who, self.order, self.plan.direct, self.owner.texts)
 
     def prepare(self) -> bool:
         """The prepare phase; False where it failed."""

@@ -2,7 +2,8 @@
 
 from __future__ import annotations
 
-from dataclasses import dataclass, field
+import functools
+from dataclasses import dataclass
 
 from ..errors import CannotError
 from ..kernel.names import Names
@@ -12,6 +13,7 @@ from .attempt import CORE, REFUSER, STAND_IN, TEST_STEP, Following
 from .family import Mover, OutOfOrder, prepared, settle, target
 from .journal import AUTOSLEEP, Journal, Script, Source
 from .outcome import Guard, Where, Why
+from .phases import texts_of
 from .plan import NOT_TOLD, Plan, Planner
 
 NAMES = {-number: name for name, number in ERRORS.items() if name in ANSWERED}
@@ -45,6 +47,7 @@ class Follower:
         self.cpus = self.planner.cpus()
         self.answers: dict[tuple, dict] = {}
         self.foreign: list[Foreign] = []
+        self.texts = functools.cache(functools.partial(texts_of, self.kin, self.names))
         self.skipped: set[Event] = set()  # Ends of events that were told together with their begins.
         self.has_refuser = any(plan.outcome.where == Where.NOTIFIERS for plan in self.plans)
         self.has_test_step = any(plan.outcome.where == Where.LAST and plan.outcome.why == Why.PM_TEST for plan in self.plans)

@@ -75,6 +75,11 @@ class Journal:
         self.lines.append(f"{self.head}{who} {body}")
         self.origins.append(self.line)
 
+    def add(self, text: str) -> None:
+        """Makes an entry of which actor and body are one text."""
+        self.lines.append(self.head + text)
+        self.origins.append(self.line)
+
     # ---- the word and the saved count
 
     @property

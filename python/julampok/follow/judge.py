@@ -79,9 +79,16 @@ class Judge(Follower):
         ends = len(lines)
         while ends and not lines[ends - 1][:1].isdigit():
             ends -= 1
-        allows = self.allows
+        turns, owed, rare = self.turns, self.owed, (*STEPS, "jump")
         for at in range(ends):
-            if not allows(lines[at]):
+            line = self.line = lines[at]
+            self.is_right = False
+            parts = line.split(" ", 4)
+            if len(parts) < 4 or parts[3] in rare or parts[2] not in turns:
+                self.is_right = self.allows(line)
+            elif not owed or parts[2] not in owed:
+                turns[parts[2]]()
+            if not self.is_right:
                 self.why = f"line {at + 1} is not what its actor makes next, which is {self.last!r}"
                 return False
         return self.accepts_end(log, lines[:ends])

@@ -5,7 +5,7 @@ from __future__ import annotations
 import enum
 from dataclasses import dataclass, field
 
-from ..kernel.recording import (Attempt, CallbackBegin, CallbackEnd, Clock, Event, Fact, Message, Phase, SourceActivate,
+from ..kernel.recording import (PHASES, Attempt, CallbackBegin, CallbackEnd, Clock, Event, Fact, Message, Phase, SourceActivate,
                                 SourceDeactivate, SuspendResume)
 
 EAGAIN = -11
@@ -14,6 +14,7 @@ SILENT = (Phase.PREPARE, Phase.COMPLETE)
 TESTED = (Phase.SUSPEND, Phase.LATE)
 STOPPED = (Phase.SUSPEND, Phase.LATE, Phase.NOIRQ)  # Phases in which an error keeps others from beginning.
 TURNS = ("thaw_processes", "dpm_resume_noirq", "dpm_resume_early", "dpm_resume", "CPU_ON", "syscore_resume")
+ACTIONS = {phase: action for action, phase in PHASES.items()}
 MOST_REPORTS = 16
 
 
@@ -127,7 +128,7 @@ def survey(attempt: Attempt) -> Survey:
             if phase not in SILENT:
                 inside[pid] = event
                 if phase in TESTED and found.turn is None:
-                    found.tests.append((event, last.get(pid, 0)))
+                    found.tests.append((event, max(last.get(pid, 0), found.line(ACTIONS[phase]) or 0)))
         elif kind is CallbackEnd:
             inside.pop(pid, None)
             if event.error and is_error(event):
@@ -141,6 +142,9 @@ def survey(attempt: Attempt) -> Survey:
             continue
         last[pid] = event.line
     found.barrier = max((before for _, before in found.tests), default=0)
+    for action, behind in (("dpm_suspend", "dpm_suspend_late"), ("dpm_suspend_late", "dpm_suspend_noirq")):
+        if found.has(behind) and found.begins.get(Phase.PREPARE):  # (the phase went well, and each device tested in it)
+            found.barrier = max(found.barrier, found.line(action) or 0)
     return found
 
 
@@ -368,7 +372,9 @@ class Decider:
             return self.event(Where.SUSPEND)
         if self.is_whole or self.completed(Phase.SUSPEND):
             return self.plain(Where.PLATFORM_PREPARE, Why.NOT_TOLD, self.completed(Phase.SUSPEND))
-        if self.stopper is not None or self.is_cut_short():
+        ends, event = self.seen.line("dpm_suspend", False), self.stopper.event if self.stopper else None
+        is_behind = event is not None and ends is not None and event.line > ends and not self.is_cut_short()
+        if (self.stopper is not None or self.is_cut_short()) and not is_behind:
             return self.event(Where.SUSPEND, None, "" if self.is_cut_short() else "a failure of the platform's prepare, or pm_test")
         return self.plain(Where.PLATFORM_PREPARE, Why.NOT_TOLD, None, "pm_test, or a test that found an event of which the trace has no line")
 

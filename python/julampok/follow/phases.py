@@ -7,6 +7,7 @@ one that may not come yet, says what had to come first.
 
 from __future__ import annotations
 
+from collections.abc import Callable
 from dataclasses import dataclass
 
 from ..kernel.recording import CallbackBegin
@@ -25,9 +26,27 @@ class Stage:
     names: list[str]
     maker: str
     order: list[int]
-    places: list[int]  # The place of each device in the order.
     direct: set[int]  # Devices that the attempt leaves alone, since they are suspended already.
-    answers: object  # Says what a callback answers in the log: answers.error(device, phase, CallbackEnd) -> an error's name or "0".
+    texts: Callable[[str, str], Texts]  # The entries of a phase, by who makes the attempt and the phase's name.
+
+
+@dataclass(slots=True)
+class Texts:
+    """The entries of one phase that come again and again, by device: their actors and bodies."""
+
+    begin: list[str]
+    end: list[str]  # With 0.
+    direct: list[str]
+    schedule: list[str]
+
+
+def texts_of(kin: Kin, names: list[str], maker: str, phase: str) -> Texts:
+    """The entries of a phase."""
+    who = [f"dev:{name}" if is_async else maker for name, is_async in zip(names, kin.is_async)]
+    return Texts([f"{one} begin {phase} {name}" for one, name in zip(who, names)],
+                 [f"{one} end {phase} {name} 0" for one, name in zip(who, names)],
+                 [f"{one} skip {phase} {name} direct" for one, name in zip(who, names)],
+                 [f"{maker} schedule {phase} {name}" for name in names])
 
 
 def joined(kin: Kin, above: int, below: int) -> str:
@@ -44,7 +63,9 @@ class Down:
 
     def __init__(self, stage: Stage, name: str, begins: dict[int, CallbackBegin], reach: int, keeps: set[int]):
         self.stage, self.name, self.begins = stage, name, begins
-        self.put = stage.journal.put
+        self.put, self.add = stage.journal.put, stage.journal.add
+        self.texts = stage.texts(stage.maker, name)
+        self.is_async = stage.kin.is_async
         self.place = len(stage.order) - 1  # Of the next device of the walk.
         self.reach = reach  # The walk goes by itself down to this place, until the phase ends.
         self.keeps = keeps  # Devices without a line here that have one elsewhere: they come only as the phase ends.
@@ -90,8 +111,8 @@ class Down:
         if self.place < self.reach or self.error != "0":
             return False
         device = self.stage.order[self.place]
-        if self.stage.kin.is_async[device]:
-            self.put(self.stage.maker, f"schedule {self.name} {self.stage.names[device]}")
+        if self.is_async[device]:
+            self.add(self.texts.schedule[device])
             self.is_scheduled[device] = True
             self.open.append(device)
             self.place -= 1
@@ -110,21 +131,20 @@ class Down:
         """A device's turn that the trace does not show: it is skipped, or passes."""
         if self.is_over[device] or self.is_inside[device]:
             return
-        names, journal = self.stage.names, self.stage.journal
-        who = self.who(device)
+        stage = self.stage
         if self.error != "0":
-            self.put(who, f"skip {self.name} {names[device]} error")
-        elif self.is_tested and journal.is_pending():
-            self.put(who, f"skip {self.name} {names[device]} pending")
-            journal.find()
+            self.put(self.who(device), f"skip {self.name} {stage.names[device]} error")
+        elif self.is_tested and stage.journal.is_pending():
+            self.put(self.who(device), f"skip {self.name} {stage.names[device]} pending")
+            stage.journal.find()
             self.error = "EBUSY"
             self.found_at = device
-        elif device in self.stage.direct and (self.name != "suspend" or self.hangs_direct(device)):
-            self.put(who, f"skip {self.name} {names[device]} direct")
+        elif device in stage.direct and (self.name != "suspend" or self.hangs_direct(device)):
+            self.add(self.texts.direct[device])
             self.left_alone.add(device)
         else:
-            self.put(who, f"begin {self.name} {names[device]}")
-            self.put(who, f"end {self.name} {names[device]} 0")
+            self.add(self.texts.begin[device])
+            self.add(self.texts.end[device])
             self.ended.append(device)
         self.pass_on(device)
 
@@ -154,7 +174,7 @@ class Down:
         if is_late or not is_next or self.left[device] > 0 or self.is_tested and self.stage.journal.is_pending():
             self.refuse(device, event, is_next)
         self.is_inside[device] = True
-        self.put(self.who(device), f"begin {self.name} {self.stage.names[device]}")
+        self.add(self.texts.begin[device])
 
     def refuse(self, device: int, event: CallbackBegin, is_next: bool) -> None:
         """Says why a callback may not begin."""
@@ -260,7 +280,8 @@ class Up:
 
     def __init__(self, stage: Stage, name: str, begins: dict[int, CallbackBegin], members: list[int]):
         self.stage, self.name, self.begins = stage, name, begins
-        self.put = stage.journal.put
+        self.put, self.add = stage.journal.put, stage.journal.add
+        self.texts = stage.texts(stage.maker, name)
         here = set(members)
         self.order = [device for device in stage.order if device in here]
         self.left = {device: sum(above in here for above in stage.kin.above[device]) for device in self.order}
@@ -270,7 +291,7 @@ class Up:
         self.place = 0
         for device in self.order:
             if stage.kin.is_async[device]:
-                self.put(stage.maker, f"schedule {name} {stage.names[device]}")
+                self.add(self.texts.schedule[device])
         self.ready = [device for device in self.order if stage.kin.is_async[device] and self.left[device] == 0]
 
     def who(self, device: int) -> str:
@@ -305,9 +326,8 @@ class Up:
 
     def take(self, device: int) -> None:
         """A device without a line here passes."""
-        who, name = self.who(device), self.stage.names[device]
-        self.put(who, f"begin {self.name} {name}")
-        self.put(who, f"end {self.name} {name} 0")
+        self.add(self.texts.begin[device])
+        self.add(self.texts.end[device])
         self.pass_on(device)
 
     def pass_on(self, device: int) -> None:
@@ -327,7 +347,7 @@ class Up:
         if left != 0 or is_late or not self.stage.kin.is_async[device] and self.walk[self.place] != device:
             self.refuse(device, event)
         self.inside.add(device)
-        self.put(self.who(device), f"begin {self.name} {self.stage.names[device]}")
+        self.add(self.texts.begin[device])
 
     def refuse(self, device: int, event: CallbackBegin) -> None:
         """Says why a callback may not begin."""

@@ -39,7 +39,7 @@ def ways_of_log(lines: list[str]) -> dict[int, Way]:
     found: dict[int, Way] = {}
     way = Way()
     for line in lines:
-        words = line.split(" ")
+        words = line.split(" ", 5)
         verb = words[3]
         if verb == "begin":
             way.take(words[4], words[5])
