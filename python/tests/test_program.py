@@ -6,8 +6,10 @@ import pathlib
 import re
 import tempfile
 import unittest
+import unittest.mock
 
 from command_tests import EXAMPLES, WORKED, julampok
+from julampok import program
 from julampok.second.judge import judged
 from julampok.second.run import Run
 
@@ -59,6 +61,13 @@ class StandIn(unittest.TestCase):
         self.assertEqual(json.loads(done.out), {"legal": False, "line": 17, "definition": 18, "by": f"the program {self.program}"})
         self.does("echo legal")
         self.assertEqual(julampok("check", MACHINE, LOG, "--program", self.program).status, 0)
+
+    def test_the_built_one_is_taken(self):
+        self.does("echo legal")
+        with unittest.mock.patch.object(program, "BUILT", self.program):
+            done = julampok("check", MACHINE, LOG)
+        self.assertEqual((done.status, done.out, done.err), (0, "legal\n", ""))
+        self.assertEqual(pathlib.Path(f"{self.program}.words").read_text(), "check\n")
 
     def test_what_it_is_given(self):
         self.does("echo finished")
