@@ -32,7 +32,7 @@ def read_story(path, machine=None):
     try:
         devices = devices_seen(log) if machine is None else read_machine(read_bytes(machine), log)
     except NoMachine as refused:
-        raise CannotError(str(refused), machine) from None
+        raise CannotError(str(refused), machine, refused.line) from None
     except Refused as refused:
         raise CannotError(refused.why, path, refused.line) from None
     return Story(log, devices)

@@ -331,6 +331,12 @@ class Refusals(unittest.TestCase):
         self.assertEqual(self.refused(LINKED_LOG.replace("state fan codec", "state rotor codec"), LINKED), 5)
         with self.assertRaises(machine.NoMachine):
             told_by(text, [])
+        file = WORKED[0].with_suffix(".json").read_text()
+        log = reading.read_log(WORKED[0].read_bytes())
+        for other, line in ((file.encode("utf-16"), 1), (b"\xef\xbb\xbf" + file.encode(), 1), (b'{"version": 1,\n x}', 2)):
+            with self.assertRaises(machine.NoMachine) as caught:
+                machine.read_machine(other, log)
+            self.assertEqual(caught.exception.line, line)
 
     def test_a_script_whose_end_is_cut_off(self):
         waits = [{"name": name, "kind": "user", "script": [{"op": "wait", "mark": "a"}]} for name in "wv"]

@@ -95,7 +95,7 @@ class Refusals(unittest.TestCase):
         self.refuse("standard input:1: no line of a log: 'hello'", b"hello\n")
         self.refuse("the log is cut off", log[:500])
         self.refuse(":1: the machine has no task:w", log, "--machine", EXAMPLES / "order" / "laptop.json")
-        self.refuse("test_explain.py: this is no machine file", log, "--machine", __file__)
+        self.refuse("test_explain.py:1: this is no machine file", log, "--machine", __file__)
         self.refuse("nothing: No such file or directory", b"", "/nothing")
 
 

@@ -1,15 +1,19 @@
 """What a picture needs of a machine: its devices in their order, and what hangs below and above each."""
 
 import bisect
-import json
 
+from ..json_text import NoJson, read_json
 from .reading import Refused
 
 DEVICE_FIELDS = ("device", "supplier", "consumer")
 
 
 class NoMachine(Exception):
-    """The bytes are no machine file."""
+    """The bytes are no machine file; `line` is that of what cannot be read, if one is to blame."""
+
+    def __init__(self, why, line=None):
+        super().__init__(why)
+        self.line = line
 
 
 class Devices:
@@ -141,9 +145,11 @@ def refuse_cut(labels, log):
 def read_machine(data, log):
     """The devices of the machine file, of which the log has to be."""
     try:
-        tree = json.loads(data)
+        tree = read_json(data if isinstance(data, bytes) else data.encode())
         devices = devices_of(tree)
         refuse_others(tree, log)
+    except NoJson as refused:
+        raise NoMachine(f"this is no machine file: column {refused.column}: {refused.why}", refused.line) from None
     except (ValueError, KeyError, TypeError, AttributeError, RecursionError):
         raise NoMachine("this is no machine file") from None
     return devices
