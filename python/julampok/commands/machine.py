@@ -14,11 +14,10 @@ import sys
 
 from ..errors import YES, CannotError, one_line
 from ..files import refuse_inputs, write_all, write_out
-from ..follow.family import OutOfOrder
-from ..follow.follower import Follower
 from ..follow.machine import fits, machine_of, table_of
 from ..follow.machine import written as written_of_trace
 from ..follow.pacing import paced
+from ..follow.verdict import followed
 from ..kernel.machine import Builder, written
 from ..kernel.narrowing import branch, last_attempts, narrow
 from ..kernel.reading import add_side_arguments, device_named, read_and_join, read_machine_alone
@@ -82,7 +81,7 @@ def of_trace(given):
     recording = kept(given, recording, joiner)
     whole, notes = len(recording.attempts), []
     while True:
-        follower, file, is_same = followed(recording)
+        follower, file, is_same = paced_file(recording)
         if is_same is not None or len(recording.attempts) == 1:
             break
         recording = last_attempts(recording, len(recording.attempts) * 2 // 3)
@@ -92,13 +91,11 @@ def of_trace(given):
     return written_of_trace(file), table_of(follower), follower.notes + notes
 
 
-def followed(recording):
+def paced_file(recording):
     """A recording that was followed, its machine file, and whether a run of that goes its way (None: it has too many steps)."""
-    follower = Follower(recording)
-    try:
-        log = follower.follow()
-    except OutOfOrder as broken:
-        raise CannotError(f"{broken.did}; {broken.first}: no machine does that; 'julampok replay' tells more", recording.trace_file, broken.line) from None
+    follower, broken = followed(recording)
+    if broken is not None:
+        raise CannotError(f"{broken.did}; {broken.first}: no machine does that; 'julampok replay' tells more", recording.trace_file, broken.line)
     file = machine_of(follower)
     if why := fits(file):
         raise CannotError(why, recording.trace_file)
@@ -106,4 +103,4 @@ def followed(recording):
     for plan in follower.plans:
         for script in plan.refusers:
             refusers.setdefault(script.name, []).append(plan.number)
-    return follower, *paced(file, log, refusers)
+    return follower, *paced(file, follower.journal.end(), refusers)

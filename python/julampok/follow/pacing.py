@@ -107,16 +107,18 @@ def place_before_attempt(log: str, number: int):
 
 
 def stand_firm(file: dict, places: dict, refusers: dict[str, list], log: str) -> None:
-    """Lets tasks that did not freeze sleep where they cannot be frozen: in a run each task that may freeze does so at once.
+    """Lets tasks that did not freeze sleep where they cannot be frozen, from before the attempt on.
 
-    `refusers` has for each script the attempts in which it did not freeze.
+    In a run each task that may freeze does so at once. `refusers` has for each script the attempts in which it did not freeze.
     """
     for actor in file.get("actors", []):
         numbers = iter(refusers.get(actor["name"], []))
         for at, step in enumerate(actor["script"]):
-            if step["op"] == "freeze_point" and (number := next(numbers, None)) is not None:
+            if step["op"] not in ("freeze_point", "sleep_d") or (number := next(numbers, None)) is None:
+                continue
+            if step["op"] == "freeze_point":
                 actor["script"][at] = {"op": "sleep_d", "ms": 1}
-                places[actor["name"]][at] = place_before_attempt(log, number)
+            places[actor["name"]][at] = place_before_attempt(log, number)
 
 
 def paced(file: dict, log: str, refusers: dict[str, list[int]] | None = None) -> tuple[dict, bool | None]:
