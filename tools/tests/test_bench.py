@@ -25,7 +25,12 @@ def python(code, **given):
     return Spent(("-c", code), lambda clock: b"", program=lambda clock: sys.executable, **given)
 
 
-SHORT, LONG = python("pass"), python("for _ in range(3_000_000): pass")
+SHORT, LONG = python("1"), python("100")
+
+
+def told_time(clock, words, given, spent):
+    """In place of a measure, so that no busy computer changes what a test says: a program takes as many seconds as it says."""
+    return float(words[-1])
 
 
 class Machines(unittest.TestCase):
@@ -86,14 +91,18 @@ class Measured(unittest.TestCase):
             rows_of.__doc__ = "Rows of a test."
             return dev("bench", "links", "--program", STAND_IN, "--runs", "2")
 
+    def test_a_measure(self):
+        self.assertGreater(self.clock.seconds(python("pass")), 0.0)
+
+    @unittest.mock.patch.object(Clock, "once", told_time)
     def test_ratios(self):
-        self.assertGreater(self.clock.seconds(LONG), self.clock.seconds(SHORT))
-        self.assertLess(self.clock.seconds(python("for _ in range(3_000_000): pass", less=LONG)), self.clock.seconds(LONG))
+        self.assertEqual((self.clock.seconds(LONG), self.clock.seconds(SHORT)), (100.0, 1.0))
+        self.assertEqual(self.clock.seconds(python("103", less=LONG)), 3.0)
         done = self.bench(Row("less", SHORT, (LONG,), 1), Row("the same", LONG, (SHORT, LONG), None))
         self.assertEqual((done.status, done.err), (0, ""))
         done = self.bench(Row("more", LONG, (SHORT,), 1))
         self.assertEqual(done.status, 1)
-        self.assertRegex(done.out, r"more +1 +[\d.]+ (ms|s) +[\d.]+ +1  TOO MUCH\n$")
+        self.assertRegex(done.out, r"more +1 +100 s +100\.00 +1  TOO MUCH\n$")
 
     def test_each_of_many(self):
         make = lambda: SMALL
