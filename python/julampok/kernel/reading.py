@@ -10,7 +10,7 @@ from ..files import read_bytes
 from . import messages, tree
 from .joining import Joiner
 from .recording import Clock, Device, Link, Note, Recording
-from .trace import Lines, read_trace
+from .trace import Lines, no_collection, read_trace
 
 VERSION = "6.1.192"
 STATES = ("dormant", "active", "available", "probing", "unbinding", "none")
@@ -48,6 +48,12 @@ def read_inputs(trace, sys=None, devices=None, links=None, dmesg=None, kernel=No
 
 def read_and_join(trace, sys=None, devices=None, links=None, dmesg=None, kernel=None) -> tuple[Recording, Joiner]:
     """The recording of these files, and what finds devices by their names or folders. Raises CannotError."""
+    with no_collection():
+        return read_all(trace, sys, devices, links, dmesg, kernel)
+
+
+def read_all(trace, sys, devices, links, dmesg, kernel) -> tuple[Recording, Joiner]:
+    """Reads all files of a recording and joins what they tell."""
     if sys is not None and devices is not None:
         raise CannotError("SYS and --devices both list the devices: give one of them")
     if [trace, sys, devices, links, dmesg].count("-") > 1:

@@ -21,6 +21,7 @@ STEP = re.compile(r"(\w+)\[(-?\d+)\] (begin|end)")
 SOURCE = re.compile(r"(.*) state=0x([0-9a-f]+)")
 ENTERS = re.compile(r"suspend_resume: +suspend_enter\[\d+\] ")
 INDENT = re.compile(r"device_pm_callback_(?:start|end):( +)")
+MANY = 100_000  # Objects of a long recording.
 SAMPLE = 4000  # Callbacks among which one has a driver, if any has.
 # What a phase of each name has to say of its callbacks in `noirq driver [suspend]`: the first word, and the event in brackets.
 FIRST_WORDS = {"late": ("dpm_suspend_late",), "noirq": ("dpm_suspend_noirq", "dpm_resume_noirq"), "early": ("dpm_resume_early",)}
@@ -90,10 +91,11 @@ class Lines:
                 head, event, said = parts
                 left, _, stamp = head.rpartition(" ")
                 who = heads.get(left)
+                taker = takers.get(event)
+                if who is not None and taker is not None:
+                    taker(line, who, self.time_of(line, stamp), stamp, said)
+                    continue
                 if who is not None and event.isidentifier():
-                    taker = takers.get(event)
-                    if taker is not None:
-                        taker(line, who, self.time_of(line, stamp), stamp, said)
                     continue
             self.take_by_pattern(line, text)
 
@@ -399,8 +401,7 @@ def read_trace(file: str, data: bytes) -> Lines:
         lines.pop()
     reader = Lines(file, ENTERS.search(text) is not None, indent_of(text))
     reader.lines = lines
-    with no_collection():
-        reader.take_lines(lines)
+    reader.take_lines(lines)
     if rest and not ends_attempt(rest) and not ASIDE.fullmatch(rest):
         reader.notes.append(Note("the last line has no newline, so it may be cut off: left out", file, len(lines) + 1))
     reader.finish(len(lines) + bool(rest))
@@ -419,11 +420,16 @@ def ends_attempt(text: str) -> bool:
 
 @contextlib.contextmanager
 def no_collection():
-    """Turns Python's collector off: it would look again and again at events, none of which can go."""
+    """Turns Python's collector off while a recording is read: it would look again and again at events, none of which can go.
+
+    What there is of a long recording at the end is kept out of its sight for good.
+    """
     was_on = gc.isenabled()
     gc.disable()
     try:
         yield
     finally:
+        if gc.get_count()[0] > MANY:
+            gc.freeze()
         if was_on:
             gc.enable()
