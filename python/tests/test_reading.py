@@ -434,6 +434,18 @@ class Devices(Case):
         paths = {device.driver: device.path for device in recording.devices[3:]}
         self.assertEqual(paths, {"scsi_disk": folders[4], "bsg": folders[3], "block": folders[5]})
 
+    def test_two_of_one_name_below_one_parent(self):
+        """Of two folders of one name below one device, the first device of the trace has the one below which something comes first."""
+        steps = [*STEPS[:7], STEPS[7], STEPS[8]]
+        for words, parent in (("usb pad", "dock"), ("serio key", "pad"), ("mmc pad", "dock")):
+            steps += [(*STEPS[7][:6], f"{words}, parent: {parent}, [suspend]"), (*STEPS[8][:6], f"{words}, err=0")]
+        for above, wanted in (("dock/mem/pad", "dock/pad"), ("dock/pad", "dock/mem/pad")):
+            folders = ("dock", "dock/pad", "dock/mem/pad", f"{above}/key")
+            devices = "".join(f"/sys/devices/{path} async=disabled wakeup=\n" for path in folders)
+            recording = self.read(by_hand(steps=[*steps, STEPS[13], *STEPS[-2:]]), devices=devices)
+            self.assertEqual([device.path for device in recording.devices], ["dock", above, f"{above}/key", wanted])
+            self.assertEqual(recording.devices[2].parent, recording.devices[1])
+
     def test_a_parent_of_which_there_are_two(self):
         """Without a list, of two devices named pad the parent is the one with which the trace keeps the order."""
         prepare = [STEPS[7], STEPS[8]]

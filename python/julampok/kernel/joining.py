@@ -4,6 +4,7 @@ A trace writes `DRIVER DEVICE, parent: PARENT`, where names may have spaces and 
 becomes one object, with its parent's object, its folder in /sys, and whether it was asynchronous as it ran.
 """
 
+import math
 import posixpath
 from collections import defaultdict
 
@@ -37,6 +38,7 @@ class Joiner:
         self.orphans: list[tuple[Device, str]] = []  # Devices whose parent, of this name, stands in no input.
         self.guessed: list[tuple[Device, str]] = []  # Devices whose parent is one of several of this name.
         self.spans: list | None = None
+        self.first_lines: dict[str, int] | None = None  # Of each folder, the line of the first device below it.
         self.parents: dict[Device, str | None] = {}  # The name of the parent, as the trace has it.
         self.by_name: dict[str, list[Device]] = defaultdict(list)
         self.by_path: dict[str, Device] = {}
@@ -111,13 +113,28 @@ class Joiner:
         return [row for row in rows if self.is_below(row, name)] or rows
 
     def find_folder(self, device: Device, rows: list[sys_tree.Device]) -> None:
-        """Gives a device of the trace one of these folders: of several the one of its driver, else one that is not in a class."""
+        """Gives a device of the trace one of these folders: of several the one of its driver, else the likeliest."""
         row = next((row for row in rows if is_of(row, device.driver)), None)
         if row is None and rows:
-            row = next((row for row in rows if not is_classed(row)), rows[0])
+            row = rows[0] if len(rows) == 1 else min(rows, key=lambda row: (self.first_below(row), is_classed(row)))
         if row is not None:
             self.by_path[row.path] = device
             take_row(device, row)
+
+    def first_below(self, row: sys_tree.Device) -> float:
+        """The line in which the trace has the first device that is below a folder for sure; infinite where it has none.
+
+        The devices of a trace come in the order of prepare, in which a parent stands before what is below it. So of two
+        folders of one name the first device has the one below which something comes first.
+        """
+        if self.first_lines is None:
+            self.first_lines = {}
+            for name, devices in self.by_name.items():
+                rows = self.rows.get(name, ())
+                if len(devices) == len(rows) == 1 and rows[0].parent is not None:
+                    line = min(devices[0].line, self.first_lines.get(rows[0].parent, devices[0].line))
+                    self.first_lines[rows[0].parent] = line
+        return self.first_lines.get(row.path, math.inf)
 
     def is_below(self, row: sys_tree.Device, name: str | None) -> bool:
         """Whether the folder above is that of a device of the trace, where the trace has one of that name with a folder."""
