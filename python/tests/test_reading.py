@@ -434,6 +434,13 @@ class Devices(Case):
         paths = {device.driver: device.path for device in recording.devices[3:]}
         self.assertEqual(paths, {"scsi_disk": folders[4], "bsg": folders[3], "block": folders[5]})
 
+    def test_a_name_with_a_slash(self):
+        """The kernel has '!' in a name where its maker gave '/': a trace and /sys have the same name."""
+        devices = "/sys/devices/dock async=disabled wakeup=\n/sys/devices/dock/cciss!c0d0 async=enabled wakeup=\n"
+        recording = self.read(by_hand().replace("Fixed MDIO bus.0", "cciss!c0d0"), devices=devices)
+        self.assertEqual([device.name for device in recording.devices], ["dock", "cciss!c0d0", "a,b:01"])
+        self.assertEqual((recording.devices[1].path, recording.devices[1].listed_async), ("dock/cciss!c0d0", True))
+
     def test_two_of_one_name_below_one_parent(self):
         """Of two folders of one name below one device, the first device of the trace has the one below which something comes first."""
         steps = [*STEPS[:7], STEPS[7], STEPS[8]]

@@ -34,7 +34,7 @@ class Device:
 
     def __init__(self, path, parent):
         self.path, self.parent = path, parent
-        self.name = posixpath.basename(path).replace("!", "/")
+        self.name = posixpath.basename(path)  # (a "/" in a name is "!" already in the kernel, so in a trace as in /sys)
         self.is_async = self.runtime_status = self.line = None
         self.may_wake = False
         self.driver = self.subsystem = ""
