@@ -489,9 +489,11 @@ def delay_errors(seen: Survey, phase: Phase, ends: list[CallbackEnd], keys: dict
     for event in seen.items:
         if isinstance(event, (SourceActivate, SourceDeactivate)):
             continue
+        if waiting:  # (a task that has gone on has let its error count)
+            waiting = [end for end in waiting if end.pid != event.pid]
         if isinstance(event, CallbackBegin) and event.phase == phase:
             for end in waiting:
-                if event.pid != end.pid and last.get(event.pid, 0) < end.line:
+                if last.get(event.pid, 0) < end.line:
                     keys[end] = (event.line, 1, end.line)
         if event in errors:
             waiting.append(event)

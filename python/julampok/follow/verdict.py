@@ -199,6 +199,8 @@ def stand_ins_of(following: Following) -> list[str]:
     for what, name in following.plan.stand_ins:
         if what == "processors":
             found.append(f"{name}, since a machine file has one number of processors, at most 64, for all attempts")
+        elif what == "test":
+            found.append("the next test finds an event that came before, in place of what turned the kernel around")
         elif what == "event":
             found.append(f"an event of {name} in place of the one that no line shows")
         elif outcome.where == Where.IDLE:
