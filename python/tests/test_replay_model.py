@@ -81,8 +81,8 @@ class Trial:
             elif what == "auto" and not is_held:
                 kernel.write_autosleep()
                 for _ in range(0 if is_auto else pick([1, 2, 3])):
-                    kernel.autosleep(pick([{}, {"begin": ("event", "lid", False, 0)}, {"platform prepare": True}]),
-                                     refuses=pick([None, None, "user"]))
+                    kernel.autosleep(pick([{}, {pick(PLACES[3:]): ("event", "lid", False, 0)}, {"platform prepare": True}]),
+                                     refuses=pick([None, None, "user"]), pm_test=pick([None, None, *LEVELS]))
                 is_auto = not is_auto
 
     def replay(self, folder, without=()):

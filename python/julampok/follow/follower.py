@@ -56,6 +56,7 @@ class Follower:
         self.next_of: dict[Event, Event] = {}
         self.writer: tuple[Script, str] | None = None  # Who is inside a write to autosleep, and what it says.
         self.keeps_on = False
+        self.is_queued, self.autos_left, self.idle_runs = False, len(self.planner.autos), 0
         self.make_sources()
         self.plan_lists()
 
@@ -171,9 +172,8 @@ class Follower:
             return
         plan.is_saved = True
         if plan.maker is None:
-            journal.put("auto", "run")
-            journal.put("auto", f"read {journal.visible}")
-            journal.put("auto", f"saved {journal.save()}")
+            self.autos_left -= 1
+            self.run_work()
             return
         journal.act(plan.maker)
         plan.maker.steps += [{"op": "read"}, {"op": "save"}]
@@ -183,13 +183,21 @@ class Follower:
     def let_count_go(self, plan: Plan) -> None:
         """A count of an earlier attempt is no longer in force, where an event moved it and no test of this attempt found that."""
         journal = self.journal
-        if not journal.has_moved() or plan.outcome.why == Why.EVENT:
+        is_plain = plan.outcome.guard == Guard.PLAIN and bool(plan.seen.events)
+        if not journal.is_checking or not is_plain and (not journal.has_moved() or plan.outcome.why == Why.EVENT):
             return
         count = journal.visible + 1
         plan.maker.steps.append({"op": "save", "count": count})
         journal.put(plan.maker.label, f"save {count} EINVAL")
         journal.is_checking = False
         self.note("the count of an earlier attempt was in force no longer: in the log a save that fails ends that", plan.attempt.line)
+
+    def run_work(self) -> None:
+        """The autosleep work runs, and saves the count."""
+        self.is_queued = False
+        self.journal.put("auto", "run")
+        self.journal.put("auto", f"read {self.journal.visible}")
+        self.journal.put("auto", f"saved {self.journal.save()}")
 
     def open_attempt(self, following: Following) -> None:
         """The first entry of an attempt."""
@@ -222,6 +230,7 @@ class Follower:
                 journal.put("auto", "slept")
         if not is_last:
             journal.put("auto", "again")
+            self.is_queued = True
         if plan is not self.planner.autos[-1]:
             return
         self.keeps_on = self.planner.keeper.is_inside
@@ -368,6 +377,10 @@ class Follower:
         self.journal.relax(script.label, self.journal.sources[AUTOSLEEP])
         self.journal.put(script.label, "autosleep done")
         script.is_inside = False
+        if text == "off" and self.is_queued and self.autos_left and self.journal.may_save():
+            self.run_work()  # (it was queued, and finds that autosleep is off)
+            self.journal.put("auto", "off")
+            self.idle_runs += 1
         if self.keeps_on and script is self.planner.keeper:
             self.keeps_on = False
             self.let_go()

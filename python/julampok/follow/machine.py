@@ -22,7 +22,7 @@ def machine_of(follower: Follower) -> dict:
     direct = {key[1] for key, answer in follower.answers.items() if key[0] == "device" and key[2] == Phase.PREPARE and answer.get("ret") == 1}
     file = {"version": 2 if is_new else 1, "cpus": follower.cpus}
     if follower.planner.autos:
-        file["auto_cycles"] = len(follower.planner.autos)
+        file["auto_cycles"] = len(follower.planner.autos) + follower.idle_runs
     file["devices"] = [as_device(follower, number, name in direct) for number, name in enumerate(names)]
     file["links"] = links
     file["syscore"] = [TEST_STEP, CORE] if follower.has_test_step else [CORE]
