@@ -8,12 +8,13 @@ import argparse
 import importlib
 import os
 import pkgutil
+import signal
 import sys
 import traceback
 
 from . import commands
 from .errors import CANNOT, CannotError
-from .files import LATER, say, say_all, silence, write_out
+from .files import LATER, STANDARD, say, say_all, silence, write_out
 from .progress import Progress
 
 HEAD = "What a machine does that goes to sleep as Linux 6.1 does: run it, check its log, explain and draw it."
@@ -85,11 +86,30 @@ def fault_line(fault):
     return f"a fault of julampok itself, which its maintainers want to know: {type(fault).__name__} at {place}: {fault}"
 
 
+def end_tidily():
+    """Lets the signals that end a process take away first what stands half written."""
+    owner = os.getpid()
+
+    def end(number, _):
+        if os.getpid() != owner:
+            os._exit(128 + number)  # A process that was made for a part of the work has nothing to take away.
+        raise SystemExit(128 + number)
+
+    for number in (signal.SIGTERM, signal.SIGHUP):
+        try:
+            if signal.getsignal(number) == signal.SIG_DFL:
+                signal.signal(number, end)
+        except ValueError:
+            return  # Only the first thread takes signals.
+
+
 def main(words=None):
     """Runs the command that the words name, and gives its status."""
     words = sys.argv[1:] if words is None else words
     name = "julampok"
     LATER.clear()
+    STANDARD.clear()
+    end_tidily()
     try:
         given = parser_for(words).parse_args(words)
         name = f"julampok {given.command}"

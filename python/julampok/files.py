@@ -1,6 +1,7 @@
 """Reads inputs and writes outputs: '-' is standard input or output, and a new file is whole or is not there."""
 
 import gzip
+import io
 import os
 import pathlib
 import re
@@ -13,22 +14,56 @@ from .errors import CannotError, one_line
 from .progress import current
 
 GZIP = b"\x1f\x8b"
+MOST_READ = 1 << 30  # The bytes of an input, packed or not: what has more is no recording, as /dev/zero is none.
+STANDARD = []  # What was read of standard input, which is read once.
 
 
 def read_bytes(path):
     """The bytes of a file, or of standard input for '-'; unpacked where gzip packed them. Raises CannotError."""
-    if str(path) == "-" and sys.stdin is None:
-        raise CannotError("is closed", path)
+    if str(path) == "-" and STANDARD:
+        return STANDARD[0]
     try:
-        data = sys.stdin.buffer.read() if str(path) == "-" else pathlib.Path(path).read_bytes()
-    except (OSError, ValueError) as fault:
+        data = unpacked(read_packed(path))
+    except (OSError, EOFError, ValueError, zlib.error) as fault:
         raise CannotError(reason(fault), path) from None
+    if str(path) == "-":
+        STANDARD.append(data)
+    return data
+
+
+def read_packed(path):
+    """The bytes as they stand in a file, or come from standard input."""
+    if str(path) != "-":
+        with open(path, "rb") as file:
+            return whole(file)
+    if sys.stdin is None:
+        raise ValueError("is closed")
+    return whole(sys.stdin.buffer)
+
+
+def unpacked(data):
+    """The bytes that gzip packed, or those that it did not."""
     if not data.startswith(GZIP):
         return data
     try:
-        return gzip.decompress(data)
+        with gzip.GzipFile(fileobj=io.BytesIO(data)) as file:
+            return whole(file)
     except (OSError, EOFError, zlib.error) as fault:
-        raise CannotError(f"cannot be unpacked: {fault}", path) from None
+        raise ValueError(f"cannot be unpacked: {fault}") from None
+
+
+def whole(file):
+    """All bytes of an open file, of which there may be so many."""
+    data = file.read(MOST_READ + 1)
+    if len(data) > MOST_READ:
+        raise ValueError(f"is longer than {MOST_READ:,} bytes")
+    return data
+
+
+def refuse_twice(machine, log):
+    """Raises CannotError where standard input would have to be the machine and its log."""
+    if machine == log == "-":
+        raise CannotError("standard input can be the machine or the log, not both")
 
 
 # What a file of another kind begins with.
@@ -113,12 +148,14 @@ def is_same(one, two):
     """Whether two paths lead to one file that is there."""
     try:
         return os.path.samefile(one, two)
-    except OSError:
+    except (OSError, ValueError):
         return False
 
 
 def refuse_inputs(path, inputs):
-    """Raises CannotError where the output would replace one of the inputs, or has no folder to stand in."""
+    """Raises CannotError where the output has no name, would replace one of the inputs, or has no folder to stand in."""
+    if not str(path) or "\0" in str(path):
+        raise CannotError(f"no file has the name {str(path)!r}, so it is not written")
     for given in inputs:
         if given is not None and str(given) != "-" and is_same(path, given):
             raise CannotError("is one of the inputs, so it is not written", path)
@@ -140,7 +177,7 @@ def write_all(files, inputs=()):
     try:
         for path in files:
             refuse_inputs(path, inputs)
-            if pathlib.Path(path).is_dir():
+            if pathlib.Path(path).is_dir() or str(path).endswith("/"):
                 raise CannotError("is a folder", path)
         for path, data in files.items():
             if is_special(path):
@@ -193,9 +230,10 @@ def mask():
 
 def write_folder(path, files, inputs=()):
     """Writes a new folder with these files ({name: data}), all or none. Raises CannotError, also where it is there."""
-    path = pathlib.Path(path)
+    if str(path) == "-":
+        raise CannotError("-o wants the name of a new folder, and standard output is none")
     refuse_inputs(path, inputs)
-    made = None
+    path, made = pathlib.Path(path), None
     try:
         if path.exists() and (not path.is_dir() or any(path.iterdir())):
             raise CannotError("is there already; a new folder is written", path)

@@ -263,7 +263,9 @@ def open_text(text, at):
     if end >= len(text):
         return fault(text, at, "this text has no '\"' at its end")
     if text[end] == "\\":
-        return fault(text, end, f"{text[end:end + 2]!r} is no escape of JSON")
+        escape = text[end:end + 2]
+        said = f"'{escape}'" if escape.isprintable() else repr(escape)
+        return fault(text, end, f"{said} is no escape of JSON")
     if text[end] == "\n":
         return fault(text, at, "this text has no '\"' before the end of its line")
     return fault(text, end, f"the control character {text[end]!r} stands in a text")

@@ -4,7 +4,7 @@ from .drawing.machine import NoMachine, devices_seen, read_machine
 from .drawing.reading import Refused, read_log
 from .drawing.story import Story
 from .errors import CannotError
-from .files import looks_like, read_bytes
+from .files import looks_like, read_bytes, refuse_twice
 
 
 def add_log(parser):
@@ -24,8 +24,7 @@ def read_log_file(path):
 
 def read_story(path, machine=None):
     """The story of a log, with its machine file where one is given; None for an empty log. Raises CannotError."""
-    if str(path) == str(machine) == "-":
-        raise CannotError("standard input can be the machine or the log, not both")
+    refuse_twice(str(machine), str(path))
     log = read_log_file(path)
     if log is None:
         return None

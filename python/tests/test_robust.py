@@ -7,10 +7,12 @@ import gzip
 import os
 import pathlib
 import shlex
+import signal
 import stat
 import subprocess
 import tempfile
 import unittest
+import unittest.mock
 
 from command_tests import EXAMPLES, ROOT, WORKED, julampok, julampok_apart
 from julampok import cli
@@ -113,9 +115,28 @@ class BadInputs(unittest.TestCase):
         for name in cli.command_names():
             for words in ((name, "--nothing"), (name, "a", "b", "c", "d", "e", "--nothing=1")):
                 self.refused(julampok(*words), words)
-        for words in ((), ("nothing",), ("--nothing",), ("run", "--workers", "0", "x"), ("run", "--workers", "1"), ("check",), ("check", "-", "-"), ("why",), ("draw", "--svg", "x", LOG)):
+        for words in ((), ("nothing",), ("--nothing",), ("run", "--workers", "0", "x"), ("run", "--workers", "1"), ("check",), ("check", "-", "-"), ("why",),
+                      ("draw", "--svg", "x", LOG), ("explain", "--machine", "-"), ("draw", "--machine", "-", "-"), ("why", "-", "-")):
             done = julampok(*words)
             self.assertEqual((done.status, done.out, done.err.count("\n")), (2, "", 1), (words, done))
+
+    def test_inputs_without_end(self):
+        """What has more bytes than any recording is refused, and not read to its end."""
+        for words in (("run", "/dev/zero"), ("replay", "/dev/zero")):
+            with unittest.mock.patch("julampok.files.MOST_READ", 100_000):
+                self.refused(julampok(*words), words)
+        bomb = pathlib.Path(self.folder.name, "bomb")
+        bomb.write_bytes(gzip.compress(bytes(300_000)))
+        with unittest.mock.patch("julampok.files.MOST_READ", 100_000):
+            self.refused(julampok("run", bomb), ("run",))
+        bomb.unlink()
+
+    def test_standard_input_in_place_of_a_file(self):
+        """'-' gives what the file would."""
+        for words in (("order", BAD, "d6", "d5"), ("times", BAD), ("machine", "--trace", BAD)):
+            told = julampok(*[TRACE if word is BAD else word for word in words])
+            read = julampok(*["-" if word is BAD else word for word in words], data=TRACE.read_bytes())
+            self.assertEqual((told.status, told.err.count("\n")), (read.status, read.err.count("\n")), read)
 
     def test_programs_that_are_none(self):
         for program in ("/bin/true", "/bin/false", "/bin/cat", "/bin/echo", ROOT, ROOT / "README.md", "/nothing"):
@@ -159,6 +180,24 @@ class Outputs(unittest.TestCase):
             link.unlink()
             hard.unlink()
 
+    def test_names_that_no_output_has(self):
+        """An output without a name, one that names a folder, and a machine file in the place of its table of names."""
+        for output in ("", str(self.at / "x") + "/", self.at / "x.names"):
+            done = julampok("machine", "--trace", TRACE, "-o", output)
+            self.assertEqual((done.status, done.out, done.err.count("\n")), (2, "", 1), done)
+            self.assertNotIn("fault of julampok", done.err)
+        for output in ("", "-"):
+            done = julampok("times", TRACE, "-o", output)
+            self.assertEqual((done.status, done.out, done.err.count("\n")), (2, "", 1), done)
+        self.assertEqual(os.listdir(self.at), [])
+
+    def test_a_device_has_no_table_beside_it(self):
+        os.mkfifo(self.at / "pipe")
+        reader = subprocess.Popen(["cat", self.at / "pipe"], stdout=subprocess.PIPE)
+        done = julampok("machine", "--trace", TRACE, "-o", self.at / "pipe")
+        self.assertEqual((done.status, os.listdir(self.at)), (0, ["pipe"]), done)
+        self.assertIn(b'"version": 1', reader.communicate()[0])
+
     def test_whole_or_not_at_all(self):
         self.assertEqual((julampok("run", MACHINE, "-o", "/dev/null").status, stat.S_ISCHR(os.stat("/dev/null").st_mode)), (0, True))
         for output in (self.at / "no" / "x.log", self.at, "/dev/full", self.at / ("x" * 300)):
@@ -182,6 +221,17 @@ class Outputs(unittest.TestCase):
         self.assertEqual((done.returncode, done.stderr.count("\n")), (2, 1), done)
         self.assertIn("x.log: cannot be written: File too large", done.stderr)
         self.assertEqual(os.listdir(self.at), [])
+
+    def test_ended_while_it_writes(self):
+        """A signal that ends the process leaves the old file, and nothing beside it."""
+        killed = "import os, signal, sys; os.fsync = lambda _: os.kill(os.getpid(), signal.%s); " \
+                 "sys.path.insert(0, sys.argv.pop(1)); from julampok.cli import main; sys.exit(main())"
+        for name in ("SIGTERM", "SIGHUP", "SIGINT"):
+            old = self.at / "x.log"
+            old.write_text("old\n")
+            done = subprocess.run(["python3", "-c", killed % name, ROOT / "python", "run", MACHINE, "-o", old], capture_output=True, text=True)
+            self.assertEqual((done.returncode, done.stderr), (128 + getattr(signal, name), ""), done)
+            self.assertEqual((os.listdir(self.at), old.read_text()), (["x.log"], "old\n"))
 
     def test_streams(self):
         """A reader that goes away is no fault; a closed or full output is one."""
@@ -228,14 +278,10 @@ class Help(unittest.TestCase):
             self.assertIn("Python 3.11 or newer is wanted", done.stderr)
 
     def test_examples_run(self):
-        """Each example of files that are here does what its help says."""
+        """Each example runs as it stands, at the top of a clone."""
         with tempfile.TemporaryDirectory() as folder:
             for name in cli.command_names():
-                words = cli.module_of(name).EXAMPLE.split("#")[0].split("|")[0]
-                words = shlex.split(words)
-                if any(word.endswith((".trace", ".json", ".log")) and not (ROOT / word).exists() and before not in ("-o", "--output")
-                       for before, word in zip(words, words[1:])):
-                    continue
+                words = shlex.split(cli.module_of(name).EXAMPLE)
                 words = [os.path.join(folder, word) if before == "-o" else str(ROOT / word) if (ROOT / word).exists() and "/" in word else word
                          for before, word in zip(words, words[1:])]
                 done = julampok(*words)

@@ -114,7 +114,7 @@ class Files(Scratch):
             (device.replace('"key"', '"key","parent":"key"'), "said to be its own parent"),
             (device + ',"links":[{"supplier":"Hub","consumer":"key"}]', "'hub' would be one"),
             (device + ',"links":[{"supplier":"hub","consumer":"keys"}]', "the consumer 'keys' is no device; the nearest that exists is 'key'"),
-            (script % '{"op":"reed"}', "there is no operation the text 'reed'; the nearest that exists is 'read'"),
+            (script % '{"op":"reed"}', "there is no operation 'reed'; the nearest that exists is 'read'"),
             (script % '{"ms":1}', "lacks its member 'op'"),
             (script % '{"op":"sleep"}', "lacks its member 'ms', a whole number from 1 to 86,400,000"),
             (script % '{"op":"sleep","ms":0}', "'ms' has to be a whole number from 1 to 86,400,000, and is the number 0"),

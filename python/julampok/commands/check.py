@@ -8,7 +8,7 @@ so on standard error. Status 2: the text is no log, or the log is cut off.
 import json
 
 from ..errors import NO, YES, CannotError
-from ..files import looks_like, read_bytes, write_out
+from ..files import looks_like, read_bytes, refuse_twice, write_out
 from ..program import add_program, chosen
 from ..refusals.log_lines import cut_off
 
@@ -25,8 +25,7 @@ def add_arguments(parser):
 
 
 def run(given):
-    if given.machine == given.log == "-":
-        raise CannotError("standard input can be the machine or the log, not both")
+    refuse_twice(given.machine, given.log)
     machine, log = read_bytes(given.machine), read_bytes(given.log)
     judge = chosen(given)
     found = judge.check(machine, log, given.machine)

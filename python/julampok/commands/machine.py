@@ -10,10 +10,9 @@ file by one worker goes the way of the trace. What the file cannot say is left o
 """
 
 import pathlib
-import sys
 
-from ..errors import YES, CannotError, one_line
-from ..files import refuse_inputs, write_all, write_out
+from ..errors import YES, CannotError
+from ..files import is_special, refuse_inputs, say, write_all, write_new
 from ..follow.machine import fits, machine_of, table_of
 from ..follow.machine import written as written_of_trace
 from ..follow.pacing import paced
@@ -24,7 +23,7 @@ from ..kernel.reading import add_side_arguments, device_named, read_and_join, re
 from ..kernel.recording import Note
 
 HELP = "makes a machine file of a real machine, of its /sys or a trace"
-EXAMPLE = "julampok machine --trace my.trace -o my.json /sys"
+EXAMPLE = "julampok machine --trace examples/real/order.trace --devices examples/real/order.devices -o order.json"
 
 
 def add_arguments(parser):
@@ -41,18 +40,29 @@ def run(given):
     if given.sys is given.devices is given.trace is None:
         raise CannotError("wants SYS, or --devices FILE, or --trace TRACE")
     inputs = [given.trace, given.links, given.sys, given.devices, given.dmesg]
-    table_file = None if given.output == "-" else str(pathlib.Path(given.output).with_suffix(".names"))
-    for file in (given.output, table_file):
-        if file not in (None, "-"):
-            refuse_inputs(file, inputs)
+    table_file = table_beside(given.output, inputs)
     file, table, notes = of_trace(given) if given.trace is not None else of_tree(given)
     if table_file is None:
-        write_out(file)
+        write_new(given.output, file, inputs)
     else:
         write_all({given.output: file, table_file: table}, inputs)
     for note in notes:
-        print(one_line(f"julampok machine: {CannotError(note.text, note.file, note.line)}"), file=sys.stderr)
+        say("julampok machine", CannotError(note.text, note.file, note.line))
     return YES
+
+
+def table_beside(output, inputs):
+    """The file of the table of names; None where the machine goes into no file. Raises CannotError, as writing would."""
+    if output == "-":
+        return None
+    refuse_inputs(output, inputs)
+    if is_special(output):
+        return None
+    table_file = str(pathlib.Path(output).with_suffix(".names"))
+    if pathlib.Path(output) == pathlib.Path(table_file):
+        raise CannotError("is where the table of names goes; the machine file wants another name", output)
+    refuse_inputs(table_file, inputs)
+    return table_file
 
 
 def kept(given, recording, joiner):

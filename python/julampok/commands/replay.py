@@ -16,7 +16,8 @@ from ..kernel.reading import add_input_arguments, inputs_of, read_recording
 from ..program import add_program, chosen
 
 HELP = "follows a kernel's trace to a whole log, and judges it"
-EXAMPLE = "julampok replay my.trace --devices my.devices --links my.links --dmesg my.dmesg"
+REAL = "examples/real/irq-suspend-async"
+EXAMPLE = f"julampok replay {REAL}.trace --devices {REAL}.devices --links {REAL}.links --dmesg {REAL}.dmesg"
 
 
 def add_arguments(parser):

@@ -16,7 +16,8 @@ from ..kernel.reading import add_input_arguments, inputs_of, read_recording
 from ..program import Second, add_program, chosen
 
 HELP = "makes one page of a recorded suspend: what stopped it, what was slow, what would help"
-EXAMPLE = "julampok report suspend.trace --dmesg suspend.dmesg -o suspend.html"
+REAL = "examples/real/irq-suspend-async"
+EXAMPLE = f"julampok report {REAL}.trace --devices {REAL}.devices --links {REAL}.links --dmesg {REAL}.dmesg -o abort.html"
 
 
 def add_arguments(parser):

@@ -11,7 +11,7 @@ import json
 import os
 
 from ..errors import NO, YES, CannotError
-from ..files import looks_like, read_bytes, write_out
+from ..files import looks_like, read_bytes, refuse_twice, write_out
 from ..refusals import endings, log_lines, machine_files
 from ..json_text import NoJson, read_json
 
@@ -28,13 +28,18 @@ def run(given):
     said, files = split(given.words)
     told, fault = explanation(said, files)
     if told is None:
-        write_out("null\n" if given.json else f"Nothing is wrong with {' and '.join(files)}.\n")
+        write_out("null\n" if given.json else f"Nothing is wrong with {' and '.join(map(named, files))}.\n")
         return NO
     file = files[-1] if files else ""
     write_out(json.dumps(told.json(file=file)) + "\n" if given.json else told.text(file))
     if fault is not None:
         raise fault
     return YES
+
+
+def named(file):
+    """A file as a sentence names it."""
+    return "standard input" if file == "-" else file
 
 
 def split(words):
@@ -46,8 +51,8 @@ def split(words):
         raise CannotError("wants SAID, FILE and LOG at most")
     if said is None and not os.path.exists(words[0]) and words[0] != "-" and (len(words) > 1 or " " in words[0]):
         raise CannotError("this is no line that the program writes, and no file", words[0])
-    if files.count("-") > 1:
-        raise CannotError("standard input can be one of both alone")
+    if len(files) == 2:
+        refuse_twice(*files)
     return said, files
 
 

@@ -5,7 +5,7 @@ import itertools
 
 from ..limits import ANSWERED, ERRORS, LONGEST_MS, MOST_CPUS, MOST_TIMES, WORD
 from ..second.rules import CHANGES, LISTS, OPERATIONS, PHASES, is_list, number, report, short_text, text, truth, word
-from .points import MOST, Point, cut, near_words, quoted, shown
+from .points import MOST, Point, cut, near_words, nearest, quoted, shown
 
 
 @dataclasses.dataclass
@@ -88,7 +88,8 @@ def member_points(member, form, value, path):
     """What is wrong with a member's value."""
     if member == "reports" and isinstance(value, list):
         return [point for at, one in enumerate(value) if not report(one) for point in report_points(one, (*path, at))]
-    near = near_words(value, form.choices) if form.choices and isinstance(value, str) else ""
+    is_near = form.choices and isinstance(value, str) and nearest(value, list(form.choices))
+    near = near_words(value, form.choices) if is_near else ""
     return [Point(f"'{member}' has to be {form.says}, and is {shown(value)}{near}{why_no_number(form, value)}", path)]
 
 
@@ -119,7 +120,7 @@ def operation_points(value, version, path):
         return [Point("an operation lacks its member 'op', which says what is done", path)]
     if not isinstance(op, str) or op not in OPERATIONS:
         near = near_words(op, OPERATIONS) or f"; the operations are {quoted(OPERATIONS, 'and')}"
-        return [Point(f"there is no operation {shown(op)}{near}", (*path, "op"))]
+        return [Point(f"there is no operation {shown(op).removeprefix('the text ')}{near}", (*path, "op"))]
     if version == 1 and op in CHANGES:
         return [Point(f"'{op}' is an operation of files of version 2, and this file says version 1", (*path, "op"))]
     found = object_points(value, *operation_form(op), path, f"the operation '{op}'")
