@@ -4,8 +4,10 @@ In each row BAD is the place of the bad input. A row names what may be read ther
 """
 
 import gzip
+import json
 import os
 import pathlib
+import re
 import shlex
 import signal
 import stat
@@ -245,6 +247,54 @@ class Outputs(unittest.TestCase):
         self.assertEqual((done.returncode, done.stderr), (2, b"julampok run: standard input: is closed\n"))
         done = subprocess.run(["bash", "-c", f"{ROOT / 'julampok'} run /nothing 2>&-"], capture_output=True)
         self.assertEqual(done.returncode, 2)
+
+
+REAL = EXAMPLES / "real"
+STOPPED = EXAMPLES / "workers" / "two-lines-stopped.log"
+# The words of each command that writes JSON; what it may leave empty is seen by the second of both, where there are two.
+ANSWERS = {
+    "check": [(MACHINE, LOG)], "why": [(EXAMPLES / "order" / "parent-too-late.json",)], "explain": [(STOPPED,)], "dmesg": [(LOG,)],
+    "replay": [(REAL / "irq-suspend-async.trace",), (REAL / "order-broken.trace",)],
+    "order": [(REAL / "irq-suspend-async.trace", "mid", "long"), (REAL / "irq-suspend-async.trace", "--luck", "mid", "long")],
+    "diff": [(REAL / "irq-suspend-async.trace", REAL / "order.trace")], "sweep": [(MACHINE,)],
+    "times": [(REAL / "order.trace", "--best", "1")],
+}
+
+
+def members_of(value):
+    """The names of the members of a value of JSON, also of those below it."""
+    if isinstance(value, list):
+        return {name for one in value for name in members_of(one)}
+    if isinstance(value, dict):
+        return {name for name in value} | {name for one in value.values() for name in members_of(one)}
+    return set()
+
+
+class Answers(unittest.TestCase):
+    def documented(self):
+        """The members of each command's answer, as docs/FORMATS.md tells them."""
+        text = (ROOT / "docs" / "FORMATS.md").read_text()
+        rows = text.split("### Answers for scripts", 1)[1].split("\n## ", 1)[0]
+        found = {row[1]: set(re.findall("`([a-z_]+)`", row[2])) for row in re.finditer(r"^\| `(\w+)` \| (.*) \|$", rows, re.M)}
+        times = text.split("### Times, orders and sweeps", 1)[1].split("`-o FOLDER`", 1)[0]
+        return found | {"times": set(re.findall("`([a-z_]+)`", "".join(re.findall(r"^\| .*", times, re.M)))) - {"dpm_suspend", "dpm_suspend_noirq", "dpm_resume", "dpm_resume_noirq"}}
+
+    def test_members(self):
+        """Each answer is one value, and has the members that the page names."""
+        documented = self.documented()
+        self.assertEqual(set(documented), set(ANSWERS))
+        for command, calls in ANSWERS.items():
+            found = set()
+            for words in calls:
+                done = julampok(command, *words, "--json")
+                self.assertIn(done.status, (0, 1), (command, done.err))
+                found |= members_of(json.loads(done.out))
+            self.assertEqual(documented[command] - found, set(), command)
+
+    def test_who_writes_json(self):
+        """The page knows each command that has the option."""
+        names = {name for name in cli.command_names() if "--json " in julampok(name, "--help").out}
+        self.assertEqual(names, set(ANSWERS))
 
 
 class Help(unittest.TestCase):

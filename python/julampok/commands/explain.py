@@ -42,7 +42,7 @@ def attempt_json(story, attempt, text):
     answer, cause, undone, wait = text.split("\n")
     first = story.entries[attempt.failures[0]] if attempt.failures else None
     return {
-        "attempt": attempt.number, "by": attempt.maker, "answer": attempt.answer, "line": attempt.last + 1,
+        "attempt": int(attempt.number), "by": attempt.maker, "answer": attempt.answer, "line": attempt.last + 1,
         "failed_in": first and stage_of(first), "failed_line": first and first.line,
         "says": {"answer": answer, "cause": cause, "undone": undone, "wait": wait},
     }
