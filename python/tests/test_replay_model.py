@@ -129,3 +129,51 @@ class Model(unittest.TestCase):
                 with self.subTest(seed, kinds=trial.kinds, without=without):
                     found = trial.replay(folder, without)
                     self.assertEqual(found.status, 0, found.headline)
+
+
+class Limits(unittest.TestCase):
+    """More than a machine file may have."""
+
+    def replay(self, kernel):
+        """The verdict on a model's trace."""
+        with tempfile.TemporaryDirectory() as folder:
+            paths = {}
+            for name, text in (("trace", kernel.trace()), ("devices", kernel.devices()), ("links", kernel.link_list())):
+                paths[name] = os.path.join(folder, name)
+                with open(paths[name], "w") as file:
+                    file.write(text)
+            return replay(read_inputs(**paths))
+
+    def test_list_that_changes_often(self):
+        kernel = Kernel(2, 14)
+        for number in range(40):
+            leaves = [d for d in sorted(kernel.list, key=lambda d: d.name) if not (d.children or d.consumers or d.suppliers or d.callbacks)]
+            for device in leaves if number % 2 else leaves[::-1]:
+                kernel.list.remove(device)
+                kernel.list.append(device)
+            kernel.attempt()
+        self.assertGreater(len(leaves), 1)
+        found = self.replay(kernel)
+        self.assertEqual(found.status, 0, found.headline)
+        self.assertIn("the list changes too often", " ".join(note.text for note in found.notes))
+
+    def test_many_devices_and_processors(self):
+        kernel = Kernel(5, 1300, cpus=100)
+        for device in kernel.list[30:]:
+            device.callbacks = set()
+        kernel.attempt()
+        found = self.replay(kernel)
+        self.assertEqual((found.status, [one.answer for one in found.attempts]), (0, ["0"]), found.headline)
+        self.assertIn("more than the 1000 of a machine file", " ".join(note.text for note in found.notes))
+        self.assertIn("the kernel took 99 off", " ".join(found.attempts[0].stand_ins))
+
+    def test_many_sources(self):
+        kernel = Kernel(7, 2)
+        for attempt in range(3):
+            for number in range(120):
+                kernel.source(f"s{attempt}-{number}", True)
+                kernel.source(f"s{attempt}-{number}", False)
+            kernel.attempt()
+        found = self.replay(kernel)
+        self.assertEqual((found.status, [one.number for one in found.attempts]), (0, [2, 3]), found.headline)
+        self.assertIn("attempt 1 is left out", " ".join(note.text for note in found.notes))

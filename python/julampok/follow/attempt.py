@@ -238,8 +238,8 @@ class Following:
     def prepare(self) -> bool:
         """The prepare phase; False where it failed."""
         self.take("dpm_prepare")
-        shown = set(prepared(self.seen.begins.get(Phase.PREPARE, {}), self.kin.number))
-        place, error, number = 0, "0", self.kin.number
+        place, error, number = 0, "0", {device: number for device, number in self.kin.number.items() if number not in self.owner.loose}
+        shown = set(prepared(self.seen.begins.get(Phase.PREPARE, {}), number))
         while not self.is_phase_end("dpm_prepare"):
             item = self.items[self.at]
             self.at += 1
@@ -418,12 +418,12 @@ class Following:
     def complete(self) -> None:
         """The complete phase: backward over the devices that were prepared."""
         self.take("dpm_complete")
-        later = self.traced(Phase.COMPLETE)
+        later = {device: begin for device, begin in self.traced(Phase.COMPLETE).items() if device not in self.owner.loose}
         while not self.is_phase_end("dpm_complete"):
             item = self.items[self.at]
             self.at += 1
             device = self.kin.number.get(item.device)
-            if device is None or type(item) is not CallbackBegin:
+            if device is None or type(item) is not CallbackBegin or device in self.owner.loose:
                 continue
             self.journal.line = item.line
             self.complete_down_to(device, later, item)

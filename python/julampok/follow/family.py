@@ -178,6 +178,7 @@ class Mover:
         self.next_supplier = [0] * len(kin.devices)
         self.real: dict[int, list[int]] = {}
         self.cycles: list[tuple[int, int]] = []  # Links that close a cycle, which are left out.
+        self.has_failed = False  # A device could not be moved, since each link that would do it stands.
         for supplier, consumer in kin.links:
             self.real.setdefault(consumer, []).append(supplier)
 
@@ -213,6 +214,7 @@ class Mover:
             self.next_supplier[device] = supplier + 1
             if supplier != device and (supplier, device) not in self.stand and not self.hangs(supplier, device):
                 return [self.add(supplier, device, True)]
+        self.has_failed = True
         return []
 
     def hangs(self, device: int, above: int) -> bool:

@@ -8,7 +8,7 @@ from dataclasses import dataclass
 from ..errors import CannotError
 from ..kernel.names import Names
 from ..kernel.recording import CallbackBegin, CallbackEnd, Event, Note, Phase, Recording, SourceActivate, SourceDeactivate
-from ..limits import ANSWERED, ERRORS, FREEZE_MS, NAP_MS
+from ..limits import ANSWERED, ERRORS, FREEZE_MS, MOST_LINKS, NAP_MS
 from .attempt import CORE, REFUSER, STAND_IN, TEST_STEP, Following
 from .family import Mover, OutOfOrder, prepared, settle, target
 from .journal import AUTOSLEEP, Journal, Script, Source
@@ -47,7 +47,6 @@ class Follower:
         self.cpus = self.planner.cpus()
         self.answers: dict[tuple, dict] = {}
         self.foreign: list[Foreign] = []
-        self.texts = functools.cache(functools.partial(texts_of, self.kin, self.names))
         self.skipped: set[Event] = set()  # Ends of events that were told together with their begins.
         self.has_refuser = any(plan.outcome.where == Where.NOTIFIERS for plan in self.plans)
         self.has_test_step = any(plan.outcome.where == Where.LAST and plan.outcome.why == Why.PM_TEST for plan in self.plans)
@@ -57,8 +56,10 @@ class Follower:
         self.writer: tuple[Script, str] | None = None  # Who is inside a write to autosleep, and what it says.
         self.keeps_on = False
         self.is_queued, self.autos_left, self.idle_runs = False, len(self.planner.autos), 0
+        self.loose: set[int] = set()  # Devices whose place in the list does not count.
         self.make_sources()
         self.plan_lists()
+        self.texts = functools.cache(functools.partial(texts_of, self.kin, self.names))
 
     def make_sources(self) -> None:
         """Gives the sources their names. The kernel's own one of the name autosleep gets another."""
@@ -67,28 +68,41 @@ class Follower:
         self.journal.sources[AUTOSLEEP] = Source(AUTOSLEEP)
 
     def plan_lists(self) -> None:
-        """Finds the links of the file and those that are added between attempts, so that the list is each attempt's."""
-        wanted, self.changes = list(range(len(self.kin.devices))), []
-        shown = [prepared(plan.seen.begins.get(Phase.PREPARE, {}), self.kin.number) for plan in self.plans]
-        first = next((one for one in shown if one), [])
-        wanted = target(wanted, first)
-        self.links = self.mover.begin(wanted)
+        """Finds the links of the file and those that are added between attempts, so that the list is each attempt's.
+
+        Where that takes more links than there may be, devices are left where they stand that have no callback and nothing below.
+        """
+        self.find_lists()
+        if self.mover.has_failed or len(self.links) + sum(map(len, self.changes)) > MOST_LINKS:
+            is_async = self.kin.is_async
+            self.kin, _ = settle(self.recording)
+            self.kin.is_async, self.planner.kin, self.mover = is_async, self.kin, Mover(self.kin)
+            self.loose = {number for number, device in enumerate(self.kin.devices) if not device.has_callbacks and not self.kin.below[number]}
+            self.find_lists()
+            self.note("the list changes too often for a machine file: devices without a callback and with nothing below keep their first place")
         for supplier, consumer in self.mover.cycles:
             ends = self.kin.devices[supplier].shown, self.kin.devices[consumer].shown
             self.note(f"the link from {ends[0]} to {ends[1]} closes a cycle with the parents and the links before it: left out")
-        self.orders = []
-        for one in shown:
-            wanted = target(self.mover.order, one) if one else self.mover.order
-            self.changes.append(self.mover.change(wanted))
-            self.orders.append(self.mover.order)
-        self.links += self.changes[0]
-        self.changes[0] = []
         self.lister = None
         works = sum(map(len, self.changes))
         if works:
             self.lister = self.planner.script("nofreeze", "device-list")
             self.lister.left = works
         self.journal.scripts = list(self.planner.scripts.values())
+
+    def find_lists(self) -> None:
+        """Finds the links of the file and of scripts."""
+        shown = [[device for device in prepared(plan.seen.begins.get(Phase.PREPARE, {}), self.kin.number) if device not in self.loose]
+                 for plan in self.plans]
+        wanted = target(list(range(len(self.kin.devices))), next((one for one in shown if one), []))
+        self.links = self.mover.begin(wanted)
+        self.changes, self.orders = [], []
+        for one in shown:
+            wanted = target(self.mover.order, one) if one else self.mover.order
+            self.changes.append(self.mover.change(wanted))
+            self.orders.append(self.mover.order)
+        self.links += self.changes[0]
+        self.changes[0] = []
 
     def note(self, text: str, line: int | None = None) -> None:
         """Notes what a user should know."""

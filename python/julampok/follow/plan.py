@@ -55,9 +55,11 @@ def kept_attempts(recording: Recording, devices: int) -> tuple[list[Attempt], st
     most = MOST_SEEN // (devices + 50) - 1
     attempts, places, sources, why, kept = recording.attempts, {}, set(), "", 0
     before = len(recording.events)
-    for attempt in reversed(attempts):
-        found = sources | {event.source for event in recording.events[attempt.first:before] if is_step(event)}
-        for event in recording.events[attempt.first:before]:
+    for place in range(len(attempts) - 1, -1, -1):
+        begin = attempts[place - 1].first + len(attempts[place - 1].events) if place else 0
+        steps = [event for event in recording.events[begin:before] if is_step(event)]
+        found = sources | {event.source for event in steps}
+        for event in steps:
             if isinstance(event, SourceActivate):
                 places[event.source] = places.get(event.source, 0) + 1
         if kept >= min(most, 1000):
@@ -68,7 +70,7 @@ def kept_attempts(recording: Recording, devices: int) -> tuple[list[Attempt], st
             why = f"a machine file has room for fewer events"
         if why:
             break
-        sources, before, kept = found, attempt.first, kept + 1
+        sources, before, kept = found, begin, kept + 1
     if kept == 0:
         raise CannotError(f"the last attempt does not fit into a machine file: {why}", recording.trace_file, attempts[-1].line)
     return attempts[-kept:], why

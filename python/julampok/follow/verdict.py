@@ -227,7 +227,7 @@ def compare(found: Replay, follower: Follower, text: str) -> None:
     """Compares way and answer of each attempt."""
     ways = ways_of_log(follower.journal.lines)
     for following, said in zip(follower.done, found.attempts):
-        trace = way_of_trace(following.seen, follower.kin.number, follower.names)
+        trace = way_of_trace(following.seen, follower.kin.number, follower.names, follower.loose)
         log = ways[following.number]
         stands_in = said.judged_to is not None
         differs = difference(log, trace, stands_in, any(what == "processors" for what, _ in following.plan.stand_ins))
@@ -248,8 +248,9 @@ def notes_of(recording: Recording, follower: Follower, found: Replay) -> list[No
     notes = list(recording.notes) + follower.notes
     file = recording.trace_file
     if follower.planner.why_cut:
-        left = recording.attempts[0].number, follower.planner.attempts[0].number - 1
-        notes.append(Note(f"attempts {left[0]} to {left[1]} are left out: {follower.planner.why_cut}", file, recording.attempts[0].line))
+        last = follower.planner.attempts[0].number - 1
+        left = "attempt 1 is" if last == 1 else f"attempts 1 to {last} are"
+        notes.append(Note(f"{left} left out: {follower.planner.why_cut}", file, recording.attempts[0].line))
     for one in follower.foreign:
         notes.append(Note(f"{one.device.shown} answered {error_text(one.number)}, an error that machine files do not have: the log has EIO", file, one.line))
     if not FIRST <= recording.version[:2] < LAST:

@@ -64,15 +64,15 @@ def take_rare(way: Way, words: list[str]) -> None:
         way.answer = words[2]
 
 
-def way_of_trace(seen: Survey, number: dict, names: list[str]) -> Way:
-    """The way of an attempt of the trace, its devices by their names in the log."""
+def way_of_trace(seen: Survey, number: dict, names: list[str], loose: set[int] = frozenset()) -> Way:
+    """The way of an attempt of the trace, its devices by their names in the log; without those whose place does not count."""
     way = Way(line=seen.attempt.line)
     way.phases = [PHASES[action].value for action, is_begin in seen.first if is_begin and action in PHASES]
     way.processors = len(seen.cpus)
     entry = seen.first.get(("machine_suspend", True))
     way.has_entered = entry is not None and entry.value != 1
     for phase, begins in seen.begins.items():
-        here = [begin for device, begin in begins.items() if device in number]
+        here = [begin for device, begin in begins.items() if device in number and number[device] not in loose]
         way.begins[phase.value] = [names[number[begin.device]] for begin in here]
         way.lines[phase.value] = [begin.line for begin in here]
     return way
