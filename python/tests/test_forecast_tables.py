@@ -24,6 +24,7 @@ ONE_PROCESSOR = (
     ("slow-async-one", ("--pm-async", "0"), "slow-sync-one"),
 )
 TWO_PROCESSORS = (("sync", "--async", "async"), ("async", "--sync", "sync"))
+MANY_AT_ONCE = (("slow-sync", ("--pm-async", "1"), "slow-async"), ("slow-async", ("--pm-async", "0"), "slow-sync"))
 
 
 @functools.cache
@@ -75,8 +76,19 @@ def two_processors():
     return text
 
 
+def many_at_once():
+    """A row for each way of a pair in which many devices change at once, on two processors, one recording each."""
+    text = head("recording", "change", "", "measured", "by the rules", "change by the forecast", "change of the other recording", "off by")
+    for before, asked, after in MANY_AT_ONCE:
+        for way in ("suspend", "resume"):
+            said = times(before, *asked)[way]
+            ours, theirs = said["forecast_ms"] - said["rules_ms"], times(after)[way]["measured_ms"] - said["measured_ms"]
+            text += row(f"`{before}`", f"`{' '.join(asked)}`", way, number(said["measured_ms"]), number(said["rules_ms"]), change(ours), change(theirs), change(ours - theirs))
+    return text
+
+
 class Page(unittest.TestCase):
-    """The page has both tables."""
+    """The page has the three tables."""
 
     def test_one_processor(self):
         self.assertIn(one_processor(), PAGE.read_text())
@@ -84,7 +96,11 @@ class Page(unittest.TestCase):
     def test_two_processors(self):
         self.assertIn(two_processors(), PAGE.read_text())
 
+    def test_many_at_once(self):
+        self.assertIn(many_at_once(), PAGE.read_text())
+
 
 if __name__ == "__main__":
     print(one_processor())
     print(two_processors())
+    print(many_at_once())
