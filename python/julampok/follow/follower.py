@@ -9,12 +9,12 @@ from ..errors import CannotError
 from ..kernel.names import Names
 from ..kernel.recording import CallbackBegin, CallbackEnd, Event, Note, Phase, Recording, SourceActivate, SourceDeactivate
 from ..limits import ANSWERED, ERRORS, FREEZE_MS, MOST_LINKS, NAP_MS
-from .attempt import CORE, REFUSER, STAND_IN, TEST_STEP, Following
-from .family import Mover, OutOfOrder, prepared, settle, target
+from .attempt import STAND_IN, Following
+from .family import Mover, prepared, settle, target
 from .journal import AUTOSLEEP, Journal, Script, Source
 from .outcome import Guard, Where, Why
 from .phases import texts_of
-from .plan import NOT_TOLD, Plan, Planner
+from .plan import Plan, Planner
 
 NAMES = {-number: name for name, number in ERRORS.items() if name in ANSWERED}
 WRITTEN_AS = "EIO"  # What a machine file has in place of an error that it has no name for.
@@ -405,8 +405,7 @@ class Follower:
         """The error of a callback as the log has it."""
         if item.error == 0:
             return "0"
-        is_spoiled = phase == Phase.PREPARE and NAMES.get(item.error) == "EAGAIN"
-        name = NAMES.get(item.error, WRITTEN_AS) if not is_spoiled else WRITTEN_AS
+        name = NAMES.get(item.error, WRITTEN_AS)
         if NAMES.get(item.error) != name:
             self.foreign.append(Foreign(number, phase, self.kin.devices[device], item.error, item.line))
         self.answer("device", self.names[device], phase, number)["ret"] = name

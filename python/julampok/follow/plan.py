@@ -10,7 +10,7 @@ from ..kernel.recording import Attempt, Event, Fact, Phase, Recording, SourceAct
 from ..limits import MOST, MOST_CPUS, MOST_ENTRIES, MOST_SEEN
 from .family import Kin
 from .journal import AUTOSLEEP, Script
-from .outcome import SILENT, Decider, Guard, Outcome, Survey, Where, Why, arranged, survey
+from .outcome import SILENT, Decider, Outcome, Survey, Where, Why, arranged, survey
 
 MOST_LINES = 200  # Interrupt lines of their own; further sources share one.
 MOST_TASKS = 40  # Tasks of their own; further ones share one.

@@ -7,7 +7,7 @@ import re
 
 from ..kernel.recording import CallbackBegin, CallbackEnd, Fact, Phase, SourceActivate
 from .attempt import Following
-from .outcome import Guard, Outcome, Where, Why
+from .outcome import Guard, Where, Why
 
 MOST_NAMED = 4  # Devices that one sentence names.
 PLATFORM = {Where.BEGIN: "begin", Where.PLATFORM_PREPARE: "prepare", Where.PREPARE_LATE: "prepare_late",
