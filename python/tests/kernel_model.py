@@ -217,7 +217,7 @@ class Kernel:
         for _ in range(self.dice.randint(0, 4)):
             yield
         if planned and planned[0] == "report":
-            yield from self.event("own", pid=pid, flags="d....")
+            yield from self.event("own", length=planned[1], pid=pid, flags="d....")
         if planned and planned[0] == "event":
             yield from self.event(*planned[1:])
             yield

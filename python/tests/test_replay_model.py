@@ -48,7 +48,7 @@ class Trial:
             "event": lambda: {pick([*PLACES, *[self.callback()] * 6]): ("event", "lid", False, length)},
             "hard": lambda: {pick([*PLACES[3:], *[self.callback()] * 6]): ("event", "lid", True, length)},
             "soft": lambda: {pick([PLACES[0], *PLACES[3:], *[self.callback()] * 6]): ("event", "lid", False, length)},
-            "report": lambda: {self.callback(): ("report",)},
+            "report": lambda: {self.callback(): ("report", length)},
             "error": lambda: {self.callback(): ("error", pick([-5, -16, -19, -110, -12]))},
             "prepare": lambda: {(pick(self.kernel.list).name, "prepare"): ("error", pick([-5, -16, -12]))},
             "up": lambda: self.up_error(),

@@ -226,7 +226,9 @@ class Follower:
         journal.put(following.who, f"attempt {plan.number} {guard}")
         for event, after in zip(plan.items, plan.items[1:]):
             if isinstance(event, SourceActivate) and isinstance(after, SourceDeactivate) and event.source == after.source:
-                self.next_of[event] = after
+                reports = plan.seen.reports
+                if reports.get(event) is reports.get(after):  # (the same callback made both, or none)
+                    self.next_of[event] = after
 
     def close_attempt(self, plan: Plan) -> None:
         """What follows an attempt."""
