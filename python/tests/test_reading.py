@@ -468,6 +468,17 @@ class Devices(Case):
             self.assertEqual((key.name, key.parent.driver), ("key", "platform" if order[0] == "input key" else "acpi"))
             self.assertTrue(any("is one of several" in note.text for note in recording.notes))
 
+    def test_a_parent_of_which_there_are_two_over_one_without_callbacks(self):
+        """What hangs below a device without callbacks tells which of two devices is its parent."""
+        names = {"acpi pad": "dock", "platform pad": "none", "hid bus": "pad", "input key": "bus"}
+        line = lambda words, info: ((*STEPS[7][:6], f"{words}, parent: {names[words]}, {info}[suspend]"), (*STEPS[8][:6], f"{words}, err=0"))
+        prepare = [step for words in names for step in line(words, "")]
+        for order, wanted in ((("input key", "acpi pad", "platform pad"), "platform"), (("platform pad", "input key", "acpi pad"), "acpi")):
+            suspend = [step for words in order for step in line(words, "bus ")]
+            recording = self.read(by_hand(steps=[*STEPS[:7], STEPS[7], STEPS[8], *prepare, *STEPS[13:15], *suspend, STEPS[17], *STEPS[-2:]]))
+            bus = next(device for device in recording.devices if device.name == "bus")
+            self.assertEqual(bus.parent.driver, wanted)
+
     def test_parents_that_are_in_no_input(self):
         recording = self.read(without(by_hand(), *range(12, 16)))
         self.assertEqual([device.parent for device in recording.devices], [None])

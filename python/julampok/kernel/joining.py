@@ -37,7 +37,9 @@ class Joiner:
         self.notes: list[Note] = []
         self.orphans: list[tuple[Device, str]] = []  # Devices whose parent, of this name, stands in no input.
         self.guessed: list[tuple[Device, str]] = []  # Devices whose parent is one of several of this name.
-        self.spans: list | None = None
+        self.spans: list = []
+        self.candidates: dict[Device, list[Device]] = {}  # What the parent of a guessed one may be, the likeliest first.
+        self.below: dict[Device, list[Device]] = defaultdict(list)
         self.first_lines: dict[str, int] | None = None  # Of each folder, the line of the first device below it.
         self.parents: dict[Device, str | None] = {}  # The name of the parent, as the trace has it.
         self.by_name: dict[str, list[Device]] = defaultdict(list)
@@ -58,6 +60,7 @@ class Joiner:
             self.add_row(row)
         for device in traced:
             self.find_parent(device)
+        self.choose_parents(traced)
         self.tell_parents()
         self.devices = self.in_order(traced)
         self.settle_async()
@@ -167,22 +170,56 @@ class Joiner:
             self.orphans.append((device, name))
             return
         before = [other for other in found if other.line is not None and other.line < device.line]
-        likely = [*reversed(before), *(other for other in reversed(found) if other not in before)]
-        device.parent = likely[0]
-        if len(found) > 1:
-            device.parent = next((other for other in likely if self.is_in_order(other, device)), likely[0])
-            self.guessed.append((device, name))
+        if len(found) == 1:
+            device.parent = found[0]
+            return
+        self.guessed.append((device, name))
+        self.candidates[device] = [*reversed(before), *(other for other in reversed(found) if other not in before)]
 
-    def is_in_order(self, parent: Device, child: Device) -> bool:
-        """Whether each phase of the trace has the two in the order of a parent and its child."""
-        if self.spans is None:
-            self.spans = spans_of(self.lines.attempts)
+    def choose_parents(self, traced: list[Device]) -> None:
+        """Gives devices whose parent is one of several of its name the one with which the trace keeps the order.
+
+        The last devices come first: what hangs below a device is known by then, which has callbacks where the device has none.
+        """
+        if not self.candidates:
+            return
+        self.spans = spans_of(self.lines.attempts)
+        for device in traced:
+            if device.parent is not None:
+                self.below[device.parent].append(device)
+        for device, likely in reversed(self.candidates.items()):
+            device.parent = min(likely, key=lambda other: self.rank(other, device))
+            self.below[device.parent].append(device)
+
+    def rank(self, parent: Device, child: Device) -> int:
+        """How likely a device is the parent of another one, by the phases whose order shows it; the least is the likeliest.
+
+        A device of which no phase says anything is less likely than one that five phases of six show: one may be broken.
+        """
+        kept = broken = 0
         for phase, spans in self.spans:
-            if parent in spans and child in spans:
-                first, second = (child, parent) if phase in CHILDREN_FIRST else (parent, child)
-                if spans[first][1] > spans[second][0]:
-                    return False
-        return True
+            above = nearest_above(parent, spans)
+            below = self.nearest_below(child, spans) if above is not None else []
+            pairs = [(other, above) if phase in CHILDREN_FIRST else (above, other) for other in below]
+            if any(spans[first][1] > spans[second][0] for first, second in pairs):
+                broken += 1
+            elif pairs and phase not in SILENT:
+                kept += 1
+        if broken:
+            return 1 if kept >= 5 * broken else 3
+        return 0 if kept else 2
+
+    def nearest_below(self, device: Device, spans) -> list[Device]:
+        """The device, or the nearest below it that have a callback in a phase, where it has none."""
+        found, left, passed = [], [device], set()
+        while left:
+            device = left.pop()
+            if device in spans:
+                found.append(device)
+            elif device not in passed:
+                passed.add(device)
+                left += self.below.get(device, ())
+        return found
 
     def tell_parents(self) -> None:
         """Notes whose parents stand in no input, and whose are guessed: how many, and the first one."""
@@ -243,6 +280,15 @@ def spans_of(attempts: list[Attempt]) -> list[tuple[Phase, dict[Device, tuple[in
         for begin in attempt.begins:
             found[attempt.number, begin.phase][begin.device] = begin.line, begin.end.line
     return [(phase, spans) for (_, phase), spans in found.items()]
+
+
+def nearest_above(device: Device | None, spans) -> Device | None:
+    """The device, or the nearest above it that has a callback in a phase, where it has none; None where nobody has."""
+    passed = set()
+    while device is not None and device not in spans and device not in passed:
+        passed.add(device)
+        device = device.parent
+    return device if device in spans else None
 
 
 def replace(attempts: list[Attempt], same: dict[Device, Device]) -> None:
