@@ -3,10 +3,10 @@
 What was judged and what was forecast comes from elsewhere: `judging` and `timing` add it.
 """
 
-import errno
 import os
 import time
 
+from ..kernel.errnos import error_name
 from ..kernel.recording import CallbackBegin, CallbackEnd, Clock, Phase, SourceActivate, SourceDeactivate, SuspendResume
 from .model import Attempt, Gap, Mark, Page, Row, Sort, Stage, Tone, Unit
 
@@ -69,9 +69,9 @@ class Rows:
         return self.sources[name]
 
 
-def error_name(number):
+def answer_name(number):
     """An error as the kernel's headers name it; nothing for 0 and for the 1 that a prepare may answer."""
-    return "" if number >= 0 else errno.errorcode.get(-number, str(number))
+    return "" if number >= 0 else error_name(number)
 
 
 def task_of(event):
@@ -92,7 +92,7 @@ def callback_mark(clock, rows, event):
     end = event.end
     words = callback_words(event) + (", answered 1 (it may be left alone)" if end and end.error > 0 else "")
     return Mark(rows.of(event.device), str(event.phase), clock.at(event), clock.until(end or event), event.line, (end or event).line, words,
-                error_name(end.error) if end else "", task_of(event), True, end is None)
+                answer_name(end.error) if end else "", task_of(event), True, end is None)
 
 
 def place_words(event, open_callbacks):

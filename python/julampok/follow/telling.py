@@ -2,9 +2,9 @@
 
 from __future__ import annotations
 
-import errno
 import re
 
+from ..kernel.errnos import error_name, error_text
 from ..kernel.recording import CallbackBegin, CallbackEnd, Fact, Phase, SourceActivate
 from .attempt import Following
 from .outcome import Guard, Where, Why
@@ -16,12 +16,6 @@ TESTS = {"cpu": "The test before processor {} went off found it.", "core": "The 
          "last": "The last test before the entry found it."}
 LEVELS = {Where.FROZEN: "freezer", Where.PLATFORM_PREPARE: "devices", Where.PREPARE_LATE: "platform", Where.CPUS: "processors",
           Where.LAST: "core"}
-
-
-def error_text(number: int) -> str:
-    """An error as the trace has it, with its name: `-5 (EIO)`."""
-    name = errno.errorcode.get(-number)
-    return f"{number} ({name})" if name else str(number)
 
 
 def listed(names: list[str]) -> str:
@@ -51,7 +45,7 @@ class Teller:
         if outcome.why == Why.ERROR and outcome.where in (Where.PREPARE, Where.SUSPEND, Where.LATE, Where.NOIRQ):
             return self.phase_error(seen.errors[self.phase()])
         number = self.processor_error() if outcome.why == Why.ERROR else None
-        return errno.errorcode.get(-number, str(number)) if number else None
+        return error_name(number) if number else None
 
     def processor_error(self) -> int | None:
         """The error of a processor that did not go off, where dmesg tells it."""
@@ -67,7 +61,7 @@ class Teller:
         """The error that a phase answers: a synchronous device's own, else the last one."""
         own = [end for end in ends if not end.device.is_async]
         number = (own or ends)[-1].error
-        return errno.errorcode.get(-number, str(number))
+        return error_name(number)
 
     # ---- what stopped it
 

@@ -6,6 +6,7 @@ import gc
 from dataclasses import dataclass, field
 
 from ..errors import CannotError
+from ..kernel.errnos import error_text
 from ..kernel.recording import Device, Note, Recording
 from ..program import Second
 from .attempt import STAND_IN, Following, Unexplained
@@ -14,7 +15,7 @@ from .follower import Follower
 from .judge import Judge
 from .machine import fits, machine_of, table_of, written
 from .outcome import Guard, Where, Why
-from .telling import Teller, error_text
+from .telling import Teller
 from .way import difference, way_of_trace, ways_of_log
 
 FIRST, LAST = (6, 1), (6, 2)  # The versions whose rules are these.

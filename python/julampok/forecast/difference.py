@@ -10,6 +10,7 @@ from __future__ import annotations
 from dataclasses import dataclass, field
 from typing import Iterator, Mapping, NamedTuple
 
+from julampok.kernel.errnos import error_text
 from julampok.kernel.recording import PHASES, Attempt, CallbackBegin, Device, Phase, Recording, SuspendResume
 
 from .forecast import Forecast
@@ -187,7 +188,7 @@ def key_words(key: Key) -> str:
 
 
 def answer_words(error: int | None) -> str:
-    return "nothing" if error is None else str(error)
+    return "nothing" if error is None else error_text(error) if error else "0"
 
 
 def apart_partings(a: Side, b: Side) -> Iterator[Parting]:
