@@ -6,10 +6,11 @@ status 0 (yes) or 1 (no) and raises CannotError for 2. Its docstring is shown by
 
 import argparse
 import importlib
+import itertools
 import os
 import pkgutil
-import signal
 import sys
+import textwrap
 import traceback
 
 from . import commands
@@ -22,10 +23,25 @@ FOOT = "Statuses: 0 yes; 1 no; 2 the words are wrong, or an input is missing or 
 
 
 class Parser(argparse.ArgumentParser):
-    """A parser whose refusals are one line."""
+    """A parser whose refusals are one line, and whose help is written as any output."""
+
+    def print_help(self, file=None):
+        """Writes the help where any output goes, so that a closed or full output is told."""
+        write_out(self.format_help())
 
     def error(self, message):
         raise CannotError(f"{message}; '{self.prog} --help' tells more")
+
+
+class Words(argparse.HelpFormatter):
+    """Fills the sentences of a help to the terminal's width; lines that stand in stay as they are."""
+
+    def _fill_text(self, text, width, indent):
+        lines = []
+        for stands_in, found in itertools.groupby(text.split("\n"), lambda line: not line or line.startswith(" ")):
+            found = list(found)
+            lines += found if stands_in else textwrap.wrap(" ".join(found), width)
+        return "\n".join(lines)
 
 
 def command_names():
@@ -65,8 +81,7 @@ class Version(argparse.Action):
 def parser_for(words):
     """The parser of all commands; only the one that is named is read, where one is."""
     names = command_names()
-    parser = Parser(prog="julampok", description=HEAD, epilog=FOOT, formatter_class=argparse.RawDescriptionHelpFormatter,
-                    allow_abbrev=False)
+    parser = Parser(prog="julampok", description=HEAD, epilog=FOOT, formatter_class=Words, allow_abbrev=False)
     parser.add_argument("--version", action=Version, help="shows the version")
     below = parser.add_subparsers(dest="command", metavar="COMMAND", required=True, parser_class=Parser)
     named = next((word for word in words if not word.startswith("-")), None)
@@ -74,7 +89,7 @@ def parser_for(words):
         module = module_of(name)
         one = below.add_parser(
             name, help=module.HELP, description=module.__doc__, epilog=f"example:\n  {module.EXAMPLE}",
-            formatter_class=argparse.RawDescriptionHelpFormatter, allow_abbrev=False)
+            formatter_class=Words, allow_abbrev=False)
         module.add_arguments(one)
     return parser
 
@@ -86,30 +101,12 @@ def fault_line(fault):
     return f"a fault of julampok itself, which its maintainers want to know: {type(fault).__name__} at {place}: {fault}"
 
 
-def end_tidily():
-    """Lets the signals that end a process take away first what stands half written."""
-    owner = os.getpid()
-
-    def end(number, _):
-        if os.getpid() != owner:
-            os._exit(128 + number)  # A process that was made for a part of the work has nothing to take away.
-        raise SystemExit(128 + number)
-
-    for number in (signal.SIGTERM, signal.SIGHUP):
-        try:
-            if signal.getsignal(number) == signal.SIG_DFL:
-                signal.signal(number, end)
-        except ValueError:
-            return  # Only the first thread takes signals.
-
-
 def main(words=None):
     """Runs the command that the words name, and gives its status."""
     words = sys.argv[1:] if words is None else words
     name = "julampok"
     LATER.clear()
     STANDARD.clear()
-    end_tidily()
     try:
         given = parser_for(words).parse_args(words)
         name = f"julampok {given.command}"

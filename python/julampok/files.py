@@ -1,13 +1,16 @@
 """Reads inputs and writes outputs: '-' is standard input or output, and a new file is whole or is not there."""
 
+import contextlib
 import gzip
 import io
 import os
 import pathlib
 import re
 import shutil
+import signal
 import sys
 import tempfile
+import threading
 import zlib
 
 from .errors import CannotError, one_line
@@ -171,6 +174,28 @@ def write_new(path, data, inputs=()):
     write_all({path: data}, inputs)
 
 
+@contextlib.contextmanager
+def ended_tidily():
+    """While something is written, the signals that end a process first take away what stands half written.
+
+    Only so long: a process that is forked meanwhile could lose such a signal, and be waited for without end.
+    """
+    def end(number, _):
+        raise SystemExit(128 + number)
+
+    is_first = threading.current_thread() is threading.main_thread()  # No other one takes signals.
+    before = {number: signal.getsignal(number) for number in (signal.SIGTERM, signal.SIGHUP)} if is_first else {}
+    changed = [number for number, how in before.items() if how == signal.SIG_DFL]
+    for number in changed:
+        signal.signal(number, end)
+    try:
+        yield
+    finally:
+        for number in changed:
+            signal.signal(number, signal.SIG_DFL)
+
+
+@ended_tidily()
 def write_all(files, inputs=()):
     """Writes several files, given as {path: data}, all or none: each beside its place, then all by their names."""
     beside = {}
@@ -228,6 +253,7 @@ def mask():
     return found
 
 
+@ended_tidily()
 def write_folder(path, files, inputs=()):
     """Writes a new folder with these files ({name: data}), all or none. Raises CannotError, also where it is there."""
     if str(path) == "-":

@@ -235,8 +235,16 @@ class Outputs(unittest.TestCase):
             self.assertEqual((done.returncode, done.stderr), (128 + getattr(signal, name), ""), done)
             self.assertEqual((os.listdir(self.at), old.read_text()), (["x.log"], "old\n"))
 
+    def test_signals_are_as_before(self):
+        """Only while something is written: processes that sweep makes would lose a signal that ends them."""
+        for words in (("run", MACHINE, "-o", self.at / "x.log"), ("replay", TRACE, "-o", self.at / "folder"), ("run", MACHINE)):
+            julampok(*words)
+            self.assertEqual([signal.getsignal(number) for number in (signal.SIGTERM, signal.SIGHUP)], [signal.SIG_DFL] * 2)
+
     def test_streams(self):
         """A reader that goes away is no fault; a closed or full output is one."""
+        done = subprocess.run(["bash", "-c", f"{ROOT / 'julampok'} draw --help >/dev/full"], capture_output=True)
+        self.assertEqual((done.returncode, done.stderr.count(b"\n")), (2, 1), done)
         words = f"{ROOT / 'julampok'} draw {EXAMPLES / 'workers' / 'two-lines-slept.log'}"
         done = subprocess.run(["bash", "-c", f"set -o pipefail; {words} | head -c 10"], capture_output=True)
         self.assertEqual((done.returncode, done.stderr, len(done.stdout)), (0, b"", 10))
@@ -309,6 +317,14 @@ class Help(unittest.TestCase):
         self.assertEqual((done.status, done.err), (0, ""))
         for name in names:
             self.assertIn(f"\n    {name}", done.out)
+
+    def test_a_narrow_terminal(self):
+        """Sentences of a help are filled to the width; an example stays in a line."""
+        with unittest.mock.patch.dict(os.environ, COLUMNS="72"):
+            for name in cli.command_names():
+                helped = julampok(name, "--help").out
+                self.assertEqual([line for line in helped.split("\n") if len(line) > 72 and not line.startswith("  ")], [], name)
+                self.assertIn(cli.module_of(name).EXAMPLE, helped)
 
     def test_version(self):
         number = next(line for line in (ROOT / "pyproject.toml").read_text().split("\n") if line.startswith("version")).split('"')[1]
