@@ -2,16 +2,13 @@
 
 from __future__ import annotations
 
-import json
-
+from ..kernel.machine import written as text_of
 from ..kernel.names import Row, write_table
 from ..kernel.recording import Phase
 from ..limits import MOST
 from .attempt import CORE, REFUSER, TEST_STEP
 from .follower import Follower
 from .journal import AUTOSLEEP
-
-LISTS = ("devices", "links", "actors", "answers")
 
 
 def machine_of(follower: Follower) -> dict:
@@ -72,15 +69,8 @@ def answers_of(follower: Follower) -> list[dict]:
 
 
 def written(file: dict) -> bytes:
-    """The text of a machine file: a line for each device, link, actor and answer."""
-    members = []
-    for member, value in file.items():
-        if member in LISTS:
-            items = ",\n".join(f"    {json.dumps(item)}" for item in value)
-            members.append(f'  "{member}": [\n{items}\n  ]')
-        else:
-            members.append(f'  "{member}": {json.dumps(value)}')
-    return ("{\n" + ",\n".join(members) + "\n}\n").encode()
+    """The bytes of a machine file."""
+    return text_of(file).encode()
 
 
 def table_of(follower: Follower) -> bytes:

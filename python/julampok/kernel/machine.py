@@ -9,7 +9,7 @@ from ..limits import MOST, MOST_CPUS
 from .names import Names, Row, write_table
 from .recording import Device, Link, Note, Recording
 
-LISTS = ("devices", "links", "actors")
+LISTS = ("devices", "links", "actors", "answers")
 # A task that saves the count of events and writes the state, if the save was ok.
 WRITER = {"name": "writer", "kind": "user", "script": [{"op": "read"}, {"op": "save"}, {"op": "state", "text": "mem", "if_saved": True}]}
 
@@ -89,7 +89,7 @@ def all_below(device: Device, below: dict[Device, list[Device]]) -> set[Device]:
 
 
 def written(file: dict) -> str:
-    """The text of a machine file: a line for each device, link and actor."""
+    """The text of a machine file: a line for each device, link, actor and answer."""
     members = []
     for member, value in file.items():
         if member in LISTS:
