@@ -27,7 +27,10 @@ class Parser(argparse.ArgumentParser):
 
     def print_help(self, file=None):
         """Writes the help where any output goes, so that a closed or full output is told."""
-        write_out(self.format_help())
+        if file is None and (sys.stdout is None or hasattr(sys.stdout, "buffer")):
+            write_out(self.format_help())
+        else:
+            super().print_help(file)
 
     def error(self, message):
         raise CannotError(f"{message}; '{self.prog} --help' tells more")

@@ -8,7 +8,6 @@ import json
 import pathlib
 import re
 import sys
-import tempfile
 import unittest
 
 import browser_pages

@@ -2,7 +2,7 @@
 
 from .joins import ATTEMPT, lane_of
 from .model import Attempt, Mark, Page, Row, Sort, Stage, Table, Tie, Tone, Unit
-from .story import PHASES, phase_of, stages_of
+from .story import PHASES, stages_of
 from .telling import cause_line, answer_line, undone_line, wait_line
 from .words import answer_words, counted, failure_words, late_words, said, sleep_words, thing_lane, wait_words
 

@@ -4,7 +4,6 @@ The script of the page undoes it, and so does `unpacked` for the tests.
 """
 
 import collections
-import itertools
 import json
 import re
 
@@ -52,15 +51,6 @@ def column(numbers):
             runs += [number, 1]
     steps = [number - before for number, before in zip(numbers, [0, *numbers])]
     return min([numbers, {"runs": runs}, {"steps": steps}], key=lambda form: len(json.dumps(form)))
-
-
-def column_numbers(form):
-    """The numbers of a column."""
-    if isinstance(form, list):
-        return form
-    if "runs" in form:
-        return [number for number, count in zip(form["runs"][::2], form["runs"][1::2]) for _ in range(count)]
-    return list(itertools.accumulate(form["steps"]))
 
 
 class Texts:

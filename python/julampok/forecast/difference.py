@@ -14,7 +14,7 @@ from julampok.kernel.errnos import error_text
 from julampok.kernel.recording import PHASES, Attempt, CallbackBegin, Device, Phase, Recording, SuspendResume
 
 from .forecast import Forecast
-from .measured import TIMED, WAY_DOWN, Listed, Measured, NoTimesError, last_needed, list_devices, measure
+from .measured import TIMED, Listed, Measured, NoTimesError, last_needed, list_devices, measure
 
 STEPS = {*PHASES, "suspend_enter", "sync_filesystems", "freeze_processes", "CPU_OFF", "CPU_ON", "syscore_suspend", "syscore_resume",
          "machine_suspend", "resume_console", "thaw_processes"}

@@ -9,7 +9,7 @@ import posixpath
 from collections import defaultdict
 
 from . import tree as sys_tree
-from .recording import Attempt, CallbackBegin, Device, Note, Phase
+from .recording import Attempt, Device, Note, Phase
 from .trace import Lines
 
 CHILDREN_FIRST = (Phase.SUSPEND, Phase.LATE, Phase.NOIRQ, Phase.COMPLETE)
