@@ -140,6 +140,17 @@ class BadInputs(unittest.TestCase):
             read = julampok(*["-" if word is BAD else word for word in words], data=TRACE.read_bytes())
             self.assertEqual((told.status, told.err.count("\n")), (read.status, read.err.count("\n")), read)
 
+    def test_the_line_of_a_broken_machine(self):
+        """Each command that reads a machine file names the line of what is wrong."""
+        file = pathlib.Path(self.folder.name, "broken machine")
+        for text, line in (('{"version": 1,\n}', 2), ('{"version": 1,\n"devices": [\n{"name": "a", "parent": "b"}]}', 3)):
+            file.write_text(text)
+            for words in (("run", file), ("check", file, LOG), ("sweep", file), ("order", file, "a", "b")):
+                done = julampok(*words)
+                self.refused(done, words)
+                self.assertIn(f"broken machine:{line}: ", done.err)
+        file.unlink()
+
     def test_programs_that_are_none(self):
         for program in ("/bin/true", "/bin/false", "/bin/cat", "/bin/echo", ROOT, ROOT / "README.md", "/nothing"):
             for words in (("run", "--program", program, MACHINE), ("check", "--program", program, MACHINE, LOG)):

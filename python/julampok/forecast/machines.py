@@ -2,10 +2,9 @@
 
 from __future__ import annotations
 
-import json
 
-from julampok.errors import CannotError
 from julampok.kernel.recording import Device
+from julampok.program import read_machine_json, refusal
 from julampok.second.rules import first_broken
 from julampok.second.run import Run
 from julampok.second.things import SourceFull
@@ -22,12 +21,9 @@ def is_machine(data: bytes) -> bool:
 
 def read_machine(data: bytes, file: str) -> dict:
     """The machine of a file that keeps the rules of files. Raises CannotError."""
-    try:
-        tree = json.loads(data)
-    except (ValueError, RecursionError):
-        raise CannotError("machine: rule 1: json", file) from None
+    tree = read_machine_json(data, file)
     if (broken := first_broken(tree)) is not None:
-        raise CannotError(f"machine: rule {broken[0]}: {broken[1]}; 'julampok why' says more", file)
+        raise refusal(f"machine: rule {broken[0]}: {broken[1]}", data, file)
     return tree
 
 
