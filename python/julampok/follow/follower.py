@@ -61,6 +61,16 @@ class Follower:
         self.plan_lists()
         self.texts = functools.cache(functools.partial(texts_of, self.kin, self.names))
 
+    @functools.cached_property
+    def successors(self) -> dict[int, int]:
+        """Which processor goes off after which one, as the attempts show it; the first one goes after processor 0."""
+        return {one: other for seen in self.planner.surveys for one, other in zip([0, *seen.cpus], seen.cpus)}
+
+    @functools.cached_property
+    def ran_on(self) -> set[int]:
+        """The processors that the trace shows."""
+        return {event.cpu for event in self.recording.events} | self.successors.keys() | set(self.successors.values())
+
     def make_sources(self) -> None:
         """Gives the sources their names. The kernel's own one of the name autosleep gets another."""
         given = Names([AUTOSLEEP])

@@ -12,7 +12,7 @@ from .outcome import Guard, Where, Why
 MOST_NAMED = 4  # Devices that one sentence names.
 PLATFORM = {Where.BEGIN: "begin", Where.PLATFORM_PREPARE: "prepare", Where.PREPARE_LATE: "prepare_late",
             Where.IDLE_PREPARE: "prepare for suspend-to-idle"}
-TESTS = {"cpu": "The test before processor {} went off found it.", "core": "The test before the first step of the system core found it.",
+TESTS = {"cpu": "The test before {} went off found it.", "core": "The test before the first step of the system core found it.",
          "last": "The last test before the entry found it."}
 LEVELS = {Where.FROZEN: "freezer", Where.PLATFORM_PREPARE: "devices", Where.PREPARE_LATE: "platform", Where.CPUS: "processors",
           Where.LAST: "core"}
@@ -142,14 +142,21 @@ class Teller:
         if kind == "freeze":
             return f"The freezer found it: {self.tasks()}."
         if kind in TESTS:
-            return TESTS[kind].format(self.processor(what) if kind == "cpu" else what)
+            return TESTS[kind].format(self.processor() if kind == "cpu" else what)
         return f"The test before the {kind} callback of {what} found it."
 
-    def processor(self, what: str) -> str:
-        """The number of a processor as the kernel has it."""
-        went = self.following.seen.cpus
-        on = next((went[-1] + 1 for _ in went[-1:]), int(what))
-        return str(on)
+    def processor(self) -> str:
+        """The processor whose turn it was to go off, as the kernel numbers it; "the next processor" where no input tells.
+
+        Numbers may have gaps, as where every second thread is off. So another attempt tells, or a line that ran on it, or their
+        number, if the numbers that the trace has are below it.
+        """
+        owner, went = self.following.owner, self.following.seen.cpus
+        last = went[-1] if went else 0
+        if last in owner.successors:
+            return f"processor {owner.successors[last]}"
+        number, known = last + 1, owner.recording.processors or 0
+        return f"processor {number}" if number in owner.ran_on or max(owner.ran_on) < known and number < known else "the next processor"
 
     def guard(self) -> str:
         """Whether a saved count or a hard event made the test find it."""

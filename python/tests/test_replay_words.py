@@ -1,0 +1,84 @@
+"""Every name, line, error and number that replay shows stands in the trace, in dmesg or in a list."""
+
+import gzip
+import json
+import pathlib
+import re
+import tempfile
+import unittest
+
+import command_tests  # noqa: F401 (puts the package on the path)
+import recordings
+from shown_words import Shown
+
+from julampok.follow.showing import as_json, as_text
+from julampok.follow.verdict import replay
+from julampok.kernel.reading import read_inputs
+
+WAYS = {"all inputs": (), "without dmesg": ("dmesg",), "the trace alone": ("devices", "links", "dmesg")}
+
+
+class ShownWords(unittest.TestCase):
+    """All recordings, with all inputs and with less."""
+
+    def test_each_stands_in_an_input(self):
+        for name in recordings.names():
+            for way, without in WAYS.items():
+                files = recordings.inputs(name, without)
+                recording = read_inputs(**files)
+                found = replay(recording)
+                with self.subTest(name=name, way=way):
+                    told = json.loads(json.dumps(as_json(found, recording)))
+                    self.assertEqual(self.faults(Shown(files), told, files["trace"]), [])
+                    self.assertEqual(as_text(found, recording).split("\n"), lines_of(told, files["trace"]))
+
+    def faults(self, shown, told, file):
+        """What of the JSON no input has."""
+        shown.headline(told["headline"], told["attempts"])
+        for one in told["attempts"]:
+            shown.attempt(one)
+        for one in told["broken"]:
+            shown.broken(one)
+        for note in told["notes"]:
+            shown.note(note, file)
+        return shown.wrong
+
+
+class Processors(unittest.TestCase):
+    """The kernel's numbers of processors may have gaps: a number is told only where an input tells it."""
+
+    LINES = gzip.open(recordings.file_of("at-cpu2", "trace"), "rt").read().split("\n")
+
+    def test_found_before(self, lines=LINES):
+        for text, wanted in (("\n".join(lines), "processor 3"), (self.spread(lines), "processor 6"), (self.spread(lines[:68]), "the next processor"),
+                             (self.spread(lines[:68]).replace("[000]", "[005]", 1), "processor 5"), ("# #P:4\n" + "\n".join(lines[:68]), "processor 3"),
+                             ("# #P:4\n" + self.spread(lines[:68]), "the next processor")):
+            with self.subTest(wanted), tempfile.TemporaryDirectory() as folder:
+                file = pathlib.Path(folder, "trace")
+                file.write_text(text)
+                found = replay(read_inputs(trace=str(file), devices=recordings.file_of("at-cpu2", "devices")))
+                self.assertIn(f"The test before {wanted} went off found it.", found.attempts[0].sentences)
+
+    @staticmethod
+    def spread(lines):
+        """The lines with processors 2, 4 and 6 in place of 1, 2 and 3."""
+        return re.sub(r"(CPU_O\w+)\[(\d)\]", lambda found: f"{found[1]}[{2 * int(found[2])}]", "\n".join(lines))
+
+
+def lines_of(told, file):
+    """The text that goes with the JSON: it shows nothing that the JSON has not."""
+    lines = [f"{file}: {told['headline']}", ""]
+    for one in told["attempts"]:
+        answer = "its answer is not told" if one["answer"] is None else f"answered {one['answer']}" if one["is_sure"] else f"{one['answer']}, if this stopped it"
+        lines += [f"Attempt {one['number']}, lines {one['line']} to {one['last_line']}, by {one['task']}: {answer}.", *(f"  {text}" for text in one["sentences"])]
+        lines += [f"  Judged down to line {one['judged_to']}; below it the log stands in."] if one["judged_to"] is not None else []
+        lines += [*(f"  In the log {text}." for text in one["stand_ins"]), ""]
+    lines += ["The steps above that line are legal; nothing below it was followed.", ""] if told["broken"] else []
+    lines += ["Notes:", *(f"  {note['file']}{'' if note['line'] is None else ':' + str(note['line'])}: {note['text']}" for note in told["notes"])] if told["notes"] else []
+    while lines[-1] == "":
+        lines.pop()
+    return [*lines, ""]
+
+
+if __name__ == "__main__":
+    unittest.main()
