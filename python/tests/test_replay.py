@@ -129,6 +129,23 @@ class WithoutMessages(unittest.TestCase):
                 self.assertEqual((found.status, found.judged), (0, "legal"), found.headline)
 
 
+class Passed(unittest.TestCase):
+    """An event that a test would have found, had a count been saved, did not stop the attempt; behind the test a step of the core failed."""
+
+    EVENT = ["          <idle>-0       [000] dNs2.    35.907080: wakeup_source_activate: lid state=0x1",
+             "          <idle>-0       [000] dNs2.    35.907080: wakeup_source_deactivate: lid state=0x10000"]
+
+    def test_between_the_last_callbacks_of_late(self):
+        lines = text_of(recordings.file_of("slow-sync-one", "trace")).split("\n")
+        lines = [*lines[:599], *self.EVENT, *lines[599:639], *lines[646:]]  # (behind the last callback come devices that have none)
+        for without in (("dmesg",), ("dmesg", "devices", "links")):
+            found = replay(copy_of("slow-sync-one", lines, without))
+            said = " ".join(found.attempts[0].sentences)
+            self.assertEqual((found.status, found.attempts[0].answer, found.attempts[0].is_sure), (0, None, False), found.headline)
+            self.assertIn("A step of the system core failed; its error is not told.", said)
+            self.assertNotIn("lid", said)
+
+
 class Exchanged(unittest.TestCase):
     """Copies in which two callbacks have changed places, of which one has to wait for the other, are never legal."""
 
@@ -183,12 +200,12 @@ def exchanged(recording, one, other):
     return lines
 
 
-def copy_of(name, lines):
+def copy_of(name, lines, without=()):
     """The recording of a name with another trace."""
     with tempfile.NamedTemporaryFile("w", suffix=".trace") as file:
         file.write("\n".join(lines) + "\n")
         file.flush()
-        return read_inputs(**recordings.inputs(name) | {"trace": file.name})
+        return read_inputs(**recordings.inputs(name, without) | {"trace": file.name})
 
 
 class Command(unittest.TestCase):

@@ -32,15 +32,15 @@ class Foreign:
 
 
 class Follower:
-    """A recording under way to a log."""
+    """A recording under way to a log. `passed` is the planner's."""
 
-    def __init__(self, recording: Recording, as_async: set = frozenset()):
+    def __init__(self, recording: Recording, as_async: set = frozenset(), passed: dict[int, int] | None = None):
         self.recording, self.file = recording, recording.trace_file
         self.kin, self.notes = settle(recording)
         self.kin.is_async = [device.is_async or device in as_async for device in self.kin.devices]
         given = Names()
         self.names = [given.give(device.name) for device in self.kin.devices]
-        self.planner = Planner(recording, self.kin)
+        self.planner = Planner(recording, self.kin, passed or {})
         self.plans = self.planner.plans
         self.mover = Mover(self.kin)
         self.journal = Journal()

@@ -268,7 +268,7 @@ class Decider:
         """An event of which the trace has no line."""
         pending, irq = self.message(Fact.WAKEUP_PENDING), self.message(Fact.TRIGGERED_IRQ)
         is_told = self.is_auto or pending is not None or irq is not None or self.told is not None and self.told.has_debug_messages
-        passed = any(event.line < self.seen.barrier for event in self.seen.events) or self.active
+        passed = any(event.line <= self.seen.barrier for event in self.seen.events) or self.active
         is_hard = not self.is_auto and pending is None and (is_told or passed)
         guard = Guard.PLAIN if is_hard else Guard.SAVED
         return Outcome(Where.SUSPEND, Why.EVENT, self.seen.turn, guard, is_told)

@@ -77,9 +77,12 @@ def kept_attempts(recording: Recording, devices: int) -> tuple[list[Attempt], st
 
 
 class Planner:
-    """Makes the plans of a recording, and the scripts that its machine has."""
+    """Makes the plans of a recording, and the scripts that its machine has.
 
-    def __init__(self, recording: Recording, kin: Kin):
+    `passed` has, by an attempt's number, the line of an event that a test passed which would have found it.
+    """
+
+    def __init__(self, recording: Recording, kin: Kin, passed: dict[int, int]):
         self.recording, self.kin = recording, kin
         self.attempts, self.why_cut = kept_attempts(recording, len(kin.devices))
         self.actors = Names()
@@ -89,6 +92,8 @@ class Planner:
         self.first_active: list[str] = []  # Sources that were active before the first line that names them.
         self.texts: dict[Event, str] = {}  # What each write to autosleep said, by its first step.
         self.surveys = [survey(attempt) for attempt in self.attempts]
+        for seen in self.surveys:
+            seen.barrier = max(seen.barrier, passed.get(seen.attempt.number, 0))
         self.expected = set().union(*(seen.begins.get(Phase.SUSPEND, {}).keys() for seen in self.surveys))
         self.plans = [self.plan(seen) for seen in self.surveys]
         last = self.surveys[-1]

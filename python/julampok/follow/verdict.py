@@ -19,6 +19,7 @@ from .telling import Teller
 from .way import difference, way_of_trace, ways_of_log
 
 FIRST, LAST = (6, 1), (6, 2)  # The versions whose rules are these.
+MOST_PASSED = 8  # Attempts for which another event is looked for.
 ASYNC_FIRST = (6, 16)  # From here on asynchronous devices begin before the walk comes to their place in the list.
 
 
@@ -120,10 +121,34 @@ def replayed(recording: Recording, judge) -> Replay:
 def followed(recording: Recording) -> tuple[Follower, OutOfOrder | None]:
     """Follows a recording, and gives the step that no legal log has, where there is one. Raises CannotError.
 
+    Where that step is behind an event of which no input is sure that it stopped the attempt, an event is looked for that did not.
+    """
+    first = follower, broken = followed_so(recording, {})
+    passed: dict[int, int] = {}
+    while broken is not None and len(passed) < MOST_PASSED and take_passed(follower.done[-1], passed):
+        try:
+            follower, broken = followed_so(recording, passed)
+        except CannotError:
+            break
+    return first if broken is not None else (follower, None)
+
+
+def take_passed(following: Following, passed: dict[int, int]) -> bool:
+    """Takes the event that is said to have stopped an attempt as one that did not; False where an input is sure of it."""
+    outcome, number = following.outcome, following.seen.attempt.number
+    if outcome.why != Why.EVENT or not outcome.or_else or outcome.event is None or passed.get(number, 0) >= outcome.event.line:
+        return False
+    passed[number] = outcome.event.line
+    return True
+
+
+def followed_so(recording: Recording, passed: dict[int, int]) -> tuple[Follower, OutOfOrder | None]:
+    """Follows a recording of which tests passed some events, and gives the step that no legal log has. Raises CannotError.
+
     Whether a device that never has a callback is asynchronous is told by no trace. Such devices are first taken as the inputs
     tell, else as synchronous; if the kernel's order is not legal so, as asynchronous, which lets the kernel do more.
     """
-    follower = Follower(recording)
+    follower = Follower(recording, passed=passed)
     try:
         follower.follow()
         return follower, None
@@ -137,7 +162,7 @@ def followed(recording: Recording) -> tuple[Follower, OutOfOrder | None]:
         if failure is not None:
             raise failure
         return follower, broken
-    again = Follower(recording, open_ones)
+    again = Follower(recording, open_ones, passed)
     again.note(f"of {len(open_ones)} devices without a callback no input tells whether they ran asynchronously: taken so, since the kernel's order is not legal else")
     try:
         again.follow()
