@@ -146,6 +146,23 @@ class Passed(unittest.TestCase):
             self.assertNotIn("lid", said)
 
 
+class ComesAndGoes(unittest.TestCase):
+    """A device that was there in one of two attempts: the log's list has it in both, and a note says so."""
+
+    def test_notes(self):
+        lines = text_of(recordings.file_of("two-cycles", "trace")).split("\n")[:-1]
+        wanted = {1: (0, 1184), 2: (1184, len(lines))}
+        for number, (begin, end) in wanted.items():
+            kept = [line for place, line in enumerate(lines) if not (begin <= place < end and "leds input0::scrolllock" in line)]
+            found = replay(copy_of("two-cycles", kept))
+            notes = [note for note in found.notes if "not prepare" in note.text]
+            with self.subTest(number):
+                self.assertEqual(found.status, 0, found.headline)
+                self.assertEqual([note.text for note in notes], [f"input0::scrolllock (leds): attempt {number} does not prepare it; it stands in the log's list there, and passes without a callback"])
+                self.assertIn("dpm_prepare[2] begin", kept[notes[0].line - 1])
+        self.assertEqual([note for note in replay(copy_of("two-cycles", lines)).notes if "not prepare" in note.text], [])
+
+
 class Exchanged(unittest.TestCase):
     """Copies in which two callbacks have changed places, of which one has to wait for the other, are never legal."""
 

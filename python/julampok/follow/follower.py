@@ -7,7 +7,7 @@ from dataclasses import dataclass
 
 from ..errors import CannotError
 from ..kernel.names import Names
-from ..kernel.recording import CallbackBegin, CallbackEnd, Event, Note, Phase, Recording, SourceActivate, SourceDeactivate
+from ..kernel.recording import CallbackBegin, CallbackEnd, Device, Event, Note, Phase, Recording, SourceActivate, SourceDeactivate
 from ..limits import ANSWERED, ERRORS, FREEZE_MS, MOST_LINKS, NAP_MS
 from .attempt import STAND_IN, Following
 from .family import Mover, prepared, settle, target
@@ -15,6 +15,7 @@ from .journal import AUTOSLEEP, Journal, Script, Source
 from .outcome import Guard, Where, Why
 from .phases import texts_of
 from .plan import Plan, Planner
+from .telling import listed
 
 NAMES = {-number: name for name, number in ERRORS.items() if name in ANSWERED}
 WRITTEN_AS = "EIO"  # What a machine file has in place of an error that it has no name for.
@@ -93,12 +94,30 @@ class Follower:
         for supplier, consumer in self.mover.cycles:
             ends = self.kin.devices[supplier].shown, self.kin.devices[consumer].shown
             self.note(f"the link from {ends[0]} to {ends[1]} closes a cycle with the parents and the links before it: left out")
+        self.note_absent()
         self.lister = None
         works = sum(map(len, self.changes))
         if works:
             self.lister = self.planner.script("nofreeze", "device-list")
             self.lister.left = works
         self.journal.scripts = list(self.planner.scripts.values())
+
+    def note_absent(self) -> None:
+        """Notes devices that came or went between attempts: the log's list has them all from the begin."""
+        absent: dict[Device, None] = {}
+        found = []
+        for plan in self.plans:
+            shown = plan.seen.begins.get(Phase.PREPARE, {})
+            if shown and plan.seen.has("dpm_prepare", False) and Phase.PREPARE not in plan.seen.errors:
+                missing = [device for device in self.kin.devices if device not in shown]
+                absent |= dict.fromkeys(missing)
+                found += [plan] if missing else []
+        if not found:
+            return
+        who = f"attempt {found[0].attempt.number}" + (f" and {len(found) - 1} more do" if len(found) > 1 else " does")
+        them = "it stands in the log's list there, and passes" if len(absent) == 1 else "they stand in the log's list there, and pass"
+        self.note(f"{listed([device.shown for device in absent])}: {who} not prepare {'it' if len(absent) == 1 else 'all of them'}; {them} without a callback",
+                  found[0].seen.line("dpm_prepare"))
 
     def find_lists(self) -> None:
         """Finds the links of the file and of scripts."""
