@@ -9,6 +9,9 @@ import unittest
 
 import recordings
 from command_tests import julampok
+from julampok.drawing.judging import verdict_words
+from julampok.errors import CannotError
+from julampok.follow.showing import as_json
 from julampok.follow.verdict import replay
 from julampok.kernel.reading import read_inputs
 from julampok.kernel.recording import Phase
@@ -161,6 +164,44 @@ class ComesAndGoes(unittest.TestCase):
                 self.assertEqual([note.text for note in notes], [f"input0::scrolllock (leds): attempt {number} does not prepare it; it stands in the log's list there, and passes without a callback"])
                 self.assertIn("dpm_prepare[2] begin", kept[notes[0].line - 1])
         self.assertEqual([note for note in replay(copy_of("two-cycles", lines)).notes if "not prepare" in note.text], [])
+
+
+class Versions(unittest.TestCase):
+    """The rules are those of 6.1. Its versions differ in times alone; of others the verdict says by which rules it judges."""
+
+    @staticmethod
+    def of_kernel(name, version):
+        """The verdict on a recording, taken as one of that version."""
+        recording = recorded(name)
+        recording.version, recording.version_text, recording.version_from = tuple(map(int, version.split("."))), version, "--kernel"
+        return replay(recording)
+
+    def test_versions_of_these_rules(self):
+        for name in ("slow-async", "irq-suspend-async", "two-cycles", "order-broken"):
+            told = [as_json(self.of_kernel(name, version), recorded(name)) for version in ("6.1", "6.1.75", "6.1.76", "6.1.192")]
+            self.assertEqual(told[1:], told[:-1])
+            self.assertNotIn("rules", json.dumps(told[0]))
+
+    def test_other_versions(self):
+        for version in ("5.10.3", "6.2", "6.12.9", "6.18"):
+            legal, broken = self.of_kernel("slow-async", version), self.of_kernel("order-broken", version)
+            self.assertEqual((legal.status, broken.status, broken.broken[0].line), (0, 1, 490))
+            self.assertEqual(verdict_words(broken).split(":")[0], "not legal by the rules of Linux 6.1")
+            self.assertTrue(broken.headline.startswith("not legal by the rules of Linux 6.1: line 490: "), broken.headline)
+            for found in (legal, broken):
+                note, = (note.text for note in found.notes if "rules" in note.text)
+                self.assertTrue(note.startswith(f"the rules are those of Linux 6.1; the recording is of {version} (--kernel)"), note)
+
+    def test_place_in_the_list(self):
+        """An asynchronous device without parent that begins before the walk comes to it: in 6.1 nothing gives it out so early."""
+        lines = text_of(recordings.file_of("slow-async", "trace")).split("\n")[:-1]
+        begin, end = (next(line for line in lines[497:] if words in line) for words in ("start: dpmt snd, parent: none, bus [suspend]", "end: dpmt snd, err=0"))
+        rest = [line for line in lines if line not in (begin, end)]
+        recording = copy_of("slow-async", [*rest[:497], begin, end, *rest[497:]])
+        self.assertTrue(replay(recording).headline.startswith("not legal: line 498: snd (dpmt) began its callback of suspend"))
+        recording.version, recording.version_text = (6, 18), "6.18"
+        with self.assertRaisesRegex(CannotError, "so by the rules of Linux 6.1, .* whether it does in 6.18 .* julampok does not know"):
+            replay(recording)
 
 
 class Exchanged(unittest.TestCase):

@@ -48,8 +48,8 @@ def verdict_words(found):
     if found.status == 0:
         return f"legal by {'the proved checker' if found.judge == PROVED else found.judge}"
     if found.broken:
-        return f"not legal: {found.broken[0].did} (line {found.broken[0].line}), but {found.broken[0].first}"
-    return "not legal" if not found.is_legal else "legal, but not the kernel's own way"
+        return f"{found.illegal}: {found.broken[0].did} (line {found.broken[0].line}), but {found.broken[0].first}"
+    return found.illegal if not found.is_legal else "legal, but not the kernel's own way"
 
 
 def broken_details(found):

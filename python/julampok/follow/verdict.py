@@ -18,9 +18,8 @@ from .outcome import Guard, Where, Why
 from .telling import Teller
 from .way import difference, way_of_trace, ways_of_log
 
-FIRST, LAST = (6, 1), (6, 2)  # The versions whose rules are these.
+RULES = (6, 1)  # The version whose rules are these.
 MOST_PASSED = 8  # Attempts for which another event is looked for.
-ASYNC_FIRST = (6, 16)  # From here on asynchronous devices begin before the walk comes to their place in the list.
 
 
 @dataclass(slots=True, frozen=True)
@@ -74,6 +73,7 @@ class Replay:
     machine: bytes = b""
     table: bytes = b""
     origins: list[int] = field(default_factory=list)  # The line of the trace for each entry of the log.
+    illegal: str = "not legal"  # How that is said: of a version that may have other rules, by which rules.
 
     @property
     def status(self) -> int:
@@ -95,9 +95,9 @@ def replay(recording: Recording, judge=None) -> Replay:
 def replayed(recording: Recording, judge) -> Replay:
     """Follows a recording, and judges the log."""
     follower, broken = followed(recording)
-    if broken is not None and broken.is_by_list and recording.version >= ASYNC_FIRST:
-        raise CannotError(f"{broken.did}, but {broken.first}: so by the rules of Linux 6.1; since 6.16, and so in {recording.version_text} "
-                          f"({recording.version_from}), asynchronous devices do not wait for their place in the list", recording.trace_file, broken.line)
+    if broken is not None and broken.is_by_list and is_of_others(recording):
+        raise CannotError(f"{broken.did}, but {broken.first}: so by the rules of Linux 6.1, where an asynchronous device waits for its place in the list; "
+                          f"whether it does in {recording.version_text} ({recording.version_from}), julampok does not know", recording.trace_file, broken.line)
     text = follower.journal.end() if broken is None else broken_log(follower, broken)
     machine = machine_of(follower)
     if (why := fits(machine)):
@@ -114,8 +114,15 @@ def replayed(recording: Recording, judge) -> Replay:
         found.broken = [Broken(broken.line, broken.did, broken.first, broken.first_line, broken.because)]
     else:
         compare(found, follower, text)
-    found.headline = headline(found, recording)
+    if is_of_others(recording):
+        found.illegal = "not legal by the rules of Linux 6.1"
+    found.headline = headline(found)
     return found
+
+
+def is_of_others(recording: Recording) -> bool:
+    """Whether the recording is of a version that may have other rules. Those of 6.1 differ in times alone."""
+    return recording.version[:2] != RULES
 
 
 def followed(recording: Recording) -> tuple[Follower, OutOfOrder | None]:
@@ -279,8 +286,9 @@ def notes_of(recording: Recording, follower: Follower, found: Replay) -> list[No
         notes.append(Note(f"{left} left out: {follower.planner.why_cut}", file, recording.attempts[0].line))
     for one in follower.foreign:
         notes.append(Note(f"{one.device.shown} answered {error_text(one.number)}, an error that machine files do not have: the log has EIO", file, one.line))
-    if not FIRST <= recording.version[:2] < LAST:
-        notes.append(Note(f"the rules are those of Linux 6.1; the recording is of {recording.version_text} ({recording.version_from})", file))
+    if is_of_others(recording):
+        notes.append(Note(f"the rules are those of Linux 6.1; the recording is of {recording.version_text} ({recording.version_from}): "
+                          "what of the rules that version has changed, julampok does not know", file))
     if not recording.is_async_listed and not any(device.is_async for device in follower.kin.devices):
         notes.append(Note("no callback ran in another task than the attempt's, so no device is taken as asynchronous", file))
     if recording.processors is None:
@@ -292,14 +300,14 @@ def notes_of(recording: Recording, follower: Follower, found: Replay) -> list[No
     return notes
 
 
-def headline(found: Replay, recording: Recording) -> str:
+def headline(found: Replay) -> str:
     """The verdict in one line."""
     by = f"by {found.judge}" + (", which is tested and not proved" if found.judge == Second.name else "")
     if found.broken:
         said = "" if found.judged.startswith("no log") else f" ({found.judged})"
-        return f"not legal: {found.broken[0].words}. Judged {by}{said}."
+        return f"{found.illegal}: {found.broken[0].words}. Judged {by}{said}."
     if not found.is_legal:
-        return f"not legal: {found.judged}. Judged {by}."
+        return f"{found.illegal}: {found.judged}. Judged {by}."
     if found.differs:
         return f"legal, but not the kernel's own way: {found.differs[0]}. Judged {by}."
     limits = [f"attempt {one.number} down to line {one.judged_to}" for one in found.attempts if one.judged_to is not None]
