@@ -16,7 +16,7 @@ DEVICE = r"(?P<{0}>\S+(?: \([^()]+\))?)"
 PLACE = r"(?:from a hard interrupt|from a softirq|from the task (?P<place_task>\S+-\d+))"
 KINDS = r"(?:a user task|a kernel thread|user or kernel, not told)"
 PM_TEST = r"pm_test '(?P<level>freezer|devices|platform|processors|core)'"
-OR_ELSE = r"(?:a failure of the platform(?:'s prepare(?:_late)?)?|pm_test|a processor that did not go off|(?:a|or a) test that found an event of which the trace has no line)"
+OR_ELSE = r"(?:a failure of the platform(?:'s prepare(?:_late)?)?|pm_test|a processor that did not go off|the last processor, which did not go off|a step of the system core that failed|(?:a|or a) test that found an event of which the trace has no line)"
 
 
 def shown_name(found):
@@ -29,7 +29,8 @@ def sides(files):
     found = {}
     for kind in ("trace", "devices", "links", "dmesg"):
         file = files.get(kind)
-        found[kind] = gzip.open(file, "rt", errors="surrogateescape").read().split("\n")[:-1] if file else []
+        opened = gzip.open if str(file).endswith(".gz") else open
+        found[kind] = opened(file, "rt", errors="surrogateescape").read().split("\n")[:-1] if file else []
     return found
 
 
@@ -110,11 +111,16 @@ class Shown:
         found = (STARTS if is_begin else ENDS).match(self.body(number))
         if not found or shown_name(found) != shown:
             self.fail(f"line {number} is not of {shown}: {self.body(number)!r}")
-        self.phase(number, phase)
+        if phase:
+            self.phase(number, phase)
 
     def steps(self, action, edge="begin"):
         """The lines of the attempt with that step."""
         return [at for at in range(self.first, self.last + 1) if re.match(rf"suspend_resume: {action}\[\d+\] {edge}", self.body(at))]
+
+    def processors(self):
+        """The processors that went off in the attempt, in order."""
+        return [int(re.search(r"\[(\d+)\]", self.body(at))[1]) for at in self.steps("CPU_OFF")]
 
     def callbacks(self, phase):
         """The number of callbacks that begin in a phase of the attempt."""
@@ -146,8 +152,9 @@ class Shown:
         self.says(self.last, "suspend_resume: ")
         if one["answer"] not in (None, "0", "EBUSY"):  # (EBUSY is what the kernel answers where an event or the freezer stops it)
             numbers = {-int(found[3]) for at in range(self.first, self.last) if (found := ENDS.match(self.body(at)))}
+            numbers |= {int(found[1]) for text in one["sentences"] if (found := re.search(r"Error taking CPU\d+ down: -(\d+)\)", text))}
             if one["answer"] not in {errno.errorcode.get(number) for number in numbers}:
-                self.fail(f"no callback answers {one['answer']}")
+                self.fail(f"nobody answers {one['answer']}")
         if one["judged_to"] is not None:
             self.says(one["judged_to"])
         for text in one["sentences"]:
@@ -158,8 +165,10 @@ class Shown:
 
     def stand_in(self, text):
         """What the log has in place of what no log has names nothing but what stands in."""
-        if not re.fullmatch(r"task not-told does not freeze: which tasks did not is not told"
-                            r"|platform \w+ answers EBUSY(?:: its own error is not told| in place of (?:pm_test|suspend-to-idle), which no log has)", text):
+        instead = r"(?:pm_test, which no log has|suspend-to-idle, which no log has|a processor that did not go off|a step whose error is not told)"
+        if not re.fullmatch(rf"task not-told does not freeze: which tasks did not is not told|notifier refuser answers EBUSY: who refused and with which error is not told"
+                            rf"|(?:platform|syscore) \w+ answers EBUSY(?:: its own error is not told| in place of {instead})|an event of (?:not-told|IRQ \d+|lid) in place of the one that no line shows"
+                            r"|the next test finds an event that came before, in place of what turned the kernel around", text):
             self.fail(f"a stand-in of no known form: {text!r}")
 
     def broken(self, one):
@@ -190,15 +199,26 @@ class Shown:
     def note(self, note, file):
         """A note: the place exists and the line has the names."""
         text, line = note["text"], note["line"]
+        if (found := re.fullmatch(r"the messages are not those of the attempt in line (\d+) of the trace: not taken", text)):
+            self.says(found[1], "suspend_resume: ")
+            self.dmesg(line)
+            return
         if note["file"] != file:
             self.fail(f"of another file: {note}")
+        if line is not None and not self.body(line):
+            self.fail(f"no line {line}: {note}")
         found = re.fullmatch(r"the parent (\S+) of (\S+) is one of several devices of that name: taken to be .*", text)
         if found:
             if f" {found[2]}, parent: {found[1]}, " not in f" {self.body(line)}":
                 self.fail(f"line {line} has not {found[1]} and {found[2]}")
+        elif (found := re.fullmatch(rf"{DEVICE.format('who')} answered (?P<number>-\d+) \((?P<name>\w+)\), an error that machine files do not have: the log has EIO", text)):
+            answered(self, {**found.groupdict(), "line": line, "phase": None})
         elif (found := re.fullmatch(r"(\d+) devices without callbacks may be asynchronous or not, which no input tells: .*", text)):
             if not 0 < int(found[1]) <= len(self.devices):
                 self.fail(f"not so many devices: {text!r}")
+        elif (found := re.fullmatch(r"(.*): attempt \d+ (?:does|and \d+ more do) not prepare (?:it|all of them); (?:it stands|they stand) in the log's list there, and pass(?:es)? without a callback", text)):
+            for shown in re.split(r", | and (?=\S+ \()", re.sub(r" and \d+ more$", "", found[1])):
+                self.device(shown)
         elif not re.fullmatch(r"(?:no input tells the number of processors: taken as \d+|whether a count was saved for an attempt that slept leaves no line: the log saves none"
                               r"|no callback ran in another task than the attempt's, so no device is taken as asynchronous)", text):
             self.fail(f"a note of no known form: {text!r}")
@@ -250,7 +270,7 @@ def undone(shown, named):
 
 def processor(shown, named):
     """A processor that an input has, and that is the next one behind those that went off."""
-    number, went = int(named["cpu"]), [0, *(int(re.search(r"\[(\d+)\]", shown.body(at))[1]) for at in shown.steps("CPU_OFF"))]
+    number, went = int(named["cpu"]), [0, *shown.processors()]
     if number != min(cpu for cpu in shown.cpus if cpu > went[-1]):
         shown.fail(f"no processor {number}: {sorted(shown.cpus)}, {went} went off")
 
@@ -264,6 +284,31 @@ def found_by(shown, named):
         shown.fail(f"{named['who']} had callbacks in {sorted(phases)}")
 
 
+def before(shown, named):
+    """An event before the attempt."""
+    first, shown.first = shown.first, 1
+    event_reported(shown, named)
+    shown.first = first
+    if int(named["line"]) >= first:
+        shown.fail(f"line {named['line']} is in the attempt")
+
+
+def hard_event(shown, named):
+    """dmesg has messages, and in one attempt at least none of a saved count."""
+    entries, pending = (sum(words in line for line in shown.lines["dmesg"]) for words in ("PM: suspend entry", "Wakeup pending, aborting suspend"))
+    if pending >= entries:
+        shown.fail(f"{pending} messages of a saved count in {entries} attempts")
+
+
+def went_not(shown, named):
+    """A processor that did not go off, with the error that dmesg has."""
+    shown.dmesg(named["line"], named["words"])
+    if shown.processors()[-1] != int(named["cpu"]) or f"CPU{named['cpu']} " not in named["words"]:
+        shown.fail(f"not the last: {named}")
+    if named["number"] and (not named["words"].endswith(named["number"]) or errno.errorcode[-int(named["number"])] != named["name"]):
+        shown.fail(f"not that error: {named}")
+
+
 def not_frozen(shown, named):
     """Tasks that did not freeze, as dmesg has them."""
     if named.get("dmesg"):
@@ -273,6 +318,7 @@ def not_frozen(shown, named):
 
 
 FROZEN = rf"(?:not all tasks had frozen \({KINDS}\)|(?P<task>\S+) \(dmesg line (?P<task_line>\d+)\) had not frozen, {KINDS}|(?P<writer>\S+) had not frozen, which waited in its write to /sys/power/autosleep)"
+NO_SLEEP = r"Processor (?P<cpu>\d+) did not go off"
 SENTENCES = [
     rule(r"The machine slept, by line (?P<line>\d+)\.", lambda shown, named: shown.says(named["line"], "machine_suspend[3] begin")),
     rule(r"The machine was in suspend-to-idle from line (?P<line>\d+)\.", lambda shown, named: shown.says(named["line"], "machine_suspend[1] begin")),
@@ -294,4 +340,13 @@ SENTENCES = [
     rule(rf"{PM_TEST} turned it around(?: \(dmesg line (?P<line>\d+)\))?\.", lambda shown, named: named["line"] and shown.dmesg(named["line"], "Waiting for")),
     rule(rf"It may also have been {OR_ELSE}(?:, {OR_ELSE})*(?:,? or {OR_ELSE})?(?:, {OR_ELSE})?: no input tells\."),
     rule(r"Undone: (?P<parts>.*)\.", undone),
+    rule(rf"(?P<source>\S+) reported an event in line (?P<line>\d+), {PLACE}, before the attempt began\.", before),
+    rule(rf"{NO_SLEEP} \(dmesg line (?P<line>\d+): (?P<words>.*?)\)(?: with (?P<number>-\d+) \((?P<name>\w+)\)|; its error is not told)\.", went_not),
+    rule(rf"{NO_SLEEP}; its error is not told\.", lambda shown, named: shown.processors()[-1] == int(named["cpu"]) or shown.fail(f"not the last: {named['cpu']}")),
+    rule(r"A step of the system core failed(?: \(dmesg line (?P<line>\d+): (?P<words>.*)\))?; its error is not told\.", lambda shown, named: named["line"] and shown.dmesg(named["line"], named["words"])),
+    rule(r"The test before the first step of the system core found it\.", lambda shown, named: shown.steps("syscore_suspend") or shown.fail("no core")),
+    rule(r"IRQ (?P<irq>\d+) stopped it \(dmesg line (?P<line>\d+)\): a hard event without a source, of which the trace has no line\.", lambda shown, named: shown.dmesg(named["line"], f"IRQ {named['irq']}")),
+    rule(r"An event of (?:a source that no input names|(?P<who>\S+) \(dmesg line (?P<line>\d+)\)) stopped it; no line of the trace shows the event\.", lambda shown, named: named["line"] and shown.dmesg(named["line"], f"source: {named['who']}")),
+    rule(r"A notifier refused, or another step before tasks were frozen; which one and its error are not told\."),
+    rule(r"It was a hard event: of this attempt dmesg has no 'Wakeup pending, aborting suspend', which a saved count writes\.", hard_event),
 ]

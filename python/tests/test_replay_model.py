@@ -85,8 +85,8 @@ class Trial:
                                      refuses=pick([None, None, "user"]), pm_test=pick([None, None, *LEVELS]))
                 is_auto = not is_auto
 
-    def replay(self, folder, without=()):
-        """The verdict on the model's files, but for those left out."""
+    def write(self, folder, without=()):
+        """Writes the model's files, but for those left out; gives their paths."""
         kernel = self.kernel
         texts = {"trace": kernel.trace(), "devices": kernel.devices(), "links": kernel.link_list(), "dmesg": kernel.dmesg()}
         paths = {}
@@ -95,7 +95,11 @@ class Trial:
                 paths[name] = os.path.join(folder, name)
                 with open(paths[name], "w") as file:
                     file.write(text)
-        return replay(read_inputs(**paths))
+        return paths
+
+    def replay(self, folder, without=()):
+        """The verdict on the model's files, but for those left out."""
+        return replay(read_inputs(**self.write(folder, without)))
 
 
 class Model(unittest.TestCase):

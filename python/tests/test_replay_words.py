@@ -10,6 +10,7 @@ import unittest
 import command_tests  # noqa: F401 (puts the package on the path)
 import recordings
 from shown_words import Shown
+from test_replay_model import Trial
 
 from julampok.follow.showing import as_json, as_text
 from julampok.follow.verdict import replay
@@ -24,13 +25,24 @@ class ShownWords(unittest.TestCase):
     def test_each_stands_in_an_input(self):
         for name in recordings.names():
             for way, without in WAYS.items():
-                files = recordings.inputs(name, without)
-                recording = read_inputs(**files)
-                found = replay(recording)
                 with self.subTest(name=name, way=way):
-                    told = json.loads(json.dumps(as_json(found, recording)))
-                    self.assertEqual(self.faults(Shown(files), told, files["trace"]), [])
-                    self.assertEqual(as_text(found, recording).split("\n"), lines_of(told, files["trace"]))
+                    self.look(recordings.inputs(name, without))
+
+    def test_of_a_model(self):
+        """Traces of a model of a kernel, whose attempts end in more ways than those of the recordings."""
+        with tempfile.TemporaryDirectory() as folder:
+            for seed in range(3000, 3080):
+                trial = Trial(seed, 8 if seed % 4 == 0 else 0)
+                with self.subTest(seed):
+                    self.look(trial.write(folder, ((), ("dmesg",), ("devices", "links", "dmesg"))[seed % 3]))
+
+    def look(self, files):
+        """Follows a recording, and looks for what is shown."""
+        recording = read_inputs(**files)
+        found = replay(recording)
+        told = json.loads(json.dumps(as_json(found, recording)))
+        self.assertEqual(self.faults(Shown(files), told, files["trace"]), [])
+        self.assertEqual(as_text(found, recording).split("\n"), lines_of(told, files["trace"]))
 
     def faults(self, shown, told, file):
         """What of the JSON no input has."""

@@ -428,7 +428,7 @@ class Decider:
         if self.stopper is not None and not all_went:
             return self.event(Where.CPUS, None, "a processor that did not go off")
         if all_went:
-            return self.plain(Where.CPUS, Why.PM_TEST, None, "the last processor did not go off")
+            return self.plain(Where.CPUS, Why.PM_TEST, None, "the last processor, which did not go off")
         return self.plain(Where.CPUS, Why.ERROR, None, "a test that found an event of which the trace has no line, or pm_test")
 
     def in_core(self) -> Outcome:

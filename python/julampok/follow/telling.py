@@ -171,7 +171,7 @@ class Teller:
             return "Whether a saved count or a hard event made the test find it is not told."
         if self.outcome.guard == Guard.SAVED:
             return "A saved count was in force, which the autosleep work saves before each attempt."
-        return "It was a hard event: dmesg has no 'Wakeup pending, aborting suspend', which a saved count writes."
+        return "It was a hard event: of this attempt dmesg has no 'Wakeup pending, aborting suspend', which a saved count writes."
 
     def tasks(self) -> str:
         """The tasks that did not freeze."""
