@@ -115,6 +115,7 @@ class Model(unittest.TestCase):
                     found = trial.replay(folder)
                     self.assertEqual(found.status, 0, found.headline)
                     self.assertEqual([one.answer for one in found.attempts], [ANSWERS[one] for one in trial.kernel.truth])
+                    self.assertEqual([note.text for note in found.notes if "messages are not those" in note.text], [])
 
     def test_several(self):
         with tempfile.TemporaryDirectory() as folder:

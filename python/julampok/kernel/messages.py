@@ -138,7 +138,7 @@ def is_alike(attempt: Attempt, told_of: Told) -> bool:
     entry = told_of.first(Fact.ENTRY)
     if attempt.state is not None and (attempt.state == 1) != (entry.words == "s2idle"):
         return False
-    has_devices = bool(attempt.steps("dpm_suspend"))
+    has_devices = bool(attempt.steps("dpm_prepare"))  # (of a device that is not prepared the kernel says that suspend failed)
     if not has_devices and told_of.first(*DEVICES) or has_devices and told_of.first(Fact.FREEZE_ABORTED, Fact.FREEZE_FAILED):
         return False
     errors = {begin.end.error for begin in attempt.callbacks() if begin.end is not None}
