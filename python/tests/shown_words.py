@@ -16,7 +16,8 @@ DEVICE = r"(?P<{0}>\S+(?: \([^()]+\))?)"
 PLACE = r"(?:from a hard interrupt|from a softirq|from the task (?P<place_task>\S+-\d+))"
 KINDS = r"(?:a user task|a kernel thread|user or kernel, not told)"
 PM_TEST = r"pm_test '(?P<level>freezer|devices|platform|processors|core)'"
-OR_ELSE = r"(?:a failure of the platform(?:'s prepare(?:_late)?)?|pm_test|a processor that did not go off|the last processor, which did not go off|a step of the system core that failed|(?:a|or a) test that found an event of which the trace has no line)"
+OR_ELSE = (r"(?:a failure of the platform(?:'s prepare(?:_late)?)?|pm_test|a processor that did not go off|the last processor, which did not go off"
+           r"|a step of the system core that failed|a test that found an event of which the trace has no line)")
 
 
 def shown_name(found):
@@ -338,7 +339,7 @@ SENTENCES = [
     rule(rf"{DEVICE.format('who')} answered (?P<number>-\d+) \((?P<name>\w+)\) in (?P<phase>\w+)(?:, asynchronously)?, line (?P<line>\d+)\.", answered),
     rule(r"The platform's (?:begin|prepare|prepare_late) failed; its error is not told\."),
     rule(rf"{PM_TEST} turned it around(?: \(dmesg line (?P<line>\d+)\))?\.", lambda shown, named: named["line"] and shown.dmesg(named["line"], "Waiting for")),
-    rule(rf"It may also have been {OR_ELSE}(?:, {OR_ELSE})*(?:,? or {OR_ELSE})?(?:, {OR_ELSE})?: no input tells\."),
+    rule(rf"It may also have been {OR_ELSE}(?:,? or {OR_ELSE})?: no input tells\."),
     rule(r"Undone: (?P<parts>.*)\.", undone),
     rule(rf"(?P<source>\S+) reported an event in line (?P<line>\d+), {PLACE}, before the attempt began\.", before),
     rule(rf"{NO_SLEEP} \(dmesg line (?P<line>\d+): (?P<words>.*?)\)(?: with (?P<number>-\d+) \((?P<name>\w+)\)|; its error is not told)\.", went_not),
