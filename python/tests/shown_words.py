@@ -14,6 +14,11 @@ ACTIONS = {"prepare": "dpm_prepare", "suspend": "dpm_suspend", "late": "dpm_susp
            "early": "dpm_resume_early", "resume": "dpm_resume", "complete": "dpm_complete"}
 DEVICE = r"(?P<{0}>\S+(?: \([^()]+\))?)"
 PLACE = r"(?:from a hard interrupt|from a softirq|from the task (?P<place_task>\S+-\d+))"
+BROKEN_DID = re.compile(rf"{DEVICE.format('who')} (?:began its callback of (?P<phase>\w+)|was (?P<was>prepared|completed))")
+BROKEN_FIRST = re.compile(rf"{DEVICE.format('who')} had to (?:end its callback of (?P<phase>\w+)|be (?P<was>prepared|completed)) first, which it (?:does|is) in line (?P<line>\d+)")
+REASONS = [re.compile(words.format(DEVICE.format("above"), DEVICE.format("below"))) for words in (
+    "{0} is the parent of {1}", "{1} has a link to its supplier {0}", "{0} stands above {1}, by its parents or links",
+    "{0} was prepared after {1}, and complete goes the other way")]
 KINDS = r"(?:a user task|a kernel thread|user or kernel, not told)"
 PM_TEST = r"pm_test '(?P<level>freezer|devices|platform|processors|core)'"
 OR_ELSE = (r"(?:a failure of the platform(?:'s prepare(?:_late)?)?|pm_test|a processor that did not go off|the last processor, which did not go off"
@@ -173,19 +178,37 @@ class Shown:
             self.fail(f"a stand-in of no known form: {text!r}")
 
     def broken(self, one):
-        """A step that no legal log has."""
-        did = re.fullmatch(rf"{DEVICE.format('who')} began its callback of (?P<phase>\w+)", one["did"])
-        first = re.fullmatch(rf"{DEVICE.format('who')} had to end its callback of (?P<phase>\w+) first, which it does in line (?P<line>\d+)", one["first"])
+        """A step that no legal log has: what was done in its line, what in the line of what had to come first, and why."""
+        did, first = BROKEN_DID.fullmatch(one["did"]), BROKEN_FIRST.fullmatch(one["first"])
         if not did or not first or int(first["line"]) != one["first_line"]:
             self.fail(f"of no known form: {one}")
             return
-        self.callback(one["line"], did["who"], did["phase"])
-        self.callback(one["first_line"], first["who"], first["phase"], False)
+        silent = {"prepared": "prepare", "completed": "complete"}
+        self.callback(one["line"], did["who"], did["phase"] or silent[did["was"]], is_begin=STARTS.match(self.body(one["line"])))
+        self.callback(one["first_line"], first["who"], first["phase"] or silent[first["was"]], is_begin=first["was"] and STARTS.match(self.body(one["first_line"])))
+        if not one["line"] < one["first_line"]:
+            self.fail(f"line {one['first_line']} is not behind line {one['line']}")
         for text in one["because"]:
-            pair = re.fullmatch(rf"{DEVICE.format('above')} is the parent of {DEVICE.format('below')}", text)
-            names = (pair["above"].split(" ")[0], pair["below"].split(" ")[0]) if pair else ()
-            if not pair or names not in self.parents and not any(f"/{names[0]}/{names[1]} " in line for line in self.lines["devices"]):
+            if not self.is_reason(text):
                 self.fail(f"no input tells {text!r}")
+
+    def is_reason(self, text):
+        """Whether an input tells why one device had to come before another one."""
+        found = next((found for pattern in REASONS if (found := pattern.fullmatch(text))), None)
+        if found is None:
+            return False
+        above, below = found["above"].split(" ")[0], found["below"].split(" ")[0]
+        if "parent of" in text:
+            return (above, below) in self.parents or any(f"/{above}/{below} " in line for line in self.lines["devices"])
+        if "supplier" in text:
+            return f"{above} {below}" in self.lines["links"]
+        if "was prepared after" in text:
+            return self.prepared(found["above"]) > self.prepared(found["below"])
+        return found["above"] in self.devices and found["below"] in self.devices
+
+    def prepared(self, shown):
+        """The first line in which a device is prepared."""
+        return next(at for at, line in enumerate(self.trace, 1) if line and (found := STARTS.match(line["body"])) and shown_name(found) == shown)
 
     def headline(self, text, attempts):
         """The verdict names attempts with their lines, and nothing else but what `broken` holds."""
@@ -214,7 +237,7 @@ class Shown:
                 self.fail(f"line {line} has not {found[1]} and {found[2]}")
         elif (found := re.fullmatch(rf"{DEVICE.format('who')} answered (?P<number>-\d+) \((?P<name>\w+)\), an error that machine files do not have: the log has EIO", text)):
             answered(self, {**found.groupdict(), "line": line, "phase": None})
-        elif (found := re.fullmatch(r"(\d+) devices without callbacks may be asynchronous or not, which no input tells: .*", text)):
+        elif (found := re.fullmatch(r"(\d+) devices? without callbacks may be asynchronous or not, which no input tells: .*", text)):
             if not 0 < int(found[1]) <= len(self.devices):
                 self.fail(f"not so many devices: {text!r}")
         elif (found := re.fullmatch(r"(.*): attempt \d+ (?:does|and \d+ more do) not prepare (?:it|all of them); (?:it stands|they stand) in the log's list there, and pass(?:es)? without a callback", text)):

@@ -3,6 +3,7 @@
 import gzip
 import json
 import pathlib
+import random
 import re
 import tempfile
 import unittest
@@ -10,6 +11,7 @@ import unittest
 import command_tests  # noqa: F401 (puts the package on the path)
 import recordings
 from shown_words import Shown
+from test_replay import exchanged, pairs
 from test_replay_model import Trial
 
 from julampok.follow.showing import as_json, as_text
@@ -35,6 +37,20 @@ class ShownWords(unittest.TestCase):
                 trial = Trial(seed, 8 if seed % 4 == 0 else 0)
                 with self.subTest(seed):
                     self.look(trial.write(folder, ((), ("dmesg",), ("devices", "links", "dmesg"))[seed % 3]))
+
+    def test_of_broken_orders(self):
+        """Copies in which two callbacks have changed places."""
+        dice = random.Random(23)
+        with tempfile.TemporaryDirectory() as folder:
+            for name in ("order", "s3", "slow-async", "slow-sync-one", "irq-late", "async-fails", "noirq-fails") * 6:
+                recording = read_inputs(**recordings.inputs(name))
+                pair = dice.choice(pairs(recording, dice) or [None])
+                if pair is None:
+                    continue
+                file = pathlib.Path(folder, "trace")
+                file.write_text("\n".join(exchanged(recording, *pair)) + "\n")
+                with self.subTest(name, lines=[begin.line for begin in pair]):
+                    self.look(recordings.inputs(name) | {"trace": str(file)})
 
     def look(self, files):
         """Follows a recording, and looks for what is shown."""

@@ -170,7 +170,8 @@ def followed_so(recording: Recording, passed: dict[int, int]) -> tuple[Follower,
             raise failure
         return follower, broken
     again = Follower(recording, open_ones, passed)
-    again.note(f"of {len(open_ones)} devices without a callback no input tells whether they ran asynchronously: taken so, since the kernel's order is not legal else")
+    many = "1 device without callbacks" if len(open_ones) == 1 else f"{len(open_ones)} devices without callbacks"
+    again.note(f"{many} may be asynchronous or not, which no input tells: taken as asynchronous, so that nobody is made to wait by their place in the list")
     try:
         again.follow()
         return again, None
