@@ -1,8 +1,8 @@
 """Follows the trace of a real kernel to a whole log, and says whether that log is legal: what the kernel did, judged.
 
 The trace gives whose turn is next; devices without a callback go between. Standard output has the verdict, what stopped each
-attempt, and notes. The proved checker judges where --program names it or this clone has built it; else a second writing of
-the rules in Python. Status 0: legal, and the kernel's own way and answer. 1: not. 2: an input is missing or broken, or the
+attempt, and notes. The proved checker judges if this clone has built it, or the program that --program names; else a second
+writing of the rules in Python. Status 0: legal, and the kernel's own way and answer. 1: not. 2: an input is missing or broken, or the
 trace cannot be followed.
 """
 
