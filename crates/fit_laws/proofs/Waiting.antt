@@ -40,6 +40,7 @@ use Rattle.sleep_model.specs.Steps.{mark_due, saved_number, slept_due, step_due}
 use Rattle.sleep_model.specs.Tasks.{is_line, is_mem, is_off}
 use Rattle.sleep_model.specs.Word.{visible}
 use Rattle.sleep_laws.proofs.Closing.{rests_closed}
+use Rattle.sleep_laws.proofs.Ending.{and_left, and_right, no_alarm, none_of, not_made, not_true, sooner_none}
 use Rattle.sleep_laws.proofs.Made.{seat_of}
 use Rattle.sleep_laws.proofs.Operations.{Each, each_get, entry_operation}
 use Rattle.sleep_laws.proofs.Telling.{some≢none}
@@ -48,33 +49,8 @@ use Rattle.fit_laws.proofs.Sitting.{IsAttempting, IsSetting, LockAt, SetsAt, Sle
 
 -- ---- small facts
 
-and_left : (a b : Bool) → (a && b) ≡ true → a ≡ true
-and_left true b e = refl
-and_left false b e = e
-
-and_right : (a b : Bool) → (a && b) ≡ true → b ≡ true
-and_right true b e = e
-and_right false b e = absurd (true≢false (sym e))
-
-not_true : (b : Bool) → not b ≡ true → b ≡ false
-not_true true e = absurd (true≢false (sym e))
-not_true false e = refl
-
-or_right_false : (a b : Bool) → (a || b) ≡ false → b ≡ false
-or_right_false true b e = absurd (true≢false e)
-or_right_false false b e = e
-
-sooner_none : (a b : Option ℕ) → sooner a b ≡ None → (a ≡ None) × (b ≡ None)
-sooner_none None b e = (refl, e)
-sooner_none (Some x) None e = absurd (some≢none x e)
-sooner_none (Some x) (Some y) e = absurd (some≢none (min x y) e)
-
-no_alarm : (m : Machine) (o : Option Sleep) → alarm_at m o ≡ None → o ≡ None
-no_alarm m None e = refl
-no_alarm m (Some s) e = absurd (some≢none (s.since + m.alarm_ms) e)
-
 -- what is kept of a list passes the test
-each_kept : (p : Op → Bool) (xs : List Op) → Each (λ x. p x ≡ true) (filter p xs)
+pub each_kept : (p : Op → Bool) (xs : List Op) → Each (λ x. p x ≡ true) (filter p xs)
 each_kept p [] = tt
 each_kept p (x ∷ xs) = by (p x) refl (each_kept p xs)
   where
@@ -83,7 +59,7 @@ each_kept p (x ∷ xs) = by (p x) refl (each_kept p xs)
     by false e rest = rest
 
 -- a script stands at no call
-at_entry : (s : Script) (n : ℕ) (x : Op) → slice_get (entry_steps s) n ≡ Some x → makes_entry x ≡ true
+pub at_entry : (s : Script) (n : ℕ) (x : Op) → slice_get (entry_steps s) n ≡ Some x → makes_entry x ≡ true
 at_entry s n x e = each_get (λ x. makes_entry x ≡ true) (entry_steps s) n x (each_kept makes_entry (operations s)) e
 
 -- ---- one script
@@ -189,19 +165,6 @@ all_well m past now i (seat ∷ rest) h = (
 
 -- ---- nobody goes on
 
-none_of : (m : Machine) (past : List Entry) (of : ℕ → List Entry) (now : EventNow) (n : ℕ) → none_enabled m past of now actor.Script n ≡ true → (i : ℕ) → i < n → is_enabled m past of now (actor.Script i) ≡ false
-none_of m past of now zero h i l = absurd (omega arith)
-none_of m past of now (suc n) h i l = by_test (i == n) refl (λ k. none_of m past of now n (and_right (not (is_enabled m past of now (actor.Script n))) (none_enabled m past of now actor.Script n) h) i k)
-  where
-    by_test : (b : Bool) → (i == n) ≡ b → (i < n → is_enabled m past of now (actor.Script i) ≡ false) → is_enabled m past of now (actor.Script i) ≡ false
-    by_test true e rest =
-        let same : i ≡ n = grind (arith, nat_tests) in
-        ap (λ x. is_enabled m past of now (actor.Script x)) same ∙ not_true (is_enabled m past of now (actor.Script n)) (and_left (not (is_enabled m past of now (actor.Script n))) (none_enabled m past of now actor.Script n) h)
-    by_test false e rest = let earlier : i < n = grind (arith, nat_tests) in rest earlier
-
-not_made : (m : Machine) (past : List Entry) (of : ℕ → List Entry) (now : EventNow) (who : Actor) → is_enabled m past of now who ≡ false → is_made (due m past who now) ≡ false
-not_made m past of now who e = or_right_false (is_calling (length m.sources + 1) of who || nat_lt (made (length m.sources + 1) of who) (calls_due m who past)) (is_made (due m past who now)) e
-
 no_sleep : (m : Machine) (past : List Entry) (n : ℕ) → next_sleep m past n ≡ None → (i : ℕ) → i < n → pending_sleep (sleeps_now past) (freezing m i past) (slice_get m.actors i) (seat_of m past i) ≡ None
 no_sleep m past zero h i l = absurd (omega arith)
 no_sleep m past (suc n) h i l = by_test (i == n) refl (sooner_none (pending_sleep (sleeps_now past) (freezing m n past) (slice_get m.actors n) (seat_of m past n)) (next_sleep m past n) h) (λ e k. no_sleep m past n e i k)
@@ -215,7 +178,7 @@ no_sleep m past (suc n) h i l = by_test (i == n) refl (sooner_none (pending_slee
     by_test false e both rest = let earlier : i < n = grind (arith, nat_tests) in rest both.1 earlier
 
 -- a number within a list names something
-there_at : (ss : List Script) (i : ℕ) → i < length ss → (s : Script) × (slice_get ss i ≡ Some s)
+pub there_at : (ss : List Script) (i : ℕ) → i < length ss → (s : Script) × (slice_get ss i ≡ Some s)
 there_at [] i l = absurd (omega arith)
 there_at (s ∷ ss) zero l = (s, refl)
 there_at (s ∷ ss) (suc i) l = there_at ss i (omega (arith, l))
@@ -260,7 +223,7 @@ module _ (m : Machine) (acc : IsAccepted m) (past : List Entry) (of : ℕ → Li
   work_idle = and_right scripts works (and_left (scripts && works) devices (and_left (scripts && works && devices) expiries idle))
 
   script_rests : (i : ℕ) → i < length m.actors → is_made (due m past (actor.Script i) now) ≡ false
-  script_rests i l = not_made m past of now (actor.Script i) (none_of m past of now (length m.actors) scripts_idle i l)
+  script_rests i l = not_made m past of now (actor.Script i) (none_of m past of now actor.Script (length m.actors) scripts_idle i l)
 
   work_rests : is_made (due m past actor.Auto now) ≡ false
   work_rests = not_made m past of now actor.Auto (not_true (is_enabled m past of now actor.Auto) work_idle)

@@ -61,19 +61,19 @@ use Rattle.sleep_laws.proofs.Underway.{is_suspending, is_resuming, IsCalled, Tak
 
 -- ---- small facts
 
-and_left : (a b : Bool) → (a && b) ≡ true → a ≡ true
+pub and_left : (a b : Bool) → (a && b) ≡ true → a ≡ true
 and_left true b e = refl
 and_left false b e = never e
 
-and_right : (a b : Bool) → (a && b) ≡ true → b ≡ true
+pub and_right : (a b : Bool) → (a && b) ≡ true → b ≡ true
 and_right true b e = e
 and_right false b e = never e
 
-or_right_false : (a b : Bool) → (a || b) ≡ false → b ≡ false
+pub or_right_false : (a b : Bool) → (a || b) ≡ false → b ≡ false
 or_right_false true b e = absurd (true≢false e)
 or_right_false false b e = e
 
-not_true : (b : Bool) → not b ≡ true → b ≡ false
+pub not_true : (b : Bool) → not b ≡ true → b ≡ false
 not_true true e = never e
 not_true false e = refl
 
@@ -361,12 +361,12 @@ module _ (m : Machine) (past : List Entry) (ranks : IsRanked m past) (now : Even
 
 -- ---- the stages
 
-first_made : (x y : Due) → is_made (or_next x y) ≡ false → is_made x ≡ false
+pub first_made : (x y : Due) → is_made (or_next x y) ≡ false → is_made x ≡ false
 first_made (turn.Makes k) y e = e
 first_made (turn.Waits w) y e = refl
 first_made turn.Gone y e = refl
 
-left_made : (k : ℕ → Kind) (o : Option ℕ) (next : Due) → is_made (or_next (if_left k o) next) ≡ false → is_made next ≡ false
+pub left_made : (k : ℕ → Kind) (o : Option ℕ) (next : Due) → is_made (or_next (if_left k o) next) ≡ false → is_made next ≡ false
 left_made k None next e = e
 left_made k (Some x) next e = absurd (true≢false e)
 
@@ -425,7 +425,7 @@ module _ (m : Machine) (past : List Entry) (ranks : IsRanked m past) (now : Even
 -- ---- the maker
 
 -- a task that makes the attempt is one of the machine's
-abbrev MakerIn : Machine → Option Actor → Type 0
+abbrev pub MakerIn : Machine → Option Actor → Type 0
 MakerIn m (Some (actor.Script i)) = i < length m.actors
 MakerIn m _ = Unit {0}
 
@@ -453,11 +453,11 @@ entry_maker m past now _ k (ByWork w _ other awake over at x) h = work_maker m p
 entry_maker m past now _ k (ByDevice d _ other x) h = device_maker m past now d k x h
 entry_maker m past now _ _ ByTime h = h
 
-maker_in : (m : Machine) (past : List Entry) → JournalPart m past → MakerIn m (maker past)
+pub maker_in : (m : Machine) (past : List Entry) → JournalPart m past → MakerIn m (maker past)
 maker_in m [] h = tt
 maker_in m (e ∷ past) h = entry_maker m past e.now e.actor e.kind (entry_made m past e h) (maker_in m past h.1)
 
-not_device_maker : (d : ℕ) (o : Option Actor) (s : Option Stage) → StageMaker o s → is_actor (actor.Dev d) o ≡ false
+pub not_device_maker : (d : ℕ) (o : Option Actor) (s : Option Stage) → StageMaker o s → is_actor (actor.Dev d) o ≡ false
 not_device_maker d None s h = refl
 not_device_maker d (Some (actor.Script i)) s h = refl
 not_device_maker d (Some actor.Auto) s h = refl
@@ -467,20 +467,20 @@ not_device_maker d (Some actor.Time) s h = absurd h
 
 -- ---- nobody can go on
 
-sooner_none : (a b : Option ℕ) → sooner a b ≡ None → (a ≡ None) × (b ≡ None)
+pub sooner_none : (a b : Option ℕ) → sooner a b ≡ None → (a ≡ None) × (b ≡ None)
 sooner_none None b e = (refl, e)
 sooner_none (Some x) None e = absurd (some≢none x e)
 sooner_none (Some x) (Some y) e = absurd (some≢none (min x y) e)
 
-no_alarm : (m : Machine) (o : Option Sleep) → alarm_at m o ≡ None → o ≡ None
+pub no_alarm : (m : Machine) (o : Option Sleep) → alarm_at m o ≡ None → o ≡ None
 no_alarm m None e = refl
 no_alarm m (Some s) e = absurd (some≢none (s.since + m.alarm_ms) e)
 
-no_deadline : (o : Option ℕ) → deadline_at o ≡ None → o ≡ None
+pub no_deadline : (o : Option ℕ) → deadline_at o ≡ None → o ≡ None
 no_deadline None e = refl
 no_deadline (Some s) e = absurd (some≢none (gives_up_at s) e)
 
-async_there : (m : Machine) (d : ℕ) → is_async_device m d ≡ true → d < length m.devices
+pub async_there : (m : Machine) (d : ℕ) → is_async_device m d ≡ true → d < length m.devices
 async_there m d e = by_test (nat_lt d (length m.devices)) refl
   where
     by_test : (b : Bool) → nat_lt d (length m.devices) ≡ b → d < length m.devices
@@ -490,7 +490,7 @@ async_there m d e = by_test (nat_lt d (length m.devices)) refl
         let k : length (map is_async m.devices) ≤ d = omega (arith, length-map m.devices is_async) in
         absurd (true≢false (sym e ∙ get_or_past (map is_async m.devices) d false k))
 
-none_of : (m : Machine) (past : List Entry) (of : ℕ → List Entry) (now : EventNow) (who : ℕ → Actor) (n : ℕ) → none_enabled m past of now who n ≡ true → (i : ℕ) → i < n → is_enabled m past of now (who i) ≡ false
+pub none_of : (m : Machine) (past : List Entry) (of : ℕ → List Entry) (now : EventNow) (who : ℕ → Actor) (n : ℕ) → none_enabled m past of now who n ≡ true → (i : ℕ) → i < n → is_enabled m past of now (who i) ≡ false
 none_of m past of now who zero h i l = absurd (omega arith)
 none_of m past of now who (suc n) h i l = by_test (i == n) refl (λ k. none_of m past of now who n (and_right (not (is_enabled m past of now (who n))) (none_enabled m past of now who n) h) i k)
   where
@@ -498,7 +498,7 @@ none_of m past of now who (suc n) h i l = by_test (i == n) refl (λ k. none_of m
     by_test true e rest = ap (λ x. is_enabled m past of now (who x)) (eqb-true i n e) ∙ not_true (is_enabled m past of now (who n)) (and_left (not (is_enabled m past of now (who n))) (none_enabled m past of now who n) h)
     by_test false e rest = let other : i ≢ n = different i n e in rest (omega arith)
 
-not_made : (m : Machine) (past : List Entry) (of : ℕ → List Entry) (now : EventNow) (who : Actor) → is_enabled m past of now who ≡ false → is_made (due m past who now) ≡ false
+pub not_made : (m : Machine) (past : List Entry) (of : ℕ → List Entry) (now : EventNow) (who : Actor) → is_enabled m past of now who ≡ false → is_made (due m past who now) ≡ false
 not_made m past of now who e = or_right_false (is_calling (length m.sources + 1) of who || nat_lt (made (length m.sources + 1) of who) (calls_due m who past)) (is_made (due m past who now)) e
 
 -- where nobody can make anything and no moment is pending no attempt is open

@@ -30,7 +30,7 @@ places zero past = 0
 places (suc n) past = length (history n past) + places n past
 
 -- an entry takes a place in its source's history at most
-places_rise : (n : ℕ) (e : Entry) (past : List Entry) → places n past ≤ places n (e ∷ past)
+pub places_rise : (n : ℕ) (e : Entry) (past : List Entry) → places n past ≤ places n (e ∷ past)
 places_rise zero e past = omega arith
 places_rise (suc n) e past = omega (arith, places_rise n e past, longer (is_of n (part_of e.kind)))
   where
@@ -39,7 +39,7 @@ places_rise (suc n) e past = omega (arith, places_rise n e past, longer (is_of n
     longer false = omega arith
 
 -- a step of the word takes one
-place_taken : (n s : ℕ) → s < n → (e : Entry) (past : List Entry) → ((t : ℕ) → is_of t (part_of e.kind) ≡ (s == t)) → places n past + 1 ≤ places n (e ∷ past)
+pub place_taken : (n s : ℕ) → s < n → (e : Entry) (past : List Entry) → ((t : ℕ) → is_of t (part_of e.kind) ≡ (s == t)) → places n past + 1 ≤ places n (e ∷ past)
 place_taken zero s l e past own = absurd (omega arith)
 place_taken (suc n) s l e past own = by_last (s == n) (is_of n (part_of e.kind)) (own n) refl (λ k. place_taken n s k e past own)
   where

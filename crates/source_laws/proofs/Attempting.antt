@@ -64,7 +64,7 @@ tried_all m n past h =
       never_tried m actor.Time (λ m past x. x) past h,
     )
 
-attempts_is : (k : Kind) (n : ℕ) → attempts_after k n ≡ one_if (is_attempt k) + n
+pub attempts_is : (k : Kind) (n : ℕ) → attempts_after k n ≡ one_if (is_attempt k) + n
 attempts_is (kind.Attempt n guarded) k = omega arith
 attempts_is _ k = omega arith
 

@@ -55,10 +55,10 @@ firsts_state k xs e = let further : k + 1 ≡ suc k = omega arith in ap (λ n. f
 
 -- a script has done so many of its steps, and begun so many attempts; it makes the open one or not, at a write to the state
 pub record ScriptTries (steps : List Op) (done tried : ℕ) (making : Bool) : Type 0 where
-  within : tried ≤ firsts done steps + one_if making
-  at_state : making ≡ true → passes is_state (slice_get steps done) ≡ true
+  pub within : tried ≤ firsts done steps + one_if making
+  pub at_state : making ≡ true → passes is_state (slice_get steps done) ≡ true
 
-abbrev Tries : Machine → ℕ → List Entry → Type 0
+abbrev pub Tries : Machine → ℕ → List Entry → Type 0
 Tries m i past = ScriptTries (steps_in m i) (done_of m past i) (tried (actor.Script i) past) (is_actor (actor.Script i) (maker past))
 
 -- the script is one of the machine's, where it has a step
@@ -177,7 +177,7 @@ other_tries m i past e x n h =
       at_state = λ x. ap (λ n. passes is_state (slice_get (steps_in m i) n)) same ∙ h.at_state (sym kept ∙ x);
     }
 
-script_tries : (m : Machine) (i : ℕ) (past : List Entry) → JournalPart m past → Tries m i past
+pub script_tries : (m : Machine) (i : ℕ) (past : List Entry) → JournalPart m past → Tries m i past
 script_tries m i [] h = record { within = omega arith; at_state = λ x. absurd (true≢false (sym x)) }
 script_tries m i (e ∷ past) h = by_same (is_same e.actor (actor.Script i)) refl (script_tries m i past h.1)
   where

@@ -36,14 +36,14 @@ use Rattle.source_laws.proofs.Trying.{is_attempt, is_over as ends_attempt, done_
 -- ---- one attempt a run
 
 -- the work stands there, has begun so many attempts in so many runs, and makes the open one or not
-record AutoTries (w : Work) (tried runs : ℕ) (making : Bool) : Type 0 where
-  within : tried + one_if (not making && is_trying w) ≤ runs
-  attempting : making ≡ true → is_attempting w ≡ true
+pub record AutoTries (w : Work) (tried runs : ℕ) (making : Bool) : Type 0 where
+  pub within : tried + one_if (not making && is_trying w) ≤ runs
+  pub attempting : making ≡ true → is_attempting w ≡ true
 
-abbrev Tries : List Entry → Type 0
+abbrev pub Tries : List Entry → Type 0
 Tries past = AutoTries (work past) (tried actor.Auto past) (runs past) (is_actor actor.Auto (maker past))
 
-runs_more : (k : Kind) (r : ℕ) → r ≤ runs_after k r
+pub runs_more : (k : Kind) (r : ℕ) → r ≤ runs_after k r
 runs_more kind.AutoRun r = omega arith
 runs_more _ r = omega arith
 
@@ -59,11 +59,11 @@ attempt_stays : (k : Kind) (w : Work) → is_attempt k ≡ true → (work_step k
 attempt_stays (kind.Attempt n guarded) w e = (refl, λ r. refl)
 attempt_stays _ w e = absurd (true≢false (sym e))
 
-work_own : (a : Actor) (k : Kind) (w : Work) → is_same a actor.Auto ≡ true → work_after a k w ≡ work_step k w
+pub work_own : (a : Actor) (k : Kind) (w : Work) → is_same a actor.Auto ≡ true → work_after a k w ≡ work_step k w
 work_own actor.Auto k w e = refl
 work_own _ k w e = absurd (true≢false (sym e))
 
-work_other : (a : Actor) (k : Kind) (w : Work) → is_same a actor.Auto ≡ false → work_after a k w ≡ w
+pub work_other : (a : Actor) (k : Kind) (w : Work) → is_same a actor.Auto ≡ false → work_after a k w ≡ w
 work_other actor.Auto k w e = absurd (true≢false e)
 work_other (actor.Script i) k w e = refl
 work_other (actor.Dev i) k w e = refl
@@ -130,7 +130,7 @@ other_tries m past e x n h =
       attempting = λ x. ap is_attempting new ∙ h.attempting (sym kept ∙ x);
     }
 
-work_tries : (m : Machine) (past : List Entry) → JournalPart m past → Tries past
+pub work_tries : (m : Machine) (past : List Entry) → JournalPart m past → Tries past
 work_tries m [] h = record { within = omega arith; attempting = λ x. absurd (true≢false (sym x)) }
 work_tries m (e ∷ past) h = by_same (is_same e.actor actor.Auto) refl (work_tries m past h.1)
   where
@@ -144,7 +144,7 @@ work_within m past h = omega (arith, (work_tries m past h).within)
 
 -- ---- how often it runs
 
-abbrev is_run : Kind → Bool
+abbrev pub is_run : Kind → Bool
 is_run kind.AutoRun = true
 is_run _ = false
 
@@ -197,7 +197,7 @@ run_step : (m : Machine) (past : List Entry) (time : ℕ) (now : EventNow) (who 
 run_step m past time now who kind.AutoRun h r = run_may m past now who kind.AutoRun (made m past now who kind.AutoRun h.0) refl h.0
 run_step m past time now who _ h r = absurd (true≢false (sym r))
 
-runs_is : (k : Kind) (r : ℕ) → runs_after k r ≡ one_if (is_run k) + r
+pub runs_is : (k : Kind) (r : ℕ) → runs_after k r ≡ one_if (is_run k) + r
 runs_is kind.AutoRun r = omega arith
 runs_is _ r = omega arith
 

@@ -44,7 +44,7 @@ maker_is _ who before = refl
 
 -- ---- where scripts stand
 
-seats_length : (n : ℕ) (past : List Entry) → length (seats n past) ≡ n
+pub seats_length : (n : ℕ) (past : List Entry) → length (seats n past) ≡ n
 seats_length n [] = length-replicate n first_seat
 seats_length n (e ∷ past) = by_actor e.actor (seats_length n past)
   where
@@ -71,7 +71,7 @@ done_other m past e i n = by_actor e.actor n
     by_actor (actor.Timer t) n = refl
     by_actor actor.Time n = refl
 
-after_done : (part : SeatPart) (s : Seat) → (seat_after part s).done ≡ cond (ends_step part) (s.done + 1) s.done
+pub after_done : (part : SeatPart) (s : Seat) → (seat_after part s).done ≡ cond (ends_step part) (s.done + 1) s.done
 after_done SeatPart.Waits s = refl
 after_done SeatPart.Sets s = refl
 after_done (SeatPart.Sleeps u) s = refl
@@ -210,7 +210,7 @@ device_attempt : (m : Machine) (past : List Entry) (now : EventNow) (d : ℕ) (k
 device_attempt m past now d _ (DeviceMade.OwnFails p r w g f) = refl
 device_attempt m past now d _ _ = refl
 
-moved_free : (m : Machine) (past : List Entry) (now : EventNow) (who : Actor) (k : Kind) → Moved m past now who k → is_attempt k ≡ true → maker past ≡ None
+pub moved_free : (m : Machine) (past : List Entry) (now : EventNow) (who : Actor) (k : Kind) → Moved m past now who k → is_attempt k ≡ true → maker past ≡ None
 moved_free m past now _ _ (Opens who n guarded f e) a = f
 moved_free m past now _ _ (Makes who here there k i e c x) a = absurd (true≢false (sym a ∙ no_attempt m past now there k x))
 moved_free m past now _ _ (Beside who k i x) a = absurd (true≢false (sym a ∙ aside_attempt k x))
