@@ -2,7 +2,7 @@
 
 ghost use Rattle.std.specs.Prelude.{◌≡◌};
 ghost use Rattle.sleep_model.specs.Attempt.{answered, busy_error};
-ghost use Rattle.sleep_model.specs.Rules.Questions.{has_more, row_now};
+ghost use Rattle.rule_definitions.specs.Questions.{has_more, row_now};
 ghost use Rattle.check_past.specs.Passing.{journal_of};
 
 use check_account::behind;

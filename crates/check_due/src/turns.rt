@@ -2,7 +2,7 @@
 
 ghost use Rattle.std.specs.Prelude.{◌≡◌};
 ghost use Rattle.sleep_model.specs.Devices.{async_work, device_error, is_direct, is_direct_now, taken, work_in};
-ghost use Rattle.sleep_model.specs.Rules.Questions.{turn_of};
+ghost use Rattle.rule_definitions.specs.Questions.{turn_of};
 ghost use Rattle.check_past.specs.Passing.{journal_of};
 
 use check_calls::answered_error;

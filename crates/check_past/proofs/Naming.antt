@@ -6,7 +6,7 @@ use Rattle.sleep_model.specs.declared.machine.Op.{Op}
 use Rattle.sleep_model.specs.declared.machine.Script.{Script}
 use Rattle.sleep_model.specs.Accepted.{AreScripts, IsOp}
 use Rattle.sleep_model.specs.Laws.{steps_of}
-use Rattle.sleep_model.specs.Rules.Questions.{op_of, seat_of}
+use Rattle.rule_definitions.specs.Questions.{op_of, seat_of}
 use Rattle.sleep_model.specs.Scripts.{entry_steps}
 use Rattle.sleep_laws.proofs.Operations.{entry_operation}
 

@@ -14,7 +14,7 @@ impl<'m> Passed<'m> {
     ghost use Rattle.sleep_model.specs.Notifiers.{irqs_off, owes_platform};
     ghost use Rattle.sleep_model.specs.Numbers.{numbers, time_of};
     ghost use Rattle.sleep_model.specs.Path.{attempts, maker};
-    ghost use Rattle.sleep_model.specs.Rules.Questions.{is_maker};
+    ghost use Rattle.rule_definitions.specs.Questions.{is_maker};
     ghost use Rattle.sleep_model.specs.Runtime.{disabled_by_direct, disabled_by_late};
     ghost use Rattle.sleep_model.specs.Table.{stage_of};
     ghost use Rattle.check_past.specs.Passing.{journal_of, past_of};

@@ -53,7 +53,7 @@ impl<'m> Passed<'m> {
     ghost use Rattle.sleep_model.specs.Freezer.{freezing, freezings, left};
     ghost use Rattle.sleep_model.specs.Lock.{holder, is_on};
     ghost use Rattle.sleep_model.specs.Marks.{mark_at, raised};
-    ghost use Rattle.sleep_model.specs.Rules.Questions.{op_of, seat_of};
+    ghost use Rattle.rule_definitions.specs.Questions.{op_of, seat_of};
     ghost use Rattle.check_past.specs.Asked.{left_is};
     ghost use Rattle.check_past.specs.Passing.{journal_of};
 

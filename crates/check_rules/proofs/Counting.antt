@@ -7,7 +7,7 @@ use Rattle.sleep_model.specs.declared.word.EventNow.{EventNow}
 use Rattle.sleep_model.specs.Attempt.{sleeps_now}
 use Rattle.sleep_model.specs.Freezer.{freezing}
 use Rattle.sleep_model.specs.Legal.{is_enabled, next_expiry, next_sleep, none_enabled, none_expires, pending_sleep, sooner}
-use Rattle.sleep_model.specs.Rules.Questions.{seat_of}
+use Rattle.rule_definitions.specs.Questions.{seat_of}
 use Rattle.sleep_model.specs.Sources.{expiry, has_expired}
 
 pub enabled_next : (m : Machine) (past : List Entry) (of : ℕ → List Entry) (now : EventNow) (who : ℕ → Actor) (n : ℕ) (here before : Bool)

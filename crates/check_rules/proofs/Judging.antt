@@ -4,17 +4,17 @@ use Rattle.std.proofs.lemmas.Bool.{cases_lt}
 use Rattle.sleep_model.specs.declared.entry.Entry.{Entry}
 use Rattle.sleep_model.specs.declared.machine.Machine.{Machine}
 use Rattle.sleep_model.specs.Parts.{Part, OfJournal, Notes, Moves, OfTime, journal, part_of}
-use Rattle.sleep_model.specs.Rules.Entry.{KeepsEntry, KeepsRule, OnJournal, Rule, Links, Numbers, Attempts, Reads, Walk, Skip, Runtime, Owed, Freezer, Path, Answers, Restored, Steps, Enabled, Source}
-use Rattle.sleep_model.specs.Rules.Verdict.{BreaksFirst, number_of}
+use Rattle.rule_definitions.specs.Entry.{KeepsEntry, KeepsRule, OnJournal, Rule, Links, Numbers, Attempts, Reads, Walk, Skip, Runtime, Owed, Freezer, Path, Answers, Restored, Steps, Enabled, Source}
+use Rattle.rule_definitions.specs.Verdict.{BreaksFirst, number_of}
 use Rattle.sleep_model.specs.Numbers.{numbers}
-use Rattle.sleep_model.specs.Rules.Answers.{KeepsAnswers}
-use Rattle.sleep_model.specs.Rules.Attempts.{KeepsAttempts}
-use Rattle.sleep_model.specs.Rules.Links.{KeepsLinks}
-use Rattle.sleep_model.specs.Rules.Owed.{KeepsOwed}
-use Rattle.sleep_model.specs.Rules.Reads.{KeepsReads}
-use Rattle.sleep_model.specs.Rules.Restored.{KeepsRestored}
-use Rattle.sleep_model.specs.Rules.Runtime.{KeepsRuntime}
-use Rattle.sleep_model.specs.Rules.Skip.{KeepsSkip}
+use Rattle.rule_definitions.specs.Answers.{KeepsAnswers}
+use Rattle.rule_definitions.specs.Attempts.{KeepsAttempts}
+use Rattle.rule_definitions.specs.Links.{KeepsLinks}
+use Rattle.rule_definitions.specs.Owed.{KeepsOwed}
+use Rattle.rule_definitions.specs.Reads.{KeepsReads}
+use Rattle.rule_definitions.specs.Restored.{KeepsRestored}
+use Rattle.rule_definitions.specs.Runtime.{KeepsRuntime}
+use Rattle.rule_definitions.specs.Skip.{KeepsSkip}
 use Rattle.check_rules.specs.Judging.{KeepsBelow, KeepsTogether, is_of_journal, place_of, rule_at}
 
 -- ---- a rule of the journal alone

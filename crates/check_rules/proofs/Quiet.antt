@@ -25,7 +25,7 @@ use Rattle.sleep_model.specs.Laws.{steps_of}
 use Rattle.sleep_model.specs.Legal.{is_enabled, is_made}
 use Rattle.sleep_model.specs.Numbers.{time_of}
 use Rattle.sleep_model.specs.Path.{is_actor, maker}
-use Rattle.sleep_model.specs.Rules.Questions.{op_of, seat_of}
+use Rattle.rule_definitions.specs.Questions.{op_of, seat_of}
 use Rattle.sleep_model.specs.Sources.{caller, owed}
 use Rattle.sleep_model.specs.Steps.{seat_due, slept_due, step_due, task_due}
 use Rattle.sleep_model.specs.Tasks.{freezes_at, is_line, is_user}

@@ -14,8 +14,8 @@ use Rattle.sleep_model.specs.Fits.{fits_actor, fits_entry, fits_kind, fits_word,
 use Rattle.sleep_model.specs.Legal.{HistoriesFit, is_short, is_there}
 use Rattle.sleep_model.specs.Parts.{Part, OfJournal, Notes, Moves, OfTime, part_of}
 use Rattle.sleep_model.specs.Path.{is_actor, is_same}
-use Rattle.sleep_model.specs.Rules.Source.{CallEntry}
-use Rattle.sleep_model.specs.Rules.Steps.{IsOfCall, is_inside}
+use Rattle.rule_definitions.specs.Source.{CallEntry}
+use Rattle.rule_definitions.specs.Steps.{IsOfCall, is_inside}
 use Rattle.sleep_model.specs.Sources.{IsNext, caller, history, is_of, most_entries, owed}
 use Rattle.check_past.proofs.Telling.{no_history}
 use Rattle.check_sources.proofs.Telling.{flags}

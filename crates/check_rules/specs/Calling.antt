@@ -4,7 +4,7 @@ use Rattle.sleep_model.specs.declared.entry.Actor.{Actor}
 use Rattle.sleep_model.specs.declared.entry.Entry.{Entry}
 use Rattle.sleep_model.specs.declared.word.WordKind.{WordKind}
 use Rattle.sleep_model.specs.Calls.{is_left}
-use Rattle.sleep_model.specs.Rules.Steps.{is_inside}
+use Rattle.rule_definitions.specs.Steps.{is_inside}
 use Rattle.sleep_model.specs.Sources.{IsNext}
 
 -- the actor is inside a call on one of the first n sources, whose histories these are, other than that (wakeup_source_report_event)

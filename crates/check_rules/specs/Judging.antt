@@ -3,9 +3,9 @@ use Rattle.std.specs.Prelude.{◌≡◌, ◌<◌, ℕ, zero, suc, Bool, true, fa
 use Rattle.sleep_model.specs.declared.entry.Entry.{Entry}
 use Rattle.sleep_model.specs.declared.machine.Machine.{Machine}
 use Rattle.sleep_model.specs.Parts.{Part, OfJournal, part_of}
-use Rattle.sleep_model.specs.Rules.Entry as model
-use Rattle.sleep_model.specs.Rules.Entry.{KeepsEntry, KeepsRule, OnJournal}
-use Rattle.sleep_model.specs.Rules.Verdict.{BreaksFirst, number_of}
+use Rattle.rule_definitions.specs.Entry as model
+use Rattle.rule_definitions.specs.Entry.{KeepsEntry, KeepsRule, OnJournal}
+use Rattle.rule_definitions.specs.Verdict.{BreaksFirst, number_of}
 use Rattle.check_rules.specs.declared.judge.Rule.{Rule}
 use Rattle.check_rules.specs.declared.judge.Rule.TheVariants as ours
 

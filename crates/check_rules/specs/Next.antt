@@ -7,7 +7,7 @@ use Rattle.sleep_model.specs.Due.{due}
 use Rattle.sleep_model.specs.Legal.{IsOutside, IsOwnTurn}
 use Rattle.sleep_model.specs.Numbers.{numbers}
 use Rattle.sleep_model.specs.Parts.{OfJournal, journal, part_of}
-use Rattle.sleep_model.specs.Rules.Numbers.{KeepsNumbers}
+use Rattle.rule_definitions.specs.Numbers.{KeepsNumbers}
 use Rattle.sleep_model.specs.Sources.{history}
 
 -- the entry is the journal's, and carries the numbers and the time of its place (own)

@@ -9,7 +9,7 @@ use Rattle.sleep_model.specs.Calls.{is_left}
 use Rattle.sleep_model.specs.Freezer.{freezing}
 use Rattle.sleep_model.specs.Numbers.{time_of}
 use Rattle.sleep_model.specs.Path.{maker}
-use Rattle.sleep_model.specs.Rules.Questions.{op_of, seat_of}
+use Rattle.rule_definitions.specs.Questions.{op_of, seat_of}
 use Rattle.sleep_model.specs.Sources.{owed}
 
 -- none of the first n sources, whose histories these are, is owed steps of a call (wakeup_source_report_event)

@@ -2,9 +2,9 @@
 
 ghost use Rattle.std.specs.Prelude.{◌≡◌, ◌↔◌, true, IsTrue, IfOk};
 ghost use Rattle.sleep_model.specs.Fits.{fits_kind};
-ghost use Rattle.sleep_model.specs.Rules.Answers.{KeepsAnswers, phase_answer};
-ghost use Rattle.sleep_model.specs.Rules.Links.{KeepsLinks};
-ghost use Rattle.sleep_model.specs.Rules.Runtime.{KeepsRuntime};
+ghost use Rattle.rule_definitions.specs.Answers.{KeepsAnswers, phase_answer};
+ghost use Rattle.rule_definitions.specs.Links.{KeepsLinks};
+ghost use Rattle.rule_definitions.specs.Runtime.{KeepsRuntime};
 ghost use Rattle.check_past.specs.Passing.{journal_of};
 
 use crate::same::is_answer;

@@ -7,8 +7,8 @@ ghost use Rattle.sleep_model.specs.Calls.{calls_of, is_calling, is_left, made};
 ghost use Rattle.sleep_model.specs.Fits.{fits_actor};
 ghost use Rattle.sleep_model.specs.Legal.{IsOwnCall, IsOwnTurn};
 ghost use Rattle.sleep_model.specs.Path.{is_actor};
-ghost use Rattle.sleep_model.specs.Rules.Steps.{IsOfCall, is_inside};
-ghost use Rattle.sleep_model.specs.Rules.Walk.{is_in_callback};
+ghost use Rattle.rule_definitions.specs.Steps.{IsOfCall, is_inside};
+ghost use Rattle.rule_definitions.specs.Walk.{is_in_callback};
 ghost use Rattle.sleep_model.specs.Sources.{history};
 ghost use Rattle.check_past.specs.Passing.{journal_of, past_of};
 

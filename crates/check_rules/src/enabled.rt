@@ -3,8 +3,8 @@
 ghost use Rattle.std.specs.Prelude.{◌↔◌, false, IsTrue, IfOk};
 ghost use Rattle.sleep_model.specs.declared.entry.Actor.TheVariants.{Script};
 ghost use Rattle.sleep_model.specs.Attempt.{sleep_of};
-ghost use Rattle.sleep_model.specs.Rules.Enabled.{AwakeActor, KeepsEnabled, WakesBy};
-ghost use Rattle.sleep_model.specs.Rules.Questions.{is_maker};
+ghost use Rattle.rule_definitions.specs.Enabled.{AwakeActor, KeepsEnabled, WakesBy};
+ghost use Rattle.rule_definitions.specs.Questions.{is_maker};
 ghost use Rattle.check_past.specs.Passing.{journal_of};
 
 use crate::same::makes;

@@ -3,11 +3,11 @@
 ghost use Rattle.std.specs.Prelude.{◌≡◌, ◌↔◌, true, IsTrue, IfOk};
 ghost use Rattle.sleep_model.specs.Fits.{fits_entry};
 ghost use Rattle.sleep_model.specs.Parts.{part_of};
-ghost use Rattle.sleep_model.specs.Rules.Enabled.{EnabledEntry};
-ghost use Rattle.sleep_model.specs.Rules.Freezer.{FreezerEntry};
-ghost use Rattle.sleep_model.specs.Rules.Path.{PathEntry};
-ghost use Rattle.sleep_model.specs.Rules.Steps.{StepsEntry};
-ghost use Rattle.sleep_model.specs.Rules.Walk.{ReportsMade, WalkEntry};
+ghost use Rattle.rule_definitions.specs.Enabled.{EnabledEntry};
+ghost use Rattle.rule_definitions.specs.Freezer.{FreezerEntry};
+ghost use Rattle.rule_definitions.specs.Path.{PathEntry};
+ghost use Rattle.rule_definitions.specs.Steps.{StepsEntry};
+ghost use Rattle.rule_definitions.specs.Walk.{ReportsMade, WalkEntry};
 ghost use Rattle.check_past.specs.Passing.{past_of};
 
 use crate::calls::{is_calling, is_in_callback, is_of_call, is_own_call, is_own_turn};

@@ -3,8 +3,8 @@
 ghost use Rattle.std.specs.Prelude.{◌↔◌, false, IsTrue, IfOk};
 ghost use Rattle.sleep_model.specs.declared.entry.Actor.TheVariants.{Script};
 ghost use Rattle.sleep_model.specs.Attempt.{freeze_since};
-ghost use Rattle.sleep_model.specs.Rules.Freezer.{FreezeEnds, FreezesActor, FreezesBy, FreezesNot, KeepsFreezer, ThawedActor};
-ghost use Rattle.sleep_model.specs.Rules.Questions.{is_maker};
+ghost use Rattle.rule_definitions.specs.Freezer.{FreezeEnds, FreezesActor, FreezesBy, FreezesNot, KeepsFreezer, ThawedActor};
+ghost use Rattle.rule_definitions.specs.Questions.{is_maker};
 ghost use Rattle.check_past.specs.Passing.{journal_of};
 
 use crate::same::makes;

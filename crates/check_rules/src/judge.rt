@@ -3,8 +3,8 @@
 ghost use Rattle.std.specs.Prelude.{◌≡◌, ◌↔◌, ◌||◌, not, true, IsTrue, IfOk};
 ghost use Rattle.sleep_model.specs.Fits.{fits_entry};
 ghost use Rattle.sleep_model.specs.Parts.{part_of};
-ghost use Rattle.sleep_model.specs.Rules.Entry.{KeepsEntry, KeepsRule};
-ghost use Rattle.sleep_model.specs.Rules.Verdict.{number_of};
+ghost use Rattle.rule_definitions.specs.Entry.{KeepsEntry, KeepsRule};
+ghost use Rattle.rule_definitions.specs.Verdict.{number_of};
 ghost use Rattle.check_past.specs.Passing.{past_of};
 ghost use Rattle.check_rules.specs.Judging.{IsBroken, KeepsTogether, is_of_journal, meant, rule_at};
 

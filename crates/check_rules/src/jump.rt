@@ -9,7 +9,7 @@ ghost use Rattle.sleep_model.specs.Freezer.{freezing};
 ghost use Rattle.sleep_model.specs.Legal.{JumpStep, alarm_at, deadline_at, is_enabled, is_finished, is_idle, is_made, next_expiry, next_sleep, next_time, none_enabled, none_expires, pending_nap, pending_sleep, sooner};
 ghost use Rattle.sleep_model.specs.Numbers.{numbers, time_of};
 ghost use Rattle.sleep_model.specs.Path.{maker};
-ghost use Rattle.sleep_model.specs.Rules.Questions.{seat_of};
+ghost use Rattle.rule_definitions.specs.Questions.{seat_of};
 ghost use Rattle.sleep_model.specs.Sources.{history, owed};
 ghost use Rattle.check_past.specs.Passing.{journal_of, past_of};
 ghost use Rattle.check_rules.specs.Quiet.{is_quiet, none_owes, rests, stays};

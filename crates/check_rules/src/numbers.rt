@@ -2,8 +2,8 @@
 
 ghost use Rattle.std.specs.Prelude.{◌≡◌, ◌+◌, ◌↔◌, IsTrue};
 ghost use Rattle.sleep_model.specs.Parts.{part_of};
-ghost use Rattle.sleep_model.specs.Rules.Attempts.{KeepsAttempts};
-ghost use Rattle.sleep_model.specs.Rules.Numbers.{KeepsNumbers};
+ghost use Rattle.rule_definitions.specs.Attempts.{KeepsAttempts};
+ghost use Rattle.rule_definitions.specs.Numbers.{KeepsNumbers};
 ghost use Rattle.check_past.specs.Passing.{journal_of, past_of};
 
 use crate::same::is_same_number;

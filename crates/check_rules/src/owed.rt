@@ -2,7 +2,7 @@
 
 ghost use Rattle.std.specs.Prelude.{◌≡◌, ◌↔◌, IsTrue};
 ghost use Rattle.sleep_model.specs.Laws.{is_back, is_back_in_all, is_owed_by, is_resuming, may_come_up};
-ghost use Rattle.sleep_model.specs.Rules.Owed.{KeepsOwed};
+ghost use Rattle.rule_definitions.specs.Owed.{KeepsOwed};
 ghost use Rattle.check_past.specs.Passing.{journal_of};
 
 use check_past::{Passed, is_down_in};

@@ -2,8 +2,8 @@
 
 ghost use Rattle.std.specs.Prelude.{◌≡◌, ◌↔◌, not, IsTrue};
 ghost use Rattle.sleep_model.specs.declared.place.Stage.TheVariants.{Enters, Freezes, Notifies, PlatformDown, StopsCpus, StopsSyscore};
-ghost use Rattle.sleep_model.specs.Rules.Questions.{is_maker};
-ghost use Rattle.sleep_model.specs.Rules.Path.{IsOfDown, IsOfRow, IsOfRowIf, IsOfUp, KeepsPath, ReportsOf};
+ghost use Rattle.rule_definitions.specs.Questions.{is_maker};
+ghost use Rattle.rule_definitions.specs.Path.{IsOfDown, IsOfRow, IsOfRowIf, IsOfUp, KeepsPath, ReportsOf};
 ghost use Rattle.check_past.specs.Passing.{journal_of};
 ghost use Rattle.check_rules.specs.Rows.{is_descent};
 

@@ -1,7 +1,7 @@
 //! Reads and saves of the count, and writes to the state and to autosleep (`kernel/power/main.c`).
 
 ghost use Rattle.std.specs.Prelude.{◌↔◌, IsTrue, IfOk, option_copied};
-ghost use Rattle.sleep_model.specs.Rules.Reads.{IsBadText, IsFree, IsRead, IsSave, IsWrite, KeepsReads, ReadsTask, ReadsWork};
+ghost use Rattle.rule_definitions.specs.Reads.{IsBadText, IsFree, IsRead, IsSave, IsWrite, KeepsReads, ReadsTask, ReadsWork};
 ghost use Rattle.check_past.specs.Passing.{journal_of};
 
 use crate::same::{is_kind, makes};

@@ -8,7 +8,7 @@ ghost use Rattle.sleep_model.specs.declared.place.Stand.TheVariants as stand;
 ghost use Rattle.sleep_model.specs.Freezer.{freezings, unasked};
 ghost use Rattle.sleep_model.specs.Laws.{NoneStands, NothingOwed};
 ghost use Rattle.sleep_model.specs.Notifiers.{cpus_off, stopped, told};
-ghost use Rattle.sleep_model.specs.Rules.Restored.{KeepsRestored};
+ghost use Rattle.rule_definitions.specs.Restored.{KeepsRestored};
 ghost use Rattle.check_past.specs.Passing.{journal_of};
 ghost use Rattle.check_rules.specs.Owing.{NoDeviceOwed, NoTaskOwed};
 

@@ -2,7 +2,7 @@
 
 ghost use Rattle.std.specs.Prelude.{◌≡◌, ◌↔◌, IsTrue};
 ghost use Rattle.sleep_model.specs.Devices.{is_async_device};
-ghost use Rattle.sleep_model.specs.Rules.Skip.{IsNextDown, IsScheduledDown, IsTurn, KeepsSkip};
+ghost use Rattle.rule_definitions.specs.Skip.{IsNextDown, IsScheduledDown, IsTurn, KeepsSkip};
 ghost use Rattle.check_past.specs.Passing.{journal_of};
 
 use crate::same::{is_kind, is_number, is_phase};

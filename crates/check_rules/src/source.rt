@@ -4,7 +4,7 @@ ghost use Rattle.std.specs.Prelude.{◌≡◌, ◌↔◌, ◌+◌, ◌∷◌, []
 ghost use Rattle.sleep_model.specs.Fits.{fits_entry};
 ghost use Rattle.sleep_model.specs.Numbers.{time_of};
 ghost use Rattle.sleep_model.specs.Parts.{part_of};
-ghost use Rattle.sleep_model.specs.Rules.Source.{CallEntry, SourceEntry};
+ghost use Rattle.rule_definitions.specs.Source.{CallEntry, SourceEntry};
 ghost use Rattle.sleep_model.specs.Sources.{IsNext, expiry, has_expired, history, most_entries, owed};
 ghost use Rattle.check_past.specs.Passing.{past_of};
 ghost use Rattle.check_rules.specs.Places.{are_short, with_own};

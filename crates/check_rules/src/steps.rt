@@ -1,8 +1,8 @@
 //! Each actor's own steps, once and in order.
 
 ghost use Rattle.std.specs.Prelude.{◌≡◌, ◌↔◌, true, IsTrue, IfOk, option_copied, slice_get};
-ghost use Rattle.sleep_model.specs.Rules.Steps.{IsDeviceStep, IsLinkOf, IsLinkStateOf, IsMakerStep, IsOfAutosleep, IsOfOp, IsPostOf, IsRequestOf, IsScriptStep, IsStep, IsWorkStep, KeepsSteps, is_of_write};
-ghost use Rattle.sleep_model.specs.Rules.Questions.{op_of, seat_of};
+ghost use Rattle.rule_definitions.specs.Steps.{IsDeviceStep, IsLinkOf, IsLinkStateOf, IsMakerStep, IsOfAutosleep, IsOfOp, IsPostOf, IsRequestOf, IsScriptStep, IsStep, IsWorkStep, KeepsSteps, is_of_write};
+ghost use Rattle.rule_definitions.specs.Questions.{op_of, seat_of};
 ghost use Rattle.sleep_model.specs.Laws.{is_exit, is_of_read, is_of_save, is_pass};
 ghost use Rattle.check_past.specs.Passing.{journal_of};
 

@@ -2,7 +2,7 @@
 
 ghost use Rattle.std.specs.Prelude.{◌≡◌, ◌↔◌, true, IsTrue};
 ghost use Rattle.sleep_model.specs.Devices.{is_async_device};
-ghost use Rattle.sleep_model.specs.Rules.Walk.{BeginsAt, BeginsAsync, BeginsBy, CompletesAt, DoneAt, EndsAt, EndsAsync, EndsBy, IsDownDone, IsInside, IsNextUp, IsUpDone, KeepsWalk, PreparesAt, SchedulesAt};
+ghost use Rattle.rule_definitions.specs.Walk.{BeginsAt, BeginsAsync, BeginsBy, CompletesAt, DoneAt, EndsAt, EndsAsync, EndsBy, IsDownDone, IsInside, IsNextUp, IsUpDone, KeepsWalk, PreparesAt, SchedulesAt};
 ghost use Rattle.phase_table.specs.Phases.{is_down};
 ghost use Rattle.check_past.specs.Passing.{journal_of};
 

@@ -13,8 +13,8 @@ use Rattle.sleep_model.specs.Fits.{fits_actor, fits_entry, fits_kind, fits_word,
 use Rattle.sleep_model.specs.Links.{AreLinks, add_answer, is_dependent, is_linked}
 use Rattle.sleep_model.specs.Order.{links_at, parents_of}
 use Rattle.sleep_model.specs.Parts.{journal, part_of}
-use Rattle.sleep_model.specs.Rules.Entry.{KeepsEach, KeepsEntry, OnJournal}
-use Rattle.sleep_model.specs.Rules.Links.{KeepsLinks}
+use Rattle.rule_definitions.specs.Entry.{KeepsEach, KeepsEntry, OnJournal}
+use Rattle.rule_definitions.specs.Links.{KeepsLinks}
 use Rattle.sleep_laws.proofs.Linking.{links_stand}
 use Rattle.sleep_laws.proofs.Telling.{some≢none}
 use Rattle.log_rules.proofs.Legal.{lists}

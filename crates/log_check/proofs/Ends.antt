@@ -5,8 +5,8 @@ use Rattle.sleep_model.specs.declared.log.Log.{Log}
 use Rattle.sleep_model.specs.declared.log.Stats.{Stats}
 use Rattle.sleep_model.specs.declared.machine.Machine.{Machine}
 use Rattle.sleep_model.specs.Legal.{IsFinishedLog, stats_of}
-use Rattle.sleep_model.specs.Rules.Entry.{KeepsEach}
-use Rattle.sleep_model.specs.Rules.Verdict.{AtEnd, AtStats, IsGood}
+use Rattle.rule_definitions.specs.Entry.{KeepsEach}
+use Rattle.rule_definitions.specs.Verdict.{AtEnd, AtStats, IsGood}
 use Rattle.log_rules.proofs.Legal.{lists}
 use Rattle.log_check.specs.declared.ending.Verdict.{Verdict}
 use Rattle.log_check.specs.declared.ending.Verdict.TheVariants.{Bad}

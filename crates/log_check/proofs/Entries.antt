@@ -7,8 +7,8 @@ use Rattle.sleep_model.specs.declared.log.Log.{Log}
 use Rattle.sleep_model.specs.declared.machine.Machine.{Machine}
 use Rattle.sleep_model.specs.Accepted.{IsAccepted}
 use Rattle.sleep_model.specs.Fits.{IsWritable, fits_entry}
-use Rattle.sleep_model.specs.Rules.Entry.{KeepsEach, KeepsEntry}
-use Rattle.sleep_model.specs.Rules.Verdict.{AtEntry}
+use Rattle.rule_definitions.specs.Entry.{KeepsEach, KeepsEntry}
+use Rattle.rule_definitions.specs.Verdict.{AtEntry}
 use Rattle.check_past.specs.Parts.{MayAdd, state_of}
 use Rattle.check_past.specs.Passing.{Passage, journal_of, past_of}
 use Rattle.check_rules.specs.Judging.{IsBroken}

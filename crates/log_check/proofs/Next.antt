@@ -8,7 +8,7 @@ use Rattle.sleep_model.specs.declared.word.EventNow.{EventNow}
 use Rattle.sleep_model.specs.Due.{due}
 use Rattle.sleep_model.specs.Legal.{HistoriesFit, IsLegal, IsOnTime, JointStep, JournalPart, JournalStep, OwnStep, is_short, is_there}
 use Rattle.sleep_model.specs.Parts.{Part, OfJournal, is_kept, journal, part_of}
-use Rattle.sleep_model.specs.Rules.Entry.{KeepsEach, KeepsEntry}
+use Rattle.rule_definitions.specs.Entry.{KeepsEach, KeepsEntry}
 use Rattle.sleep_model.specs.Sources.{history, is_of, most_entries}
 use Rattle.log_rules.proofs.Inside.{time_journal}
 use Rattle.log_rules.proofs.Legal.{entries, lists}

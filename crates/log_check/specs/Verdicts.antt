@@ -3,7 +3,7 @@ use Rattle.std.specs.Prelude.{◌≡◌, ◌<◌, ℕ, List, length, take, slice
 use Rattle.sleep_model.specs.declared.log.Log.{Log}
 use Rattle.sleep_model.specs.declared.log.Stats.{Stats}
 use Rattle.sleep_model.specs.declared.machine.Machine.{Machine}
-use Rattle.sleep_model.specs.Rules.Verdict.{IsFirstBad, IsGood}
+use Rattle.rule_definitions.specs.Verdict.{IsFirstBad, IsGood}
 use Rattle.log_check.specs.declared.ending.Verdict.{Verdict}
 use Rattle.log_check.specs.declared.ending.Verdict.TheVariants.{Good, Bad}
 

@@ -4,7 +4,7 @@ ghost use Rattle.std.specs.Prelude.{◌≡◌, ◌≤◌, ◌↔◌, ◌+◌, Is
 ghost use Rattle.log_check.specs.declared.ending.Verdict.TheVariants.{Bad};
 ghost use Rattle.sleep_model.specs.Legal.{IsFinishedLog, is_finished_after, stats_of};
 ghost use Rattle.sleep_model.specs.Numbers.{time_of};
-ghost use Rattle.sleep_model.specs.Rules.Entry.{KeepsEach};
+ghost use Rattle.rule_definitions.specs.Entry.{KeepsEach};
 ghost use Rattle.sleep_model.specs.Sources.{history, stats_at};
 ghost use Rattle.check_past.specs.Passing.{past_of};
 ghost use Rattle.log_check.specs.Verdicts.{Differ, IsVerdict};

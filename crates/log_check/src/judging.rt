@@ -1,7 +1,7 @@
 ghost use Rattle.std.specs.Prelude.{◌≡◌, true, IfOk};
 ghost use Rattle.sleep_model.specs.Accepted.{IsAccepted};
 ghost use Rattle.sleep_model.specs.Fits.{IsWritable, fits_entry};
-ghost use Rattle.sleep_model.specs.Rules.Entry.{KeepsEach};
+ghost use Rattle.rule_definitions.specs.Entry.{KeepsEach};
 ghost use Rattle.check_past.specs.Passing.{past_of};
 ghost use Rattle.check_rules.specs.Judging.{IsBroken};
 ghost use Rattle.log_check.specs.Verdicts.{IsVerdict};

@@ -3,7 +3,7 @@ use Rattle.std.proofs.Common.{◌≡◌, ◌≤◌, ◌∙◌, ℕ, true, false,
 use Rattle.sleep_model.specs.declared.log.Log.{Log}
 use Rattle.sleep_model.specs.declared.machine.Machine.{Machine}
 use Rattle.sleep_model.specs.Fits.{IsWritable}
-use Rattle.sleep_model.specs.Rules.Verdict.{IsGood}
+use Rattle.rule_definitions.specs.Verdict.{IsGood}
 use Rattle.sleep_model.specs.Text.{text}
 use Rattle.machine_file.specs.Tree.{tree}
 use Rattle.machine_file.specs.Whole.{machine_in}

@@ -23,22 +23,22 @@ use Rattle.sleep_model.specs.Path.{maker, is_actor}
 use Rattle.sleep_laws.proofs.DevicesStand.{all_owed}
 use Rattle.sleep_laws.proofs.Made.{Down, InSuspend, InLate, InNoirq, Up, InResume, InEarly, InResumeNoirq, ScheduledAt, DeviceMade, EntryMade, ByMaker, ByTask, ByWork, ByDevice, ByTime}
 use Rattle.sleep_laws.proofs.MakingOwn.{made}
-use Rattle.sleep_model.specs.Rules.All.{KeepsAll, KeepsMost}
-use Rattle.sleep_model.specs.Rules.Answers.{KeepsAnswers}
-use Rattle.sleep_model.specs.Rules.Attempts.{KeepsAttempts}
-use Rattle.sleep_model.specs.Rules.Links.{KeepsLinks}
-use Rattle.sleep_model.specs.Rules.Owed.{KeepsOwed}
-use Rattle.sleep_model.specs.Rules.Restored.{KeepsRestored}
-use Rattle.sleep_model.specs.Rules.Runtime.{KeepsRuntime}
-use Rattle.sleep_model.specs.Rules.Enabled.{AwakeActor}
-use Rattle.sleep_model.specs.Rules.Freezer.{FreezesActor, FreezesNot}
-use Rattle.sleep_model.specs.Rules.Law.{IsDue, OneForDevices}
-use Rattle.sleep_model.specs.Rules.Path.{PathOf}
-use Rattle.sleep_model.specs.Rules.Questions.{is_maker, row_now, turn_of}
-use Rattle.sleep_model.specs.Rules.Reads.{ReadsActor}
-use Rattle.sleep_model.specs.Rules.Skip.{KeepsSkip, IsTurn, IsScheduledDown}
-use Rattle.sleep_model.specs.Rules.Steps.{IsDeviceStep, StepsOf}
-use Rattle.sleep_model.specs.Rules.Walk.{KeepsWalk, BeginsAsync, BeginsBy, EndsBy, EndsAsync}
+use Rattle.rule_definitions.specs.All.{KeepsAll, KeepsMost}
+use Rattle.rule_definitions.specs.Answers.{KeepsAnswers}
+use Rattle.rule_definitions.specs.Attempts.{KeepsAttempts}
+use Rattle.rule_definitions.specs.Links.{KeepsLinks}
+use Rattle.rule_definitions.specs.Owed.{KeepsOwed}
+use Rattle.rule_definitions.specs.Restored.{KeepsRestored}
+use Rattle.rule_definitions.specs.Runtime.{KeepsRuntime}
+use Rattle.rule_definitions.specs.Enabled.{AwakeActor}
+use Rattle.rule_definitions.specs.Freezer.{FreezesActor, FreezesNot}
+use Rattle.rule_definitions.specs.Law.{IsDue, OneForDevices}
+use Rattle.rule_definitions.specs.Path.{PathOf}
+use Rattle.rule_definitions.specs.Questions.{is_maker, row_now, turn_of}
+use Rattle.rule_definitions.specs.Reads.{ReadsActor}
+use Rattle.rule_definitions.specs.Skip.{KeepsSkip, IsTurn, IsScheduledDown}
+use Rattle.rule_definitions.specs.Steps.{IsDeviceStep, StepsOf}
+use Rattle.rule_definitions.specs.Walk.{KeepsWalk, BeginsAsync, BeginsBy, EndsBy, EndsAsync}
 use Rattle.log_rules.proofs.Facts.{never, NoFroze, NoWake, freeze_else, wake_else}
 
 -- ---- what keeps all rules is due

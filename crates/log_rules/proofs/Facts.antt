@@ -12,12 +12,12 @@ use Rattle.sleep_model.specs.declared.word.EventNow.{EventNow}
 use Rattle.sleep_model.specs.Attempt.{freeze_since, sleep_of}
 use Rattle.sleep_model.specs.Laws.{Owed, Restored}
 use Rattle.sleep_model.specs.Parts.{Part, OfJournal, OfTime}
-use Rattle.sleep_model.specs.Rules.Answers.{KeepsAnswers}
-use Rattle.sleep_model.specs.Rules.Enabled.{WakesBy}
-use Rattle.sleep_model.specs.Rules.Freezer.{FreezeEnds}
-use Rattle.sleep_model.specs.Rules.Owed.{KeepsOwed}
-use Rattle.sleep_model.specs.Rules.Skip.{KeepsSkip}
-use Rattle.sleep_model.specs.Rules.Walk.{KeepsWalk}
+use Rattle.rule_definitions.specs.Answers.{KeepsAnswers}
+use Rattle.rule_definitions.specs.Enabled.{WakesBy}
+use Rattle.rule_definitions.specs.Freezer.{FreezeEnds}
+use Rattle.rule_definitions.specs.Owed.{KeepsOwed}
+use Rattle.rule_definitions.specs.Skip.{KeepsSkip}
+use Rattle.rule_definitions.specs.Walk.{KeepsWalk}
 use Rattle.sleep_laws.proofs.Making.{OnlyMade}
 
 pub never : {A : Type 0} → false ≡ true → A

@@ -22,7 +22,7 @@ use Rattle.sleep_model.specs.Sources.{history, is_of, owed, caller, caller_after
 use Rattle.sleep_model.specs.Table.{stage_of}
 use Rattle.sleep_laws.proofs.Holding.{held, StageMaker}
 use Rattle.sleep_laws.proofs.Telling.{none≢some}
-use Rattle.sleep_model.specs.Rules.Steps.{is_inside}
+use Rattle.rule_definitions.specs.Steps.{is_inside}
 use Rattle.log_rules.proofs.Facts.{never, gone, journal_no_time}
 
 -- ---- small facts

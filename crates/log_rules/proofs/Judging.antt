@@ -7,8 +7,8 @@ use Rattle.sleep_model.specs.declared.log.Stats.{Stats}
 use Rattle.sleep_model.specs.declared.machine.Machine.{Machine}
 use Rattle.sleep_model.specs.Legal.{stats_of}
 use Rattle.sleep_model.specs.Parts.{part_of}
-use Rattle.sleep_model.specs.Rules.Entry.{Rule, Links, Numbers, Attempts, Reads, Walk, Skip, Runtime, Owed, Freezer, Path, Answers, Restored, Steps, Enabled, Source, KeepsRule, KeepsEntry, KeepsEach}
-use Rattle.sleep_model.specs.Rules.Verdict.{number_of, BreaksFirst, IsFirstBad, AtEntry, AtStats, AtEnd, IsGood, GoodHasNone, FirstBadIsOne}
+use Rattle.rule_definitions.specs.Entry.{Rule, Links, Numbers, Attempts, Reads, Walk, Skip, Runtime, Owed, Freezer, Path, Answers, Restored, Steps, Enabled, Source, KeepsRule, KeepsEntry, KeepsEach}
+use Rattle.rule_definitions.specs.Verdict.{number_of, BreaksFirst, IsFirstBad, AtEntry, AtStats, AtEnd, IsGood, GoodHasNone, FirstBadIsOne}
 use Rattle.log_rules.proofs.Legal.{lists}
 
 -- what keeps each rule keeps the rule of that name

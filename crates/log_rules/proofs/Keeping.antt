@@ -19,15 +19,15 @@ use Rattle.sleep_model.specs.Attempt.{enter_due, freeze_due, freeze_since, sleep
 use Rattle.sleep_model.specs.Devices.{callback, device_error, down_due, is_async_device, next_down, next_prepared, phase_error, phase_failed, prepare_due, taken, unless_failed, up_due, waits_down, walk_down}
 use Rattle.sleep_laws.proofs.Made.{Down, InSuspend, InLate, InNoirq, Up, InResume, InEarly, InResumeNoirq}
 use Rattle.sleep_laws.proofs.Making.{Proper}
-use Rattle.sleep_model.specs.Rules.Answers.{KeepsAnswers, phase_answer}
-use Rattle.sleep_model.specs.Rules.Attempts.{KeepsAttempts}
-use Rattle.sleep_model.specs.Rules.Enabled.{WakesBy}
-use Rattle.sleep_model.specs.Rules.Freezer.{FreezeEnds}
-use Rattle.sleep_model.specs.Rules.Path.{IsOfRow, IsOfDown, IsOfUp}
-use Rattle.sleep_model.specs.Rules.Questions.{row_now, turn_of}
-use Rattle.sleep_model.specs.Rules.Skip.{KeepsSkip, IsTurn, IsNextDown}
-use Rattle.sleep_model.specs.Rules.Steps.{IsMakerStep}
-use Rattle.sleep_model.specs.Rules.Walk.{KeepsWalk, PreparesAt, CompletesAt, SchedulesAt, BeginsAt, BeginsBy, IsInside, EndsAt, EndsBy, is_through, DoneAt}
+use Rattle.rule_definitions.specs.Answers.{KeepsAnswers, phase_answer}
+use Rattle.rule_definitions.specs.Attempts.{KeepsAttempts}
+use Rattle.rule_definitions.specs.Enabled.{WakesBy}
+use Rattle.rule_definitions.specs.Freezer.{FreezeEnds}
+use Rattle.rule_definitions.specs.Path.{IsOfRow, IsOfDown, IsOfUp}
+use Rattle.rule_definitions.specs.Questions.{row_now, turn_of}
+use Rattle.rule_definitions.specs.Skip.{KeepsSkip, IsTurn, IsNextDown}
+use Rattle.rule_definitions.specs.Steps.{IsMakerStep}
+use Rattle.rule_definitions.specs.Walk.{KeepsWalk, PreparesAt, CompletesAt, SchedulesAt, BeginsAt, BeginsBy, IsInside, EndsAt, EndsBy, is_through, DoneAt}
 use Rattle.log_rules.proofs.Facts.{never}
 
 -- ---- what phases answer

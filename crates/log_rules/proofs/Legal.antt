@@ -17,12 +17,12 @@ use Rattle.sleep_model.specs.Path.{maker}
 use Rattle.sleep_model.specs.Sources.{history, is_of, most_entries, owed, caller, IsNext, SourceStep}
 use Rattle.sleep_model.specs.Table.{stage_of}
 use Rattle.sleep_laws.proofs.Holding.{held}
-use Rattle.sleep_model.specs.Rules.All.{KeepsAll, KeepsMost}
-use Rattle.sleep_model.specs.Rules.Entry.{KeepsPart, KeepsEach, OneForEntries, OneForLists}
-use Rattle.sleep_model.specs.Rules.Law.{IsDue}
-use Rattle.sleep_model.specs.Rules.Path.{PathOf}
-use Rattle.sleep_model.specs.Rules.Questions.{is_maker}
-use Rattle.sleep_model.specs.Rules.Walk.{ReportsMade}
+use Rattle.rule_definitions.specs.All.{KeepsAll, KeepsMost}
+use Rattle.rule_definitions.specs.Entry.{KeepsPart, KeepsEach, OneForEntries, OneForLists}
+use Rattle.rule_definitions.specs.Law.{IsDue}
+use Rattle.rule_definitions.specs.Path.{PathOf}
+use Rattle.rule_definitions.specs.Questions.{is_maker}
+use Rattle.rule_definitions.specs.Walk.{ReportsMade}
 use Rattle.log_rules.proofs.Inside.{JournalIf, grown, earlier, and_left, and_right, newest, inside_behind, behind_one, time_journal, time_makes_none, same_actor}
 use Rattle.log_rules.proofs.Makers.{all}
 use Rattle.log_rules.proofs.Quiet.{note_reports, note_thawed, step_thawed_actor}

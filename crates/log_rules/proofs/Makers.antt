@@ -25,15 +25,15 @@ use Rattle.sleep_laws.proofs.DevicesStand.{all_owed, all_restored}
 use Rattle.sleep_laws.proofs.Making.{ProperIf}
 use Rattle.sleep_laws.proofs.Passing.{standing, standing_made}
 use Rattle.sleep_laws.proofs.Standing.{CallIf, Standing}
-use Rattle.sleep_model.specs.Rules.All.{KeepsAll, KeepsMost}
-use Rattle.sleep_model.specs.Rules.Answers.{KeepsAnswers}
-use Rattle.sleep_model.specs.Rules.Enabled.{AwakeActor}
-use Rattle.sleep_model.specs.Rules.Freezer.{FreezesActor, FreezesNot}
-use Rattle.sleep_model.specs.Rules.Law.{IsDue, AreOne, OneForMakers, OneForAll, OwedFollows}
-use Rattle.sleep_model.specs.Rules.Path.{IsOfRow, IsOfRowIf, PathOf}
-use Rattle.sleep_model.specs.Rules.Questions.{is_maker, row_at, row_now}
-use Rattle.sleep_model.specs.Rules.Reads.{ReadsActor}
-use Rattle.sleep_model.specs.Rules.Steps.{IsMakerStep, StepsOf}
+use Rattle.rule_definitions.specs.All.{KeepsAll, KeepsMost}
+use Rattle.rule_definitions.specs.Answers.{KeepsAnswers}
+use Rattle.rule_definitions.specs.Enabled.{AwakeActor}
+use Rattle.rule_definitions.specs.Freezer.{FreezesActor, FreezesNot}
+use Rattle.rule_definitions.specs.Law.{IsDue, AreOne, OneForMakers, OneForAll, OwedFollows}
+use Rattle.rule_definitions.specs.Path.{IsOfRow, IsOfRowIf, PathOf}
+use Rattle.rule_definitions.specs.Questions.{is_maker, row_at, row_now}
+use Rattle.rule_definitions.specs.Reads.{ReadsActor}
+use Rattle.rule_definitions.specs.Steps.{IsMakerStep, StepsOf}
 use Rattle.log_rules.proofs.Devices.{the_devices}
 use Rattle.log_rules.proofs.Facts.{never, only_is, gone, owed_kept}
 use Rattle.log_rules.proofs.Keeping.{row_back}

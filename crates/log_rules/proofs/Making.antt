@@ -36,17 +36,17 @@ use Rattle.sleep_laws.proofs.Boards.{three, first_found}
 use Rattle.sleep_laws.proofs.Made.{Down, Up}
 use Rattle.sleep_laws.proofs.Making.{OnlyMade, Proper}
 use Rattle.sleep_laws.proofs.Standing.{InsideIf, CallAt}
-use Rattle.sleep_model.specs.Rules.Answers.{phase_answer}
-use Rattle.sleep_model.specs.Rules.Attempts.{KeepsAttempts}
-use Rattle.sleep_model.specs.Rules.Enabled.{WakesBy}
-use Rattle.sleep_model.specs.Rules.Freezer.{FreezeEnds}
-use Rattle.sleep_model.specs.Rules.Links.{KeepsLinks}
-use Rattle.sleep_model.specs.Rules.Path.{IsOfRow}
-use Rattle.sleep_model.specs.Rules.Questions.{row_now, turn_of}
-use Rattle.sleep_model.specs.Rules.Runtime.{KeepsRuntime}
-use Rattle.sleep_model.specs.Rules.Skip.{KeepsSkip, IsTurn, IsNextDown}
-use Rattle.sleep_model.specs.Rules.Steps.{IsMakerStep}
-use Rattle.sleep_model.specs.Rules.Walk.{KeepsWalk, PreparesAt, CompletesAt, SchedulesAt, BeginsAt, BeginsBy, IsNextUp, EndsAt, EndsBy, is_through, DoneAt}
+use Rattle.rule_definitions.specs.Answers.{phase_answer}
+use Rattle.rule_definitions.specs.Attempts.{KeepsAttempts}
+use Rattle.rule_definitions.specs.Enabled.{WakesBy}
+use Rattle.rule_definitions.specs.Freezer.{FreezeEnds}
+use Rattle.rule_definitions.specs.Links.{KeepsLinks}
+use Rattle.rule_definitions.specs.Path.{IsOfRow}
+use Rattle.rule_definitions.specs.Questions.{row_now, turn_of}
+use Rattle.rule_definitions.specs.Runtime.{KeepsRuntime}
+use Rattle.rule_definitions.specs.Skip.{KeepsSkip, IsTurn, IsNextDown}
+use Rattle.rule_definitions.specs.Steps.{IsMakerStep}
+use Rattle.rule_definitions.specs.Walk.{KeepsWalk, PreparesAt, CompletesAt, SchedulesAt, BeginsAt, BeginsBy, IsNextUp, EndsAt, EndsBy, is_through, DoneAt}
 use Rattle.log_rules.proofs.Facts.{never, only_if, NoFroze, NoWake, freeze_else, wake_else}
 use Rattle.log_rules.proofs.Keeping.{down_answer, up_answer}
 use Rattle.log_rules.proofs.Devices.{up_is}

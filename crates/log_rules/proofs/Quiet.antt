@@ -35,10 +35,10 @@ use Rattle.sleep_laws.proofs.Holding.{held, StageMaker}
 use Rattle.sleep_laws.proofs.Made.{Made, StepMade, TaskMade, WorkMade, DeviceMade, EntryMade, ByMaker, ByTask, ByWork, ByDevice, ByTime}
 use Rattle.sleep_laws.proofs.MakingOwn.{entry_made}
 use Rattle.sleep_laws.proofs.Telling.{none≢some, some≢none}
-use Rattle.sleep_model.specs.Rules.Attempts.{KeepsAttempts}
-use Rattle.sleep_model.specs.Rules.Freezer.{ThawedActor}
-use Rattle.sleep_model.specs.Rules.Path.{ReportsOf}
-use Rattle.sleep_model.specs.Rules.Questions.{is_maker}
+use Rattle.rule_definitions.specs.Attempts.{KeepsAttempts}
+use Rattle.rule_definitions.specs.Freezer.{ThawedActor}
+use Rattle.rule_definitions.specs.Path.{ReportsOf}
+use Rattle.rule_definitions.specs.Questions.{is_maker}
 use Rattle.log_rules.proofs.Facts.{never, journal_no_time}
 use Rattle.log_rules.proofs.Makers.{all}
 use Rattle.log_rules.proofs.Inside.{Grown, earlier, actor_same, same_actor, time_makes_none}

@@ -25,7 +25,7 @@ use Rattle.sleep_model.specs.Notifiers.{next_called, next_posted, next_cpu_off, 
 use Rattle.sleep_model.specs.Table.{stage_of, behind, by_case}
 use Rattle.sleep_laws.proofs.Made.{Comes, AtOnce, PastNotifiers, PastCpus, PastParts, PastPartsUp, PastCpusUp, PastPosts}
 use Rattle.sleep_laws.proofs.Making.{Proper, ProperIf, stage_proper}
-use Rattle.sleep_model.specs.Rules.Questions.{has_more, row_at, row_now}
+use Rattle.rule_definitions.specs.Questions.{has_more, row_at, row_now}
 use Rattle.log_rules.proofs.Facts.{never, is_none}
 
 -- something is due, or waited for

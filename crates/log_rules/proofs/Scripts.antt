@@ -29,17 +29,17 @@ use Rattle.sleep_model.specs.Word.{visible}
 use Rattle.sleep_model.specs.Tasks.{is_mem, is_off, is_line, is_user, freezes_at}
 use Rattle.sleep_laws.proofs.Holding.{held, HolderOf}
 use Rattle.sleep_laws.proofs.Making.{OnlyMade}
-use Rattle.sleep_model.specs.Rules.All.{KeepsAll, KeepsMost}
-use Rattle.sleep_model.specs.Rules.Attempts.{KeepsAttempts}
-use Rattle.sleep_model.specs.Rules.Enabled.{AwakeTask, AwakeActor}
-use Rattle.sleep_model.specs.Rules.Freezer.{FreezesBy, FreezesTask, FreezesActor}
-use Rattle.sleep_model.specs.Rules.Law.{IsDue, OneForScripts}
-use Rattle.sleep_model.specs.Rules.Links.{KeepsLinks}
-use Rattle.sleep_model.specs.Rules.Path.{PathOf}
-use Rattle.sleep_model.specs.Rules.Questions.{is_maker, seat_of}
-use Rattle.sleep_model.specs.Rules.Reads.{ReadsTask, ReadsActor}
-use Rattle.sleep_model.specs.Rules.Runtime.{KeepsRuntime}
-use Rattle.sleep_model.specs.Rules.Steps.{IsOfOp, IsStep, IsScriptStep, StepsOf, is_of_write}
+use Rattle.rule_definitions.specs.All.{KeepsAll, KeepsMost}
+use Rattle.rule_definitions.specs.Attempts.{KeepsAttempts}
+use Rattle.rule_definitions.specs.Enabled.{AwakeTask, AwakeActor}
+use Rattle.rule_definitions.specs.Freezer.{FreezesBy, FreezesTask, FreezesActor}
+use Rattle.rule_definitions.specs.Law.{IsDue, OneForScripts}
+use Rattle.rule_definitions.specs.Links.{KeepsLinks}
+use Rattle.rule_definitions.specs.Path.{PathOf}
+use Rattle.rule_definitions.specs.Questions.{is_maker, seat_of}
+use Rattle.rule_definitions.specs.Reads.{ReadsTask, ReadsActor}
+use Rattle.rule_definitions.specs.Runtime.{KeepsRuntime}
+use Rattle.rule_definitions.specs.Steps.{IsOfOp, IsStep, IsScriptStep, StepsOf, is_of_write}
 use Rattle.log_rules.proofs.Facts.{never, only_if, only_is, only_map, itself, Plain, plain_walk, plain_skip, plain_owed, plain_answers, plain_restored, plain_freeze, plain_wake}
 
 -- ---- what keeps all rules is due

@@ -21,17 +21,17 @@ use Rattle.sleep_model.specs.Path.{maker, is_actor}
 use Rattle.sleep_model.specs.Word.{visible}
 use Rattle.sleep_laws.proofs.Holding.{held, HolderOf, WorkHolds}
 use Rattle.sleep_laws.proofs.Making.{OnlyMade}
-use Rattle.sleep_model.specs.Rules.All.{KeepsAll, KeepsMost}
-use Rattle.sleep_model.specs.Rules.Attempts.{KeepsAttempts}
-use Rattle.sleep_model.specs.Rules.Enabled.{AwakeActor}
-use Rattle.sleep_model.specs.Rules.Freezer.{FreezesActor, FreezesNot}
-use Rattle.sleep_model.specs.Rules.Law.{IsDue, OneForWork}
-use Rattle.sleep_model.specs.Rules.Links.{KeepsLinks}
-use Rattle.sleep_model.specs.Rules.Path.{PathOf}
-use Rattle.sleep_model.specs.Rules.Questions.{is_maker}
-use Rattle.sleep_model.specs.Rules.Reads.{ReadsWork, ReadsActor}
-use Rattle.sleep_model.specs.Rules.Runtime.{KeepsRuntime}
-use Rattle.sleep_model.specs.Rules.Steps.{IsWorkStep, StepsOf}
+use Rattle.rule_definitions.specs.All.{KeepsAll, KeepsMost}
+use Rattle.rule_definitions.specs.Attempts.{KeepsAttempts}
+use Rattle.rule_definitions.specs.Enabled.{AwakeActor}
+use Rattle.rule_definitions.specs.Freezer.{FreezesActor, FreezesNot}
+use Rattle.rule_definitions.specs.Law.{IsDue, OneForWork}
+use Rattle.rule_definitions.specs.Links.{KeepsLinks}
+use Rattle.rule_definitions.specs.Path.{PathOf}
+use Rattle.rule_definitions.specs.Questions.{is_maker}
+use Rattle.rule_definitions.specs.Reads.{ReadsWork, ReadsActor}
+use Rattle.rule_definitions.specs.Runtime.{KeepsRuntime}
+use Rattle.rule_definitions.specs.Steps.{IsWorkStep, StepsOf}
 use Rattle.log_rules.proofs.Facts.{never, only_if, only_is, only_map, Plain, plain_walk, plain_skip, plain_owed, plain_answers, plain_restored, plain_freeze, plain_wake}
 
 -- ---- what keeps all rules is due

@@ -1,8 +1,8 @@
 //! The law: an entry is legal, and one of the journal due of its actor, exactly where it keeps all rules.
 
-ghost use Rattle.sleep_model.specs.Rules.Entry.{OneForEntries, OneForLists};
-ghost use Rattle.sleep_model.specs.Rules.Verdict.{FirstBadIsOne, GoodHasNone};
-ghost use Rattle.sleep_model.specs.Rules.Law.{OneForAll, OneForDevices, OneForMakers, OneForScripts, OneForWork, OwedFollows};
+ghost use Rattle.rule_definitions.specs.Entry.{OneForEntries, OneForLists};
+ghost use Rattle.rule_definitions.specs.Verdict.{FirstBadIsOne, GoodHasNone};
+ghost use Rattle.rule_definitions.specs.Law.{OneForAll, OneForDevices, OneForMakers, OneForScripts, OneForWork, OwedFollows};
 
 /// Outside attempts of its own a script makes an entry that is due of it exactly where that entry keeps all
 /// rules: reads, saves and writes to the state and to autosleep, sleeps, marks, runtime requests and links,

@@ -7,8 +7,8 @@ use Rattle.sleep_model.specs.Parts.{OfJournal}
 use Rattle.log_trials.specs.Attempts.{event_stops_a_device_machine, event_stops_a_device, event_stops_a_device_entries}
 use Rattle.log_trials.specs.Broken.{at_time, with_entries}
 use Rattle.log_trials.specs.Terms.{entry, word}
-use Rattle.sleep_model.specs.Rules.Entry.{Rule, Links, Numbers, KeepsRule, KeepsEach}
-use Rattle.sleep_model.specs.Rules.Verdict.{BreaksFirst, number_of, IsFirstBad, AtEntry}
+use Rattle.rule_definitions.specs.Entry.{Rule, Links, Numbers, KeepsRule, KeepsEach}
+use Rattle.rule_definitions.specs.Verdict.{BreaksFirst, number_of, IsFirstBad, AtEntry}
 
 abbrev good_line : Entry
 good_line = entry 0 (word 0 0 0) (actor.Script 0) (kind.Read 0)

@@ -4,8 +4,8 @@ use Rattle.sleep_model.specs.declared.entry.Entry.{Entry}
 use Rattle.sleep_model.specs.declared.machine.Machine.{Machine}
 use Rattle.sleep_model.specs.Order.{is_among}
 use Rattle.sleep_model.specs.Parts.{part_of}
-use Rattle.sleep_model.specs.Rules.Entry.{Rule, Links, Numbers, Attempts, Reads, Walk, Skip, Runtime, Owed, Freezer, Path, Answers, Restored, Steps, Enabled, Source, KeepsRule}
-use Rattle.sleep_model.specs.Rules.Verdict.{number_of}
+use Rattle.rule_definitions.specs.Entry.{Rule, Links, Numbers, Attempts, Reads, Walk, Skip, Runtime, Owed, Freezer, Path, Answers, Restored, Steps, Enabled, Source, KeepsRule}
+use Rattle.rule_definitions.specs.Verdict.{number_of}
 
 -- what may be asked of an entry, by the entries before it
 abbrev pub Question : Type 1

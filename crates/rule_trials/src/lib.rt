@@ -19,9 +19,9 @@ ghost use Rattle.log_trials.specs.Devices.{asynchronous_child_machine, asynchron
 ghost use Rattle.log_trials.specs.Freezing.{freeze_times_out_machine, freeze_times_out_entries};
 ghost use Rattle.log_trials.specs.Links.{link_added_machine, link_added_entries};
 ghost use Rattle.log_trials.specs.Timers.{event_expires_machine, event_expires_entries};
-ghost use Rattle.sleep_model.specs.Rules.Entry.{Links, Numbers, Attempts, Reads, Walk, Skip, Runtime, Owed, Freezer, Path, Answers, Restored, Steps, Enabled, Source};
+ghost use Rattle.rule_definitions.specs.Entry.{Links, Numbers, Attempts, Reads, Walk, Skip, Runtime, Owed, Freezer, Path, Answers, Restored, Steps, Enabled, Source};
 ghost use Rattle.rule_trials.specs.Rules.{HoldsAt, Keeps, Breaks, BreaksAlone};
-ghost use Rattle.sleep_model.specs.Rules.Verdict.{IsFirstBad};
+ghost use Rattle.rule_definitions.specs.Verdict.{IsFirstBad};
 
 /// A link that would close a cycle is refused.
 pub fn links_are_answered()

@@ -12,7 +12,8 @@
 --   Sources    what a call on a wakeup source makes
 --   Steps      what a task makes
 --   Laws       what every legal log keeps
---   Rules      the same rules a second time, each by itself: what each of them asks of an entry
+--
+-- The same rules a second time, each by itself, are in rule_definitions.
 --
 -- One entry, followed down. In the log of a parent p and its child c stands `0 0/0/0 task:w begin suspend p`.
 --   IsLegalLog asks IsLegal, which asks of each entry of the journal a JournalStep: the entry is `due` of its actor.
@@ -49,7 +50,6 @@ pub mod Parts
 pub mod Path
 pub mod Places
 pub mod ReaderFields
-pub mod Rules
 pub mod Runtime
 pub mod Scripts
 pub mod Seats

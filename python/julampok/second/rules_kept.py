@@ -1,6 +1,6 @@
 """The rules of a log, each by itself: which of them a line breaks, by the lines before it.
 
-Written from crates/sleep_model/specs/Rules, a function a definition; each has the number that the checker names it by.
+Written from crates/rule_definitions/specs, a function a definition; each has the number that the checker names it by.
 """
 
 from ..limits import ALARM_MS, AUTO_CYCLES, FREEZE_MS, MOST_ENTRIES, NAP_MS

@@ -1,5 +1,5 @@
 use Rattle.std.proofs.Common.{Bool, IsTrue, ◌↔◌, subst, sym}
-use Rattle.sleep_model.specs.Rules.Steps.{IsOfCall}
+use Rattle.rule_definitions.specs.Steps.{IsOfCall}
 use Rattle.check_past.specs.Passing.{past_of}
 use Rattle.check_rules.proofs.Sourcing.{of_call}
 use Rattle.check_rules.proofs.calls.is_of_call.Goals as goal

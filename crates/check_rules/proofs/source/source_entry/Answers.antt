@@ -1,6 +1,6 @@
 use Rattle.std.proofs.Common.{Bool, IsTrue, ◌↔◌, subst, sym}
 use Rattle.sleep_model.specs.Parts.{part_of}
-use Rattle.sleep_model.specs.Rules.Source.{SourceEntry}
+use Rattle.rule_definitions.specs.Source.{SourceEntry}
 use Rattle.check_past.specs.Passing.{past_of}
 use Rattle.check_rules.proofs.Sourcing.{source_is}
 use Rattle.check_rules.proofs.source.source_entry.Goals as goal

@@ -1,7 +1,7 @@
 use Rattle.std.proofs.Common.{◌∙◌, sym, subst}
 use Rattle.std.proofs.lemmas.Result.{IfOk-weaker}
 use Rattle.sleep_model.specs.declared.machine.Machine.{Machine}
-use Rattle.sleep_model.specs.Rules.Entry.{KeepsEach}
+use Rattle.rule_definitions.specs.Entry.{KeepsEach}
 use Rattle.sleep_model.specs.Woven.{unread}
 use Rattle.check_past.specs.Passing.{past_of}
 use Rattle.log_check.proofs.Entries.{all_kept, bad_entry, fits_here, here, kept_then, left_then, may_link, same_entries, same_machine, whole}

@@ -11,7 +11,7 @@ use Rattle.sleep_model.specs.declared.word.EventNow.{EventNow}
 use Rattle.phase_table.specs.declared.phase.Phase.{Phase}
 use Rattle.phase_table.specs.Phases.{is_down}
 use Rattle.sleep_model.specs.Devices.{callback, phase_failed, next_down, waits_below, stand_in, is_async_device}
-use Rattle.sleep_model.specs.Rules.Questions.{row_now, turn_of}
+use Rattle.rule_definitions.specs.Questions.{row_now, turn_of}
 
 -- the walk down stands at device d: no callback runs, no error stands, d is the last that the phase has not taken, and all below it are through (dpm_suspend, dpm_wait_for_subordinate)
 pub record IsNextDown (m : Machine) (past : List Entry) (p : Phase) (d : ℕ) : Type 0 where

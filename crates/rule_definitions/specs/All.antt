@@ -5,19 +5,19 @@ use Rattle.sleep_model.specs.declared.entry.Entry.{Entry}
 use Rattle.sleep_model.specs.declared.entry.Kind.{Kind}
 use Rattle.sleep_model.specs.declared.machine.Machine.{Machine}
 use Rattle.sleep_model.specs.declared.word.EventNow.{EventNow}
-use Rattle.sleep_model.specs.Rules.Answers.{KeepsAnswers}
-use Rattle.sleep_model.specs.Rules.Attempts.{KeepsAttempts}
-use Rattle.sleep_model.specs.Rules.Enabled.{KeepsEnabled}
-use Rattle.sleep_model.specs.Rules.Freezer.{KeepsFreezer}
-use Rattle.sleep_model.specs.Rules.Links.{KeepsLinks}
-use Rattle.sleep_model.specs.Rules.Owed.{KeepsOwed}
-use Rattle.sleep_model.specs.Rules.Path.{KeepsPath}
-use Rattle.sleep_model.specs.Rules.Reads.{KeepsReads}
-use Rattle.sleep_model.specs.Rules.Restored.{KeepsRestored}
-use Rattle.sleep_model.specs.Rules.Runtime.{KeepsRuntime}
-use Rattle.sleep_model.specs.Rules.Skip.{KeepsSkip}
-use Rattle.sleep_model.specs.Rules.Steps.{KeepsSteps}
-use Rattle.sleep_model.specs.Rules.Walk.{KeepsWalk}
+use Rattle.rule_definitions.specs.Answers.{KeepsAnswers}
+use Rattle.rule_definitions.specs.Attempts.{KeepsAttempts}
+use Rattle.rule_definitions.specs.Enabled.{KeepsEnabled}
+use Rattle.rule_definitions.specs.Freezer.{KeepsFreezer}
+use Rattle.rule_definitions.specs.Links.{KeepsLinks}
+use Rattle.rule_definitions.specs.Owed.{KeepsOwed}
+use Rattle.rule_definitions.specs.Path.{KeepsPath}
+use Rattle.rule_definitions.specs.Reads.{KeepsReads}
+use Rattle.rule_definitions.specs.Restored.{KeepsRestored}
+use Rattle.rule_definitions.specs.Runtime.{KeepsRuntime}
+use Rattle.rule_definitions.specs.Skip.{KeepsSkip}
+use Rattle.rule_definitions.specs.Steps.{KeepsSteps}
+use Rattle.rule_definitions.specs.Walk.{KeepsWalk}
 
 -- what an actor that sees this word makes behind the journal's entries keeps each rule but two (kernel/power/suspend.c, kernel/power/main.c)
 pub record KeepsMost (m : Machine) (past : List Entry) (now : EventNow) (who : Actor) (k : Kind) : Type 0 where

@@ -21,7 +21,7 @@ use Rattle.sleep_model.specs.Path.{attempts}
 use Rattle.sleep_model.specs.Steps.{read_due, count_due, saved_number, state_due, unless_unsaved}
 use Rattle.sleep_model.specs.Tasks.{is_mem, is_off}
 use Rattle.sleep_model.specs.Word.{visible}
-use Rattle.sleep_model.specs.Rules.Questions.{is_maker, seat_of, op_of}
+use Rattle.rule_definitions.specs.Questions.{is_maker, seat_of, op_of}
 
 -- at a read: the count where no event is in progress, else that it waits, or gives up (pm_get_wakeup_count)
 abbrev pub IsRead : EventNow → Seat → Bool → Option Op → Kind → Type 0

@@ -5,7 +5,7 @@ use Rattle.sleep_model.specs.declared.log.Log.{Log}
 use Rattle.sleep_model.specs.declared.machine.Machine.{Machine}
 use Rattle.sleep_model.specs.Legal.{IsLegalLog, IsFinishedLog, stats_of}
 use Rattle.sleep_model.specs.Parts.{part_of}
-use Rattle.sleep_model.specs.Rules.Entry.{Rule, Links, Numbers, Attempts, Reads, Walk, Skip, Runtime, Owed, Freezer, Path, Answers, Restored, Steps, Enabled, Source, KeepsRule, KeepsEach}
+use Rattle.rule_definitions.specs.Entry.{Rule, Links, Numbers, Attempts, Reads, Walk, Skip, Runtime, Owed, Freezer, Path, Answers, Restored, Steps, Enabled, Source, KeepsRule, KeepsEach}
 
 -- the number that a verdict gives a rule (own)
 abbrev pub number_of : Rule → ℕ

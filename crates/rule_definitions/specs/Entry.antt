@@ -5,21 +5,21 @@ use Rattle.sleep_model.specs.declared.machine.Machine.{Machine}
 use Rattle.sleep_model.specs.Legal.{IsLegal}
 use Rattle.sleep_model.specs.Numbers.{numbers}
 use Rattle.sleep_model.specs.Parts.{Part, OfJournal, part_of, journal}
-use Rattle.sleep_model.specs.Rules.Answers.{KeepsAnswers}
-use Rattle.sleep_model.specs.Rules.Attempts.{KeepsAttempts}
-use Rattle.sleep_model.specs.Rules.Enabled.{EnabledEntry}
-use Rattle.sleep_model.specs.Rules.Freezer.{FreezerEntry}
-use Rattle.sleep_model.specs.Rules.Links.{KeepsLinks}
-use Rattle.sleep_model.specs.Rules.Numbers.{KeepsNumbers}
-use Rattle.sleep_model.specs.Rules.Owed.{KeepsOwed}
-use Rattle.sleep_model.specs.Rules.Path.{PathEntry}
-use Rattle.sleep_model.specs.Rules.Reads.{KeepsReads}
-use Rattle.sleep_model.specs.Rules.Restored.{KeepsRestored}
-use Rattle.sleep_model.specs.Rules.Runtime.{KeepsRuntime}
-use Rattle.sleep_model.specs.Rules.Skip.{KeepsSkip}
-use Rattle.sleep_model.specs.Rules.Source.{SourceEntry}
-use Rattle.sleep_model.specs.Rules.Steps.{StepsEntry}
-use Rattle.sleep_model.specs.Rules.Walk.{WalkEntry}
+use Rattle.rule_definitions.specs.Answers.{KeepsAnswers}
+use Rattle.rule_definitions.specs.Attempts.{KeepsAttempts}
+use Rattle.rule_definitions.specs.Enabled.{EnabledEntry}
+use Rattle.rule_definitions.specs.Freezer.{FreezerEntry}
+use Rattle.rule_definitions.specs.Links.{KeepsLinks}
+use Rattle.rule_definitions.specs.Numbers.{KeepsNumbers}
+use Rattle.rule_definitions.specs.Owed.{KeepsOwed}
+use Rattle.rule_definitions.specs.Path.{PathEntry}
+use Rattle.rule_definitions.specs.Reads.{KeepsReads}
+use Rattle.rule_definitions.specs.Restored.{KeepsRestored}
+use Rattle.rule_definitions.specs.Runtime.{KeepsRuntime}
+use Rattle.rule_definitions.specs.Skip.{KeepsSkip}
+use Rattle.rule_definitions.specs.Source.{SourceEntry}
+use Rattle.rule_definitions.specs.Steps.{StepsEntry}
+use Rattle.rule_definitions.specs.Walk.{WalkEntry}
 
 -- what is asked of an entry of the journal alone
 abbrev pub OnJournal : Part → Type 0 → Type 0

@@ -9,10 +9,10 @@ use Rattle.sleep_model.specs.declared.place.Due.TheVariants.{Makes}
 use Rattle.sleep_model.specs.declared.word.EventNow.{EventNow}
 use Rattle.sleep_model.specs.Due.{due}
 use Rattle.sleep_model.specs.Legal.{JournalPart}
-use Rattle.sleep_model.specs.Rules.All.{KeepsAll, KeepsMost}
-use Rattle.sleep_model.specs.Rules.Owed.{KeepsOwed}
-use Rattle.sleep_model.specs.Rules.Questions.{is_maker}
-use Rattle.sleep_model.specs.Rules.Restored.{KeepsRestored}
+use Rattle.rule_definitions.specs.All.{KeepsAll, KeepsMost}
+use Rattle.rule_definitions.specs.Owed.{KeepsOwed}
+use Rattle.rule_definitions.specs.Questions.{is_maker}
+use Rattle.rule_definitions.specs.Restored.{KeepsRestored}
 
 -- that entry is due of its actor (kernel/power/suspend.c, kernel/power/main.c)
 abbrev pub IsDue : Machine → List Entry → EventNow → Actor → Kind → Type 0

@@ -14,7 +14,7 @@ use Rattle.sleep_model.specs.declared.word.EventNow.{EventNow}
 use Rattle.sleep_model.specs.Attempt.{froze_due, freeze_since}
 use Rattle.sleep_model.specs.Freezer.{freezing, left}
 use Rattle.sleep_model.specs.Tasks.{is_user, freezes_at}
-use Rattle.sleep_model.specs.Rules.Questions.{is_maker, seat_of, op_of}
+use Rattle.rule_definitions.specs.Questions.{is_maker, seat_of, op_of}
 use Rattle.sleep_model.specs.Numbers.{numbers}
 use Rattle.sleep_model.specs.Parts.{Part, OfJournal, OfTime, journal}
 

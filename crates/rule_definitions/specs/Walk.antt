@@ -17,8 +17,8 @@ use Rattle.phase_table.specs.Phases.{is_down, mirror}
 use Rattle.sleep_model.specs.Answers.{answer, answer_number}
 use Rattle.sleep_model.specs.Devices.{async_work, callback, device_error, phase_failed, is_async_device, stand_in, waits_above, waits_down, waits_up, next_down, next_to_schedule, next_up, next_prepared, next_completed}
 use Rattle.sleep_model.specs.Path.{attempts}
-use Rattle.sleep_model.specs.Rules.Questions.{row_now, turn_of}
-use Rattle.sleep_model.specs.Rules.Skip.{IsNextDown, IsScheduledDown}
+use Rattle.rule_definitions.specs.Questions.{row_now, turn_of}
+use Rattle.rule_definitions.specs.Skip.{IsNextDown, IsScheduledDown}
 use Rattle.sleep_model.specs.declared.entry.Actor.{Actor}
 use Rattle.sleep_model.specs.declared.entry.Actor.TheVariants as actor
 use Rattle.sleep_model.specs.declared.place.AsyncWork.{AsyncWork}
@@ -27,7 +27,7 @@ use Rattle.sleep_model.specs.Legal.{IsOwnTurn, IsOwnCall}
 use Rattle.sleep_model.specs.Numbers.{numbers}
 use Rattle.sleep_model.specs.Parts.{Part, OfJournal, Notes, journal}
 use Rattle.sleep_model.specs.Sources.{history}
-use Rattle.sleep_model.specs.Rules.Questions.{is_maker}
+use Rattle.rule_definitions.specs.Questions.{is_maker}
 
 -- ---- prepare and complete
 

@@ -26,7 +26,7 @@ use Rattle.sleep_model.specs.Marks.{mark_at, raised}
 use Rattle.sleep_model.specs.Numbers.{numbers, time_of}
 use Rattle.sleep_model.specs.Steps.{sleep_due, mark_due}
 use Rattle.sleep_model.specs.Tasks.{is_mem, is_off, is_user, freezes_at}
-use Rattle.sleep_model.specs.Rules.Questions.{is_maker, seat_of, op_of}
+use Rattle.rule_definitions.specs.Questions.{is_maker, seat_of, op_of}
 use Rattle.sleep_model.specs.Calls.{is_left}
 use Rattle.sleep_model.specs.Legal.{IsOwnTurn, IsOwnCall, IsOutside}
 use Rattle.sleep_model.specs.Parts.{Part, OfJournal, Notes, Moves, OfTime, journal}

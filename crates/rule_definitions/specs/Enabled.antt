@@ -13,7 +13,7 @@ use Rattle.sleep_model.specs.declared.word.EventNow.{EventNow}
 use Rattle.sleep_model.specs.Attempt.{sleep_of, sleeps_now, wakes_due}
 use Rattle.sleep_model.specs.Due.{is_over}
 use Rattle.sleep_model.specs.Tasks.{is_line}
-use Rattle.sleep_model.specs.Rules.Questions.{is_maker}
+use Rattle.rule_definitions.specs.Questions.{is_maker}
 use Rattle.sleep_model.specs.Legal.{JumpStep}
 use Rattle.sleep_model.specs.Numbers.{numbers, time_of}
 use Rattle.sleep_model.specs.Parts.{Part, OfJournal, OfTime, journal}

@@ -14,7 +14,7 @@ use Rattle.phase_table.specs.declared.phase.Phase.TheVariants as phase
 use Rattle.sleep_model.specs.Attempt.{answered, busy_error, freeze_since, sleep_of}
 use Rattle.sleep_model.specs.Guard.{pending}
 use Rattle.sleep_model.specs.Notifiers.{next_called, next_posted, next_cpu_off, next_cpu_on, next_stopped, next_started}
-use Rattle.sleep_model.specs.Rules.Questions.{is_maker, row_now}
+use Rattle.rule_definitions.specs.Questions.{is_maker, row_now}
 use Rattle.sleep_model.specs.Devices.{callback}
 use Rattle.sleep_model.specs.Numbers.{numbers}
 use Rattle.sleep_model.specs.Parts.{Part, Notes, Moves, journal}
