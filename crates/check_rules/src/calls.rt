@@ -12,7 +12,8 @@ ghost use Rattle.rule_definitions.specs.Walk.{is_in_callback};
 ghost use Rattle.sleep_model.specs.Sources.{history};
 ghost use Rattle.check_past.specs.Passing.{journal_of, past_of};
 
-use crate::same::{either, is_caller, is_kind, without};
+use crate::kinds::is_kind;
+use crate::same::{either, is_caller, without};
 use check_account::is_actor;
 use check_due::async_work;
 use check_past::Passed;

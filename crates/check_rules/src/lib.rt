@@ -8,6 +8,7 @@ mod entries;
 mod freezer;
 mod judge;
 mod jump;
+mod kinds;
 mod next;
 mod numbers;
 mod owed;

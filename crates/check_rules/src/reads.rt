@@ -4,7 +4,8 @@ ghost use Rattle.std.specs.Prelude.{◌↔◌, IsTrue, IfOk, option_copied};
 ghost use Rattle.rule_definitions.specs.Reads.{IsBadText, IsFree, IsRead, IsSave, IsWrite, KeepsReads, ReadsTask, ReadsWork};
 ghost use Rattle.check_past.specs.Passing.{journal_of};
 
-use crate::same::{is_kind, makes};
+use crate::kinds::is_kind;
+use crate::same::makes;
 use check_due::{
     auto_save, count_due, is_mem, is_off, next_attempt, read_due, saved_number, state_due,
     unless_unsaved,

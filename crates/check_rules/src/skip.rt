@@ -5,7 +5,8 @@ ghost use Rattle.sleep_model.specs.Devices.{is_async_device};
 ghost use Rattle.rule_definitions.specs.Skip.{IsNextDown, IsScheduledDown, IsTurn, KeepsSkip};
 ghost use Rattle.check_past.specs.Passing.{journal_of};
 
-use crate::same::{is_kind, is_number, is_phase};
+use crate::kinds::is_kind;
+use crate::same::{is_number, is_phase};
 use check_due::{row_now, turn_of};
 use check_past::Passed;
 use phase_table::Phase;

@@ -6,7 +6,8 @@ ghost use Rattle.rule_definitions.specs.Walk.{BeginsAt, BeginsAsync, BeginsBy, C
 ghost use Rattle.phase_table.specs.Phases.{is_down};
 ghost use Rattle.check_past.specs.Passing.{journal_of};
 
-use crate::same::{is_answer, is_kind, is_number, is_phase};
+use crate::kinds::is_kind;
+use crate::same::{is_answer, is_number, is_phase};
 use crate::skip::{is_next_down, is_scheduled_down};
 use check_calls::answered_number;
 use check_due::{device_error, row_now, turn_of};
