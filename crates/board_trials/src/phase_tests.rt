@@ -89,10 +89,24 @@ fn due_of(board: &Board, all: &Flags, none: &Flags, asked: &Asked) -> Due {
     }
 }
 
+/// Whether both are the same entry, of those that are tried here.
+fn is_kind(kind: Kind, wanted: Kind) -> bool {
+    match (kind, wanted) {
+        (Kind::Prepare { device: a, r: x }, Kind::Prepare { device: b, r: y }) => a == b && x == y,
+        (Kind::Complete(a), Kind::Complete(b)) => a == b,
+        (Kind::Schedule(p, a), Kind::Schedule(q, b)) => p == q && a == b,
+        (Kind::Begin(p, a), Kind::Begin(q, b)) => p == q && a == b,
+        (Kind::End(p, a, x), Kind::End(q, b, y)) => p == q && a == b && x == y,
+        (Kind::Skip(p, a, x), Kind::Skip(q, b, y)) => p == q && a == b && x == y,
+        (Kind::Done(p, x), Kind::Done(q, y)) => p == q && x == y,
+        _ => false,
+    }
+}
+
 /// Whether that entry is due.
 fn makes(due: Due, wanted: Kind) -> bool {
     match due {
-        Due::Makes(kind) => kind == wanted,
+        Due::Makes(kind) => is_kind(kind, wanted),
         _ => false,
     }
 }

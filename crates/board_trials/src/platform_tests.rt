@@ -59,10 +59,24 @@ fn is_next(platform: &Platform, next: &Next) -> bool {
     }
 }
 
+/// Whether both are the same entry, of those that are tried here.
+fn is_kind(kind: Kind, wanted: Kind) -> bool {
+    match (kind, wanted) {
+        (Kind::NotifyPrepare(a, x), Kind::NotifyPrepare(b, y)) => a == b && x == y,
+        (Kind::NotifyPost(a), Kind::NotifyPost(b)) => a == b,
+        (Kind::PlatformDo(a, x), Kind::PlatformDo(b, y)) => a == b && x == y,
+        (Kind::PlatformUndo(a), Kind::PlatformUndo(b)) => a == b,
+        (Kind::CpuOff(a), Kind::CpuOff(b)) => a == b,
+        (Kind::CpuBusy(a), Kind::CpuBusy(b)) => a == b,
+        (Kind::CpuOn(a), Kind::CpuOn(b)) => a == b,
+        _ => false,
+    }
+}
+
 /// Takes a step, and tells whether it came as it says.
 fn is_so(platform: &mut Platform, step: &Step) -> bool {
     match step {
-        Step::Turns(part, r, pending, kind) => platform.turn(*part, *r, *pending) == *kind,
+        Step::Turns(part, r, pending, kind) => is_kind(platform.turn(*part, *r, *pending), *kind),
         Step::Is(next) => is_next(platform, next),
     }
 }

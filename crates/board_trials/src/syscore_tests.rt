@@ -9,7 +9,7 @@ use syscore_ops::Syscore;
 /// comes next on the way down and on the way up.
 enum Step {
     Suspends(u32, Option<Errno>),
-    Resumes(Option<Kind>),
+    Resumes(Option<u32>),
     Notes(Kind),
     Next(Option<u32>),
     NextUp(Option<u32>),
@@ -17,14 +17,24 @@ enum Step {
 
 /// Whether the next part is that one, which is suspended with that answer.
 fn suspends(core: &mut Syscore, part: u32, r: Option<Errno>) -> bool {
-    core.next().is_some() && core.suspend_turn(r) == Kind::SyscoreSuspend(part, r)
+    core.next().is_some()
+        && matches!(core.suspend_turn(r), Kind::SyscoreSuspend(x, y) if x == part && y == r)
+}
+
+/// Whether the turn resumes that part, or no part is left.
+fn resumes(core: &mut Syscore, part: Option<u32>) -> bool {
+    match core.resume_turn() {
+        Some(Kind::SyscoreResume(resumed)) => part == Some(resumed),
+        Some(_) => false,
+        None => part.is_none(),
+    }
 }
 
 /// Takes a step, and tells whether it came as it says.
 fn is_so(core: &mut Syscore, step: &Step) -> bool {
     match step {
         Step::Suspends(part, r) => suspends(core, *part, *r),
-        Step::Resumes(kind) => core.resume_turn() == *kind,
+        Step::Resumes(part) => resumes(core, *part),
         Step::Notes(kind) => {
             core.note(*kind);
             true
@@ -56,8 +66,8 @@ const BACK_AND_FORTH: [Step; 9] = [
     Step::Next(Some(0)),
     Step::Suspends(0, Some(Errno::EIO)),
     Step::NextUp(Some(1)),
-    Step::Resumes(Some(Kind::SyscoreResume(1))),
-    Step::Resumes(Some(Kind::SyscoreResume(2))),
+    Step::Resumes(Some(1)),
+    Step::Resumes(Some(2)),
     Step::Resumes(None),
     Step::Next(Some(2)),
 ];

@@ -1,4 +1,5 @@
-//! The ten phases of the devices' way into sleep and out of it, as one table.
+//! The ten phases of the devices' way into sleep and out of it, as one table (`drivers/base/power/main.c`). Its tests are in
+//! `part_cases`.
 #![tactic(auto)]
 
 pub mod laws;

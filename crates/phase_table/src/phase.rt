@@ -1,4 +1,4 @@
-ghost use Rattle.std.specs.Prelude.{◌≡◌, ◌≢◌, IfSome, IfNone};
+ghost use Rattle.std.specs.Prelude.{◌≡◌, ◌≢◌, IfSome, IfNone, bytes_eq};
 ghost use Rattle.phase_table.specs.declared.phase.Phase.{Phase};
 ghost use Rattle.phase_table.specs.Phases.{mirror, is_forward, is_down, is_up, tests_wakeup, phase_name, phase_named, table_row, table_rows};
 
@@ -40,12 +40,9 @@ macro_rules! by_phase {
     (@name $from:expr; $($phase:ident $mirror:ident $ways:tt $name:literal;)*) => {
         match $from { $(Phase::$phase => $name,)* }
     };
-    (@named $from:expr; $($phase:ident $mirror:ident $ways:tt $name:literal;)*) => {{
-        $(if $from == $name.as_bytes() {
-            return Some(Phase::$phase);
-        })*
-        None
-    }};
+    (@named $from:expr; $($phase:ident $mirror:ident $ways:tt $name:literal;)*) => {
+        [$(Phase::$phase),*].iter().copied().find(|phase| phase.is_named($from))
+    };
     (@rows $from:expr; $($phase:ident $mirror:ident $ways:tt $name:literal;)*) => {
         [$($from(Phase::$phase)),*]
     };
@@ -112,6 +109,21 @@ impl Phase {
         by_phase!(name of self)
     }
 
+    /// Whether these bytes are its name.
+    fn is_named(self, bytes: &[u8]) -> bool
+        ensures { result ≡ bytes_eq bytes.now (phase_name self) }
+    {
+        bytes == self.name().as_bytes()
+    }
+
+    /// The phase whose name these bytes are, if there is one.
+    fn named(bytes: &[u8]) -> Option<Phase>
+        ensures phase { result ≡ phase_named bytes.now }
+        ensures found { IfSome result (λ p. bytes.now ≡ phase_name p) }
+    {
+        by_phase!(named of bytes)
+    }
+
     /// The phase of that name. None exactly where the text is no phase's name.
     pub fn of_name(text: &str) -> Option<Phase>
         ensures phase { result ≡ phase_named text.now }
@@ -122,12 +134,13 @@ impl Phase {
     }
 
     /// The phase whose name these bytes are. None exactly where they are no phase's name.
+    #[tactic(auto, using(crate::proofs::Naming::none_named))]
     pub fn of_bytes(bytes: &[u8]) -> Option<Phase>
         ensures phase { result ≡ phase_named bytes.now }
         ensures found { IfSome result (λ p. bytes.now ≡ phase_name p) }
         ensures none { IfNone result ((p : Phase) → bytes.now ≢ phase_name p) }
     {
-        by_phase!(named of bytes)
+        Phase::named(bytes)
     }
 }
 

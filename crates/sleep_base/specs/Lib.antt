@@ -1,4 +1,5 @@
 pub mod Calls
+pub mod Digits
 pub mod Errno
 pub mod Faults
 pub mod Streams

@@ -1,4 +1,4 @@
-ghost use Rattle.std.specs.Prelude.{◌≡◌, ◌≢◌, IfSome, IfNone};
+ghost use Rattle.std.specs.Prelude.{◌≡◌, ◌≢◌, IfSome, IfNone, bytes_eq};
 ghost use Rattle.sleep_base.specs.declared.errno.Errno.{Errno};
 ghost use Rattle.sleep_base.specs.Errno.{number_of, name_of, error_named, error_of_number};
 
@@ -26,12 +26,9 @@ macro_rules! by_error {
     (@answered $from:expr; $($error:ident $number:tt $name:literal;)*) => {
         match $from { $(-$number => Some(Errno::$error),)* _ => None }
     };
-    (@named $from:expr; $($error:ident $number:tt $name:literal;)*) => {{
-        $(if $from == $name.as_bytes() {
-            return Some(Errno::$error);
-        })*
-        None
-    }};
+    (@named $from:expr; $($error:ident $number:tt $name:literal;)*) => {
+        [$(Errno::$error),*].iter().copied().find(|error| error.is_named($from))
+    };
     ($column:ident of $from:expr) => {
         by_error! { @$column $from;
             EINTR 4 "EINTR";
@@ -60,6 +57,21 @@ impl Errno {
         by_error!(name of self)
     }
 
+    /// Whether these bytes are its name.
+    fn is_named(self, bytes: &[u8]) -> bool
+        ensures { result ≡ bytes_eq bytes.now (name_of self) }
+    {
+        bytes == self.name().as_bytes()
+    }
+
+    /// The error whose name these bytes are, if there is one.
+    fn named(bytes: &[u8]) -> Option<Errno>
+        ensures error { result ≡ error_named bytes.now }
+        ensures found { IfSome result (λ e. bytes.now ≡ name_of e) }
+    {
+        by_error!(named of bytes)
+    }
+
     /// The error of that name. None exactly where the text is no error's name.
     pub fn of_name(text: &str) -> Option<Errno>
         ensures error { result ≡ error_named text.now }
@@ -70,12 +82,13 @@ impl Errno {
     }
 
     /// The error whose name these bytes are. None exactly where they are no error's name.
+    #[tactic(auto, using(crate::proofs::Naming::none_named))]
     pub fn of_bytes(bytes: &[u8]) -> Option<Errno>
         ensures error { result ≡ error_named bytes.now }
         ensures found { IfSome result (λ e. bytes.now ≡ name_of e) }
         ensures none { IfNone result ((e : Errno) → bytes.now ≢ name_of e) }
     {
-        by_error!(named of bytes)
+        Errno::named(bytes)
     }
 
     /// The error that a callback's answer means: one below 0. None for 0 and above, and for a number

@@ -189,15 +189,3 @@ stats_at own at = record {
   max_time = max (longest own) (run_time (since own) at);
   last_time = last own;
 }
-
--- ---- between calls
-
--- no step is owed, no event is in progress, and none is to expire (own)
-pub record IsQuiet (own : List Entry) : Type 0 where
-  pub owes_none : owed own ≡ []
-  pub inactive : since own ≡ None
-  pub lasting : expiry own ≡ None
-
--- all sources are so (own)
-abbrev pub AreQuiet : List Entry → Type 0
-AreQuiet past = (s : ℕ) → IsQuiet (history s past)

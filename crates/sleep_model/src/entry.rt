@@ -55,7 +55,7 @@ pub enum SkipCause {
 
 /// What an entry says. Entries of tasks and of the autosleep work come first, then those of
 /// wakeup sources and of time, then those of attempts.
-#[derive(Clone, Copy, PartialEq, Eq)]
+#[derive(Clone, Copy)]
 pub enum Kind {
     Frozen,
     ReadWait,

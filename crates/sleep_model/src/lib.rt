@@ -1,4 +1,5 @@
-//! Plain data of a machine and of its sleep log, and the definitions that every contract cites.
+//! Plain data of a machine and of its sleep log, every definition of what sleep is, which all contracts cite, the words of a
+//! log, and a journal that is kept short. Its tests are in `part_cases`; trials of laws try the definitions on worked logs.
 #![tactic(auto)]
 
 mod entry;
@@ -24,12 +25,12 @@ pub use flags::DeviceFlags;
 pub use journal::{Journal, JournalReader};
 pub use limits::{FREEZE_TIMEOUT_MSECS, MOST_ENTRIES, NAP_MSECS};
 pub use list::ListOf;
-pub use log::{Log, LogEnd, Move, Runtime, Stats, Waiting, Want, Why};
+pub use log::{Log, LogEnd, Runtime, Stats, Waiting, Want, Why};
 pub use machine::{
     Answer, Device, Link, Machine, Notifier, Op, PlatDo, PlatPart, PlatUndo, Report, Script,
-    SourceCall, Step, TaskKind, Text, What,
+    SourceCall, Step, TaskKind, Text, What, parents_of,
 };
-pub use name::{AUTOSLEEP, NAME_BYTES, Name};
+pub use name::{AUTOSLEEP, NAME_BYTES, Name, are_name_bytes, is_name};
 pub use phase_table::Phase;
 pub use place::{AsyncWork, Callback, Due, Freezing, Seat, Sleep, Stage, Stand, Work};
 pub use word::{EventNow, Stamp, WordKind, WordStep, pos, visible};

@@ -1,4 +1,4 @@
-use crate::entry::{Actor, Kind};
+use crate::entry::Actor;
 use crate::entry_list::EntryList;
 use crate::list::ListOf;
 use crate::machine::SourceCall;
@@ -78,12 +78,4 @@ pub struct Runtime {
     pub prepared: bool,
     pub off_direct: bool,
     pub off_late: bool,
-}
-
-/// The outcome of a turn of a device phase or of a sysfs file.
-#[derive(Clone, Copy)]
-pub enum Move {
-    Made(Kind),
-    Wait(Why),
-    Closed,
 }

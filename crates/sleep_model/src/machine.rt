@@ -1,7 +1,12 @@
+ghost use Rattle.std.specs.Prelude.{◌≡◌, IfOk};
+ghost use Rattle.sleep_model.specs.Order.{parents_of};
+
 use crate::flags::DeviceFlags;
 use crate::list::ListOf;
 use crate::name::Name;
 use phase_table::Phase;
+use sleep_base::Mem;
+use std::alloc::Global;
 
 /// A text that a task writes, at most 32 bytes.
 pub type Text = ListOf<u8>;
@@ -34,6 +39,14 @@ pub struct Device {
     pub name: Name,
     pub parent: Option<u32>,
     pub flags: DeviceFlags,
+}
+
+/// The parent of each of these devices, in their order. `Mem` if there is no memory for the list.
+pub fn parents_of(alloc: Global, devices: &[Device]) -> Result<Vec<Option<u32>>, Mem>
+    ensures { IfOk result (λ parents. parents.items ≡ parents_of devices.now) }
+{
+    let parents = devices.iter().map(|device| device.parent).collect(alloc)?;
+    Ok(parents)
 }
 
 /// A device link: the consumer needs the supplier (`Documentation/driver-api/device_link.rst`).

@@ -1,3 +1,7 @@
+ghost use Rattle.std.specs.Prelude.{◌≡◌};
+ghost use Rattle.std.specs.List.{list_all};
+ghost use Rattle.sleep_model.specs.NameBytes.{is_name, is_name_byte};
+
 use std::marker::Model;
 
 /// The most bytes that a name has.
@@ -5,6 +9,27 @@ pub const NAME_BYTES: usize = 32;
 
 /// The name of autosleep's own source (`kernel/power/autosleep.c`, `pm_autosleep_init`).
 pub const AUTOSLEEP: &str = "autosleep";
+
+/// Whether a name may have that byte: `a` to `z`, `0` to `9`, `_`, `.` or `-`.
+fn is_name_byte(byte: u8) -> bool
+    ensures { result ≡ is_name_byte byte }
+{
+    matches!(byte, b'a'..=b'z' | b'0'..=b'9' | b'_' | b'.' | b'-')
+}
+
+/// Whether names may have each of these bytes.
+pub fn are_name_bytes(bytes: &[u8]) -> bool
+    ensures { result ≡ list_all is_name_byte bytes.now }
+{
+    bytes.iter().all(|byte| is_name_byte(*byte))
+}
+
+/// Whether machine files and writes to `wake_lock` may spell a name so: 1 to 32 such bytes.
+pub fn is_name(bytes: &[u8]) -> bool
+    ensures { result ≡ is_name bytes.now }
+{
+    1 <= bytes.len() && bytes.len() <= NAME_BYTES && are_name_bytes(bytes)
+}
 
 /// The name of a thing: 1 to 32 bytes, kept in place, that contracts see as their list.
 #[derive(Clone, Copy, Debug, PartialEq, Eq, PartialOrd, Ord, Hash)]
