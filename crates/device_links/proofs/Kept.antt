@@ -10,12 +10,12 @@ use Rattle.sleep_model.proofs.Dependents.{among_first, among_rest}
 use Rattle.sleep_model.proofs.Acyclic.{order_ranked, links_descend, dependents_within, others_same}
 use Rattle.sleep_model.proofs.FirstPlaces.{dependents_new, holding_new, holding_other, suppliers_new, suppliers_other}
 use Rattle.device_rows.specs.Table.{Table, row_at, places_at, with_number}
+use Rattle.link_rows.specs.Rows.{IsTableOf, is_left_out}
 use Rattle.device_links.specs.Walks.{IsWalkable, AreMarks}
-use Rattle.device_links.specs.Kept.{IsTableOf, IsKept, IsWhole, HavePlaces, near_below, near_above}
-use Rattle.device_links.specs.Passes.{is_left_out}
+use Rattle.device_links.specs.Kept.{IsKept, IsWhole, HavePlaces, near_below, near_above}
 use Rattle.device_links.specs.Adds.{IsOpen}
 use Rattle.device_links.proofs.Near.{below_none, above_none, below_here, below_other, above_here, above_other}
-use Rattle.device_links.proofs.RowsMade.{table_push, table_same, table_unless, parent_rows, empty_rows}
+use Rattle.link_rows.proofs.RowsMade.{table_push, table_same, table_unless, parent_rows, empty_rows}
 
 -- without links
 pub kept_new : (ps : List (Option ℕ)) → length ps < 2 ^ 32 → EachAfterParent 0 ps → (hangs below suppliers above : List (List ℕ)) (order : List ℕ)

@@ -5,7 +5,7 @@ mod Moving
 mod Near
 mod Numbering
 mod Refilling
-mod RowsMade
+mod Runs
 mod Ordered
 mod Passing
 mod Setting

@@ -7,9 +7,10 @@ use Rattle.sleep_model.specs.declared.machine.Link.{Link}
 use Rattle.sleep_model.specs.Links.{is_linked, first_places}
 use Rattle.sleep_model.specs.Order.{is_link, with_state, active_of, children_from, consumers_of, suppliers_of, parent_of, dependents, superiors}
 use Rattle.device_rows.specs.Table.{with_number}
-use Rattle.device_links.specs.Kept.{IsTableOf, AreNumbered, numbers_of, near_below, near_above}
+use Rattle.link_rows.specs.Rows.{IsTableOf}
+use Rattle.device_links.specs.Kept.{AreNumbered, numbers_of, near_below, near_above}
 use Rattle.device_links.specs.Passes.{AreApart}
-use Rattle.device_links.proofs.RowsMade.{table_push, table_same, empty_rows}
+use Rattle.link_rows.proofs.RowsMade.{table_push, table_same, empty_rows}
 use Rattle.device_links.proofs.Tabulating.{no_link, newest, supplier_at, consumer_at}
 
 -- ---- the tables

@@ -9,9 +9,9 @@ use Rattle.sleep_model.specs.Links.{AreLinks, IsOrder}
 use Rattle.sleep_model.proofs.Acyclic.{order_within}
 use Rattle.sleep_model.proofs.Dependents.{among_app}
 use Rattle.device_rows.specs.Table.{Table, row_at}
-use Rattle.device_links.specs.declared.at_once.Tables.{Tables}
+use Rattle.link_rows.specs.Rows.{IsTableOf}
+use Rattle.device_links.specs.declared.seen.Tables.{Tables}
 use Rattle.device_links.specs.declared.visits.Visits.{Visits}
-use Rattle.device_links.specs.Kept.{IsTableOf}
 use Rattle.device_links.specs.Walks.{AreMarks}
 use Rattle.device_links.specs.Passes.{AreApart, AreVisits, IsVisited, Goes, CanStand, Tabulates}
 use Rattle.device_links.proofs.Kept.{dependents_is, by_marks}

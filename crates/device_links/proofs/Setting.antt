@@ -7,15 +7,16 @@ use Rattle.sleep_model.specs.Links.{first_places, is_linked}
 use Rattle.sleep_model.specs.Order.{is_link, with_state, active_of, children_from, consumers_of, suppliers_of, parent_of, dependents, superiors}
 use Rattle.sleep_model.proofs.Changing.{same_supplier, same_consumer, suppliers_kept, dependents_kept, links_kept, order_kept}
 use Rattle.device_rows.specs.Table.{Table, places_at}
+use Rattle.link_rows.specs.Rows.{IsTableOf}
 use Rattle.device_links.specs.declared.fault.LinkFault.{LinkFault}
 use Rattle.device_links.specs.Adds.{Stand, Lacks}
-use Rattle.device_links.specs.Kept.{IsTableOf, IsKept, IsWhole, HavePlaces, near_below, near_above, numbers_of}
+use Rattle.device_links.specs.Kept.{IsKept, IsWhole, HavePlaces, near_below, near_above, numbers_of}
 use Rattle.device_links.specs.Linked.{Linked}
 use Rattle.device_links.specs.Passes.{AreApart}
 use Rattle.device_links.proofs.Ordered.{linked_apart}
 use Rattle.device_links.proofs.InPlace.{take_whole}
 use Rattle.device_links.proofs.Numbering.{consumers_past, suppliers_past, numbered_kept, supplied_count}
-use Rattle.device_links.proofs.RowsMade.{table_same}
+use Rattle.link_rows.proofs.RowsMade.{table_same}
 
 -- the newest first, as they were
 pub reversed_map : {A : Type 0} (f : A → A) (xs : List A) → reverse (map f xs) ≡ map f (reverse xs)

@@ -9,12 +9,13 @@ use Rattle.sleep_model.specs.Links.{is_linked}
 use Rattle.sleep_model.proofs.Acyclic.{others_same}
 use Rattle.sleep_model.proofs.FirstPlaces.{dependents_new, suppliers_new, suppliers_other, suppliers_linked}
 use Rattle.device_rows.specs.Table.{Table, row_at}
-use Rattle.device_links.specs.declared.at_once.Tables.{Tables}
-use Rattle.device_links.specs.Kept.{IsTableOf, near_below, near_above}
-use Rattle.device_links.specs.Passes.{AreApart, AreTables, HaveRows, IsHung, IsNew, Tells, is_left_out}
+use Rattle.link_rows.specs.Rows.{IsTableOf, is_left_out}
+use Rattle.device_links.specs.declared.seen.Tables.{Tables}
+use Rattle.device_links.specs.Kept.{near_below, near_above}
+use Rattle.device_links.specs.Passes.{AreApart, AreTables, HaveRows, IsHung, IsNew, Tells}
 use Rattle.device_links.proofs.Kept.{kept_new, places_new, places_more, holding_count}
 use Rattle.device_links.proofs.Near.{below_here, below_other, above_here, above_other}
-use Rattle.device_links.proofs.RowsMade.{table_push, table_unless}
+use Rattle.link_rows.proofs.RowsMade.{table_push, table_unless}
 
 -- without links
 pub tables_new : (ps : List (Option ℕ)) → length ps < 2 ^ 32 → EachAfterParent 0 ps → (t : Tables)

@@ -1,5 +1,5 @@
 -- The steps of a walk below a device.
-use Rattle.std.proofs.Common.{◌≡◌, ◌<◌, ◌≤◌, ◌+◌, ◌*◌, ◌∙◌, ℕ, zero, suc, Bool, true, false, ◌==◌, ◌||◌, List, [], ◌∷◌, ◌++◌, ◌⊎◌, inl, inr, length, map, reverse, take, drop, get_or, set, replicate, cond, Option, Some, None, MatchOption, option_to_list, refl, sym, ap, subst, arith, length-append, length-set}
+use Rattle.std.proofs.Common.{◌≡◌, ◌<◌, ◌≤◌, ◌+◌, ◌*◌, ◌∙◌, ℕ, zero, suc, Bool, true, false, ◌==◌, ◌||◌, List, [], ◌∷◌, ◌++◌, ◌⊎◌, inl, inr, length, map, reverse, take, drop, get_or, set, replicate, cond, Option, Some, None, MatchOption, Result, Ok, Err, IfOk, option_to_list, refl, sym, ap, subst, arith, length-append, length-set}
 use Rattle.std.specs.List.{flat_map}
 use Rattle.std.proofs.lemmas.Grind.{flat_map-append}
 use Rattle.std.proofs.lemmas.List.{append-nil, reverse-append, take_more, drop_more, take_all, drop_all, get_or-replicate, length-replicate, get_or_default, get_or-set_same, get_or-set_other}
@@ -8,8 +8,11 @@ use Rattle.std.proofs.Math.Bool.{or-false}
 use Rattle.sleep_model.specs.Order.{is_among, last_places}
 use Rattle.sleep_model.specs.Links.{LeadsTo, IsPath}
 use Rattle.sleep_model.proofs.Dependents.{among_app, among_first, among_rest, among_flat, Within, onto, onto_app, among_onto, last_onto, Descends, IsClosed, visited, visits, not_below_itself, leads_below}
+use Rattle.sleep_base.specs.declared.outside.Mem.{Mem}
 use Rattle.device_links.specs.declared.walk.Frame.{Frame}
-use Rattle.device_links.specs.Walks.{AreMarks, on_path}
+use Rattle.device_links.specs.declared.walk.Found.{Found}
+use Rattle.device_links.specs.declared.walk.Found.TheVariants.{Reached, Passed}
+use Rattle.device_links.specs.Walks.{AreMarks, Finds, Reaches, on_path}
 
 -- what stands at a place is among them
 pub among_at : (xs : List ℕ) (k c : ℕ) → k < length xs → c ≡ get_or xs k c → is_among xs c ≡ true
@@ -322,3 +325,9 @@ module _ (dependents_of : ℕ → List ℕ) where
       pub no_path : (from target : ℕ) → is_among (W from) target ≡ false → (path : List ℕ) → IsPath dependents_of path from target → ⊥
       no_path from target n [] p = p
       no_path from target n (x ∷ xs) p = absurd (true≢false (sym (subst (λ (y : ℕ). is_among (W y) target ≡ true) p.0 (leads_below dependents_of W fix x xs target p.1)) ∙ n))
+
+-- a walk that has met its target by a path finds that
+pub reaches : (dependents_of : ℕ → List ℕ) (n from target : ℕ) (path : List ℕ) → IsPath dependents_of path from target → (r : Result Found Mem) → IfOk r (Reaches path) → IfOk r (Finds n dependents_of from target)
+reaches dependents_of n from target path p (Ok (Reached found)) h = subst (λ xs. IsPath dependents_of xs from target) (sym h) p
+reaches dependents_of n from target path p (Ok (Passed devices start marks)) h = absurd h
+reaches dependents_of n from target path p (Err e) h = tt

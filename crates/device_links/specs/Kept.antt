@@ -4,11 +4,7 @@ use Rattle.sleep_model.specs.declared.machine.Link.{Link}
 use Rattle.sleep_model.specs.Order.{EachAfterParent, is_parent, active_of, dependents, superiors, suppliers_of, order_by}
 use Rattle.sleep_model.specs.Links.{AreLinks, first_places}
 use Rattle.device_rows.specs.Table.{Table, places_at}
-
--- n rows, each as f tells
-pub record IsTableOf (n : ℕ) (f : ℕ → List ℕ) (rows : List (List ℕ)) : Type 0 where
-  pub count : length rows ≡ n
-  pub each : (d : ℕ) → slice_index_or rows d [] ≡ f d
+use Rattle.link_rows.specs.Rows.{IsTableOf}
 
 -- the numbers, the oldest first, of the links that a test takes, where the newest link stands first and the oldest has number 0 (own)
 abbrev pub numbers_of : (Link → Bool) → List Link → List ℕ

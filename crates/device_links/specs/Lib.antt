@@ -3,5 +3,6 @@ pub mod Kept
 pub mod Linked
 pub mod Moves
 pub mod Passes
+pub mod Rooms
 pub mod Spread
 pub mod Walks

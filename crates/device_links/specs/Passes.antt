@@ -1,12 +1,13 @@
 -- Links that are made at once: their tables, and one walk after another over what depends on a device.
-use Rattle.std.specs.Prelude.{◌≡◌, ◌≤◌, ◌<◌, ◌+◌, ◌++◌, ◌||◌, ℕ, Bool, true, false, not, List, [], ◌∷◌, length, filter, reverse, flat_map, slice_index_or, if◌then◌else◌, Option, Some, None}
+use Rattle.std.specs.Prelude.{◌≡◌, ◌≤◌, ◌<◌, ◌+◌, ◌++◌, ℕ, Bool, true, false, not, List, [], ◌∷◌, length, filter, reverse, flat_map, Option, Some, None}
 use Rattle.sleep_model.specs.declared.machine.Link.{Link}
-use Rattle.sleep_model.specs.Order.{is_among, is_parent, dependents, suppliers_of, last_places, moved, order_by}
+use Rattle.sleep_model.specs.Order.{is_among, dependents, suppliers_of, last_places, moved, order_by}
 use Rattle.sleep_model.specs.Links.{AreLinks, IsOrder, is_linked}
-use Rattle.device_rows.specs.Table.{Table, row_at, places_at, with_number}
-use Rattle.device_links.specs.declared.at_once.Tables.{Tables}
+use Rattle.device_rows.specs.Table.{Table, row_at, with_number}
+use Rattle.link_rows.specs.Rows.{IsNear, IsTableOf, is_left_out}
+use Rattle.device_links.specs.declared.seen.Tables.{Tables}
 use Rattle.device_links.specs.declared.visits.Visits.{Visits}
-use Rattle.device_links.specs.Kept.{IsTableOf, near_below, near_above, HavePlaces}
+use Rattle.device_links.specs.Kept.{near_below, near_above, HavePlaces}
 use Rattle.device_links.specs.Linked.{Linked}
 use Rattle.device_links.specs.Walks.{AreMarks}
 
@@ -54,16 +55,6 @@ pub record HaveRows (n : ℕ) (t : Tables) : Type 0 where
   pub below : length t.below.rows ≡ n
   pub suppliers : length t.suppliers.rows ≡ n
   pub above : length t.above.rows ≡ n
-
--- a number is put at the end of a row, or left out, and the row has places for that number of them
-pub record IsNear (left_out : Bool) (row number count : ℕ) (old new : Table) : Type 0 where
-  pub rows : new.rows ≡ (if left_out then old.rows else with_number old.rows (Some row) number)
-  pub kept : (d : ℕ) → places_at old d ≤ places_at new d
-  pub made : count ≤ places_at new row
-
--- a link is put neither below nor above: it is dormant, or between a parent and its child
-abbrev pub is_left_out : List (Option ℕ) → Link → Bool
-is_left_out parents l = not l.active || is_parent l.supplier (slice_index_or parents l.consumer None)
 
 -- the tables with one more link; what is left out is not put there, but has its places
 pub record IsHung (parents : List (Option ℕ)) (l : Link) (old new : Tables) : Type 0 where

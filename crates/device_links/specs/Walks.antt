@@ -23,6 +23,11 @@ pub record IsWalked (n : ℕ) (dependents_of : ℕ → List ℕ) (from target : 
   pub no_path : (path : List ℕ) → IsPath dependents_of path from target → ⊥
   pub marked : AreMarks marks n (moved n dependents_of from)
 
+-- the target was met, by this path
+abbrev pub Reaches : List ℕ → Found → Type 0
+Reaches path (Reached found) = found.items ≡ path
+Reaches path (Passed devices start marks) = ⊥
+
 -- a path to the target, or all that depends on it
 abbrev pub Finds : ℕ → (ℕ → List ℕ) → ℕ → ℕ → Found → Type 0
 Finds n dependents_of from target (Reached path) = IsPath dependents_of path.items from target

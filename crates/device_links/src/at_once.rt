@@ -2,36 +2,15 @@
 
 ghost use Rattle.std.specs.Prelude.{◌≡◌, ◌<◌, ◌^◌, [], IfOk, OnOk, length, reverse};
 ghost use Rattle.sleep_model.specs.Order.{EachAfterParent};
-ghost use Rattle.device_links.specs.Passes.{AreTables, HaveRows, IsHung, IsNear, IsNew, Tabulates, Tells};
+ghost use Rattle.link_rows.specs.Rows.{IsNear};
+ghost use Rattle.device_links.specs.Passes.{AreTables, HaveRows, IsHung, IsNew, Tabulates, Tells};
 
-use crate::tables::{children_of, dependents_of, is_left_out, parents_of, places_for};
+use crate::seen::{Tables, without_links};
 use device_rows::Rows;
+use link_rows::{dependents_of, hang_near, is_left_out, places_for};
 use sleep_base::Mem;
 use sleep_model::Link;
 use std::alloc::Global;
-
-/// What depends directly on the devices, and what they depend on, as `Links` keeps it.
-#[derive(Drop)]
-pub(crate) struct Tables {
-    pub(crate) dependents: Rows,
-    pub(crate) below: Rows,
-    pub(crate) suppliers: Rows,
-    pub(crate) above: Rows,
-}
-
-// The tables of devices without links.
-fn without_links(alloc: Global, parents: &[Option<u32>]) -> Result<Tables, Mem>
-    requires numbered { length parents.now < 2 ^ 32 }
-    requires after { EachAfterParent 0 parents.now }
-    ensures { IfOk result (AreTables parents.now []) }
-{
-    Ok(Tables {
-        dependents: children_of(alloc, parents)?,
-        below: children_of(alloc, parents)?,
-        suppliers: Rows::with_rows(alloc, parents.len())?,
-        above: parents_of(alloc, parents)?,
-    })
-}
 
 // Whether the link is between two of the first `count` devices, and none that stands.
 fn is_new(count: usize, suppliers: &Rows, link: Link) -> bool
@@ -41,24 +20,6 @@ fn is_new(count: usize, suppliers: &Rows, link: Link) -> bool
         return false;
     }
     !suppliers.row(link.consumer).contains(&link.supplier)
-}
-
-// Puts a number at the end of a row, unless it is left out, and gives the row places for `count` numbers.
-fn hang_near(
-    table: &mut Rows,
-    left_out: bool,
-    row: u32,
-    number: u32,
-    count: usize,
-) -> Result<(), Mem>
-    requires { row < length table.old.rows }
-    ensures { OnOk result (IsNear left_out row number count table.old table.new) }
-{
-    table.make_places(row, count)?;
-    if !left_out {
-        table.append(row, number)?;
-    }
-    Ok(())
 }
 
 // Puts a link behind the others.

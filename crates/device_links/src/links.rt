@@ -1,17 +1,18 @@
-ghost use Rattle.std.specs.Prelude.{◌≡◌, ◌<◌, ◌≤◌, ℕ, OnOk, Some, length, slice_index, if◌then◌else◌};
-ghost use Rattle.device_rows.specs.Table.{with_number, places_at};
+ghost use Rattle.std.specs.Prelude.{◌≡◌};
 ghost use Rattle.device_links.specs.Moves.{after_move};
 
-use crate::at_once::{Tables, tables_of};
+use crate::at_once::tables_of;
 use crate::depends::comes_to;
 use crate::fault::{DevList, LinkFault};
 use crate::first::stands_first;
 use crate::numbers::LinkNumbers;
+use crate::room::make_room;
+use crate::seen::{Tables, without_links};
 use crate::states::{children_within, refill_above, refill_below, set_state};
-use crate::tables::{children_of, is_left_out, moved_last, parents_of, places_for, registered};
+use crate::tables::{moved_last, registered};
 use crate::visits::order_of;
 use crate::walk::{Found, walk};
-use device_rows::Rows;
+use link_rows::is_left_out;
 use sleep_base::Mem;
 use sleep_model::Link;
 use std::alloc::Global;
@@ -26,11 +27,7 @@ const MOST_LINKS: usize = 4000;
 pub struct Links {
     parents: Vec<Option<u32>>,
     links: Vec<Link>,
-    // What depends directly on a device, its children before its consumers: what a walk goes over.
-    dependents: Rows,
-    below: Rows,
-    suppliers: Rows,
-    above: Rows,
+    tables: Tables,
     // Where the links of each device stand, so that a link's state is set without a look at those of others.
     numbers: LinkNumbers,
     order: Vec<u32>,
@@ -46,7 +43,7 @@ impl Model for Links {
     ghost view = { λ l. record { parents = l.parents.items; links = reverse l.links.items } };
 
     ghost invariant = { λ l. IsWhole l.parents.items (reverse l.links.items)
-        l.dependents.rows l.below l.suppliers.rows l.above
+        l.tables.dependents.rows l.tables.below l.tables.suppliers.rows l.tables.above
         l.numbers.by_supplier.rows l.numbers.by_consumer.rows l.order.items };
 }
 
@@ -73,10 +70,7 @@ impl Links {
         Ok(Links {
             parents: Vec::from_slice(alloc, parents)?,
             links: Vec::new(alloc),
-            dependents: children_of(alloc, parents)?,
-            below: children_of(alloc, parents)?,
-            suppliers: Rows::with_rows(alloc, parents.len())?,
-            above: parents_of(alloc, parents)?,
+            tables: without_links(alloc, parents)?,
             numbers: LinkNumbers::new(alloc, parents.len())?,
             order: registered(alloc, parents.len() as u32)?,
         })
@@ -106,19 +100,10 @@ impl Links {
         let Some(order) = order_of(alloc, parents, &tables.dependents, links)? else {
             return Ok(None);
         };
-        let Tables {
-            dependents,
-            below,
-            suppliers,
-            above,
-        } = tables;
         Ok(Some(Links {
             parents: Vec::from_slice(alloc, parents)?,
             links: Vec::from_slice(alloc, links)?,
-            dependents,
-            below,
-            suppliers,
-            above,
+            tables,
             numbers: LinkNumbers::of_links(alloc, parents, links)?,
             order,
         }))
@@ -200,9 +185,9 @@ impl Links {
             return Ok(());
         }
         let supplied = self.numbers.by_supplier.row(supplier);
-        let children = children_within(self.dependents.row(supplier), supplied);
+        let children = children_within(self.tables.dependents.row(supplier), supplied);
         refill_below(
-            &mut self.below,
+            &mut self.tables.below,
             &self.parents,
             &self.links,
             children,
@@ -210,7 +195,7 @@ impl Links {
             supplier,
         );
         refill_above(
-            &mut self.above,
+            &mut self.tables.above,
             &self.parents,
             &self.links,
             consumed,
@@ -235,7 +220,7 @@ impl Links {
     pub fn below(&self, device: u32) -> &[u32]
         ensures { result.now ≡ near_below self.now.parents self.now.links device }
     {
-        self.below.row(device)
+        self.tables.below.row(device)
     }
 
     /// The devices that one depends on directly: its parent, then its suppliers by the links that are
@@ -243,14 +228,14 @@ impl Links {
     pub fn above(&self, device: u32) -> &[u32]
         ensures { result.now ≡ near_above self.now.parents self.now.links device }
     {
-        self.above.row(device)
+        self.tables.above.row(device)
     }
 
     /// Whether a link of these two stands, active or dormant.
     pub fn is_linked(&self, supplier: u32, consumer: u32) -> bool
         ensures { result ≡ is_linked self.now.links supplier consumer }
     {
-        self.suppliers.row(consumer).contains(&supplier)
+        self.tables.suppliers.row(consumer).contains(&supplier)
     }
 
     /// Whether a supplier is the consumer or depends on it, by children and all links. It takes no
@@ -262,7 +247,7 @@ impl Links {
         if stands_first(&self.order, supplier, consumer) {
             return false;
         }
-        consumer == supplier || comes_to(&self.dependents, &self.order, consumer, supplier)
+        consumer == supplier || comes_to(&self.tables.dependents, &self.order, consumer, supplier)
     }
 
     // Why the link is refused before anything is walked.
@@ -303,7 +288,13 @@ impl Links {
             (dependents self.now.parents self.now.links) consumer supplier) }
     {
         let alloc = *self.order.allocator();
-        walk(alloc, &self.dependents, &self.order, consumer, supplier)
+        walk(
+            alloc,
+            &self.tables.dependents,
+            &self.order,
+            consumer,
+            supplier,
+        )
     }
 
     // Whether a link leaves the order as it is: the newest one has moved this consumer to its end, and the
@@ -354,18 +345,8 @@ impl Links {
         ensures err { OnErr result (self.new ≡ self.old) }
     {
         let left_out = is_left_out(&self.parents, link);
-        let most_below = places_for(&self.dependents, link.supplier);
-        let most_above = places_for(&self.suppliers, link.consumer);
-        self.links.reserve(1)?;
-        self.dependents.make_room(link.supplier)?;
-        self.suppliers.make_room(link.consumer)?;
-        self.numbers.make_room(link)?;
-        make_near(&mut self.below, link.supplier, most_below)?;
-        make_near(&mut self.above, link.consumer, most_above)?;
-        self.dependents.push(link.supplier, link.consumer);
-        self.suppliers.push(link.consumer, link.supplier);
-        push_unless(&mut self.below, left_out, link.supplier, link.consumer);
-        push_unless(&mut self.above, left_out, link.consumer, link.supplier);
+        make_room(&mut self.links, &mut self.tables, &mut self.numbers, link)?;
+        self.tables.push(link, left_out);
         self.numbers.push(link, self.links.len() as u32);
         take_order(&mut self.order, moved);
         match self.links.push(link) {
@@ -381,30 +362,5 @@ fn take_order(order: &mut Vec<u32>, moved: Option<Vec<u32>>)
 {
     if let Some(moved) = moved {
         *order = moved;
-    }
-}
-
-// Gives a row places for `count` numbers, and for one more than it has.
-fn make_near(table: &mut Rows, row: u32, count: usize) -> Result<(), Mem>
-    requires { row < length table.old.rows }
-    ensures rows { table.new.rows ≡ table.old.rows }
-    ensures places { (d : ℕ) → places_at table.old d ≤ places_at table.new d }
-    ensures room { OnOk result (0 < slice_index table.new.room row) }
-    ensures made { OnOk result (count ≤ places_at table.new row) }
-{
-    table.make_places(row, count)?;
-    table.make_room(row)?;
-    Ok(())
-}
-
-// Puts a number at the end of a row, unless it is left out.
-fn push_unless(table: &mut Rows, left_out: bool, row: u32, number: u32)
-    requires { 0 < slice_index table.old.room row }
-    ensures rows { table.new.rows ≡
-        (if left_out then table.old.rows else with_number table.old.rows (Some row) number) }
-    ensures places { (d : ℕ) → places_at table.old d ≤ places_at table.new d }
-{
-    if !left_out {
-        table.push(row, number);
     }
 }

@@ -7,8 +7,8 @@ ghost use Rattle.device_rows.specs.Table.{row_at, places_at};
 ghost use Rattle.device_links.specs.Kept.{near_below, near_above, is_shown_below, is_shown_above, numbers_of};
 ghost use Rattle.device_links.specs.Passes.{AreApart};
 
-use crate::tables::is_parent;
 use device_rows::Rows;
+use link_rows::is_parent;
 use sleep_model::Link;
 
 /// Sets the state of the link between these two, by the numbers of all that the consumer has, and tells whether it

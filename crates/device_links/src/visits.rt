@@ -3,7 +3,7 @@
 ghost use Rattle.std.specs.Prelude.{◌≡◌, ◌<◌, ◌^◌, ℕ, true, IfOk, length, reverse, option_map};
 ghost use Rattle.sleep_model.specs.Order.{EachAfterParent, dependents, is_among};
 ghost use Rattle.device_rows.specs.Table.{row_at};
-ghost use Rattle.device_links.specs.Kept.{IsTableOf};
+ghost use Rattle.link_rows.specs.Rows.{IsTableOf};
 ghost use Rattle.device_links.specs.Passes.{AreApart, AreVisits, Goes, Orders};
 
 use crate::tables::{is_marked, mark, moved_last, registered};

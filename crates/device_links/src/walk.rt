@@ -2,7 +2,7 @@
 
 ghost use Rattle.std.specs.Prelude.{◌≡◌, ◌<◌, ◌∷◌, ◌++◌, [], IfOk, length, map};
 ghost use Rattle.device_rows.specs.Table.{row_at};
-ghost use Rattle.device_links.specs.Walks.{IsWalkable, Finds};
+ghost use Rattle.device_links.specs.Walks.{IsWalkable, Finds, Reaches};
 
 use device_rows::Rows;
 use sleep_base::Mem;
@@ -48,6 +48,14 @@ fn path_to(alloc: Global, frames: &[Frame], last: u32) -> Result<Vec<u32>, Mem>
     Ok(path)
 }
 
+// That the walk has met its target, by the path over these devices and that one.
+fn reached(alloc: Global, frames: &[Frame], last: u32) -> Result<Found, Mem>
+    ensures { IfOk result (Reaches (map (λ (f : Frame). f.device) frames.now ++ last ∷ [])) }
+{
+    let path = path_to(alloc, frames, last)?;
+    Ok(Found::Reached(path))
+}
+
 /// Walks from a device to all that depends on it by this table, or until it meets the target.
 /// It visits those right below a device from the last to the first, and none twice, so that the
 /// devices come to lie in the order of their last places. They take the last places of a copy of the
@@ -70,7 +78,7 @@ pub(crate) fn walk(
     ensures { IfOk result (Finds (length table.now.rows) (row_at table.now) from target) }
 {
     if from == target {
-        return Ok(Found::Reached(path_to(alloc, &[], from)?));
+        return reached(alloc, &[], from);
     }
     let count = table.len();
     let mut marks = vec![in alloc; false; count]?;
@@ -94,7 +102,7 @@ pub(crate) fn walk(
         };
         if next == target {
             above.push_reserved(rest);
-            return Ok(Found::Reached(path_to(alloc, &above, next)?));
+            return reached(alloc, &above, next);
         }
         if marks[next as usize] {
             here = Some(rest);

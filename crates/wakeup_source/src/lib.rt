@@ -1,5 +1,5 @@
 //! Wakeup sources: their calls, what is counted of them, and their histories
-//! (`drivers/base/power/wakeup.c`).
+//! (`drivers/base/power/wakeup.c`). Their tests are in `thread_trials` and `part_cases`.
 #![tactic(auto)]
 
 mod book;

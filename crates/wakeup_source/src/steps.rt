@@ -1,24 +1,12 @@
 //! The parts of a call on a source, over the word that it moves.
 
-ghost use Rattle.std.specs.Prelude.{◌≡◌, true};
-
 use crate::book::Book;
 use crate::call_by::CallBy;
 use crate::fault::SourceFault;
 use event_word::{Bump, look_from};
+use sleep_base::wait_unless;
 use sleep_model::{SourceCall, WordKind};
 use std::sync::Wait;
-
-/// Waits for ever unless that holds.
-fn wait_unless<R: Wait>(rt: &R, holds: bool)
-    ensures { holds ≡ true }
-{
-    if holds {
-        return;
-    }
-    for _ in rt.forever() {}
-    unreachable!()
-}
 
 impl Book {
     ghost use Rattle.std.specs.Prelude.{◌≡◌, ◌≤◌, ◌+◌, ◌-◌, ◌<◌, ◌^◌, ◌↔◌, ◌∷◌, [], true, None, Err, length, OnOk, OnErr, if◌then◌else◌};

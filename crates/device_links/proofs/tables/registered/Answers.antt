@@ -1,6 +1,6 @@
 use Rattle.std.proofs.Common.{◌≡◌, ◌+◌, ◌++◌, ◌∷◌, ◌∙◌, [], ap, arith}
 use Rattle.std.specs.List.{range_with_len}
-use Rattle.device_links.proofs.RowsMade.{run_push}
+use Rattle.device_links.proofs.Runs.{run_push}
 use Rattle.device_links.proofs.tables.registered.Goals as goal
 
 pub loop-device-preserved : goal.loop-device-preserved

@@ -1,4 +1,4 @@
-use Rattle.std.proofs.Common.{◌≡◌, ◌<◌, ◌+◌, ◌-◌, ◌∷◌, ◌++◌, ◌∙◌, [], List, length, map, drop, reverse, option_to_list, get_or, set, ap, sym, subst, arith, false, true, replicate}
+use Rattle.std.proofs.Common.{◌≡◌, ◌<◌, ◌+◌, ◌-◌, ◌∷◌, ◌++◌, ◌∙◌, [], List, length, map, drop, reverse, option_to_list, get_or, set, ap, sym, subst, arith, false, true, replicate, rules}
 use Rattle.std.proofs.lemmas.Bool.{ne_eqb}
 use Rattle.std.proofs.lemmas.List.{reverse-append, drop-set, drop_all, get_or-replicate, length-replicate, length-set}
 use Rattle.device_rows.specs.Table.{row_at}
@@ -6,7 +6,7 @@ use Rattle.device_links.specs.declared.walk.Frame.{Frame}
 use Rattle.device_links.specs.Walks.{on_path}
 use Rattle.sleep_model.specs.Order.{moved}
 use Rattle.sleep_model.specs.Links.{IsPath}
-use Rattle.device_links.proofs.Walking.{Walking, weight, spare, spare_less, spare_all, devices, way, way_popped, over_popped, none_left, path_over, begins, closes, passes, enters, was_walked, fewer, fewer_passed, hangs, ended, no_path, linked_path, next_at, mark_at}
+use Rattle.device_links.proofs.Walking.{Walking, weight, spare, spare_less, spare_all, devices, way, way_popped, over_popped, none_left, path_over, begins, closes, passes, enters, was_walked, fewer, fewer_passed, hangs, ended, no_path, linked_path, next_at, mark_at, reaches}
 use Rattle.device_links.proofs.walk.walk.Goals as goal
 
 pub loop-here-init : goal.loop-here-init
@@ -90,11 +90,13 @@ returns-then-next-target c =
     let rest : Frame = record { device = top.device; left = k } in
     let fs = c.push_reserved.new.self.items in
     let p = linked_path dependents_of from (rest ∷ reverse above) next [] target (h, w.chain) c.if-next-target.true in
-    let is = c.in_ok-path_to-2.ensures
-    ∙ (ap (λ (gs : List Frame). map (λ (f : Frame). f.device) gs ++ next ∷ []) c.deref.ensures.value
+    let is = ap (λ (gs : List Frame). map (λ (f : Frame). f.device) gs ++ next ∷ []) c.deref.ensures.value
     ∙ (path_over fs (next ∷ [])
-    ∙ ap (λ gs. on_path gs (next ∷ [])) (ap reverse c.push_reserved.ensures.items ∙ reverse-append above (rest ∷ [])))) in
-    subst (λ xs. IsPath dependents_of xs from target) (sym is) p
+    ∙ ap (λ gs. on_path gs (next ∷ [])) (ap reverse c.push_reserved.ensures.items ∙ reverse-append above (rest ∷ []))) in
+    reaches dependents_of n from target _ (subst (λ xs. IsPath dependents_of xs from target) (sym is) p) c.reached-then-next-target.result c.reached-then-next-target.ensures
+
+pub returns-then-from-target : goal.returns-then-from-target
+returns-then-from-target c = reaches (row_at c.args.table.now) (length c.args.table.now.rows) c.args.from c.args.target _ (search rules) c.reached.result c.reached.ensures
 
 pub index-requires : goal.index-requires
 index-requires c =

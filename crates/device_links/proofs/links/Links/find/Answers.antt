@@ -15,14 +15,14 @@ walk-requires-clause-sized c =
 pub walk-requires-clause-walkable : goal.walk-requires-clause-walkable
 walk-requires-clause-walkable c =
     let k = c.self.invariant.kept in
-    walkable c.self.inside.parents.items (reverse c.self.inside.links.items) k.after k.linked c.self.inside.dependents k.all_dependents
+    walkable c.self.inside.parents.items (reverse c.self.inside.links.items) k.after k.linked c.self.inside.tables.dependents k.all_dependents
 
 pub returns : goal.returns
 returns c =
     let k = c.self.invariant.kept in
     let ps = c.self.inside.parents.items in
     let ls = reverse c.self.inside.links.items in
-    let t = c.self.inside.dependents in
+    let t = c.self.inside.tables.dependents in
     subst (λ (v : Linked). IfOk c.walk.result (Finds (length v.parents) (dependents v.parents v.links) c.args.consumer c.args.supplier)) c.self.view_is
     (subst (λ (h : ℕ → List ℕ). IfOk c.walk.result (Finds (length ps) h c.args.consumer c.args.supplier)) (dependents_is ps ls t k.all_dependents)
     (subst (λ (n : ℕ). IfOk c.walk.result (Finds n (row_at t) c.args.consumer c.args.supplier)) k.all_dependents.count c.walk.ensures))

@@ -23,7 +23,7 @@ returns-else-consumer-supplier c =
     let apart : (from == to) ≡ false = ne_eqb from to (λ e. omega arith) in
     subst (λ (v : Linked). c.comes_to.result ≡ is_dependent v.parents v.links from to) c.self.view_is
     (c.comes_to.ensures
-    ∙ (ap (λ (dependents_of : ℕ → List ℕ). get_or (spread dependents_of c.deref-else-consumer-supplier.result.now (set (replicate 1024 false) from true)) to false) (dependents_is ps ls old.dependents k.all_dependents)
+    ∙ (ap (λ (dependents_of : ℕ → List ℕ). get_or (spread dependents_of c.deref-else-consumer-supplier.result.now (set (replicate 1024 false) from true)) to false) (dependents_is ps ls old.tables.dependents k.all_dependents)
     ∙ (ap (λ (ds : List ℕ). get_or (spread (dependents ps ls) ds (set (replicate 1024 false) from true)) to false) (c.deref-else-consumer-supplier.ensures.value ∙ k.ordered)
     ∙ comes ps k.after ls k.linked 1024 from to few apart)))
 

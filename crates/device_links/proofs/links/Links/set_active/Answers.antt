@@ -66,8 +66,8 @@ refill_below-requires-clause-places c =
     let s = c.args.supplier in
     let f = with_state s c.args.consumer c.args.to in
     let is : reverse c.deref-2.result.now ≡ map f ls = ap reverse (c.deref-2.ensures.value ∙ c.set_state.ensures.set) ∙ reversed_map f old.links.items in
-    subst (λ (qs : List (Option ℕ)). length (dependents qs (reverse c.deref-2.result.now) s) ≤ places_at old.below s) (sym c.deref.ensures.value)
-    (subst (λ (x : List Link). length (dependents ps x s) ≤ places_at old.below s) (sym is) (set_below s c.args.consumer c.args.to ps ls old.below old.above c.self.invariant.places s))
+    subst (λ (qs : List (Option ℕ)). length (dependents qs (reverse c.deref-2.result.now) s) ≤ places_at old.tables.below s) (sym c.deref.ensures.value)
+    (subst (λ (x : List Link). length (dependents ps x s) ≤ places_at old.tables.below s) (sym is) (set_below s c.args.consumer c.args.to ps ls old.tables.below old.tables.above c.self.invariant.places s))
 
 pub refill_below-requires-clause-apart : goal.refill_below-requires-clause-apart
 refill_below-requires-clause-apart c =
@@ -77,7 +77,7 @@ refill_below-requires-clause-apart c =
     let f = with_state c.args.supplier c.args.consumer c.args.to in
     let is : reverse c.deref-2.result.now ≡ map f ls = ap reverse (c.deref-2.ensures.value ∙ c.set_state.ensures.set) ∙ reversed_map f old.links.items in
     subst (λ (qs : List (Option ℕ)). AreApart qs (reverse c.deref-2.result.now)) (sym c.deref.ensures.value)
-    (subst (AreApart ps) (sym is) (set_apart c.args.supplier c.args.consumer c.args.to ps ls old.dependents.rows old.below.rows old.suppliers.rows old.above.rows old.order.items c.self.invariant.kept))
+    (subst (AreApart ps) (sym is) (set_apart c.args.supplier c.args.consumer c.args.to ps ls old.tables.dependents.rows old.tables.below.rows old.tables.suppliers.rows old.tables.above.rows old.order.items c.self.invariant.kept))
 
 pub refill_above-requires-clause-places : goal.refill_above-requires-clause-places
 refill_above-requires-clause-places c =
@@ -87,8 +87,8 @@ refill_above-requires-clause-places c =
     let d = c.args.consumer in
     let f = with_state c.args.supplier d c.args.to in
     let is : reverse c.deref-4.result.now ≡ map f ls = ap reverse (c.deref-4.ensures.value ∙ c.set_state.ensures.set) ∙ reversed_map f old.links.items in
-    subst (λ (qs : List (Option ℕ)). length (superiors qs (reverse c.deref-4.result.now) d) ≤ places_at old.above d) (sym c.deref-3.ensures.value)
-    (subst (λ (x : List Link). length (superiors ps x d) ≤ places_at old.above d) (sym is) (set_above c.args.supplier d c.args.to ps ls old.below old.above c.self.invariant.places d))
+    subst (λ (qs : List (Option ℕ)). length (superiors qs (reverse c.deref-4.result.now) d) ≤ places_at old.tables.above d) (sym c.deref-3.ensures.value)
+    (subst (λ (x : List Link). length (superiors ps x d) ≤ places_at old.tables.above d) (sym is) (set_above c.args.supplier d c.args.to ps ls old.tables.below old.tables.above c.self.invariant.places d))
 
 pub refill_above-requires-clause-apart : goal.refill_above-requires-clause-apart
 refill_above-requires-clause-apart c =
@@ -98,7 +98,7 @@ refill_above-requires-clause-apart c =
     let f = with_state c.args.supplier c.args.consumer c.args.to in
     let is : reverse c.deref-4.result.now ≡ map f ls = ap reverse (c.deref-4.ensures.value ∙ c.set_state.ensures.set) ∙ reversed_map f old.links.items in
     subst (λ (qs : List (Option ℕ)). AreApart qs (reverse c.deref-4.result.now)) (sym c.deref-3.ensures.value)
-    (subst (AreApart ps) (sym is) (set_apart c.args.supplier c.args.consumer c.args.to ps ls old.dependents.rows old.below.rows old.suppliers.rows old.above.rows old.order.items c.self.invariant.kept))
+    (subst (AreApart ps) (sym is) (set_apart c.args.supplier c.args.consumer c.args.to ps ls old.tables.dependents.rows old.tables.below.rows old.tables.suppliers.rows old.tables.above.rows old.order.items c.self.invariant.kept))
 
 pub invariant_of-self-2 : goal.invariant_of-self-2
 invariant_of-self-2 c =
@@ -113,10 +113,10 @@ invariant_of-self-2 c =
     let seen' : reverse c.deref-4.result.now ≡ map f ls = ap reverse (c.deref-4.ensures.value ∙ c.set_state.ensures.set) ∙ reversed_map f old.links.items in
     let h : Stand c.args.self.now s d × (is_linked c.args.self.now.links s d ≡ true) = stands_then c.args.self.now s d c.absence.result c.in_default.not-Some c.absence.ensures in
     let there : Stand (record { parents = ps; links = ls }) s d = subst (λ (v : Linked). Stand v s d) (sym c.self.view_is) h.0 in
-    let below = c.refill_below.ensures.rows ∙ (ap (λ (x : List Link). set old.below.rows s (near_below c.deref.result.now x s)) seen ∙ ap (λ (qs : List (Option ℕ)). set old.below.rows s (near_below qs (map f ls) s)) c.deref.ensures.value) in
-    let above = c.refill_above.ensures.rows ∙ (ap (λ (x : List Link). set old.above.rows d (near_above c.deref-3.result.now x d)) seen' ∙ ap (λ (qs : List (Option ℕ)). set old.above.rows d (near_above qs (map f ls) d)) c.deref-3.ensures.value) in
-    subst (λ (x : List Link). IsWhole ps x old.dependents.rows c.refill_below.new.table old.suppliers.rows c.refill_above.new.table old.numbers.by_supplier.rows old.numbers.by_consumer.rows old.order.items) (sym is)
-    (whole_set s d c.args.to ps ls old.dependents.rows old.below old.suppliers.rows old.above old.numbers.by_supplier.rows old.numbers.by_consumer.rows old.order.items c.self.invariant there.0 there.1 c.refill_below.new.table c.refill_above.new.table below c.refill_below.ensures.places above c.refill_above.ensures.places)
+    let below = c.refill_below.ensures.rows ∙ (ap (λ (x : List Link). set old.tables.below.rows s (near_below c.deref.result.now x s)) seen ∙ ap (λ (qs : List (Option ℕ)). set old.tables.below.rows s (near_below qs (map f ls) s)) c.deref.ensures.value) in
+    let above = c.refill_above.ensures.rows ∙ (ap (λ (x : List Link). set old.tables.above.rows d (near_above c.deref-3.result.now x d)) seen' ∙ ap (λ (qs : List (Option ℕ)). set old.tables.above.rows d (near_above qs (map f ls) d)) c.deref-3.ensures.value) in
+    subst (λ (x : List Link). IsWhole ps x old.tables.dependents.rows c.refill_below.new.table old.tables.suppliers.rows c.refill_above.new.table old.numbers.by_supplier.rows old.numbers.by_consumer.rows old.order.items) (sym is)
+    (whole_set s d c.args.to ps ls old.tables.dependents.rows old.tables.below old.tables.suppliers.rows old.tables.above old.numbers.by_supplier.rows old.numbers.by_consumer.rows old.order.items c.self.invariant there.0 there.1 c.refill_below.new.table c.refill_above.new.table below c.refill_below.ensures.places above c.refill_above.ensures.places)
 
 pub returns-clause-ok : goal.returns-clause-ok
 returns-clause-ok c =

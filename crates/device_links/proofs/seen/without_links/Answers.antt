@@ -1,5 +1,5 @@
 use Rattle.device_links.proofs.Tabulating.{tables_new}
-use Rattle.device_links.proofs.at_once.without_links.Goals as goal
+use Rattle.device_links.proofs.seen.without_links.Goals as goal
 
 pub returns : goal.returns
 returns c =

@@ -1,6 +1,6 @@
 -- Tables of rows, as they are made and grow.
 use Rattle.std.proofs.Common.{◌≡◌, ◌<◌, ◌≤◌, ◌+◌, ◌∙◌, ℕ, zero, suc, Bool, true, false, ◌==◌, List, [], ◌∷◌, ◌++◌, length, map, get_or, set, slice_get, option_to_list, replicate, Option, Some, None, IfSome, refl, sym, ap, subst, cond, arith, length-set}
-use Rattle.std.specs.List.{range_with_len, list_any}
+use Rattle.std.specs.List.{list_any}
 use Rattle.std.proofs.lemmas.List.{append-nil, get_or-set_same, get_or-set_other}
 use Rattle.std.proofs.lemmas.Bool.{eqb-true, eqb-false}
 use Rattle.sleep_model.specs.declared.machine.Link.{Link}
@@ -9,15 +9,7 @@ use Rattle.sleep_model.specs.Links.{is_linked}
 use Rattle.sleep_model.proofs.Children.{children_push}
 use Rattle.sleep_model.proofs.FirstPlaces.{list_any_among, suppliers_linked}
 use Rattle.device_rows.specs.Table.{with_number}
-use Rattle.device_links.specs.Kept.{IsTableOf}
-
--- a run of numbers with one more
-pub run_push : (a n : ℕ) → range_with_len a n ++ (a + n) ∷ [] ≡ range_with_len a (n + 1)
-run_push a zero = let e : a + 0 ≡ a = omega arith in ap (λ k. k ∷ []) e
-run_push a (suc n) = let e : a + suc n ≡ a + 1 + n = omega arith in ap (λ xs. a ∷ xs) (ap (λ k. range_with_len (a + 1) n ++ k ∷ []) e ∙ run_push (a + 1) n) ∙ ap (range_with_len a) next
-  where
-    next : suc (n + 1) ≡ suc n + 1
-    next = omega arith
+use Rattle.link_rows.specs.Rows.{IsTableOf}
 
 -- one row has one more
 pub table_push : (n : ℕ) (f g : ℕ → List ℕ) (rows : List (List ℕ)) → IsTableOf n f rows → (r x : ℕ) → r < n → g r ≡ f r ++ x ∷ [] → ((d : ℕ) → (r == d) ≡ false → g d ≡ f d) → IsTableOf n g (set rows r (get_or rows r [] ++ x ∷ []))

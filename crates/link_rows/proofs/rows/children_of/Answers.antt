@@ -2,9 +2,9 @@ use Rattle.std.proofs.Common.{◌≡◌, ◌+◌, ◌++◌, ◌∷◌, [], ℕ, 
 use Rattle.std.proofs.lemmas.List.{take_more, length-take-le}
 use Rattle.sleep_model.specs.Order.{children_from}
 use Rattle.device_rows.specs.Table.{with_number}
-use Rattle.device_links.specs.Kept.{IsTableOf}
-use Rattle.device_links.proofs.RowsMade.{table_child, parent_within, weaker}
-use Rattle.device_links.proofs.tables.children_of.Goals as goal
+use Rattle.link_rows.specs.Rows.{IsTableOf}
+use Rattle.link_rows.proofs.RowsMade.{table_child, parent_within, weaker}
+use Rattle.link_rows.proofs.rows.children_of.Goals as goal
 
 pub dependents_of-requires : goal.dependents_of-requires
 dependents_of-requires c =

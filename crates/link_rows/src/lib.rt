@@ -1,0 +1,11 @@
+//! The rows that links between devices are kept in: the children and the parent of each device, a row with one more number,
+//! and whether a link is put into the rows of what is waited for (`drivers/base/power/main.c`, `dpm_wait_for_subordinate`).
+//! `device_links` keeps them for a machine. Their tests are those of `device_links`, in `part_cases`.
+#![tactic(auto)]
+
+mod rows;
+
+pub use rows::{
+    children_of, dependents_of, hang_near, is_left_out, is_parent, make_near, parents_of,
+    places_for, push_unless,
+};
