@@ -1,5 +1,5 @@
 -- What the fields of a machine's plans are.
-use Rattle.std.specs.Prelude.{◌≡◌, ℕ, length, map}
+use Rattle.std.specs.Prelude.{◌≡◌, length, map}
 use Rattle.sleep_model.specs.declared.machine.Machine.{Machine}
 use Rattle.script_plan.specs.CallPlans.{with_source}
 use Rattle.machine_plans.specs.declared.plans.MachinePlans.TheInside.{Inside}

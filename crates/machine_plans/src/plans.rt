@@ -1,4 +1,4 @@
-use answer_book::AnswerBook;
+use crate::book::AnswerBook;
 use script_plan::{Plan, plans_of};
 use sleep_base::Mem;
 use sleep_model::Machine;

@@ -1,5 +1,5 @@
 -- What a plan says of the calls of a script.
-use Rattle.std.proofs.Common.{◌≡◌, ◌∙◌, ◌<◌, ◌≤◌, ◌+◌, ◌-◌, ◌++◌, ℕ, zero, suc, Bool, true, false, List, [], ◌∷◌, length, map, take, drop, flat_map, refl, sym, ap, subst, add-one, length-append, length-drop, ◌||◌, arith}
+use Rattle.std.proofs.Common.{◌≡◌, ◌∙◌, ◌≤◌, ◌+◌, ◌-◌, ◌++◌, ℕ, zero, suc, Bool, true, false, List, [], ◌∷◌, length, map, take, drop, flat_map, refl, sym, ap, add-one, ◌||◌, arith}
 use Rattle.std.specs.List.{take-map}
 use Rattle.std.specs.Prelude.{slice_range}
 use Rattle.std.proofs.lemmas.List.{length-map, drop-map, take_at}
@@ -12,7 +12,7 @@ use Rattle.sleep_model.specs.Calls.{calls_at, note}
 use Rattle.sleep_model.specs.declared.entry.Kind.TheVariants as kind
 use Rattle.sleep_model.specs.Scripts.{Piece, Calls, Turns, autosleep_pieces, operations, pieces_of, pieces}
 use Rattle.sleep_model.specs.Tasks.{is_mem, is_off}
-use Rattle.script_plan.specs.CallPlans.{noted, calls_of_autosleep, calls_made_by, calls_made, calls_ahead}
+use Rattle.script_plan.specs.CallPlans.{noted, calls_of_autosleep, calls_made, calls_ahead}
 use Rattle.script_plan.specs.Plans.{expanded, ops_of, calls_before}
 use Rattle.script_plan.proofs.Planned.{ops_are}
 

@@ -5,9 +5,9 @@ ghost use Rattle.script_plan.specs.CallPlans.{calls_made_by, calls_made};
 ghost use Rattle.script_plan.specs.Plans.{ops_of};
 
 use crate::plan::op_at;
+use crate::texts::is_autosleep_text;
 use sleep_base::Mem;
 use sleep_model::{Op, Report, SourceCall, Step};
-use sleep_sysfs::is_autosleep_text;
 use std::alloc::Global;
 
 /// A call on that source.

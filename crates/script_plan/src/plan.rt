@@ -6,9 +6,9 @@ ghost use Rattle.script_plan.specs.Plans.{expanded, op_of, op_at, entry_places, 
 
 use crate::calls::{calls_of, part};
 use crate::expand::expand;
+use crate::texts::is_autosleep_text;
 use sleep_base::Mem;
 use sleep_model::{Op, Report, Script, Step};
-use sleep_sysfs::is_autosleep_text;
 use std::alloc::Global;
 use std::marker::Model;
 

@@ -1,10 +1,9 @@
 use crate::history::History;
 use crate::reports::Reports;
-use answer_book::AnswerBook;
 use async_board::Board;
 use autosleep_loop::is_actor;
 use device_rows::Flags;
-use machine_plans::MachinePlans;
+use machine_plans::{AnswerBook, MachinePlans};
 use script_plan::Plan;
 use sleep_base::Errno;
 use sleep_model::{Actor, Callback, EventNow, Group, Machine, Sleep, Stage, TaskKind, What};

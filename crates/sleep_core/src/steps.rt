@@ -5,8 +5,8 @@ ghost use Rattle.sleep_model.specs.Steps.{slept_due, mark_due, sleep_due};
 ghost use Rattle.sleep_model.specs.Tasks.{is_line, freezes_at};
 ghost use Rattle.sleep_model.specs.declared.entry.Kind.TheVariants.{Sleep, SleepD};
 
+use script_plan::is_autosleep_text;
 use sleep_model::{Due, Kind, Op, Seat, TaskKind, Why};
-use sleep_sysfs::is_autosleep_text;
 
 /// A sleep up to that time in ms, now.
 fn slept_due(until: Option<u64>, time: u64) -> Due

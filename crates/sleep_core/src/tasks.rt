@@ -10,10 +10,9 @@ ghost use Rattle.sleep_core.specs.Steps.{next_attempt};
 
 use crate::state::Core;
 use crate::steps;
+use script_plan::{is_mem, is_off};
 use sleep_model::{Due, EventNow, Freezing, Kind, Op, Seat, TaskKind, Why};
-use sleep_sysfs::{
-    is_mem, is_off, read_count, saved_number, write_autosleep, write_count, write_state,
-};
+use sleep_sysfs::{read_count, saved_number, write_autosleep, write_count, write_state};
 
 impl<'m> Core<'m> {
     /// The entry that begins an attempt now.

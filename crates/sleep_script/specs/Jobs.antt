@@ -14,7 +14,7 @@ use Rattle.sleep_model.specs.declared.word.Stamp.{Stamp}
 use Rattle.sleep_model.specs.Answers.{answer_reports}
 use Rattle.sleep_model.specs.Calls.{calls_of_turn, calls_behind, ends_turn, one_more, note, report_calls, turns_ended, calls_of, calls_due}
 use Rattle.sleep_model.specs.Path.{is_same}
-use Rattle.answer_book.specs.Book.{answer_among}
+use Rattle.machine_plans.specs.Book.{answer_among}
 
 -- ---- a job
 

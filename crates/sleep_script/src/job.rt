@@ -1,7 +1,7 @@
 //! What an actor that takes turns of the core knows of itself.
 
 ghost use Rattle.std.specs.Prelude.{◌≡◌, ◌<◌, ◌^◌, drop, length, map, option_copied, slice_get};
-ghost use Rattle.answer_book.specs.Book.{answer_among};
+ghost use Rattle.machine_plans.specs.Book.{answer_among};
 ghost use Rattle.sleep_model.specs.Answers.{answer_reports};
 ghost use Rattle.sleep_model.specs.Calls.{one_more};
 ghost use Rattle.script_plan.specs.CallPlans.{noted};
@@ -9,8 +9,7 @@ ghost use Rattle.sleep_script.specs.JobFields.{own_due, planned_at};
 ghost use Rattle.sleep_script.specs.Jobs.{later, made_after, reports_among};
 
 use crate::kinds::{is_exit, is_in_walk};
-use answer_book::AnswerBook;
-use machine_plans::MachinePlans;
+use machine_plans::{AnswerBook, MachinePlans};
 use script_plan::{Plan, ends_turn};
 use sleep_model::{Actor, Kind, Report, Stamp, Want, What};
 use std::marker::Model;

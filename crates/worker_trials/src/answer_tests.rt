@@ -1,4 +1,4 @@
-use answer_book::AnswerBook;
+use machine_plans::AnswerBook;
 use sleep_base::{Errno, Mem};
 use sleep_model::{Answer, ListOf, Phase, PlatDo, What};
 use std::alloc::Global;

@@ -1,8 +1,8 @@
+use script_plan::is_autosleep_text;
 use sleep_base::Errno;
 use sleep_model::{Due, EventNow, Kind, State, Why};
 use sleep_sysfs::{
-    decode_state, is_autosleep_text, read_count, saved_number, write_autosleep, write_count,
-    write_state,
+    decode_state, read_count, saved_number, write_autosleep, write_count, write_state,
 };
 
 const QUIET: EventNow = EventNow {
@@ -47,10 +47,30 @@ fn texts_end_at_a_newline(rt: HostRuntime) {
     }
 }
 
+/// Whether both are the same entry, of those that are tried here.
+fn is_kind(kind: Kind, wanted: Kind) -> bool {
+    match (kind, wanted) {
+        (Kind::Read(a), Kind::Read(b)) => a == b,
+        (Kind::ReadWait, Kind::ReadWait) => true,
+        (Kind::ReadIntr, Kind::ReadIntr) => true,
+        (Kind::Saved(a), Kind::Saved(b)) => a == b,
+        (Kind::SaveWait(a), Kind::SaveWait(b)) => a == b,
+        (Kind::SaveErr(a, x), Kind::SaveErr(b, y)) => a == b && x == y,
+        (Kind::StateWait, Kind::StateWait) => true,
+        (Kind::StateErr(x), Kind::StateErr(y)) => x == y,
+        (Kind::AutoBad, Kind::AutoBad) => true,
+        (Kind::AutoSet(x), Kind::AutoSet(y)) => x == y,
+        (Kind::AutoDone, Kind::AutoDone) => true,
+        (Kind::Attempt { n: a, guarded: x }, Kind::Attempt { n: b, guarded: y }) => a == b
+            && x == y,
+        _ => false,
+    }
+}
+
 /// Whether that entry is due, or none and the actor waits for the lock.
 fn is_due(due: Due, wanted: Option<Kind>) -> bool {
     match due {
-        Due::Makes(kind) => Some(kind) == wanted,
+        Due::Makes(kind) => matches!(wanted, Some(wanted) if is_kind(kind, wanted)),
         Due::Waits(Why::LockHeld) => wanted.is_none(),
         _ => false,
     }

@@ -1,4 +1,4 @@
-use Rattle.std.proofs.Common.{◌≡◌, ◌<◌, length, subst, sym}
+use Rattle.std.proofs.Common.{◌<◌, length, subst, sym}
 use Rattle.sleep_model.specs.declared.machine.Machine.{Machine}
 use Rattle.machine_plans.proofs.Scripted.{one_plan}
 use Rattle.machine_plans.proofs.plans.MachinePlans.script.Goals as goal

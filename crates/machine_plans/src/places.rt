@@ -2,7 +2,7 @@
 
 ghost use Rattle.std.specs.Prelude.{◌≡◌, ◌<◌, ◌^◌, length, IfOk};
 ghost use Rattle.indexmap.specs.IndexMap.{get};
-ghost use Rattle.answer_book.specs.Keys.{IsIndexed};
+ghost use Rattle.machine_plans.specs.Keys.{IsIndexed};
 
 use crate::key::{Key, key_of};
 use indexmap::IndexMap;

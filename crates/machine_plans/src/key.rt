@@ -2,7 +2,7 @@
 
 ghost use Rattle.std.specs.Prelude.{◌≡◌};
 ghost use Rattle.phase_table.specs.Phases.{phase_place};
-ghost use Rattle.answer_book.specs.Keys.{step_place, thing_of};
+ghost use Rattle.machine_plans.specs.Keys.{step_place, thing_of};
 
 use sleep_model::{Phase, PlatDo, What};
 

@@ -9,10 +9,10 @@ use Rattle.sleep_model.specs.declared.machine.PlatDo.{PlatDo}
 use Rattle.sleep_model.specs.declared.machine.PlatDo.TheVariants as down
 use Rattle.phase_table.specs.Phases.{is_phase}
 use Rattle.sleep_model.specs.Answers.{answer_for, is_thing, is_for, is_platform_step}
-use Rattle.answer_book.specs.declared.key.Thing.TheVariants as thing
-use Rattle.answer_book.specs.declared.key.Key.{Key}
-use Rattle.answer_book.specs.contracts.key.KeyPartialEq.TheImpl.{eq-value}
-use Rattle.answer_book.specs.Keys.{key_for, step_place}
+use Rattle.machine_plans.specs.declared.key.Thing.TheVariants as thing
+use Rattle.machine_plans.specs.declared.key.Key.{Key}
+use Rattle.machine_plans.specs.contracts.key.KeyPartialEq.TheImpl.{eq-value}
+use Rattle.machine_plans.specs.Keys.{key_for, step_place}
 
 -- the derived test of two attempts
 abbrev attempt_eq : Option ℕ → Option ℕ → Bool

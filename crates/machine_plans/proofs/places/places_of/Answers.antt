@@ -1,8 +1,8 @@
 use Rattle.std.proofs.Common.{◌≡◌, ◌<◌, ◌+◌, ◌-◌, ℕ, length, arith, subst}
 use Rattle.indexmap.specs.IndexMap.{get}
-use Rattle.answer_book.specs.contracts.key.KeyPartialEq.TheImpl.{eq-value}
-use Rattle.answer_book.proofs.Indexing.{IsIndexedFrom, indexed_more}
-use Rattle.answer_book.proofs.places.places_of.Goals as goal
+use Rattle.machine_plans.specs.contracts.key.KeyPartialEq.TheImpl.{eq-value}
+use Rattle.machine_plans.proofs.Indexing.{IsIndexedFrom, indexed_more}
+use Rattle.machine_plans.proofs.places.places_of.Goals as goal
 
 pub loop-i-preserved : goal.loop-i-preserved
 loop-i-preserved c =

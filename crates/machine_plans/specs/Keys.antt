@@ -7,9 +7,9 @@ use Rattle.sleep_model.specs.declared.machine.What.{What}
 use Rattle.sleep_model.specs.declared.machine.What.TheVariants as what
 use Rattle.sleep_model.specs.Answers.{answer_for}
 use Rattle.phase_table.specs.Phases.{phase_place}
-use Rattle.answer_book.specs.declared.key.Key.{Key}
-use Rattle.answer_book.specs.declared.key.Thing.{Thing}
-use Rattle.answer_book.specs.declared.key.Thing.TheVariants as thing
+use Rattle.machine_plans.specs.declared.key.Key.{Key}
+use Rattle.machine_plans.specs.declared.key.Thing.{Thing}
+use Rattle.machine_plans.specs.declared.key.Thing.TheVariants as thing
 
 -- the place of a step of the platform in an undisturbed attempt (struct platform_suspend_ops)
 abbrev pub step_place : PlatDo → ℕ

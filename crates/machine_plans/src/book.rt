@@ -21,7 +21,7 @@ impl<'a> Model for AnswerBook<'a> {
     ghost Value = { List Answer };
 
     ghost use Rattle.indexmap.specs.IndexMap.{get};
-    ghost use Rattle.answer_book.specs.Keys.{IsIndexed};
+    ghost use Rattle.machine_plans.specs.Keys.{IsIndexed};
 
     ghost view = { λ b. b.answers.now };
 
@@ -32,7 +32,7 @@ impl<'a> AnswerBook<'a> {
     ghost use Rattle.std.specs.Prelude.{◌≡◌, ◌<◌, ◌^◌, length, IfOk};
     ghost use Rattle.std.specs.Option.{option_copied};
     ghost use Rattle.sleep_model.specs.Answers.{answer_for, answer_error, answer_number, answer_reports};
-    ghost use Rattle.answer_book.specs.Book.{answer_among};
+    ghost use Rattle.machine_plans.specs.Book.{answer_among};
 
     /// The index of these answers. Of two of one thing and attempt the first counts. `Mem` if there
     /// is no memory for it.
