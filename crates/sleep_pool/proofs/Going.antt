@@ -8,7 +8,7 @@ use Rattle.std.proofs.lemmas.Bool.{cases_lt}
 use Rattle.std.proofs.lemmas.List.{length-append, length-drop, drop_all, drop_at, drop-drop, drop-append-le, take-append-le, take_all, append_assoc}
 use Rattle.sleep_pool.specs.declared.turns.Turn.{Turn}
 use Rattle.sleep_pool.specs.declared.turns.Turn.TheVariants.{Did, NotYet, Done, Stop}
-use Rattle.sleep_pool.specs.Turns.{did_in, goes_on, Went, AllWent, WentOn, WentIdle, WentToStop, CutShort, Ended, FirstWent, FirstsWent, PartsEnded}
+use Rattle.sleep_pool.specs.Turns.{did_in, goes_on, Went, AllWent, WentOn, WentIdle, WentToStop, CutShort, Ended, FirstWent, FirstsWent, OfParts}
 
 -- what two lists did is what each did
 pub did_append : (xs ys : List Turn) → did_in (xs ++ ys) ≡ did_in xs + did_in ys
@@ -69,6 +69,11 @@ module _ {J : Type 0} where
   weaker R S less (a ∷ olds) [] n h = absurd h
   weaker R S less (a ∷ olds) (b ∷ bs) n (xs, i, r, hs, e) = (xs, i, less a b xs r, weaker R S less olds bs i hs, e)
 
+  -- a list of no length is empty
+  pub nobody : (xs : List J) → length xs ≡ 0 → xs ≡ []
+  nobody [] h = refl
+  nobody (x ∷ xs) h = absurd (omega (arith, h))
+
   -- no job is lost
   pub as_many : (R : J → List Turn → J → Type 0) (olds bs : List J) (n : ℕ) → AllWent R olds bs n → length bs ≡ length olds
   as_many R [] [] n h = refl
@@ -117,21 +122,21 @@ module _ {J : Type 0} where
   idle made left (a ∷ olds) (b ∷ bs) n z (x ∷ [], i, r, hs, e) =
       (x ∷ [], i, (r, ([], x, refl, omega (arith, z, e))), idle made left olds bs i (omega (arith, z, e)) hs, e)
 
-  -- where the parts are one, it ended
-  pub ended_one : (made : J → List Turn → J → Type 0) (left : J → ℕ) (most size : ℕ) (olds news : List J) → length olds ≤ size → length news ≡ length olds
-      → Ended made left most olds news → PartsEnded made left most size olds news
-  ended_one made left most size olds news short same h zero =
+  -- where the parts are one, what holds of all holds of it
+  pub parts_one : (P : List J → List J → Type 0) (size : ℕ) (olds news : List J) → length olds ≤ size → length news ≡ length olds → P [] []
+      → P olds news → OfParts P size olds news
+  parts_one P size olds news short same nobody h zero =
       let whole : (xs : List J) → length xs ≤ size → take size (drop (0 * size) xs) ≡ xs = (λ xs l. ap (λ k. take size (drop k xs)) (zero-mul size) ∙ take_all size xs l) in
       rw (whole olds short, whole news (omega arith)) h
-  ended_one made left most size olds news short same h (suc part) =
+  parts_one P size olds news short same nobody h (suc part) =
       let none : (xs : List J) → length xs ≤ size → take size (drop (suc part * size) xs) ≡ [] =
       (λ xs l. ap (take size) (drop_all (suc part * size) xs (omega (arith, suc-mul part size, l))) ∙ take_all size [] (omega arith)) in
-      rw (none olds short, none news (omega arith)) (inl (0, refl))
+      rw (none olds short, none news (omega arith)) nobody
 
   -- the parts of two runs side by side, where the front one has whole parts
-  pub ended_beside : (made : J → List Turn → J → Type 0) (left : J → ℕ) (rounds size most : ℕ) (olds bs cs ds : List J) → length olds ≡ most * size → length bs ≡ length olds
-      → PartsEnded made left rounds size olds bs → PartsEnded made left rounds size cs ds → PartsEnded made left rounds size (olds ++ cs) (bs ++ ds)
-  ended_beside made left rounds size most olds bs cs ds whole same h k part = ⊎_elim
+  pub parts_beside : (P : List J → List J → Type 0) (size most : ℕ) (olds bs cs ds : List J) → length olds ≡ most * size → length bs ≡ length olds
+      → OfParts P size olds bs → OfParts P size cs ds → OfParts P size (olds ++ cs) (bs ++ ds)
+  parts_beside P size most olds bs cs ds whole same h k part = ⊎_elim
       (λ ahead.
       let room : part * size + size ≤ most * size =
       (let up : part + 1 ≤ most = omega arith in omega (arith, mul-le-mul_right size up, add-mul part 1 size, one-mul size)) in

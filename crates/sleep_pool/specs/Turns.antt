@@ -88,3 +88,16 @@ Ended made left most olds news =
 abbrev pub PartsEnded : {J : Type 0} → (J → List Turn → J → Type 0) → (J → ℕ) → ℕ → ℕ → List J → List J → Type 0
 PartsEnded made left most size olds news =
     (part : ℕ) → Ended made left most (take size (drop (part * size) olds)) (take size (drop (part * size) news))
+
+-- what holds of the jobs of each part of that size
+abbrev pub OfParts : {J : Type 0} → (List J → List J → Type 0) → ℕ → List J → List J → Type 0
+OfParts P size olds news = (part : ℕ) → P (take size (drop (part * size) olds)) (take size (drop (part * size) news))
+
+module _ {J : Type 0} (made : J → List Turn → J → Type 0) (left : J → ℕ) where
+  -- a worker goes round its jobs, each of which has one turn a round, n rounds at most: a round in which nothing was done is the last, and so is one that a Stop cuts short
+  pub data GoesRound : ℕ → List J → List J → Type 0 where
+    NoneLeft : (most : ℕ) (olds : List J) → most ≡ 0 → GoesRound most olds olds
+    CutOff : (most : ℕ) (olds news : List J) → 0 < most → CutShort made left 0 olds news → GoesRound most olds news
+    DidNothing : (most : ℕ) (olds news : List J) → 0 < most → AllWent (WentOn made left 1) olds news 0 → GoesRound most olds news
+    GoesOn : (most rest count : ℕ) (olds mids news : List J) → most ≡ 1 + rest → 0 < count → AllWent (WentOn made left 1) olds mids count
+        → GoesRound rest mids news → GoesRound most olds news

@@ -1,5 +1,5 @@
 ghost use Rattle.std.specs.Prelude.{◌≡◌, ◌+◌, ◌*◌, ◌<◌, ◌≤◌, ◌^◌, ℕ, true, false, [], ◌∷◌, All, length};
-ghost use Rattle.sleep_pool.specs.Turns.{AllWent, Went, FirstWent, WentOn, CutShort, Ended};
+ghost use Rattle.sleep_pool.specs.Turns.{AllWent, Went, FirstWent, WentOn, CutShort, Ended, GoesRound};
 
 use crate::turns::{Job, Turn};
 
@@ -81,6 +81,7 @@ pub fn part_rounds<W, J: Job<W>>(jobs: &mut [J], shared: &W, now: u64, most: u64
     requires short { length jobs.old < 2 ^ 32 }
     ensures went { AllWent (Went J.made J.left true most) jobs.old jobs.new result }
     ensures ended { Ended J.made J.left most jobs.old jobs.new }
+    ensures rounds { GoesRound J.made J.left most jobs.old jobs.new }
     ensures first { 0 < most → FirstWent J.left jobs.old jobs.new }
     ensures few { result ≤ most * length jobs.old }
     ensures goes { All (λ j. J.goes j shared.now now) jobs.new }

@@ -1,5 +1,5 @@
-use Rattle.std.proofs.Common.{true, sym, subst, ◌-◌, arith}
-use Rattle.sleep_pool.specs.Turns.{AllWent, Went, Ended}
+use Rattle.std.proofs.Common.{true, ◌<◌, ℕ, sym, subst, ◌-◌, arith}
+use Rattle.sleep_pool.specs.Turns.{AllWent, CutOff, DidNothing, Ended, GoesOn, NoneLeft, Went, WentOn}
 use Rattle.sleep_pool.proofs.Going.{all_still, all_wider, all_later, ended_none, ended_stop, ended_idle, ended_later}
 use Rattle.sleep_pool.proofs.rounds.+part_rounds.Goals as goal
 use Rattle.sleep_pool.proofs.rounds.+part_rounds.Goals.{then-round-via-then-round, then-round-via-else-round+then-round-eq0}
@@ -45,3 +45,22 @@ returns-clause-ended g t c =
     let r = c.one_round-round in
     ended_later g.J.Job.made g.J.Job.left laws.made_none laws.made_more (c.args.most - 1) c.args.most (omega arith)
     c.args.jobs.now r.new.jobs c.part_rounds.new.jobs r.result.did (r.ensures.on c.if-round.false) c.part_rounds.ensures.ended
+
+pub returns-then-most-eq0-clause-rounds : goal.returns-then-most-eq0-clause-rounds
+returns-then-most-eq0-clause-rounds g t c = NoneLeft c.args.most c.args.jobs.now c.if-most-eq0.true
+
+pub returns-then-round-clause-rounds : goal.returns-then-round-clause-rounds
+returns-then-round-clause-rounds g t c =
+    let r = c.one_round-round in
+    elim c.then-round.branch [
+      | then-round-via-then-round w ↦ CutOff c.args.most c.args.jobs.now r.new.jobs (omega arith) (r.ensures.stop w.if-round.true)
+      | then-round-via-else-round+then-round-eq0 w ↦
+          DidNothing c.args.most c.args.jobs.now r.new.jobs (omega arith)
+          (subst (λ (n : ℕ). AllWent (WentOn g.J.Job.made g.J.Job.left 1) c.args.jobs.now r.new.jobs n) w.if-round-eq0.true (r.ensures.on w.if-round.false))
+    ]
+
+pub returns-clause-rounds : goal.returns-clause-rounds
+returns-clause-rounds g t c =
+    let r = c.one_round-round in
+    let some : 0 < r.result.did = omega arith in
+    GoesOn c.args.most (c.args.most - 1) r.result.did c.args.jobs.now r.new.jobs c.part_rounds.new.jobs (omega arith) some (r.ensures.on c.if-round.false) c.part_rounds.ensures.rounds
