@@ -242,7 +242,7 @@ impl<'m> Core<'m> {
     }
 
     /// How often that mark was raised and not yet taken.
-    pub(crate) fn raised(&self, mark: u32) -> u32
+    pub fn raised(&self, mark: u32) -> u32
         ensures { result ≡ mark_at (raised (length self.now.machine.marks) (entries self.now.past)) mark }
     {
         self.history.tasks().raised(mark)
